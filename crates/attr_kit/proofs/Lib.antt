@@ -1,0 +1,11 @@
+pub mod Allowing
+pub mod Finding
+pub mod Firsts
+pub mod Keeping
+pub mod Places
+pub mod Putting
+pub mod Repeats
+pub mod Rising
+pub mod Searching
+pub mod Sorted
+pub mod Within

@@ -1,0 +1,9 @@
+pub mod AllowLists
+pub mod Attributes
+pub mod Exact
+pub mod Hashing
+pub mod Keeping
+pub mod Orders
+pub mod OrderLaws
+pub mod Putting
+pub mod Refusing
