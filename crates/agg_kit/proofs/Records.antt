@@ -1,0 +1,185 @@
+-- A recording in the points of one stream, once it is made in the others.
+use Rattle.std.proofs.Common.{◌≡◌, ℕ, ℤ, ◌<◌, ◌≢◌, Bool, true, false, cond, List, [], ◌∷◌, Option, Some, None, length, slice_get, get_or, set, map, refl, sym, ap, subst, ◌∙◌, suc, zero, arith, Result, Ok, Err, OnErr, OnOk, IfErr, IfSome, IsSome, is_some, not, ◌||◌, true≢false, find, replicate}
+use Rattle.std.specs.Map.{keys_of}
+use Rattle.std.specs.Option.{option_map}
+use Rattle.std.proofs.lemmas.List.{map-set, length-map, length-set}
+use Rattle.attr_kit.specs.declared.attr_set.AttrSet.{AttrSet}
+use Rattle.attr_kit.specs.Keeping.{kept}
+use Rattle.point_kit.specs.declared.shape.Shape.{Shape}
+use Rattle.point_kit.specs.declared.stream.Stream.{Stream}
+use Rattle.plan_kit.specs.Plans.{Planned, stream_of, lacks, AreFeeds}
+use Rattle.plan_kit.specs.declared.feed.Feed.{Feed}
+use Rattle.agg_kit.specs.Feeds.{entries_of, series_at, shape_at, leaves_range, first_out, applied}
+use Rattle.agg_kit.specs.Payloads.{is_out_of_range}
+use Rattle.agg_kit.specs.Slots.{CanCommit, committed}
+use Rattle.agg_kit.specs.Sound.{AreSound, AreOnce, AllSound}
+use Rattle.agg_kit.specs.Steps.{Stored, place, payload_after, step}
+use Rattle.agg_kit.specs.Tallies.{Points}
+use Rattle.agg_kit.specs.declared.fault.MeasureFault.{MeasureFault}
+use Rattle.agg_kit.specs.declared.fault.MeasureFault.TheVariants as faults
+use Rattle.agg_kit.specs.declared.series.Slot.{Slot}
+use Rattle.agg_kit.proofs.Rounds.{got, there, shape-is}
+use Rattle.agg_kit.proofs.Sound.{sound-step, once-step}
+
+pub set-other : {X : Type 0} (xs : List X) (i m : ℕ) (x : X) → (m ≢ i) → slice_get (set xs i x) m ≡ slice_get xs m
+set-other [] i m x n = refl
+set-other (y ∷ xs) zero zero x n = absurd (n refl)
+set-other (y ∷ xs) zero (suc m) x n = refl
+set-other (y ∷ xs) (suc i) zero x n = refl
+set-other (y ∷ xs) (suc i) (suc m) x n = set-other xs i m x (λ e. n (ap suc e))
+
+pub set-here : {X : Type 0} (xs : List X) (i : ℕ) (x : X) → i < length xs → slice_get (set xs i x) i ≡ Some x
+set-here [] i x h = absurd (omega arith)
+set-here (y ∷ xs) zero x h = refl
+set-here (y ∷ xs) (suc i) x h = set-here xs i x (omega arith)
+
+-- the element that was read there
+pub read : {X : Type 0} (xs : List X) (i : ℕ) (x y : X) → slice_get xs i ≡ Some x → y ≡ get_or xs i y → y ≡ x
+read [] i x y h e = absurd (cc)
+read (z ∷ xs) zero x y h e = cc
+read (z ∷ xs) (suc i) x y h e = read xs i x y h e
+
+pub same_entries : (ss : List Stored) (i : ℕ) (x y : Stored) → y ≡ get_or ss i y → x.entries ≡ y.entries → entries_of (set ss i x) ≡ entries_of ss
+same_entries [] i x y e h = refl
+same_entries (s ∷ ss) zero x y e h = ap (λ l. l ∷ entries_of ss) (h ∙ ap (λ (s : Stored). s.entries) e)
+same_entries (s ∷ ss) (suc i) x y e h = ap (λ l. s.entries ∷ l) (same_entries ss i x y e h)
+
+pub entries-at : (ss : List Stored) (i : ℕ) (q : Stored) → slice_get ss i ≡ Some q → get_or (entries_of ss) i [] ≡ q.entries
+entries-at [] i q h = absurd (cc)
+entries-at (s ∷ ss) zero q h = let e : s ≡ q = cc in ap (λ (s : Stored). s.entries) e
+entries-at (s ∷ ss) (suc i) q h = entries-at ss i q h
+
+-- the points of the stream at a place, as they were read there
+pub entries-read : (ss : List Stored) (i : ℕ) (y : Stored) → i < length ss → y ≡ get_or ss i y → series_at (entries_of ss) i ≡ y.entries
+entries-read [] i y l e = absurd (omega arith)
+entries-read (s ∷ ss) zero y l e = ap (λ (s : Stored). s.entries) (sym e)
+entries-read (s ∷ ss) (suc i) y l e = entries-read ss i y (omega arith) e
+
+-- whether a feed's point would be out of range, by the points of its stream as they were read
+pub leaves-here : (p : Planned) (f : Feed) (a : AttrSet) (v : ℤ) (ss : List Stored) (old : Stored) → f.stream < length ss → old ≡ get_or ss f.stream old
+    → leaves_range p a v (entries_of ss) f ≡ is_out_of_range (payload_after (shape_at p f.stream) old.entries (place p.limit old.entries (kept f.keep a)) v)
+leaves-here p f a v ss old l e =
+    ap (λ (es : Points). is_out_of_range (payload_after (shape_at p f.stream) es (place p.limit es (kept f.keep a)) v)) (entries-read ss f.stream old l e)
+
+-- there are points for each stream
+pub sound-length : (ss : List Stream) (xs : List Points) → AllSound ss xs → length xs ≡ length ss
+sound-length [] [] s = refl
+sound-length [] (x ∷ xs) s = absurd s
+sound-length (t ∷ ss) [] s = absurd s
+sound-length (t ∷ ss) (x ∷ xs) s = ap suc (sound-length ss xs s.2)
+
+pub stored-length : (ss : List Stream) (xs : List Stored) → AllSound ss (entries_of xs) → length xs ≡ length ss
+stored-length ss xs s = sym (length-map xs (λ (s : Stored). s.entries)) ∙ sound-length ss (entries_of xs) s
+
+pub sound-stream : (ss : List Stream) (xs : List Points) (m : ℕ) (s : Stream) → AllSound ss xs → slice_get ss m ≡ Some s → AreSound s.shape (series_at xs m)
+sound-stream [] [] m s a e = absurd (cc)
+sound-stream [] (x ∷ xs) m s a e = absurd a
+sound-stream (t ∷ ss) [] m s a e = absurd a
+sound-stream (t ∷ ss) (x ∷ xs) zero s a e = let same : t ≡ s = cc in subst (λ (u : Stream). AreSound u.shape x) same a.0
+sound-stream (t ∷ ss) (x ∷ xs) (suc m) s a e = sound-stream ss xs m s a.2 e
+
+pub once-stream : (ss : List Stream) (xs : List Points) (m : ℕ) → AllSound ss xs → AreOnce (keys_of (series_at xs m))
+once-stream [] [] m a = tt
+once-stream [] (x ∷ xs) m a = absurd a
+once-stream (t ∷ ss) [] m a = absurd a
+once-stream (t ∷ ss) (x ∷ xs) zero a = a.1
+once-stream (t ∷ ss) (x ∷ xs) (suc m) a = once-stream ss xs m a.2
+
+pub sound-shape : (p : Planned) (xs : List Points) (m : ℕ) → m < length p.streams → AllSound p.streams xs → AreSound (shape_at p m) (series_at xs m)
+sound-shape p xs m l a =
+    let t = there p.streams m l in
+    subst (λ (s : Shape). AreSound s (series_at xs m)) (sym (shape-is p m t.0 t.1)) (sound-stream p.streams xs m t.0 a t.1)
+
+-- the first feed out of range, where this one is, and where it is not
+pub first-here : (p : Planned) (a : AttrSet) (v : ℤ) (ss : List Points) (f : Feed) (fs : List Feed) → leaves_range p a v ss f ≡ true → first_out p a v ss (f ∷ fs) ≡ Some (faults.Overflow f.stream)
+first-here p a v ss f fs h = ap (λ b. option_map (λ (g : Feed). faults.Overflow g.stream) (cond b (Some f) (find (leaves_range p a v ss) fs))) h
+
+pub first-later : (p : Planned) (a : AttrSet) (v : ℤ) (ss : List Points) (f : Feed) (fs : List Feed) → leaves_range p a v ss f ≡ false → first_out p a v ss (f ∷ fs) ≡ first_out p a v ss fs
+first-later p a v ss f fs h = ap (λ b. option_map (λ (g : Feed). faults.Overflow g.stream) (cond b (Some f) (find (leaves_range p a v ss) fs))) h
+
+-- the same of all feeds, where the points that were read are in range
+pub first-rest : (p : Planned) (a : AttrSet) (v : ℤ) (ss : List Stored) (old q : Stored) (f : Feed) (fs all : List Feed) → all ≡ f ∷ fs → f.stream < length ss → old ≡ get_or ss f.stream old → q.entries ≡ old.entries
+    → is_out_of_range (payload_after (shape_at p f.stream) old.entries (place p.limit old.entries (kept f.keep a)) v) ≡ false
+    → first_out p a v (entries_of ss) all ≡ first_out p a v (entries_of (set ss f.stream q)) fs
+first-rest p a v ss old q f fs all is l was same ok =
+    ap (first_out p a v (entries_of ss)) is
+    ∙ first-later p a v (entries_of ss) f fs (leaves-here p f a v ss old l was ∙ ok)
+    ∙ ap (λ (es : List Points). first_out p a v es fs) (sym (same_entries ss f.stream q old was same))
+
+module _ (p : Planned) (f : Feed) (fs : List Feed) (a : AttrSet) (v : ℤ) (ss ns : List Stored) (old q now x : Stored) (slot : Slot)
+    (feeds : AreFeeds (length ss) (f ∷ fs))
+    (was : old ≡ get_or ss f.stream old)
+    (same : q.entries ≡ old.entries)
+    (others : (m : ℕ) → lacks m fs → slice_get ns m ≡ slice_get (set ss f.stream q) m)
+    (read-now : now ≡ get_or ns f.stream now) where
+  stays : slice_get ns f.stream ≡ Some q
+  stays = others f.stream feeds.1 ∙ set-here ss f.stream q feeds.0
+
+  pub unmoved : now ≡ q
+  unmoved = read ns f.stream q now stays read-now
+
+  pub recorded-here : entries_of ns ≡ applied p fs a v (entries_of (set ss f.stream q))
+      → committed (shape_at p f.stream) v slot old.entries ≡ step (shape_at p f.stream) p.limit old.entries (kept f.keep a) v
+      → x.entries ≡ committed (shape_at p f.stream) v slot now.entries
+      → entries_of (set ns f.stream x) ≡ applied p (f ∷ fs) a v (entries_of ss)
+  recorded-here rest slots done =
+      let rest' : entries_of ns ≡ applied p fs a v (entries_of ss) = rest ∙ ap (applied p fs a v) (same_entries ss f.stream q old was same) in
+      let mid : now.entries ≡ old.entries = ap (λ (s : Stored). s.entries) unmoved ∙ same in
+      let at : old.entries ≡ series_at (entries_of ns) f.stream = sym (entries-at ns f.stream q stays ∙ same) in
+      map-set (λ (s : Stored). s.entries) ns f.stream x
+      ∙ ap (set (entries_of ns) f.stream) (done ∙ ap (committed (shape_at p f.stream) v slot) mid ∙ slots ∙ ap (λ s. step (shape_at p f.stream) p.limit s (kept f.keep a) v) at)
+      ∙ ap (λ l. set l f.stream (step (shape_at p f.stream) p.limit (series_at l f.stream) (kept f.keep a) v)) rest'
+
+pub on_err : {T E : Type 0} (P : Type 0) (r : Result T E) → P → OnErr r P
+on_err P (Ok x) p = tt
+on_err P (Err e) p = p
+
+pub on_ok : {T E : Type 0} (P Q : Type 0) (r : Result T E) → (P → Q) → OnOk r P → OnOk r Q
+on_ok P Q (Ok x) f p = f p
+on_ok P Q (Err e) f p = tt
+
+pub if_err : {T E : Type 0} (P Q : E → Type 0) (r : Result T E) → ((e : E) → P e → Q e) → IfErr r P → IfErr r Q
+if_err P Q (Ok x) f p = tt
+if_err P Q (Err e) f p = f e p
+
+pub from_err : {T E : Type 0} (P : Type 0) (Q : E → Type 0) (r : Result T E) → OnErr r P → IfErr r (λ e. Q e → P)
+from_err P Q (Ok x) p = tt
+from_err P Q (Err e) p = λ _. p
+
+pub at_some : {X : Type 0} (P : X → Type 0) (o : Option X) (x : X) → o ≡ Some x → IfSome o P → P x
+at_some P o x e h = let k : IfSome (Some x) P = subst (λ o. IfSome o P) e h in k
+
+-- memory was had so far, and here
+pub still-had : {X : Type 0} (short : Bool) (o : Option X) (b : Bool) → short ≡ false → is_some o ≡ not b → IsSome o → (short || b) ≡ false
+still-had short None b h e s = absurd (true≢false (sym s))
+still-had short (Some x) true h e s = absurd (true≢false e)
+still-had short (Some x) false h e s = ap (λ s. s || false) h
+
+pub sound-either : {T E : Type 0} (r : Result T E) (ss : List Stream) (before after now : List Points) → OnOk r (now ≡ after) → OnErr r (now ≡ before) → AllSound ss before → AllSound ss after → AllSound ss now
+sound-either (Ok x) ss before after now ok err s k = subst (AllSound ss) (sym ok) k
+sound-either (Err e) ss before after now ok err s k = subst (AllSound ss) (sym err) s
+
+-- points without sets are sound
+pub sound-nothing : (ss : List Stream) → AllSound ss (replicate (length ss) [])
+sound-nothing [] = tt
+sound-nothing (s ∷ ss) = (tt, tt, sound-nothing ss)
+
+-- one more value for a stream keeps the points sound
+sound-set : (ss : List Stream) (xs : List Points) (m : ℕ) (s : Stream) (x : Points) → AllSound ss xs → slice_get ss m ≡ Some s → AreSound s.shape x → AreOnce (keys_of x) → AllSound ss (set xs m x)
+sound-set [] [] m s x a e k o = absurd (cc)
+sound-set [] (y ∷ xs) m s x a e k o = absurd a
+sound-set (t ∷ ss) [] m s x a e k o = absurd a
+sound-set (t ∷ ss) (y ∷ xs) zero s x a e k o = let same : t ≡ s = cc in (subst (λ (u : Stream). AreSound u.shape x) (sym same) k, o, a.2)
+sound-set (t ∷ ss) (y ∷ xs) (suc m) s x a e k o = (a.0, a.1, sound-set ss xs m s x a.2 e k o)
+
+pub sound-applied : (p : Planned) (n : ℕ) (fs : List Feed) (a : AttrSet) (v : ℤ) (xs : List Points) → n ≡ length p.streams → AreFeeds n fs → AllSound p.streams xs → AllSound p.streams (applied p fs a v xs)
+sound-applied p n [] a v xs e fit s = s
+sound-applied p n (f ∷ fs) a v xs e fit s =
+    let l : f.stream < length p.streams = subst (λ (k : ℕ). f.stream < k) e fit.0 in
+    let t = there p.streams f.stream l in
+    let after = applied p fs a v xs in
+    let sound = sound-applied p n fs a v xs e fit.2 s in
+    let here = sound-step (shape_at p f.stream) p.limit (series_at after f.stream) (kept f.keep a) v (sound-shape p after f.stream l sound) in
+    sound-set p.streams after f.stream t.0 (step (shape_at p f.stream) p.limit (series_at after f.stream) (kept f.keep a) v) sound t.1
+    (subst (λ (s : Shape). AreSound s (step (shape_at p f.stream) p.limit (series_at after f.stream) (kept f.keep a) v)) (shape-is p f.stream t.0 t.1) here)
+    (once-step (shape_at p f.stream) p.limit (series_at after f.stream) (kept f.keep a) v (once-stream p.streams after f.stream sound))

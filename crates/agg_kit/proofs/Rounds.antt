@@ -1,0 +1,163 @@
+-- What a list of recordings comes to, as one more recording is accepted.
+use Rattle.std.proofs.Common.{◌≡◌, ◌≢◌, ℕ, ℤ, ◌<◌, ◌==◌, ◌+◌, Bool, true, false, cond, List, [], ◌∷◌, ◌++◌, Option, None, Some, length, slice_get, get_or, set, refl, sym, ap, subst, ◌∙◌, arith, suc, zero, true≢false, map, filter, replicate, append-nil, append_assoc}
+use Rattle.std.specs.Cmp.{unsigned_Decides}
+use Rattle.std.specs.List.{flat_map, enumerate_from}
+use Rattle.std.specs.Option.{option_map_or}
+use Rattle.std.proofs.lemmas.Grind.{flat_map-append}
+use Rattle.std.proofs.lemmas.List.{length-set, length-map, get_or-set_same, get_or-set_other, ext_get_or}
+use Rattle.std.proofs.lemmas.List.FromFn.{length-enumerate_from}
+use Rattle.attr_kit.specs.declared.attr_set.AttrSet.{AttrSet}
+use Rattle.attr_kit.specs.Keeping.{kept}
+use Rattle.point_kit.specs.declared.shape.Shape.{Shape}
+use Rattle.point_kit.specs.declared.shape.Shape.TheVariants as shapes
+use Rattle.point_kit.specs.declared.stream.Stream.{Stream}
+use Rattle.plan_kit.specs.Plans.{Planned, feeds_of, stream_of, lacks, AreFeeds}
+use Rattle.plan_kit.specs.declared.feed.Feed.{Feed}
+use Rattle.agg_kit.specs.Entries.{Entry, Arrivals, brought, arrivals}
+use Rattle.agg_kit.specs.Feeding.{fed, placed}
+use Rattle.agg_kit.specs.Feeds.{series_at, shape_at, applied}
+use Rattle.agg_kit.specs.Rounds.{points_of, round, StandsFor}
+use Rattle.agg_kit.specs.Steps.{step}
+use Rattle.agg_kit.specs.Tallies.{Points, Tallied}
+use Rattle.agg_kit.proofs.SeriesLaws.{series_of, series-push}
+
+-- reading a list at a place
+pub got : {X : Type 0} (xs : List X) (m : ℕ) (x d : X) → slice_get xs m ≡ Some x → get_or xs m d ≡ x
+got [] m x d h = absurd (cc)
+got (y ∷ xs) zero x d h = cc
+got (y ∷ xs) (suc m) x d h = got xs m x d h
+
+pub there : {X : Type 0} (xs : List X) (m : ℕ) → m < length xs → (x : X) × (slice_get xs m ≡ Some x)
+there [] m h = absurd (omega arith)
+there (y ∷ xs) zero h = (y, refl)
+there (y ∷ xs) (suc m) h = there xs m (omega arith)
+
+pub within : {X : Type 0} (xs : List X) (m : ℕ) (x : X) → slice_get xs m ≡ Some x → m < length xs
+within [] m x h = absurd (cc)
+within (y ∷ xs) zero x h = omega arith
+within (y ∷ xs) (suc m) x h = let k = within xs m x h in omega arith
+
+at-enumerated : {X Y : Type 0} (f : ℕ × X → Y) (n : ℕ) (xs : List X) (m : ℕ) (x : X) → slice_get xs m ≡ Some x → slice_get (map f (enumerate_from n xs)) m ≡ Some (f (n + m, x))
+at-enumerated f n [] m x h = absurd (cc)
+at-enumerated {X = X} f n (y ∷ xs) zero x h =
+    let e : y ≡ x = cc in
+    let z : n ≡ n + 0 = omega arith in
+    λ i. Some (f (z i, e i))
+at-enumerated {X = X} f n (y ∷ xs) (suc m) x h =
+    let z : (n + 1) + m ≡ n + suc m = omega arith in
+    at-enumerated f (n + 1) xs m x h ∙ ap (λ k. Some (f (k, x))) z
+
+-- the round has points for each stream
+pub length-round : (p : Planned) (h : List Entry) → length (round p h) ≡ length p.streams
+unfolding round
+length-round p h = length-map (enumerate_from 0 p.streams) (λ s. points_of s.1.shape (fed p s.0 h)) ∙ length-enumerate_from 0 p.streams
+
+-- the points of a stream are those of what is fed there
+pub round-at : (p : Planned) (h : List Entry) (m : ℕ) (s : Stream) → stream_of p m ≡ Some s → slice_get (round p h) m ≡ Some (points_of s.shape (fed p m h))
+unfolding round
+round-at p h m s e =
+    let z : 0 + m ≡ m = omega arith in
+    at-enumerated (λ s. points_of s.1.shape (fed p s.0 h)) 0 p.streams m s e ∙ ap (λ k. Some (points_of s.shape (fed p k h))) z
+
+pub shape-is : (p : Planned) (m : ℕ) (s : Stream) → stream_of p m ≡ Some s → shape_at p m ≡ s.shape
+shape-is p m s e = ap (λ o. option_map_or (λ (s : Stream). s.shape) o shapes.Gauge) e
+
+pub at-round : (p : Planned) (h : List Entry) (m : ℕ) → m < length p.streams → series_at (round p h) m ≡ series_of (shape_at p m) p.limit (arrivals p m h)
+unfolding fed
+at-round p h m l =
+    let t = there p.streams m l in
+    got (round p h) m _ [] (round-at p h m t.0 t.1) ∙ ap (λ (s : Shape). series_of s p.limit (arrivals p m h)) (sym (shape-is p m t.0 t.1))
+
+apart : (m n : ℕ) → (m ≢ n) → (n == m) ≡ false
+apart m n h = by (n == m) refl
+  where
+    by : (b : Bool) → (n == m) ≡ b → b ≡ false
+    by true e = absurd (h (sym ((unsigned_Decides n m).0 e)))
+    by false e = refl
+
+at-set : (xs : List Points) (s m : ℕ) (x : Points) → m < length xs → series_at (set xs s x) m ≡ cond (s == m) x (series_at xs m)
+at-set xs s m x h = by (s == m) refl
+  where
+    by : (b : Bool) → (s == m) ≡ b → series_at (set xs s x) m ≡ cond b x (series_at xs m)
+    by true e = subst (λ (k : ℕ). get_or (set xs k x) m [] ≡ x) (sym ((unsigned_Decides s m).0 e)) (get_or-set_same xs m x [] h)
+    by false e = get_or-set_other xs s m x [] (λ p. true≢false (sym ((unsigned_Decides s m).1 (sym p)) ∙ e))
+
+-- a series after what a recording brings
+abbrev steps : Shape → ℕ → Points → Arrivals → Points
+steps shape limit s [] = s
+steps shape limit s (h ∷ hs) = step shape limit (steps shape limit s hs) h.0 h.1
+
+pub length-applied : (p : Planned) (fs : List Feed) (a : AttrSet) (v : ℤ) (ss : List Points) → length (applied p fs a v ss) ≡ length ss
+length-applied p [] a v ss = refl
+length-applied p (f ∷ fs) a v ss = length-set _ _ _ ∙ length-applied p fs a v ss
+
+at-applied : (p : Planned) (fs : List Feed) (a : AttrSet) (v : ℤ) (ss : List Points) (m : ℕ) → m < length ss
+    → series_at (applied p fs a v ss) m ≡ steps (shape_at p m) p.limit (series_at ss m) (brought m fs a v)
+at-applied p [] a v ss m h = refl
+at-applied p (f ∷ fs) a v ss m h =
+    at-set (applied p fs a v ss) f.stream m (step (shape_at p f.stream) p.limit (series_at (applied p fs a v ss) f.stream) (kept f.keep a) v) (subst (λ (n : ℕ). m < n) (sym (length-applied p fs a v ss)) h)
+    ∙ by (at-applied p fs a v ss m h) (f.stream == m) refl
+  where
+    by : series_at (applied p fs a v ss) m ≡ steps (shape_at p m) p.limit (series_at ss m) (brought m fs a v) → (b : Bool) → (f.stream == m) ≡ b
+        → cond b (step (shape_at p f.stream) p.limit (series_at (applied p fs a v ss) f.stream) (kept f.keep a) v) (series_at (applied p fs a v ss) m)
+        ≡ steps (shape_at p m) p.limit (series_at ss m) (map (λ f. (kept f.keep a, v)) (cond b (f ∷ filter (λ f. f.stream == m) fs) (filter (λ f. f.stream == m) fs)))
+    by go true e = ap (λ n. step (shape_at p n) p.limit (series_at (applied p fs a v ss) n) (kept f.keep a) v) ((unsigned_Decides f.stream m).0 e) ∙ ap (λ s. step (shape_at p m) p.limit s (kept f.keep a) v) go
+    by go false e = go
+
+pub brought-none : (m : ℕ) (fs : List Feed) (a : AttrSet) (v : ℤ) → lacks m fs → brought m fs a v ≡ []
+brought-none m [] a v l = refl
+brought-none m (f ∷ fs) a v l =
+    ap (λ b. map (λ (f : Feed). let p : AttrSet × ℤ = (kept f.keep a, v) in p) (cond b (f ∷ filter (λ f. f.stream == m) fs) (filter (λ f. f.stream == m) fs))) (apart m f.stream l.0) ∙ brought-none m fs a v l.1
+
+steps-brought : (shape : Shape) (limit n m : ℕ) (hs : Arrivals) (fs : List Feed) (a : AttrSet) (v : ℤ) → AreFeeds n fs
+    → steps shape limit (series_of shape limit hs) (brought m fs a v) ≡ series_of shape limit (hs ++ brought m fs a v)
+steps-brought shape limit n m hs [] a v fit = ap (series_of shape limit) (sym (append-nil hs))
+steps-brought shape limit n m hs (f ∷ fs) a v fit = by (steps-brought shape limit n m hs fs a v fit.2) (f.stream == m) refl
+  where
+    all : Bool → Arrivals
+    all b = map (λ f. (kept f.keep a, v)) (cond b (f ∷ filter (λ f. f.stream == m) fs) (filter (λ f. f.stream == m) fs))
+
+    by : steps shape limit (series_of shape limit hs) (brought m fs a v) ≡ series_of shape limit (hs ++ brought m fs a v) → (b : Bool) → (f.stream == m) ≡ b
+        → steps shape limit (series_of shape limit hs) (all b) ≡ series_of shape limit (hs ++ all b)
+    by go true e =
+        let none : brought m fs a v ≡ [] = subst (λ (k : ℕ). brought k fs a v ≡ []) ((unsigned_Decides f.stream m).0 e) (brought-none f.stream fs a v fit.1) in
+        subst (λ (l : Arrivals). step shape limit (steps shape limit (series_of shape limit hs) l) (kept f.keep a) v ≡ series_of shape limit (hs ++ (kept f.keep a, v) ∷ l)) (sym none) (sym (series-push shape limit hs (kept f.keep a) v))
+    by go false e = go
+
+-- what lists one after the other bring
+pub arrivals-append : (p : Planned) (m : ℕ) (h k : List Entry) → arrivals p m (h ++ k) ≡ arrivals p m h ++ arrivals p m k
+arrivals-append p m h k = flat_map-append (λ e. brought m (feeds_of p e.instrument) e.attrs e.value) h k
+
+pub arrivals-push : (p : Planned) (m : ℕ) (h : List Entry) (e : Entry) → arrivals p m (h ++ e ∷ []) ≡ arrivals p m h ++ brought m (feeds_of p e.instrument) e.attrs e.value
+arrivals-push p m h e = arrivals-append p m h (e ∷ []) ∙ ap (λ l. arrivals p m h ++ l) (append-nil (brought m (feeds_of p e.instrument) e.attrs e.value))
+
+-- what a tally that stands for h has for a stream
+pub stands-at : (t : Tallied) (h : List Entry) (m : ℕ) → m < length t.plan.streams → StandsFor t h → series_at t.series m ≡ series_of (shape_at t.plan m) t.plan.limit (arrivals t.plan m h)
+stands-at t h m l s = ap (λ ss. series_at ss m) s ∙ at-round t.plan h m l
+
+-- a tally that stands for h stands for h and one more recording, once each feed has taken it
+pub stands-push : (t : Tallied) (h : List Entry) (e : Entry) → AreFeeds (length t.plan.streams) (feeds_of t.plan e.instrument) → StandsFor t h
+    → applied t.plan (feeds_of t.plan e.instrument) e.attrs e.value t.series ≡ round t.plan (h ++ e ∷ [])
+stands-push t h e fit s =
+    let p = t.plan in
+    let fs = feeds_of p e.instrument in
+    let long : length t.series ≡ length p.streams = ap length s ∙ length-round p h in
+    ext_get_or [] (applied p fs e.attrs e.value t.series) (round p (h ++ e ∷ []))
+    (length-applied p fs e.attrs e.value t.series ∙ long ∙ sym (length-round p (h ++ e ∷ [])))
+    (λ m k.
+    let k' : m < length t.series = subst (λ (l : ℕ). m < l) (length-applied p fs e.attrs e.value t.series) k in
+    let k'' : m < length p.streams = subst (λ (l : ℕ). m < l) long k' in
+    at-applied p fs e.attrs e.value t.series m k'
+    ∙ ap (λ (x : Points). steps (shape_at p m) p.limit x (brought m fs e.attrs e.value)) (stands-at t h m k'' s)
+    ∙ steps-brought (shape_at p m) p.limit (length p.streams) m (arrivals p m h) fs e.attrs e.value fit
+    ∙ ap (series_of (shape_at p m) p.limit) (sym (arrivals-push p m h e))
+    ∙ sym (at-round p (h ++ e ∷ []) m k''))
+
+-- no recordings come to no points
+pub round-none : (p : Planned) → round p [] ≡ replicate (length p.streams) []
+unfolding round fed
+round-none p = each p.streams 0
+  where
+    each : (ss : List Stream) (n : ℕ) → map (λ s. points_of s.1.shape (placed p.limit (arrivals p s.0 []))) (enumerate_from n ss) ≡ replicate (length ss) []
+    each [] n = refl
+    each (s ∷ ss) n = ap (λ l. [] ∷ l) (each ss (n + 1))

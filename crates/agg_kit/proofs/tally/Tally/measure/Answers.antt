@@ -1,0 +1,100 @@
+use Rattle.std.proofs.Common.{◌≡◌, ◌≢◌, ◌∙◌, ◌<◌, ℕ, ℤ, List, length, ap, sym, subst, refl, true, false, Option, None, Some, is_none, FitsSigned, w64, true≢false}
+use Rattle.std.proofs.lemmas.Int.{to_z-of_z}
+use Rattle.plan_kit.specs.Plans.{Planned, feeds_of, kind_of, AreFeeds}
+use Rattle.plan_kit.specs.declared.feed.Feed.{Feed}
+use Rattle.plan_kit.specs.declared.instrument.Kind.{Kind}
+use Rattle.agg_kit.specs.Entries.{Entry, entry_of}
+use Rattle.agg_kit.specs.Feeds.{entries_of, applied, first_out, AllWhole}
+use Rattle.agg_kit.specs.Refusals.{is_negative_for, refused}
+use Rattle.agg_kit.specs.Rounds.{StandsFor}
+use Rattle.agg_kit.specs.Tallies.{Tallied}
+use Rattle.agg_kit.specs.declared.fault.MeasureFault.{MeasureFault}
+use Rattle.agg_kit.specs.declared.fault.MeasureFault.TheVariants as faults
+use Rattle.agg_kit.proofs.Records.{stored-length, sound-applied, sound-either, on_ok, if_err}
+use Rattle.agg_kit.proofs.Refusals.{kind-there, kind-gone, refused-gone, refused-negative, refused-told}
+use Rattle.agg_kit.proofs.Rounds.{stands-push}
+use Rattle.agg_kit.proofs.tally.Tally.measure.Goals as goal
+
+pub returns-in_default-clause-err : goal.returns-in_default-clause-err
+returns-in_default-clause-err c = λ h s _.
+    let t : Tallied = record { plan = c.self.inside.plan; series = entries_of c.self.inside.series.items } in
+    let e : Entry = entry_of c.args.instrument c.args.attrs.now c.args.value in
+    let gone = kind-gone t.plan c.args.instrument (λ l. absurd (true≢false (sym (c.in_default.ensures.variant.1 l)))) in
+    ap (λ (x : Tallied). refused x.plan h e) (sym c.self.view_is) ∙ refused-gone t.plan h e gone
+
+pub returns-in_default-clause-no_memory : goal.returns-in_default-clause-no_memory
+returns-in_default-clause-no_memory c = λ h s w n. absurd (cc)
+
+pub returns-then-is_negative-clause-err : goal.returns-then-is_negative-clause-err
+returns-then-is_negative-clause-err c = λ h s _.
+    let t : Tallied = record { plan = c.self.inside.plan; series = entries_of c.self.inside.series.items } in
+    let e : Entry = entry_of c.args.instrument c.args.attrs.now c.args.value in
+    let fit : FitsSigned w64 c.args.value = c.ranges.value in
+    let some = kind-there t.plan c.args.instrument (c.in-Some.ensures.variant.0 refl) in
+    let negative = simp to_z-of_z at c.if-is_negative.ensures in
+    ap (λ (x : Tallied). refused x.plan h e) (sym c.self.view_is)
+    ∙ refused-negative t.plan h e some (sym (negative ∙ ap (λ (k : Option Kind). is_negative_for k c.args.value) c.kind.ensures.value))
+
+pub returns-then-is_negative-clause-no_memory : goal.returns-then-is_negative-clause-no_memory
+returns-then-is_negative-clause-no_memory c = λ h s w n. absurd (cc)
+
+pub record-requires-clause-feeds : goal.record-requires-clause-feeds
+record-requires-clause-feeds c =
+    subst (λ (n : ℕ). AreFeeds n c.in-Some.feeds.now) (sym (stored-length c.self.inside.plan.streams c.self.inside.series.items c.self.invariant.sound))
+    (subst (AreFeeds (length c.self.inside.plan.streams)) (sym c.in-Some.ensures.value) c.in-Some.ensures.feeds)
+
+pub invariant_of-self : goal.invariant_of-self
+invariant_of-self c =
+    let fit : FitsSigned w64 c.args.value = c.ranges.value in
+    let p = c.self.inside.plan in
+    let before = entries_of c.self.inside.series.items in
+    let feeds : AreFeeds (length p.streams) c.in-Some.feeds.now = subst (AreFeeds (length p.streams)) (sym c.in-Some.ensures.value) c.in-Some.ensures.feeds in
+    record {
+      overflow_is = c.self.invariant.overflow_is;
+      sound = sound-either c.record.result p.streams before (applied p c.in-Some.feeds.now c.args.attrs.now c.args.value before) (entries_of c.record.new.series.items)
+          (simp to_z-of_z at c.record.ensures.ok) c.record.ensures.unchanged c.self.invariant.sound
+          (sound-applied p (length p.streams) c.in-Some.feeds.now c.args.attrs.now c.args.value before refl feeds c.self.invariant.sound);
+    }
+
+pub returns-clause-ok : goal.returns-clause-ok
+returns-clause-ok c = λ h s.
+    let t : Tallied = record { plan = c.self.inside.plan; series = entries_of c.self.inside.series.items } in
+    let e : Entry = entry_of c.args.instrument c.args.attrs.now c.args.value in
+    let fit : FitsSigned w64 c.args.value = c.ranges.value in
+    let some = kind-there t.plan c.args.instrument (c.in-Some.ensures.variant.0 refl) in
+    let negative = simp to_z-of_z at c.if-is_negative.ensures in
+    let rises : is_negative_for (kind_of t.plan c.args.instrument) c.args.value ≡ false = sym (negative ∙ ap (λ (k : Option Kind). is_negative_for k c.args.value) c.kind.ensures.value) in
+    let first = refused-told t c.args.self.now h e c.in-Some.feeds.now c.self.view_is s c.in-Some.ensures.feeds c.in-Some.ensures.value some rises in
+    on_ok _ _ c.record.result (λ ok. first ∙ ok) (simp to_z-of_z at c.record.ensures.fits)
+
+pub returns-clause-stands : goal.returns-clause-stands
+returns-clause-stands c = λ h s.
+    let t : Tallied = record { plan = c.self.inside.plan; series = entries_of c.self.inside.series.items } in
+    let e : Entry = entry_of c.args.instrument c.args.attrs.now c.args.value in
+    let fit : FitsSigned w64 c.args.value = c.ranges.value in
+    on_ok _ _ c.record.result
+    (λ ok. ok ∙ ap (λ (fs : List Feed). applied t.plan fs c.args.attrs.now c.args.value t.series) c.in-Some.ensures.value ∙ stands-push t h e c.in-Some.ensures.feeds (subst (λ (x : Tallied). StandsFor x h) (sym c.self.view_is) s))
+    (simp to_z-of_z at c.record.ensures.ok)
+
+pub returns-clause-err : goal.returns-clause-err
+returns-clause-err c = λ h s.
+    let t : Tallied = record { plan = c.self.inside.plan; series = entries_of c.self.inside.series.items } in
+    let e : Entry = entry_of c.args.instrument c.args.attrs.now c.args.value in
+    let fit : FitsSigned w64 c.args.value = c.ranges.value in
+    let some = kind-there t.plan c.args.instrument (c.in-Some.ensures.variant.0 refl) in
+    let negative = simp to_z-of_z at c.if-is_negative.ensures in
+    let rises : is_negative_for (kind_of t.plan c.args.instrument) c.args.value ≡ false = sym (negative ∙ ap (λ (k : Option Kind). is_negative_for k c.args.value) c.kind.ensures.value) in
+    let first = refused-told t c.args.self.now h e c.in-Some.feeds.now c.self.view_is s c.in-Some.ensures.feeds c.in-Some.ensures.value some rises in
+    if_err _ _ c.record.result (λ f told n. first ∙ told n) (simp to_z-of_z at c.record.ensures.err)
+
+pub returns-clause-no_memory : goal.returns-clause-no_memory
+returns-clause-no_memory c = λ h s whole.
+    let t : Tallied = record { plan = c.self.inside.plan; series = entries_of c.self.inside.series.items } in
+    let e : Entry = entry_of c.args.instrument c.args.attrs.now c.args.value in
+    let fit : FitsSigned w64 c.args.value = c.ranges.value in
+    let some = kind-there t.plan c.args.instrument (c.in-Some.ensures.variant.0 refl) in
+    let negative = simp to_z-of_z at c.if-is_negative.ensures in
+    let rises : is_negative_for (kind_of t.plan c.args.instrument) c.args.value ≡ false = sym (negative ∙ ap (λ (k : Option Kind). is_negative_for k c.args.value) c.kind.ensures.value) in
+    let first = refused-told t c.args.self.now h e c.in-Some.feeds.now c.self.view_is s c.in-Some.ensures.feeds c.in-Some.ensures.value some rises in
+    let all : AllWhole c.in-Some.feeds.now = subst AllWhole (sym c.in-Some.ensures.value) (subst (λ (x : Tallied). AllWhole (feeds_of x.plan c.args.instrument)) (sym c.self.view_is) whole) in
+    if_err _ _ c.record.result (λ f told n. first ∙ told n) ((simp to_z-of_z at c.record.ensures.no_memory) all)

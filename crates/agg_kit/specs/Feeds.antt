@@ -1,0 +1,54 @@
+-- What one recording does to the points of all streams.
+use Rattle.std.specs.Prelude.{◌≡◌, true, ℕ, ℤ, Bool, List, [], ◌∷◌, Option, find, map, slice_set, slice_index_or}
+use Rattle.std.specs.Option.{option_map, option_map_or}
+use Rattle.attr_kit.specs.declared.attr_set.AttrSet.{AttrSet}
+use Rattle.attr_kit.specs.Keeping.{kept}
+use Rattle.attr_kit.specs.declared.keep.Keep.TheVariants.{All}
+use Rattle.point_kit.specs.declared.shape.Shape.{Shape}
+use Rattle.point_kit.specs.declared.shape.Shape.TheVariants as shapes
+use Rattle.plan_kit.specs.Plans.{Planned, stream_of}
+use Rattle.plan_kit.specs.declared.feed.Feed.{Feed}
+use Rattle.agg_kit.specs.Payloads.{is_out_of_range}
+use Rattle.agg_kit.specs.Steps.{Stored, held, place, payload_after, step}
+use Rattle.agg_kit.specs.Tallies.{Points}
+use Rattle.agg_kit.specs.declared.fault.MeasureFault.{MeasureFault}
+use Rattle.agg_kit.specs.declared.fault.MeasureFault.TheVariants as faults
+
+abbrev pub entries_of : List Stored → List Points
+entries_of = map (λ s. s.entries)
+
+-- the points of the stream m
+abbrev pub series_at : List Points → ℕ → Points
+series_at ss m = slice_index_or ss m []
+
+-- the shape of the stream m
+abbrev pub shape_at : Planned → ℕ → Shape
+shape_at p m = option_map_or (λ s. s.shape) (stream_of p m) shapes.Gauge
+
+-- whether a feed's point would be out of range with one more recording
+abbrev pub leaves_range : Planned → AttrSet → ℤ → List Points → Feed → Bool
+leaves_range p a v ss f =
+    let es = series_at ss f.stream in
+    is_out_of_range (payload_after (shape_at p f.stream) es (place p.limit es (kept f.keep a)) v)
+
+-- the refusal of the first feed whose point would be out of range
+abbrev pub first_out : Planned → AttrSet → ℤ → List Points → List Feed → Option MeasureFault
+first_out p a v ss fs = option_map (λ f. faults.Overflow f.stream) (find (leaves_range p a v ss) fs)
+
+-- the points after a recording, which each feed takes under the keys that it keeps
+abbrev pub applied : Planned → List Feed → AttrSet → ℤ → List Points → List Points
+applied p [] a v ss = ss
+applied p (f ∷ fs) a v ss =
+    let after = applied p fs a v ss in
+    slice_set after f.stream (step (shape_at p f.stream) p.limit (series_at after f.stream) (kept f.keep a) v)
+
+-- each feed keeps all keys
+abbrev pub AllWhole : List Feed → Type 0
+AllWhole [] = Unit {0}
+AllWhole (f ∷ fs) = (f.keep ≡ All) × AllWhole fs
+
+-- each feed keeps all keys, and its stream has the point that the set feeds
+abbrev pub AllHeld : Planned → List Feed → AttrSet → List Points → Type 0
+AllHeld p [] a ss = Unit {0}
+AllHeld p (f ∷ fs) a ss =
+    (f.keep ≡ All) × (held (series_at ss f.stream) (place p.limit (series_at ss f.stream) a) ≡ true) × AllHeld p fs a ss

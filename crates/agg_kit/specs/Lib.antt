@@ -1,0 +1,13 @@
+pub mod Entries
+pub mod Feeds
+pub mod Feeding
+pub mod Kept
+pub mod Laws
+pub mod Parts
+pub mod Payloads
+pub mod Refusals
+pub mod Rounds
+pub mod Sound
+pub mod Slots
+pub mod Steps
+pub mod Tallies

@@ -1,0 +1,32 @@
+//! Why a recording is refused.
+ghost use Rattle.std.specs.Prelude.{◌≡◌};
+
+use attr_kit::NoMemory;
+use thiserror::Error;
+
+/// Why a recording is refused, in the order in which it is looked for.
+#[derive(Debug, PartialEq, Eq, Drop, Error)]
+pub enum MeasureFault {
+    /// The plan has no instrument of this number.
+    #[error("there is no such instrument")]
+    NoInstrument,
+    /// The value is below 0, and the instrument is a counter or a histogram.
+    #[error("the value is below 0")]
+    Negative,
+    /// The first feed, by its stream, whose sum would leave i64 or whose count u64.
+    #[error("a total of stream {0} would be out of range")]
+    Overflow(usize),
+    /// Memory was refused.
+    #[error("no memory")]
+    NoMemory,
+}
+
+impl From<NoMemory> for MeasureFault {
+    ghost use Rattle.agg_kit.specs.declared.fault.MeasureFault.TheVariants as faults;
+
+    ghost from_gives = { λ _ e. e ≡ faults.NoMemory };
+
+    fn from(_error: NoMemory) -> MeasureFault {
+        MeasureFault::NoMemory
+    }
+}

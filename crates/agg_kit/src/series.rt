@@ -1,0 +1,257 @@
+//! The points of one stream.
+ghost use Rattle.std.specs.Prelude.{◌≡◌, ◌≢◌, ◌<◌, ◌++◌, ◌∷◌, [], length, Some, None, position, slice_get, true, false, not, IsTrue, ◌↔◌, IsSome, OnOk, OnErr, IfOk, IfErr, IfSome};
+ghost use Rattle.std.specs.Map.{keys_of, lookup};
+ghost use Rattle.std.specs.Option.{option_map};
+ghost use Rattle.indexmap.specs.IndexMap.{insert_entry, set_value_at};
+ghost use Rattle.point_kit.specs.declared.shape.Shape.{Shape};
+ghost use Rattle.plan_kit.specs.Plans.{is_proper};
+ghost use Rattle.agg_kit.specs.Feeding.{set_eq, overflow_set, is_own};
+ghost use Rattle.agg_kit.specs.Payloads.{payload_of, is_out_of_range};
+ghost use Rattle.agg_kit.specs.Slots.{committed, payload_in, CanCommit};
+ghost use Rattle.agg_kit.specs.Sound.{AreSound};
+ghost use Rattle.agg_kit.specs.Steps.{bounds_of, recorded, held, place, payload_after, add_under, own_count, step};
+
+use crate::payload::{add, empty, takes};
+use attr_kit::{AttrSet, NoMemory, TryCopy};
+use indexmap::IndexMap;
+use point_kit::{Payload, Shape};
+use std::alloc::Global;
+use std::marker::Model;
+
+/// A recording that was checked and found room, for one stream.
+#[derive(Drop)]
+pub(crate) enum Slot {
+    /// It goes to the point at this place.
+    Held(usize),
+    /// It makes a new point of this set, which is counted to the limit if it is `own`.
+    Fresh {
+        set: AttrSet,
+        payload: Payload,
+        own: bool,
+    },
+}
+
+/// Why a recording can't be prepared.
+#[derive(Drop)]
+pub(crate) enum Want {
+    /// The point would be out of range.
+    Range,
+    /// There was no memory to look for the point.
+    Sight,
+}
+
+/// The points of one stream: attribute sets with their payloads, in first-seen order.
+#[derive(Drop)]
+pub(crate) struct Series {
+    points: IndexMap<AttrSet, Payload>,
+    own: u64,
+}
+
+impl Model for Series {
+    ghost use Rattle.std.specs.Prelude.{◌≡◌};
+    ghost use Rattle.indexmap.specs.IndexMap.{spare};
+    ghost use Rattle.agg_kit.specs.Steps.{Stored, own_count};
+
+    ghost Value = { Stored };
+
+    ghost view = { λ s. record { entries = s.points.entries; room = spare s.points } };
+
+    ghost invariant = { λ s. s.own ≡ own_count s.points.entries };
+}
+
+impl Series {
+    pub(crate) fn new(alloc: Global) -> Series
+        ensures { result.entries ≡ [] }
+    {
+        Series {
+            points: IndexMap::new(alloc),
+            own: 0,
+        }
+    }
+
+    pub(crate) fn len(&self) -> usize
+        ensures { result ≡ length self.now.entries }
+    {
+        self.points.len()
+    }
+
+    /// The point at a place, in first-seen order.
+    pub(crate) fn entry(&self, place: usize) -> Option<(&AttrSet, &Payload)>
+        ensures { option_map (λ p. (p.0.now, p.1.now)) result ≡ slice_get self.now.entries place }
+    {
+        self.points.get_index(place)
+    }
+
+    // Whether one more set may have a point of its own.
+    fn has_room(&self, limit: u64) -> bool
+        ensures { IsTrue result ↔ (own_count self.now.entries < limit) }
+    {
+        self.own < limit
+    }
+
+    /// The place of the point that a set feeds, if it is there.
+    pub(crate) fn find(&self, limit: u64, overflow: &AttrSet, set: &AttrSet) -> Option<usize>
+        requires { overflow.now ≡ overflow_set }
+        ensures { result ≡ position (set_eq (place limit self.now.entries set.now)) (keys_of self.now.entries) }
+    {
+        if let Some(index) = self.points.get_index_of(set) {
+            return Some(index);
+        }
+        if self.has_room(limit) {
+            return None;
+        }
+        self.points.get_index_of(overflow)
+    }
+
+    /// Whether the point at a place stays in range with one more value.
+    pub(crate) fn takes(&self, index: usize, value: i64) -> bool
+        requires { index < length self.now.entries }
+        ensures { (shape : Shape) → is_out_of_range (recorded (bounds_of shape) (payload_in shape self.now.entries index) value) ≡ not result }
+    {
+        takes(&self.points[index], value)
+    }
+
+    /// Adds a value to the point at a place.
+    pub(crate) fn add(&mut self, index: usize, shape: &Shape, value: i64)
+        requires within { index < length self.old.entries }
+        requires sound { AreSound shape.now self.old.entries }
+        requires proper { IsTrue (is_proper shape.now) }
+        requires in_range { is_out_of_range (recorded (bounds_of shape.now) (payload_in shape.now self.old.entries index) value) ≡ false }
+        ensures { self.new.entries ≡ set_value_at self.old.entries index (recorded (bounds_of shape.now) (payload_in shape.now self.old.entries index) value) }
+    {
+        add(&mut self.points[index], shape, value);
+    }
+
+    /// Makes room for a new point of this very set, which holds the value.
+    fn fresh_under(
+        &mut self,
+        set: &AttrSet,
+        own: bool,
+        shape: &Shape,
+        value: i64,
+    ) -> Result<Slot, NoMemory>
+        requires own { own ≡ is_own set.now }
+        requires absent { lookup (set_eq set.now) self.old.entries ≡ None }
+        requires proper { IsTrue (is_proper shape.now) }
+        ensures entries { self.new.entries ≡ self.old.entries }
+        ensures ready { IfOk result (λ slot. CanCommit shape.now value slot self.new) }
+        ensures slot { IfOk result (λ slot. committed shape.now value slot self.old.entries ≡ add_under shape.now self.old.entries set.now value) }
+    {
+        let alloc = *self.points.allocator();
+        let mut payload = empty(alloc, shape)?;
+        add(&mut payload, shape, value);
+        let set = set.try_copy()?;
+        self.points.reserve(1)?;
+        Ok(Slot::Fresh { set, payload, own })
+    }
+
+    /// Makes room for a new point of the set that a set feeds, which holds the value.
+    fn fresh(
+        &mut self,
+        limit: u64,
+        overflow: &AttrSet,
+        set: &AttrSet,
+        shape: &Shape,
+        value: i64,
+    ) -> Result<Slot, NoMemory>
+        requires overflow { overflow.now ≡ overflow_set }
+        requires absent { lookup (set_eq (place limit self.old.entries set.now)) self.old.entries ≡ None }
+        requires proper { IsTrue (is_proper shape.now) }
+        ensures entries { self.new.entries ≡ self.old.entries }
+        ensures ready { IfOk result (λ slot. CanCommit shape.now value slot self.new) }
+        ensures slot { IfOk result (λ slot. committed shape.now value slot self.old.entries ≡ step shape.now limit self.old.entries set.now value) }
+    {
+        if self.has_room(limit) {
+            let own = *set != *overflow;
+            self.fresh_under(set, own, shape, value)
+        } else {
+            self.fresh_under(overflow, false, shape, value)
+        }
+    }
+
+    /// Checks a recording and makes room for it, or answers none where there is no memory for a new point. The points stay.
+    pub(crate) fn prepare(
+        &mut self,
+        limit: u64,
+        overflow: &AttrSet,
+        set: &AttrSet,
+        shape: &Shape,
+        value: i64,
+    ) -> Result<Option<Slot>, Want>
+        requires overflow { overflow.now ≡ overflow_set }
+        requires proper { IsTrue (is_proper shape.now) }
+        ensures entries { self.new.entries ≡ self.old.entries }
+        ensures ready { IfOk result (λ slot. IfSome slot (λ slot. CanCommit shape.now value slot self.new)) }
+        ensures slot { IfOk result (λ slot. IfSome slot (λ slot. committed shape.now value slot self.old.entries ≡ step shape.now limit self.old.entries set.now value)) }
+        ensures ok { OnOk result (is_out_of_range (payload_after shape.now self.old.entries (place limit self.old.entries set.now) value) ≡ false) }
+        ensures range { OnErr result (is_out_of_range (payload_after shape.now self.old.entries (place limit self.old.entries set.now) value) ≡ true) }
+        ensures sight { IfErr result (λ want. want ≡ Want.Range) }
+        // A point that is there takes no memory.
+        ensures held { held self.old.entries (place limit self.old.entries set.now) ≡ true → IfOk result (λ slot. IsSome slot) }
+    {
+        match self.find(limit, overflow, set) {
+            Some(index) => {
+                if self.takes(index, value) {
+                    Ok(Some(Slot::Held(index)))
+                } else {
+                    Err(Want::Range)
+                }
+            }
+            None => match self.fresh(limit, overflow, set, shape, value) {
+                Ok(slot) => Ok(Some(slot)),
+                Err(_) => Ok(None),
+            },
+        }
+    }
+
+    /// Does what was prepared.
+    pub(crate) fn commit(&mut self, slot: Slot, shape: &Shape, value: i64)
+        requires ready { CanCommit shape.now value slot self.old }
+        requires sound { AreSound shape.now self.old.entries }
+        requires proper { IsTrue (is_proper shape.now) }
+        ensures { self.new.entries ≡ committed shape.now value slot self.old.entries }
+    {
+        match slot {
+            Slot::Held(index) => self.add(index, shape, value),
+            Slot::Fresh { set, payload, own } => {
+                // `len` is called for its bound, which the proof cites.
+                let _len = self.points.len();
+                self.points.insert(set, payload).unwrap();
+                if own {
+                    self.own += 1;
+                }
+            }
+        }
+    }
+
+    /// An equal series, with room for its points.
+    pub(crate) fn try_copy(&self) -> Result<Series, NoMemory>
+        ensures { IfOk result (λ copy. copy.entries ≡ self.now.entries) }
+    {
+        let len = self.points.len();
+        let mut points = IndexMap::with_capacity(*self.points.allocator(), len)?;
+        for place in 0..len {
+            if let Some((set, payload)) = self.points.get_index(place) {
+                insert_copy(&mut points, set, payload)?;
+            }
+        }
+        Ok(Series {
+            points,
+            own: self.own,
+        })
+    }
+}
+
+// Inserts copies of a set and its payload.
+fn insert_copy(
+    points: &mut IndexMap<AttrSet, Payload>,
+    set: &AttrSet,
+    payload: &Payload,
+) -> Result<(), NoMemory>
+    ensures { OnOk result (points.new.entries ≡ insert_entry set_eq points.old.entries set.now payload.now) }
+{
+    let set = set.try_copy()?;
+    let payload = payload.try_copy()?;
+    points.insert(set, payload)?;
+    Ok(())
+}

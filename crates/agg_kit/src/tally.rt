@@ -1,0 +1,282 @@
+//! The points of all streams of a plan, as recordings come in.
+ghost use Rattle.std.specs.Prelude.{◌≡◌, ◌≢◌, ◌<◌, ◌++◌, ◌∷◌, [], ℕ, List, length, map, replicate, slice_get, slice_index_or, Some, None, true, false, IfOk, IfErr, IfSome, OnOk, OnErr, IsSome, IsTrue};
+ghost use Rattle.std.specs.Option.{option_map};
+ghost use Rattle.plan_kit.specs.Plans.{feeds_of, kind_of, is_proper, AreFeeds, lacks};
+ghost use Rattle.attr_kit.specs.Keeping.{kept};
+ghost use Rattle.attr_kit.specs.declared.keep.Keep.TheVariants as keeps;
+ghost use Rattle.agg_kit.specs.Entries.{Entry, entry_of};
+ghost use Rattle.agg_kit.specs.Feeding.{overflow_set};
+ghost use Rattle.agg_kit.specs.Feeds.{entries_of, series_at, shape_at, first_out, applied, AllWhole, AllHeld};
+ghost use Rattle.agg_kit.specs.Laws.{SumsAddUp, CountsAddUp, IsLimited, OwnPointsStay, FedGrows, RoundsHaveFed};
+ghost use Rattle.agg_kit.specs.Payloads.{is_out_of_range};
+ghost use Rattle.agg_kit.specs.Refusals.{is_negative_for, refused};
+ghost use Rattle.agg_kit.specs.Rounds.{StandsFor};
+ghost use Rattle.agg_kit.specs.Slots.{committed, CanCommit};
+ghost use Rattle.agg_kit.specs.Sound.{AllSound};
+ghost use Rattle.agg_kit.specs.Steps.{held, place, payload_after, step};
+
+use crate::MeasureFault;
+use crate::series::{Series, Slot, Want};
+use attr_kit::{AttrSet, AttrValue, Keep, NoMemory, Txt};
+use plan_kit::{Feed, Kind, Plan};
+use point_kit::{Payload, Shape};
+use std::alloc::Global;
+use std::marker::Model;
+
+/// The points of the streams of a plan.
+#[derive(Drop)]
+pub struct Tally {
+    plan: Plan,
+    overflow: AttrSet,
+    series: Vec<Series>,
+}
+
+impl Model for Tally {
+    ghost use Rattle.agg_kit.specs.Feeds.{entries_of};
+    ghost use Rattle.agg_kit.specs.Tallies.{Tallied};
+    ghost use Rattle.agg_kit.specs.Kept.{IsTally};
+
+    ghost Value = { Tallied };
+
+    ghost view = { λ t. record { plan = t.plan; series = entries_of t.series.items } };
+
+    ghost invariant = { λ t. IsTally t.plan t.overflow (entries_of t.series.items) };
+}
+
+impl Tally {
+    /// A tally without points.
+    #[tactic(auto, using(crate::proofs::Laws::sums_add_up, crate::proofs::Laws::counts_add_up, crate::proofs::Laws::is_limited, crate::proofs::Laws::own_points_stay, crate::proofs::Laws::fed_grows))]
+    pub fn new(alloc: Global, plan: Plan) -> Result<Tally, NoMemory>
+        ensures plan { IfOk result (λ tally. tally.plan ≡ plan) }
+        ensures stands { IfOk result (λ tally. StandsFor tally []) }
+
+        // What tallies stand for: sums and counts add up, the limit holds, later recordings leave what was fed, and a
+        // round has each set that was fed, once, with the payload of its values.
+        ensures sums { SumsAddUp }
+        ensures counts { CountsAddUp }
+        ensures limited { IsLimited }
+        ensures own { OwnPointsStay }
+        ensures grows { FedGrows }
+        ensures fed { RoundsHaveFed }
+    {
+        let overflow = overflow_attrs(alloc)?;
+        let series = no_points(alloc, plan.streams_len())?;
+        Ok(Tally {
+            plan,
+            overflow,
+            series,
+        })
+    }
+
+    /// Records a value in the stream of every feed of the instrument, or in none.
+    pub fn measure(
+        &mut self,
+        instrument: usize,
+        attrs: &AttrSet,
+        value: i64,
+    ) -> Result<(), MeasureFault>
+        ensures ok { (h : List Entry) → StandsFor self.old h → OnOk result (refused self.old.plan h (entry_of instrument attrs.now value) ≡ None) }
+        ensures stands { (h : List Entry) → StandsFor self.old h → OnOk result (StandsFor self.new (h ++ entry_of instrument attrs.now value ∷ [])) }
+        ensures plan { self.new.plan ≡ self.old.plan }
+        ensures err { (h : List Entry) → StandsFor self.old h → IfErr result (λ f. f ≢ MeasureFault.NoMemory → refused self.old.plan h (entry_of instrument attrs.now value) ≡ Some f) }
+        ensures no_memory { (h : List Entry) → StandsFor self.old h → AllWhole (feeds_of self.old.plan instrument) → IfErr result (λ f. f ≡ MeasureFault.NoMemory → refused self.old.plan h (entry_of instrument attrs.now value) ≡ None) }
+        // Points that are there take no memory where every feed keeps all keys.
+        ensures held { AllHeld self.old.plan (feeds_of self.old.plan instrument) attrs.now self.old.series → IfErr result (λ f. f ≢ MeasureFault.NoMemory) }
+        ensures unchanged { OnErr result (self.new ≡ self.old) }
+    {
+        let Some(feeds) = self.plan.feeds(instrument) else {
+            return Err(MeasureFault::NoInstrument);
+        };
+        if is_negative(self.plan.kind(instrument), value) {
+            return Err(MeasureFault::Negative);
+        }
+        record(
+            &self.plan,
+            &self.overflow,
+            &mut self.series,
+            feeds,
+            attrs,
+            value,
+            false,
+        )
+    }
+
+    /// Begins anew, without points, under the same plan.
+    pub fn restart(&mut self) -> Result<(), NoMemory>
+        ensures plan { self.new.plan ≡ self.old.plan }
+        ensures stands { OnOk result (StandsFor self.new []) }
+        ensures unchanged { OnErr result (self.new ≡ self.old) }
+    {
+        let alloc = *self.series.allocator();
+        let series = no_points(alloc, self.plan.streams_len())?;
+        self.series = series;
+        Ok(())
+    }
+
+    /// An equal tally.
+    pub fn try_copy(&self) -> Result<Tally, NoMemory>
+        ensures value { IfOk result (λ copy. copy ≡ self.now) }
+    {
+        Ok(Tally {
+            plan: self.plan.try_copy()?,
+            overflow: self.overflow.try_copy()?,
+            series: copy_series(&self.series)?,
+        })
+    }
+
+    /// The plan. Takes no memory.
+    pub fn plan(&self) -> &Plan
+        ensures value { result.now ≡ self.now.plan }
+
+        // There are points for each stream, all of its shape, and no two of one set.
+        ensures sound { AllSound self.now.plan.streams self.now.series }
+        ensures len { length self.now.series ≡ length self.now.plan.streams }
+    {
+        &self.plan
+    }
+
+    /// How many points a stream has. Takes no memory.
+    pub fn series_len(&self, stream: usize) -> Option<usize>
+        ensures value { result ≡ option_map (λ points. length points) (slice_get self.now.series stream) }
+    {
+        match self.series.get(stream) {
+            Some(series) => Some(series.len()),
+            None => None,
+        }
+    }
+
+    /// The point of a stream at a place, in first-seen order. Takes no memory.
+    pub fn entry(&self, stream: usize, place: usize) -> Option<(&AttrSet, &Payload)>
+        ensures value { option_map (λ p. (p.0.now, p.1.now)) result ≡ slice_get (series_at self.now.series stream) place }
+    {
+        match self.series.get(stream) {
+            Some(series) => series.entry(place),
+            None => None,
+        }
+    }
+}
+
+// The set that stands for those past the limit.
+fn overflow_attrs(alloc: Global) -> Result<AttrSet, NoMemory>
+    ensures { IfOk result (λ set. set ≡ overflow_set) }
+{
+    let key = Txt::from_str(alloc, "otel.metric.overflow")?;
+    AttrSet::single(alloc, key, AttrValue::Truth(true))
+}
+
+// No points for each of so many streams.
+fn no_points(alloc: Global, streams: usize) -> Result<Vec<Series>, NoMemory>
+    ensures { IfOk result (λ series. entries_of series.items ≡ replicate streams []) }
+{
+    let mut series = Vec::new(alloc);
+    for _stream in 0..streams {
+        series.push(Series::new(alloc))?;
+    }
+    Ok(series)
+}
+
+// Equal series.
+fn copy_series(series: &Vec<Series>) -> Result<Vec<Series>, NoMemory>
+    ensures { IfOk result (λ copy. entries_of copy.items ≡ entries_of series.now.items) }
+{
+    let mut copy = Vec::with_capacity(*series.allocator(), series.len())?;
+    for points in series {
+        copy.push(points.try_copy()?)?;
+    }
+    Ok(copy)
+}
+
+// Whether the value is below 0 and the instrument takes none.
+fn is_negative(kind: Option<Kind>, value: i64) -> bool
+    ensures { result ≡ is_negative_for kind value }
+{
+    match kind {
+        Some(Kind::Counter) => value < 0,
+        Some(Kind::Histogram) => value < 0,
+        _ => false,
+    }
+}
+
+// The shape of a stream.
+fn shape_of(plan: &Plan, stream: usize) -> &Shape
+    requires { stream < length plan.now.streams }
+    ensures value { result.now ≡ shape_at plan.now stream }
+    ensures proper { IsTrue (is_proper result.now) }
+{
+    &plan.stream(stream).unwrap().shape
+}
+
+// Checks a recording in one stream and makes room for it, or answers none where there is no memory for a new point.
+fn prepare_feed(
+    plan: &Plan,
+    overflow: &AttrSet,
+    series: &mut Series,
+    feed: &Feed,
+    attrs: &AttrSet,
+    value: i64,
+) -> Result<Option<Slot>, Want>
+    requires overflow { overflow.now ≡ overflow_set }
+    requires stream { feed.now.stream < length plan.now.streams }
+    ensures entries { series.new.entries ≡ series.old.entries }
+    ensures ready { IfOk result (λ slot. IfSome slot (λ slot. CanCommit (shape_at plan.now feed.now.stream) value slot series.new)) }
+    ensures slot { IfOk result (λ slot. IfSome slot (λ slot. committed (shape_at plan.now feed.now.stream) value slot series.old.entries ≡ step (shape_at plan.now feed.now.stream) plan.now.limit series.old.entries (kept feed.now.keep attrs.now) value)) }
+    ensures ok { OnOk result (is_out_of_range (payload_after (shape_at plan.now feed.now.stream) series.old.entries (place plan.now.limit series.old.entries (kept feed.now.keep attrs.now)) value) ≡ false) }
+    ensures range { IfErr result (λ want. want ≡ Want.Range → is_out_of_range (payload_after (shape_at plan.now feed.now.stream) series.old.entries (place plan.now.limit series.old.entries (kept feed.now.keep attrs.now)) value) ≡ true) }
+    ensures sight { feed.now.keep ≡ keeps.All → IfErr result (λ want. want ≡ Want.Range) }
+    ensures held { feed.now.keep ≡ keeps.All → held series.old.entries (place plan.now.limit series.old.entries attrs.now) ≡ true → IfOk result (λ slot. IsSome slot) }
+{
+    let limit = plan.limit();
+    let shape = shape_of(plan, feed.stream);
+    match &feed.keep {
+        Keep::All => series.prepare(limit, overflow, attrs, shape, value),
+        Keep::Only(_) => match attrs.kept(&feed.keep) {
+            Ok(set) => series.prepare(limit, overflow, &set, shape, value),
+            Err(_) => Err(Want::Sight),
+        },
+    }
+}
+
+/// Records a value in every feed's stream, or in none. `short` says that an earlier feed found no memory.
+fn record(
+    plan: &Plan,
+    overflow: &AttrSet,
+    series: &mut Vec<Series>,
+    feeds: &[Feed],
+    attrs: &AttrSet,
+    value: i64,
+    short: bool,
+) -> Result<(), MeasureFault>
+    requires overflow { overflow.now ≡ overflow_set }
+    requires feeds { AreFeeds (length series.old.items) feeds.now }
+    requires sound { AllSound plan.now.streams (entries_of series.old.items) }
+    ensures ok { OnOk result (entries_of series.new.items ≡ applied plan.now feeds.now attrs.now value (entries_of series.old.items)) }
+    ensures fits { OnOk result (first_out plan.now attrs.now value (entries_of series.old.items) feeds.now ≡ None) }
+    ensures had { OnOk result (short ≡ false) }
+    ensures unchanged { OnErr result (entries_of series.new.items ≡ entries_of series.old.items) }
+    ensures err { IfErr result (λ f. f ≢ MeasureFault.NoMemory → first_out plan.now attrs.now value (entries_of series.old.items) feeds.now ≡ Some f) }
+    ensures no_memory { AllWhole feeds.now → IfErr result (λ f. f ≡ MeasureFault.NoMemory → first_out plan.now attrs.now value (entries_of series.old.items) feeds.now ≡ None) }
+    ensures held { short ≡ false → AllHeld plan.now feeds.now attrs.now (entries_of series.old.items) → IfErr result (λ f. f ≢ MeasureFault.NoMemory) }
+    ensures len { length series.new.items ≡ length series.old.items }
+    ensures others { (m : ℕ) → lacks m feeds.now → slice_get series.new.items m ≡ slice_get series.old.items m }
+{
+    let Some((feed, rest)) = feeds.split_first() else {
+        return if short {
+            Err(MeasureFault::NoMemory)
+        } else {
+            Ok(())
+        };
+    };
+    let points = &mut series[feed.stream];
+    let slot = match prepare_feed(plan, overflow, points, feed, attrs, value) {
+        Ok(slot) => slot,
+        Err(Want::Range) => return Err(MeasureFault::Overflow(feed.stream)),
+        Err(Want::Sight) => return Err(MeasureFault::NoMemory),
+    };
+    let short = short | slot.is_none();
+    record(plan, overflow, series, rest, attrs, value, short)?;
+    if let Some(slot) = slot {
+        let points = &mut series[feed.stream];
+        points.commit(slot, shape_of(plan, feed.stream), value);
+    }
+    Ok(())
+}

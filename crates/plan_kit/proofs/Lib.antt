@@ -1,0 +1,6 @@
+pub mod Feeding
+pub mod Finishing
+pub mod Matching
+pub mod Owning
+pub mod Sharing
+pub mod Sound

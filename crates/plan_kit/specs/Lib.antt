@@ -1,0 +1,12 @@
+pub mod Aggregations
+pub mod Bounds
+pub mod Exact
+pub mod Feeds
+pub mod Kept
+pub mod Matching
+pub mod Names
+pub mod Owners
+pub mod PlanFaults
+pub mod Plans
+pub mod SameStream
+pub mod Views

@@ -1,0 +1,190 @@
+//! The views by the names that they match.
+ghost use Rattle.std.specs.Prelude.{◌≡◌, ℕ, List, [], ◌∷◌, ◌++◌, filter, position, slice_get, IfOk, OnOk, if◌then◌else◌};
+ghost use Rattle.plan_kit.specs.Matching.{places, holds_at, merge, listed, IsIndex, names, is_every, others_fit};
+ghost use Rattle.plan_kit.specs.Views.{text_eq, view_fits, is_bad_view};
+ghost use Rattle.plan_kit.specs.Aggregations.{is_refused};
+
+use crate::fit::refuses;
+use crate::names::in_lower_case;
+use crate::{Instrument, NameRule, View};
+use attr_kit::{NoMemory, Txt};
+use std::alloc::Global;
+use std::collections::HashMap;
+
+/// The places of views: of each name those that match it alone, and those that match every name.
+#[derive(Drop)]
+pub(crate) struct ViewIndex {
+    exact: HashMap<Txt, Vec<usize>>,
+    every: Vec<usize>,
+}
+
+// Adds a place under a name.
+fn add(
+    alloc: Global,
+    lists: &mut HashMap<Txt, Vec<usize>>,
+    name: Txt,
+    place: usize,
+) -> Result<(), NoMemory>
+    ensures { OnOk result ((q : List ℕ) → listed lists.new q ≡ (if text_eq name q then listed lists.old q ++ place ∷ [] else listed lists.old q)) }
+{
+    match lists.get_mut(&name) {
+        Some(list) => {
+            list.push(place)?;
+        }
+        None => {
+            let mut list = Vec::new(alloc);
+            list.push(place)?;
+            lists.insert(name, list)?;
+        }
+    }
+    Ok(())
+}
+
+// Two rising lists of places as one.
+#[tactic(auto, using(crate::proofs::Matching::merge_none))]
+fn merged(alloc: Global, left: &[usize], right: &[usize]) -> Result<Vec<usize>, NoMemory>
+    ensures { IfOk result (λ all. all.items ≡ merge left.now right.now) }
+{
+    let mut all = Vec::new(alloc);
+    let (mut left, mut right) = (left, right);
+    while let Some((first, lefts)) = left.split_first() {
+        match right.split_first() {
+            None => {
+                all.extend_from_slice(left)?;
+                return Ok(all);
+            }
+            Some((second, rights)) => {
+                if *first < *second {
+                    all.push(*first)?;
+                    left = lefts;
+                } else {
+                    all.push(*second)?;
+                    right = rights;
+                }
+            }
+        }
+    }
+    all.extend_from_slice(right)?;
+    Ok(all)
+}
+
+fn fits_beside_name(view: &View, instrument: &Instrument) -> bool
+    ensures { result ≡ others_fit instrument.now view.now }
+{
+    if let Some(kind) = &view.kind {
+        if *kind != instrument.kind {
+            return false;
+        }
+    }
+    match &view.scope {
+        Some(scope) => *scope == instrument.scope,
+        None => true,
+    }
+}
+
+fn fits_at(views: &[View], instrument: &Instrument, place: usize) -> bool
+    ensures { result ≡ holds_at views.now (others_fit instrument.now) place }
+{
+    match views.get(place) {
+        Some(view) => fits_beside_name(view, instrument),
+        None => false,
+    }
+}
+
+// Those places whose views fit beside their names.
+fn fitting(
+    alloc: Global,
+    views: &[View],
+    instrument: &Instrument,
+    places: &[usize],
+) -> Result<Vec<usize>, NoMemory>
+    ensures { IfOk result (λ fit. fit.items ≡ filter (holds_at views.now (others_fit instrument.now)) places.now) }
+{
+    Ok(
+        places
+            .iter()
+            .copied()
+            .filter(|place| fits_at(views, instrument, *place))
+            .collect(alloc)?,
+    )
+}
+
+fn is_refused_at(views: &[View], instrument: &Instrument, place: usize) -> bool
+    ensures { result ≡ holds_at views.now (λ v. is_refused instrument.now.kind v.aggregation) place }
+{
+    match views.get(place) {
+        Some(view) => refuses(instrument.kind, &view.aggregation),
+        None => false,
+    }
+}
+
+// The first of the places whose view has an aggregation that does not fit.
+fn first_refused(views: &[View], instrument: &Instrument, places: &[usize]) -> Option<usize>
+    ensures { result ≡ slice_get (filter (holds_at views.now (λ v. is_refused instrument.now.kind v.aggregation)) places.now) 0 }
+{
+    for place in places {
+        if is_refused_at(views, instrument, *place) {
+            return Some(*place);
+        }
+    }
+    None
+}
+
+impl ViewIndex {
+    /// The index of these views: a hash look-up for each.
+    pub(crate) fn build(alloc: Global, views: &[View]) -> Result<ViewIndex, NoMemory>
+        ensures { IfOk result (λ index. IsIndex index.exact index.every.items views.now) }
+    {
+        let mut exact = HashMap::new(alloc);
+        let mut every = Vec::new(alloc);
+        for (place, view) in views.iter().enumerate() {
+            match &view.name {
+                NameRule::Every => {
+                    every.push(place)?;
+                }
+                NameRule::Exact(name) => {
+                    add(alloc, &mut exact, in_lower_case(name.try_copy()?), place)?;
+                }
+            }
+        }
+        Ok(ViewIndex { exact, every })
+    }
+
+    // The places of the views whose names fit.
+    fn named(&self, alloc: Global, name: &Txt) -> Result<Vec<usize>, NoMemory>
+        ensures { IfOk result (λ places. places.items ≡ merge (listed self.now.exact name.now) self.now.every.items) }
+    {
+        match self.exact.get(name) {
+            Some(list) => merged(alloc, list.as_slice(), self.every.as_slice()),
+            None => merged(alloc, &[], self.every.as_slice()),
+        }
+    }
+
+    /// The places of the views that match an instrument whose name is in lower case.
+    pub(crate) fn matching(
+        &self,
+        alloc: Global,
+        views: &[View],
+        instrument: &Instrument,
+    ) -> Result<Vec<usize>, NoMemory>
+        requires { IsIndex self.now.exact self.now.every.items views.now }
+        ensures { IfOk result (λ fit. fit.items ≡ places (λ v. view_fits v instrument.now) views.now) }
+    {
+        let named = self.named(alloc, &instrument.name)?;
+        Ok(fitting(alloc, views, instrument, named.as_slice())?)
+    }
+
+    /// The first of the views that match an instrument whose aggregation does not fit.
+    pub(crate) fn bad_view_at(
+        &self,
+        alloc: Global,
+        views: &[View],
+        instrument: &Instrument,
+    ) -> Result<Option<usize>, NoMemory>
+        requires { IsIndex self.now.exact self.now.every.items views.now }
+        ensures { IfOk result (λ place. place ≡ position (is_bad_view instrument.now) views.now) }
+    {
+        let matching = self.matching(alloc, views, instrument)?;
+        Ok(first_refused(views, instrument, matching.as_slice()))
+    }
+}

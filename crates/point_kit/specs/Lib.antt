@@ -1,0 +1,12 @@
+pub mod Best
+pub mod Changes
+pub mod Equality
+pub mod Exact
+pub mod ExportFaults
+pub mod Exports
+pub mod Join
+pub mod Ordered
+pub mod Orders
+pub mod Payload
+pub mod SharedStream
+pub mod States

@@ -1,0 +1,17 @@
+-- Texts in quotes.
+use Rattle.std.specs.Prelude.{ℕ, ◌/◌, ◌%◌, false, List, [], ◌∷◌, ◌++◌, ◌==◌, ◌||◌, nat_lt, if◌then◌else◌, encode_utf8}
+use Rattle.std.specs.List.{flat_map}
+use Rattle.std.specs.Str.{chars}
+use Rattle.std.specs.Fmt.{digit_glyph}
+
+-- a character in quotes: `\"`, `\\`, `\x` and two hexadecimal digits for a control character, else itself
+unfoldable pub escaped : ℕ → List ℕ
+escaped c =
+    if c == 34 then 92 ∷ 34 ∷ []
+    else if c == 92 then 92 ∷ 92 ∷ []
+    else if nat_lt c 32 || c == 127 then 92 ∷ 120 ∷ digit_glyph false (c / 16) ∷ digit_glyph false (c % 16) ∷ []
+    else encode_utf8 c
+
+-- a text between quotes, each of its characters escaped
+unfoldable pub quoted : List ℕ → List ℕ
+quoted text = 34 ∷ flat_map escaped (chars text) ++ 34 ∷ []

@@ -1,0 +1,13 @@
+pub mod Members
+pub mod History
+pub mod Bests
+pub mod Newest
+pub mod Totals
+pub mod Parts
+pub mod Incarnations
+pub mod Tabulated
+pub mod Recorded
+pub mod Stable
+pub mod Taking
+pub mod Headline
+pub mod Steps

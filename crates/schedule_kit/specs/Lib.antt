@@ -1,0 +1,7 @@
+pub mod Deeds
+pub mod Members
+pub mod Rounds
+pub mod Rows
+pub mod Schedule
+pub mod Taken
+pub mod Totals

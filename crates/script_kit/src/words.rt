@@ -1,0 +1,83 @@
+//! The lines of a script, and the words of a line.
+ghost use Rattle.std.specs.Prelude.{◌≡◌, ◌==◌, ◌<◌, ◌++◌, ◌∷◌, [], IfOk, MatchOption, IfSome, IfNone, map, option_map, length, true, false, position};
+ghost use Rattle.std.specs.List.{list_all, slice_split};
+ghost use Rattle.script_kit.specs.Lines.{word_at};
+ghost use Rattle.script_kit.specs.Words.{words_of, pieces_of, is_line_byte, is_filled};
+
+use attr_kit::NoMemory;
+use std::alloc::{AllocError, Global};
+
+const LINE_FEED: u8 = b'\n';
+
+fn line_feed_in(script: &[u8]) -> Option<usize>
+    ensures { result ≡ position (λ b. b == 10) script.now }
+{
+    script.iter().position(|b| *b == LINE_FEED)
+}
+
+/// The first line, and what stands behind its line feed; none where no line feed is left.
+pub fn first_line(script: &[u8]) -> Option<(&[u8], &[u8])>
+    ensures some { IfSome result (λ r. pieces_of script.now ≡ r.0.now ∷ pieces_of r.1.now) }
+    ensures less { IfSome result (λ r. length r.1.now < length script.now) }
+    ensures none { IfNone result (pieces_of script.now ≡ script.now ∷ []) }
+{
+    match line_feed_in(script) {
+        None => None,
+        Some(end) => {
+            let (line, _) = script.split_at(end);
+            let (_, rest) = script.split_at(end + 1);
+            Some((line, rest))
+        }
+    }
+}
+
+fn is_line(line: &[u8]) -> bool
+    ensures { result ≡ list_all is_line_byte line.now }
+{
+    line.iter().all(|b| 32 <= *b && *b <= 126)
+}
+
+fn text_of(line: &[u8]) -> Option<&str>
+    ensures { MatchOption result (list_all is_line_byte line.now ≡ false) (λ t. (list_all is_line_byte line.now ≡ true) × (t.now ≡ line.now)) }
+{
+    if is_line(line) {
+        str::from_utf8(line).ok()
+    } else {
+        None
+    }
+}
+
+fn are_filled(words: &[&str]) -> bool
+    ensures { result ≡ list_all is_filled (map (λ w. w.now) words.now) }
+{
+    words.iter().all(|word| !word.is_empty())
+}
+
+fn split_at_spaces(alloc: Global, text: &str) -> Result<Vec<&str>, AllocError>
+    ensures { IfOk result (λ v. map (λ w. w.now) v.items ≡ slice_split (λ b. b == 32) text.now) }
+{
+    text.split(' ').collect(alloc)
+}
+
+/// The words of a line, or `None` where it is not made of words with one space between two.
+pub(crate) fn words(alloc: Global, line: &[u8]) -> Result<Option<Vec<&str>>, NoMemory>
+    ensures { IfOk result (λ found. option_map (λ v. map (λ w. w.now) v.items) found ≡ words_of line.now) }
+{
+    let Some(text) = text_of(line) else {
+        return Ok(None);
+    };
+    let words = split_at_spaces(alloc, text)?;
+    if are_filled(&words) {
+        Ok(Some(words))
+    } else {
+        Ok(None)
+    }
+}
+
+/// The word at a place.
+pub(crate) fn word_at<'a>(words: &[&'a str], place: usize) -> &'a str
+    requires { place < length words.now }
+    ensures { result.now ≡ word_at (map (λ w. w.now) words.now) place }
+{
+    words[place]
+}

@@ -1,0 +1,13 @@
+mod Lists
+mod Histories
+mod Families
+mod Books
+mod Unions
+mod Others
+mod Stages
+mod Keeps
+mod Seating
+mod Changes
+mod Splitting
+mod Meeting
+mod Publicly

@@ -1,0 +1,15 @@
+//! Notes.
+ghost use Rattle.std.specs.Prelude.{◌≡◌};
+ghost use Rattle.turn_kit.specs.Places.{noted};
+
+use crate::board::Place;
+use crate::machine::Machine;
+
+/// What a seat had seen when it wrote the note, for another seat to hear.
+///
+/// It takes no bytes, may go to another thread, and may be dropped: an unheard note is no bar to closing.
+#[derive(Drop)]
+pub struct Note<M: Machine> {
+    pub(crate) place: Place<M>,
+    ghost idle: { place ≡ noted place },
+}
