@@ -1,4 +1,5 @@
 pub mod Allowing
+pub mod DerivedOrder
 pub mod Finding
 pub mod Firsts
 pub mod Keeping

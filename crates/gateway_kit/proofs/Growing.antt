@@ -1,0 +1,148 @@
+-- One part changed in its place, or put in where it belongs.
+use Rattle.std.proofs.Common.{◌≡◌, ◌≢◌, ℕ, zero, suc, ◌+◌, ◌<◌, ◌≤◌, Bool, true, false, ◌&&◌, cond, List, [], ◌∷◌, ◌++◌, map, take, drop, length, get_or, Option, Some, None, refl, sym, ap, subst, ◌∙◌, arith, true≢false, is_some, count_by}
+use Rattle.std.specs.Prelude.{T, slice_get, slice_set}
+use Rattle.std.specs.Option.{option_map}
+use Rattle.std.specs.List.{list_all, insert}
+use Rattle.std.specs.declared.cmp.Ordering.{Ordering}
+use Rattle.std.specs.Ordering.{eq_by_cmp}
+use Rattle.std.specs.FinMap.{entries, from_sorted, entries-from_sorted, entries_sorted, empty}
+use Rattle.std.specs.FinMap.Entries.{find, is_sorted, put, find-put, is_sorted-put}
+use Rattle.std.proofs.lemmas.List.{take-map, map-append}
+use Rattle.point_kit.specs.declared.export.Export.{Export}
+use Rattle.point_kit.specs.declared.cell.Cell.{Cell}
+use Rattle.point_kit.specs.declared.payload.Payload.{Payload}
+use Rattle.point_kit.specs.declared.export_point.ExportPoint.{ExportPoint}
+use Rattle.point_kit.specs.Join.{join_cells}
+use Rattle.point_kit.specs.Equality.{payload_eq}
+use Rattle.point_kit.specs.Join.{join_options}
+use Rattle.gateway_kit.specs.Amending.{amend}
+use Rattle.gateway_kit.specs.Bringing.{is_new, is_change}
+use Rattle.point_kit.specs.Equality.{cell_eq}
+use Rattle.point_kit.specs.declared.cell.Held.TheVariants.{One}
+use Rattle.gateway_kit.specs.Changing.{Entry, Prepares, entries_of, grown}
+use Rattle.gateway_kit.specs.Growth.{Grows, part_at}
+use Rattle.gateway_kit.specs.Keys.{PartKey, ItemKey, part_cmp, item_cmp}
+use Rattle.gateway_kit.specs.Part.{Part, Cells}
+use Rattle.gateway_kit.specs.Parts.{IsWhole, part_of, has_some, has_cells, entries_at}
+use Rattle.gateway_kit.specs.Places.{IsAt, IsGap}
+use Rattle.gateway_kit.specs.declared.changes.Changes.{Changes}
+use Rattle.gateway_kit.proofs.Drafting.{found_place}
+use Rattle.gateway_kit.proofs.Entries.{as_T, as_true, is_sorted-amend, find-amend, itself, from_sorted-nil, not_None}
+use Rattle.gateway_kit.proofs.ExportEntries.{point_key}
+use Rattle.gateway_kit.proofs.Finishing.{sorted_grown}
+use Rattle.gateway_kit.proofs.KeyOrders.{part_total, item_total}
+use Rattle.gateway_kit.proofs.Moved.{set_amend}
+
+both_true : (a b : Bool) → a ≡ true → b ≡ true → (a && b) ≡ true
+both_true true b p q = q
+both_true false b p q = p
+
+first_true : (a b : Bool) → (a && b) ≡ true → a ≡ true
+first_true true b e = refl
+first_true false b e = absurd (true≢false (sym e))
+
+second_true : (a b : Bool) → (a && b) ≡ true → b ≡ true
+second_true true b e = e
+second_true false b e = absurd (true≢false (sym e))
+
+all_set : {A : Type 0} (p : A → Bool) (xs : List A) (i : ℕ) (y : A) → list_all p xs ≡ true → p y ≡ true → list_all p (slice_set xs i y) ≡ true
+all_set p [] i y h t = refl
+all_set p (x ∷ xs) zero y h t = both_true (p y) (list_all p xs) t (second_true (p x) (list_all p xs) h)
+all_set p (x ∷ xs) (suc i) y h t = both_true (p x) (list_all p (slice_set xs i y)) (first_true (p x) (list_all p xs) h) (all_set p xs i y (second_true (p x) (list_all p xs) h) t)
+
+all_insert : {A : Type 0} (p : A → Bool) (xs : List A) (i : ℕ) (y : A) → list_all p xs ≡ true → p y ≡ true → list_all p (insert xs i y) ≡ true
+all_insert p [] zero y h t = both_true (p y) true t refl
+all_insert p [] (suc i) y h t = both_true (p y) true t refl
+all_insert p (x ∷ xs) zero y h t = both_true (p y) (list_all p (x ∷ xs)) t h
+all_insert p (x ∷ xs) (suc i) y h t = both_true (p x) (list_all p (insert xs i y)) (first_true (p x) (list_all p xs) h) (all_insert p xs i y (second_true (p x) (list_all p xs) h) t)
+
+map-insert : {A B : Type 0} (f : A → B) (xs : List A) (i : ℕ) (y : A) → map f (insert xs i y) ≡ insert (map f xs) i (f y)
+map-insert f xs zero y = refl
+map-insert f [] (suc i) y = refl
+map-insert f (x ∷ xs) (suc i) y = ap (λ l. f x ∷ l) (map-insert f xs i y)
+
+-- no cells
+abbrev pub no_cells : Cells
+no_cells = empty
+
+entries-empty : entries no_cells ≡ []
+entries-empty = sym (ap entries (from_sorted-nil {V = Cell Payload} {R = item_cmp})) ∙ entries-from_sorted item_cmp [] tt
+
+-- where something is found there is something
+some_found : (es : List Entry) (b : ItemKey) (o : Option (Cell Payload)) → find item_cmp b es ≡ o → is_some o ≡ true → has_some es ≡ true
+some_found [] b o is some = absurd (true≢false (sym some ∙ ap is_some (sym is)))
+some_found (e ∷ es) b o is some = refl
+
+-- an export with points brings something to each part
+brings_some : (e : Export) (old new : List Entry) → e.points ≢ [] → ((b : ItemKey) → find item_cmp b new ≡ join_options (join_cells payload_eq) (find item_cmp b old) (find item_cmp b (entries_of e))) → has_some new ≡ true
+brings_some e old new some joined = go e.points refl
+  where
+    joined_some : (a : Option (Cell Payload)) (w : Cell Payload) → is_some (join_options (join_cells payload_eq) a (Some w)) ≡ true
+    joined_some None w = refl
+    joined_some (Some v) w = refl
+
+    go : (ps : List ExportPoint) → e.points ≡ ps → has_some new ≡ true
+    go [] is = absurd (some is)
+    go (p ∷ ps) is =
+        let came : find item_cmp (point_key p) (entries_of e) ≡ Some (record { time = e.time; held = One p.payload }) =
+        ap (λ qs. find item_cmp (point_key p) (map (λ q. (point_key q, record { time = e.time; held = One q.payload })) qs)) is
+        ∙ ap (λ b. cond b (Some (record { time = e.time; held = One p.payload })) (find item_cmp (point_key p) (map (λ q. (point_key q, record { time = e.time; held = One q.payload })) ps))) (itself item_total (point_key p)) in
+        some_found new (point_key p) (join_options (join_cells payload_eq) (find item_cmp (point_key p) old) (find item_cmp (point_key p) (entries_of e))) (joined (point_key p))
+        (ap (λ x. is_some (join_options (join_cells payload_eq) (find item_cmp (point_key p) old) x)) came ∙ joined_some (find item_cmp (point_key p) old) (record { time = e.time; held = One p.payload }))
+
+-- a place at which a key stands is one of the list
+pub within_at : {A K V : Type 0} (f : A → K × V) (xs : List A) (i : ℕ) (k : K) → slice_get (map (λ e. e.0) (map f xs)) i ≡ Some k → i < length xs
+within_at f [] i k at = absurd (not_None at)
+within_at f (x ∷ xs) zero k at = omega arith
+within_at f (x ∷ xs) (suc i) k at = let rest = within_at f xs i k at in omega (arith, rest)
+
+-- two readings of one place
+pub same_at : {A : Type 0} (xs : List A) (i : ℕ) (x y : A) → i < length xs → x ≡ get_or xs i x → y ≡ get_or xs i y → x ≡ y
+same_at [] i x y h p q = absurd (omega arith)
+same_at (z ∷ xs) zero x y h p q = p ∙ sym q
+same_at (z ∷ xs) (suc i) x y h p q = same_at xs i x y (omega arith) p q
+
+-- what was prepared for a part's cells, installed
+pub record Installed (e : Export) (old cells : Cells) : Type 0 where
+  pub joined : (b : ItemKey) → find item_cmp b (entries cells) ≡ join_options (join_cells payload_eq) (find item_cmp b (entries old)) (find item_cmp b (entries_of e))
+  pub filled : has_some (entries cells) ≡ true
+
+pub installed_cells : (e : Export) → e.points ≢ [] → (old : Cells) (c : Changes) → Prepares (entries old) (entries_of e) c → Installed e old (from_sorted (grown (entries old) c))
+installed_cells e some old c prepared =
+    let is : entries (from_sorted {R = item_cmp} (grown (entries old) c)) ≡ grown (entries old) c = entries-from_sorted item_cmp (grown (entries old) c) (as_T (sorted_grown (entries old) c (as_true _ (entries_sorted old)))) in
+    let joined : (b : ItemKey) → find item_cmp b (entries (from_sorted {R = item_cmp} (grown (entries old) c))) ≡ join_options (join_cells payload_eq) (find item_cmp b (entries old)) (find item_cmp b (entries_of e)) = λ b. ap (find item_cmp b) is ∙ prepared.joined b in
+    record { joined = joined; filled = brings_some e (entries old) (entries (from_sorted (grown (entries old) c))) some joined }
+
+module _ (olds : List Part) (len : ℕ) (whole : IsWhole olds len) (e : Export) (some : e.points ≢ []) (c : Changes) (more changed : ℕ) where
+  pub grows_held : (place : ℕ) (part new : Part) → IsAt part_cmp (map part_of olds) (e.writer, e.start) place → part ≡ get_or olds place part → Prepares (entries part.cells) (entries_of e) c → new ≡ record part { cells = from_sorted (grown (entries part.cells) c) } → more ≡ length c.fresh.items → changed ≡ length c.updates.items + length c.fresh.items → Grows olds (slice_set olds place new) (e.writer, e.start) (entries_of e) more changed
+  grows_held place part new at is prepared new_is m n =
+      let cells : Cells = from_sorted (grown (entries part.cells) c) in
+      let there : find part_cmp (e.writer, e.start) (map part_of olds) ≡ Some part.cells = found_place part_of part_total olds place part (e.writer, e.start) (as_T whole.sorted) at is in
+      let here : part_at (e.writer, e.start) olds ≡ entries part.cells = ap entries_at there in
+      let inside : Installed e part.cells cells = installed_cells e some part.cells c prepared in
+      let moved : map part_of (slice_set olds place new) ≡ amend (λ old cs. cs) (map part_of olds) place cells = set_amend part_of (λ old cs. cs) olds place part new cells (within_at part_of olds place (e.writer, e.start) at) is (ap part_of new_is) in
+      record {
+        sorted = ap (is_sorted part_cmp) moved ∙ is_sorted-amend part_total (λ (old : Cells) cs. cs) (map part_of olds) place cells ∙ whole.sorted;
+        filled = all_set has_cells olds place new whole.filled (ap (λ (p : Part). has_cells p) new_is ∙ inside.filled);
+        cells = cells;
+        found = λ k. ap (find part_cmp k) moved ∙ find-amend part_total (λ (old : Cells) cs. cs) k (e.writer, e.start) (map part_of olds) place cells (as_T whole.sorted) at ∙ ap (λ x. cond (eq_by_cmp part_cmp k (e.writer, e.start)) (option_map (λ v. cells) x) (find part_cmp k (map part_of olds))) there;
+        joined = λ b. inside.joined b ∙ ap (λ es. join_options (join_cells payload_eq) (find item_cmp b es) (find item_cmp b (entries_of e))) (sym here);
+        more_keys = m ∙ sym prepared.new ∙ ap (λ es. count_by (is_new item_cmp es) (entries_of e)) (sym here);
+        changes = n ∙ sym prepared.changed ∙ ap (λ es. count_by (is_change item_cmp (join_cells payload_eq) cell_eq es) (entries_of e)) (sym here);
+      }
+
+  pub grows_new : (place : ℕ) (new : Part) → IsGap part_cmp (map part_of olds) (e.writer, e.start) place → Prepares (entries no_cells) (entries_of e) c → new ≡ record { writer = e.writer; start = e.start; cells = from_sorted (grown (entries no_cells) c) } → more ≡ length c.fresh.items → changed ≡ length c.updates.items + length c.fresh.items → Grows olds (insert olds place new) (e.writer, e.start) (entries_of e) more changed
+  grows_new place new gap prepared new_is m n =
+      let cells : Cells = from_sorted (grown (entries no_cells) c) in
+      let here : part_at (e.writer, e.start) olds ≡ entries no_cells = ap entries_at gap.none ∙ sym entries-empty in
+      let inside : Installed e no_cells cells = installed_cells e some no_cells c prepared in
+      let moved : map part_of (insert olds place new) ≡ put part_cmp (e.writer, e.start) cells (map part_of olds) = map-insert part_of olds place new ∙ ap (λ (p : Part). insert (map part_of olds) place (part_of p)) new_is ∙ gap.fits cells in
+      record {
+        sorted = ap (is_sorted part_cmp) moved ∙ as_true _ (is_sorted-put part_cmp part_total (e.writer, e.start) cells (map part_of olds) (as_T whole.sorted));
+        filled = all_insert has_cells olds place new whole.filled (ap (λ (p : Part). has_cells p) new_is ∙ inside.filled);
+        cells = cells;
+        found = λ k. ap (find part_cmp k) moved ∙ find-put part_cmp part_total k (e.writer, e.start) cells (map part_of olds);
+        joined = λ b. inside.joined b ∙ ap (λ es. join_options (join_cells payload_eq) (find item_cmp b es) (find item_cmp b (entries_of e))) (sym here);
+        more_keys = m ∙ sym prepared.new ∙ ap (λ es. count_by (is_new item_cmp es) (entries_of e)) (sym here);
+        changes = n ∙ sym prepared.changed ∙ ap (λ es. count_by (is_change item_cmp (join_cells payload_eq) cell_eq es) (entries_of e)) (sym here);
+      }

@@ -1,0 +1,15 @@
+pub mod Counting
+pub mod Drafting
+pub mod Entries
+pub mod ExportEntries
+pub mod Finishing
+pub mod Growing
+pub mod Joining
+pub mod KeyOrders
+pub mod Moved
+pub mod Nested
+pub mod Places
+pub mod Prepared
+pub mod Served
+pub mod Sorting
+pub mod Ahead

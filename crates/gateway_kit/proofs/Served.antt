@@ -1,0 +1,50 @@
+-- The points of some writers are those of their incarnations.
+use Rattle.std.proofs.Common.{◌≡◌, Bool, true, false, cond, List, [], ◌∷◌, ◌++◌, map, filter, refl, sym, ap, ◌∙◌}
+use Rattle.std.specs.FinMap.{FinMap, entries}
+use Rattle.std.specs.declared.cmp.Ordering.{Ordering}
+use Rattle.point_kit.specs.declared.cell.Cell.{Cell}
+use Rattle.point_kit.specs.declared.key.Key.{Key}
+use Rattle.point_kit.specs.declared.payload.Payload.{Payload}
+use Rattle.point_kit.specs.declared.writer_id.WriterId.{WriterId}
+use Rattle.gateway_kit.specs.Changing.{Entry}
+use Rattle.std.proofs.Common.{Option, Some, Bor}
+use Rattle.gateway_kit.specs.declared.part_item.PartItem.{PartItem}
+use Rattle.gateway_kit.specs.declared.points.Points.{Points}
+use Rattle.gateway_kit.specs.Keys.{PartKey, whole_key, entry_of}
+use Rattle.gateway_kit.specs.Part.{Part}
+use Rattle.gateway_kit.specs.Parts.{listed}
+use Rattle.gateway_kit.specs.Walks.{items_left, is_asked, points_left}
+use Rattle.gateway_kit.proofs.Entries.{map_map}
+
+-- all entries of a part are of its writer
+pub filter_part : (asked : WriterId → Bool) (a : PartKey) (es : List Entry) (rest : List (Key × Cell Payload)) → filter (λ e. asked e.0.writer) (map (λ e. (whole_key a e.0, e.1)) es ++ rest) ≡ cond (asked a.0) (map (λ e. (whole_key a e.0, e.1)) es) [] ++ filter (λ e. asked e.0.writer) rest
+filter_part asked a [] rest = elim (asked a.0) as (λ b. filter (λ e. asked e.0.writer) rest ≡ cond b [] [] ++ filter (λ e. asked e.0.writer) rest) [ true ↦ refl | false ↦ refl ]
+filter_part asked a (e ∷ es) rest =
+    elim (asked a.0) as (λ b. filter (λ f. asked f.0.writer) (map (λ f. (whole_key a f.0, f.1)) es ++ rest) ≡ cond b (map (λ f. (whole_key a f.0, f.1)) es) [] ++ filter (λ f. asked f.0.writer) rest → cond b ((whole_key a e.0, e.1) ∷ filter (λ f. asked f.0.writer) (map (λ f. (whole_key a f.0, f.1)) es ++ rest)) (filter (λ f. asked f.0.writer) (map (λ f. (whole_key a f.0, f.1)) es ++ rest)) ≡ cond b ((whole_key a e.0, e.1) ∷ map (λ f. (whole_key a f.0, f.1)) es) [] ++ filter (λ f. asked f.0.writer) rest) [
+      | true ↦ λ h. ap (λ l. (whole_key a e.0, e.1) ∷ l) h
+      | false ↦ λ h. h
+    ] (filter_part asked a es rest)
+
+pub filter_all : {A : Type 0} (xs : List A) → filter (λ x. true) xs ≡ xs
+filter_all [] = refl
+filter_all (x ∷ xs) = ap (λ l. x ∷ l) (filter_all xs)
+
+-- an incarnation is passed on to
+pub passed : (old : Points) (here : Option (Bor Part × Bor (List PartItem))) (first : Part) (others : Bor (List Part)) → items_left old.here ≡ [] → old.ahead.now ≡ first ∷ others.now → items_left here ≡ cond (is_asked old.service first.writer) (map (λ e. (whole_key (first.writer, first.start) e.0, e.1)) (entries first.cells)) [] → points_left old ≡ points_left (record { here = here; ahead = others; service = old.service })
+passed old here first others none ahead now =
+    (λ i. none i ++ filter (λ e. is_asked old.service e.0.writer) (listed (ahead i)))
+    ∙ filter_part (is_asked old.service) (first.writer, first.start) (entries first.cells) (listed others.now)
+    ∙ ap (λ l. l ++ filter (λ e. is_asked old.service e.0.writer) (listed others.now)) (sym now)
+
+-- the items of an incarnation under their whole keys
+pub lent : (p : Part) (items : Bor (List PartItem)) (bor : Bor Part) → bor.now ≡ p → map entry_of items.now ≡ entries p.cells → items_left (Some (bor, items)) ≡ map (λ e. (whole_key (p.writer, p.start) e.0, e.1)) (entries p.cells)
+lent p items bor is es =
+    ap (λ (q : Part). map (λ i. (whole_key (q.writer, q.start) (entry_of i).0, i.cell)) items.now) is
+    ∙ sym (map_map (λ (e : Entry). (whole_key (p.writer, p.start) e.0, e.1)) entry_of items.now)
+    ∙ ap (map (λ e. (whole_key (p.writer, p.start) e.0, e.1))) es
+
+pub lent_when : {A : Type 0} (asked wanted : Bool) (here all : List A) → asked ≡ true → asked ≡ wanted → here ≡ all → here ≡ cond wanted all []
+lent_when asked wanted here all taken same is = is ∙ ap (λ b. cond b all []) (sym taken ∙ same)
+
+pub lent_unless : {A : Type 0} (asked wanted : Bool) (here all : List A) → asked ≡ false → asked ≡ wanted → here ≡ [] → here ≡ cond wanted all []
+lent_unless asked wanted here all left same is = is ∙ ap (λ b. cond b all []) (sym left ∙ same)

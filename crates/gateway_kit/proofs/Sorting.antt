@@ -1,0 +1,70 @@
+-- A list of distinct keys, sorted: its entries strictly rise, and what is found stays.
+use Rattle.std.proofs.Common.{◌≡◌, ℕ, zero, suc, ◌+◌, ◌<◌, ◌≤◌, Bool, true, false, not, ◌&&◌, cond, List, [], ◌∷◌, map, filter, length, get_or, Option, Some, None, refl, sym, ap, subst, ◌∙◌, arith, true≢false, IsPermutation}
+use Rattle.std.specs.Prelude.{T}
+use Rattle.std.specs.List.{IsDistinct, AllByRecursion}
+use Rattle.std.specs.List.Sorted.{IsSortedBy, IsStableBy, ties}
+use Rattle.std.specs.declared.cmp.Ordering.{Ordering}
+use Rattle.std.specs.declared.cmp.Ordering.TheVariants.{Less, Equal, Greater}
+use Rattle.std.specs.Ordering.{eq_by_cmp, is_eq, is_lt, ordering_reverse}
+use Rattle.std.specs.Cmp.{IsTotalOrder, eq_by_cmp_equiv}
+use Rattle.std.specs.FinMap.Entries.{find, is_sorted, below_all}
+use Rattle.std.proofs.lemmas.List.Sorted.{IsPermutation-map, sorted_far, ranks_by}
+use Rattle.std.proofs.lemmas.Map.Keys.{IsDistinct-IsPermutation}
+use Rattle.gateway_kit.proofs.Entries.{both, as_T}
+
+module _ {A K V : Type 0} {R : K → K → Ordering} (o : IsTotalOrder R) (f : A → K × V) where
+  -- the order of keys, as a test
+  abbrev pub lower : A → A → Bool
+  lower x y = is_lt (R (f x).0 (f y).0)
+
+  value_first : List A → Option V
+  value_first [] = None
+  value_first (x ∷ xs) = Some (f x).1
+
+  find_filtered : (q : K) (xs : List A) → find R q (map f xs) ≡ value_first (filter (λ y. eq_by_cmp R q (f y).0) xs)
+  unfolding value_first
+  find_filtered q [] = refl
+  find_filtered q (x ∷ xs) =
+      elim (eq_by_cmp R q (f x).0) as (λ b. cond b (Some (f x).1) (find R q (map f xs)) ≡ value_first (cond b (x ∷ filter (λ y. eq_by_cmp R q (f y).0) xs) (filter (λ y. eq_by_cmp R q (f y).0) xs))) [
+        | true ↦ refl
+        | false ↦ find_filtered q xs
+      ]
+
+  ties_of : (r s : Ordering) → s ≡ ordering_reverse r → (not (is_lt r) && not (is_lt s)) ≡ is_eq r
+  ties_of Less s e = refl
+  ties_of Equal s e = ap (λ x. not (is_lt x)) e
+  ties_of Greater s e = ap (λ x. not (is_lt x)) e
+
+  ties_alike : (x y : A) → ties lower x y ≡ eq_by_cmp R (f x).0 (f y).0
+  ties_alike x y = ties_of (R (f x).0 (f y).0) (R (f y).0 (f x).0) (o.antisymm (f y).0 (f x).0)
+
+  pub same_found : (xs ys : List A) (x : A) → IsStableBy lower xs ys → find R (f x).0 (map f ys) ≡ find R (f x).0 (map f xs)
+  same_found xs ys x stable =
+      find_filtered (f x).0 ys
+      ∙ ap (λ (p : A → Bool). value_first (filter p ys)) (λ i y. sym (ties_alike x y) i)
+      ∙ ap value_first (stable x)
+      ∙ ap (λ (p : A → Bool). value_first (filter p xs)) (λ i y. ties_alike x y i)
+      ∙ sym (find_filtered (f x).0 xs)
+
+  above : (x y : K) → is_lt (R y x) ≡ false → eq_by_cmp R x y ≡ false → T (is_lt (R x y))
+  above x y not_below apart =
+      elim (R x y) as (λ r. R x y ≡ r → is_eq r ≡ false → T (is_lt r)) [
+        | Less ↦ λ p e. tt
+        | Equal ↦ λ p e. absurd (true≢false e)
+        | Greater ↦ λ p e. absurd (true≢false (ap is_lt (sym (o.antisymm y x ∙ ap ordering_reverse p)) ∙ not_below))
+      ] refl apart
+
+  below_from : (x : K) (zs : List A) → ((j : ℕ) (d : A) → j < length zs → is_lt (R (f (get_or zs j d)).0 x) ≡ false) → AllByRecursion (λ k. eq_by_cmp R x k ≡ false) (map (λ z. (f z).0) zs) → T (below_all R x (map f zs))
+  below_from x [] h apart = tt
+  below_from x (z ∷ zs) h apart = both _ _ (above x (f z).0 (h 0 z (omega arith)) apart.0) (below_from x zs (λ j d l. h (suc j) d (omega arith)) apart.1)
+
+  rising : (ys : List A) → IsSortedBy lower ys → IsDistinct (eq_by_cmp R) (map (λ y. (f y).0) ys) → T (is_sorted R (map f ys))
+  unfolding IsDistinct
+  rising [] up apart = tt
+  rising (y ∷ ys) up apart =
+      both _ _
+      (below_from (f y).0 ys (λ j d l. sorted_far lower (ranks_by o (λ x. (f x).0)) (y ∷ ys) up 0 (suc j) d (omega arith) (omega arith)) apart.0)
+      (rising ys (λ k d g l. let e : suc k + 1 ≡ suc (k + 1) = omega arith in subst (λ n. lower (get_or (y ∷ ys) n d) (get_or ys k d) ≡ false) e (up (suc k) d (omega arith) (omega arith))) apart.1)
+
+  pub sorted_strictly : (xs ys : List A) → IsPermutation xs ys → IsDistinct (eq_by_cmp R) (map (λ x. (f x).0) xs) → IsSortedBy lower ys → T (is_sorted R (map f ys))
+  sorted_strictly xs ys moved apart up = rising ys up (IsDistinct-IsPermutation (eq_by_cmp R) (eq_by_cmp_equiv o).symm (map (λ x. (f x).0) xs) (map (λ x. (f x).0) ys) (IsPermutation-map (λ x. (f x).0) xs ys moved) apart)

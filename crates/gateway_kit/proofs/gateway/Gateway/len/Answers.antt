@@ -1,0 +1,15 @@
+use Rattle.std.proofs.Common.{length, sym, ap, ◌∙◌}
+use Rattle.std.specs.FinMap.{len, len-entries, from_sorted}
+use Rattle.point_kit.specs.Orders.{key_cmp}
+use Rattle.gateway_kit.specs.Parts.{listed}
+use Rattle.gateway_kit.specs.View.{View}
+use Rattle.gateway_kit.proofs.Joining.{entries_points}
+use Rattle.gateway_kit.proofs.gateway.Gateway.len.Goals as goal
+
+pub returns : goal.returns
+returns c =
+    let parts = c.self.inside.incarnations.items in
+    c.self.invariant.counted
+    ∙ ap length (sym (entries_points parts c.self.invariant.sorted))
+    ∙ sym (len-entries (from_sorted {R = key_cmp} (listed parts)))
+    ∙ ap (λ (v : View). len v.points) c.self.view_is

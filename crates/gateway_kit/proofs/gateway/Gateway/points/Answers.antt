@@ -1,0 +1,14 @@
+use Rattle.std.proofs.Common.{◌≡◌, List, filter, true, sym, ap, ◌∙◌}
+use Rattle.std.specs.FinMap.{entries}
+use Rattle.gateway_kit.specs.Part.{Part}
+use Rattle.gateway_kit.specs.Parts.{listed}
+use Rattle.gateway_kit.specs.View.{View}
+use Rattle.gateway_kit.proofs.Joining.{entries_points}
+use Rattle.gateway_kit.proofs.Served.{filter_all}
+use Rattle.gateway_kit.proofs.gateway.Gateway.points.Goals as goal
+
+pub returns : goal.returns
+returns c =
+    filter_all (listed c.as_slice.result.now) ∙ ap listed c.as_slice.ensures.value
+    ∙ sym (entries_points c.self.inside.incarnations.items c.self.invariant.sorted)
+    ∙ ap (λ (v : View). entries v.points) c.self.view_is

@@ -1,0 +1,15 @@
+use Rattle.std.proofs.Common.{◌≡◌, List, filter, sym, ap, ◌∙◌}
+use Rattle.std.specs.FinMap.{entries}
+use Rattle.gateway_kit.specs.Part.{Part}
+use Rattle.gateway_kit.specs.Parts.{listed}
+use Rattle.gateway_kit.specs.View.{View}
+use Rattle.gateway_kit.specs.Walks.{is_of}
+use Rattle.gateway_kit.proofs.Joining.{entries_points}
+use Rattle.gateway_kit.proofs.gateway.Gateway.points_of.Goals as goal
+
+pub returns : goal.returns
+returns c =
+    ap (filter (λ e. is_of c.args.service.now e.0.writer))
+    (ap listed c.as_slice.ensures.value
+    ∙ sym (entries_points c.self.inside.incarnations.items c.self.invariant.sorted)
+    ∙ ap (λ (v : View). entries v.points) c.self.view_is)

@@ -1,0 +1,34 @@
+use Rattle.std.proofs.Common.{◌≡◌, ℕ, ◌+◌, ◌-◌, ◌<◌, ◌≤◌, length, Bool, true, false, cond, map, nat_le, vec_len, vec_capacity, le-leb, refl, sym, ap, ◌∙◌, arith, rules}
+use Rattle.std.proofs.lemmas.Grind.{common_steps}
+use Rattle.gateway_kit.specs.Keys.{item_cmp, entry_of}
+use Rattle.gateway_kit.specs.Weave.{weave}
+use Rattle.gateway_kit.proofs.Entries.{on_keys, map-weave}
+use Rattle.gateway_kit.proofs.Finishing.{no_items}
+use Rattle.gateway_kit.proofs.Ahead.{weave-nil}
+use Rattle.std.proofs.lemmas.Bool.Decides.{nat_tests}
+use Rattle.gateway_kit.proofs.grow.put_items.Goals as goal
+use Rattle.gateway_kit.proofs.grow.put_items.Goals.{else-not-is_empty-via-then-not-is_empty+else-len-saturating_sub, else-not-is_empty-via-else-not-is_empty}
+
+pub returns-then-len-saturating_sub : goal.returns-then-len-saturating_sub
+returns-then-len-saturating_sub c =
+    let fits : length c.args.items.now.items + length c.args.fresh.items ≤ vec_capacity c.args.room = grind (arith, common_steps) in
+    ap (map entry_of) (c.woven.ensures ∙ (λ i. weave (λ x y. on_keys item_cmp (entry_of x) (entry_of y)) (c.replace-mine.ensures.value i).items c.args.fresh.items)) ∙ map-weave _ (on_keys item_cmp) entry_of (λ x y. refl) c.args.items.now.items c.args.fresh.items
+    ∙ ap (λ b. cond b (weave (on_keys item_cmp) (map entry_of c.args.items.now.items) (map entry_of c.args.fresh.items)) (map entry_of c.args.items.now.items)) (sym (le-leb _ _ fits))
+
+same_either : {A : Type 0} (b : Bool) (x y : A) → y ≡ x → x ≡ cond b y x
+same_either true x y e = sym e
+same_either false x y e = refl
+
+no_room : (a b n : ℕ) → n - a < b → nat_le (a + b) n ≡ false
+no_room a b n h = grind (arith, nat_tests)
+
+pub returns-else-not-is_empty : goal.returns-else-not-is_empty
+returns-else-not-is_empty c = elim c.else-not-is_empty.branch [
+  | else-not-is_empty-via-then-not-is_empty+else-len-saturating_sub w ↦
+      let none : nat_le (length c.args.items.now.items + length c.args.fresh.items) (vec_capacity c.args.room) ≡ false = no_room (length c.args.items.now.items) (length c.args.fresh.items) (vec_capacity c.args.room) (grind (arith, common_steps)) in
+      ap (λ b. cond b (weave (on_keys item_cmp) (map entry_of c.args.items.now.items) (map entry_of c.args.fresh.items)) (map entry_of c.args.items.now.items)) (sym none)
+  | else-not-is_empty-via-else-not-is_empty w ↦
+      let empty : length c.args.fresh.items ≡ 0 = grind (arith, common_steps) in
+      same_either (nat_le (length c.args.items.now.items + length c.args.fresh.items) (vec_capacity c.args.room)) (map entry_of c.args.items.now.items) (weave (on_keys item_cmp) (map entry_of c.args.items.now.items) (map entry_of c.args.fresh.items))
+      (ap (λ l. weave (on_keys item_cmp) (map entry_of c.args.items.now.items) (map entry_of l)) (no_items c.args.fresh.items empty) ∙ weave-nil (on_keys item_cmp) (map entry_of c.args.items.now.items))
+]

@@ -1,0 +1,19 @@
+use Rattle.std.proofs.Common.{◌≡◌, ◌+◌, length, ap, sym, subst, ◌∙◌, rules, arith}
+use Rattle.std.proofs.lemmas.Grind.{common_steps}
+use Rattle.std.specs.FinMap.{entries, from_sorted}
+use Rattle.std.specs.List.{insert}
+use Rattle.gateway_kit.specs.Changing.{Prepares, entries_of, grown}
+use Rattle.gateway_kit.specs.Part.{Part, Cells}
+use Rattle.gateway_kit.proofs.Growing.{grows_new, no_cells}
+use Rattle.gateway_kit.proofs.taking.take_new.Goals as goal
+
+pub returns-clause-grows : goal.returns-clause-grows
+returns-clause-grows c =
+    let olds = c.args.incarnations.now.items in
+    let e = c.args.export.now in
+    let changes = c.in_ok-changes.changes in
+    let prepared : Prepares (entries no_cells) (entries_of e) changes = subst (λ (cs : Cells). Prepares (entries cs) (entries_of e) changes) c.new-incarnation.ensures.cells c.in_ok-changes.ensures in
+    let more : c.len-more.result ≡ length changes.fresh.items = search rules in
+    let changed : c.len.result + c.len-more.result ≡ length changes.updates.items + length changes.fresh.items = grind (arith, common_steps) in
+    let made : c.install.new.self ≡ record { writer = e.writer; start = e.start; cells = from_sorted (grown (entries no_cells) changes) } = c.install.ensures ∙ (λ i. record { writer = (c.new-incarnation.ensures.writer ∙ c.in_ok-try_copy.ensures.value ∙ c.writer.ensures.value) i; start = (c.new-incarnation.ensures.start ∙ c.start.ensures.value) i; cells = from_sorted (grown (entries (c.new-incarnation.ensures.cells i)) changes) }) in
+    rw c.in_ok-insert.ensures.items (grows_new olds c.args.len c.requires.whole e c.requires.points changes c.len-more.result (c.len.result + c.len-more.result) c.args.place c.install.new.self c.requires.placed prepared made more changed)

@@ -1,0 +1,27 @@
+use Rattle.std.proofs.Common.{◌≡◌, List, [], ◌∷◌, map, cond, true, false, sym, ap, refl, ◌∙◌}
+use Rattle.std.specs.FinMap.{entries}
+use Rattle.point_kit.specs.declared.cell.Cell.{Cell}
+use Rattle.point_kit.specs.declared.key.Key.{Key}
+use Rattle.point_kit.specs.declared.payload.Payload.{Payload}
+use Rattle.gateway_kit.specs.declared.points.Points.{Points}
+use Rattle.gateway_kit.specs.Changing.{Entry}
+use Rattle.gateway_kit.specs.Keys.{whole_key}
+use Rattle.gateway_kit.specs.Part.{Part}
+use Rattle.gateway_kit.specs.Walks.{items_left, is_asked, points_left}
+use Rattle.gateway_kit.proofs.Served.{passed, lent, lent_when, lent_unless}
+use Rattle.gateway_kit.proofs.walk.PointsIterator.next.Goals as goal
+use Rattle.gateway_kit.proofs.walk.PointsIterator.next.Goals.{then-asked, else-asked}
+
+pub loop-point-preserved : goal.loop-point-preserved
+loop-point-preserved c =
+    let first : Part = c.in_ok-incarnation.incarnation.now in
+    let same : c.next_here.new.self ≡ c.loop-point.self = c.in_default.ensures.same in
+    let none : items_left c.next_here.new.self.here ≡ [] = ap (λ (p : Points). items_left p.here) same ∙ c.in_default.ensures.value in
+    let ahead : c.next_here.new.self.ahead.now ≡ first ∷ c.in_ok-incarnation.others.now = c.in_ok-incarnation.ensures.cases.0 in
+    let wanted : c.asked.result ≡ is_asked c.next_here.new.self.service first.writer = c.asked.ensures ∙ ap (λ (p : Part). is_asked c.next_here.new.self.service p.writer) c.incarnation.view_is in
+    let all : List (Key × Cell Payload) = map (λ e. (whole_key (first.writer, first.start) e.0, e.1)) (entries first.cells) in
+    let now : items_left c.if-asked.self ≡ cond (is_asked c.next_here.new.self.service first.writer) all [] = elim c.if-asked.branch [
+      | then-asked w ↦ lent_when c.asked.result (is_asked c.next_here.new.self.service first.writer) (items_left c.if-asked.self) all w.if-asked.true wanted (ap items_left w.self-is ∙ lent first w.items.result c.in_ok-incarnation.incarnation refl w.items.ensures.entries)
+      | else-asked w ↦ lent_unless c.asked.result (is_asked c.next_here.new.self.service first.writer) (items_left c.if-asked.self) all w.if-asked.false wanted (ap items_left w.self-is)
+    ] in
+    c.loop-point.invariant ∙ ap points_left (sym same) ∙ passed c.next_here.new.self c.if-asked.self first c.in_ok-incarnation.others none ahead now

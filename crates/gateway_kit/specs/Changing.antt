@@ -1,0 +1,58 @@
+-- How the cells of an incarnation change.
+use Rattle.std.specs.Prelude.{◌≡◌, ℕ, ◌+◌, Bool, false, cond, nat_le, List, length, map, Option, Some, None, count_by, vec_capacity}
+use Rattle.std.specs.FinMap.{find}
+use Rattle.point_kit.specs.Join.{join_options}
+use Rattle.point_kit.specs.declared.cell.Cell.{Cell}
+use Rattle.point_kit.specs.declared.cell.Held.{Held}
+use Rattle.point_kit.specs.declared.cell.Held.TheVariants.{One, Conflict}
+use Rattle.point_kit.specs.declared.export.Export.{Export}
+use Rattle.point_kit.specs.declared.payload.Payload.{Payload}
+use Rattle.point_kit.specs.Join.{join_cells}
+use Rattle.point_kit.specs.Equality.{payload_eq}
+use Rattle.gateway_kit.specs.Amending.{amended}
+use Rattle.gateway_kit.specs.Bringing.{Brings, is_new, is_change}
+use Rattle.gateway_kit.specs.Keys.{ItemKey, item_cmp, entry_of}
+use Rattle.point_kit.specs.Equality.{cell_eq}
+use Rattle.gateway_kit.specs.Weave.{weave}
+use Rattle.gateway_kit.specs.declared.changes.Changes.{Changes}
+use Rattle.gateway_kit.specs.declared.part_item.PartItem.{PartItem}
+
+abbrev pub Entry : Type 0
+Entry = ItemKey × Cell Payload
+
+-- a payload, or that there are several
+abbrev pub held_as : Option Payload → Held Payload
+held_as None = Conflict
+held_as (Some p) = One p
+
+-- what a cell becomes when another is joined in: nothing where it stays as it is
+abbrev pub IsUpdate : Cell Payload → Cell Payload → Option (Cell Payload) → Type 0
+IsUpdate mine theirs None = join_cells payload_eq mine theirs ≡ mine
+IsUpdate mine theirs (Some cell) = (cell ≡ join_cells payload_eq mine theirs) × (cell_eq mine cell ≡ false)
+
+-- the points of an export as entries of its incarnation
+abbrev pub entries_of : Export → List Entry
+entries_of e = map (λ p. ((p.stream, p.attrs), record { time = e.time; held = One p.payload })) e.points
+
+-- an update is the cell that comes in place of another
+abbrev pub replaced : Cell Payload → Cell Payload → Cell Payload
+replaced old new = new
+
+-- the entries with their cells updated, and the new ones woven in where there is room for them
+abbrev pub grown : List Entry → Changes → List Entry
+grown es c =
+    cond (nat_le (length es + length c.fresh.items) (vec_capacity c.room))
+    (weave (λ x y. item_cmp x.0 y.0) (amended replaced es c.updates.items) (map entry_of c.fresh.items))
+    (amended replaced es c.updates.items)
+
+-- what came in so far, as updates and new items
+pub record Drafts (es came : List Entry) (updates : List (ℕ × Cell Payload)) (fresh : List PartItem) : Type 0 where
+  pub brings : Brings item_cmp (join_cells payload_eq) replaced es came updates (map entry_of fresh)
+  pub changed : count_by (is_change item_cmp (join_cells payload_eq) cell_eq es) came ≡ length updates + length fresh
+  pub new : count_by (is_new item_cmp es) came ≡ length fresh
+
+-- the changes that bring in what came
+pub record Prepares (es came : List Entry) (c : Changes) : Type 0 where
+  pub joined : (q : ItemKey) → find item_cmp q (grown es c) ≡ join_options (join_cells payload_eq) (find item_cmp q es) (find item_cmp q came)
+  pub changed : count_by (is_change item_cmp (join_cells payload_eq) cell_eq es) came ≡ length c.updates.items + length c.fresh.items
+  pub new : count_by (is_new item_cmp es) came ≡ length c.fresh.items

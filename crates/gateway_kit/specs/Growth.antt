@@ -1,0 +1,29 @@
+-- How the parts of a gateway grow by what comes of one incarnation.
+use Rattle.std.specs.Prelude.{◌≡◌, ℕ, IsTrue, cond, List, [], map, Option, Some, None, count_by}
+use Rattle.std.specs.FinMap.{entries}
+use Rattle.std.specs.FinMap.Entries.{find, is_sorted}
+use Rattle.std.specs.List.{list_all}
+use Rattle.std.specs.Ordering.{eq_by_cmp}
+use Rattle.point_kit.specs.Join.{join_cells}
+use Rattle.point_kit.specs.Equality.{payload_eq}
+use Rattle.point_kit.specs.Join.{join_options}
+use Rattle.gateway_kit.specs.Bringing.{is_new, is_change}
+use Rattle.gateway_kit.specs.Changing.{Entry}
+use Rattle.gateway_kit.specs.Keys.{PartKey, ItemKey, part_cmp, item_cmp}
+use Rattle.gateway_kit.specs.Part.{Part, Cells}
+use Rattle.gateway_kit.specs.Parts.{part_of, has_cells, entries_at}
+use Rattle.point_kit.specs.Equality.{cell_eq}
+
+-- the entries of the part under a key
+abbrev pub part_at : PartKey → List Part → List Entry
+part_at key parts = entries_at (find part_cmp key (map part_of parts))
+
+-- the part under a key is joined with what came, and all others stay
+pub record Grows (olds news : List Part) (key : PartKey) (came : List Entry) (more changed : ℕ) : Type 0 where
+  pub sorted : IsTrue (is_sorted part_cmp (map part_of news))
+  pub filled : IsTrue (list_all has_cells news)
+  pub cells : Cells
+  pub found : (k : PartKey) → find part_cmp k (map part_of news) ≡ cond (eq_by_cmp part_cmp k key) (Some cells) (find part_cmp k (map part_of olds))
+  pub joined : (b : ItemKey) → find item_cmp b (entries cells) ≡ join_options (join_cells payload_eq) (find item_cmp b (part_at key olds)) (find item_cmp b came)
+  pub more_keys : more ≡ count_by (is_new item_cmp (part_at key olds)) came
+  pub changes : changed ≡ count_by (is_change item_cmp (join_cells payload_eq) cell_eq (part_at key olds)) came

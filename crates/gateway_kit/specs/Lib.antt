@@ -1,0 +1,14 @@
+pub use Rattle.point_kit.specs.Equality
+pub use Rattle.point_kit.specs.Exports
+pub use Rattle.point_kit.specs.Orders
+pub mod Amending
+pub mod Bringing
+pub mod Changing
+pub mod Growth
+pub mod Keys
+pub mod Part
+pub mod Parts
+pub mod Places
+pub mod View
+pub mod Walks
+pub mod Weave

@@ -1,0 +1,15 @@
+-- Two lists in one order, as one.
+use Rattle.std.specs.Prelude.{List, [], ◌∷◌}
+use Rattle.std.specs.declared.cmp.Ordering.{Ordering}
+use Rattle.std.specs.FinMap.Entries.{by_order}
+
+module _ {A : Type 0} (R : A → A → Ordering) where
+  -- x and what follows it (of which `rest` is the weave with any list) with a list
+  abbrev pub weave_one : A → List A → (List A → List A) → List A → List A
+  weave_one x xs rest [] = x ∷ xs
+  weave_one x xs rest (y ∷ ys) = by_order (R x y) (x ∷ rest (y ∷ ys)) (x ∷ rest ys) (y ∷ weave_one x xs rest ys)
+
+  -- of two that tie, that of the first list
+  abbrev pub weave : List A → List A → List A
+  weave [] ys = ys
+  weave (x ∷ xs) ys = weave_one x xs (weave xs) ys

@@ -1,0 +1,173 @@
+//! Changes in the making.
+ghost use Rattle.std.specs.Prelude.{◌≡◌, List, OnOk, IfOk, Some, IsTrue, ◌↔◌, ◌≢◌, map, ◌++◌, ◌∷◌, [], None, length, option_copied, vec_len};
+ghost use Rattle.std.specs.FinMap.Entries.{find, is_sorted};
+ghost use Rattle.point_kit.specs.Join.{join_held};
+ghost use Rattle.point_kit.specs.Equality.{payload_eq};
+ghost use Rattle.gateway_kit.specs.Amending.{amend, amended};
+ghost use Rattle.gateway_kit.specs.Changing.{Entry, Drafts, Prepares, IsUpdate, held_as, entries_of, grown, replaced};
+ghost use Rattle.std.specs.List.{IsDistinct};
+ghost use Rattle.std.specs.Ordering.{eq_by_cmp};
+ghost use Rattle.gateway_kit.specs.Keys.{ItemKey, entry_of, item_cmp};
+ghost use Rattle.gateway_kit.specs.Places.{IsPlace};
+
+use crate::changes::Changes;
+use crate::part_item::PartItem;
+use crate::weave::{Keyed, woven};
+use attr_kit::{AttrSet, NoMemory, TryCopy};
+use point_kit::{Cell, Export, Held, Payload, SharedStream, Stream};
+use std::alloc::Global;
+use std::cmp::Ordering;
+use std::mem;
+
+// The payload, or that there are several.
+fn copied(payload: Option<&Payload>) -> Result<Held, NoMemory>
+    ensures { IfOk result (λ held. held ≡ held_as (option_copied payload.entry)) }
+{
+    match payload {
+        Some(payload) => Ok(Held::One(payload.try_copy()?)),
+        None => Ok(Held::Conflict),
+    }
+}
+
+// Whether what is held is another when a payload of its time comes in.
+fn clashes(held: &Held, payload: Option<&Payload>) -> bool
+    ensures { IsTrue result ↔ (join_held payload_eq held.now (held_as (option_copied payload.entry)) ≢ held.now) }
+{
+    match (held, payload) {
+        (Held::One(mine), Some(theirs)) => mine != theirs,
+        (Held::One(_), None) => true,
+        (Held::Conflict, _) => false,
+    }
+}
+
+// What a cell becomes when another is joined in: nothing where it stays as it is. Copies what comes in, or nothing.
+fn update_of(mine: &Cell, time: u64, payload: Option<&Payload>) -> Result<Option<Cell>, NoMemory>
+    ensures { IfOk result (λ update. IsUpdate mine.now (record { time = time; held = held_as (option_copied payload.entry) }) update) }
+{
+    if time < mine.time {
+        return Ok(None);
+    }
+    if mine.time < time {
+        let held = copied(payload)?;
+        return Ok(Some(Cell { time, held }));
+    }
+    if clashes(&mine.held, payload) {
+        return Ok(Some(Cell {
+            time,
+            held: Held::Conflict,
+        }));
+    }
+    Ok(None)
+}
+
+// Puts a new cell at a place; past the end nothing.
+fn put_cell(items: &mut Vec<PartItem>, place: usize, cell: Cell)
+    ensures { map entry_of items.new.items ≡ amend replaced (map entry_of items.old.items) place cell }
+{
+    if place < items.len() {
+        items[place].cell = cell;
+    }
+}
+
+// Puts the new cells at their places.
+pub(crate) fn put_cells(items: &mut Vec<PartItem>, updates: Vec<(usize, Cell)>)
+    ensures { map entry_of items.new.items ≡ amended replaced (map entry_of items.old.items) updates.items }
+{
+    for (place, cell) in updates {
+        put_cell(items, place, cell);
+    }
+}
+
+// The place of a key among items, or where it belongs: O(log n).
+pub(crate) fn place_of(items: &[PartItem], stream: &Stream, attrs: &AttrSet) -> Result<usize, usize>
+    requires { IsTrue (is_sorted item_cmp (map entry_of items.now)) }
+    ensures { IsPlace item_cmp (map entry_of items.now) (stream.now, attrs.now) result }
+{
+    items.binary_search_by(|item| item.order(stream, attrs))
+}
+
+/// Changes in the making.
+#[derive(Drop)]
+pub(crate) struct Draft {
+    updates: Vec<(usize, Cell)>,
+    fresh: Vec<PartItem>,
+}
+
+impl Draft {
+    pub(crate) fn new(alloc: Global) -> Draft
+        ensures { (es : List Entry) → Drafts es [] result.updates.items result.fresh.items }
+    {
+        Draft {
+            updates: Vec::new(alloc),
+            fresh: Vec::new(alloc),
+        }
+    }
+
+    /// Brings in what is told of a key, whose place among the items is known. Copies the key only where it is new.
+    pub(crate) fn bring(
+        &mut self,
+        items: &[PartItem],
+        place: Result<usize, usize>,
+        stream: &SharedStream,
+        attrs: &AttrSet,
+        time: u64,
+        payload: Option<&Payload>,
+    ) -> Result<(), NoMemory>
+        requires sorted { IsTrue (is_sorted item_cmp (map entry_of items.now)) }
+        requires placed { IsPlace item_cmp (map entry_of items.now) (stream.now, attrs.now) place }
+        ensures { OnOk result ((came : List Entry) → find item_cmp (stream.now, attrs.now) came ≡ None → Drafts (map entry_of items.now) came self.old.updates.items self.old.fresh.items → Drafts (map entry_of items.now) (came ++ ((stream.now, attrs.now), record { time = time; held = held_as (option_copied payload.entry) }) ∷ []) self.new.updates.items self.new.fresh.items) }
+    {
+        match place {
+            Ok(place) => {
+                if let Some(cell) = update_of(&items[place].cell, time, payload)? {
+                    self.updates.push((place, cell))?;
+                }
+            }
+            Err(_) => {
+                let item = PartItem {
+                    stream: stream.try_copy()?,
+                    attrs: attrs.try_copy()?,
+                    cell: Cell {
+                        time,
+                        held: copied(payload)?,
+                    },
+                };
+                self.fresh.push(item)?;
+            }
+        }
+        Ok(())
+    }
+}
+
+// New items in the order of their keys: as they are where they rise already.
+fn in_order(items: Vec<PartItem>) -> Result<Vec<PartItem>, NoMemory>
+    requires { IsDistinct (eq_by_cmp item_cmp) (map (λ i. (entry_of i).0) items.items) }
+    ensures sorted { IfOk result (λ s. IsTrue (is_sorted item_cmp (map entry_of s.items))) }
+    ensures len { IfOk result (λ s. vec_len s ≡ vec_len items) }
+    ensures same { IfOk result (λ s. (q : ItemKey) → find item_cmp q (map entry_of s.items) ≡ find item_cmp q (map entry_of items.items)) }
+{
+    let mut items = items;
+    items.sort_by(|x, y| Keyed::order(x, y))?;
+    Ok(items)
+}
+
+impl Draft {
+    /// Makes room beside the n items that are there.
+    pub(crate) fn finished(self, alloc: Global, items: &[PartItem]) -> Result<Changes, NoMemory>
+        requires { IsDistinct (eq_by_cmp item_cmp) (map (λ i. (entry_of i).0) self.fresh.items) }
+        ensures { IfOk result (λ c. (came : List Entry) → IsTrue (is_sorted item_cmp (map entry_of items.now)) → Drafts (map entry_of items.now) came self.updates.items self.fresh.items → Prepares (map entry_of items.now) came c) }
+    {
+        let Draft { updates, fresh } = self;
+        let fresh = in_order(fresh)?;
+        let room = if fresh.is_empty() {
+            Vec::new(alloc)
+        } else {
+            Vec::with_capacity(alloc, items.len() + fresh.len())?
+        };
+        Ok(Changes {
+            updates,
+            fresh,
+            room,
+        })
+    }
+}

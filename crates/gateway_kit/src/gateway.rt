@@ -1,0 +1,30 @@
+//! A gateway: the newest point of every key that it was told of.
+use crate::incarnation::Incarnation;
+use std::marker::Model;
+
+/// What a gateway holds of the points of all writers: a list of incarnations in the order (writer, start), each with its
+/// points in the order (stream, attributes). The state is the join of all that it took, so it depends neither on the
+/// order in which exports and other gateways came, nor on what came twice.
+#[derive(Debug, Drop)]
+pub struct Gateway {
+    pub(crate) id: u32,
+    pub(crate) incarnations: Vec<Incarnation>,
+    /// The number of points.
+    pub(crate) len: usize,
+}
+
+impl Model for Gateway {
+    ghost use Rattle.std.specs.FinMap.{from_sorted, code};
+    ghost use Rattle.std.specs.Coded.{codes};
+    ghost use Rattle.point_kit.specs.Orders.{key_cmp};
+    ghost use Rattle.gateway_kit.specs.Parts.{IsWhole, listed};
+    ghost use Rattle.gateway_kit.specs.View.{View};
+
+    ghost Value = { View };
+
+    ghost coded = { Prim.hlevel (codes, code) };
+
+    ghost view = { λ g. record { id = g.id; points = from_sorted {R = key_cmp} (listed g.incarnations.items) } };
+
+    ghost invariant = { λ g. IsWhole g.incarnations.items g.len };
+}

@@ -1,0 +1,95 @@
+//! How an incarnation grows.
+ghost use Rattle.std.specs.Prelude.{◌≡◌, IsTrue, IfOk, map, if◌then◌else◌, nat_le, [], ◌≤◌, ◌+◌, length, option_copied, vec_capacity};
+ghost use Rattle.std.specs.FinMap as finite;
+ghost use Rattle.std.specs.FinMap.{entries, from_sorted};
+ghost use Rattle.std.specs.FinMap.Entries.{is_sorted};
+ghost use Rattle.gateway_kit.specs.Changing.{Prepares, entries_of, grown};
+ghost use Rattle.gateway_kit.specs.Keys.{entry_of, item_cmp};
+ghost use Rattle.gateway_kit.specs.Weave.{weave};
+
+use crate::changes::Changes;
+use crate::draft::{Draft, place_of, put_cells};
+use crate::incarnation::Incarnation;
+use crate::part_item::PartItem;
+use crate::weave::woven;
+use attr_kit::{AttrSet, NoMemory};
+use point_kit::{Cell, Export, Stream, WriterId};
+use std::alloc::Global;
+use std::mem;
+
+// Weaves new items in where there is room for them.
+fn put_items(items: &mut Vec<PartItem>, fresh: Vec<PartItem>, room: Vec<PartItem>)
+    requires { room.items ≡ [] }
+    ensures { map entry_of items.new.items ≡ (if nat_le (length items.old.items + length fresh.items) (vec_capacity room) then weave (λ x y. item_cmp x.0 y.0) (map entry_of items.old.items) (map entry_of fresh.items) else map entry_of items.old.items) }
+{
+    if !fresh.is_empty() && fresh.len() <= room.capacity().saturating_sub(items.len()) {
+        let alloc = *items.allocator();
+        let mine = mem::replace(items, Vec::new(alloc));
+        *items = woven(mine, fresh, room);
+    }
+}
+
+impl Incarnation {
+    pub(crate) fn new(alloc: Global, writer: WriterId, start: u64) -> Incarnation
+        ensures writer { result.writer ≡ writer }
+        ensures start { result.start ≡ start }
+        ensures cells { result.cells ≡ finite.empty }
+    {
+        Incarnation {
+            writer,
+            start,
+            items: Vec::new(alloc),
+        }
+    }
+
+    pub(crate) fn items(&self) -> &[PartItem]
+        ensures entries { map entry_of result.now ≡ entries self.now.cells }
+        ensures sorted { IsTrue (is_sorted item_cmp (map entry_of result.now)) }
+    {
+        self.items.as_slice()
+    }
+
+    /// The cell under a stream and attributes: O(log n).
+    pub(crate) fn find(&self, stream: &Stream, attrs: &AttrSet) -> Option<&Cell>
+        ensures { option_copied result ≡ finite.get self.now.cells (stream.now, attrs.now) }
+    {
+        let items = self.items();
+        match place_of(items, stream, attrs) {
+            Ok(place) => Some(&items[place].cell),
+            Err(_) => None,
+        }
+    }
+
+    /// What the points of an export, which is of this incarnation, change.
+    pub(crate) fn changes_by(&self, alloc: Global, export: &Export) -> Result<Changes, NoMemory>
+        ensures { IfOk result (λ c. Prepares (entries self.now.cells) (entries_of export.now) c) }
+    {
+        let items = self.items();
+        let mut draft = Draft::new(alloc);
+        for point in export.points() {
+            let place = place_of(items, point.stream.get(), &point.attrs);
+            draft.bring(
+                items,
+                place,
+                &point.stream,
+                &point.attrs,
+                export.time(),
+                Some(&point.payload),
+            )?;
+        }
+        draft.finished(alloc, items)
+    }
+
+    /// Makes the changes. Those that were prepared for more items, for which they have no room, add nothing new.
+    pub(crate) fn install(&mut self, changes: Changes)
+        ensures { self.new ≡ record self.old { cells = from_sorted (grown (entries self.old.cells) changes) } }
+    {
+        let Changes {
+            updates,
+            fresh,
+            room,
+        } = changes;
+        put_cells(&mut self.items, updates);
+        put_items(&mut self.items, fresh, room);
+    }
+}

@@ -1,0 +1,29 @@
+//! What is held of one incarnation of a writer.
+use crate::part_item::PartItem;
+use point_kit::WriterId;
+use std::marker::Model;
+
+/// The newest points of one incarnation: its writer and start once, and its items in the order of their keys.
+#[derive(Debug, Drop)]
+pub(crate) struct Incarnation {
+    pub(crate) writer: WriterId,
+    pub(crate) start: u64,
+    pub(crate) items: Vec<PartItem>,
+}
+
+impl Model for Incarnation {
+    ghost use Rattle.std.specs.Prelude.{IsTrue, map};
+    ghost use Rattle.std.specs.FinMap.{from_sorted, code};
+    ghost use Rattle.std.specs.FinMap.Entries.{is_sorted};
+    ghost use Rattle.std.specs.Coded.{codes};
+    ghost use Rattle.gateway_kit.specs.Keys.{entry_of, item_cmp};
+    ghost use Rattle.gateway_kit.specs.Part.{Part};
+
+    ghost Value = { Part };
+
+    ghost coded = { Prim.hlevel (codes, code) };
+
+    ghost view = { λ i. record { writer = i.writer; start = i.start; cells = from_sorted {R = item_cmp} (map entry_of i.items.items) } };
+
+    ghost invariant = { λ i. IsTrue (is_sorted item_cmp (map entry_of i.items.items)) };
+}

@@ -1,0 +1,19 @@
+//! What a gateway holds of the points of all writers.
+#![tactic(auto)]
+
+mod calls;
+mod changes;
+mod draft;
+mod gateway;
+mod grow;
+mod incarnation;
+mod part_item;
+mod points;
+mod queries;
+mod taking;
+mod walk;
+mod weave;
+
+pub use gateway::Gateway;
+pub use part_item::PartItem;
+pub use points::{PointRef, Points};

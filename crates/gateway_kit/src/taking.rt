@@ -1,0 +1,115 @@
+//! How a gateway's incarnations take an export.
+ghost use Rattle.std.specs.Prelude.{◌≡◌, ◌≢◌, ◌<◌, ◌≤◌, ◌+◌, ◌^◌, IsTrue, IfOk, OnErr, map, [], length, vec_len};
+ghost use Rattle.std.specs.FinMap.Entries.{is_sorted};
+ghost use Rattle.gateway_kit.specs.Changing.{entries_of};
+ghost use Rattle.gateway_kit.specs.Growth.{Grows};
+ghost use Rattle.gateway_kit.specs.Keys.{part_cmp};
+ghost use Rattle.gateway_kit.specs.Parts.{IsWhole, part_of};
+ghost use Rattle.gateway_kit.specs.Places.{IsPlace, IsAt, IsGap};
+
+use crate::incarnation::Incarnation;
+use attr_kit::{NoMemory, TryCopy};
+use point_kit::{Export, WriterId};
+use std::alloc::{AllocFailed, Global};
+use std::cmp::Ordering;
+
+/// The greatest number of points that a gateway holds.
+pub const MOST_POINTS: usize = 1 << 62;
+
+/// How many keys are new, and how many changed, the new ones among them.
+#[derive(Clone, Copy)]
+pub(crate) struct Growth {
+    pub(crate) more: usize,
+    pub(crate) changed: u64,
+}
+
+impl Incarnation {
+    // How its place among incarnations compares with that of another.
+    pub(crate) fn order(&self, writer: &WriterId, start: u64) -> Ordering
+        ensures { result ≡ part_cmp (self.now.writer, self.now.start) (writer.now, start) }
+    {
+        self.writer.cmp(writer).then(self.start.cmp(&start))
+    }
+}
+
+/// The place of an incarnation, or where it belongs: O(log n).
+pub(crate) fn part_place(
+    incarnations: &[Incarnation],
+    writer: &WriterId,
+    start: u64,
+) -> Result<usize, usize>
+    requires { IsTrue (is_sorted part_cmp (map part_of incarnations.now)) }
+    ensures { IsPlace part_cmp (map part_of incarnations.now) (writer.now, start) result }
+{
+    incarnations.binary_search_by(|incarnation| incarnation.order(writer, start))
+}
+
+// Joins an export into its incarnation, which stands at this place.
+fn take_held(
+    incarnations: &mut Vec<Incarnation>,
+    len: usize,
+    place: usize,
+    export: &Export,
+) -> Result<Growth, NoMemory>
+    requires whole { IsWhole incarnations.old.items len }
+    requires placed { IsAt part_cmp (map part_of incarnations.old.items) (export.now.writer, export.now.start) place }
+    requires points { export.now.points ≢ [] }
+    ensures grows { IfOk result (λ g. Grows incarnations.old.items incarnations.new.items (export.now.writer, export.now.start) (entries_of export.now) g.more g.changed) }
+    ensures bounded { IfOk result (λ g. len + g.more ≤ 2 ^ 62) }
+    ensures unchanged { OnErr result (incarnations.new.items ≡ incarnations.old.items) }
+{
+    let alloc = *incarnations.allocator();
+    let changes = incarnations[place].changes_by(alloc, export)?;
+    let more = changes.fresh.len();
+    let changed = (changes.updates.len() + more) as u64;
+    if more > MOST_POINTS - len {
+        return Err(NoMemory);
+    }
+    incarnations[place].install(changes);
+    Ok(Growth { more, changed })
+}
+
+// Adds the incarnation of an export at the place where it belongs.
+fn take_new(
+    incarnations: &mut Vec<Incarnation>,
+    len: usize,
+    place: usize,
+    export: &Export,
+) -> Result<Growth, NoMemory>
+    requires whole { IsWhole incarnations.old.items len }
+    requires placed { IsGap part_cmp (map part_of incarnations.old.items) (export.now.writer, export.now.start) place }
+    requires points { export.now.points ≢ [] }
+    ensures grows { IfOk result (λ g. Grows incarnations.old.items incarnations.new.items (export.now.writer, export.now.start) (entries_of export.now) g.more g.changed) }
+    ensures bounded { IfOk result (λ g. len + g.more ≤ 2 ^ 62) }
+    ensures unchanged { OnErr result (incarnations.new.items ≡ incarnations.old.items) }
+{
+    let alloc = *incarnations.allocator();
+    let mut incarnation = Incarnation::new(alloc, export.writer().try_copy()?, export.start());
+    let changes = incarnation.changes_by(alloc, export)?;
+    let more = changes.fresh.len();
+    let changed = (changes.updates.len() + more) as u64;
+    if more > MOST_POINTS - len {
+        return Err(NoMemory);
+    }
+    incarnation.install(changes);
+    incarnations.insert(place, incarnation)?;
+    Ok(Growth { more, changed })
+}
+
+/// Joins an export, which has points, into its incarnation.
+pub(crate) fn taken(
+    incarnations: &mut Vec<Incarnation>,
+    len: usize,
+    export: &Export,
+) -> Result<Growth, NoMemory>
+    requires whole { IsWhole incarnations.old.items len }
+    requires points { export.now.points ≢ [] }
+    ensures grows { IfOk result (λ g. Grows incarnations.old.items incarnations.new.items (export.now.writer, export.now.start) (entries_of export.now) g.more g.changed) }
+    ensures bounded { IfOk result (λ g. len + g.more ≤ 2 ^ 62) }
+    ensures unchanged { OnErr result (incarnations.new.items ≡ incarnations.old.items) }
+{
+    match part_place(incarnations.as_slice(), export.writer(), export.start()) {
+        Ok(place) => take_held(incarnations, len, place, export),
+        Err(place) => take_new(incarnations, len, place, export),
+    }
+}

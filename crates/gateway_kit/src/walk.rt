@@ -1,0 +1,60 @@
+//! The walk over a gateway's points.
+ghost use Rattle.std.specs.Prelude.{◌≡◌, ◌∷◌, [], MatchOption, option_copied};
+ghost use Rattle.std.specs.Iterator.{YieldsFirstBy, item_count};
+ghost use Rattle.gateway_kit.specs.Walks.{entry_of_ref, is_asked, items_left, points_left};
+
+use crate::incarnation::Incarnation;
+use crate::points::{PointRef, Points};
+use point_kit::WriterId;
+
+// Whether a writer is asked for.
+fn asked(service: Option<&str>, writer: &WriterId) -> bool
+    ensures { result ≡ is_asked service.entry writer.now }
+{
+    match service {
+        Some(service) => writer.service.as_str() == service,
+        None => true,
+    }
+}
+
+impl<'a> Points<'a> {
+    // The next item of the incarnation that is lent.
+    fn next_here(&mut self) -> Option<PointRef<'a>>
+        ensures value { MatchOption result (items_left self.old.here ≡ []) (λ p. points_left self.old ≡ entry_of_ref p ∷ points_left self.new) }
+        ensures same { MatchOption result (self.new ≡ self.old) (λ p. self.new.ahead ≡ self.old.ahead) }
+    {
+        let (incarnation, items) = self.here?;
+        let (item, others) = items.split_first()?;
+        self.here = Some((incarnation, others));
+        Some(PointRef {
+            writer: &incarnation.writer,
+            start: incarnation.start,
+            stream: item.stream.get(),
+            attrs: &item.attrs,
+            cell: &item.cell,
+        })
+    }
+}
+
+impl<'a> Iterator for Points<'a> {
+    type Item = PointRef<'a>;
+
+    ghost next_gives = { YieldsFirstBy entry_of_ref points_left };
+
+    ghost remaining = { item_count points_left };
+
+    fn next(&mut self) -> Option<PointRef<'a>> {
+        loop {
+            if let Some(point) = self.next_here() {
+                return Some(point);
+            }
+            let (incarnation, others) = self.ahead.split_first()?;
+            self.ahead = others;
+            self.here = if asked(self.service, &incarnation.writer) {
+                Some((incarnation, incarnation.items()))
+            } else {
+                None
+            };
+        }
+    }
+}
