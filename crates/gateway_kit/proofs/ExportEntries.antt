@@ -62,7 +62,7 @@ first_here f (p ∷ ps) (suc i) x h l is =
 pub first_point : (e : Export) (i : ℕ) (x : ExportPoint) → i < length e.points → x ≡ get_or e.points i x → find item_cmp (point_key x) (take i (entries_of e)) ≡ None
 first_point e i x l is = first_here _ e.points i x (distinct_points e) l is
 
-mapped_more : {A B : Type 0} (f : A → B) (xs : List A) (i : ℕ) (x : A) → i < length xs → x ≡ get_or xs i x → take (i + 1) (map f xs) ≡ take i (map f xs) ++ f x ∷ []
+pub mapped_more : {A B : Type 0} (f : A → B) (xs : List A) (i : ℕ) (x : A) → i < length xs → x ≡ get_or xs i x → take (i + 1) (map f xs) ≡ take i (map f xs) ++ f x ∷ []
 mapped_more f xs i x l is =
     take-map f (i + 1) xs ∙ ap (map f) (take_more xs i x l ∙ ap (λ y. take i xs ++ y ∷ []) (sym is)) ∙ map-append f (take i xs) (x ∷ []) ∙ ap (λ ys. ys ++ f x ∷ []) (sym (take-map f i xs))
 

@@ -110,7 +110,7 @@ get_points ps sorted c b =
 pub entries_points : (ps : List Part) → is_sorted part_cmp (map part_of ps) ≡ true → entries (from_sorted {R = key_cmp} (listed ps)) ≡ listed ps
 entries_points ps sorted = entries-from_sorted key_cmp (listed ps) (sorted_flatten (Cell Payload) part_cmp item_cmp key_cmp whole_key compares part_total (map part_of ps) (as_T sorted))
 
-unjoined : {V : Type 0} (join : V → V → V) (a : Option V) → a ≡ join_options join a None
+pub unjoined : {V : Type 0} (join : V → V → V) (a : Option V) → a ≡ join_options join a None
 unjoined join None = refl
 unjoined join (Some v) = refl
 

@@ -6,10 +6,13 @@ pub mod Finishing
 pub mod Growing
 pub mod Joining
 pub mod KeyOrders
+pub mod MergeParts
+pub mod Merged
 pub mod Moved
 pub mod Nested
 pub mod Places
 pub mod Prepared
+pub mod Seeking
 pub mod Served
 pub mod Sorting
 pub mod Ahead

@@ -1,6 +1,7 @@
 -- Changes at places, of lists whose values are entries.
-use Rattle.std.proofs.Common.{◌≡◌, ℕ, zero, suc, ◌<◌, ◌≤◌, List, [], ◌∷◌, map, length, get_or, refl, ap, ◌∙◌, sym, arith}
-use Rattle.std.specs.Prelude.{slice_set}
+use Rattle.std.proofs.Common.{◌≡◌, ℕ, zero, suc, ◌<◌, ◌≤◌, Bool, true, false, ◌&&◌, List, [], ◌∷◌, map, length, get_or, Some, refl, ap, ◌∙◌, sym, arith, true≢false}
+use Rattle.std.specs.List.{list_all}
+use Rattle.std.specs.Prelude.{slice_get, slice_set}
 use Rattle.gateway_kit.specs.Amending.{amend}
 
 module _ {A K V C : Type 0} (f : A → K × V) (made : V → C → V) where
@@ -15,3 +16,23 @@ module _ {A K V C : Type 0} (f : A → K × V) (made : V → C → V) where
   past_amend [] i c h = refl
   past_amend (z ∷ xs) zero c h = absurd (omega arith)
   past_amend (z ∷ xs) (suc i) c h = ap (λ l. f z ∷ l) (past_amend xs i c (omega arith))
+
+-- what stands at a place
+pub got_map : {A B : Type 0} (f : A → B) (xs : List A) (i : ℕ) (x : A) → i < length xs → x ≡ get_or xs i x → slice_get (map f xs) i ≡ Some (f x)
+got_map f [] i x h is = absurd (omega arith)
+got_map f (z ∷ xs) zero x h is = ap (λ y. Some (f y)) (sym is)
+got_map f (z ∷ xs) (suc i) x h is = got_map f xs i x (omega arith) is
+
+-- of a list whose elements pass a test, one
+pub passes_at : {A : Type 0} (test : A → Bool) (xs : List A) (i : ℕ) (x : A) → list_all test xs ≡ true → i < length xs → x ≡ get_or xs i x → test x ≡ true
+passes_at test [] i x all h is = absurd (omega arith)
+passes_at test (z ∷ xs) zero x all h is = ap test is ∙ first_of_both (test z) (list_all test xs) all
+  where
+    first_of_both : (a b : Bool) → (a && b) ≡ true → a ≡ true
+    first_of_both true b e = refl
+    first_of_both false b e = absurd (true≢false (sym e))
+passes_at test (z ∷ xs) (suc i) x all h is = passes_at test xs i x (second_of_both (test z) (list_all test xs) all) (omega arith) is
+  where
+    second_of_both : (a b : Bool) → (a && b) ≡ true → b ≡ true
+    second_of_both true b e = e
+    second_of_both false b e = absurd (true≢false (sym e))

@@ -1,14 +1,15 @@
 -- A list of distinct keys, sorted: its entries strictly rise, and what is found stays.
 use Rattle.std.proofs.Common.{◌≡◌, ℕ, zero, suc, ◌+◌, ◌<◌, ◌≤◌, Bool, true, false, not, ◌&&◌, cond, List, [], ◌∷◌, map, filter, length, get_or, Option, Some, None, refl, sym, ap, subst, ◌∙◌, arith, true≢false, IsPermutation}
 use Rattle.std.specs.Prelude.{T}
-use Rattle.std.specs.List.{IsDistinct, AllByRecursion}
+use Rattle.std.specs.List.{IsDistinct, AllByRecursion, list_all}
+use Rattle.std.proofs.Common.{All}
 use Rattle.std.specs.List.Sorted.{IsSortedBy, IsStableBy, ties}
 use Rattle.std.specs.declared.cmp.Ordering.{Ordering}
 use Rattle.std.specs.declared.cmp.Ordering.TheVariants.{Less, Equal, Greater}
 use Rattle.std.specs.Ordering.{eq_by_cmp, is_eq, is_lt, ordering_reverse}
 use Rattle.std.specs.Cmp.{IsTotalOrder, eq_by_cmp_equiv}
 use Rattle.std.specs.FinMap.Entries.{find, is_sorted, below_all}
-use Rattle.std.proofs.lemmas.List.Sorted.{IsPermutation-map, sorted_far, ranks_by}
+use Rattle.std.proofs.lemmas.List.Sorted.{IsPermutation-map, All-permutation, sorted_far, ranks_by}
 use Rattle.std.proofs.lemmas.Map.Keys.{IsDistinct-IsPermutation}
 use Rattle.gateway_kit.proofs.Entries.{both, as_T}
 
@@ -68,3 +69,28 @@ module _ {A K V : Type 0} {R : K → K → Ordering} (o : IsTotalOrder R) (f : A
 
   pub sorted_strictly : (xs ys : List A) → IsPermutation xs ys → IsDistinct (eq_by_cmp R) (map (λ x. (f x).0) xs) → IsSortedBy lower ys → T (is_sorted R (map f ys))
   sorted_strictly xs ys moved apart up = rising ys up (IsDistinct-IsPermutation (eq_by_cmp R) (eq_by_cmp_equiv o).symm (map (λ x. (f x).0) xs) (map (λ x. (f x).0) ys) (IsPermutation-map (λ x. (f x).0) xs ys moved) apart)
+
+both_true : (a b : Bool) → a ≡ true → b ≡ true → (a && b) ≡ true
+both_true true b p q = q
+both_true false b p q = p
+
+first_true : (a b : Bool) → (a && b) ≡ true → a ≡ true
+first_true true b e = refl
+first_true false b e = absurd (true≢false (sym e))
+
+second_true : (a b : Bool) → (a && b) ≡ true → b ≡ true
+second_true true b e = e
+second_true false b e = absurd (true≢false (sym e))
+
+-- a test that all pass, of a list whose elements change places
+pub all_moved : {A : Type 0} (test : A → Bool) (xs ys : List A) → IsPermutation xs ys → list_all test xs ≡ true → list_all test ys ≡ true
+all_moved {A = A} test xs ys moved h = passed ys (All-permutation (λ x. test x ≡ true) xs ys moved (each xs h))
+  where
+    each : (zs : List A) → list_all test zs ≡ true → All (λ x. test x ≡ true) zs
+    each [] h k d l = absurd (omega arith)
+    each (z ∷ zs) h zero d l = first_true (test z) (list_all test zs) h
+    each (z ∷ zs) h (suc k) d l = each zs (second_true (test z) (list_all test zs) h) k d (omega arith)
+
+    passed : (zs : List A) → All (λ x. test x ≡ true) zs → list_all test zs ≡ true
+    passed [] all = refl
+    passed (z ∷ zs) all = both_true (test z) (list_all test zs) (all 0 z (omega arith)) (passed zs (λ k d l. all (suc k) d (omega arith)))

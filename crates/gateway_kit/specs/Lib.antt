@@ -7,6 +7,7 @@ pub mod Changing
 pub mod Growth
 pub mod Keys
 pub mod Part
+pub mod Merging
 pub mod Parts
 pub mod Places
 pub mod View

@@ -1,5 +1,8 @@
 -- Two lists in one order, as one.
-use Rattle.std.specs.Prelude.{List, [], ◌∷◌}
+use Rattle.std.specs.Prelude.{◌≡◌, ℕ, ◌<◌, List, [], ◌∷◌, slice_index_or}
+use Rattle.std.specs.List.Sorted.{IsNonDecreasingBy}
+use Rattle.std.specs.Ordering.{ordering_index}
+use Rattle.std.specs.declared.cmp.Ordering.TheVariants.{Less}
 use Rattle.std.specs.declared.cmp.Ordering.{Ordering}
 use Rattle.std.specs.FinMap.Entries.{by_order}
 
@@ -13,3 +16,7 @@ module _ {A : Type 0} (R : A → A → Ordering) where
   abbrev pub weave : List A → List A → List A
   weave [] ys = ys
   weave (x ∷ xs) ys = weave_one x xs (weave xs) ys
+
+-- where the answers to a key do not fall along a list, all before a place are below it
+abbrev pub AreBelow : {A : Type 0} → (A → A → Ordering) → List A → A → ℕ → Type 0
+AreBelow {A} R xs key place = IsNonDecreasingBy (λ y. ordering_index (R y key)) xs → (k : ℕ) (d : A) → k < place → R (slice_index_or xs k d) key ≡ Less

@@ -1,12 +1,14 @@
 //! What a gateway is made of and told.
 ghost use Rattle.std.specs.Prelude.{◌≡◌, IfOk, OnOk, OnErr, Ok, [], ◌∷◌};
 ghost use Rattle.std.specs.FinMap as finite;
-ghost use Rattle.point_kit.specs.Exports.{state};
+ghost use Rattle.point_kit.specs.Exports.{state, JoinsExports};
+ghost use Rattle.point_kit.specs.Join.{IsCommutative, IsAssociative, IsIdempotent, JoinsAbove, JoinsLeast};
 ghost use Rattle.point_kit.specs.Exports.{join_points, changed_points};
 
 use crate::gateway::Gateway;
+use crate::merging::merged;
 use crate::taking::taken;
-use attr_kit::NoMemory;
+use attr_kit::{NoMemory, copy_all};
 use point_kit::Export;
 use std::alloc::Global;
 
@@ -55,5 +57,54 @@ impl Gateway {
         let growth = taken(&mut self.incarnations, self.len, export)?;
         self.len += growth.more;
         Ok(growth.changed)
+    }
+
+    /// Joins what another gateway holds, key by key, and answers the number of keys whose cell changed, the new ones
+    /// among them.
+    ///
+    /// One walk over both: O(n + k), and no key that is held is copied. Refused with `NoMemory`, with nothing changed,
+    /// where a growth was refused, or where the gateway would come to hold more than 2^62 points. An empty gateway
+    /// changes nothing and takes no memory.
+    #[tactic(auto, using(point_kit::proofs::PointLaws::points_commute, point_kit::proofs::PointLaws::points_associate, point_kit::proofs::PointLaws::points_idempotent, point_kit::proofs::PointLaws::points_above, point_kit::proofs::PointLaws::points_least, point_kit::proofs::PointLaws::states_join))]
+    pub fn merge(&mut self, other: &Gateway) -> Result<u64, NoMemory>
+        ensures id { self.new.id ≡ self.old.id }
+        ensures ok { OnOk result (self.new.points ≡ join_points self.old.points other.now.points) }
+        ensures value { IfOk result (λ n. n ≡ changed_points self.old.points self.new.points) }
+        ensures unchanged { OnErr result (self.new ≡ self.old) }
+        ensures no_points { other.now.points ≡ finite.empty → result ≡ Ok 0 }
+
+        // Neither the order nor the grouping of merges matters, nor what comes again.
+        ensures commutative { IsCommutative join_points }
+        ensures associative { IsAssociative join_points }
+        ensures idempotent { IsIdempotent join_points }
+
+        // The join is the least that has all that both have.
+        ensures above { JoinsAbove join_points }
+        ensures least { JoinsLeast join_points }
+
+        // What comes of two lists of exports is the join of what comes of each.
+        ensures states { JoinsExports }
+    {
+        if other.incarnations.is_empty() {
+            return Ok(0);
+        }
+        let growth = merged(
+            &mut self.incarnations,
+            self.len,
+            other.incarnations.as_slice(),
+        )?;
+        self.len += growth.more;
+        Ok(growth.changed)
+    }
+
+    /// An equal gateway, with the same id: O(n).
+    pub fn try_copy(&self) -> Result<Gateway, NoMemory>
+        ensures { IfOk result (λ copy. copy ≡ self.now) }
+    {
+        Ok(Gateway {
+            id: self.id,
+            incarnations: copy_all(&self.incarnations)?,
+            len: self.len,
+        })
     }
 }

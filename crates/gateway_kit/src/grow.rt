@@ -3,18 +3,23 @@ ghost use Rattle.std.specs.Prelude.{◌≡◌, IsTrue, IfOk, map, if◌then◌el
 ghost use Rattle.std.specs.FinMap as finite;
 ghost use Rattle.std.specs.FinMap.{entries, from_sorted};
 ghost use Rattle.std.specs.FinMap.Entries.{is_sorted};
-ghost use Rattle.gateway_kit.specs.Changing.{Prepares, entries_of, grown};
-ghost use Rattle.gateway_kit.specs.Keys.{entry_of, item_cmp};
+ghost use Rattle.gateway_kit.specs.Changing.{Prepares, entries_of, grown, held_as};
+ghost use Rattle.gateway_kit.specs.Keys.{entry_of, item_cmp, part_cmp};
+ghost use Rattle.gateway_kit.specs.Parts.{part_of};
+ghost use Rattle.gateway_kit.specs.Places.{IsPlace};
+ghost use Rattle.std.specs.declared.cmp.Ordering.{Ordering};
 ghost use Rattle.gateway_kit.specs.Weave.{weave};
 
 use crate::changes::Changes;
 use crate::draft::{Draft, place_of, put_cells};
 use crate::incarnation::Incarnation;
 use crate::part_item::PartItem;
-use crate::weave::woven;
-use attr_kit::{AttrSet, NoMemory};
-use point_kit::{Cell, Export, Stream, WriterId};
+use crate::seek::{after, place_from};
+use crate::weave::{Keyed, woven};
+use attr_kit::{AttrSet, NoMemory, TryCopy, copy_all};
+use point_kit::{Cell, Export, Held, Payload, Stream, WriterId};
 use std::alloc::Global;
+use std::cmp::Ordering;
 use std::mem;
 
 // Weaves new items in where there is room for them.
@@ -80,6 +85,32 @@ impl Incarnation {
         draft.finished(alloc, items)
     }
 
+    /// What another gateway's part of this incarnation changes: one walk over both.
+    pub(crate) fn changes_with(
+        &self,
+        alloc: Global,
+        other: &Incarnation,
+    ) -> Result<Changes, NoMemory>
+        ensures { IfOk result (λ c. Prepares (entries self.now.cells) (entries other.now.cells) c) }
+    {
+        let items = self.items();
+        let mut draft = Draft::new(alloc);
+        let mut hint = 0;
+        for item in other.items() {
+            let place = item_from(items, hint, item);
+            hint = after(place);
+            draft.bring(
+                items,
+                place,
+                &item.stream,
+                &item.attrs,
+                item.cell.time,
+                payload_of(&item.cell),
+            )?;
+        }
+        draft.finished(alloc, items)
+    }
+
     /// Makes the changes. Those that were prepared for more items, for which they have no room, add nothing new.
     pub(crate) fn install(&mut self, changes: Changes)
         ensures { self.new ≡ record self.old { cells = from_sorted (grown (entries self.old.cells) changes) } }
@@ -91,5 +122,41 @@ impl Incarnation {
         } = changes;
         put_cells(&mut self.items, updates);
         put_items(&mut self.items, fresh, room);
+    }
+}
+
+// The payload of a cell, none where there are several.
+fn payload_of(cell: &Cell) -> Option<&Payload>
+    ensures { held_as (option_copied result) ≡ cell.now.held }
+{
+    match &cell.held {
+        Held::One(payload) => Some(payload),
+        Held::Conflict => None,
+    }
+}
+
+// The place of an item's key among items, looked for from a hint on.
+fn item_from(items: &[PartItem], hint: usize, item: &PartItem) -> Result<usize, usize>
+    requires { IsTrue (is_sorted item_cmp (map entry_of items.now)) }
+    ensures { IsPlace item_cmp (map entry_of items.now) (item.now.stream, item.now.attrs) result }
+{
+    place_from(items, hint, item)
+}
+
+impl Keyed for Incarnation {
+    ghost order = { λ x y. part_cmp (part_of x).0 (part_of y).0 };
+
+    fn order(&self, other: &Incarnation) -> Ordering {
+        Incarnation::order(self, &other.writer, other.start)
+    }
+}
+
+impl TryCopy for Incarnation {
+    fn try_copy(&self) -> Result<Incarnation, NoMemory> {
+        Ok(Incarnation {
+            writer: self.writer.try_copy()?,
+            start: self.start,
+            items: copy_all(&self.items)?,
+        })
     }
 }

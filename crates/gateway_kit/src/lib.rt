@@ -7,10 +7,15 @@ mod draft;
 mod gateway;
 mod grow;
 mod incarnation;
+mod merging;
+mod part_draft;
 mod part_item;
 mod points;
 mod queries;
+mod seek;
 mod taking;
+#[cfg(test)]
+mod tests;
 mod walk;
 mod weave;
 

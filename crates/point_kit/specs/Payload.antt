@@ -7,6 +7,11 @@ use Rattle.point_kit.specs.declared.payload.Payload.TheVariants as payloads
 use Rattle.point_kit.specs.declared.shape.Shape.{Shape}
 use Rattle.point_kit.specs.declared.shape.Shape.TheVariants as shapes
 
+-- whether a payload has buckets, which are the memory that it owns
+abbrev pub has_buckets : Payload → Bool
+has_buckets (payloads.Hist c s l r) = true
+has_buckets p = false
+
 -- the payload's variant is not the shape's
 abbrev pub wrong_shape : Shape → Payload → Bool
 wrong_shape (shapes.Sum m) (payloads.Sum v) = false

@@ -1,5 +1,6 @@
 //! What a point says.
-ghost use Rattle.std.specs.Prelude.{◌≡◌, IfOk};
+ghost use Rattle.std.specs.Prelude.{◌≡◌, IfOk, OnErr, IsTrue};
+ghost use Rattle.point_kit.specs.Payload.{has_buckets};
 
 use attr_kit::{NoMemory, Seq, TryCopy};
 
@@ -25,6 +26,7 @@ impl Payload {
     /// An equal payload. That of a sum or a gauge takes no memory.
     pub fn try_copy(&self) -> Result<Payload, NoMemory>
         ensures value { IfOk result (λ copy. copy ≡ self.now) }
+        ensures no_memory { OnErr result (IsTrue (has_buckets self.now)) }
     {
         Ok(match self {
             Payload::Sum(sum) => Payload::Sum(*sum),

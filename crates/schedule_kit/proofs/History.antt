@@ -1,6 +1,6 @@
 -- Of lawful histories: starts and times rise, and entries are only added.
 use Rattle.std.proofs.Common.{◌≡◌, ℕ, ◌<◌, ◌≤◌, Bool, true, false, cond, ◌==◌, ◌⊎◌, inl, inr, List, [], ◌∷◌, ◌++◌, slice_index, refl, sym, ap, subst, ◌∙◌, arith, append_assoc}
-use Rattle.std.proofs.lemmas.Bool.{eqb-true, eq-eqb}
+use Rattle.std.proofs.lemmas.Bool.{eqb-true, eq-eqb, ne_eqb}
 use Rattle.std.proofs.lemmas.List.{append-nil}
 use Rattle.schedule_kit.specs.Members.{In}
 use Rattle.schedule_kit.specs.Schedule.{Act, Collection, start_of, last_of, entries_of, collections, IsAccepted, AreAccepted}
@@ -36,6 +36,13 @@ module _ {N : Type 0} (first : ℕ) where
     within (Collected time closing ∷ acts) l m (inl e) h = let same : m.time ≡ time = ap (λ (c : Collection N). c.time) e in omega arith
     within (Collected time closing ∷ acts) l m (inr i) h = let older = within acts l.1 m i h in omega arith
     within (Restarted start ∷ acts) l m i h = let older = started acts l.1 m i in let rises : start_of first acts < start = l.0 in absurd (omega arith)
+
+    -- nothing was recorded under a start to come
+    pub none_yet : (acts : List (Act N)) → AreAccepted fits first acts → (start : ℕ) → start_of first acts < start → entries_of first acts start ≡ []
+    none_yet [] l start h = refl
+    none_yet (Measured e ∷ acts) l start h = rw (ne_eqb (start_of first acts) start (omega arith)) (none_yet acts l.1 start h)
+    none_yet (Collected time closing ∷ acts) l start h = none_yet acts l.1 start h
+    none_yet (Restarted s ∷ acts) l start h = let rises : start_of first acts < s = l.0 in none_yet acts l.1 start (omega arith)
 
   extends_cond : (b : Bool) (xs ys : List N) (e : N) → Extends xs ys → Extends xs (cond b (ys ++ e ∷ []) ys)
   extends_cond true xs ys e h = (h.0 ++ e ∷ [], ap (λ l. l ++ e ∷ []) h.1 ∙ append_assoc xs h.0 (e ∷ []))

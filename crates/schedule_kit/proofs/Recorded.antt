@@ -27,12 +27,12 @@ use Rattle.schedule_kit.proofs.Totals.{total_same, total_zero, total-map, total-
 
 -- lists in which nothing stands twice
 module _ {A : Type 0} where
-  Once-append : (xs ys : List A) → Once xs → Once ys → ((x : A) → In x xs → In x ys → ⊥) → Once (xs ++ ys)
+  pub Once-append : (xs ys : List A) → Once xs → Once ys → ((x : A) → In x xs → In x ys → ⊥) → Once (xs ++ ys)
   Once-append [] ys p q apart = q
   Once-append (x ∷ xs) ys p q apart = (λ h. elim (In-append x xs ys h) [ inl a ↦ p.0 a | inr b ↦ apart x (inl refl) b ], Once-append xs ys p.1 q (λ y i j. apart y (inr i) j))
 
 module _ {A B : Type 0} where
-  Once-map : (f : A → B) → ((x y : A) → f x ≡ f y → x ≡ y) → (xs : List A) → Once xs → Once (map f xs)
+  pub Once-map : (f : A → B) → ((x y : A) → f x ≡ f y → x ≡ y) → (xs : List A) → Once xs → Once (map f xs)
   Once-map f tells [] h = tt
   Once-map f tells (x ∷ xs) h = (λ i. let r = map-In f (f x) xs i in h.0 (subst (λ (y : A). In y xs) (sym (tells x r.0 r.2)) r.1), Once-map f tells xs h.1)
 

@@ -1,0 +1,11 @@
+use Rattle.std.proofs.Common.{refl, ap, rules}
+use Rattle.gateway_kit.specs.Merging.{made}
+use Rattle.gateway_kit.specs.Parts.{part_of}
+use Rattle.gateway_kit.proofs.Moved.{set_amend, past_amend}
+use Rattle.gateway_kit.proofs.merging.put_part.Goals as goal
+
+pub returns-then-place-len-clause-change : goal.returns-then-place-len-clause-change
+returns-then-place-len-clause-change c = set_amend part_of made c.args.incarnations.now.items c.args.place c.index_mut.result.now c.install.new.self c.args.changes (search rules) c.index_mut.ensures.value (ap part_of c.install.ensures)
+
+pub returns-else-place-len-clause-change : goal.returns-else-place-len-clause-change
+returns-else-place-len-clause-change c = past_amend part_of made c.args.incarnations.now.items c.args.place c.args.changes (search rules)

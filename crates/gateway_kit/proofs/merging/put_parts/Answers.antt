@@ -1,0 +1,16 @@
+use Rattle.std.proofs.Common.{map, ap, sym, ◌∙◌}
+use Rattle.gateway_kit.specs.Amending.{amend}
+use Rattle.gateway_kit.specs.Merging.{made}
+use Rattle.gateway_kit.specs.Parts.{part_of}
+use Rattle.gateway_kit.proofs.Entries.{amended-push}
+use Rattle.gateway_kit.proofs.KeyOrders.{part_total}
+use Rattle.gateway_kit.proofs.merging.put_parts.Goals as goal
+
+pub loop-place-preserved : goal.loop-place-preserved
+loop-place-preserved c = record {
+  made =
+      c.put_part.ensures.change
+      ∙ ap (λ es. amend made es c.in-Some.place c.in-Some.changes) c.loop-place.invariant.made
+      ∙ sym (amended-push part_total made (map part_of c.args.incarnations.now.items) c.loop-place.yielded c.in-Some.place c.in-Some.changes);
+  len = c.put_part.ensures.len ∙ c.loop-place.invariant.len;
+}

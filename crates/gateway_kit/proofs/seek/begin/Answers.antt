@@ -1,0 +1,12 @@
+use Rattle.std.proofs.Common.{◌≡◌, ◌+◌, ◌-◌, ◌<◌, length, sym, subst, arith, ◌∙◌}
+use Rattle.std.proofs.lemmas.Grind.{common_steps}
+use Rattle.gateway_kit.specs.Weave.{AreBelow}
+use Rattle.gateway_kit.proofs.Seeking.{below_here}
+use Rattle.gateway_kit.proofs.seek.begin.Goals as goal
+
+pub returns-in-Less-clause-below : goal.returns-in-Less-clause-below
+returns-in-Less-clause-below g c =
+    let last = c.args.hint - 1 in
+    let within : last < length c.args.values.now = omega arith in
+    let back : last + 1 ≡ c.args.hint = omega arith in
+    subst (λ i. AreBelow g.T.Keyed.order c.args.values.now c.args.key.now i) back (below_here g.T.Keyed.order c.args.values.now c.args.key.now last c.index-values-last.result within c.index-values-last.is (sym c.order.ensures ∙ c.in-Less.is))
