@@ -1,5 +1,5 @@
 -- A recording in the points of one stream, once it is made in the others.
-use Rattle.std.proofs.Common.{◌≡◌, ℕ, ℤ, ◌<◌, ◌≢◌, Bool, true, false, cond, List, [], ◌∷◌, Option, Some, None, length, slice_get, get_or, set, map, refl, sym, ap, subst, ◌∙◌, suc, zero, arith, Result, Ok, Err, OnErr, OnOk, IfErr, IfSome, IsSome, is_some, not, ◌||◌, true≢false, find, replicate}
+use Rattle.std.proofs.Common.{◌≡◌, ℕ, ℤ, ◌<◌, ◌≢◌, Bool, true, false, cond, List, [], ◌∷◌, Option, Some, None, length, slice_get, get_or, set, map, refl, sym, ap, subst, ◌∙◌, suc, zero, arith, Result, Ok, Err, OnErr, OnOk, IfErr, IfSome, IsSome, is_some, is_none, not, ◌||◌, ◌&&◌, int_lt, pos, true≢false, find, replicate}
 use Rattle.std.specs.Map.{keys_of}
 use Rattle.std.specs.Option.{option_map}
 use Rattle.std.proofs.lemmas.List.{map-set, length-map, length-set}
@@ -7,7 +7,8 @@ use Rattle.attr_kit.specs.declared.attr_set.AttrSet.{AttrSet}
 use Rattle.attr_kit.specs.Keeping.{kept}
 use Rattle.point_kit.specs.declared.shape.Shape.{Shape}
 use Rattle.point_kit.specs.declared.stream.Stream.{Stream}
-use Rattle.plan_kit.specs.Plans.{Planned, stream_of, lacks, AreFeeds}
+use Rattle.plan_kit.specs.Plans.{Planned, stream_of, lacks, AreFeeds, AllRise, rises, only_rises}
+use Rattle.plan_kit.specs.declared.instrument.Kind.{Kind}
 use Rattle.plan_kit.specs.declared.feed.Feed.{Feed}
 use Rattle.agg_kit.specs.Feeds.{entries_of, series_at, shape_at, leaves_range, first_out, applied}
 use Rattle.agg_kit.specs.Payloads.{is_out_of_range}
@@ -18,6 +19,7 @@ use Rattle.agg_kit.specs.Tallies.{Points}
 use Rattle.agg_kit.specs.declared.fault.MeasureFault.{MeasureFault}
 use Rattle.agg_kit.specs.declared.fault.MeasureFault.TheVariants as faults
 use Rattle.agg_kit.specs.declared.series.Slot.{Slot}
+use Rattle.agg_kit.proofs.Refusals.{Every}
 use Rattle.agg_kit.proofs.Rounds.{got, there, shape-is}
 use Rattle.agg_kit.proofs.Sound.{sound-step, once-step}
 
@@ -172,14 +174,33 @@ sound-set (t ∷ ss) [] m s x a e k o = absurd a
 sound-set (t ∷ ss) (y ∷ xs) zero s x a e k o = let same : t ≡ s = cc in (subst (λ (u : Stream). AreSound u.shape x) (sym same) k, o, a.2)
 sound-set (t ∷ ss) (y ∷ xs) (suc m) s x a e k o = (a.0, a.1, sound-set ss xs m s x a.2 e k o)
 
-pub sound-applied : (p : Planned) (n : ℕ) (fs : List Feed) (a : AttrSet) (v : ℤ) (xs : List Points) → n ≡ length p.streams → AreFeeds n fs → AllSound p.streams xs → AllSound p.streams (applied p fs a v xs)
-sound-applied p n [] a v xs e fit s = s
-sound-applied p n (f ∷ fs) a v xs e fit s =
+pub sound-applied : (p : Planned) (n : ℕ) (fs : List Feed) (a : AttrSet) (v : ℤ) (xs : List Points) → n ≡ length p.streams → AreFeeds n fs
+    → Every (λ f. rises (shape_at p f.stream) ≡ true → int_lt v (pos 0) ≡ false) fs → AllSound p.streams xs → AllSound p.streams (applied p fs a v xs)
+sound-applied p n [] a v xs e fit r s = s
+sound-applied p n (f ∷ fs) a v xs e fit r s =
     let l : f.stream < length p.streams = subst (λ (k : ℕ). f.stream < k) e fit.0 in
     let t = there p.streams f.stream l in
     let after = applied p fs a v xs in
-    let sound = sound-applied p n fs a v xs e fit.2 s in
-    let here = sound-step (shape_at p f.stream) p.limit (series_at after f.stream) (kept f.keep a) v (sound-shape p after f.stream l sound) in
+    let sound = sound-applied p n fs a v xs e fit.2 r.1 s in
+    let here = sound-step (shape_at p f.stream) p.limit (series_at after f.stream) (kept f.keep a) v (sound-shape p after f.stream l sound) r.0 in
     sound-set p.streams after f.stream t.0 (step (shape_at p f.stream) p.limit (series_at after f.stream) (kept f.keep a) v) sound t.1
     (subst (λ (s : Shape). AreSound s (step (shape_at p f.stream) p.limit (series_at after f.stream) (kept f.keep a) v)) (shape-is p f.stream t.0 t.1) here)
     (once-step (shape_at p f.stream) p.limit (series_at after f.stream) (kept f.keep a) v (once-stream p.streams after f.stream sound))
+
+-- a value that is not refused as negative is at least 0 where totals only rise
+and-no : (a b : Bool) → (a && b) ≡ false → a ≡ true → b ≡ false
+and-no true b h e = h
+and-no false b h e = absurd (true≢false (sym e))
+
+pub rising-feeds : (p : Planned) (n : ℕ) (k : Kind) (fs : List Feed) (v : ℤ) → n ≡ length p.streams → AreFeeds n fs → AllRise p k fs → (only_rises k && int_lt v (pos 0)) ≡ false
+    → Every (λ f. rises (shape_at p f.stream) ≡ true → int_lt v (pos 0) ≡ false) fs
+rising-feeds p n k [] v e fit r h = tt
+rising-feeds p n k (f ∷ fs) v e fit r h =
+    let t = there p.streams f.stream (subst (λ (k : ℕ). f.stream < k) e fit.0) in (
+      (λ up. and-no (only_rises k) (int_lt v (pos 0)) h (r.0 t.0 t.1 (sym (ap rises (shape-is p f.stream t.0 t.1)) ∙ up))),
+      rising-feeds p n k fs v e fit.2 r.1 h,
+    )
+
+pub some-kind : {X : Type 0} (o : Option X) → is_none o ≡ false → (x : X) × (o ≡ Some x)
+some-kind None h = absurd (true≢false h)
+some-kind (Some x) h = (x, refl)

@@ -10,11 +10,12 @@ use Rattle.std.proofs.lemmas.List.{length-set, length-replicate}
 use Rattle.std.proofs.lemmas.List.Sums.{sum_by-set}
 use Rattle.indexmap.specs.IndexMap.{insert_entry}
 use Rattle.attr_kit.specs.declared.attr_set.AttrSet.{AttrSet}
-use Rattle.point_kit.specs.Payload.{wrong_shape, wrong_buckets, wrong_count, wrong_range}
+use Rattle.point_kit.specs.Payload.{wrong_shape, wrong_buckets, wrong_count, negative, wrong_range}
 use Rattle.point_kit.specs.declared.payload.Payload.{Payload}
 use Rattle.point_kit.specs.declared.payload.Payload.TheVariants as payloads
 use Rattle.point_kit.specs.declared.shape.Shape.{Shape}
 use Rattle.point_kit.specs.declared.shape.Shape.TheVariants as shapes
+use Rattle.plan_kit.specs.Plans.{rises}
 use Rattle.agg_kit.specs.Feeding.{set_eq, has_set, add_once}
 use Rattle.agg_kit.specs.Payloads.{bucket, buckets, fits_sum, payload_of, is_out_of_range}
 use Rattle.agg_kit.specs.Sound.{IsSound, AreSound, AreOnce}
@@ -44,12 +45,17 @@ sum-none (suc n) = sum-none n
 
 -- the payload of no values
 pub sound-none : (shape : Shape) → IsSound shape (payload_of shape [])
-sound-none (shapes.Sum m) = record { shaped = refl; bucketed = refl; counted = refl; ranged = refl }
-sound-none shapes.Gauge = record { shaped = refl; bucketed = refl; counted = refl; ranged = refl }
+sound-none (shapes.Sum m) = record { shaped = refl; bucketed = refl; counted = refl; risen = by m; ranged = refl }
+  where
+    by : (m : Bool) → (m && false) ≡ false
+    by true = refl
+    by false = refl
+sound-none shapes.Gauge = record { shaped = refl; bucketed = refl; counted = refl; risen = refl; ranged = refl }
 sound-none (shapes.Histogram bounds) = record {
   shaped = refl;
   bucketed = number_same (length (buckets bounds [])) (length bounds + 1) (ap length (buckets-none bounds) ∙ length-replicate (length bounds + 1) 0);
   counted = number_same (sum (buckets bounds [])) 0 (ap sum (buckets-none bounds) ∙ sum-none (length bounds + 1));
+  risen = refl;
   ranged = refl;
 }
 
@@ -58,6 +64,9 @@ pub first-fits : (shape : Shape) (v : ℤ) → FitsSigned w64 v → is_out_of_ra
 first-fits (shapes.Sum m) v f = ap (λ n. not (fits_sum n)) (+ℤ_idl v) ∙ ap not (signed-fits v f)
 first-fits shapes.Gauge v f = refl
 first-fits (shapes.Histogram bounds) v f = ap (λ n. not (fits_sum n) || false) (+ℤ_idl v) ∙ ap (λ b. not b || false) (signed-fits v f)
+
+not-below : (s v : ℤ) → int_lt s (pos 0) ≡ false → int_lt v (pos 0) ≡ false → int_lt (s +ℤ v) (pos 0) ≡ false
+not-below s v h k = grind (arith, ints)
 
 not-below-itself : (v : ℤ) → int_lt v v ≡ false
 not-below-itself v = grind (arith, ints)
@@ -69,16 +78,20 @@ pub more-counted : (bs : List ℕ) (j : ℕ) → j < length bs → sum (counted 
 more-counted bs j h = let e = sum_by-set (λ x. x) bs j (get_or bs j 0 + 1) 0 h in omega arith
 
 -- a payload with one more value
-pub sound-recorded : (shape : Shape) (p : Payload) (v : ℤ) → IsSound shape p → IsSound shape (recorded (bounds_of shape) p v)
-sound-recorded (shapes.Sum m) (payloads.Sum n) v s = record { shaped = refl; bucketed = refl; counted = refl; ranged = refl }
-sound-recorded (shapes.Sum m) (payloads.Gauge n) v s = absurd (true≢false s.shaped)
-sound-recorded (shapes.Sum m) (payloads.Hist c n bs w) v s = absurd (true≢false s.shaped)
-sound-recorded shapes.Gauge (payloads.Sum n) v s = absurd (true≢false s.shaped)
-sound-recorded shapes.Gauge (payloads.Gauge n) v s = record { shaped = refl; bucketed = refl; counted = refl; ranged = refl }
-sound-recorded shapes.Gauge (payloads.Hist c n bs w) v s = absurd (true≢false s.shaped)
-sound-recorded (shapes.Histogram bounds) (payloads.Sum n) v s = absurd (true≢false s.shaped)
-sound-recorded (shapes.Histogram bounds) (payloads.Gauge n) v s = absurd (true≢false s.shaped)
-sound-recorded (shapes.Histogram bounds) (payloads.Hist c n bs w) v s =
+pub sound-recorded : (shape : Shape) (p : Payload) (v : ℤ) → IsSound shape p → (rises shape ≡ true → int_lt v (pos 0) ≡ false) → IsSound shape (recorded (bounds_of shape) p v)
+sound-recorded (shapes.Sum m) (payloads.Sum n) v s r = record { shaped = refl; bucketed = refl; counted = refl; risen = by m refl s.risen r; ranged = refl }
+  where
+    by : (b : Bool) → m ≡ b → (b && int_lt n (pos 0)) ≡ false → (b ≡ true → int_lt v (pos 0) ≡ false) → (b && int_lt (n +ℤ v) (pos 0)) ≡ false
+    by true e h k = not-below n v h (k refl)
+    by false e h k = refl
+sound-recorded (shapes.Sum m) (payloads.Gauge n) v s r = absurd (true≢false s.shaped)
+sound-recorded (shapes.Sum m) (payloads.Hist c n bs w) v s r = absurd (true≢false s.shaped)
+sound-recorded shapes.Gauge (payloads.Sum n) v s r = absurd (true≢false s.shaped)
+sound-recorded shapes.Gauge (payloads.Gauge n) v s r = record { shaped = refl; bucketed = refl; counted = refl; risen = refl; ranged = refl }
+sound-recorded shapes.Gauge (payloads.Hist c n bs w) v s r = absurd (true≢false s.shaped)
+sound-recorded (shapes.Histogram bounds) (payloads.Sum n) v s r = absurd (true≢false s.shaped)
+sound-recorded (shapes.Histogram bounds) (payloads.Gauge n) v s r = absurd (true≢false s.shaped)
+sound-recorded (shapes.Histogram bounds) (payloads.Hist c n bs w) v s r =
     let long : length bs ≡ length bounds + 1 = same_number (length bs) (length bounds + 1) s.bucketed in
     let j = bucket bounds v in
     let l : j < length bs = subst (λ (k : ℕ). j < k) (sym long) (bucket-within bounds v) in
@@ -86,6 +99,7 @@ sound-recorded (shapes.Histogram bounds) (payloads.Hist c n bs w) v s =
       shaped = refl;
       bucketed = number_same (length (counted bs j)) (length bounds + 1) (length-set bs j (get_or bs j 0 + 1) ∙ long);
       counted = number_same (sum (counted bs j)) (c + 1) (more-counted bs j l ∙ ap (λ k. k + 1) (same_number (sum bs) c s.counted));
+      risen = not-below n v s.risen (r refl);
       ranged = wide w s.ranged;
     }
   where
@@ -116,10 +130,10 @@ sound-lookup shape (e ∷ es) b s = by (set_eq b e.0) (sound-lookup shape es b s
     by true h = s.0
     by false h = h
 
-pub sound-step : (shape : Shape) (limit : ℕ) (es : Points) (a : AttrSet) (v : ℤ) → AreSound shape es → AreSound shape (step shape limit es a v)
-sound-step shape limit es a v s =
+pub sound-step : (shape : Shape) (limit : ℕ) (es : Points) (a : AttrSet) (v : ℤ) → AreSound shape es → (rises shape ≡ true → int_lt v (pos 0) ≡ false) → AreSound shape (step shape limit es a v)
+sound-step shape limit es a v s r =
     let b = place limit es a in
-    sound-insert shape es b (payload_after shape es b v) s (sound-recorded shape (payload_at shape es b) v (sound-lookup shape es b s))
+    sound-insert shape es b (payload_after shape es b v) s (sound-recorded shape (payload_at shape es b) v (sound-lookup shape es b s) r)
 
 -- the sets of points with one more value
 keys-insert : (es : Points) (b : AttrSet) (t : Payload) → keys_of (insert_entry set_eq es b t) ≡ add_once (keys_of es) b

@@ -4,23 +4,15 @@ use Rattle.std.specs.Option.{option_map, option_map_or}
 use Rattle.attr_kit.specs.declared.attr_set.AttrSet.{AttrSet}
 use Rattle.attr_kit.specs.Refusing.{first, when}
 use Rattle.attr_kit.specs.Keeping.{kept}
-use Rattle.plan_kit.specs.Plans.{Planned, feeds_of, kind_of, stream_of}
+use Rattle.plan_kit.specs.Plans.{Planned, feeds_of, kind_of, stream_of, only_rises}
 use Rattle.plan_kit.specs.declared.feed.Feed.{Feed}
 use Rattle.plan_kit.specs.declared.instrument.Kind.{Kind}
-use Rattle.plan_kit.specs.declared.instrument.Kind.TheVariants as kinds
 use Rattle.agg_kit.specs.Entries.{Entry, arrivals}
 use Rattle.agg_kit.specs.Feeding.{own_sets, goes_to, fed}
 use Rattle.agg_kit.specs.Payloads.{payload_of, is_out_of_range}
 use Rattle.agg_kit.specs.Rounds.{values_of}
 use Rattle.agg_kit.specs.declared.fault.MeasureFault.{MeasureFault}
 use Rattle.agg_kit.specs.declared.fault.MeasureFault.TheVariants as faults
-
--- whether an instrument of this kind takes values of at least 0 alone
-abbrev pub only_rises : Kind → Bool
-only_rises kinds.Counter = true
-only_rises kinds.UpDown = false
-only_rises kinds.Gauge = false
-only_rises kinds.Histogram = true
 
 -- whether a value is below 0 where the instrument takes none
 abbrev pub is_negative_for : Option Kind → ℤ → Bool

@@ -2,18 +2,19 @@
 use Rattle.std.specs.Prelude.{◌≡◌, ℕ, ℤ, Bool, true, false, List, [], ◌∷◌}
 use Rattle.std.specs.Map.{keys_of}
 use Rattle.attr_kit.specs.declared.attr_set.AttrSet.{AttrSet}
-use Rattle.point_kit.specs.Payload.{wrong_shape, wrong_buckets, wrong_count, wrong_range}
+use Rattle.point_kit.specs.Payload.{wrong_shape, wrong_buckets, wrong_count, negative, wrong_range}
 use Rattle.point_kit.specs.declared.payload.Payload.{Payload}
 use Rattle.point_kit.specs.declared.shape.Shape.{Shape}
 use Rattle.point_kit.specs.declared.stream.Stream.{Stream}
 use Rattle.agg_kit.specs.Feeding.{has_set}
 use Rattle.agg_kit.specs.Tallies.{Points}
 
--- a payload of this shape: one bucket more than bounds, buckets that add up to the count, and a range of values
+-- a payload of this shape: one bucket more than bounds, buckets that add up to the count, a sum not below 0 where it only rises, and a range of values
 pub record IsSound (shape : Shape) (payload : Payload) : Type 0 where
   pub shaped : wrong_shape shape payload ≡ false
   pub bucketed : wrong_buckets shape payload ≡ false
   pub counted : wrong_count payload ≡ false
+  pub risen : negative shape payload ≡ false
   pub ranged : wrong_range payload ≡ false
 
 -- each payload of the points is of this shape

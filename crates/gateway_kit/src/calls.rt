@@ -1,5 +1,5 @@
 //! What a gateway is made of and told.
-ghost use Rattle.std.specs.Prelude.{◌≡◌, IfOk, OnOk, OnErr, Ok, [], ◌∷◌};
+ghost use Rattle.std.specs.Prelude.{◌≡◌, ◌≤◌, ◌^◌, IfOk, OnOk, OnErr, Ok, [], ◌∷◌};
 ghost use Rattle.std.specs.FinMap as finite;
 ghost use Rattle.point_kit.specs.Exports.{state, JoinsExports};
 ghost use Rattle.point_kit.specs.Join.{IsCommutative, IsAssociative, IsIdempotent, JoinsAbove, JoinsLeast};
@@ -26,14 +26,15 @@ impl Gateway {
     }
 
     pub fn id(&self) -> u32
-        ensures { result ≡ self.now.id }
+        ensures value { result ≡ self.now.id }
     {
         self.id
     }
 
-    /// The number of points: O(1).
+    /// The number of points, at most 2^62: O(1).
     pub fn len(&self) -> usize
-        ensures { result ≡ finite.len self.now.points }
+        ensures value { result ≡ finite.len self.now.points }
+        ensures bounded { result ≤ 2 ^ 62 }
     {
         self.len
     }
@@ -62,9 +63,9 @@ impl Gateway {
     /// Joins what another gateway holds, key by key, and answers the number of keys whose cell changed, the new ones
     /// among them.
     ///
-    /// One walk over both: O(n + k), and no key that is held is copied. Refused with `NoMemory`, with nothing changed,
-    /// where a growth was refused, or where the gateway would come to hold more than 2^62 points. An empty gateway
-    /// changes nothing and takes no memory.
+    /// O(n + k), and no key that is held is copied; new keys are put in order first, O(k log k). Refused with
+    /// `NoMemory`, with nothing changed, where a growth was refused, or where the gateway would come to hold more than
+    /// 2^62 points. An empty gateway changes nothing and takes no memory.
     #[tactic(auto, using(point_kit::proofs::PointLaws::points_commute, point_kit::proofs::PointLaws::points_associate, point_kit::proofs::PointLaws::points_idempotent, point_kit::proofs::PointLaws::points_above, point_kit::proofs::PointLaws::points_least, point_kit::proofs::PointLaws::states_join))]
     pub fn merge(&mut self, other: &Gateway) -> Result<u64, NoMemory>
         ensures id { self.new.id ≡ self.old.id }

@@ -1,8 +1,8 @@
--- Two instruments that feed one stream are equal.
-use Rattle.std.proofs.Common.{◌≡◌, ℕ, zero, suc, ◌+◌, ◌<◌, ◌==◌, ◌||◌, not, Bool, true, false, cond, List, [], ◌∷◌, map, Option, Some, None, slice_get, refl, sym, ap, ◌∙◌, subst, arith, true≢false}
+-- The first of equal instruments, and what instruments that feed one stream have in common.
+use Rattle.std.proofs.Common.{◌≡◌, ℕ, zero, suc, ◌+◌, ◌<◌, ◌≤◌, ◌==◌, ◌||◌, not, Bool, true, false, cond, List, [], ◌∷◌, map, Option, Some, None, slice_get, refl, sym, ap, ◌∙◌, subst, arith, true≢false, inl, inr}
 use Rattle.std.specs.List.{list_any, position_or_len}
 use Rattle.std.specs.Option.{option_map, option_map_or}
-use Rattle.std.proofs.lemmas.Bool.{ne_eqb}
+use Rattle.std.proofs.lemmas.Bool.{ne_eqb, cases_lt}
 use Rattle.std.proofs.lemmas.Option.{slice_get-map}
 use borrow.Author.Tests.{eqb-true}
 use Rattle.plan_kit.specs.declared.feed.Feed.{Feed}
@@ -84,3 +84,32 @@ plan_shared is ws limit i j s x y =
     let at_j = slice_get-map (source_of is ws) is j in
     let has : Option Source → Type 0 = λ o. has_stream s (option_map_or (λ t. t.feeds) o []) ≡ true in
     at_i ∙ alike is ws i j s (slice_get is i) (slice_get is j) refl refl (subst has at_i x) (subst has at_j y) ∙ sym at_j
+
+first_at_most : {A : Type 0} (t : A → Bool) (xs : List A) (i : ℕ) (x : A) → slice_get xs i ≡ Some x → t x ≡ true → position_or_len t xs ≤ i
+first_at_most t [] i x e p = cc
+first_at_most t (y ∷ ys) zero x e p =
+    let is : y ≡ x = cc in
+    let none : cond (not (t y)) (1 + position_or_len t ys) 0 ≡ 0 = ap (λ b. cond (not b) (1 + position_or_len t ys) 0) (ap t is ∙ p) in
+    omega arith
+first_at_most t (y ∷ ys) (suc i) x e p =
+    let rest = first_at_most t ys i x e p in
+    elim (t y) as (λ b. cond (not b) (1 + position_or_len t ys) 0 ≤ suc i) [ true ↦ omega arith | false ↦ omega arith ]
+
+-- what holds of all instruments before one that is not the first of its kind holds of it
+pub of_owner : (P : Instrument → Type 0) (is : List Instrument) (i : ℕ) (x : Instrument) → slice_get is i ≡ Some x → (owner_of is x ≡ i → ⊥) → ((k : ℕ) (y : Instrument) → k < i → slice_get is k ≡ Some y → P y) → P x
+of_owner P is i x at other before =
+    let first = first_passes (is_same x) is i x at (same_self x) in
+    let bound : owner_of is x ≤ i = first_at_most (is_same x) is i x at (same_self x) in
+    let below : owner_of is x < i = omega arith in
+    subst P (sym (exact_instruments x first.0 first.2)) (before (owner_of is x) first.0 below first.1)
+
+-- what holds of all before a place, and there, holds of all before the next
+pub before_next : (P : Instrument → Type 0) (is : List Instrument) (i : ℕ) (x : Instrument) → slice_get is i ≡ Some x → P x → ((k : ℕ) (y : Instrument) → k < i → slice_get is k ≡ Some y → P y) → (k : ℕ) (y : Instrument) → k < i + 1 → slice_get is k ≡ Some y → P y
+before_next P is i x at here before k y h e = elim (cases_lt k i) [
+  | inl below ↦ before k y below e
+  | inr above ↦
+      let same : i ≡ k = omega arith in
+      let both : Some x ≡ Some y = sym at ∙ ap (slice_get is) same ∙ e in
+      let one : x ≡ y = cc in
+      subst P one here
+]

@@ -47,10 +47,10 @@ fn joint(alloc: Global, named: &[Instrument], views: &[View], limit: u64) -> Res
     ensures err { IfErr result (λ f. f ≢ PlanFault.NoMemory → joint_fault named.now views.now limit ≡ Some f) }
 {
     let index = ViewIndex::build(alloc, views)?;
-    if let Some((instrument, view)) = misfit_at(alloc, &index, views, named)? {
+    let owners = owners(alloc, named)?;
+    if let Some((instrument, view)) = misfit_at(alloc, &index, views, named, owners.as_slice())? {
         return Err(PlanFault::BadAggregation(instrument, view));
     }
-    let owners = owners(alloc, named)?;
     let wanted = wanted_feeds(alloc, &index, views, named, owners.as_slice())?;
     if let Some((first, second)) = same_stream(alloc, wanted.as_slice())? {
         return Err(PlanFault::SameStream(first, second));

@@ -1,4 +1,8 @@
-//! Plans: which instrument feeds which streams.
+//! Plans: which instruments feed which streams (OpenTelemetry Metrics SDK, "View").
+//!
+//! `Plan::build` makes a plan of instruments and views. Each view that matches an instrument gives a feed, with the name,
+//! the keys and the aggregation of the view; where none matches, the default does. `Plan::feeds` reads the feeds of an
+//! instrument, and `Plan::stream` the stream of a number.
 #![tactic(auto)]
 
 mod build;

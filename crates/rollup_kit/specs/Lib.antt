@@ -1,3 +1,12 @@
+pub mod Asks
+pub mod Counts
+pub mod Groups
+pub mod Newest
+pub mod Parts
 pub mod Quote
+pub mod Rollups
 pub mod RowText
+pub mod Spans
+pub mod Standing
 pub mod TableText
+pub mod Walks

@@ -1,10 +1,21 @@
 //! Roll-ups of the points that a gateway holds, and the tables that they are printed as.
 #![tactic(auto)]
 
+mod ask;
+mod buckets;
+mod group;
+mod groups;
+mod query;
 mod quote;
 mod row;
 mod row_text;
+mod rows;
+mod span;
 mod table_text;
+#[cfg(test)]
+mod tests;
 
+pub use ask::Ask;
+pub use query::rollup;
 pub use row::{Row, Total};
 pub use table_text::table;

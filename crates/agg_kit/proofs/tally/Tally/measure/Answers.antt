@@ -1,6 +1,6 @@
 use Rattle.std.proofs.Common.{◌≡◌, ◌≢◌, ◌∙◌, ◌<◌, ℕ, ℤ, List, length, ap, sym, subst, refl, true, false, Option, None, Some, is_none, FitsSigned, w64, true≢false}
 use Rattle.std.proofs.lemmas.Int.{to_z-of_z}
-use Rattle.plan_kit.specs.Plans.{Planned, feeds_of, kind_of, AreFeeds}
+use Rattle.plan_kit.specs.Plans.{Planned, feeds_of, kind_of, AreFeeds, AllRise}
 use Rattle.plan_kit.specs.declared.feed.Feed.{Feed}
 use Rattle.plan_kit.specs.declared.instrument.Kind.{Kind}
 use Rattle.agg_kit.specs.Entries.{Entry, entry_of}
@@ -10,7 +10,7 @@ use Rattle.agg_kit.specs.Rounds.{StandsFor}
 use Rattle.agg_kit.specs.Tallies.{Tallied}
 use Rattle.agg_kit.specs.declared.fault.MeasureFault.{MeasureFault}
 use Rattle.agg_kit.specs.declared.fault.MeasureFault.TheVariants as faults
-use Rattle.agg_kit.proofs.Records.{stored-length, sound-applied, sound-either, on_ok, if_err}
+use Rattle.agg_kit.proofs.Records.{stored-length, sound-applied, sound-either, rising-feeds, some-kind, on_ok, if_err}
 use Rattle.agg_kit.proofs.Refusals.{kind-there, kind-gone, refused-gone, refused-negative, refused-told}
 use Rattle.agg_kit.proofs.Rounds.{stands-push}
 use Rattle.agg_kit.proofs.tally.Tally.measure.Goals as goal
@@ -48,12 +48,16 @@ invariant_of-self c =
     let fit : FitsSigned w64 c.args.value = c.ranges.value in
     let p = c.self.inside.plan in
     let before = entries_of c.self.inside.series.items in
+    let kind = some-kind (kind_of p c.args.instrument) (kind-there p c.args.instrument (c.in-Some.ensures.variant.0 refl)) in
+    let negative = simp to_z-of_z at c.if-is_negative.ensures in
+    let fine : is_negative_for (Some kind.0) c.args.value ≡ false = sym (negative ∙ ap (λ (k : Option Kind). is_negative_for k c.args.value) (c.kind.ensures.value ∙ kind.1)) in
     let feeds : AreFeeds (length p.streams) c.in-Some.feeds.now = subst (AreFeeds (length p.streams)) (sym c.in-Some.ensures.value) c.in-Some.ensures.feeds in
+    let rise = rising-feeds p (length p.streams) kind.0 c.in-Some.feeds.now c.args.value refl feeds (subst (AllRise p kind.0) (sym c.in-Some.ensures.value) (c.in-Some.ensures.rising kind.0 kind.1)) fine in
     record {
       overflow_is = c.self.invariant.overflow_is;
       sound = sound-either c.record.result p.streams before (applied p c.in-Some.feeds.now c.args.attrs.now c.args.value before) (entries_of c.record.new.series.items)
           (simp to_z-of_z at c.record.ensures.ok) c.record.ensures.unchanged c.self.invariant.sound
-          (sound-applied p (length p.streams) c.in-Some.feeds.now c.args.attrs.now c.args.value before refl feeds c.self.invariant.sound);
+          (sound-applied p (length p.streams) c.in-Some.feeds.now c.args.attrs.now c.args.value before refl feeds rise c.self.invariant.sound);
     }
 
 pub returns-clause-ok : goal.returns-clause-ok

@@ -6,8 +6,8 @@ use Rattle.gateway_kit.specs.View.{View}
 use Rattle.gateway_kit.proofs.Joining.{entries_points}
 use Rattle.gateway_kit.proofs.gateway.Gateway.len.Goals as goal
 
-pub returns : goal.returns
-returns c =
+pub returns-clause-value : goal.returns-clause-value
+returns-clause-value c =
     let parts = c.self.inside.incarnations.items in
     c.self.invariant.counted
     ∙ ap length (sym (entries_points parts c.self.invariant.sorted))

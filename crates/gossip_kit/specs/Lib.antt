@@ -1,0 +1,3 @@
+pub mod Gossip
+pub mod Views
+pub use Rattle.gateway_kit.specs.View

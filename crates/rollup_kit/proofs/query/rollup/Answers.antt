@@ -1,0 +1,17 @@
+use Rattle.std.proofs.Common.{◌≡◌, ◌∙◌, ℕ, subst}
+use Rattle.std.proofs.lemmas.Result.{IfOk-weaker}
+use Rattle.std.specs.FinMap.{entries}
+use Rattle.rollup_kit.specs.Standing.{Stands}
+use Rattle.rollup_kit.proofs.Answered.{answered}
+use Rattle.rollup_kit.proofs.query.rollup.Goals as goal
+
+pub returns : goal.returns
+returns c =
+    let ask = c.args.ask.now in
+    let state = c.args.gateway.now.points in
+    let groups = c.in_ok-groups.groups in
+    let stands : Stands ask c.buckets_for-buckets.result (entries state) groups = c.asked_points.ensures.whole c.buckets_for-buckets.result groups c.in_ok-groups.ensures in
+    record {
+      value = IfOk-weaker c.rows_of.result _ _ (λ rows is. is ∙ answered ask state groups c.rows_of.ensures.ordered
+          (subst (λ (n : ℕ). Stands ask n (entries state) groups) c.buckets_for-buckets.ensures stands)) c.rows_of.ensures.value;
+    }
