@@ -12,8 +12,6 @@ mod row_text;
 mod rows;
 mod span;
 mod table_text;
-#[cfg(test)]
-mod tests;
 
 pub use ask::Ask;
 pub use query::rollup;

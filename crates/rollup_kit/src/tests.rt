@@ -1,4 +1,0 @@
-//! What no clause says: the printed tables.
-mod builders;
-mod rollups;
-mod tables;
