@@ -14,8 +14,6 @@ mod points;
 mod queries;
 mod seek;
 mod taking;
-#[cfg(test)]
-mod tests;
 mod walk;
 mod weave;
 

@@ -28,6 +28,3 @@ pub use feed::Feed;
 pub use instrument::{Instrument, Kind};
 pub use plan::{DEFAULT_LIMIT, Plan};
 pub use view::{Aggregation, NameRule, View};
-
-#[cfg(test)]
-mod tests;
