@@ -1,0 +1,4 @@
+//! What no clause says: the printed tables.
+mod builders;
+mod rollups;
+mod tables;
