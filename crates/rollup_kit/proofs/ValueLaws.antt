@@ -1,5 +1,5 @@
 -- The payload of values is what they add up to, each by itself.
-use Rattle.std.proofs.Common.{◌≡◌, ℕ, ℤ, pos, zero, suc, ◌+◌, ◌+ℤ◌, ◌<◌, ◌≤◌, ◌⊎◌, inl, inr, Bool, true, false, cond, ◌==◌, List, [], ◌∷◌, map, length, get_or, slice_index, fold, Option, Some, refl, sym, ap, ◌∙◌, arith}
+use Rattle.std.proofs.Common.{◌≡◌, ℕ, ℤ, pos, suc, ◌+◌, ◌+ℤ◌, ◌<◌, ◌≤◌, inl, inr, Bool, false, cond, ◌==◌, List, [], ◌∷◌, length, slice_index, fold, refl, sym, ap, ◌∙◌, arith}
 use Rattle.std.specs.Prelude.{count_by, int_lt}
 use Rattle.std.specs.Int.{int_min, int_max}
 use Rattle.std.specs.List.{range_with_len}
@@ -11,19 +11,13 @@ use Rattle.std.proofs.lemmas.List.FromFn.{get_or-map-range_with_len, length-rang
 use Rattle.std.proofs.lemmas.List.Sums.{count_by-le-length, sum_by-cons}
 use Rattle.point_kit.specs.declared.shape.Shape.{Shape}
 use Rattle.point_kit.specs.declared.shape.Shape.TheVariants as shapes
-use Rattle.schedule_kit.specs.Totals as totals
 use Rattle.agg_kit.specs.Payloads as payloads
 use Rattle.agg_kit.specs.Payloads.{payload_of}
-use Rattle.rollup_kit.specs.Parts.{Parts, no_parts, plus_parts, parts_of, parts_of_value, bucket_of}
-use Rattle.rollup_kit.specs.Rollups.{AddsUp}
+use Rattle.rollup_kit.specs.Parts.{parts_of_value, bucket_of}
+use Rattle.rollup_kit.specs.Recordings.{added, PayloadsAddUp}
 use Rattle.rollup_kit.specs.Spans.{join_spans, span_of}
-use Rattle.rollup_kit.specs.declared.span.Span.{Span}
-use Rattle.rollup_kit.specs.declared.span.Span.TheVariants.{Empty, Known, Unknown}
-use Rattle.rollup_kit.proofs.PartLaws.{parts_add_up, spans_associate}
-
--- what values come to, each by itself
-abbrev pub added : Shape → List ℤ → Parts
-added shape vs = totals.total no_parts plus_parts (parts_of_value shape) vs
+use Rattle.rollup_kit.specs.declared.span.Span.TheVariants.{Empty, Known}
+use Rattle.rollup_kit.proofs.PartLaws.{spans_associate}
 
 total_from : (a : ℤ) (vs : List ℤ) (shape : Shape) → ((v : ℤ) → (parts_of_value shape v).sum ≡ v) → fold ◌+ℤ◌ a vs ≡ a +ℤ (added shape vs).sum
 total_from a [] shape own = omega (arith, ints)
@@ -99,7 +93,7 @@ no_span monotonic [] = refl
 no_span monotonic (v ∷ vs) = no_span monotonic vs
 
 -- a payload has the parts of its values
-pub payload_added : (shape : Shape) (vs : List ℤ) → AddsUp shape → parts_of (payload_of shape vs) ≡ added shape vs
+pub payload_added : PayloadsAddUp
 payload_added (shapes.Sum monotonic) vs h = λ i. record {
   sum = total_added vs (shapes.Sum monotonic) (λ v. refl) i;
   count = no_count monotonic vs i;
