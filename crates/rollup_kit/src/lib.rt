@@ -13,6 +13,8 @@ mod row_text;
 mod rows;
 mod span;
 mod table_text;
+#[cfg(test)]
+mod tests;
 
 pub use ask::Ask;
 pub use laws::{points_add_up, rows_are_recorded};

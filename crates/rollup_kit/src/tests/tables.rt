@@ -1,12 +1,12 @@
 //! The printed tables of rows.
-use super::builders::{row, set, text};
+use super::builders::{one, parts_of_row, row, single, truth, two, whole, worded};
 use crate::{Row, Total, table};
-use attr_kit::{AttrValue, Seq};
+use attr_kit::{AttrSet, NoMemory};
 use std::alloc::Global;
 use std::test::Fail;
 
 // Whether the table of these rows is this text.
-fn prints(alloc: Global, rows: Vec<Row>, wanted: &str) -> Result<bool, Fail> {
+fn prints(alloc: Global, rows: Vec<Row>, wanted: &str) -> Result<bool, NoMemory> {
     let printed = table(alloc, rows.as_slice())?;
     Ok(printed.as_str() == wanted)
 }
@@ -14,20 +14,15 @@ fn prints(alloc: Global, rows: Vec<Row>, wanted: &str) -> Result<bool, Fail> {
 #[test]
 fn no_rows_print_the_header(rt: HostRuntime) -> Result<(), Fail> {
     let alloc = rt.alloc();
-    assert!(rt;
-        prints(
-            alloc,
-            vec![in alloc]?,
-            "attributes  points  conflicts  total\n"
-        )?
-    );
+    let wanted = "attributes  points  conflicts  total\n";
+    assert!(rt; prints(alloc, Vec::new(alloc), wanted)?);
     Ok(())
 }
 
 #[test]
 fn an_empty_set_is_two_braces(rt: HostRuntime) -> Result<(), Fail> {
     let alloc = rt.alloc();
-    let rows = vec![in alloc; row(set(vec![in alloc]?)?, Total::Sum(7), 1, 0)]?;
+    let rows = one(alloc, row(AttrSet::empty(alloc), Total::Sum(7), 1, 0))?;
     let wanted = "attributes  points  conflicts  total\n{}               1          0  7\n";
     assert!(rt; prints(alloc, rows, wanted)?);
     Ok(())
@@ -36,11 +31,12 @@ fn an_empty_set_is_two_braces(rt: HostRuntime) -> Result<(), Fail> {
 #[test]
 fn columns_are_as_wide_as_their_longest_cell(rt: HostRuntime) -> Result<(), Fail> {
     let alloc = rt.alloc();
-    let route = vec![in alloc; (text(alloc, "route")?, AttrValue::Text(text(alloc, "x")?))]?;
-    let rows = vec![in alloc;
-        row(set(route)?, Total::Sum(3), 1, 0),
-        row(set(vec![in alloc]?)?, Total::Sum(-12), 1000000, 2000000000),
-    ]?;
+    let route = single(alloc, worded(alloc, "route", "x")?)?;
+    let rows = two(
+        alloc,
+        row(route, Total::Sum(3), 1, 0),
+        row(AttrSet::empty(alloc), Total::Sum(-12), 1000000, 2000000000),
+    )?;
     let wanted = "attributes    points   conflicts  total\n\
                   {route=\"x\"}        1           0  3\n\
                   {}           1000000  2000000000  -12\n";
@@ -48,33 +44,44 @@ fn columns_are_as_wide_as_their_longest_cell(rt: HostRuntime) -> Result<(), Fail
     Ok(())
 }
 
+// Whether the row of a set with one conflict of gauges is this line, in columns of this header.
+fn prints_set(
+    alloc: Global,
+    attrs: AttrSet,
+    wanted: &str,
+) -> Result<bool, NoMemory> {
+    prints(alloc, one(alloc, row(attrs, Total::Gauge(None), 0, 1))?, wanted)
+}
+
 #[test]
-fn every_kind_of_value_and_of_key(rt: HostRuntime) -> Result<(), Fail> {
+fn truths_and_plain_keys(rt: HostRuntime) -> Result<(), Fail> {
     let alloc = rt.alloc();
-    let pairs = vec![in alloc;
-        (text(alloc, "a.b_c-d/E9")?, AttrValue::Truth(true)),
-        (text(alloc, "b c")?, AttrValue::Truth(false)),
-        (text(alloc, "n")?, AttrValue::Whole(-9223372036854775808)),
-        (text(alloc, "t")?, AttrValue::Text(text(alloc, "")?)),
-    ]?;
-    let rows = vec![in alloc; row(set(pairs)?, Total::Gauge(None), 0, 1)]?;
-    let wanted =
-        "attributes                                                 points  conflicts  total\n\
-                  {a.b_c-d/E9=true,\"b c\"=false,n=-9223372036854775808,t=\"\"}       0          1  -\n";
-    assert!(rt; prints(alloc, rows, wanted)?);
+    let pairs = two(
+        alloc,
+        truth(alloc, "a.b_c-d/E9", true)?,
+        truth(alloc, "b c", false)?,
+    )?;
+    let wanted = "attributes                     points  conflicts  total\n\
+                  {a.b_c-d/E9=true,\"b c\"=false}       0          1  -\n";
+    assert!(rt; prints_set(alloc, AttrSet::from_pairs(pairs)?, wanted)?);
+    Ok(())
+}
+
+#[test]
+fn numbers_and_empty_texts(rt: HostRuntime) -> Result<(), Fail> {
+    let alloc = rt.alloc();
+    let pairs = two(alloc, whole(alloc, "n", i64::MIN)?, worded(alloc, "t", "")?)?;
+    let wanted = "attributes                     points  conflicts  total\n\
+                  {n=-9223372036854775808,t=\"\"}       0          1  -\n";
+    assert!(rt; prints_set(alloc, AttrSet::from_pairs(pairs)?, wanted)?);
     Ok(())
 }
 
 #[test]
 fn quotes_backslashes_and_control_characters_are_escaped(rt: HostRuntime) -> Result<(), Fail> {
     let alloc = rt.alloc();
-    let pairs = vec![in alloc;
-        (
-            text(alloc, "k\"")?,
-            AttrValue::Text(text(alloc, "\"\\\0\x1f\x7f\n ~\u{80}")?)
-        ),
-    ]?;
-    let rows = vec![in alloc; row(set(pairs)?, Total::Gauge(Some((300, 9))), 2, 0)]?;
+    let attrs = single(alloc, worded(alloc, "k\"", "\"\\\0\x1f\x7f\n ~\u{80}")?)?;
+    let rows = one(alloc, row(attrs, Total::Gauge(Some((300, 9))), 2, 0))?;
     let wanted = "attributes                         points  conflicts  total\n\
                   {\"k\\\"\"=\"\\\"\\\\\\x00\\x1f\\x7f\\x0a ~\u{80}\"}       2          0  9@300\n";
     assert!(rt; prints(alloc, rows, wanted)?);
@@ -85,16 +92,12 @@ fn quotes_backslashes_and_control_characters_are_escaped(rt: HostRuntime) -> Res
 fn widths_count_scalar_values(rt: HostRuntime) -> Result<(), Fail> {
     let alloc = rt.alloc();
     // a wide character, one of four bytes, and a letter with a combining accent: 1, 1 and 2 scalar values
-    let pairs = vec![in alloc;
-        (
-            text(alloc, "k")?,
-            AttrValue::Text(text(alloc, "界😀e\u{301}")?)
-        ),
-    ]?;
-    let rows = vec![in alloc;
-        row(set(pairs)?, Total::Sum(1), 1, 0),
-        row(set(vec![in alloc]?)?, Total::Sum(2), 1, 0),
-    ]?;
+    let attrs = single(alloc, worded(alloc, "k", "界😀e\u{301}")?)?;
+    let rows = two(
+        alloc,
+        row(attrs, Total::Sum(1), 1, 0),
+        row(AttrSet::empty(alloc), Total::Sum(2), 1, 0),
+    )?;
     let wanted = "attributes  points  conflicts  total\n\
                   {k=\"界😀e\u{301}\"}       1          0  1\n\
                   {}               1          0  2\n";
@@ -105,54 +108,16 @@ fn widths_count_scalar_values(rt: HostRuntime) -> Result<(), Fail> {
 #[test]
 fn a_histogram_shows_its_parts(rt: HostRuntime) -> Result<(), Fail> {
     let alloc = rt.alloc();
-    let buckets = Seq::from_vec(vec![in alloc; 1u128, 1, 2, 1]?);
-    let no_bounds = Seq::from_vec(vec![in alloc; 340282366920938463463374607431768211455u128]?);
-    let rows = vec![in alloc;
-        row(
-            set(vec![in alloc]?)?,
-            Total::Hist {
-                count: 5,
-                sum: 32,
-                buckets,
-                range: Some((0, 11))
-            },
-            1,
-            0
-        ),
-        row(
-            set(vec![in alloc]?)?,
-            Total::Hist {
-                count: 2,
-                sum: -13,
-                buckets: no_bounds,
-                range: None
-            },
-            1,
-            0
-        ),
-    ]?;
+    let all = parts_of_row(alloc, 5, 32, &[1, 1, 2, 1], Some((0, 11)))?;
+    let untold = parts_of_row(alloc, 2, -13, &[u128::MAX], None)?;
+    let rows = two(
+        alloc,
+        row(AttrSet::empty(alloc), all, 1, 0),
+        row(AttrSet::empty(alloc), untold, 1, 0),
+    )?;
     let wanted = "attributes  points  conflicts  total\n\
                   {}               1          0  count=5 sum=32 buckets=1,1,2,1 min=0 max=11\n\
                   {}               1          0  count=2 sum=-13 buckets=340282366920938463463374607431768211455\n";
     assert!(rt; prints(alloc, rows, wanted)?);
-    Ok(())
-}
-
-#[test]
-fn ten_thousand_rows(rt: HostRuntime) -> Result<(), Fail> {
-    let alloc = rt.alloc();
-    let mut rows = Vec::new(alloc);
-    for number in 0..10000u64 {
-        let pairs = vec![in alloc; (text(alloc, "n")?, AttrValue::Whole(number as i64))]?;
-        rows.push(row(set(pairs)?, Total::Sum(i128::from(number)), number, 0))?;
-    }
-    let printed = table(alloc, rows.as_slice())?;
-    let mut lines = 0u64;
-    for line in printed.as_str().lines() {
-        // the sets are at most 8 wide, the header is wider; totals are not padded
-        assert!(rt; line.len() >= 30 && line.len() <= 36);
-        lines = lines.wrapping_add(1);
-    }
-    assert_eq!(rt; lines, 10001);
     Ok(())
 }
