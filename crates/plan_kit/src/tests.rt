@@ -18,27 +18,33 @@ fn instrument(alloc: Global, name: &str, kind: Kind) -> Result<Instrument, NoMem
     })
 }
 
-fn exact(alloc: Global, name: &str) -> Result<NameRule, NoMemory> {
-    Ok(NameRule::Exact(text(alloc, name)?))
+// A view of this name alone, and one of every name.
+fn exact(alloc: Global, name: &str, aggregation: Aggregation) -> Result<View, NoMemory> {
+    let mut view = every(aggregation);
+    view.name = NameRule::Exact(text(alloc, name)?);
+    Ok(view)
 }
 
-fn view(name: NameRule, rename: Option<Txt>, aggregation: Aggregation) -> View {
+fn every(aggregation: Aggregation) -> View {
     View {
-        name,
+        name: NameRule::Every,
         kind: None,
         scope: None,
-        rename,
+        rename: None,
         keep: Keep::All,
         aggregation,
     }
 }
 
-fn numbers(alloc: Global, bounds: &[i64]) -> Result<Seq<i64>, NoMemory> {
-    Ok(Seq::from_vec(bounds.to_vec(alloc)?))
+// The same view, which gives this name.
+fn renamed(alloc: Global, view: View, name: &str) -> Result<View, NoMemory> {
+    let mut view = view;
+    view.rename = Some(text(alloc, name)?);
+    Ok(view)
 }
 
 fn buckets(alloc: Global, bounds: &[i64]) -> Result<Aggregation, NoMemory> {
-    Ok(Aggregation::Buckets(numbers(alloc, bounds)?))
+    Ok(Aggregation::Buckets(Seq::from_vec(bounds.to_vec(alloc)?)))
 }
 
 fn one<T: Drop>(alloc: Global, item: T) -> Result<Seq<T>, NoMemory> {
@@ -54,182 +60,199 @@ fn two<T: Drop>(alloc: Global, first: T, second: T) -> Result<Seq<T>, NoMemory> 
     Ok(Seq::from_vec(items))
 }
 
+// A counter of each name.
+fn counters(alloc: Global, first: &str, second: &str) -> Result<Seq<Instrument>, NoMemory> {
+    two(
+        alloc,
+        instrument(alloc, first, Kind::Counter)?,
+        instrument(alloc, second, Kind::Counter)?,
+    )
+}
+
+// Why there is no such plan.
+fn fault(
+    alloc: Global,
+    instruments: Seq<Instrument>,
+    views: Seq<View>,
+    limit: u64,
+) -> Option<PlanFault> {
+    Plan::build(alloc, instruments, views, limit).err()
+}
+
+fn fault_of_view(alloc: Global, view: View) -> Result<Option<PlanFault>, NoMemory> {
+    Ok(fault(alloc, Seq::new(alloc), one(alloc, view)?, DEFAULT_LIMIT))
+}
+
 #[test]
 fn a_name_begins_with_a_letter(rt: HostRuntime) -> Result<(), Fail> {
     let alloc = rt.alloc();
-    let instruments = two(
-        alloc,
-        instrument(alloc, "x", Kind::Counter)?,
-        instrument(alloc, "9x", Kind::Counter)?,
-    )?;
-    let plan = Plan::build(alloc, instruments, Seq::new(alloc), DEFAULT_LIMIT);
-    assert_eq!(rt; plan.err(), Some(PlanFault::BadName(1)));
+    let instruments = counters(alloc, "x", "9x")?;
+    let fault = fault(alloc, instruments, Seq::new(alloc), DEFAULT_LIMIT);
+    assert_eq!(rt; fault, Some(PlanFault::BadName(1)));
     Ok(())
 }
 
 #[test]
 fn a_unit_has_at_most_63_characters(rt: HostRuntime) -> Result<(), Fail> {
     let alloc = rt.alloc();
-    let mut instrument = instrument(alloc, "x", Kind::Counter)?;
-    instrument.unit = text(
-        alloc,
-        "aaaaaaaaaaaaaaaaaaaaaaaaaaaaaaaaaaaaaaaaaaaaaaaaaaaaaaaaaaaaaaaa",
-    )?;
-    assert_eq!(rt; instrument.unit.as_str().len(), 64);
-    let plan = Plan::build(
-        alloc,
-        one(alloc, instrument)?,
-        Seq::new(alloc),
-        DEFAULT_LIMIT,
-    );
-    assert_eq!(rt; plan.err(), Some(PlanFault::BadUnit(0)));
+    let mut counter = instrument(alloc, "x", Kind::Counter)?;
+    let long = "aaaaaaaaaaaaaaaaaaaaaaaaaaaaaaaaaaaaaaaaaaaaaaaaaaaaaaaaaaaaaaaa";
+    counter.unit = text(alloc, long)?;
+    let instruments = one(alloc, counter)?;
+    let fault = fault(alloc, instruments, Seq::new(alloc), DEFAULT_LIMIT);
+    assert_eq!(rt; fault, Some(PlanFault::BadUnit(0)));
     Ok(())
 }
 
 #[test]
 fn bounds_rise(rt: HostRuntime) -> Result<(), Fail> {
     let alloc = rt.alloc();
-    let views = two(
-        alloc,
-        view(NameRule::Every, None, buckets(alloc, &[-5, 5])?),
-        view(NameRule::Every, None, buckets(alloc, &[5, 5])?),
-    )?;
-    let plan = Plan::build(alloc, Seq::new(alloc), views, DEFAULT_LIMIT);
-    assert_eq!(rt; plan.err(), Some(PlanFault::BadBounds(1)));
+    let good = every(buckets(alloc, &[-5, 5])?);
+    let views = two(alloc, good, every(buckets(alloc, &[5, 5])?))?;
+    let fault = fault(alloc, Seq::new(alloc), views, DEFAULT_LIMIT);
+    assert_eq!(rt; fault, Some(PlanFault::BadBounds(1)));
     Ok(())
+}
+
+// A view with so many buckets.
+fn with_bounds(alloc: Global, count: i64) -> Result<View, NoMemory> {
+    let mut bounds = Vec::new(alloc);
+    for bound in 0..count {
+        bounds.push(bound)?;
+    }
+    Ok(every(Aggregation::Buckets(Seq::from_vec(bounds))))
 }
 
 #[test]
 fn bounds_are_at_most_1024(rt: HostRuntime) -> Result<(), Fail> {
     let alloc = rt.alloc();
-    let mut bounds: Vec<i64> = Vec::new(alloc);
-    for bound in 0..1024i64 {
-        bounds.push(bound)?;
-    }
-    let most = view(NameRule::Every, None, buckets(alloc, bounds.as_slice())?);
-    let plan = Plan::build(alloc, Seq::new(alloc), one(alloc, most)?, DEFAULT_LIMIT);
-    assert_eq!(rt; plan.err(), None);
-    bounds.push(1024)?;
-    let more = view(NameRule::Every, None, buckets(alloc, bounds.as_slice())?);
-    let plan = Plan::build(alloc, Seq::new(alloc), one(alloc, more)?, DEFAULT_LIMIT);
-    assert_eq!(rt; plan.err(), Some(PlanFault::BadBounds(0)));
+    let most = fault_of_view(alloc, with_bounds(alloc, 1024)?)?;
+    assert_eq!(rt; most, None);
+    let more = fault_of_view(alloc, with_bounds(alloc, 1025)?)?;
+    assert_eq!(rt; more, Some(PlanFault::BadBounds(0)));
     Ok(())
 }
 
 #[test]
 fn a_new_name_follows_the_rule_of_names(rt: HostRuntime) -> Result<(), Fail> {
     let alloc = rt.alloc();
-    let rename = view(
-        exact(alloc, "x")?,
-        Some(text(alloc, "a b")?),
-        Aggregation::Default,
-    );
-    let plan = Plan::build(alloc, Seq::new(alloc), one(alloc, rename)?, DEFAULT_LIMIT);
-    assert_eq!(rt; plan.err(), Some(PlanFault::BadRename(0)));
+    let view = exact(alloc, "x", Aggregation::Default)?;
+    let fault = fault_of_view(alloc, renamed(alloc, view, "a b")?)?;
+    assert_eq!(rt; fault, Some(PlanFault::BadRename(0)));
     Ok(())
 }
 
 #[test]
 fn a_view_of_every_name_gives_no_name(rt: HostRuntime) -> Result<(), Fail> {
     let alloc = rt.alloc();
-    let rename = view(
-        NameRule::Every,
-        Some(text(alloc, "a")?),
-        Aggregation::Default,
+    let view = renamed(alloc, every(Aggregation::Default), "a")?;
+    assert_eq!(rt;
+        fault_of_view(alloc, view)?,
+        Some(PlanFault::WildcardRename(0))
     );
-    let plan = Plan::build(alloc, Seq::new(alloc), one(alloc, rename)?, DEFAULT_LIMIT);
-    assert_eq!(rt; plan.err(), Some(PlanFault::WildcardRename(0)));
     Ok(())
+}
+
+// A counter and a gauge.
+fn counter_and_gauge(alloc: Global) -> Result<Seq<Instrument>, NoMemory> {
+    two(
+        alloc,
+        instrument(alloc, "a", Kind::Counter)?,
+        instrument(alloc, "b", Kind::Gauge)?,
+    )
 }
 
 // The least instrument comes first, and then its least view.
 #[test]
 fn an_aggregation_fits_the_kind(rt: HostRuntime) -> Result<(), Fail> {
     let alloc = rt.alloc();
-    let instruments = two(
-        alloc,
-        instrument(alloc, "a", Kind::Counter)?,
-        instrument(alloc, "b", Kind::Gauge)?,
-    )?;
     let views = two(
         alloc,
-        view(exact(alloc, "B")?, None, Aggregation::Sum),
-        view(exact(alloc, "A")?, None, Aggregation::LastValue),
+        exact(alloc, "B", Aggregation::Sum)?,
+        exact(alloc, "A", Aggregation::LastValue)?,
     )?;
-    let plan = Plan::build(alloc, instruments, views, DEFAULT_LIMIT);
-    assert_eq!(rt; plan.err(), Some(PlanFault::BadAggregation(0, 1)));
-    let gauge = one(alloc, instrument(alloc, "b", Kind::Gauge)?)?;
-    let sum = one(alloc, view(NameRule::Every, None, Aggregation::Sum))?;
-    let plan = Plan::build(alloc, gauge, sum, DEFAULT_LIMIT);
-    assert_eq!(rt; plan.err(), Some(PlanFault::BadAggregation(0, 0)));
+    let fault = fault(alloc, counter_and_gauge(alloc)?, views, DEFAULT_LIMIT);
+    assert_eq!(rt; fault, Some(PlanFault::BadAggregation(0, 1)));
     Ok(())
+}
+
+// Two views of every instrument.
+fn twice(alloc: Global, first: Aggregation, second: Aggregation) -> Result<Seq<View>, NoMemory> {
+    two(alloc, every(first), every(second))
 }
 
 #[test]
 fn two_feeds_of_one_instrument_have_two_streams(rt: HostRuntime) -> Result<(), Fail> {
     let alloc = rt.alloc();
     let counter = one(alloc, instrument(alloc, "a", Kind::Counter)?)?;
-    let views = two(
-        alloc,
-        view(NameRule::Every, None, Aggregation::Default),
-        view(NameRule::Every, None, Aggregation::Default),
-    )?;
-    let plan = Plan::build(alloc, counter, views, DEFAULT_LIMIT);
-    assert_eq!(rt; plan.err(), Some(PlanFault::SameStream(0, 0)));
+    let views = twice(alloc, Aggregation::Default, Aggregation::Sum)?;
+    let fault = fault(alloc, counter, views, DEFAULT_LIMIT);
+    assert_eq!(rt; fault, Some(PlanFault::SameStream(0, 0)));
     Ok(())
 }
 
 #[test]
 fn feeds_of_two_instruments_have_two_streams(rt: HostRuntime) -> Result<(), Fail> {
     let alloc = rt.alloc();
-    let instruments = two(
-        alloc,
-        instrument(alloc, "a", Kind::Counter)?,
-        instrument(alloc, "b", Kind::Counter)?,
-    )?;
-    let rename = view(
-        exact(alloc, "b")?,
-        Some(text(alloc, "A")?),
-        Aggregation::Default,
-    );
-    let plan = Plan::build(alloc, instruments, one(alloc, rename)?, DEFAULT_LIMIT);
-    assert_eq!(rt; plan.err(), Some(PlanFault::SameStream(0, 1)));
+    let view = exact(alloc, "b", Aggregation::Default)?;
+    let views = one(alloc, renamed(alloc, view, "A")?)?;
+    let fault = fault(alloc, counters(alloc, "a", "b")?, views, DEFAULT_LIMIT);
+    assert_eq!(rt; fault, Some(PlanFault::SameStream(0, 1)));
     Ok(())
 }
 
 #[test]
 fn the_limit_is_above_0(rt: HostRuntime) -> Result<(), Fail> {
     let alloc = rt.alloc();
-    let plan = Plan::build(alloc, Seq::new(alloc), Seq::new(alloc), 0);
-    assert_eq!(rt; plan.err(), Some(PlanFault::BadLimit));
+    let fault = fault(alloc, Seq::new(alloc), Seq::new(alloc), 0);
+    assert_eq!(rt; fault, Some(PlanFault::BadLimit));
     Ok(())
+}
+
+// A gauge whose unit is not ASCII.
+fn bad_unit(alloc: Global) -> Result<Instrument, NoMemory> {
+    let mut gauge = instrument(alloc, "a", Kind::Gauge)?;
+    gauge.unit = text(alloc, "µ")?;
+    Ok(gauge)
+}
+
+// A view with a bad new name that it may not give, and one with bad bounds.
+fn bad_views(alloc: Global) -> Result<Seq<View>, NoMemory> {
+    two(
+        alloc,
+        renamed(alloc, every(Aggregation::Sum), "9")?,
+        every(buckets(alloc, &[2, 1])?),
+    )
 }
 
 // All refusals at once, the lower numbers at the higher places.
 #[test]
-fn the_first_refusal_comes_first(rt: HostRuntime) -> Result<(), Fail> {
+fn a_bad_name_comes_first(rt: HostRuntime) -> Result<(), Fail> {
     let alloc = rt.alloc();
-    let mut unit = instrument(alloc, "a", Kind::Gauge)?;
-    unit.unit = text(alloc, "µ")?;
-    let instruments = two(
-        alloc,
-        unit.try_copy()?,
-        instrument(alloc, "", Kind::Counter)?,
-    )?;
-    let views = two(
-        alloc,
-        view(NameRule::Every, Some(text(alloc, "9")?), Aggregation::Sum),
-        view(NameRule::Every, None, buckets(alloc, &[2, 1])?),
-    )?;
-    let plan = Plan::build(alloc, instruments, views.try_copy()?, 0);
-    assert_eq!(rt; plan.err(), Some(PlanFault::BadName(1)));
-    let plan = Plan::build(alloc, one(alloc, unit)?, views.try_copy()?, 0);
-    assert_eq!(rt; plan.err(), Some(PlanFault::BadUnit(0)));
-    let plan = Plan::build(alloc, Seq::new(alloc), views, 0);
-    assert_eq!(rt; plan.err(), Some(PlanFault::BadBounds(1)));
-    let every = view(NameRule::Every, Some(text(alloc, "9")?), Aggregation::Sum);
-    let plan = Plan::build(alloc, Seq::new(alloc), one(alloc, every)?, 0);
-    assert_eq!(rt; plan.err(), Some(PlanFault::BadRename(0)));
+    let no_name = instrument(alloc, "", Kind::Counter)?;
+    let instruments = two(alloc, bad_unit(alloc)?, no_name)?;
+    let fault = fault(alloc, instruments, bad_views(alloc)?, 0);
+    assert_eq!(rt; fault, Some(PlanFault::BadName(1)));
+    Ok(())
+}
+
+#[test]
+fn a_bad_unit_comes_next(rt: HostRuntime) -> Result<(), Fail> {
+    let alloc = rt.alloc();
+    let instruments = one(alloc, bad_unit(alloc)?)?;
+    let fault = fault(alloc, instruments, bad_views(alloc)?, 0);
+    assert_eq!(rt; fault, Some(PlanFault::BadUnit(0)));
+    Ok(())
+}
+
+#[test]
+fn bad_bounds_come_before_bad_new_names(rt: HostRuntime) -> Result<(), Fail> {
+    let alloc = rt.alloc();
+    let bounds = fault(alloc, Seq::new(alloc), bad_views(alloc)?, 0);
+    assert_eq!(rt; bounds, Some(PlanFault::BadBounds(1)));
+    let view = renamed(alloc, every(Aggregation::Sum), "9")?;
+    let name = fault(alloc, Seq::new(alloc), one(alloc, view)?, 0);
+    assert_eq!(rt; name, Some(PlanFault::BadRename(0)));
     Ok(())
 }
 
@@ -237,21 +260,19 @@ fn the_first_refusal_comes_first(rt: HostRuntime) -> Result<(), Fail> {
 #[test]
 fn misfits_come_before_clashes(rt: HostRuntime) -> Result<(), Fail> {
     let alloc = rt.alloc();
-    let instruments = two(
-        alloc,
-        instrument(alloc, "a", Kind::Counter)?,
-        instrument(alloc, "b", Kind::Gauge)?,
-    )?;
-    let sums = two(
-        alloc,
-        view(NameRule::Every, None, Aggregation::Sum),
-        view(NameRule::Every, None, Aggregation::Sum),
-    )?;
-    let plan = Plan::build(alloc, instruments, sums.try_copy()?, 0);
-    assert_eq!(rt; plan.err(), Some(PlanFault::BadAggregation(1, 0)));
+    let sums = twice(alloc, Aggregation::Sum, Aggregation::Sum)?;
+    let fault = fault(alloc, counter_and_gauge(alloc)?, sums, 0);
+    assert_eq!(rt; fault, Some(PlanFault::BadAggregation(1, 0)));
+    Ok(())
+}
+
+#[test]
+fn clashes_come_before_the_limit(rt: HostRuntime) -> Result<(), Fail> {
+    let alloc = rt.alloc();
+    let sums = twice(alloc, Aggregation::Sum, Aggregation::Sum)?;
     let counter = one(alloc, instrument(alloc, "a", Kind::Counter)?)?;
-    let plan = Plan::build(alloc, counter, sums, 0);
-    assert_eq!(rt; plan.err(), Some(PlanFault::SameStream(0, 0)));
+    let fault = fault(alloc, counter, sums, 0);
+    assert_eq!(rt; fault, Some(PlanFault::SameStream(0, 0)));
     Ok(())
 }
 
@@ -262,7 +283,7 @@ fn shape_made(
     aggregation: Aggregation,
 ) -> Result<Option<Shape>, PlanFault> {
     let instruments = one(alloc, instrument(alloc, "a", kind)?)?;
-    let views = one(alloc, view(NameRule::Every, None, aggregation))?;
+    let views = one(alloc, every(aggregation))?;
     let plan = Plan::build(alloc, instruments, views, DEFAULT_LIMIT)?;
     match plan.stream(0) {
         Some(stream) => Ok(Some(stream.shape.try_copy()?)),
@@ -270,31 +291,45 @@ fn shape_made(
     }
 }
 
-fn sum(monotonic: bool) -> Result<Option<Shape>, PlanFault> {
-    Ok(Some(Shape::Sum { monotonic }))
+// Whether the stream has this shape.
+fn makes(alloc: Global, kind: Kind, aggregation: Aggregation, shape: Shape) -> bool {
+    shape_made(alloc, kind, aggregation) == Ok(Some(shape))
 }
 
-fn histogram(alloc: Global, bounds: &[i64]) -> Result<Option<Shape>, PlanFault> {
-    Ok(Some(Shape::Histogram {
-        bounds: numbers(alloc, bounds)?,
-    }))
+fn drops(alloc: Global, kind: Kind) -> bool {
+    shape_made(alloc, kind, Aggregation::Drop) == Ok(None)
+}
+
+fn refuses(alloc: Global, kind: Kind, aggregation: Aggregation) -> bool {
+    shape_made(alloc, kind, aggregation) == Err(PlanFault::BadAggregation(0, 0))
+}
+
+fn sum(monotonic: bool) -> Shape {
+    Shape::Sum { monotonic }
+}
+
+fn histogram(alloc: Global, bounds: &[i64]) -> Result<Shape, NoMemory> {
+    Ok(Shape::Histogram {
+        bounds: Seq::from_vec(bounds.to_vec(alloc)?),
+    })
 }
 
 #[test]
 fn aggregations_of_a_counter(rt: HostRuntime) -> Result<(), Fail> {
     let alloc = rt.alloc();
     let kind = Kind::Counter;
-    assert_eq!(rt; shape_made(alloc, kind, Aggregation::Default), sum(true));
-    assert_eq!(rt; shape_made(alloc, kind, Aggregation::Sum), sum(true));
-    assert_eq!(rt;
-        shape_made(alloc, kind, Aggregation::LastValue),
-        Err(PlanFault::BadAggregation(0, 0))
+    assert!(rt; makes(alloc, kind, Aggregation::Default, sum(true)));
+    assert!(rt; makes(alloc, kind, Aggregation::Sum, sum(true)));
+    assert!(rt; refuses(alloc, kind, Aggregation::LastValue));
+    assert!(rt;
+        makes(
+            alloc,
+            kind,
+            buckets(alloc, &[-1, 7])?,
+            histogram(alloc, &[-1, 7])?
+        )
     );
-    assert_eq!(rt;
-        shape_made(alloc, kind, buckets(alloc, &[-1, 7])?),
-        histogram(alloc, &[-1, 7])
-    );
-    assert_eq!(rt; shape_made(alloc, kind, Aggregation::Drop), Ok(None));
+    assert!(rt; drops(alloc, kind));
     Ok(())
 }
 
@@ -302,17 +337,11 @@ fn aggregations_of_a_counter(rt: HostRuntime) -> Result<(), Fail> {
 fn aggregations_of_an_up_down_counter(rt: HostRuntime) -> Result<(), Fail> {
     let alloc = rt.alloc();
     let kind = Kind::UpDown;
-    assert_eq!(rt; shape_made(alloc, kind, Aggregation::Default), sum(false));
-    assert_eq!(rt; shape_made(alloc, kind, Aggregation::Sum), sum(false));
-    assert_eq!(rt;
-        shape_made(alloc, kind, Aggregation::LastValue),
-        Err(PlanFault::BadAggregation(0, 0))
-    );
-    assert_eq!(rt;
-        shape_made(alloc, kind, buckets(alloc, &[1])?),
-        Err(PlanFault::BadAggregation(0, 0))
-    );
-    assert_eq!(rt; shape_made(alloc, kind, Aggregation::Drop), Ok(None));
+    assert!(rt; makes(alloc, kind, Aggregation::Default, sum(false)));
+    assert!(rt; makes(alloc, kind, Aggregation::Sum, sum(false)));
+    assert!(rt; refuses(alloc, kind, Aggregation::LastValue));
+    assert!(rt; refuses(alloc, kind, buckets(alloc, &[1])?));
+    assert!(rt; drops(alloc, kind));
     Ok(())
 }
 
@@ -320,23 +349,11 @@ fn aggregations_of_an_up_down_counter(rt: HostRuntime) -> Result<(), Fail> {
 fn aggregations_of_a_gauge(rt: HostRuntime) -> Result<(), Fail> {
     let alloc = rt.alloc();
     let kind = Kind::Gauge;
-    assert_eq!(rt;
-        shape_made(alloc, kind, Aggregation::Default),
-        Ok(Some(Shape::Gauge))
-    );
-    assert_eq!(rt;
-        shape_made(alloc, kind, Aggregation::Sum),
-        Err(PlanFault::BadAggregation(0, 0))
-    );
-    assert_eq!(rt;
-        shape_made(alloc, kind, Aggregation::LastValue),
-        Ok(Some(Shape::Gauge))
-    );
-    assert_eq!(rt;
-        shape_made(alloc, kind, buckets(alloc, &[1])?),
-        Err(PlanFault::BadAggregation(0, 0))
-    );
-    assert_eq!(rt; shape_made(alloc, kind, Aggregation::Drop), Ok(None));
+    assert!(rt; makes(alloc, kind, Aggregation::Default, Shape::Gauge));
+    assert!(rt; refuses(alloc, kind, Aggregation::Sum));
+    assert!(rt; makes(alloc, kind, Aggregation::LastValue, Shape::Gauge));
+    assert!(rt; refuses(alloc, kind, buckets(alloc, &[1])?));
+    assert!(rt; drops(alloc, kind));
     Ok(())
 }
 
@@ -344,148 +361,182 @@ fn aggregations_of_a_gauge(rt: HostRuntime) -> Result<(), Fail> {
 fn aggregations_of_a_histogram(rt: HostRuntime) -> Result<(), Fail> {
     let alloc = rt.alloc();
     let kind = Kind::Histogram;
-    let bounds = [
-        0, 5, 10, 25, 50, 75, 100, 250, 500, 750, 1000, 2500, 5000, 7500, 10000,
-    ];
-    assert_eq!(rt;
-        shape_made(alloc, kind, Aggregation::Default),
-        histogram(alloc, &bounds)
-    );
-    assert_eq!(rt; shape_made(alloc, kind, Aggregation::Sum), sum(true));
-    assert_eq!(rt;
-        shape_made(alloc, kind, Aggregation::LastValue),
-        Err(PlanFault::BadAggregation(0, 0))
-    );
-    assert_eq!(rt;
-        shape_made(alloc, kind, buckets(alloc, &[])?),
-        histogram(alloc, &[])
-    );
-    assert_eq!(rt; shape_made(alloc, kind, Aggregation::Drop), Ok(None));
+    assert!(rt; makes(alloc, kind, Aggregation::Sum, sum(true)));
+    assert!(rt; refuses(alloc, kind, Aggregation::LastValue));
+    assert!(rt; makes(alloc, kind, buckets(alloc, &[])?, histogram(alloc, &[])?));
+    assert!(rt; drops(alloc, kind));
     Ok(())
 }
 
-// A feed as its stream and its name.
-fn feed_of<'p>(plan: &'p Plan, place: usize, number: usize) -> Option<(usize, &'p str, &'p Keep)> {
-    let feed = plan.feeds(place)?.get(number)?;
-    let stream = plan.stream(feed.stream)?;
-    Some((feed.stream, stream.name.as_str(), &feed.keep))
+#[test]
+fn default_bounds(rt: HostRuntime) -> Result<(), Fail> {
+    let alloc = rt.alloc();
+    let bounds = [
+        0, 5, 10, 25, 50, 75, 100, 250, 500, 750, 1000, 2500, 5000, 7500, 10000,
+    ];
+    let shape = histogram(alloc, &bounds)?;
+    assert!(rt; makes(alloc, Kind::Histogram, Aggregation::Default, shape));
+    Ok(())
 }
 
-#[test]
-fn each_matching_view_gives_a_feed(rt: HostRuntime) -> Result<(), Fail> {
-    let alloc = rt.alloc();
+// Whether a feed of an instrument has this stream, its name, and keeps these keys.
+fn feeds(
+    plan: &Plan,
+    place: usize,
+    number: usize,
+    stream: usize,
+    name: &str,
+    keep: &Keep,
+) -> Option<bool> {
+    let feed = plan.feeds(place)?.get(number)?;
+    let own = plan.stream(feed.stream)?;
+    Some(feed.stream == stream && own.name.as_str() == name && feed.keep == *keep)
+}
+
+// How many feeds an instrument has.
+fn feeds_len(plan: &Plan, place: usize) -> Option<usize> {
+    Some(plan.feeds(place)?.len())
+}
+
+// Counters of one name, a gauge, and an up-down counter of the same name.
+fn instruments_of_three_kinds(alloc: Global) -> Result<Seq<Instrument>, NoMemory> {
     let mut instruments = Vec::new(alloc);
     instruments.push(instrument(alloc, "Hits", Kind::Counter)?)?;
     instruments.push(instrument(alloc, "heat", Kind::Gauge)?)?;
     instruments.push(instrument(alloc, "hITS", Kind::Counter)?)?;
     instruments.push(instrument(alloc, "hits", Kind::UpDown)?)?;
+    Ok(Seq::from_vec(instruments))
+}
+
+fn only_route(alloc: Global) -> Result<Keep, NoMemory> {
     let mut keys = Vec::new(alloc);
     keys.push(text(alloc, "route")?)?;
-    let keep = Keep::Only(AllowList::from_keys(keys)?);
-    let mut by_route = view(
-        exact(alloc, "HITS")?,
-        Some(text(alloc, "By_Route")?),
-        Aggregation::Sum,
-    );
-    by_route.keep = keep.try_copy()?;
-    by_route.kind = Some(Kind::Counter);
-    let mut other_scope = view(NameRule::Every, None, Aggregation::Default);
+    Ok(Keep::Only(AllowList::from_keys(keys)?))
+}
+
+// The hits of counters by route, under another name.
+fn by_route(alloc: Global) -> Result<View, NoMemory> {
+    let hits = exact(alloc, "HITS", Aggregation::Sum)?;
+    let mut view = renamed(alloc, hits, "By_Route")?;
+    view.keep = only_route(alloc)?;
+    view.kind = Some(Kind::Counter);
+    Ok(view)
+}
+
+// No heat, hits by route and as they are; and a view of another scope.
+fn four_views(alloc: Global) -> Result<Seq<View>, NoMemory> {
+    let mut other_scope = every(Aggregation::Default);
     other_scope.scope = Some(text(alloc, "lib")?);
     let mut views = Vec::new(alloc);
-    views.push(view(exact(alloc, "heat")?, None, Aggregation::Drop))?;
-    views.push(by_route)?;
+    views.push(exact(alloc, "heat", Aggregation::Drop)?)?;
+    views.push(by_route(alloc)?)?;
     views.push(other_scope)?;
-    views.push(view(exact(alloc, "hits")?, None, Aggregation::Default))?;
-    let plan = Plan::build(alloc, Seq::from_vec(instruments), Seq::from_vec(views), 7)?;
-    assert_eq!(rt; plan.limit(), 7);
+    views.push(exact(alloc, "hits", Aggregation::Default)?)?;
+    Ok(Seq::from_vec(views))
+}
+
+fn plan_of_hits(alloc: Global) -> Result<Plan, PlanFault> {
+    Plan::build(
+        alloc,
+        instruments_of_three_kinds(alloc)?,
+        four_views(alloc)?,
+        7,
+    )
+}
+
+#[test]
+fn each_matching_view_gives_a_feed(rt: HostRuntime) -> Result<(), Fail> {
+    let plan = plan_of_hits(rt.alloc())?;
+    let route = only_route(rt.alloc())?;
+    assert_eq!(rt; feeds_len(&plan, 0), Some(2));
+    assert_eq!(rt; feeds(&plan, 0, 0, 0, "by_route", &route), Some(true));
+    assert_eq!(rt; feeds(&plan, 0, 1, 1, "hits", &Keep::All), Some(true));
+    assert_eq!(rt; feeds(&plan, 3, 0, 2, "hits", &Keep::All), Some(true));
+    Ok(())
+}
+
+#[test]
+fn equal_instruments_have_the_same_feeds(rt: HostRuntime) -> Result<(), Fail> {
+    let plan = plan_of_hits(rt.alloc())?;
     assert_eq!(rt; plan.streams_len(), 3);
-    assert_eq!(rt; feed_of(&plan, 0, 0), Some((0, "by_route", &keep)));
-    assert_eq!(rt; feed_of(&plan, 0, 1), Some((1, "hits", &Keep::All)));
-    assert_eq!(rt; feed_of(&plan, 0, 2), None);
-    assert!(rt; plan.feeds(1).ok_or("no instrument")?.is_empty());
-    assert_eq!(rt;
-        plan.feeds(2).ok_or("no instrument")?,
-        plan.feeds(0).ok_or("no instrument")?
-    );
-    assert_eq!(rt; feed_of(&plan, 3, 0), Some((2, "hits", &Keep::All)));
-    assert!(rt; plan.feeds(4).is_none());
+    assert_eq!(rt; feeds_len(&plan, 2), Some(2));
+    assert_eq!(rt; feeds(&plan, 2, 1, 1, "hits", &Keep::All), Some(true));
+    Ok(())
+}
+
+#[test]
+fn a_dropped_instrument_has_no_feeds(rt: HostRuntime) -> Result<(), Fail> {
+    let plan = plan_of_hits(rt.alloc())?;
+    assert_eq!(rt; feeds_len(&plan, 1), Some(0));
+    assert_eq!(rt; feeds_len(&plan, 4), None);
     assert_eq!(rt; plan.kind(1), Some(Kind::Gauge));
     assert_eq!(rt; plan.kind(4), None);
+    assert_eq!(rt; plan.limit(), 7);
     Ok(())
 }
 
 #[test]
 fn an_instrument_without_views_has_the_default(rt: HostRuntime) -> Result<(), Fail> {
     let alloc = rt.alloc();
-    let instruments = two(
-        alloc,
-        instrument(alloc, "Load", Kind::UpDown)?,
-        instrument(alloc, "Temp", Kind::Gauge)?,
-    )?;
-    let views = one(alloc, view(exact(alloc, "other")?, None, Aggregation::Drop))?;
-    let plan = Plan::build(alloc, instruments, views, DEFAULT_LIMIT)?;
-    assert_eq!(rt; feed_of(&plan, 0, 0), Some((0, "load", &Keep::All)));
-    assert_eq!(rt; feed_of(&plan, 1, 0), Some((1, "temp", &Keep::All)));
-    let stream = plan.stream(0).ok_or("no stream")?;
+    let views = one(alloc, exact(alloc, "other", Aggregation::Drop)?)?;
+    let plan = Plan::build(alloc, counter_and_gauge(alloc)?, views, DEFAULT_LIMIT)?;
+    assert_eq!(rt; feeds(&plan, 0, 0, 0, "a", &Keep::All), Some(true));
+    assert_eq!(rt; feeds(&plan, 1, 0, 1, "b", &Keep::All), Some(true));
+    let stream = plan.shared_stream(1).ok_or("no stream")?.get();
+    assert_eq!(rt; stream.shape, Shape::Gauge);
     assert_eq!(rt; stream.scope.as_str(), "app");
-    assert_eq!(rt; stream.unit.as_str(), "1");
-    assert_eq!(rt;
-        plan.shared_stream(1).ok_or("no stream")?.get().shape,
-        Shape::Gauge
-    );
     Ok(())
 }
 
 #[test]
-fn a_copy_is_equal(rt: HostRuntime) -> Result<(), Fail> {
-    let alloc = rt.alloc();
-    let instruments = one(alloc, instrument(alloc, "a", Kind::Histogram)?)?;
-    let views = one(
-        alloc,
-        view(
-            exact(alloc, "a")?,
-            Some(text(alloc, "b")?),
-            Aggregation::Sum,
-        ),
-    )?;
-    assert_eq!(rt; instruments.try_copy()?, instruments);
-    assert_eq!(rt; views.try_copy()?, views);
-    let plan = Plan::build(alloc, instruments, views, 3)?;
-    let copy = plan.try_copy()?;
-    assert_eq!(rt; copy.limit(), 3);
-    assert_eq!(rt; copy.kind(0), Some(Kind::Histogram));
-    assert_eq!(rt;
-        copy.feeds(0).ok_or("no instrument")?,
-        plan.feeds(0).ok_or("no instrument")?
-    );
-    assert_eq!(rt;
-        copy.stream(0).ok_or("no stream")?,
-        plan.stream(0).ok_or("no stream")?
-    );
+fn a_copy_of_a_plan_is_equal(rt: HostRuntime) -> Result<(), Fail> {
+    let plan = plan_of_hits(rt.alloc())?.try_copy()?;
+    assert_eq!(rt; plan.limit(), 7);
+    assert_eq!(rt; plan.streams_len(), 3);
+    assert_eq!(rt; plan.kind(3), Some(Kind::UpDown));
+    assert_eq!(rt; feeds(&plan, 3, 0, 2, "hits", &Keep::All), Some(true));
     Ok(())
+}
+
+#[test]
+fn copies_of_views_and_instruments_are_equal(rt: HostRuntime) -> Result<(), Fail> {
+    let views = four_views(rt.alloc())?;
+    assert_eq!(rt; views.try_copy()?, views);
+    let instruments = instruments_of_three_kinds(rt.alloc())?;
+    assert_eq!(rt; instruments.try_copy()?, instruments);
+    Ok(())
+}
+
+// So many counters, and so many views of theirs.
+fn numbered_counters(alloc: Global, count: u32) -> Result<Seq<Instrument>, Fail> {
+    let mut instruments = Vec::new(alloc);
+    for number in 0..count {
+        let name = format!(in alloc; "name_{number}")?;
+        instruments.push(instrument(alloc, name.as_str(), Kind::Counter)?)?;
+    }
+    Ok(Seq::from_vec(instruments))
+}
+
+fn numbered_views(alloc: Global, count: u32) -> Result<Seq<View>, Fail> {
+    let mut views = Vec::new(alloc);
+    for number in 0..count {
+        let name = format!(in alloc; "name_{number}")?;
+        views.push(exact(alloc, name.as_str(), Aggregation::Sum)?)?;
+    }
+    Ok(Seq::from_vec(views))
 }
 
 // A walk over all pairs would be seen here.
 #[test]
 fn ten_thousand_instruments_and_views(rt: HostRuntime) -> Result<(), Fail> {
     let alloc = rt.alloc();
-    let mut instruments = Vec::new(alloc);
-    let mut views = Vec::new(alloc);
-    for number in 0..10_000u32 {
-        let name = format!(in alloc; "name_{number}")?;
-        instruments.push(instrument(alloc, name.as_str(), Kind::Counter)?)?;
-        views.push(view(exact(alloc, name.as_str())?, None, Aggregation::Sum))?;
-    }
-    let plan = Plan::build(
-        alloc,
-        Seq::from_vec(instruments),
-        Seq::from_vec(views),
-        DEFAULT_LIMIT,
-    )?;
+    let instruments = numbered_counters(alloc, 10_000)?;
+    let views = numbered_views(alloc, 10_000)?;
+    let plan = Plan::build(alloc, instruments, views, DEFAULT_LIMIT)?;
     assert_eq!(rt; plan.streams_len(), 10_000);
     assert_eq!(rt;
-        feed_of(&plan, 9_999, 0),
-        Some((9_999, "name_9999", &Keep::All))
+        feeds(&plan, 9_999, 0, 9_999, "name_9999", &Keep::All),
+        Some(true)
     );
     Ok(())
 }
