@@ -44,9 +44,9 @@ module _ {N I X : Type 0} (ask : Ask) (adds : AddsUp ask.stream.shape) (r : Roun
   fed_added are = record {
     sum = parts_add_up;
     named = λ w h p i. let q = map-In (λ (p : X × ℤ). (p.0, parts_of_value ask.stream.shape p.1)) p (fed w h) i in
-      subst (λ (x : X). In x (r.names w h)) (sym (ap (λ (p : X × Parts). p.0) q.2)) (are.named w h q.0 q.1);
+        subst (λ (x : X). In x (r.names w h)) (sym (ap (λ (p : X × Parts). p.0) q.2)) (are.named w h q.0 q.1);
     added = λ w h i s x asked there.
-      ap parts_of (are.payload w h i s x asked there) ∙ payload_added ask.stream.shape (values_under r.same_name x (fed w h)) adds ∙ added_where ask.stream.shape (r.same_name x) (fed w h);
+        ap parts_of (are.payload w h i s x asked there) ∙ payload_added ask.stream.shape (values_under r.same_name x (fed w h)) adds ∙ added_where ask.stream.shape (r.same_name x) (fed w h);
   }
 
   -- values under their keys, each as its parts

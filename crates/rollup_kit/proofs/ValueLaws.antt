@@ -76,7 +76,7 @@ buckets_added bounds vs place =
     elim (cases_lt place (length bounds + 1)) [
       | inl h ↦ get_or-map-range_with_len counted 0 (length bounds + 1) place place 0 h (omega arith) ∙ bucket_added bounds vs place
       | inr h ↦ let long : length (payloads.buckets bounds vs) ≡ length bounds + 1 = length-map (range_with_len 0 (length bounds + 1)) counted ∙ length-range_with_len 0 (length bounds + 1) in
-        get_or_past (payloads.buckets bounds vs) place 0 (omega arith) ∙ sym (past_all bounds vs place (omega arith))
+          get_or_past (payloads.buckets bounds vs) place 0 (omega arith) ∙ sym (past_all bounds vs place (omega arith))
     ]
 
 -- sums have nothing else

@@ -35,8 +35,8 @@ pub fn whole(alloc: Global, key: &str, value: i64) -> Result<(Txt, AttrValue), N
 }
 
 /// The set of one pair.
-pub fn single(alloc: Global, pair: (Txt, AttrValue)) -> Result<AttrSet, NoMemory> {
-    AttrSet::single(alloc, pair.0, pair.1)
+pub fn single(alloc: Global, pair: (Txt, AttrValue)) -> Result<AttrSet, Fail> {
+    Ok(AttrSet::from_pairs(one(alloc, pair)?)?)
 }
 
 pub fn row(attrs: AttrSet, total: Total, points: u64, conflicts: u64) -> Row {

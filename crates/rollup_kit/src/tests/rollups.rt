@@ -13,12 +13,7 @@ use std::test::Fail;
 const HEADER: &str = "attributes  points  conflicts  total\n";
 
 // Whether the table of what the gateway answers is this text.
-fn answers(
-    alloc: Global,
-    gateway: &Gateway,
-    ask: &Ask,
-    wanted: &str,
-) -> Result<bool, NoMemory> {
+fn answers(alloc: Global, gateway: &Gateway, ask: &Ask, wanted: &str) -> Result<bool, NoMemory> {
     let rows = rollup(alloc, gateway, ask)?;
     let printed = table(alloc, rows.as_slice())?;
     Ok(printed.as_str() == wanted)
@@ -226,7 +221,11 @@ fn routed(alloc: Global, route: &str, host: &str, sum: i64) -> Result<ExportPoin
 // Two services with requests by route and host.
 fn shop_and_till(alloc: Global) -> Result<Gateway, Fail> {
     let mut gateway = Gateway::new(alloc, 1);
-    let points = two(alloc, routed(alloc, "x", "p", 1)?, routed(alloc, "y", "p", 2)?)?;
+    let points = two(
+        alloc,
+        routed(alloc, "x", "p", 1)?,
+        routed(alloc, "y", "p", 2)?,
+    )?;
     gateway.take(&export(alloc, "shop", 1, 200, points)?)?;
     let points = one(alloc, routed(alloc, "x", "q", 4)?)?;
     gateway.take(&export(alloc, "till", 2, 200, points)?)?;
@@ -277,13 +276,17 @@ fn only_points_with_the_pairs(rt: HostRuntime) -> Result<(), Fail> {
     let wanted = "attributes  points  conflicts  total\n{}               2          0  3\n";
     assert!(rt; answers(alloc, &gateway, &host, wanted)?);
     // no point has two values of one key
-    let pairs = two(alloc, worded(alloc, "host", "p")?, worded(alloc, "host", "q")?)?;
+    let pairs = two(
+        alloc,
+        worded(alloc, "host", "p")?,
+        worded(alloc, "host", "q")?,
+    )?;
     assert!(rt; answers(alloc, &gateway, &having(alloc, pairs)?, HEADER)?);
     Ok(())
 }
 
 // A sum under each number below this one.
-fn numbered(alloc: Global, numbers: i64) -> Result<Vec<ExportPoint>, NoMemory> {
+fn numbered(alloc: Global, numbers: i64) -> Result<Vec<ExportPoint>, Fail> {
     let mut points = Vec::new(alloc);
     for number in 0..numbers {
         let attrs = single(alloc, whole(alloc, "n", number)?)?;

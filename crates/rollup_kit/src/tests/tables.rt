@@ -45,12 +45,12 @@ fn columns_are_as_wide_as_their_longest_cell(rt: HostRuntime) -> Result<(), Fail
 }
 
 // Whether the row of a set with one conflict of gauges is this line, in columns of this header.
-fn prints_set(
-    alloc: Global,
-    attrs: AttrSet,
-    wanted: &str,
-) -> Result<bool, NoMemory> {
-    prints(alloc, one(alloc, row(attrs, Total::Gauge(None), 0, 1))?, wanted)
+fn prints_set(alloc: Global, attrs: AttrSet, wanted: &str) -> Result<bool, NoMemory> {
+    prints(
+        alloc,
+        one(alloc, row(attrs, Total::Gauge(None), 0, 1))?,
+        wanted,
+    )
 }
 
 #[test]
