@@ -7,8 +7,10 @@ mod Joined
 pub mod Newest
 pub mod PartLaws
 pub mod Queried
+pub mod Recordings
 pub mod RowLaws
 pub mod SetOrders
 pub mod Snoc
 pub mod Steps
+pub mod ValueLaws
 pub mod Walked

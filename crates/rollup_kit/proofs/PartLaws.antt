@@ -1,11 +1,11 @@
 -- Parts add up in any order.
-use Rattle.std.proofs.Common.{◌≡◌, ℕ, ℤ, pos, ◌+◌, ◌+ℤ◌, refl, sym, ap, ◌∙◌, arith}
+use Rattle.std.proofs.Common.{◌≡◌, ℕ, ℤ, pos, ◌+◌, ◌+ℤ◌, refl, arith}
 use Rattle.std.proofs.lemmas.Int.{ints, clamps}
 use Rattle.std.specs.Int.{int_min, int_max}
 use Rattle.schedule_kit.specs.Totals.{IsSum}
 use Rattle.rollup_kit.specs.declared.span.Span.{Span}
 use Rattle.rollup_kit.specs.declared.span.Span.TheVariants.{Empty, Known, Unknown}
-use Rattle.rollup_kit.specs.Parts.{Parts, no_parts, plus_parts}
+use Rattle.rollup_kit.specs.Parts.{no_parts, plus_parts}
 use Rattle.rollup_kit.specs.Spans.{join_spans}
 
 min_commutes : (a b : ℤ) → int_min a b ≡ int_min b a
@@ -31,7 +31,7 @@ spans_commute Unknown Empty = refl
 spans_commute Unknown (Known c d) = refl
 spans_commute Unknown Unknown = refl
 
-spans_associate : (a b c : Span) → join_spans (join_spans a b) c ≡ join_spans a (join_spans b c)
+pub spans_associate : (a b c : Span) → join_spans (join_spans a b) c ≡ join_spans a (join_spans b c)
 spans_associate Empty b c = refl
 spans_associate (Known a b) Empty c = refl
 spans_associate (Known a b) (Known d e) Empty = refl

@@ -8,7 +8,7 @@ use Rattle.point_kit.specs.declared.payload.Payload.{Payload}
 use Rattle.point_kit.specs.declared.shape.Shape.{Shape}
 use Rattle.point_kit.specs.declared.shape.Shape.TheVariants as shapes
 use Rattle.schedule_kit.specs.Rows as rows
-use Rattle.rollup_kit.specs.Asks.{Attributes, attributes_cmp, asks, group}
+use Rattle.rollup_kit.specs.Asks.{attributes_cmp, asks, group}
 use Rattle.rollup_kit.specs.Parts.{Parts, no_parts, plus_parts, parts_of, parts_of_value}
 use Rattle.rollup_kit.specs.Rollups.{AddsUp, total_of, row_of, newest, rollup_rows, recorded_rows}
 use Rattle.rollup_kit.specs.declared.ask.Ask.{Ask}

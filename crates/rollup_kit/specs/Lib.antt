@@ -4,6 +4,7 @@ pub mod Groups
 pub mod Newest
 pub mod Parts
 pub mod Quote
+pub mod Recordings
 pub mod Rollups
 pub mod RowText
 pub mod Spans

@@ -1,13 +1,12 @@
 -- The rows that answer an ask, of what a gateway holds and of what was recorded.
-use Rattle.std.specs.Prelude.{ℕ, ℤ, ◌+◌, Bool, ◌&&◌, cond, List, [], ◌∷◌, map, filter, length, Option, Some, None}
+use Rattle.std.specs.Prelude.{ℕ, ℤ, ◌+◌, cond, List, map, length, Option, Some, None}
 use Rattle.std.specs.List.{filter_map}
 use Rattle.std.specs.Option.{option_map}
 use Rattle.std.specs.FinMap.{FinMap, entries}
 use Rattle.point_kit.specs.Orders.{key_cmp}
-use Rattle.point_kit.specs.States.{tabulate}
 use Rattle.point_kit.specs.declared.cell.Cell.{Cell}
 use Rattle.point_kit.specs.declared.cell.Held.{Held}
-use Rattle.point_kit.specs.declared.cell.Held.TheVariants.{One, Conflict}
+use Rattle.point_kit.specs.declared.cell.Held.TheVariants.{One}
 use Rattle.point_kit.specs.declared.key.Key.{Key}
 use Rattle.point_kit.specs.declared.payload.Payload.{Payload}
 use Rattle.point_kit.specs.declared.payload.Payload.TheVariants as payloads

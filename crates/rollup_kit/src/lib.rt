@@ -5,6 +5,7 @@ mod ask;
 mod buckets;
 mod group;
 mod groups;
+mod laws;
 mod query;
 mod quote;
 mod row;
@@ -12,8 +13,11 @@ mod row_text;
 mod rows;
 mod span;
 mod table_text;
+#[cfg(test)]
+mod tests;
 
 pub use ask::Ask;
+pub use laws::{points_add_up, rows_are_recorded};
 pub use query::rollup;
 pub use row::{Row, Total};
 pub use table_text::table;

@@ -1,0 +1,123 @@
+//! The printed tables of rows.
+use super::builders::{one, parts_of_row, row, single, truth, two, whole, worded};
+use crate::{Row, Total, table};
+use attr_kit::{AttrSet, NoMemory};
+use std::alloc::Global;
+use std::test::Fail;
+
+// Whether the table of these rows is this text.
+fn prints(alloc: Global, rows: Vec<Row>, wanted: &str) -> Result<bool, NoMemory> {
+    let printed = table(alloc, rows.as_slice())?;
+    Ok(printed.as_str() == wanted)
+}
+
+#[test]
+fn no_rows_print_the_header(rt: HostRuntime) -> Result<(), Fail> {
+    let alloc = rt.alloc();
+    let wanted = "attributes  points  conflicts  total\n";
+    assert!(rt; prints(alloc, Vec::new(alloc), wanted)?);
+    Ok(())
+}
+
+#[test]
+fn an_empty_set_is_two_braces(rt: HostRuntime) -> Result<(), Fail> {
+    let alloc = rt.alloc();
+    let rows = one(alloc, row(AttrSet::empty(alloc), Total::Sum(7), 1, 0))?;
+    let wanted = "attributes  points  conflicts  total\n{}               1          0  7\n";
+    assert!(rt; prints(alloc, rows, wanted)?);
+    Ok(())
+}
+
+#[test]
+fn columns_are_as_wide_as_their_longest_cell(rt: HostRuntime) -> Result<(), Fail> {
+    let alloc = rt.alloc();
+    let route = single(alloc, worded(alloc, "route", "x")?)?;
+    let rows = two(
+        alloc,
+        row(route, Total::Sum(3), 1, 0),
+        row(AttrSet::empty(alloc), Total::Sum(-12), 1000000, 2000000000),
+    )?;
+    let wanted = "attributes    points   conflicts  total\n\
+                  {route=\"x\"}        1           0  3\n\
+                  {}           1000000  2000000000  -12\n";
+    assert!(rt; prints(alloc, rows, wanted)?);
+    Ok(())
+}
+
+// Whether the row of a set with one conflict of gauges is this line, in columns of this header.
+fn prints_set(alloc: Global, attrs: AttrSet, wanted: &str) -> Result<bool, NoMemory> {
+    prints(
+        alloc,
+        one(alloc, row(attrs, Total::Gauge(None), 0, 1))?,
+        wanted,
+    )
+}
+
+#[test]
+fn truths_and_plain_keys(rt: HostRuntime) -> Result<(), Fail> {
+    let alloc = rt.alloc();
+    let pairs = two(
+        alloc,
+        truth(alloc, "a.b_c-d/E9", true)?,
+        truth(alloc, "b c", false)?,
+    )?;
+    let wanted = "attributes                     points  conflicts  total\n\
+                  {a.b_c-d/E9=true,\"b c\"=false}       0          1  -\n";
+    assert!(rt; prints_set(alloc, AttrSet::from_pairs(pairs)?, wanted)?);
+    Ok(())
+}
+
+#[test]
+fn numbers_and_empty_texts(rt: HostRuntime) -> Result<(), Fail> {
+    let alloc = rt.alloc();
+    let pairs = two(alloc, whole(alloc, "n", i64::MIN)?, worded(alloc, "t", "")?)?;
+    let wanted = "attributes                     points  conflicts  total\n\
+                  {n=-9223372036854775808,t=\"\"}       0          1  -\n";
+    assert!(rt; prints_set(alloc, AttrSet::from_pairs(pairs)?, wanted)?);
+    Ok(())
+}
+
+#[test]
+fn quotes_backslashes_and_control_characters_are_escaped(rt: HostRuntime) -> Result<(), Fail> {
+    let alloc = rt.alloc();
+    let attrs = single(alloc, worded(alloc, "k\"", "\"\\\0\x1f\x7f\n ~\u{80}")?)?;
+    let rows = one(alloc, row(attrs, Total::Gauge(Some((300, 9))), 2, 0))?;
+    let wanted = "attributes                         points  conflicts  total\n\
+                  {\"k\\\"\"=\"\\\"\\\\\\x00\\x1f\\x7f\\x0a ~\u{80}\"}       2          0  9@300\n";
+    assert!(rt; prints(alloc, rows, wanted)?);
+    Ok(())
+}
+
+#[test]
+fn widths_count_scalar_values(rt: HostRuntime) -> Result<(), Fail> {
+    let alloc = rt.alloc();
+    // a wide character, one of four bytes, and a letter with a combining accent: 1, 1 and 2 scalar values
+    let attrs = single(alloc, worded(alloc, "k", "界😀e\u{301}")?)?;
+    let rows = two(
+        alloc,
+        row(attrs, Total::Sum(1), 1, 0),
+        row(AttrSet::empty(alloc), Total::Sum(2), 1, 0),
+    )?;
+    let wanted = "attributes  points  conflicts  total\n\
+                  {k=\"界😀e\u{301}\"}       1          0  1\n\
+                  {}               1          0  2\n";
+    assert!(rt; prints(alloc, rows, wanted)?);
+    Ok(())
+}
+
+#[test]
+fn a_histogram_shows_its_parts(rt: HostRuntime) -> Result<(), Fail> {
+    let alloc = rt.alloc();
+    let all = parts_of_row(alloc, 5, 32, &[1, 1, 2, 1], Some((0, 11)))?;
+    let untold = parts_of_row(alloc, 2, -13, &[u128::MAX], None)?;
+    let rows = two(
+        alloc,
+        row(AttrSet::empty(alloc), all, 1, 0),
+        row(AttrSet::empty(alloc), untold, 1, 0),
+    )?;
+    let wanted = "attributes  points  conflicts  total\n\
+                  {}               1          0  count=5 sum=32 buckets=1,1,2,1 min=0 max=11\n\
+                  {}               1          0  count=2 sum=-13 buckets=340282366920938463463374607431768211455\n";
+    assert!(rt; prints(alloc, rows, wanted)?);
+    Ok(())
+}
