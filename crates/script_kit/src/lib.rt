@@ -13,6 +13,8 @@ mod pieces;
 mod queries;
 mod shapes;
 mod streams;
+#[cfg(test)]
+mod tests;
 mod words;
 
 pub use fault::ScriptFault;

@@ -2,117 +2,136 @@
 use crate::{
     Command, Declaration, Line, Query, ScriptFault, first_line, parse_line, read_script, write_text,
 };
+use std::alloc::Global;
 use std::io;
 use std::io::{Error, ErrorKind, Read, Write};
 use std::test::Fail;
 
-fn is_bad(rt: &HostRuntime, text: &str) -> Result<bool, Fail> {
-    Ok(parse_line(rt.alloc(), text.as_bytes())?.is_none())
+const GOOD: &str = "\
+# any bytes
+instrument c counter app requests 1
+instrument h histogram - size By
+view requests * * - route default
+view * histogram - renamed * buckets:-5,0,10
+view * * * - - drop
+view * * * - *,a last
+writer a shop 00000000-0000-0000-0000-000000000001 100
+writer b * {00000000-0000-0000-0000-00000000000A} 18446744073709551615
+gateway 4294967295
+limit 0
+begin
+measure a c -9223372036854775808 -
+measure a c 3 route=x,host=,n=05,t='5,b=true,-=1
+collect a 200
+shutdown a 200
+restart a 300
+deliver 18446744073709551615 1
+merge 1 1
+send 1 2
+hand 0 1
+report 1 app requests 1 sum+ * - *
+report 1 - size By hist:5,5 till host=p -
+same 1 2
+conflicts 1
+newest 2 a 100
+";
+
+const BAD: &str = " \
+\nbegin \
+\n begin\
+\nbegin\r\
+\ngateway\t1\
+\ngateway  1\
+\ngateway 01\
+\ngateway 4294967296\
+\ngateway -0\
+\ngateway +1\
+\nlimit 18446744073709551616\
+\nwriter A shop 00000000-0000-0000-0000-000000000001 100\
+\nwriter abcdefghijklmnopq shop 00000000-0000-0000-0000-000000000001 100\
+\nwriter a shop 00000000-0000-0000-0000-00000000001 100\
+\ninstrument c counter app x\
+\ninstrument c summary app x 1\
+\nmeasure a c 9223372036854775808 -\
+\nmeasure a c -0 -\
+\nmeasure a c 05 -\
+\nmeasure a c 5 route\
+\nmeasure a c 5 =x\
+\nmeasure a c 5 a=1,\
+\nview * * * - a,,b default\
+\nview * * * - * buckets:1,\
+\nview * * * - * buckets\
+\nreport 1 app requests 1 sum- * - *\
+\nunknown";
+
+// Whether a line is bad.
+fn is_bad(alloc: Global, line: &[u8]) -> Result<bool, Fail> {
+    Ok(parse_line(alloc, line)?.is_none())
+}
+
+// How many lines there are, and how many of them are bad.
+fn bad_among(alloc: Global, text: &str) -> Result<(u64, u64), Fail> {
+    let (mut lines, mut bad) = (0u64, 0u64);
+    for line in text.as_bytes().split(|byte| *byte == b'\n') {
+        lines = lines.saturating_add(1);
+        if is_bad(alloc, line)? {
+            bad = bad.saturating_add(1);
+        }
+    }
+    Ok((lines, bad))
 }
 
 #[test]
 fn lines_of_every_sort(rt: HostRuntime) -> Result<(), Fail> {
-    let good = [
-        "",
-        "# any bytes",
-        "instrument c counter app requests 1",
-        "instrument h histogram - size By",
-        "view requests * * - route default",
-        "view * histogram - renamed * buckets:-5,0,10",
-        "view * * * - - drop",
-        "view * * * - *,a last",
-        "writer a shop 00000000-0000-0000-0000-000000000001 100",
-        "writer b * {00000000-0000-0000-0000-00000000000A} 18446744073709551615",
-        "gateway 4294967295",
-        "limit 0",
-        "begin",
-        "measure a c -9223372036854775808 -",
-        "measure a c 3 route=x,host=,n=05,t='5,b=true,-=1",
-        "collect a 200",
-        "shutdown a 200",
-        "restart a 300",
-        "deliver 18446744073709551615 1",
-        "merge 1 1",
-        "send 1 2",
-        "hand 0 1",
-        "report 1 app requests 1 sum+ * - *",
-        "report 1 - size By hist:5,5 till host=p -",
-        "same 1 2",
-        "conflicts 1",
-        "newest 2 a 100",
-    ];
-    for text in good {
-        assert!(rt; !is_bad(&rt, text)?, "{text}");
-    }
+    assert_eq!(rt; bad_among(rt.alloc(), GOOD)?, (27, 0));
     Ok(())
 }
 
 #[test]
 fn lines_that_are_bad(rt: HostRuntime) -> Result<(), Fail> {
-    let bad = [
-        " ",
-        "begin ",
-        " begin",
-        "begin\r",
-        "gateway\t1",
-        "gateway  1",
-        "gateway 01",
-        "gateway 4294967296",
-        "gateway -0",
-        "gateway +1",
-        "limit 18446744073709551616",
-        "writer A shop 00000000-0000-0000-0000-000000000001 100",
-        "writer abcdefghijklmnopq shop 00000000-0000-0000-0000-000000000001 100",
-        "writer a shop 00000000-0000-0000-0000-00000000001 100",
-        "instrument c counter app x",
-        "instrument c summary app x 1",
-        "measure a c 9223372036854775808 -",
-        "measure a c -0 -",
-        "measure a c 05 -",
-        "measure a c 5 route",
-        "measure a c 5 =x",
-        "measure a c 5 a=1,",
-        "view * * * - a,,b default",
-        "view * * * - * buckets:1,",
-        "view * * * - * buckets",
-        "report 1 app requests 1 sum- * - *",
-        "unknown",
-    ];
-    for text in bad {
-        assert!(rt; is_bad(&rt, text)?, "{text}");
-    }
+    assert_eq!(rt; bad_among(rt.alloc(), BAD)?, (27, 27));
     Ok(())
+}
+
+// The value of a measurement and how many attributes it has.
+fn measurement(alloc: Global, line: &[u8]) -> Result<Option<(i64, usize)>, Fail> {
+    match parse_line(alloc, line)? {
+        Some(Line::Do(Command::Measure { value, attrs, .. })) => Ok(Some((value, attrs.len()))),
+        _ => Ok(None),
+    }
+}
+
+// The number of a gateway.
+fn gateway(alloc: Global, line: &[u8]) -> Result<Option<u32>, Fail> {
+    match parse_line(alloc, line)? {
+        Some(Line::Declare(Declaration::Gateway(number))) => Ok(Some(number)),
+        _ => Ok(None),
+    }
+}
+
+// The gateways that are compared.
+fn compared(alloc: Global, line: &[u8]) -> Result<Option<(u32, u32)>, Fail> {
+    match parse_line(alloc, line)? {
+        Some(Line::Ask(Query::Same { one, other })) => Ok(Some((one, other))),
+        _ => Ok(None),
+    }
 }
 
 #[test]
 fn the_parts_of_lines(rt: HostRuntime) -> Result<(), Fail> {
-    let Some(Line::Do(Command::Measure { value, attrs, .. })) = parse_line(
-        rt.alloc(),
-        b"measure a c -7 k=2,j='x,k=true",
-    )?
-    else {
-        return Err(Fail::from("no measure"));
-    };
-    assert_eq!(rt; value, -7);
-    assert_eq!(rt; attrs.len(), 2);
-    assert!(rt;
-        matches!(
-            parse_line(rt.alloc(), b"gateway 7")?,
-            Some(Line::Declare(Declaration::Gateway(7)))
-        )
-    );
-    assert!(rt;
-        matches!(
-            parse_line(rt.alloc(), b"same 1 2")?,
-            Some(Line::Ask(Query::Same { one: 1, other: 2 }))
-        )
-    );
-    let Some((line, rest)) = first_line(b"a b\nrest") else {
-        return Err(Fail::from("no line"));
-    };
-    assert_eq!(rt; line, b"a b".as_slice());
-    assert_eq!(rt; rest, b"rest".as_slice());
-    assert!(rt; first_line(b"cut").is_none());
+    let alloc = rt.alloc();
+    let measured = measurement(alloc, b"measure a c -7 k=2,j='x,k=true")?;
+    assert_eq!(rt; measured, Some((-7, 2)));
+    assert_eq!(rt; gateway(alloc, b"gateway 7")?, Some(7));
+    assert_eq!(rt; compared(alloc, b"same 1 2")?, Some((1, 2)));
+    Ok(())
+}
+
+#[test]
+fn a_line_ends_at_its_line_feed(rt: HostRuntime) -> Result<(), Fail> {
+    let cut = first_line(b"a b\nrest");
+    assert_eq!(rt; cut, Some((b"a b".as_slice(), b"rest".as_slice())));
+    assert_eq!(rt; first_line(b"cut"), None);
     Ok(())
 }
 
@@ -170,26 +189,39 @@ impl Read for ShortReader<'_> {
     }
 }
 
+// Whether a writer that fails after so many bytes got just those, and the failure is told.
+fn writes_a_front(alloc: Global, text: &[u8], count: usize) -> bool {
+    let mut writer = ShortWriter {
+        left: count,
+        written: Vec::new(alloc),
+    };
+    let told = write_text(&mut writer, text) == Err(ScriptFault::WriteFault);
+    told && text.get(..count) == Some(writer.written.as_slice())
+}
+
+// Whether a reader that fails after so many bytes is told.
+fn tells_the_reader(alloc: Global, text: &[u8], count: usize) -> bool {
+    let mut reader = ShortReader { left: count, text };
+    match read_script(alloc, &mut reader) {
+        Err(fault) => fault == ScriptFault::ReadFault,
+        Ok(_) => false,
+    }
+}
+
 #[test]
 fn streams_that_fail(rt: HostRuntime) -> Result<(), Fail> {
     let text = b"line 7\n";
-    for count in 0..text.len() {
-        let mut writer = ShortWriter {
-            left: count,
-            written: Vec::new(rt.alloc()),
-        };
-        assert_eq!(rt; write_text(&mut writer, text), Err(ScriptFault::WriteFault));
-        assert_eq!(rt; writer.written.as_slice(), &text[..count]);
-        let mut reader = ShortReader { left: count, text };
-        assert!(rt;
-            matches!(
-                read_script(rt.alloc(), &mut reader),
-                Err(ScriptFault::ReadFault)
-            )
-        );
+    for count in 0..7 {
+        assert!(rt; writes_a_front(rt.alloc(), text, count), "{count}");
+        assert!(rt; tells_the_reader(rt.alloc(), text, count), "{count}");
     }
-    let mut reader = text.as_slice();
+    Ok(())
+}
+
+#[test]
+fn a_script_is_read_whole(rt: HostRuntime) -> Result<(), Fail> {
+    let mut reader = b"line 7\n".as_slice();
     let script = read_script(rt.alloc(), &mut reader)?;
-    assert_eq!(rt; script.as_slice(), text.as_slice());
+    assert_eq!(rt; script.as_slice(), b"line 7\n".as_slice());
     Ok(())
 }
