@@ -1,6 +1,7 @@
 //! Rounds: what a tally holds at a time, in an arena.
 ghost use Rattle.std.specs.Prelude.{◌≡◌, ◌<◌, ◌++◌, map, length, slice_get, IfOk, OnOk, Some, None};
 ghost use Rattle.point_kit.specs.ExportFaults.{export_fault};
+ghost use Rattle.plan_kit.specs.Plans.{AreApart};
 ghost use Rattle.round_kit.specs.Placed.{stream_of};
 ghost use Rattle.round_kit.specs.Rounds.{point_of, points_at, points_of};
 
@@ -48,36 +49,41 @@ impl<'b> Model for Round<'b> {
 }
 
 impl<'b> Round<'b> {
-    /// The time from which the points cover recordings, itself excluded.
+    /// The time from which the points cover recordings, itself excluded, in nanoseconds since the Unix epoch.
     pub fn start(&self) -> u64
         ensures value { result ≡ self.now.start }
     {
         self.start
     }
 
-    /// The time of the collection.
+    /// The time of the collection, in nanoseconds since the Unix epoch; after the start.
     pub fn time(&self) -> u64
         ensures value { result ≡ self.now.time }
+        ensures after_start { self.now.start < result }
     {
         self.time
     }
 
-    /// The points, by their streams and then in first-seen order.
+    /// The points, by the numbers of their streams and then in first-seen order. They stay as long as the arena, also where
+    /// the round is gone. No refusal of an export fits them.
     pub fn points(&self) -> &'b [RoundPoint<'b>]
         ensures value { map point_of result.now ≡ self.now.points }
+        ensures sound { export_fault self.now.start self.now.time self.now.points ≡ None }
     {
         self.points
     }
 
-    /// The number of points.
+    /// The number of points. Constant time.
     pub fn len(&self) -> usize
         ensures value { result ≡ length self.now.points }
     {
         self.points.len()
     }
 
-    /// The round as an export of a writer, which outlives the arena: the same points in the same order. O(size of the
-    /// points); points of one stream share it.
+    /// The round as an export of a writer, which borrows nothing of the arena and so outlives it: the same start and time, and
+    /// the same points in the same order. `NoMemory` is the only refusal.
+    ///
+    /// O(size of the points): each set and payload is copied once, each stream's texts once, and points of one stream share it.
     pub fn copy_out(&self, alloc: Global, writer: &WriterId) -> Result<Export, NoMemory>
         ensures writer { IfOk result (λ e. e.writer ≡ writer.now) }
         ensures start { IfOk result (λ e. e.start ≡ self.now.start) }
@@ -123,9 +129,13 @@ fn copy_points(alloc: Global, points: &[RoundPoint<'_>]) -> Result<Vec<ExportPoi
     Ok(copy)
 }
 
-/// The points of a tally in an arena: by the streams' numbers, and in each stream in first-seen order. The tally stays.
+/// The points of a tally in an arena, with the start and the time of the collection: by the streams' numbers, and in each
+/// stream in first-seen order. Every series of the tally has its point, changed or not since an earlier round, so a lost
+/// collection is covered by the next. The tally stays as it is. `NoMemory` is the only refusal; what was placed until then
+/// stays in the arena until its reset.
 ///
-/// O(size of the points), all of it in the arena, which is the caller's and is reset by nobody else.
+/// O(size of the points), each text and list copied once and the texts of a stream once for all its points; no allocation
+/// outside the arena, which is the caller's and is reset by nobody else.
 pub fn place<'b>(
     bump: &'b Bump,
     tally: &Tally,
@@ -156,16 +166,17 @@ fn place_series<'b>(
     points: &mut Vec<RoundPoint<'b>, &'b Bump>,
 ) -> Result<(), NoMemory>
     requires { number < length tally.now.plan.streams }
-    ensures { OnOk result ((s : _) (es : _) → slice_get tally.now.plan.streams number ≡ Some s → slice_get tally.now.series number ≡ Some es → map point_of points.new.items ≡ map point_of points.old.items ++ points_at s es) }
+    ensures apart { AreApart tally.now.plan.streams }
+    ensures points { OnOk result ((s : _) (es : _) → slice_get tally.now.plan.streams number ≡ Some s → slice_get tally.now.series number ≡ Some es → map point_of points.new.items ≡ map point_of points.old.items ++ points_at s es) }
 {
     let Some(stream) = tally.plan().stream(number) else {
         return Ok(());
     };
-    let stream = &*bump.try_alloc(RoundStream::place(bump, stream)?)?;
+    let placed = &*bump.try_alloc(RoundStream::place(bump, stream)?)?;
     for k in 0..tally.series_len(number).unwrap_or(0) {
         if let Some((attrs, payload)) = tally.entry(number, k) {
             points.push(RoundPoint {
-                stream,
+                stream: placed,
                 attrs: RoundSet::place(bump, attrs)?,
                 payload: RoundPayload::place(bump, payload)?,
             })?;

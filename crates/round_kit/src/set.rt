@@ -1,5 +1,6 @@
 //! Attribute sets whose pairs lie in an arena.
 ghost use Rattle.std.specs.Prelude.{◌≡◌, IfOk, map};
+ghost use Rattle.attr_kit.specs.Attributes.{AreAttributes};
 ghost use Rattle.round_kit.specs.Placed.{value_of, pair_of};
 
 use attr_kit::{AttrFault, AttrSet, AttrValue, NoMemory, Txt};
@@ -58,9 +59,10 @@ impl<'b> Model for RoundSet<'b> {
 }
 
 impl<'b> RoundSet<'b> {
-    /// The pairs, in the order of their keys.
+    /// The pairs, in the order of their keys, each key once and none empty.
     pub fn pairs(&self) -> &'b [(&'b str, RoundValue<'b>)]
-        ensures { map pair_of result.now ≡ self.now }
+        ensures value { map pair_of result.now ≡ self.now }
+        ensures attributes { AreAttributes self.now }
     {
         self.pairs
     }
