@@ -6,7 +6,7 @@ use agg_kit::Tally;
 use attr_kit::{AllowList, AttrSet, AttrValue, Keep, NoMemory, Seq, Txt};
 use bumpalo::Bump;
 use plan_kit::{Aggregation, DEFAULT_LIMIT, Instrument, Kind, NameRule, Plan, View};
-use point_kit::{Export, ExportPoint, Payload, Shape, Stream, WriterId};
+use point_kit::{Export, ExportPoint, Payload, Shape, SharedStream, Stream, WriterId};
 use std::alloc::Global;
 use std::test::Fail;
 use uuid::Uuid;
@@ -27,6 +27,15 @@ fn instrument(alloc: Global, name: &str, kind: Kind) -> Result<Instrument, NoMem
     })
 }
 
+// A counter `requests`, a gauge `level` and a histogram `size`.
+fn instruments(alloc: Global) -> Result<Seq<Instrument>, NoMemory> {
+    let mut instruments = Vec::new(alloc);
+    instruments.push(instrument(alloc, "requests", Kind::Counter)?)?;
+    instruments.push(instrument(alloc, "level", Kind::Gauge)?)?;
+    instruments.push(instrument(alloc, "size", Kind::Histogram)?)?;
+    Ok(Seq::from_vec(instruments))
+}
+
 // A view of the instrument of this name that keeps all keys.
 fn view(alloc: Global, name: &str, aggregation: Aggregation) -> Result<View, NoMemory> {
     Ok(View {
@@ -39,29 +48,54 @@ fn view(alloc: Global, name: &str, aggregation: Aggregation) -> Result<View, NoM
     })
 }
 
-// A tally of a counter `requests`, a gauge `level` and a histogram `size`, with these views.
-fn viewed(alloc: Global, views: Vec<View>) -> Result<Tally, Fail> {
-    let mut instruments = Vec::new(alloc);
-    instruments.push(instrument(alloc, "requests", Kind::Counter)?)?;
-    instruments.push(instrument(alloc, "level", Kind::Gauge)?)?;
-    instruments.push(instrument(alloc, "size", Kind::Histogram)?)?;
-    let views = Seq::from_vec(views);
-    let plan = Plan::build(alloc, Seq::from_vec(instruments), views, DEFAULT_LIMIT)?;
-    Ok(Tally::new(alloc, plan)?)
+fn bounds(alloc: Global) -> Result<Seq<i64>, NoMemory> {
+    Ok(Seq::from_vec([5, 10].to_vec(alloc)?))
 }
 
-// The same, the histogram with the bounds 5 and 10.
-fn tally(alloc: Global) -> Result<Tally, Fail> {
-    let bounds = Seq::from_vec([5, 10].to_vec(alloc)?);
+// Views by which the histogram has the bounds 5 and 10.
+fn bounded(alloc: Global) -> Result<Seq<View>, NoMemory> {
     let mut views = Vec::new(alloc);
-    views.push(view(alloc, "size", Aggregation::Buckets(bounds))?)?;
-    viewed(alloc, views)
+    views.push(view(alloc, "size", Aggregation::Buckets(bounds(alloc)?))?)?;
+    Ok(Seq::from_vec(views))
+}
+
+// Views by which the requests make a stream of each route and one of all, and the gauge makes none.
+fn two_feeds(alloc: Global) -> Result<Seq<View>, NoMemory> {
+    let mut all = view(alloc, "requests", Aggregation::Default)?;
+    all.rename = Some(Txt::from_str(alloc, "requests.all")?);
+    all.keep = Keep::Only(AllowList::empty(alloc));
+    let mut views = Vec::new(alloc);
+    views.push(view(alloc, "requests", Aggregation::Default)?)?;
+    views.push(all)?;
+    views.push(view(alloc, "level", Aggregation::Drop)?)?;
+    Ok(Seq::from_vec(views))
 }
 
 // The set of the pair `route` = the text.
 fn route(alloc: Global, text: &str) -> Result<AttrSet, NoMemory> {
     let value = AttrValue::Text(Txt::from_str(alloc, text)?);
     AttrSet::single(alloc, Txt::from_str(alloc, "route")?, value)
+}
+
+// Recordings: the place of an instrument, a route and a value.
+fn record(alloc: Global, tally: &mut Tally, entries: &[(usize, &str, i64)]) -> Result<(), Fail> {
+    for (instrument, text, value) in entries {
+        let attrs = route(alloc, text)?;
+        tally.measure(*instrument, &attrs, *value)?;
+    }
+    Ok(())
+}
+
+// A tally after these recordings.
+fn recorded(
+    alloc: Global,
+    views: Seq<View>,
+    entries: &[(usize, &str, i64)],
+) -> Result<Tally, Fail> {
+    let plan = Plan::build(alloc, instruments(alloc)?, views, DEFAULT_LIMIT)?;
+    let mut tally = Tally::new(alloc, plan)?;
+    record(alloc, &mut tally, entries)?;
+    Ok(tally)
 }
 
 // What a tally holds at a time, since 100, as an export of the first writer.
@@ -73,165 +107,135 @@ fn collected(alloc: Global, tally: &Tally, time: u64) -> Result<Export, NoMemory
     round.copy_out(alloc, &writer(alloc, 1)?)
 }
 
-// Whether the point at a place is of the stream of this name and this set, with this payload.
-fn is_point(export: &Export, place: usize, name: &str, attrs: &AttrSet, payload: &Payload) -> bool {
-    match export.points().get(place) {
-        Some(point) => {
-            point.stream.get().name.as_str() == name
-                && point.attrs == *attrs
-                && point.payload == *payload
-        }
-        None => false,
+// The last value of a gauge, and the total of a sum or a histogram.
+fn total_of(payload: &Payload) -> i64 {
+    match payload {
+        Payload::Sum(sum) => *sum,
+        Payload::Gauge(value) => *value,
+        Payload::Hist { sum, .. } => *sum,
     }
 }
 
-// The stream and the sum, if it is one, of the point of a round at a place.
-fn sum_at<'b>(round: &Round<'b>, place: usize) -> Option<(&'b str, i64)> {
-    let point = round.points().get(place)?;
-    match point.payload {
-        RoundPayload::Sum(sum) => Some((point.stream.name, sum)),
-        _ => None,
+// The text of a set's first pair, or no text.
+fn route_of(attrs: &AttrSet) -> &str {
+    match attrs.pairs().first() {
+        Some((_, AttrValue::Text(text))) => text.as_str(),
+        _ => "",
     }
+}
+
+// The stream's name, the route and the total of the point at a place.
+fn point_at(export: &Export, place: usize) -> Option<(&str, &str, i64)> {
+    let point = export.points().get(place)?;
+    let name = point.stream.get().name.as_str();
+    Some((name, route_of(&point.attrs), total_of(&point.payload)))
+}
+
+// The same of a round.
+fn placed_at<'b>(round: &Round<'b>, place: usize) -> Option<(&'b str, &'b str, i64)> {
+    let point = round.points().get(place)?;
+    let route = match point.attrs.pairs().first() {
+        Some((_, RoundValue::Text(text))) => *text,
+        _ => "",
+    };
+    let total = match point.payload {
+        RoundPayload::Sum(sum) => sum,
+        RoundPayload::Gauge(value) => value,
+        RoundPayload::Hist { sum, .. } => sum,
+    };
+    Some((point.stream.name, route, total))
 }
 
 #[test]
 fn points_go_by_streams_and_then_by_their_first_recordings(rt: HostRuntime) -> Result<(), Fail> {
-    let mut tally = tally(rt.alloc())?;
-    let none = AttrSet::empty(rt.alloc());
-    tally.measure(2, &none, 7)?;
-    tally.measure(0, &route(rt.alloc(), "b")?, 3)?;
-    tally.measure(0, &route(rt.alloc(), "a")?, 2)?;
-    tally.measure(0, &route(rt.alloc(), "b")?, 1)?;
+    let entries = [(2, "a", 7), (0, "b", 3), (0, "a", 2), (0, "b", 1)];
+    let tally = recorded(rt.alloc(), bounded(rt.alloc())?, &entries)?;
     let bump = Bump::new(rt.alloc());
     let round = place(&bump, &tally, 100, 200)?;
     assert_eq!(rt; (round.start(), round.time(), round.len()), (100, 200, 3));
-    assert_eq!(rt; sum_at(&round, 0), Some(("requests", 4)));
-    assert_eq!(rt; sum_at(&round, 1), Some(("requests", 2)));
-    assert_eq!(rt; sum_at(&round, 2), None);
-    Ok(())
-}
-
-#[test]
-fn texts_and_buckets_lie_in_the_arena(rt: HostRuntime) -> Result<(), Fail> {
-    let mut tally = tally(rt.alloc())?;
-    tally.measure(2, &route(rt.alloc(), "a")?, 10)?;
-    let bump = Bump::new(rt.alloc());
-    let round = place(&bump, &tally, 0, 1)?;
-    let Some(point) = round.points().first() else {
-        return Err(Fail::from("no point"));
-    };
-    let RoundPayload::Hist { count, sum, buckets, range } = point.payload else {
-        return Err(Fail::from("no histogram"));
-    };
-    assert_eq!(rt; (count, sum, range), (1, 10, Some((10, 10))));
-    assert_eq!(rt; buckets, [0, 1, 0].as_slice());
-    let Some((key, RoundValue::Text(text))) = point.attrs.pairs().first() else {
-        return Err(Fail::from("no text"));
-    };
-    assert_eq!(rt; (*key, *text), ("route", "a"));
+    assert_eq!(rt; placed_at(&round, 0), Some(("requests", "b", 4)));
+    assert_eq!(rt; placed_at(&round, 1), Some(("requests", "a", 2)));
+    assert_eq!(rt; placed_at(&round, 2), Some(("size", "a", 7)));
     Ok(())
 }
 
 #[test]
 fn a_copy_outlives_the_arena(rt: HostRuntime) -> Result<(), Fail> {
-    let mut tally = tally(rt.alloc())?;
-    let none = AttrSet::empty(rt.alloc());
-    tally.measure(1, &none, -4)?;
-    tally.measure(2, &route(rt.alloc(), "a")?, 10)?;
-    let mut bump = Bump::new(rt.alloc());
+    let tally = recorded(rt.alloc(), bounded(rt.alloc())?, &[(1, "a", -4)])?;
     let second = writer(rt.alloc(), 2)?;
+    let mut bump = Bump::new(rt.alloc());
     let export = place(&bump, &tally, 100, 200)?.copy_out(rt.alloc(), &second)?;
     bump.reset()?;
     assert!(rt; *export.writer() == second);
     assert_eq!(rt; (export.start(), export.time()), (100, 200));
-    assert_eq!(rt; export.points().len(), 2);
-    assert!(rt; is_point(&export, 0, "level", &none, &Payload::Gauge(-4)));
-    assert!(rt; is_point(&export, 1, "size", &route(rt.alloc(), "a")?, &of_one(rt.alloc(), 10)?));
+    assert_eq!(rt; point_at(&export, 0), Some(("level", "a", -4)));
     Ok(())
 }
 
-// The histogram of the bounds 5 and 10 after one value between them.
-fn of_one(alloc: Global, value: i64) -> Result<Payload, NoMemory> {
-    Ok(Payload::Hist {
-        count: 1,
-        sum: value,
-        buckets: Seq::from_vec([0, 1, 0].to_vec(alloc)?),
-        range: Some((value, value)),
+// The point of a histogram of the bounds 5 and 10 after the value 10 at the route `a`.
+fn point_of_ten(alloc: Global) -> Result<ExportPoint, NoMemory> {
+    let stream = Stream {
+        scope: Txt::from_str(alloc, "app")?,
+        name: Txt::from_str(alloc, "size")?,
+        unit: Txt::from_str(alloc, "1")?,
+        shape: Shape::Histogram {
+            bounds: bounds(alloc)?,
+        },
+    };
+    Ok(ExportPoint {
+        stream: SharedStream::new(alloc, stream)?,
+        attrs: route(alloc, "a")?,
+        payload: Payload::Hist {
+            count: 1,
+            sum: 10,
+            buckets: Seq::from_vec([0, 1, 0].to_vec(alloc)?),
+            range: Some((10, 10)),
+        },
     })
 }
 
 #[test]
-fn streams_are_copied_whole(rt: HostRuntime) -> Result<(), Fail> {
-    let mut tally = tally(rt.alloc())?;
-    tally.measure(2, &AttrSet::empty(rt.alloc()), 10)?;
+fn points_are_copied_whole(rt: HostRuntime) -> Result<(), Fail> {
+    let tally = recorded(rt.alloc(), bounded(rt.alloc())?, &[(2, "a", 10)])?;
     let export = collected(rt.alloc(), &tally, 200)?;
-    let Some(point) = export.points().first() else {
-        return Err(Fail::from("no point"));
-    };
-    let wanted = Stream {
-        scope: Txt::from_str(rt.alloc(), "app")?,
-        name: Txt::from_str(rt.alloc(), "size")?,
-        unit: Txt::from_str(rt.alloc(), "1")?,
-        shape: Shape::Histogram {
-            bounds: Seq::from_vec([5, 10].to_vec(rt.alloc())?),
-        },
-    };
-    assert!(rt; *point.stream.get() == wanted);
+    let wanted = point_of_ten(rt.alloc())?;
+    assert!(rt; export.points().first() == Some(&wanted));
     Ok(())
 }
 
 #[test]
 fn a_later_collection_covers_the_earlier(rt: HostRuntime) -> Result<(), Fail> {
-    let mut tally = tally(rt.alloc())?;
-    let none = AttrSet::empty(rt.alloc());
-    tally.measure(0, &none, 3)?;
-    tally.measure(1, &none, 9)?;
+    let entries = [(0, "a", 3), (1, "a", 9)];
+    let mut tally = recorded(rt.alloc(), bounded(rt.alloc())?, &entries)?;
     let first = collected(rt.alloc(), &tally, 200)?;
-    tally.measure(0, &none, 4)?;
+    record(rt.alloc(), &mut tally, &[(0, "a", 4)])?;
     let second = collected(rt.alloc(), &tally, 300)?;
-    assert_eq!(rt; (first.points().len(), second.points().len()), (2, 2));
-    assert!(rt; is_point(&first, 0, "requests", &none, &Payload::Sum(3)));
-    assert!(rt; is_point(&second, 0, "requests", &none, &Payload::Sum(7)));
+    assert_eq!(rt; point_at(&first, 0), Some(("requests", "a", 3)));
+    assert_eq!(rt; point_at(&second, 0), Some(("requests", "a", 7)));
     // The gauge had no recording between the two.
-    assert!(rt; is_point(&second, 1, "level", &none, &Payload::Gauge(9)));
+    assert_eq!(rt; point_at(&second, 1), Some(("level", "a", 9)));
     Ok(())
 }
 
 #[test]
 fn a_tally_without_recordings_has_no_points(rt: HostRuntime) -> Result<(), Fail> {
-    let tally = tally(rt.alloc())?;
+    let tally = recorded(rt.alloc(), bounded(rt.alloc())?, &[])?;
     let bump = Bump::new(rt.alloc());
     let round = place(&bump, &tally, u64::MAX - 1, u64::MAX)?;
-    assert_eq!(rt; round.len(), 0);
     let export = round.copy_out(rt.alloc(), &writer(rt.alloc(), 1)?)?;
-    assert_eq!(rt; (export.time(), export.points().len()), (u64::MAX, 0));
+    assert_eq!(rt; (round.len(), export.points().len()), (0, 0));
+    assert_eq!(rt; (export.start(), export.time()), (u64::MAX - 1, u64::MAX));
     Ok(())
-}
-
-// Views by which the requests make a stream of each route, and one of all.
-fn two_feeds(alloc: Global) -> Result<Vec<View>, NoMemory> {
-    let mut views = Vec::new(alloc);
-    views.push(view(alloc, "requests", Aggregation::Default)?)?;
-    let mut all = view(alloc, "requests", Aggregation::Default)?;
-    all.rename = Some(Txt::from_str(alloc, "requests.all")?);
-    all.keep = Keep::Only(AllowList::empty(alloc));
-    views.push(all)?;
-    views.push(view(alloc, "level", Aggregation::Drop)?)?;
-    Ok(views)
 }
 
 #[test]
 fn each_feed_of_a_view_has_points(rt: HostRuntime) -> Result<(), Fail> {
-    let mut tally = viewed(rt.alloc(), two_feeds(rt.alloc())?)?;
-    let (a, b) = (route(rt.alloc(), "a")?, route(rt.alloc(), "b")?);
-    tally.measure(0, &a, 1)?;
-    tally.measure(0, &b, 2)?;
-    tally.measure(1, &a, 5)?;
+    let entries = [(0, "a", 1), (0, "b", 2), (1, "a", 5)];
+    let tally = recorded(rt.alloc(), two_feeds(rt.alloc())?, &entries)?;
     let export = collected(rt.alloc(), &tally, 200)?;
     assert_eq!(rt; export.points().len(), 3);
-    assert!(rt; is_point(&export, 0, "requests", &a, &Payload::Sum(1)));
-    assert!(rt; is_point(&export, 1, "requests", &b, &Payload::Sum(2)));
-    let none = AttrSet::empty(rt.alloc());
-    assert!(rt; is_point(&export, 2, "requests.all", &none, &Payload::Sum(3)));
+    assert_eq!(rt; point_at(&export, 0), Some(("requests", "a", 1)));
+    assert_eq!(rt; point_at(&export, 1), Some(("requests", "b", 2)));
+    assert_eq!(rt; point_at(&export, 2), Some(("requests.all", "", 3)));
     Ok(())
 }
