@@ -1,0 +1,77 @@
+-- A writer that follows accepted events still does after one more.
+use Rattle.std.proofs.Common.{◌≡◌, ◌∙◌, ℕ, ◌<◌, Bool, true, false, not, is_none, List, [], ◌∷◌, ◌++◌, None, refl, sym, ap, subst, arith}
+use Rattle.std.proofs.lemmas.Bool.{eq-eqb}
+use Rattle.agg_kit.specs.Entries.{Entry}
+use Rattle.agg_kit.specs.Refusals.{refused}
+use Rattle.agg_kit.specs.Rounds.{StandsFor, round}
+use Rattle.plan_kit.specs.Plans.{Planned}
+use Rattle.round_kit.specs.Rounds.{points_of}
+use Rattle.round_kit.specs.Rounds as rounds
+use Rattle.schedule_kit.proofs.History.{none_yet}
+use Rattle.schedule_kit.specs.Schedule.{Act, start_of, last_of, is_open, running, collected, AreAccepted}
+use Rattle.schedule_kit.specs.Schedule.Act.{Measured, Collected, Restarted}
+use Rattle.writer_kit.specs.Following.{Follows, fits, round_of}
+use Rattle.writer_kit.specs.Written.{Written}
+
+is_still_open : (acts : List (Act Entry)) (closed : Bool) → closed ≡ false → not closed ≡ is_open acts → is_open acts ≡ true
+is_still_open acts closed e o = sym o ∙ ap not e
+
+-- the entries of the running incarnation, and one more
+runs : (first : ℕ) (acts : List (Act Entry)) (e : Entry) → running first (Measured e ∷ acts) ≡ running first acts ++ e ∷ []
+runs first acts e = rw (eq-eqb (start_of first acts) (start_of first acts) refl) refl
+
+pub started : (start : ℕ) (w : Written) → w.start ≡ start → w.last ≡ start → w.closed ≡ false → StandsFor w.tally [] → Follows start [] w
+started start w s l c t = record { accepted = tt; start = s; last = l; opened = ap not c; points = t }
+
+pub measured : (first : ℕ) (acts : List (Act Entry)) (e : Entry) (w v : Written) → w.closed ≡ false → ((h : List Entry) → StandsFor w.tally h → refused w.tally.plan h e ≡ None)
+    → ((h : List Entry) → StandsFor w.tally h → StandsFor v.tally (h ++ e ∷ [])) → v.tally.plan ≡ w.tally.plan → v ≡ record w { tally = v.tally }
+    → Follows first acts w → Follows first (Measured e ∷ acts) v
+measured first acts e w v closed fit stands plan rest f =
+    record {
+      accepted = subst (λ (p : Planned). AreAccepted (fits p) first (Measured e ∷ acts)) (sym plan) ((is_still_open acts w.closed closed f.opened, ap is_none (fit (running first acts) f.points)), f.accepted);
+      start = ap (λ (x : Written). x.start) rest ∙ f.start;
+      last = ap (λ (x : Written). x.last) rest ∙ f.last;
+      opened = ap (λ (x : Written). not x.closed) rest ∙ f.opened;
+      points = subst (StandsFor v.tally) (sym (runs first acts e)) (stands (running first acts) f.points);
+    }
+
+opens : (acts : List (Act Entry)) (time : ℕ) (closing : Bool) → is_open acts ≡ true → not closing ≡ is_open (Collected time closing ∷ acts)
+opens acts time true o = refl
+opens acts time false o = sym o
+
+pub marked : (first : ℕ) (acts : List (Act Entry)) (time : ℕ) (closing : Bool) (w v : Written) → w.closed ≡ false → w.last < time → v ≡ record w { last = time; closed = closing }
+    → Follows first acts w → Follows first (Collected time closing ∷ acts) v
+marked first acts time closing w v closed rises rest f =
+    let still : is_open acts ≡ true = is_still_open acts w.closed closed f.opened in
+    let before : w.last ≡ last_of first acts = f.last in
+    let later : last_of first acts < time = omega arith in
+    let tallies : v.tally ≡ w.tally = ap (λ (x : Written). x.tally) rest in
+    let newest : v.last ≡ time = ap (λ (x : Written). x.last) rest in
+    record {
+      accepted = subst (λ (p : Planned). AreAccepted (fits p) first (Collected time closing ∷ acts)) (sym (ap (λ (x : Written). x.tally.plan) rest)) ((still, later), f.accepted);
+      start = ap (λ (x : Written). x.start) rest ∙ f.start;
+      last = omega arith;
+      opened = ap (λ (x : Written). not x.closed) rest ∙ opens acts time closing still;
+      points = subst (λ (x : Written). StandsFor x.tally (running first acts)) (sym rest) f.points;
+    }
+
+pub restarted : (first : ℕ) (acts : List (Act Entry)) (start : ℕ) (w v : Written) → w.start < start → StandsFor v.tally [] → v.tally.plan ≡ w.tally.plan
+    → v ≡ record w { tally = v.tally; start = start; last = start; closed = false } → Follows first acts w → Follows first (Restarted start ∷ acts) v
+restarted first acts start w v rises empty plan rest f =
+    let before : w.start ≡ start_of first acts = f.start in
+    let later : start_of first acts < start = omega arith in
+    record {
+      accepted = subst (λ (p : Planned). AreAccepted (fits p) first (Restarted start ∷ acts)) (sym plan) (later, f.accepted);
+      start = ap (λ (x : Written). x.start) rest;
+      last = ap (λ (x : Written). x.last) rest;
+      opened = ap (λ (x : Written). not x.closed) rest;
+      points = subst (StandsFor v.tally) (sym (none_yet first (fits w.tally.plan) acts f.accepted start later)) empty;
+    }
+
+-- the round that a writer gives is that of the collection which is read off its events
+pub collects : (first : ℕ) (acts : List (Act Entry)) (time : ℕ) (w : Written) (r : rounds.Collected) → r.start ≡ w.start → r.time ≡ time → r.points ≡ points_of w.tally.plan.streams w.tally.series
+    → Follows first acts w → r ≡ round_of w.tally.plan (collected first acts time)
+collects first acts time w r s t p f =
+    let starts : r.start ≡ start_of first acts = s ∙ f.start in
+    let points : r.points ≡ points_of w.tally.plan.streams (round w.tally.plan (running first acts)) = p ∙ ap (points_of w.tally.plan.streams) f.points in
+    λ i. record { start = starts i; time = t i; points = points i }

@@ -1,0 +1,25 @@
+-- Why a writer refuses, memory aside.
+use Rattle.std.specs.Prelude.{ℕ, List, [], ◌∷◌, nat_le, Option}
+use Rattle.std.specs.Option.{option_map}
+use Rattle.attr_kit.specs.Refusing.{first, when}
+use Rattle.agg_kit.specs.Entries.{Entry}
+use Rattle.agg_kit.specs.Refusals.{refused}
+use Rattle.writer_kit.specs.Written.{Written}
+use Rattle.writer_kit.specs.declared.fault.CollectFault.{CollectFault}
+use Rattle.writer_kit.specs.declared.fault.CollectFault.TheVariants as collect
+use Rattle.writer_kit.specs.declared.fault.MeasureFault.{MeasureFault}
+use Rattle.writer_kit.specs.declared.fault.MeasureFault.TheVariants as measure
+use Rattle.writer_kit.specs.declared.fault.RestartFault.{RestartFault}
+use Rattle.writer_kit.specs.declared.fault.RestartFault.TheVariants as restart
+
+-- why a recording is refused where the writer's points stand for the recordings h: it is closed, or else what its tally refuses
+unfoldable pub measure_fault : Written → List Entry → Entry → Option MeasureFault
+measure_fault w h e = first (when w.closed measure.Closed ∷ option_map (λ f. measure.Refused f) (refused w.tally.plan h e) ∷ [])
+
+-- why a collection is refused: the writer is closed, or else the time is not after the last
+unfoldable pub collect_fault : Written → ℕ → Option CollectFault
+collect_fault w time = first (when w.closed collect.Closed ∷ when (nat_le time w.last) (collect.TimeNotAfter w.last) ∷ [])
+
+-- why a restart is refused: the new start is not after the start
+unfoldable pub restart_fault : Written → ℕ → Option RestartFault
+restart_fault w start = first (when (nat_le start w.start) (restart.StartNotAfter w.start) ∷ [])

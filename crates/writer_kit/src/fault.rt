@@ -1,0 +1,62 @@
+//! Why a writer refuses.
+ghost use Rattle.std.specs.Prelude.{◌≡◌};
+
+use agg_kit::MeasureFault as TallyFault;
+use attr_kit::NoMemory;
+use thiserror::Error;
+
+/// Why a recording is refused, in the order in which it is looked for.
+#[derive(Debug, PartialEq, Eq, Drop, Error)]
+pub enum MeasureFault {
+    /// The writer was shut down, and not restarted since.
+    #[error("the writer is closed")]
+    Closed,
+    /// The tally of the writer refuses the recording; no memory is one of its refusals.
+    #[error("the recording is refused: {0}")]
+    Refused(TallyFault),
+}
+
+/// Why a collection is refused, in the order in which it is looked for.
+#[derive(Debug, PartialEq, Eq, Drop, Error)]
+pub enum CollectFault {
+    /// The writer was shut down, and not restarted since.
+    #[error("the writer is closed")]
+    Closed,
+    /// The time is at most that of the last collection, or at most the start where there was none since; it is carried.
+    #[error("the time is not after {0}, the last collection or the start")]
+    TimeNotAfter(u64),
+    /// Memory was refused.
+    #[error("no memory")]
+    NoMemory,
+}
+
+impl From<NoMemory> for CollectFault {
+    ghost use Rattle.writer_kit.specs.declared.fault.CollectFault.TheVariants as faults;
+
+    ghost from_gives = { λ _ e. e ≡ faults.NoMemory };
+
+    fn from(_error: NoMemory) -> CollectFault {
+        CollectFault::NoMemory
+    }
+}
+
+/// Why a restart is refused, in the order in which it is looked for.
+#[derive(Debug, PartialEq, Eq, Drop, Error)]
+pub enum RestartFault {
+    /// The new start is at most the start that the writer has; that is carried.
+    #[error("the new start is not after {0}, the start so far")]
+    StartNotAfter(u64),
+    /// Memory was refused.
+    #[error("no memory")]
+    NoMemory,
+}
+
+impl From<NoMemory> for RestartFault {
+    ghost use Rattle.writer_kit.specs.declared.fault.RestartFault.TheVariants as faults;
+
+    ghost from_gives = { λ _ e. e ≡ faults.NoMemory };
+
+    fn from(_error: NoMemory) -> RestartFault {
+        RestartFault::NoMemory
+    }
+}

@@ -1,0 +1,23 @@
+//! Writers: the points that one process records, and the times of their collections (OpenTelemetry Metrics SDK,
+//! "MetricReader"; Metrics Data Model, "Single-Writer" and "Resets and Gaps").
+//!
+//! A [`Writer`] counts under a plan from its start on. `Writer::measure` records a value, `Writer::collect` places the
+//! points since the start in an arena, and `Writer::shutdown` does so for the last time. `Writer::restart` begins anew
+//! under a later start: what was recorded before is of an incarnation of its own. The times of an incarnation's
+//! collections rise, as later ones are refused otherwise. A [`Pace`] says when the next collection is due.
+//!
+//! Times are nanoseconds since the Unix epoch. What contracts cite stands in `specs/`: `Written` (what contracts see of a
+//! writer), `Refusals`, `Schedules` (the events that a writer accepts, and what is read off them), `Following` (what a
+//! writer is after them), `Pacing`.
+#![tactic(auto)]
+
+mod fault;
+mod pace;
+mod writer;
+
+pub use fault::{CollectFault, MeasureFault, RestartFault};
+pub use pace::{DEFAULT_INTERVAL, Pace};
+pub use writer::Writer;
+
+#[cfg(test)]
+mod tests;
