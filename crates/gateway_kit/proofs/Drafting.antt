@@ -22,6 +22,7 @@ use Rattle.gateway_kit.specs.declared.part_item.PartItem.{PartItem}
 use Rattle.point_kit.proofs.EqualityLaws.{cell_itself}
 use Rattle.gateway_kit.proofs.Entries.{not_None, same_Some, find_at}
 use Rattle.gateway_kit.proofs.KeyOrders.{item_total, item_exact}
+use Rattle.gateway_kit.proofs.Times.{joined_stays}
 use Rattle.gateway_kit.proofs.Prepared.{brings_none, brings_kept, brings_changed, brings_fresh}
 
 pub count_push : {A : Type 0} (p : A → Bool) (xs : List A) (x : A) → count_by p (xs ++ x ∷ []) ≡ count_by p xs + cond (p x) 1 0
@@ -52,7 +53,7 @@ module _ (es came : List Entry) (updates : List (ℕ × Cell Payload)) (fresh : 
 
   pub drafts_changed : T (is_sorted item_cmp es) → (v : Cell Payload) (place : ℕ) (cell : Cell Payload) → find item_cmp k es ≡ Some v → slice_get (map (λ e. e.0) es) place ≡ Some k → cell ≡ join_cells payload_eq v w → cell_eq v cell ≡ false → Drafts es (came ++ (k, w) ∷ []) (updates ++ (place, cell) ∷ []) fresh
   drafts_changed sorted v place cell there at is differs = record {
-    brings = brings_changed item_cmp (join_cells payload_eq) replaced item_total item_exact es came updates (map entry_of fresh) so_far.brings k w first sorted v place cell there at is;
+    brings = brings_changed item_cmp (join_cells payload_eq) replaced item_total item_exact es came updates (map entry_of fresh) so_far.brings k w first sorted v place cell there at (ap (replaced v) is ∙ joined_stays v w);
     changed = counted true _ (change_at (Some v) there ∙ ap (λ x. not (cell_eq v x)) (sym is) ∙ ap not differs) (omega (arith, length-append updates ((place, cell) ∷ [])));
     new = counted_new false _ (new_at (Some v) there) (omega arith);
   }

@@ -69,7 +69,7 @@ module _ {K : Type 0} {R : K → K → Ordering} (o : IsTotalOrder R) where
   pub is_less : (x y : K) → R x y ≡ Less → T (is_lt (R x y))
   is_less x y p = subst (λ r. T (is_lt r)) (sym p) tt
 
-  below_less : {V : Type 0} (x y : K) (es : List (K × V)) → R x y ≡ Less → T (below_all R y es) → T (below_all R x es)
+  pub below_less : {V : Type 0} (x y : K) (es : List (K × V)) → R x y ≡ Less → T (below_all R y es) → T (below_all R x es)
   below_less x y [] p h = tt
   below_less x y (e ∷ es) p h = both _ _ (is_less x e.0 (o.trans x y e.0 p (less _ (first _ _ h)))) (below_less x y es p (second _ _ h))
 

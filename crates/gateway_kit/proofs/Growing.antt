@@ -56,7 +56,7 @@ all_insert p [] (suc i) y h t = both_true (p y) true t refl
 all_insert p (x ∷ xs) zero y h t = both_true (p y) (list_all p (x ∷ xs)) t h
 all_insert p (x ∷ xs) (suc i) y h t = both_true (p x) (list_all p (insert xs i y)) (first_true (p x) (list_all p xs) h) (all_insert p xs i y (second_true (p x) (list_all p xs) h) t)
 
-map-insert : {A B : Type 0} (f : A → B) (xs : List A) (i : ℕ) (y : A) → map f (insert xs i y) ≡ insert (map f xs) i (f y)
+pub map-insert : {A B : Type 0} (f : A → B) (xs : List A) (i : ℕ) (y : A) → map f (insert xs i y) ≡ insert (map f xs) i (f y)
 map-insert f xs zero y = refl
 map-insert f [] (suc i) y = refl
 map-insert f (x ∷ xs) (suc i) y = ap (λ l. f x ∷ l) (map-insert f xs i y)
@@ -69,7 +69,7 @@ entries-empty : entries no_cells ≡ []
 entries-empty = sym (ap entries (from_sorted-nil {V = Cell Payload} {R = item_cmp})) ∙ entries-from_sorted item_cmp [] tt
 
 -- where something is found there is something
-some_found : (es : List Entry) (b : ItemKey) (o : Option (Cell Payload)) → find item_cmp b es ≡ o → is_some o ≡ true → has_some es ≡ true
+pub some_found : (es : List Entry) (b : ItemKey) (o : Option (Cell Payload)) → find item_cmp b es ≡ o → is_some o ≡ true → has_some es ≡ true
 some_found [] b o is some = absurd (true≢false (sym some ∙ ap is_some (sym is)))
 some_found (e ∷ es) b o is some = refl
 
@@ -96,12 +96,6 @@ within_at f [] i k at = absurd (not_None at)
 within_at f (x ∷ xs) zero k at = omega arith
 within_at f (x ∷ xs) (suc i) k at = let rest = within_at f xs i k at in omega (arith, rest)
 
--- two readings of one place
-pub same_at : {A : Type 0} (xs : List A) (i : ℕ) (x y : A) → i < length xs → x ≡ get_or xs i x → y ≡ get_or xs i y → x ≡ y
-same_at [] i x y h p q = absurd (omega arith)
-same_at (z ∷ xs) zero x y h p q = p ∙ sym q
-same_at (z ∷ xs) (suc i) x y h p q = same_at xs i x y (omega arith) p q
-
 -- what was prepared for a part's cells, installed
 pub record Installed (e : Export) (old cells : Cells) : Type 0 where
   pub joined : (b : ItemKey) → find item_cmp b (entries cells) ≡ join_options (join_cells payload_eq) (find item_cmp b (entries old)) (find item_cmp b (entries_of e))
@@ -113,36 +107,46 @@ installed_cells e some old c prepared =
     let joined : (b : ItemKey) → find item_cmp b (entries (from_sorted {R = item_cmp} (grown (entries old) c))) ≡ join_options (join_cells payload_eq) (find item_cmp b (entries old)) (find item_cmp b (entries_of e)) = λ b. ap (find item_cmp b) is ∙ prepared.joined b in
     record { joined = joined; filled = brings_some e (entries old) (entries (from_sorted (grown (entries old) c))) some joined }
 
+-- one part changed in its place, or put in where it belongs
+module _ (olds : List Part) (len : ℕ) (whole : IsWhole olds len) (a : PartKey) (came : List Entry) (more changed : ℕ) where
+  pub grows_at : (place : ℕ) (part new : Part) (cells : Cells) → IsAt part_cmp (map part_of olds) a place → part ≡ get_or olds place part → new ≡ record part { cells = cells } → has_some (entries cells) ≡ true → ((b : ItemKey) → find item_cmp b (entries cells) ≡ join_options (join_cells payload_eq) (find item_cmp b (entries part.cells)) (find item_cmp b came)) → more ≡ count_by (is_new item_cmp (entries part.cells)) came → changed ≡ count_by (is_change item_cmp (join_cells payload_eq) cell_eq (entries part.cells)) came → Grows olds (slice_set olds place new) a came more changed
+  grows_at place part new cells at is new_is some joined m n =
+      let there : find part_cmp a (map part_of olds) ≡ Some part.cells = found_place part_of part_total olds place part a (as_T whole.sorted) at is in
+      let here : part_at a olds ≡ entries part.cells = ap entries_at there in
+      let moved : map part_of (slice_set olds place new) ≡ amend (λ old cs. cs) (map part_of olds) place cells = set_amend part_of (λ old cs. cs) olds place part new cells (within_at part_of olds place a at) is (ap part_of new_is) in
+      record {
+        sorted = ap (is_sorted part_cmp) moved ∙ is_sorted-amend part_total (λ (old : Cells) cs. cs) (map part_of olds) place cells ∙ whole.sorted;
+        filled = all_set has_cells olds place new whole.filled (ap (λ (p : Part). has_cells p) new_is ∙ some);
+        cells = cells;
+        found = λ k. ap (find part_cmp k) moved ∙ find-amend part_total (λ (old : Cells) cs. cs) k a (map part_of olds) place cells (as_T whole.sorted) at ∙ ap (λ x. cond (eq_by_cmp part_cmp k a) (option_map (λ v. cells) x) (find part_cmp k (map part_of olds))) there;
+        joined = λ b. joined b ∙ ap (λ es. join_options (join_cells payload_eq) (find item_cmp b es) (find item_cmp b came)) (sym here);
+        more_keys = m ∙ ap (λ es. count_by (is_new item_cmp es) came) (sym here);
+        changes = n ∙ ap (λ es. count_by (is_change item_cmp (join_cells payload_eq) cell_eq es) came) (sym here);
+      }
+
+  pub grows_gap : (place : ℕ) (new : Part) (cells : Cells) → IsGap part_cmp (map part_of olds) a place → new ≡ record { writer = a.0; start = a.1; cells = cells } → has_some (entries cells) ≡ true → ((b : ItemKey) → find item_cmp b (entries cells) ≡ join_options (join_cells payload_eq) (find item_cmp b (entries no_cells)) (find item_cmp b came)) → more ≡ count_by (is_new item_cmp (entries no_cells)) came → changed ≡ count_by (is_change item_cmp (join_cells payload_eq) cell_eq (entries no_cells)) came → Grows olds (insert olds place new) a came more changed
+  grows_gap place new cells gap new_is some joined m n =
+      let here : part_at a olds ≡ entries no_cells = ap entries_at gap.none ∙ sym entries-empty in
+      let moved : map part_of (insert olds place new) ≡ put part_cmp a cells (map part_of olds) = map-insert part_of olds place new ∙ ap (λ (p : Part). insert (map part_of olds) place (part_of p)) new_is ∙ gap.fits cells in
+      record {
+        sorted = ap (is_sorted part_cmp) moved ∙ as_true _ (is_sorted-put part_cmp part_total a cells (map part_of olds) (as_T whole.sorted));
+        filled = all_insert has_cells olds place new whole.filled (ap (λ (p : Part). has_cells p) new_is ∙ some);
+        cells = cells;
+        found = λ k. ap (find part_cmp k) moved ∙ find-put part_cmp part_total k a cells (map part_of olds);
+        joined = λ b. joined b ∙ ap (λ es. join_options (join_cells payload_eq) (find item_cmp b es) (find item_cmp b came)) (sym here);
+        more_keys = m ∙ ap (λ es. count_by (is_new item_cmp es) came) (sym here);
+        changes = n ∙ ap (λ es. count_by (is_change item_cmp (join_cells payload_eq) cell_eq es) came) (sym here);
+      }
+
 module _ (olds : List Part) (len : ℕ) (whole : IsWhole olds len) (e : Export) (some : e.points ≢ []) (c : Changes) (more changed : ℕ) where
   pub grows_held : (place : ℕ) (part new : Part) → IsAt part_cmp (map part_of olds) (e.writer, e.start) place → part ≡ get_or olds place part → Prepares (entries part.cells) (entries_of e) c → new ≡ record part { cells = from_sorted (grown (entries part.cells) c) } → more ≡ length c.fresh.items → changed ≡ length c.updates.items + length c.fresh.items → Grows olds (slice_set olds place new) (e.writer, e.start) (entries_of e) more changed
   grows_held place part new at is prepared new_is m n =
       let cells : Cells = from_sorted (grown (entries part.cells) c) in
-      let there : find part_cmp (e.writer, e.start) (map part_of olds) ≡ Some part.cells = found_place part_of part_total olds place part (e.writer, e.start) (as_T whole.sorted) at is in
-      let here : part_at (e.writer, e.start) olds ≡ entries part.cells = ap entries_at there in
       let inside : Installed e part.cells cells = installed_cells e some part.cells c prepared in
-      let moved : map part_of (slice_set olds place new) ≡ amend (λ old cs. cs) (map part_of olds) place cells = set_amend part_of (λ old cs. cs) olds place part new cells (within_at part_of olds place (e.writer, e.start) at) is (ap part_of new_is) in
-      record {
-        sorted = ap (is_sorted part_cmp) moved ∙ is_sorted-amend part_total (λ (old : Cells) cs. cs) (map part_of olds) place cells ∙ whole.sorted;
-        filled = all_set has_cells olds place new whole.filled (ap (λ (p : Part). has_cells p) new_is ∙ inside.filled);
-        cells = cells;
-        found = λ k. ap (find part_cmp k) moved ∙ find-amend part_total (λ (old : Cells) cs. cs) k (e.writer, e.start) (map part_of olds) place cells (as_T whole.sorted) at ∙ ap (λ x. cond (eq_by_cmp part_cmp k (e.writer, e.start)) (option_map (λ v. cells) x) (find part_cmp k (map part_of olds))) there;
-        joined = λ b. inside.joined b ∙ ap (λ es. join_options (join_cells payload_eq) (find item_cmp b es) (find item_cmp b (entries_of e))) (sym here);
-        more_keys = m ∙ sym prepared.new ∙ ap (λ es. count_by (is_new item_cmp es) (entries_of e)) (sym here);
-        changes = n ∙ sym prepared.changed ∙ ap (λ es. count_by (is_change item_cmp (join_cells payload_eq) cell_eq es) (entries_of e)) (sym here);
-      }
+      grows_at olds len whole (e.writer, e.start) (entries_of e) more changed place part new cells at is new_is inside.filled inside.joined (m ∙ sym prepared.new) (n ∙ sym prepared.changed)
 
   pub grows_new : (place : ℕ) (new : Part) → IsGap part_cmp (map part_of olds) (e.writer, e.start) place → Prepares (entries no_cells) (entries_of e) c → new ≡ record { writer = e.writer; start = e.start; cells = from_sorted (grown (entries no_cells) c) } → more ≡ length c.fresh.items → changed ≡ length c.updates.items + length c.fresh.items → Grows olds (insert olds place new) (e.writer, e.start) (entries_of e) more changed
   grows_new place new gap prepared new_is m n =
       let cells : Cells = from_sorted (grown (entries no_cells) c) in
-      let here : part_at (e.writer, e.start) olds ≡ entries no_cells = ap entries_at gap.none ∙ sym entries-empty in
       let inside : Installed e no_cells cells = installed_cells e some no_cells c prepared in
-      let moved : map part_of (insert olds place new) ≡ put part_cmp (e.writer, e.start) cells (map part_of olds) = map-insert part_of olds place new ∙ ap (λ (p : Part). insert (map part_of olds) place (part_of p)) new_is ∙ gap.fits cells in
-      record {
-        sorted = ap (is_sorted part_cmp) moved ∙ as_true _ (is_sorted-put part_cmp part_total (e.writer, e.start) cells (map part_of olds) (as_T whole.sorted));
-        filled = all_insert has_cells olds place new whole.filled (ap (λ (p : Part). has_cells p) new_is ∙ inside.filled);
-        cells = cells;
-        found = λ k. ap (find part_cmp k) moved ∙ find-put part_cmp part_total k (e.writer, e.start) cells (map part_of olds);
-        joined = λ b. inside.joined b ∙ ap (λ es. join_options (join_cells payload_eq) (find item_cmp b es) (find item_cmp b (entries_of e))) (sym here);
-        more_keys = m ∙ sym prepared.new ∙ ap (λ es. count_by (is_new item_cmp es) (entries_of e)) (sym here);
-        changes = n ∙ sym prepared.changed ∙ ap (λ es. count_by (is_change item_cmp (join_cells payload_eq) cell_eq es) (entries_of e)) (sym here);
-      }
+      grows_gap olds len whole (e.writer, e.start) (entries_of e) more changed place new cells gap new_is inside.filled inside.joined (m ∙ sym prepared.new) (n ∙ sym prepared.changed)

@@ -10,9 +10,13 @@ pub mod MergeParts
 pub mod Merged
 pub mod Moved
 pub mod Nested
+pub mod OneCell
 pub mod Places
 pub mod Prepared
+pub mod Queried
+pub mod Same
 pub mod Seeking
 pub mod Served
 pub mod Sorting
+pub mod Times
 pub mod Ahead

@@ -1,5 +1,5 @@
 -- Changes at places, of lists whose values are entries.
-use Rattle.std.proofs.Common.{◌≡◌, ℕ, zero, suc, ◌<◌, ◌≤◌, Bool, true, false, ◌&&◌, List, [], ◌∷◌, map, length, get_or, Some, refl, ap, ◌∙◌, sym, arith, true≢false}
+use Rattle.std.proofs.Common.{◌≡◌, ℕ, zero, suc, ◌<◌, ◌≤◌, Bool, true, false, ◌&&◌, List, [], ◌∷◌, map, length, get_or, Some, refl, ap, subst, ◌∙◌, sym, arith, true≢false}
 use Rattle.std.specs.List.{list_all}
 use Rattle.std.specs.Prelude.{slice_get, slice_set}
 use Rattle.gateway_kit.specs.Amending.{amend}
@@ -10,6 +10,14 @@ module _ {A K V C : Type 0} (f : A → K × V) (made : V → C → V) where
   set_amend [] i x y c h is e = absurd (omega arith)
   set_amend (z ∷ xs) zero x y c h is e = λ j. (e ∙ ap (λ w. ((f w).0, made (f w).1 c)) is) j ∷ map f xs
   set_amend (z ∷ xs) (suc i) x y c h is e = ap (λ l. f z ∷ l) (set_amend xs i x y c (omega arith) is e)
+
+  -- a value that stays as it is
+  pub kept_amend : (xs : List A) (i : ℕ) (x : A) (c : C) → i < length xs → x ≡ get_or xs i x → made (f x).1 c ≡ (f x).1 → map f xs ≡ amend made (map f xs) i c
+  kept_amend [] i x c h is e = absurd (omega arith)
+  kept_amend (z ∷ xs) zero x c h is e =
+      let same : made (f z).1 c ≡ (f z).1 = subst (λ w. made (f w).1 c ≡ (f w).1) is e in
+      λ j. ((f z).0, sym same j) ∷ map f xs
+  kept_amend (z ∷ xs) (suc i) x c h is e = ap (λ l. f z ∷ l) (kept_amend xs i x c (omega arith) is e)
 
   -- past the end
   pub past_amend : (xs : List A) (i : ℕ) (c : C) → length xs ≤ i → map f xs ≡ amend made (map f xs) i c
@@ -36,3 +44,9 @@ passes_at test (z ∷ xs) (suc i) x all h is = passes_at test xs i x (second_of_
     second_of_both : (a b : Bool) → (a && b) ≡ true → b ≡ true
     second_of_both true b e = e
     second_of_both false b e = absurd (true≢false (sym e))
+
+-- two readings of one place
+pub same_at : {A : Type 0} (xs : List A) (i : ℕ) (x y : A) → i < length xs → x ≡ get_or xs i x → y ≡ get_or xs i y → x ≡ y
+same_at [] i x y h p q = absurd (omega arith)
+same_at (z ∷ xs) zero x y h p q = p ∙ sym q
+same_at (z ∷ xs) (suc i) x y h p q = same_at xs i x y (omega arith) p q

@@ -16,14 +16,18 @@ use Rattle.gateway_kit.specs.Parts.{listed}
 use Rattle.gateway_kit.specs.Walks.{items_left, is_asked, points_left}
 use Rattle.gateway_kit.proofs.Entries.{map_map}
 
--- all entries of a part are of its writer
-pub filter_part : (asked : WriterId → Bool) (a : PartKey) (es : List Entry) (rest : List (Key × Cell Payload)) → filter (λ e. asked e.0.writer) (map (λ e. (whole_key a e.0, e.1)) es ++ rest) ≡ cond (asked a.0) (map (λ e. (whole_key a e.0, e.1)) es) [] ++ filter (λ e. asked e.0.writer) rest
-filter_part asked a [] rest = elim (asked a.0) as (λ b. filter (λ e. asked e.0.writer) rest ≡ cond b [] [] ++ filter (λ e. asked e.0.writer) rest) [ true ↦ refl | false ↦ refl ]
-filter_part asked a (e ∷ es) rest =
-    elim (asked a.0) as (λ b. filter (λ f. asked f.0.writer) (map (λ f. (whole_key a f.0, f.1)) es ++ rest) ≡ cond b (map (λ f. (whole_key a f.0, f.1)) es) [] ++ filter (λ f. asked f.0.writer) rest → cond b ((whole_key a e.0, e.1) ∷ filter (λ f. asked f.0.writer) (map (λ f. (whole_key a f.0, f.1)) es ++ rest)) (filter (λ f. asked f.0.writer) (map (λ f. (whole_key a f.0, f.1)) es ++ rest)) ≡ cond b ((whole_key a e.0, e.1) ∷ map (λ f. (whole_key a f.0, f.1)) es) [] ++ filter (λ f. asked f.0.writer) rest) [
+-- all entries of a part are of its key
+pub filter_own : (asked : PartKey → Bool) (a : PartKey) (es : List Entry) (rest : List (Key × Cell Payload)) → filter (λ e. asked (e.0.writer, e.0.start)) (map (λ e. (whole_key a e.0, e.1)) es ++ rest) ≡ cond (asked a) (map (λ e. (whole_key a e.0, e.1)) es) [] ++ filter (λ e. asked (e.0.writer, e.0.start)) rest
+filter_own asked a [] rest = elim (asked a) as (λ b. filter (λ e. asked (e.0.writer, e.0.start)) rest ≡ cond b [] [] ++ filter (λ e. asked (e.0.writer, e.0.start)) rest) [ true ↦ refl | false ↦ refl ]
+filter_own asked a (e ∷ es) rest =
+    elim (asked a) as (λ b. filter (λ f. asked (f.0.writer, f.0.start)) (map (λ f. (whole_key a f.0, f.1)) es ++ rest) ≡ cond b (map (λ f. (whole_key a f.0, f.1)) es) [] ++ filter (λ f. asked (f.0.writer, f.0.start)) rest → cond b ((whole_key a e.0, e.1) ∷ filter (λ f. asked (f.0.writer, f.0.start)) (map (λ f. (whole_key a f.0, f.1)) es ++ rest)) (filter (λ f. asked (f.0.writer, f.0.start)) (map (λ f. (whole_key a f.0, f.1)) es ++ rest)) ≡ cond b ((whole_key a e.0, e.1) ∷ map (λ f. (whole_key a f.0, f.1)) es) [] ++ filter (λ f. asked (f.0.writer, f.0.start)) rest) [
       | true ↦ λ h. ap (λ l. (whole_key a e.0, e.1) ∷ l) h
       | false ↦ λ h. h
-    ] (filter_part asked a es rest)
+    ] (filter_own asked a es rest)
+
+-- and so of its writer
+pub filter_part : (asked : WriterId → Bool) (a : PartKey) (es : List Entry) (rest : List (Key × Cell Payload)) → filter (λ e. asked e.0.writer) (map (λ e. (whole_key a e.0, e.1)) es ++ rest) ≡ cond (asked a.0) (map (λ e. (whole_key a e.0, e.1)) es) [] ++ filter (λ e. asked e.0.writer) rest
+filter_part asked a es rest = filter_own (λ b. asked b.0) a es rest
 
 pub filter_all : {A : Type 0} (xs : List A) → filter (λ x. true) xs ≡ xs
 filter_all [] = refl

@@ -11,7 +11,8 @@ use Rattle.std.specs.Cmp.{IsTotalOrder, eq_by_cmp_equiv}
 use Rattle.std.specs.FinMap.Entries.{find, is_sorted, below_all}
 use Rattle.std.proofs.lemmas.List.Sorted.{IsPermutation-map, All-permutation, sorted_far, ranks_by}
 use Rattle.std.proofs.lemmas.Map.Keys.{IsDistinct-IsPermutation}
-use Rattle.gateway_kit.proofs.Entries.{both, as_T}
+use Rattle.gateway_kit.specs.Weave.{Rises}
+use Rattle.gateway_kit.proofs.Entries.{both, as_T, first, is_less, below_less}
 
 module _ {A K V : Type 0} {R : K → K → Ordering} (o : IsTotalOrder R) (f : A → K × V) where
   -- the order of keys, as a test
@@ -69,6 +70,15 @@ module _ {A K V : Type 0} {R : K → K → Ordering} (o : IsTotalOrder R) (f : A
 
   pub sorted_strictly : (xs ys : List A) → IsPermutation xs ys → IsDistinct (eq_by_cmp R) (map (λ x. (f x).0) xs) → IsSortedBy lower ys → T (is_sorted R (map f ys))
   sorted_strictly xs ys moved apart up = rising ys up (IsDistinct-IsPermutation (eq_by_cmp R) (eq_by_cmp_equiv o).symm (map (λ x. (f x).0) xs) (map (λ x. (f x).0) ys) (IsPermutation-map (λ x. (f x).0) xs ys moved) apart)
+
+-- where each value is below the next, all are in order
+pub rising_neighbours : {A K V : Type 0} {R : K → K → Ordering} (o : IsTotalOrder R) (f : A → K × V) (xs : List A) → Rises (λ x y. R (f x).0 (f y).0) xs → T (is_sorted R (map f xs))
+rising_neighbours o f [] h = tt
+rising_neighbours o f (x ∷ []) h = tt
+rising_neighbours {R = R} o f (x ∷ y ∷ ys) h =
+    let least : R (f x).0 (f y).0 ≡ Less = h 0 x (omega arith) in
+    let rest : T (is_sorted R (map f (y ∷ ys))) = rising_neighbours o f (y ∷ ys) (λ k d l. let e : suc k + 1 ≡ suc (k + 1) = omega arith in subst (λ n. R (f (get_or (x ∷ y ∷ ys) (suc k) d)).0 (f (get_or (x ∷ y ∷ ys) n d)).0 ≡ Less) e (h (suc k) d (omega arith))) in
+    both _ _ (both _ _ (is_less o (f x).0 (f y).0 least) (below_less o (f x).0 (f y).0 (map f ys) least (first _ _ rest))) rest
 
 both_true : (a b : Bool) → a ≡ true → b ≡ true → (a && b) ≡ true
 both_true true b p q = q

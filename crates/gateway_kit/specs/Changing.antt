@@ -1,5 +1,5 @@
 -- How the cells of an incarnation change.
-use Rattle.std.specs.Prelude.{◌≡◌, ℕ, ◌+◌, Bool, false, cond, nat_le, List, length, map, Option, Some, None, count_by, vec_capacity}
+use Rattle.std.specs.Prelude.{◌≡◌, ℕ, ◌+◌, Bool, false, cond, nat_le, nat_lt, List, length, map, Option, Some, None, count_by, vec_capacity}
 use Rattle.std.specs.FinMap.{find}
 use Rattle.point_kit.specs.Join.{join_options}
 use Rattle.point_kit.specs.declared.cell.Cell.{Cell}
@@ -34,9 +34,9 @@ IsUpdate mine theirs (Some cell) = (cell ≡ join_cells payload_eq mine theirs) 
 abbrev pub entries_of : Export → List Entry
 entries_of e = map (λ p. ((p.stream, p.attrs), record { time = e.time; held = One p.payload })) e.points
 
--- an update is the cell that comes in place of another
+-- an update comes in place of another cell, where that is not later
 abbrev pub replaced : Cell Payload → Cell Payload → Cell Payload
-replaced old new = new
+replaced old new = cond (nat_lt new.time old.time) old new
 
 -- the entries with their cells updated, and the new ones woven in where there is room for them
 abbrev pub grown : List Entry → Changes → List Entry

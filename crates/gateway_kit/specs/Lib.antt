@@ -8,8 +8,11 @@ pub mod Growth
 pub mod Keys
 pub mod Part
 pub mod Merging
+pub mod OneCell
 pub mod Parts
 pub mod Places
+pub mod Queries
+pub mod Times
 pub mod View
 pub mod Walks
 pub mod Weave

@@ -1,5 +1,5 @@
 -- Two lists in one order, as one.
-use Rattle.std.specs.Prelude.{◌≡◌, ℕ, ◌<◌, List, [], ◌∷◌, slice_index_or}
+use Rattle.std.specs.Prelude.{◌≡◌, ℕ, ◌+◌, ◌<◌, List, [], ◌∷◌, length, slice_index_or}
 use Rattle.std.specs.List.Sorted.{IsNonDecreasingBy}
 use Rattle.std.specs.Ordering.{ordering_index}
 use Rattle.std.specs.declared.cmp.Ordering.TheVariants.{Less}
@@ -16,6 +16,10 @@ module _ {A : Type 0} (R : A → A → Ordering) where
   abbrev pub weave : List A → List A → List A
   weave [] ys = ys
   weave (x ∷ xs) ys = weave_one x xs (weave xs) ys
+
+-- each value is below the next
+abbrev pub Rises : {A : Type 0} → (A → A → Ordering) → List A → Type 0
+Rises {A} R xs = (k : ℕ) (d : A) → k + 1 < length xs → R (slice_index_or xs k d) (slice_index_or xs (k + 1) d) ≡ Less
 
 -- where the answers to a key do not fall along a list, all before a place are below it
 abbrev pub AreBelow : {A : Type 0} → (A → A → Ordering) → List A → A → ℕ → Type 0

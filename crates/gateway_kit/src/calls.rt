@@ -1,15 +1,16 @@
 //! What a gateway is made of and told.
-ghost use Rattle.std.specs.Prelude.{◌≡◌, ◌≤◌, ◌^◌, IfOk, OnOk, OnErr, Ok, [], ◌∷◌};
+ghost use Rattle.std.specs.Prelude.{IsOk, IsSome, nat_lt, ◌≡◌, ◌≤◌, ◌^◌, IfOk, OnOk, OnErr, Ok, [], ◌∷◌};
 ghost use Rattle.std.specs.FinMap as finite;
 ghost use Rattle.point_kit.specs.Exports.{state, JoinsExports};
 ghost use Rattle.point_kit.specs.Join.{IsCommutative, IsAssociative, IsIdempotent, JoinsAbove, JoinsLeast};
 ghost use Rattle.point_kit.specs.Exports.{join_points, changed_points};
 
+use crate::cell_joins::joined;
 use crate::gateway::Gateway;
 use crate::merging::merged;
 use crate::taking::taken;
 use attr_kit::{NoMemory, copy_all};
-use point_kit::Export;
+use point_kit::{Cell, Export, Key};
 use std::alloc::Global;
 
 impl Gateway {
@@ -58,6 +59,22 @@ impl Gateway {
         let growth = taken(&mut self.incarnations, self.len, export)?;
         self.len += growth.more;
         Ok(growth.changed)
+    }
+
+    /// Joins one cell, and answers whether that of its key changed.
+    ///
+    /// O(log n) where the key is held, and then it takes no memory; else O(n) in its incarnation. Refused with `NoMemory`,
+    /// with nothing changed, where a growth was refused, or where the gateway would come to hold more than 2^62 points.
+    pub fn join_cell(&mut self, key: Key, cell: Cell) -> Result<bool, NoMemory>
+        ensures id { self.new.id ≡ self.old.id }
+        ensures ok { OnOk result (self.new.points ≡ join_points self.old.points (finite.from_entries ((key, cell) ∷ []))) }
+        ensures value { IfOk result (λ changed. changed ≡ nat_lt 0 (changed_points self.old.points self.new.points)) }
+        ensures unchanged { OnErr result (self.new ≡ self.old) }
+        ensures held { IsSome (finite.get self.old.points key) → IsOk result }
+    {
+        let growth = joined(&mut self.incarnations, self.len, key, cell)?;
+        self.len += growth.more;
+        Ok(growth.changed > 0)
     }
 
     /// Joins what another gateway holds, key by key, and answers the number of keys whose cell changed, the new ones

@@ -9,10 +9,12 @@ ghost use Rattle.std.specs.List.{IsDistinct};
 ghost use Rattle.std.specs.Ordering.{eq_by_cmp};
 ghost use Rattle.gateway_kit.specs.Keys.{ItemKey, entry_of, item_cmp};
 ghost use Rattle.gateway_kit.specs.Places.{IsPlace};
+ghost use Rattle.gateway_kit.specs.Times.{latest};
 
 use crate::changes::Changes;
 use crate::part_item::PartItem;
-use crate::weave::{Keyed, woven};
+use crate::seek::rises;
+use crate::weave::Keyed;
 use attr_kit::{AttrSet, NoMemory, TryCopy};
 use point_kit::{Cell, Export, Held, Payload, SharedStream, Stream};
 use std::alloc::Global;
@@ -30,7 +32,7 @@ fn copied(payload: Option<&Payload>) -> Result<Held, NoMemory>
 }
 
 // Whether what is held is another when a payload of its time comes in.
-fn clashes(held: &Held, payload: Option<&Payload>) -> bool
+pub(crate) fn clashes(held: &Held, payload: Option<&Payload>) -> bool
     ensures { IsTrue result ↔ (join_held payload_eq held.now (held_as (option_copied payload.entry)) ≢ held.now) }
 {
     match (held, payload) {
@@ -60,22 +62,33 @@ fn update_of(mine: &Cell, time: u64, payload: Option<&Payload>) -> Result<Option
     Ok(None)
 }
 
-// Puts a new cell at a place; past the end nothing.
-fn put_cell(items: &mut Vec<PartItem>, place: usize, cell: Cell)
-    ensures { map entry_of items.new.items ≡ amend replaced (map entry_of items.old.items) place cell }
+// Puts a new cell at a place, where none that is later stands there; past the end nothing. Of the greatest time before it
+// makes the one after.
+pub(crate) fn put_cell(items: &mut Vec<PartItem>, newest: u64, place: usize, cell: Cell) -> u64
+    ensures put { map entry_of items.new.items ≡ amend replaced (map entry_of items.old.items) place cell }
+    ensures newest { newest ≡ latest (map entry_of items.old.items) → result ≡ latest (map entry_of items.new.items) }
 {
-    if place < items.len() {
-        items[place].cell = cell;
+    if place >= items.len() {
+        return newest;
     }
+    if cell.time < items[place].cell.time {
+        return newest;
+    }
+    let time = cell.time;
+    items[place].cell = cell;
+    newest.max(time)
 }
 
-// Puts the new cells at their places.
-pub(crate) fn put_cells(items: &mut Vec<PartItem>, updates: Vec<(usize, Cell)>)
-    ensures { map entry_of items.new.items ≡ amended replaced (map entry_of items.old.items) updates.items }
+// Puts the new cells at their places. Of the greatest time before it makes the one after.
+pub(crate) fn put_cells(items: &mut Vec<PartItem>, newest: u64, updates: Vec<(usize, Cell)>) -> u64
+    ensures put { map entry_of items.new.items ≡ amended replaced (map entry_of items.old.items) updates.items }
+    ensures newest { newest ≡ latest (map entry_of items.old.items) → result ≡ latest (map entry_of items.new.items) }
 {
+    let mut newest = newest;
     for (place, cell) in updates {
-        put_cell(items, place, cell);
+        newest = put_cell(items, newest, place, cell);
     }
+    newest
 }
 
 // The place of a key among items, or where it belongs: O(log n).
@@ -146,6 +159,9 @@ fn in_order(items: Vec<PartItem>) -> Result<Vec<PartItem>, NoMemory>
     ensures len { IfOk result (λ s. vec_len s ≡ vec_len items) }
     ensures same { IfOk result (λ s. (q : ItemKey) → find item_cmp q (map entry_of s.items) ≡ find item_cmp q (map entry_of items.items)) }
 {
+    if rises(items.as_slice()) {
+        return Ok(items);
+    }
     let mut items = items;
     items.sort_by(|x, y| Keyed::order(x, y))?;
     Ok(items)

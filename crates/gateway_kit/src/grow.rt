@@ -7,6 +7,7 @@ ghost use Rattle.gateway_kit.specs.Changing.{Prepares, entries_of, grown, held_a
 ghost use Rattle.gateway_kit.specs.Keys.{entry_of, item_cmp, part_cmp};
 ghost use Rattle.gateway_kit.specs.Parts.{part_of};
 ghost use Rattle.gateway_kit.specs.Places.{IsPlace};
+ghost use Rattle.gateway_kit.specs.Times.{latest};
 ghost use Rattle.std.specs.declared.cmp.Ordering.{Ordering};
 ghost use Rattle.gateway_kit.specs.Weave.{weave};
 
@@ -22,15 +23,35 @@ use std::alloc::Global;
 use std::cmp::Ordering;
 use std::mem;
 
-// Weaves new items in where there is room for them.
-fn put_items(items: &mut Vec<PartItem>, fresh: Vec<PartItem>, room: Vec<PartItem>)
+// The greatest time of items, 0 of none.
+fn newest_of(items: &[PartItem]) -> u64
+    ensures { result ≡ latest (map entry_of items.now) }
+{
+    let mut newest = 0u64;
+    for item in items {
+        newest = newest.max(item.cell.time);
+    }
+    newest
+}
+
+// Weaves new items in where there is room for them. Of the greatest time before it makes the one after.
+fn put_items(
+    items: &mut Vec<PartItem>,
+    newest: u64,
+    fresh: Vec<PartItem>,
+    room: Vec<PartItem>,
+) -> u64
     requires { room.items ≡ [] }
-    ensures { map entry_of items.new.items ≡ (if nat_le (length items.old.items + length fresh.items) (vec_capacity room) then weave (λ x y. item_cmp x.0 y.0) (map entry_of items.old.items) (map entry_of fresh.items) else map entry_of items.old.items) }
+    ensures newest { newest ≡ latest (map entry_of items.old.items) → result ≡ latest (map entry_of items.new.items) }
+    ensures woven { map entry_of items.new.items ≡ (if nat_le (length items.old.items + length fresh.items) (vec_capacity room) then weave (λ x y. item_cmp x.0 y.0) (map entry_of items.old.items) (map entry_of fresh.items) else map entry_of items.old.items) }
 {
     if !fresh.is_empty() && fresh.len() <= room.capacity().saturating_sub(items.len()) {
         let alloc = *items.allocator();
         let mine = mem::replace(items, Vec::new(alloc));
         *items = woven(mine, fresh, room);
+        newest_of(items.as_slice())
+    } else {
+        newest
     }
 }
 
@@ -44,6 +65,7 @@ impl Incarnation {
             writer,
             start,
             items: Vec::new(alloc),
+            newest: 0,
         }
     }
 
@@ -52,6 +74,13 @@ impl Incarnation {
         ensures sorted { IsTrue (is_sorted item_cmp (map entry_of result.now)) }
     {
         self.items.as_slice()
+    }
+
+    /// The greatest time that is held, 0 of no cells: O(1).
+    pub(crate) fn newest(&self) -> u64
+        ensures { result ≡ latest (entries self.now.cells) }
+    {
+        self.newest
     }
 
     /// The cell under a stream and attributes: O(log n).
@@ -120,13 +149,13 @@ impl Incarnation {
             fresh,
             room,
         } = changes;
-        put_cells(&mut self.items, updates);
-        put_items(&mut self.items, fresh, room);
+        let newest = put_cells(&mut self.items, self.newest, updates);
+        self.newest = put_items(&mut self.items, newest, fresh, room);
     }
 }
 
 // The payload of a cell, none where there are several.
-fn payload_of(cell: &Cell) -> Option<&Payload>
+pub(crate) fn payload_of(cell: &Cell) -> Option<&Payload>
     ensures { held_as (option_copied result) ≡ cell.now.held }
 {
     match &cell.held {
@@ -157,6 +186,7 @@ impl TryCopy for Incarnation {
             writer: self.writer.try_copy()?,
             start: self.start,
             items: copy_all(&self.items)?,
+            newest: self.newest,
         })
     }
 }

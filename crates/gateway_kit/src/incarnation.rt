@@ -9,15 +9,17 @@ pub(crate) struct Incarnation {
     pub(crate) writer: WriterId,
     pub(crate) start: u64,
     pub(crate) items: Vec<PartItem>,
+    /// The greatest time that is held, 0 of no items.
+    pub(crate) newest: u64,
 }
 
 impl Model for Incarnation {
-    ghost use Rattle.std.specs.Prelude.{IsTrue, map};
+    ghost use Rattle.std.specs.Prelude.{map};
     ghost use Rattle.std.specs.FinMap.{from_sorted, code};
-    ghost use Rattle.std.specs.FinMap.Entries.{is_sorted};
     ghost use Rattle.std.specs.Coded.{codes};
     ghost use Rattle.gateway_kit.specs.Keys.{entry_of, item_cmp};
     ghost use Rattle.gateway_kit.specs.Part.{Part};
+    ghost use Rattle.gateway_kit.specs.Times.{IsKept};
 
     ghost Value = { Part };
 
@@ -25,5 +27,5 @@ impl Model for Incarnation {
 
     ghost view = { λ i. record { writer = i.writer; start = i.start; cells = from_sorted {R = item_cmp} (map entry_of i.items.items) } };
 
-    ghost invariant = { λ i. IsTrue (is_sorted item_cmp (map entry_of i.items.items)) };
+    ghost invariant = { λ i. IsKept i.items.items i.newest };
 }

@@ -2,18 +2,24 @@
 #![tactic(auto)]
 
 mod calls;
+mod cell_joins;
 mod changes;
 mod draft;
+mod equality;
 mod gateway;
 mod grow;
 mod incarnation;
 mod merging;
 mod part_draft;
 mod part_item;
+#[cfg(test)]
+mod plain;
 mod points;
 mod queries;
 mod seek;
 mod taking;
+#[cfg(test)]
+mod tests;
 mod walk;
 mod weave;
 

@@ -12,7 +12,7 @@ ghost use Rattle.gateway_kit.specs.Places.{IsPlace};
 
 use crate::changes::Changes;
 use crate::incarnation::Incarnation;
-use crate::seek::{after, place_from};
+use crate::seek::{after, place_from, rises};
 use crate::weave::Keyed;
 use attr_kit::{NoMemory, TryCopy};
 use std::alloc::{AllocError, AllocFailed, Global};
@@ -112,6 +112,9 @@ pub(crate) fn parts_in_order(parts: Vec<Incarnation>) -> Result<Vec<Incarnation>
     ensures filled { IfOk result (λ s. IsTrue (list_all has_cells parts.items) → IsTrue (list_all has_cells s.items)) }
     ensures same { IfOk result (λ s. (q : PartKey) → find part_cmp q (map part_of s.items) ≡ find part_cmp q (map part_of parts.items)) }
 {
+    if rises(parts.as_slice()) {
+        return Ok(parts);
+    }
     let mut parts = parts;
     parts.sort_by(|x, y| Keyed::order(x, y))?;
     Ok(parts)

@@ -1,13 +1,16 @@
 //! What a gateway is asked.
-ghost use Rattle.std.specs.Prelude.{◌≡◌, filter, option_copied};
+ghost use Rattle.std.specs.Prelude.{◌≡◌, ◌↔◌, IsTrue, count_by, filter, option_copied};
 ghost use Rattle.std.specs.FinMap as finite;
 ghost use Rattle.std.specs.FinMap.{entries};
+ghost use Rattle.gateway_kit.specs.Queries.{has_conflict, newest_time, part_items, part_points};
 ghost use Rattle.gateway_kit.specs.Walks.{is_of, points_left};
 
+use crate::equality::all_same;
 use crate::gateway::Gateway;
+use crate::part_item::PartItem;
 use crate::points::Points;
 use crate::taking::part_place;
-use point_kit::{Cell, Key};
+use point_kit::{Cell, Held, Key, WriterId};
 
 impl Gateway {
     /// The cell under a key: O(log n). Takes no memory.
@@ -43,5 +46,62 @@ impl Gateway {
             ahead: self.incarnations.as_slice(),
             service: Some(service),
         }
+    }
+
+    /// The greatest time held of one incarnation of a writer, a conflict's too; none where it is not held: O(log n). Takes
+    /// no memory.
+    pub fn newest(&self, writer: &WriterId, start: u64) -> Option<u64>
+        ensures value { result ≡ newest_time writer.now start self.now.points }
+    {
+        match part_place(self.incarnations.as_slice(), writer, start) {
+            Ok(place) => Some(self.incarnations[place].newest()),
+            Err(_) => None,
+        }
+    }
+
+    /// The points of one incarnation of a writer, in the order of their keys; none where it is not held: O(log n). Takes
+    /// no memory.
+    pub fn part(&self, writer: &WriterId, start: u64) -> &[PartItem]
+        ensures value { part_items writer.now start result.now ≡ part_points writer.now start self.now.points }
+    {
+        match part_place(self.incarnations.as_slice(), writer, start) {
+            Ok(place) => self.incarnations[place].items(),
+            Err(_) => &[],
+        }
+    }
+}
+
+// Whether different payloads came at the time of a cell.
+fn is_conflict(cell: &Cell) -> bool
+    ensures { result ≡ has_conflict cell.now }
+{
+    match &cell.held {
+        Held::One(_) => false,
+        Held::Conflict => true,
+    }
+}
+
+impl Gateway {
+    /// The number of keys at whose time different payloads came: O(n). Takes no memory.
+    pub fn conflicts(&self) -> u64
+        ensures value { result ≡ count_by (λ e. has_conflict e.1) (entries self.now.points) }
+    {
+        // There are at most 2^62 points, so the count fits.
+        let _points = self.len();
+        let mut conflicts = 0;
+        for point in self.points() {
+            if is_conflict(point.cell) {
+                conflicts += 1;
+            }
+        }
+        conflicts
+    }
+
+    /// Whether both hold equal points; ids are not compared. One walk over both. Takes no memory.
+    pub fn same(&self, other: &Gateway) -> bool
+        ensures value { IsTrue result ↔ (self.now.points ≡ other.now.points) }
+    {
+        self.len == other.len
+            && all_same(self.incarnations.as_slice(), other.incarnations.as_slice())
     }
 }

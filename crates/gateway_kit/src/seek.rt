@@ -1,7 +1,7 @@
 //! Where a key stands in a list, when two lists are walked together.
-ghost use Rattle.std.specs.Prelude.{◌≡◌, ◌≤◌, length};
+ghost use Rattle.std.specs.Prelude.{◌≡◌, ◌≤◌, IsTrue, length};
 ghost use Rattle.std.specs.List.Sorted.{IsBinarySearchResult, IsSearchInRange};
-ghost use Rattle.gateway_kit.specs.Weave.{AreBelow};
+ghost use Rattle.gateway_kit.specs.Weave.{AreBelow, Rises};
 
 use crate::weave::Keyed;
 use std::cmp::Ordering;
@@ -44,4 +44,17 @@ pub(crate) fn after(place: Result<usize, usize>) -> usize {
         Ok(place) => place.saturating_add(1),
         Err(place) => place,
     }
+}
+
+/// Whether each key of a list is below the next: one walk.
+pub(crate) fn rises<T: Keyed>(values: &[T]) -> bool
+    ensures { IsTrue result → Rises T.order values.now }
+{
+    for place in 1..values.len() {
+        match values[place - 1].order(&values[place]) {
+            Ordering::Less => {}
+            _ => return false,
+        }
+    }
+    true
 }

@@ -1,14 +1,19 @@
-use Rattle.std.proofs.Common.{◌≡◌, rules, ap}
+use Rattle.std.proofs.Common.{◌≡◌, List, rules, ap, subst}
 use Rattle.std.specs.Ordering.{is_lt}
 use Rattle.std.proofs.lemmas.Fn.{always_returns_same}
 use Rattle.std.proofs.lemmas.List.Sorted.{ranks_by}
 use Rattle.point_kit.specs.declared.cell.Held.TheVariants.{Conflict}
 use Rattle.gateway_kit.specs.declared.part_item.PartItem.{PartItem}
 use Rattle.gateway_kit.specs.Keys.{ItemKey, entry_of, item_cmp}
+use Rattle.gateway_kit.specs.Weave.{Rises}
 use Rattle.gateway_kit.proofs.Entries.{as_true}
 use Rattle.gateway_kit.proofs.KeyOrders.{item_total}
-use Rattle.gateway_kit.proofs.Sorting.{lower, sorted_strictly, same_found}
+use Rattle.gateway_kit.proofs.Sorting.{rising_neighbours, lower, sorted_strictly, same_found}
 use Rattle.gateway_kit.proofs.draft.in_order.Goals as goal
+
+pub returns-then-rises-clause-sorted : goal.returns-then-rises-clause-sorted
+returns-then-rises-clause-sorted c =
+    as_true _ (rising_neighbours item_total entry_of c.args.items.items (subst (λ (xs : List PartItem). Rises (λ x y. item_cmp (entry_of x).0 (entry_of y).0) xs) c.as_slice.ensures.value (c.rises.ensures c.if-rises.true)))
 
 pub returns-clause-sorted : goal.returns-clause-sorted
 returns-clause-sorted c =

@@ -9,8 +9,8 @@ use Rattle.std.proofs.lemmas.Bool.Decides.{nat_tests}
 use Rattle.gateway_kit.proofs.grow.put_items.Goals as goal
 use Rattle.gateway_kit.proofs.grow.put_items.Goals.{else-not-is_empty-via-then-not-is_empty+else-len-saturating_sub, else-not-is_empty-via-else-not-is_empty}
 
-pub returns-then-len-saturating_sub : goal.returns-then-len-saturating_sub
-returns-then-len-saturating_sub c =
+pub returns-then-len-saturating_sub-clause-woven : goal.returns-then-len-saturating_sub-clause-woven
+returns-then-len-saturating_sub-clause-woven c =
     let fits : length c.args.items.now.items + length c.args.fresh.items ≤ vec_capacity c.args.room = grind (arith, common_steps) in
     ap (map entry_of) (c.woven.ensures ∙ (λ i. weave (λ x y. on_keys item_cmp (entry_of x) (entry_of y)) (c.replace-mine.ensures.value i).items c.args.fresh.items)) ∙ map-weave _ (on_keys item_cmp) entry_of (λ x y. refl) c.args.items.now.items c.args.fresh.items
     ∙ ap (λ b. cond b (weave (on_keys item_cmp) (map entry_of c.args.items.now.items) (map entry_of c.args.fresh.items)) (map entry_of c.args.items.now.items)) (sym (le-leb _ _ fits))
@@ -22,8 +22,8 @@ same_either false x y e = refl
 no_room : (a b n : ℕ) → n - a < b → nat_le (a + b) n ≡ false
 no_room a b n h = grind (arith, nat_tests)
 
-pub returns-else-not-is_empty : goal.returns-else-not-is_empty
-returns-else-not-is_empty c = elim c.else-not-is_empty.branch [
+pub returns-else-not-is_empty-clause-woven : goal.returns-else-not-is_empty-clause-woven
+returns-else-not-is_empty-clause-woven c = elim c.else-not-is_empty.branch [
   | else-not-is_empty-via-then-not-is_empty+else-len-saturating_sub w ↦
       let none : nat_le (length c.args.items.now.items + length c.args.fresh.items) (vec_capacity c.args.room) ≡ false = no_room (length c.args.items.now.items) (length c.args.fresh.items) (vec_capacity c.args.room) (grind (arith, common_steps)) in
       ap (λ b. cond b (weave (on_keys item_cmp) (map entry_of c.args.items.now.items) (map entry_of c.args.fresh.items)) (map entry_of c.args.items.now.items)) (sym none)

@@ -1,4 +1,4 @@
-use Rattle.std.proofs.Common.{◌≡◌, rules, ap}
+use Rattle.std.proofs.Common.{◌≡◌, List, rules, ap, subst}
 use Rattle.std.specs.Ordering.{is_lt}
 use Rattle.std.proofs.lemmas.Fn.{always_returns_same}
 use Rattle.std.proofs.lemmas.List.Sorted.{ranks_by}
@@ -6,10 +6,15 @@ use Rattle.std.specs.FinMap.{empty}
 use Rattle.gateway_kit.specs.Keys.{part_cmp}
 use Rattle.gateway_kit.specs.Part.{Part}
 use Rattle.gateway_kit.specs.Parts.{part_of, has_cells}
+use Rattle.gateway_kit.specs.Weave.{Rises}
 use Rattle.gateway_kit.proofs.Entries.{as_true}
 use Rattle.gateway_kit.proofs.KeyOrders.{part_total}
-use Rattle.gateway_kit.proofs.Sorting.{lower, sorted_strictly, same_found, all_moved}
+use Rattle.gateway_kit.proofs.Sorting.{rising_neighbours, lower, sorted_strictly, same_found, all_moved}
 use Rattle.gateway_kit.proofs.part_draft.parts_in_order.Goals as goal
+
+pub returns-then-rises-clause-sorted : goal.returns-then-rises-clause-sorted
+returns-then-rises-clause-sorted c =
+    as_true _ (rising_neighbours part_total part_of c.args.parts.items (subst (λ (xs : List Part). Rises (λ x y. part_cmp (part_of x).0 (part_of y).0) xs) c.as_slice.ensures.value (c.rises.ensures c.if-rises.true)))
 
 pub returns-clause-sorted : goal.returns-clause-sorted
 returns-clause-sorted c =

@@ -4,7 +4,8 @@ use Rattle.std.specs.FinMap.{entries}
 use Rattle.gateway_kit.specs.Changing.{Prepares, entries_of}
 use Rattle.gateway_kit.specs.Part.{Part}
 use Rattle.gateway_kit.specs.Parts.{part_of}
-use Rattle.gateway_kit.proofs.Growing.{grows_held, within_at, same_at}
+use Rattle.gateway_kit.proofs.Growing.{grows_held, within_at}
+use Rattle.gateway_kit.proofs.Moved.{same_at}
 use Rattle.gateway_kit.proofs.taking.take_held.Goals as goal
 
 pub returns-clause-grows : goal.returns-clause-grows

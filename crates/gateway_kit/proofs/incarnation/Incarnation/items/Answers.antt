@@ -8,5 +8,5 @@ use Rattle.gateway_kit.proofs.incarnation.Incarnation.items.Goals as goal
 pub returns-clause-entries : goal.returns-clause-entries
 returns-clause-entries c =
     ap (map entry_of) c.as_slice.ensures.value
-    ∙ sym (entries-from_sorted item_cmp (map entry_of c.self.inside.items.items) (as_T c.self.invariant))
+    ∙ sym (entries-from_sorted item_cmp (map entry_of c.self.inside.items.items) (as_T c.self.invariant.sorted))
     ∙ ap (λ (p : Part). entries p.cells) c.self.view_is

@@ -1,0 +1,20 @@
+use Rattle.std.proofs.Common.{◌≡◌, [], ◌∷◌, subst, ◌∙◌}
+use Rattle.std.specs.FinMap.{entries}
+use Rattle.gateway_kit.specs.Keys.{ItemKey}
+use Rattle.gateway_kit.specs.OneCell.{JoinsEntry}
+use Rattle.gateway_kit.specs.Part.{Part, Cells}
+use Rattle.gateway_kit.proofs.Growing.{grows_gap, no_cells}
+use Rattle.gateway_kit.proofs.OneCell.{joins_some}
+use Rattle.gateway_kit.proofs.cell_joins.join_gap.Goals as goal
+
+pub returns-clause-grows : goal.returns-clause-grows
+returns-clause-grows c =
+    let olds = c.args.incarnations.now.items in
+    let key = c.args.key in
+    let k : ItemKey = (key.stream, key.attrs) in
+    let w = c.args.cell in
+    let growth = c.in_ok-growth.growth in
+    let new : Part = c.join.new.self in
+    let joins : JoinsEntry (entries no_cells) (entries new.cells) (k, w) growth.more growth.changed = subst (λ (cs : Cells). JoinsEntry (entries cs) (entries new.cells) (k, w) growth.more growth.changed) c.new-incarnation.ensures.cells c.in_ok-growth.ensures.joins in
+    let is : new ≡ record { writer = key.writer; start = key.start; cells = new.cells } = c.in_ok-growth.ensures.same ∙ (λ i. record { writer = c.new-incarnation.ensures.writer i; start = c.new-incarnation.ensures.start i; cells = new.cells }) in
+    rw c.in_ok-insert.ensures.items (grows_gap olds c.args.len c.requires.whole (key.writer, key.start) ((k, w) ∷ []) growth.more growth.changed c.args.place new new.cells c.requires.placed is (joins_some (entries no_cells) (entries new.cells) k w growth.more growth.changed joins) joins.joined joins.more_keys joins.changes)

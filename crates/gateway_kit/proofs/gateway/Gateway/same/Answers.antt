@@ -1,0 +1,43 @@
+use Rattle.std.proofs.Common.{◌≡◌, ◌↔◌, IsTrue, List, length, sym, ap, ◌∙◌}
+use borrow.Author.Tests.{eqb-true}
+use Rattle.std.proofs.lemmas.Bool.{eq-eqb}
+use Rattle.std.specs.FinMap.{from_sorted, entries}
+use Rattle.point_kit.specs.Exports.{Points}
+use Rattle.point_kit.specs.Orders.{key_cmp}
+use Rattle.gateway_kit.specs.Part.{Part}
+use Rattle.gateway_kit.specs.Parts.{listed}
+use Rattle.gateway_kit.specs.View.{View}
+use Rattle.gateway_kit.proofs.Joining.{entries_points}
+use Rattle.gateway_kit.proofs.Same.{same_parts}
+use Rattle.gateway_kit.proofs.gateway.Gateway.same.Goals as goal
+
+pub returns-then-self-other : goal.returns-then-self-other
+returns-then-self-other c =
+    let mine = c.self.inside.incarnations.items in
+    let theirs = c.other.inside.incarnations.items in
+    let mine_is : from_sorted {R = key_cmp} (listed mine) ≡ c.args.self.now.points = ap (λ (v : View). v.points) c.self.view_is in
+    let theirs_is : from_sorted {R = key_cmp} (listed theirs) ≡ c.args.other.now.points = ap (λ (v : View). v.points) c.other.view_is in
+    record {
+      value = (
+        λ equal.
+            let parts : mine ≡ theirs = sym c.as_slice.ensures.value ∙ c.all_same.ensures.0 equal ∙ c.as_slice-then-self-other.ensures.value in
+            sym mine_is ∙ ap (λ (ps : List Part). from_sorted {R = key_cmp} (listed ps)) parts ∙ theirs_is,
+        λ equal. c.all_same.ensures.1 (c.as_slice.ensures.value ∙ same_parts mine theirs c.self.inside.len c.other.inside.len c.self.invariant c.other.invariant (mine_is ∙ equal ∙ sym theirs_is) ∙ sym c.as_slice-then-self-other.ensures.value),
+      );
+    }
+
+pub returns-else-self-other : goal.returns-else-self-other
+returns-else-self-other c =
+    let mine = c.self.inside.incarnations.items in
+    let theirs = c.other.inside.incarnations.items in
+    record {
+      value = (
+        λ equal. absurd (c.if-self-other.false (eqb-true c.self.inside.len c.other.inside.len equal)),
+        λ equal.
+            let points : listed mine ≡ listed theirs =
+            sym (entries_points mine c.self.invariant.sorted)
+            ∙ ap (λ (m : Points). entries m) (ap (λ (v : View). v.points) c.self.view_is ∙ equal ∙ sym (ap (λ (v : View). v.points) c.other.view_is))
+            ∙ entries_points theirs c.other.invariant.sorted in
+            eq-eqb c.self.inside.len c.other.inside.len (c.self.invariant.counted ∙ ap length points ∙ sym c.other.invariant.counted),
+      );
+    }

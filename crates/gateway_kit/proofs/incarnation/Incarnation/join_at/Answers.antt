@@ -1,0 +1,43 @@
+use Rattle.std.proofs.Common.{◌≡◌, ◌<◌, length, List, map, sym, ap, subst, ◌∙◌, arith}
+use Rattle.std.proofs.lemmas.Grind.{common_steps}
+use lib.ListN.{length-map}
+use Rattle.std.specs.FinMap.{entries, from_sorted, entries-from_sorted}
+use Rattle.std.specs.FinMap.Entries.{is_sorted}
+use Rattle.gateway_kit.specs.Changing.{Entry, replaced}
+use Rattle.gateway_kit.specs.Keys.{entry_of, item_cmp}
+use Rattle.gateway_kit.specs.Places.{IsAt}
+use Rattle.gateway_kit.proofs.Entries.{as_T, is_sorted-amend}
+use Rattle.gateway_kit.proofs.KeyOrders.{item_total}
+use Rattle.gateway_kit.proofs.OneCell.{cells_of, joins_alike, kept_at, changed_at}
+use Rattle.gateway_kit.proofs.incarnation.Incarnation.join_at.Goals as goal
+
+pub index-requires : goal.index-requires
+index-requires c =
+    let items = c.self.inside.items.items in
+    let long : length (entries c.args.self.now.cells) ≡ length items = ap length (cells_of c.args.self.now c.self.inside.writer c.self.inside.start items c.self.invariant.sorted c.self.view_is) ∙ length-map items entry_of in
+    let within : c.args.place < length items = omega (arith, c.requires) in
+    grind (arith, common_steps)
+
+pub returns-in_default-clause-joins : goal.returns-in_default-clause-joins
+returns-in_default-clause-joins c = λ key at.
+    let items = c.self.inside.items.items in
+    let listed = cells_of c.args.self.now c.self.inside.writer c.self.inside.start items c.self.invariant.sorted c.self.view_is in
+    let here : IsAt item_cmp (map entry_of items) key c.args.place = subst (λ (es : List Entry). IsAt item_cmp es key c.args.place) listed at in
+    joins_alike (map entry_of items) (entries c.args.self.now.cells) (map entry_of items) (entries c.args.self.now.cells) (key, c.args.cell) 0 0 (sym listed) (sym listed)
+    (kept_at items c.self.invariant.sorted c.args.place c.index.result.now key c.args.cell here c.index.ensures c.in_default.ensures)
+
+pub invariant_of-self : goal.invariant_of-self
+invariant_of-self c = record {
+  sorted = ap (is_sorted item_cmp) c.put_cell-self-inside.ensures.put ∙ is_sorted-amend item_total replaced (map entry_of c.self.inside.items.items) c.args.place c.in-Some.cell ∙ c.self.invariant.sorted;
+  newest = c.put_cell-self-inside.ensures.newest c.self.invariant.newest;
+}
+
+pub returns-clause-joins : goal.returns-clause-joins
+returns-clause-joins c = λ key at.
+    let items = c.self.inside.items.items in
+    let news = c.put_cell-self-inside.new.items.items in
+    let listed = cells_of c.args.self.now c.self.inside.writer c.self.inside.start items c.self.invariant.sorted c.self.view_is in
+    let here : IsAt item_cmp (map entry_of items) key c.args.place = subst (λ (es : List Entry). IsAt item_cmp es key c.args.place) listed at in
+    let sorted = ap (is_sorted item_cmp) c.put_cell-self-inside.ensures.put ∙ is_sorted-amend item_total replaced (map entry_of items) c.args.place c.in-Some.cell ∙ c.self.invariant.sorted in
+    joins_alike (map entry_of items) (entries c.args.self.now.cells) (map entry_of news) (entries (from_sorted {R = item_cmp} (map entry_of news))) (key, c.args.cell) 0 1 (sym listed) (sym (entries-from_sorted item_cmp (map entry_of news) (as_T sorted)))
+    (changed_at items c.self.invariant.sorted c.args.place c.index.result.now key c.args.cell here c.index.ensures news c.in-Some.cell c.put_cell-self-inside.ensures.put c.in-Some.ensures.0 c.in-Some.ensures.1)

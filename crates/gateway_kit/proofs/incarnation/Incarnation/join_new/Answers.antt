@@ -1,0 +1,46 @@
+use Rattle.std.proofs.Common.{◌≡◌, ◌≤◌, ℕ, max, length, List, map, sym, ap, subst, ◌∙◌, arith}
+use Rattle.std.proofs.lemmas.Grind.{common_steps}
+use lib.ListN.{length-map}
+use Rattle.std.specs.FinMap.{entries, from_sorted, entries-from_sorted}
+use Rattle.std.specs.FinMap.Entries.{is_sorted}
+use Rattle.std.specs.List.{insert}
+use Rattle.gateway_kit.specs.Changing.{Entry}
+use Rattle.gateway_kit.specs.Keys.{entry_of, item_cmp}
+use Rattle.gateway_kit.specs.Places.{IsGap}
+use Rattle.gateway_kit.specs.Times.{latest}
+use Rattle.gateway_kit.specs.declared.part_item.PartItem.{PartItem}
+use Rattle.gateway_kit.proofs.Entries.{as_T}
+use Rattle.gateway_kit.proofs.OneCell.{cells_of, joins_alike, new_at, sorted_at, latest_insert}
+use Rattle.gateway_kit.proofs.incarnation.Incarnation.join_new.Goals as goal
+
+pub insert-requires : goal.insert-requires
+insert-requires c =
+    let items = c.self.inside.items.items in
+    let long : length (entries c.args.self.now.cells) ≡ length items = ap length (cells_of c.args.self.now c.self.inside.writer c.self.inside.start items c.self.invariant.sorted c.self.view_is) ∙ length-map items entry_of in
+    let within : c.args.place ≤ length items = omega (arith, c.requires.within) in
+    grind (arith, common_steps)
+
+pub invariant_of-self-2 : goal.invariant_of-self-2
+invariant_of-self-2 c =
+    let items = c.self.inside.items.items in
+    let item = c.args.item in
+    let listed = cells_of c.args.self.now c.self.inside.writer c.self.inside.start items c.self.invariant.sorted c.self.view_is in
+    let gap : IsGap item_cmp (map entry_of items) (entry_of item).0 c.args.place = subst (λ (es : List Entry). IsGap item_cmp es (entry_of item).0 c.args.place) listed c.requires in
+    let long : length (map entry_of items) ≡ length items = length-map items entry_of in
+    let within : c.args.place ≤ length items = omega (arith, gap.within) in
+    record {
+      sorted = ap (λ (l : List PartItem). is_sorted item_cmp (map entry_of l)) c.in_ok-insert.ensures.items ∙ sorted_at items item c.args.place c.self.invariant.sorted gap;
+      newest = c.max-self-inside.ensures ∙ ap (λ (n : ℕ). max n item.cell.time) c.self.invariant.newest ∙ sym (latest_insert items item c.args.place within) ∙ ap (λ (l : List PartItem). latest (map entry_of l)) (sym c.in_ok-insert.ensures.items);
+    }
+
+pub returns-clause-joins : goal.returns-clause-joins
+returns-clause-joins c =
+    let items = c.self.inside.items.items in
+    let item = c.args.item in
+    let news = c.insert.new.self.items in
+    let listed = cells_of c.args.self.now c.self.inside.writer c.self.inside.start items c.self.invariant.sorted c.self.view_is in
+    let gap : IsGap item_cmp (map entry_of items) (entry_of item).0 c.args.place = subst (λ (es : List Entry). IsGap item_cmp es (entry_of item).0 c.args.place) listed c.requires in
+    let sorted = ap (λ (l : List PartItem). is_sorted item_cmp (map entry_of l)) c.in_ok-insert.ensures.items ∙ sorted_at items item c.args.place c.self.invariant.sorted gap in
+    joins_alike (map entry_of items) (entries c.args.self.now.cells) (map entry_of (insert items c.args.place item)) (entries (from_sorted {R = item_cmp} (map entry_of news))) (entry_of item) 1 1 (sym listed)
+    (ap (map entry_of) (sym c.in_ok-insert.ensures.items) ∙ sym (entries-from_sorted item_cmp (map entry_of news) (as_T sorted)))
+    (new_at items item c.args.place gap)

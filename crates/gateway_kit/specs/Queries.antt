@@ -1,0 +1,39 @@
+-- What is read from a gateway's points.
+use Rattle.std.specs.Prelude.{ℕ, Bool, true, false, List, filter, map, Option}
+use Rattle.std.specs.FinMap.{entries}
+use Rattle.std.specs.Ordering.{eq_by_cmp}
+use Rattle.point_kit.specs.Exports.{Points}
+use Rattle.point_kit.specs.declared.cell.Cell.{Cell}
+use Rattle.point_kit.specs.declared.cell.Held.{Held}
+use Rattle.point_kit.specs.declared.cell.Held.TheVariants.{One, Conflict}
+use Rattle.point_kit.specs.declared.key.Key.{Key}
+use Rattle.point_kit.specs.declared.payload.Payload.{Payload}
+use Rattle.point_kit.specs.declared.writer_id.WriterId.{WriterId}
+use Rattle.gateway_kit.specs.Keys.{part_cmp, entry_of, whole_key}
+use Rattle.gateway_kit.specs.Times.{greatest}
+use Rattle.gateway_kit.specs.declared.part_item.PartItem.{PartItem}
+
+-- whether different payloads came
+abbrev pub is_several : Held Payload → Bool
+is_several (One p) = false
+is_several Conflict = true
+
+-- whether different payloads came at the time of a cell
+abbrev pub has_conflict : Cell Payload → Bool
+has_conflict cell = is_several cell.held
+
+-- whether a key is of this incarnation of a writer
+abbrev pub is_part : WriterId → ℕ → Key → Bool
+is_part writer start key = eq_by_cmp part_cmp (writer, start) (key.writer, key.start)
+
+-- the points of an incarnation, in the order of their keys
+abbrev pub part_points : WriterId → ℕ → Points → List (Key × Cell Payload)
+part_points writer start points = filter (λ e. is_part writer start e.0) (entries points)
+
+-- items of an incarnation, under their whole keys
+abbrev pub part_items : WriterId → ℕ → List PartItem → List (Key × Cell Payload)
+part_items writer start items = map (λ i. (whole_key (writer, start) (entry_of i).0, i.cell)) items
+
+-- the greatest time held of an incarnation
+abbrev pub newest_time : WriterId → ℕ → Points → Option ℕ
+newest_time writer start points = greatest (map (λ e. e.1.time) (part_points writer start points))
