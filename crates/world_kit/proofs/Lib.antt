@@ -1,0 +1,13 @@
+pub mod Places
+pub mod Frames
+pub mod StateSteps
+pub mod Replies
+pub mod GatewayEvents
+pub mod WriterEvents
+pub mod Beginnings
+pub mod Firsts
+pub mod Replays
+pub mod Exactness
+pub mod Bridging
+pub mod Added
+pub mod Answered

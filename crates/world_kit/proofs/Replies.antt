@@ -1,0 +1,70 @@
+-- What an event comes to, where it is judged.
+use Rattle.std.proofs.Common.{◌≡◌, ℕ, ◌+◌, ◌<◌, ◌≤◌, Bool, true, false, ◌&&◌, List, ◌∷◌, length, nat_lt, Option, Some, None, Result, Ok, Err, refl, sym, ap, subst, ◌∙◌, arith}
+use Rattle.std.proofs.lemmas.Bool.{lt-ltb, le-ltb}
+use Rattle.agg_kit.specs.Entries.{Entry}
+use Rattle.schedule_kit.specs.Deeds.{Deed}
+use Rattle.world_kit.specs.declared.event.Event.{Event}
+use Rattle.world_kit.specs.declared.event.Refusal.{Refusal}
+use Rattle.world_kit.specs.declared.event.Refusal.TheVariants.{NoWriter, NoGateway}
+use Rattle.world_kit.specs.declared.event.Reply.{Reply}
+use Rattle.world_kit.specs.declared.event.Reply.TheVariants as reply
+use Rattle.world_kit.specs.declared.setup.Setup.{Setup}
+use Rattle.world_kit.specs.Held.{Held}
+use Rattle.world_kit.specs.Judged.{Deeds, after, cons_deed, counted, gathered, guard, judged, reply_of, reply_to, reply_to_judged, written}
+use Rattle.world_kit.specs.Setups.{gateways_of}
+use Rattle.world_kit.specs.Stands.{Acts, Stands}
+
+-- a refused event leaves the world
+pub refused_acts : (event : Event) (w : Held) (r : Refusal) → ((s : Setup) (ds : Deeds) → Stands s ds w → judged s ds event ≡ Err r) → Acts event w (reply.Refused r) w
+unfolding after reply_to
+refused_acts event w r is = record {
+  stands = λ s ds st. subst (λ (l : Deeds). Stands s l w) (sym (ap (λ j. cons_deed j ds) (is s ds st))) st;
+  reply = λ s ds st. sym (ap (reply_to_judged s ds) (is s ds st));
+}
+
+-- an accepted one comes to its deed
+pub accepted_acts : (event : Event) (old new : Held) (said : Reply) (d : Deed Entry) → ((s : Setup) (ds : Deeds) → Stands s ds old → (judged s ds event ≡ Ok d) × Stands s (d ∷ ds) new × (said ≡ reply_of s ds d)) → Acts event old said new
+unfolding after reply_to
+accepted_acts event old new said d is = record {
+  stands = λ s ds st. subst (λ (l : Deeds). Stands s l new) (sym (ap (λ j. cons_deed j ds) (is s ds st).0)) (is s ds st).1;
+  reply = λ s ds st. (is s ds st).2 ∙ sym (ap (reply_to_judged s ds) (is s ds st).0);
+}
+
+-- seen from within
+pub seen_as : (event : Event) (old seen : Held) (said : Reply) (new : Held) → seen ≡ old → Acts event seen said new → Acts event old said new
+seen_as event old seen said new same acts = subst (λ (w : Held). Acts event w said new) same acts
+
+pub left_as : (event : Event) (old seen : Held) (said : Reply) → seen ≡ old → Acts event seen said seen → Acts event old said old
+left_as event old seen said same acts = subst (λ (w : Held). Acts event w said w) same acts
+
+-- a world that is as it was
+pub same_as : (event : Event) (old new seen : Held) (said : Reply) → seen ≡ old → new ≡ seen → Acts event seen said seen → Acts event old said new
+same_as event old new seen said same kept acts = subst (λ (w : Held). Acts event w said new) same (subst (Acts event seen said) (sym kept) acts)
+
+pub guard_true : (b : Bool) (r : Refusal) (x : Result (Deed Entry) Refusal) → b ≡ true → guard b r x ≡ x
+guard_true b r x e = ap (λ t. guard t r x) e
+
+pub guard_false : (b : Bool) (r : Refusal) (x : Result (Deed Entry) Refusal) → b ≡ false → guard b r x ≡ Err r
+guard_false b r x e = ap (λ t. guard t r x) e
+
+module _ (s : Setup) where
+  pub written_there : (w : ℕ) (x : Result (Deed Entry) Refusal) → w < length s.writers → written s w x ≡ x
+  written_there w x h = guard_true _ NoWriter x (lt-ltb w (length s.writers) h)
+
+  pub written_none : (w : ℕ) (x : Result (Deed Entry) Refusal) → length s.writers ≤ w → written s w x ≡ Err NoWriter
+  written_none w x h = guard_false _ NoWriter x (le-ltb w (length s.writers) h)
+
+  pub gathered_there : (g : ℕ) (x : Result (Deed Entry) Refusal) → g < gateways_of s → gathered s g x ≡ x
+  gathered_there g x h = guard_true _ NoGateway x (lt-ltb g (gateways_of s) h)
+
+  pub gathered_none : (g : ℕ) (x : Result (Deed Entry) Refusal) → gateways_of s ≤ g → gathered s g x ≡ Err NoGateway
+  gathered_none g x h = guard_false _ NoGateway x (le-ltb g (gateways_of s) h)
+
+pub counted_in : (k n : ℕ) → 0 < k → k ≤ n → counted k n ≡ true
+counted_in k n low high = rw (lt-ltb 0 k low, lt-ltb k (n + 1) (omega arith)) refl
+
+pub counted_zero : (k n : ℕ) → k ≡ 0 → counted k n ≡ false
+counted_zero k n e = rw (le-ltb 0 k (let z : k ≤ 0 = omega arith in z)) refl
+
+pub counted_past : (k n : ℕ) → n < k → counted k n ≡ false
+counted_past k n h = rw (lt-ltb 0 k (omega arith), le-ltb k (n + 1) (omega arith)) refl

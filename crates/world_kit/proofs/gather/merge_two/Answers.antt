@@ -1,0 +1,60 @@
+use Rattle.std.proofs.Common.{◌≡◌, ◌<◌, ◌≤◌, ◌+◌, ◌-◌, length, ℕ, slice_set, ◌++◌, get_or, sym, ap, ◌∙◌, arith}
+use Rattle.std.proofs.lemmas.List.{set-append_left, set-append_right}
+use Rattle.std.proofs.lemmas.Option.{get_or_from_slice_get}
+use Rattle.gossip_kit.specs.Views.{NodeView}
+use Rattle.point_kit.specs.Exports.{join_points, changed_points}
+use Rattle.world_kit.proofs.gather.merge_two.Goals as goal
+
+pub returns-in_ok-changed-clause-ok : goal.returns-in_ok-changed-clause-ok
+returns-in_ok-changed-clause-ok c =
+    let nodes = c.args.nodes.now in
+    let front = c.split_at_mut-front.result.0.now in
+    let back = c.split_at_mut-front.result.1.now in
+    let e = c.split_at_mut-front.ensures in
+    let less : c.args.into < c.args.from = c.if-into-from.true in
+    let short : c.args.into < length front = (let l = e.front_len in omega arith) in
+    let did = c.in_ok-changed.ensures in
+    let is = c.merge.new.self in
+    let x = c.index-front-into.result in
+    let y = c.index-back-0.result in
+    let at : c.args.from + 0 ≡ c.args.from = omega arith in
+    record {
+      is = is;
+      new_is = sym (set-append_left front back c.args.into is short) ∙ ap (λ l. slice_set l c.args.into is) (sym e.value);
+      joined = λ was other mine theirs.
+          let own = e.by_index.0 c.args.into x less ∙ get_or_from_slice_get nodes c.args.into was x mine in
+          let its = e.by_index.1 0 y ∙ ap (λ i. get_or nodes i y) at ∙ get_or_from_slice_get nodes c.args.from other y theirs in
+          let read = c.gateway.ensures.value in (
+            did.id ∙ ap (λ (n : NodeView). n.gateway.id) own,
+            did.ok ∙ ap (λ (n : NodeView). join_points n.gateway.points c.gateway.result.now.points) own ∙ ap (λ g. join_points was.gateway.points g.points) read ∙ ap (λ (n : NodeView). join_points was.gateway.points n.gateway.points) its,
+            did.value ∙ ap (λ (n : NodeView). changed_points n.gateway.points is.gateway.points) own,
+          );
+    }
+
+pub returns-in_ok-changed-2-clause-ok : goal.returns-in_ok-changed-2-clause-ok
+returns-in_ok-changed-2-clause-ok c =
+    let nodes = c.args.nodes.now in
+    let front = c.split_at_mut-front-else-into-from.result.0.now in
+    let back = c.split_at_mut-front-else-into-from.result.1.now in
+    let e = c.split_at_mut-front-else-into-from.ensures in
+    let no_more : c.args.from ≤ c.args.into = c.if-into-from.false in
+    let two = c.requires.two in
+    let less : c.args.from < c.args.into = omega arith in
+    let none : c.args.into - c.args.into ≡ 0 = omega arith in
+    let did = c.in_ok-changed-2.ensures in
+    let is = c.merge-else-into-from.new.self in
+    let x = c.index-back-0-else-into-from.result in
+    let y = c.index-front-from.result in
+    let at : c.args.into + 0 ≡ c.args.into = omega arith in
+    record {
+      is = is;
+      new_is = ap (λ i. front ++ slice_set back i is) (sym none) ∙ sym (set-append_right front back c.args.into c.args.into is e.front_len (omega arith)) ∙ ap (λ l. slice_set l c.args.into is) (sym e.value);
+      joined = λ was other mine theirs.
+          let own = e.by_index.1 0 x ∙ ap (λ i. get_or nodes i x) at ∙ get_or_from_slice_get nodes c.args.into was x mine in
+          let its = e.by_index.0 c.args.from y less ∙ get_or_from_slice_get nodes c.args.from other y theirs in
+          let read = c.gateway-else-into-from.ensures.value in (
+            did.id ∙ ap (λ (n : NodeView). n.gateway.id) own,
+            did.ok ∙ ap (λ (n : NodeView). join_points n.gateway.points c.gateway-else-into-from.result.now.points) own ∙ ap (λ g. join_points was.gateway.points g.points) read ∙ ap (λ (n : NodeView). join_points was.gateway.points n.gateway.points) its,
+            did.value ∙ ap (λ (n : NodeView). changed_points n.gateway.points is.gateway.points) own,
+          );
+    }

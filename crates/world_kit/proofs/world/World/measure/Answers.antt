@@ -1,0 +1,52 @@
+use Rattle.std.proofs.Common.{◌≡◌, ℕ, ◌+◌, ◌<◌, ◌≤◌, Bool, false, List, [], ◌∷◌, ◌++◌, length, Some, None, Ok, Err, subst, refl, sym, ap, ◌∙◌, arith, rules}
+use Rattle.std.proofs.Math.ListN.{set}
+use Rattle.std.proofs.lemmas.Grind.{common_steps}
+use Rattle.std.proofs.lemmas.Int.{to_z-of_z}
+use Rattle.std.proofs.lemmas.List.{set-get_or}
+use Rattle.std.proofs.lemmas.Option.{slice_get_read}
+use Rattle.std.specs.Int.{w64}
+use Rattle.std.specs.Prelude.{FitsSigned}
+use Rattle.world_kit.proofs.Replies.{left_as, seen_as, same_as}
+use Rattle.world_kit.proofs.WriterEvents.{measure_nowhere, measure_refused, measures, with_writers}
+use Rattle.world_kit.specs.contracts.world.World as world
+use Rattle.agg_kit.specs.declared.fault.MeasureFault.TheVariants.{NoMemory}
+use Rattle.world_kit.specs.declared.event.Refusal.{Refusal}
+use Rattle.world_kit.specs.Told.{measure_refusal}
+use Rattle.writer_kit.specs.declared.fault.MeasureFault.{MeasureFault}
+use Rattle.writer_kit.specs.declared.fault.MeasureFault.TheVariants.{Refused}
+use Rattle.world_kit.proofs.world.World.measure.Goals as goal
+
+not_memory : (f : MeasureFault) (r : Refusal) → measure_refusal f ≡ Some r → f ≡ Refused NoMemory → ⊥
+not_memory f r told same = let none : None ≡ Some r = sym (ap measure_refusal same) ∙ told in cc none
+
+pub returns-then-writer-len-clause-ok : goal.returns-then-writer-len-clause-ok
+returns-then-writer-len-clause-ok c = left_as _ _ _ _ c.self.view_is (measure_nowhere _ c.args.writer c.args.instrument c.args.attrs.now c.args.value (grind (arith, common_steps)))
+
+pub returns-in-Err-clause-ok : goal.returns-in-Err-clause-ok
+returns-in-Err-clause-ok c =
+    let w = world.the_view c.self.inside in
+    let writers = c.self.inside.writers.items in
+    let there : c.args.writer < length writers = grind (arith, common_steps) in
+    let x = c.index_mut.result.now in
+    let at_v = slice_get_read writers (length writers) c.args.writer x refl there c.index_mut.ensures.value in
+    let its = c.in-Err.ensures in
+    let r = c.in_ok-told_measure.field-0 in
+    let told = c.in_ok-told_measure.ensures.ok in
+    let fits : FitsSigned w64 c.args.value = search rules in
+    let refuses = simp to_z-of_z at (its.err (not_memory c.in-Err.fault r told)) in
+    let kept : set writers c.args.writer c.measure.new.self ≡ writers = ap (set writers c.args.writer) (its.unchanged ∙ c.index_mut.ensures.value) ∙ set-get_or writers c.args.writer x in
+    same_as _ _ _ w _ c.self.view_is (ap (with_writers w) kept)
+    (measure_refused w c.args.writer x at_v c.args.instrument c.args.attrs.now c.args.value c.in-Err.fault r refuses told)
+
+pub returns-clause-ok : goal.returns-clause-ok
+returns-clause-ok c =
+    let w = world.the_view c.self.inside in
+    let writers = c.self.inside.writers.items in
+    let there : c.args.writer < length writers = grind (arith, common_steps) in
+    let x = c.index_mut.result.now in
+    let at_v = slice_get_read writers (length writers) c.args.writer x refl there c.index_mut.ensures.value in
+    let its = c.in_default.ensures in
+    let fits : FitsSigned w64 c.args.value = search rules in
+    let accepts = simp to_z-of_z at its.ok in
+    let grows = simp to_z-of_z at its.value in
+    seen_as _ _ _ _ _ c.self.view_is (measures w c.args.writer x at_v c.measure.new.self c.args.instrument c.args.attrs.now c.args.value accepts grows its.plan its.rest)

@@ -1,0 +1,37 @@
+use Rattle.std.proofs.Common.{◌≡◌, ℕ, ◌+◌, ◌-◌, ◌<◌, ◌≤◌, length, List, [], ◌∷◌, ◌++◌, subst, refl, sym, ap, ◌∙◌, arith}
+use Rattle.std.proofs.lemmas.Grind.{common_steps}
+use Rattle.std.proofs.lemmas.Option.{slice_get_read}
+use Rattle.world_kit.proofs.GatewayEvents.{send_nowhere, send_none, sends, with_mails}
+use Rattle.world_kit.proofs.Replies.{left_as, seen_as, same_as}
+use Rattle.gateway_kit.specs.View.{View}
+use Rattle.gossip_kit.specs.Views.{MessageView}
+use Rattle.world_kit.specs.contracts.world.World as world
+use Rattle.world_kit.specs.declared.event.Event.TheVariants as event
+use Rattle.world_kit.specs.declared.event.Reply.TheVariants as reply
+use Rattle.world_kit.specs.Stands.{Acts}
+use Rattle.world_kit.proofs.world.World.send.Goals as goal
+
+pub returns-then-from-len-clause-ok : goal.returns-then-from-len-clause-ok
+returns-then-from-len-clause-ok c = left_as _ _ _ _ c.self.view_is (send_nowhere _ c.args.from c.args.to (grind (arith, common_steps)))
+
+pub returns-then-to-len-clause-ok : goal.returns-then-to-len-clause-ok
+returns-then-to-len-clause-ok c = left_as _ _ _ _ c.self.view_is (send_none _ c.args.from c.args.to (grind (arith, common_steps)) (grind (arith, common_steps)))
+
+pub returns-clause-ok : goal.returns-clause-ok
+returns-clause-ok c =
+    let w = world.the_view c.self.inside in
+    let nodes = c.self.inside.nodes.items in
+    let mails = c.self.inside.mails.items in
+    let mail = c.in_ok-mail.mail in
+    let here : c.args.from < length nodes = grind (arith, common_steps) in
+    let there : c.args.to < length nodes = grind (arith, common_steps) in
+    let grown : c.push.new.self.items ≡ mails ++ mail ∷ [] = c.in_ok-push.ensures.items in
+    let count : c.len-3.result ≡ length mails + 1 = grind (arith, common_steps) in
+    let goes : mail.to ≡ c.index.result.now.gateway.id = c.in_ok-mail.ensures.to ∙ c.id-receiver.ensures.value ∙ ap (λ (g : View). g.id) c.gateway.ensures.value in
+    seen_as _ _ _ _ _ c.self.view_is
+    (subst (λ (n : ℕ). Acts (event.Send c.args.from c.args.to) w (reply.Sent n) (with_mails w c.push.new.self.items)) (sym count)
+    (subst (λ (ms : List MessageView). Acts (event.Send c.args.from c.args.to) w (reply.Sent (length mails + 1)) (with_mails w ms)) (sym grown)
+    (sends w c.args.from c.args.to c.index-2.result.now c.index.result.now mail
+    (slice_get_read nodes (length nodes) c.args.from c.index-2.result.now refl here c.index-2.ensures)
+    (slice_get_read nodes (length nodes) c.args.to c.index.result.now refl there c.index.ensures)
+    goes c.in_ok-mail.ensures.held c.in_ok-mail.ensures.brings)))

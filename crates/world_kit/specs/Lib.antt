@@ -1,0 +1,15 @@
+pub mod Answering
+pub mod Building
+pub mod Converging
+pub mod Copying
+pub mod Exact
+pub mod Faults
+pub mod Held
+pub mod Judged
+pub mod Merging
+pub mod Recording
+pub mod Setups
+pub mod Stands
+pub mod States
+pub mod Texts
+pub mod Told
