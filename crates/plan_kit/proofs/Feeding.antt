@@ -1,5 +1,5 @@
 -- The feeds of an instrument from the places of the views that match it, and those of all instruments.
-use Rattle.std.proofs.Common.{◌≡◌, ℕ, suc, ◌+◌, ◌<◌, ◌==◌, Bool, true, false, cond, List, [], ◌∷◌, ◌++◌, filter, length, drop, get_or, map, Option, Some, None, slice_get, refl, sym, ap, ◌∙◌, subst, arith, true≢false, append_assoc}
+use Rattle.std.proofs.Common.{◌≡◌, ℕ, suc, ◌+◌, ◌<◌, ◌==◌, Bool, true, false, cond, List, [], ◌∷◌, ◌++◌, filter, length, drop, get_or, slice_get, refl, sym, ap, ◌∙◌, arith, true≢false, append_assoc}
 use Rattle.std.specs.List.{filter_map, flat_map, enumerate_from}
 use Rattle.std.specs.Option.{option_and_then}
 use Rattle.std.proofs.lemmas.Bool.{ne_eqb}
@@ -7,7 +7,7 @@ use Rattle.std.proofs.lemmas.List.{drop_more}
 use Rattle.plan_kit.specs.declared.instrument.Instrument.{Instrument}
 use Rattle.plan_kit.specs.declared.view.View.{View}
 use Rattle.plan_kit.specs.declared.wanted.Wanted.{Wanted}
-use Rattle.plan_kit.specs.Feeds.{default_view, or_default, applied, feed_by, wanted_by, own_feeds}
+use Rattle.plan_kit.specs.Feeds.{default_view, or_default, feed_by, wanted_by, own_feeds}
 use Rattle.plan_kit.specs.Matching.{places, places_from}
 use Rattle.plan_kit.specs.Owners.{owner_of}
 use Rattle.plan_kit.specs.Views.{view_fits}

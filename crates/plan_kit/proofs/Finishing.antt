@@ -1,5 +1,5 @@
 -- What a plan keeps holds what is asked of every plan.
-use Rattle.std.proofs.Common.{◌≡◌, ◌≢◌, ℕ, zero, suc, ◌+◌, ◌<◌, ◌≤◌, ◌==◌, nat_lt, ◌&&◌, ◌||◌, IsTrue, Bool, true, false, cond, List, [], ◌∷◌, ◌++◌, filter, length, take, get_or, map, length-take, append-nil, not, Option, Some, None, slice_get, slice_index_or, refl, sym, ap, ◌∙◌, subst, arith, true≢false}
+use Rattle.std.proofs.Common.{◌≡◌, ℕ, zero, suc, ◌+◌, ◌<◌, ◌≤◌, ◌==◌, nat_lt, ◌&&◌, ◌||◌, IsTrue, Bool, true, false, cond, List, [], ◌∷◌, ◌++◌, filter, length, take, get_or, map, length-take, append-nil, not, Option, Some, None, slice_get, slice_index_or, refl, sym, ap, ◌∙◌, subst, arith, true≢false}
 use Rattle.std.specs.Cmp.{IsEquivalence}
 use Rattle.std.specs.List.{IsDistinct, AllByRecursion, list_all, filter_map, cons_option, flat_map, enumerate_from}
 use Rattle.std.specs.Option.{option_map, option_map_or}
@@ -27,11 +27,11 @@ use Rattle.plan_kit.specs.declared.wanted.Wanted.{Wanted}
 use Rattle.plan_kit.specs.declared.feed.Feed.{Feed}
 use Rattle.plan_kit.specs.declared.kept.Place.{Place}
 use Rattle.plan_kit.specs.Aggregations.{fit, has_bad_bounds}
-use Rattle.plan_kit.specs.Bounds.{are_bounds, rise, default_bounds}
+use Rattle.plan_kit.specs.Bounds.{are_bounds, default_bounds}
 use Rattle.plan_kit.specs.Feeds.{default_view, or_default, fed_by, feed_by, wanted_by, own_feeds, wanted_of, numbered, plan_from}
 use Rattle.plan_kit.specs.Kept.{place_of, source_at, planned, owner_rises, is_rightly_rising, AreSound}
 use Rattle.plan_kit.specs.Owners.{is_same, owner_of}
-use Rattle.plan_kit.specs.Plans.{Source, Planned, feeds_of, kind_of, stream_of, lacks, AreFeeds, AreApart, AllRise, is_proper, rises, only_rises, IsPlan}
+use Rattle.plan_kit.specs.Plans.{Source, feeds_of, kind_of, lacks, AreFeeds, AreApart, AllRise, is_proper, rises, only_rises, IsPlan}
 use Rattle.plan_kit.specs.SameStream.{same, clash_of}
 use Rattle.plan_kit.specs.Exact.{exact_instruments}
 use Rattle.plan_kit.specs.Views.{view_fits}

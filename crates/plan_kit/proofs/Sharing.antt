@@ -1,6 +1,6 @@
 -- The first of equal instruments, and what instruments that feed one stream have in common.
-use Rattle.std.proofs.Common.{◌≡◌, ℕ, zero, suc, ◌+◌, ◌<◌, ◌≤◌, ◌==◌, ◌||◌, not, Bool, true, false, cond, List, [], ◌∷◌, map, Option, Some, None, slice_get, refl, sym, ap, ◌∙◌, subst, arith, true≢false, inl, inr}
-use Rattle.std.specs.List.{list_any, position_or_len}
+use Rattle.std.proofs.Common.{◌≡◌, ℕ, zero, suc, ◌+◌, ◌<◌, ◌≤◌, ◌==◌, ◌||◌, not, Bool, true, false, cond, List, [], ◌∷◌, Option, Some, None, slice_get, refl, sym, ap, ◌∙◌, subst, arith, true≢false, inl, inr}
+use Rattle.std.specs.List.{position_or_len}
 use Rattle.std.specs.Option.{option_map, option_map_or}
 use Rattle.std.proofs.lemmas.Bool.{ne_eqb, cases_lt}
 use Rattle.std.proofs.lemmas.Option.{slice_get-map}
@@ -11,7 +11,7 @@ use Rattle.plan_kit.specs.declared.wanted.Wanted.{Wanted}
 use Rattle.plan_kit.specs.Exact.{exact_instruments}
 use Rattle.plan_kit.specs.Feeds.{numbered, plan_from}
 use Rattle.plan_kit.specs.Owners.{is_same, owner_of}
-use Rattle.plan_kit.specs.Plans.{Source, feeds_of, has_stream, IsShared}
+use Rattle.plan_kit.specs.Plans.{Source, has_stream, IsShared}
 use Rattle.plan_kit.proofs.Owning.{same_self}
 
 lacks_earlier : (s owner n : ℕ) (ws : List Wanted) → s < n → has_stream s (numbered owner n ws) ≡ false

@@ -1,5 +1,5 @@
 -- What holds where no refusal fits.
-use Rattle.std.proofs.Common.{◌≡◌, List, Bool, true, false, not, None, Option, position, refl}
+use Rattle.std.proofs.Common.{◌≡◌, List, Bool, true, false, not, None, position, refl}
 use Rattle.std.specs.List.{list_all}
 use Rattle.attr_kit.proofs.Firsts.{none_of, map_none}
 use Rattle.attr_kit.proofs.Places.{nowhere}

@@ -1,5 +1,5 @@
 -- The bounds of buckets.
-use Rattle.std.specs.Prelude.{ℕ, ℤ, pos, int_lt, nat_le, ◌&&◌, Bool, true, List, [], ◌∷◌, length, map}
+use Rattle.std.specs.Prelude.{ℤ, pos, int_lt, nat_le, ◌&&◌, Bool, true, List, [], ◌∷◌, length, map}
 
 -- a number below the first of a list
 abbrev pub is_below_first : ℤ → List ℤ → Bool

@@ -1,6 +1,5 @@
 -- `==` tells all instruments apart.
 use Rattle.std.specs.Prelude.{refl}
-use Rattle.std.proofs.Common.{ap}
 use Rattle.attr_kit.specs.Exact.{IsExact, exact_through, exact_pairs, exact_texts}
 use Rattle.plan_kit.specs.declared.instrument.Kind.TheVariants.{Counter, UpDown, Gauge, Histogram}
 use Rattle.plan_kit.specs.contracts.instrument.KindPartialEq.TheImpl as kinds

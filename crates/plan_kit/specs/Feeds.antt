@@ -16,7 +16,7 @@ use Rattle.plan_kit.specs.declared.wanted.Wanted.{Wanted}
 use Rattle.plan_kit.specs.Aggregations.{fit}
 use Rattle.plan_kit.specs.Names.{lower}
 use Rattle.plan_kit.specs.Owners.{owner_of}
-use Rattle.plan_kit.specs.Plans.{Source, Planned}
+use Rattle.plan_kit.specs.Plans.{Planned}
 use Rattle.plan_kit.specs.Views.{view_fits, lowered}
 
 -- the view that stands where none matches: it keeps all, with the aggregation that goes with the kind

@@ -1,5 +1,5 @@
 -- How the views that match an instrument are found: by the places of those whose names fit.
-use Rattle.std.specs.Prelude.{◌≡◌, ℕ, Vec, ◌+◌, nat_lt, ◌&&◌, Bool, true, false, cond, List, [], ◌∷◌, filter, slice_get}
+use Rattle.std.specs.Prelude.{◌≡◌, ℕ, Vec, ◌+◌, nat_lt, ◌&&◌, Bool, true, false, cond, List, [], ◌∷◌, slice_get}
 use Rattle.std.specs.Option.{option_map_or}
 use Rattle.std.specs.HashMap.{HashMap, get_by}
 use Rattle.plan_kit.specs.declared.view.NameRule.{NameRule}

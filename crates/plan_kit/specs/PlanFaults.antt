@@ -1,5 +1,5 @@
 -- Why instruments and views make no plan.
-use Rattle.std.specs.Prelude.{ℕ, ◌==◌, List, [], ◌∷◌, Bool, not, Option, map, position}
+use Rattle.std.specs.Prelude.{ℕ, ◌==◌, List, [], ◌∷◌, not, Option, map, position}
 use Rattle.std.specs.Option.{option_map}
 use Rattle.attr_kit.specs.Refusing.{first, when, wherever, within}
 use Rattle.plan_kit.specs.declared.fault.PlanFault.{PlanFault}

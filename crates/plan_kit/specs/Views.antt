@@ -1,5 +1,5 @@
 -- Which views match an instrument.
-use Rattle.std.specs.Prelude.{ℕ, List, Bool, true, false, ◌&&◌, not, Option, Some, None, nat_eq, filter}
+use Rattle.std.specs.Prelude.{ℕ, List, Bool, true, false, ◌&&◌, not, Option, Some, None, nat_eq}
 use Rattle.std.specs.Cmp.Lexicographic.{pointwise}
 use Rattle.plan_kit.specs.declared.instrument.Kind.{Kind}
 use Rattle.plan_kit.specs.declared.instrument.Instrument.{Instrument}

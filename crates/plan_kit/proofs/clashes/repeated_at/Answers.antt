@@ -1,6 +1,5 @@
-use Rattle.std.proofs.Common.{◌≡◌, ◌&&◌, ◌<◌, ◌+◌, ℕ, not, sym, ap, ◌∙◌, get_or, take, Bool, true, false, List, Bor, subst}
+use Rattle.std.proofs.Common.{◌≡◌, not, sym, ap, ◌∙◌, take, Bool, true, false, Bor, subst}
 use Rattle.std.specs.List.{list_any}
-use Rattle.attr_kit.specs.Refusing.{repeat, repeat_from}
 use Rattle.attr_kit.proofs.Repeats.{repeat_here, repeat_later, seen_more}
 use Rattle.plan_kit.specs.declared.wanted.Wanted.{Wanted}
 use Rattle.point_kit.specs.declared.stream.Stream.{Stream}

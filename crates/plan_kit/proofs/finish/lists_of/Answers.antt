@@ -1,4 +1,4 @@
-use Rattle.std.proofs.Common.{◌∙◌, ap}
+use Rattle.std.proofs.Common.{◌∙◌}
 use Rattle.plan_kit.specs.declared.feed.Feed.{Feed}
 use Rattle.plan_kit.proofs.Finishing.{lists_more}
 use Rattle.plan_kit.proofs.finish.lists_of.Goals as goal

@@ -1,4 +1,4 @@
-use Rattle.std.proofs.Common.{◌≡◌, ℕ, List, take}
+use Rattle.std.proofs.Common.{take}
 use Rattle.plan_kit.specs.Matching.{IsIndex}
 use Rattle.plan_kit.proofs.view_index.ViewIndex.build.Given as goal
 
