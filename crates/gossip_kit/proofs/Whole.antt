@@ -1,5 +1,5 @@
 -- A whole state brings anything to or above it.
-use Rattle.std.proofs.Common.{◌≡◌, ap, ◌∙◌}
+use Rattle.std.proofs.Common.{ap, ◌∙◌}
 use Rattle.point_kit.proofs.PointLaws.{points_commute, points_associate, points_idempotent}
 use Rattle.point_kit.specs.Exports.{Points, join_points}
 use Rattle.gossip_kit.specs.Gossip.{Brings}
