@@ -80,9 +80,9 @@ impl Gateway {
     /// Joins what another gateway holds, key by key, and answers the number of keys whose cell changed, the new ones
     /// among them.
     ///
-    /// O(n + k), and no key that is held is copied; new keys are put in order first, O(k log k). Refused with
-    /// `NoMemory`, with nothing changed, where a growth was refused, or where the gateway would come to hold more than
-    /// 2^62 points. An empty gateway changes nothing and takes no memory.
+    /// One walk over both, O(n + k); no key that is held is copied. Refused with `NoMemory`, with nothing changed, where a
+    /// growth was refused, or where the gateway would come to hold more than 2^62 points. An empty gateway changes nothing
+    /// and takes no memory.
     #[tactic(auto, using(point_kit::proofs::PointLaws::points_commute, point_kit::proofs::PointLaws::points_associate, point_kit::proofs::PointLaws::points_idempotent, point_kit::proofs::PointLaws::points_above, point_kit::proofs::PointLaws::points_least, point_kit::proofs::PointLaws::states_join))]
     pub fn merge(&mut self, other: &Gateway) -> Result<u64, NoMemory>
         ensures id { self.new.id ≡ self.old.id }

@@ -105,7 +105,7 @@ fn part_from(mine: &[Incarnation], hint: usize, theirs: &Incarnation) -> Result<
     place_from(mine, hint, theirs)
 }
 
-// New incarnations in the order of their keys.
+// New incarnations in the order of their keys: as they are where they rise already.
 pub(crate) fn parts_in_order(parts: Vec<Incarnation>) -> Result<Vec<Incarnation>, NoMemory>
     requires { IsDistinct (eq_by_cmp part_cmp) (map (λ p. (part_of p).0) parts.items) }
     ensures sorted { IfOk result (λ s. IsTrue (is_sorted part_cmp (map part_of s.items))) }

@@ -14,7 +14,7 @@ use std::alloc::{AllocFailed, Global};
 use std::cmp::Ordering;
 
 /// The greatest number of points that a gateway holds.
-pub const MOST_POINTS: usize = 1 << 62;
+pub(crate) const MOST_POINTS: usize = 1 << 62;
 
 /// How many keys are new, and how many changed, the new ones among them.
 #[derive(Clone, Copy)]
