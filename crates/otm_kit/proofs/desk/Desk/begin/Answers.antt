@@ -1,0 +1,30 @@
+use Rattle.std.proofs.Common.{◌≡◌, ◌∙◌, sym, ap, true, false, not, [], ◌∷◌, ◌++◌, string_bytes, Some, None, Option, subst, rules, ◌≢◌}
+use Rattle.std.specs.Prelude.{if◌then◌else◌, is_some}
+use Rattle.script_kit.specs.declared.line.Line.{Line}
+use Rattle.script_kit.specs.declared.line.Line.TheVariants as line
+use Rattle.otm_kit.specs.Declarations.{Declared, declared_by}
+use Rattle.otm_kit.specs.Effects.{done, effect_of}
+use Rattle.otm_kit.specs.Events.{commands}
+use Rattle.otm_kit.specs.Standing.{StandsFor, IsAfter, Goes, Waits, Runs}
+use Rattle.otm_kit.specs.declared.begin.BeginFault.TheVariants as faults
+use Rattle.otm_kit.specs.declared.running.Running.{Running}
+use Rattle.otm_kit.proofs.Runnings.{begun_at, waits_at, begin_late, begin_done, begin_bad, goes_first, goes_more, stays_at_nothing, stays_at_query, nothing_done, do_early, do_done, do_none, ask_early, ask_done, ask_none, if_some, mapped_some, mapped_none}
+use Rattle.otm_kit.proofs.desk.Desk.begin.Goals as goal
+
+pub returns-then-is_some : goal.returns-then-is_some
+returns-then-is_some c = λ lines s.
+    let is : is_some c.args.self.now.running ≡ true = sym c.is_some.ensures ∙ c.if-is_some.true in
+    (begin_late lines (string_bytes c.new.result) c.new.ensures.bytes (begun_at lines c.args.self.now.draft c.args.self.now.running is s), tt)
+
+pub returns-in-Ok : goal.returns-in-Ok
+returns-in-Ok c = λ lines s.
+    let is : is_some c.args.self.now.running ≡ false = sym c.is_some.ensures ∙ c.if-is_some.false in
+    let w : Waits lines c.replace-draft.result = subst (λ (d : Declared). Waits lines d) (sym c.replace-draft.ensures.value) (waits_at lines c.args.self.now.draft c.args.self.now.running is s) in
+    (begin_done lines c.replace-draft.result (string_bytes c.new-in-Ok.result) c.new-in-Ok.ensures.bytes w c.in-Ok.ensures.ok, goes_first lines c.replace-draft.result c.in-Ok.running w c.in-Ok.ensures.value)
+
+pub returns-in_ok-begin_line-in-Err : goal.returns-in_ok-begin_line-in-Err
+returns-in_ok-begin_line-in-Err c = λ lines s.
+    let is : is_some c.args.self.now.running ≡ false = sym c.is_some.ensures ∙ c.if-is_some.false in
+    let w : Waits lines c.replace-draft.result = subst (λ (d : Declared). Waits lines d) (sym c.replace-draft.ensures.value) (waits_at lines c.args.self.now.draft c.args.self.now.running is s) in
+    let differs : c.in-Err.fault ≢ faults.NoMemory = search rules in
+    (begin_bad lines c.replace-draft.result c.in-Err.fault (string_bytes c.in_ok-begin_line-in-Err.field-0) c.in_ok-begin_line-in-Err.ensures w (c.in-Err.ensures.err differs), tt)

@@ -1,0 +1,14 @@
+use Rattle.std.proofs.Common.{◌≡◌, ◌∙◌, sym, ap, refl, Some, None, string_bytes}
+use Rattle.rollup_kit.specs.Rollups.{rollup_rows}
+use Rattle.rollup_kit.specs.TableText.{table_text}
+use Rattle.otm_kit.specs.Answers.{conflicts_text, newest_text, same_text}
+use Rattle.otm_kit.proofs.Runnings.{conflicts_none, conflicts_some, report_none, report_some, same_first, same_second, same_some, newest_first, newest_second, newest_some}
+use Rattle.otm_kit.proofs.running.Running.report.Goals as goal
+
+pub returns-in_default : goal.returns-in_default
+returns-in_default c = λ d cs r. report_none d cs c.args.gateway c.args.report (c.in_default.ensures.none d cs r)
+
+pub returns : goal.returns
+returns c = λ d cs r.
+    report_some d cs c.args.gateway c.args.report c.in-Some.gateway.now.points _ (c.in-Some.ensures.some d cs r)
+    (c.into_string.ensures ∙ c.in_ok-table.ensures.value ∙ ap table_text (c.as_slice.ensures ∙ c.in_ok-rows.ensures.value ∙ ap (λ a. rollup_rows a c.in-Some.gateway.now.points) c.in_ok-ask.ensures))

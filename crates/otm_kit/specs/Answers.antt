@@ -1,0 +1,55 @@
+-- What queries print.
+use Rattle.std.specs.Prelude.{ℕ, ◌==◌, if◌then◌else◌, List, [], ◌∷◌, ◌++◌, codes, count_by, slice_get, Option, Some, None}
+use Rattle.std.specs.Fmt.{decimal}
+use Rattle.std.specs.FinMap.{entries}
+use Rattle.otm_kit.specs.Reads.{has_conflict, newest_time}
+use Rattle.point_kit.specs.Exports.{Points, changed_points}
+use Rattle.rollup_kit.specs.Rollups.{rollup_rows}
+use Rattle.rollup_kit.specs.TableText.{table_text}
+use Rattle.rollup_kit.specs.declared.ask.Ask.{Ask}
+use Rattle.schedule_kit.specs.Deeds.Holder.{AtGateway}
+use Rattle.script_kit.specs.Forms.{◌>>=◌}
+use Rattle.script_kit.specs.declared.line.Command.{Command}
+use Rattle.script_kit.specs.declared.line.Query.{Query}
+use Rattle.script_kit.specs.declared.line.Query.TheVariants as query
+use Rattle.script_kit.specs.declared.line.Report.{Report}
+use Rattle.point_kit.specs.declared.writer_id.WriterId.{WriterId}
+use Rattle.std.specs.Option.{option_map}
+use Rattle.world_kit.specs.States.{state_at}
+use Rattle.otm_kit.specs.Begin.{setup_of}
+use Rattle.otm_kit.specs.Declarations.{Declared, gateway_place}
+use Rattle.otm_kit.specs.Events.{happened, writer_place}
+
+-- the state of the exports that the gateway at a place took
+abbrev pub points_at : Declared → List Command → ℕ → Points
+points_at d cs place = state_at (setup_of d) (happened d cs) (AtGateway place)
+
+-- what a report asks of a gateway
+abbrev pub ask_of : Report → Ask
+ask_of r = record { stream = r.stream; service = r.service; only = r.only; keep = r.keep }
+
+-- whether two gateways hold equal points: no key has another cell
+unfoldable pub same_text : Points → Points → List ℕ
+same_text one other = if changed_points one other == 0 then codes "same yes" ++ 10 ∷ [] else codes "same no" ++ 10 ∷ []
+
+unfoldable pub conflicts_text : Points → List ℕ
+conflicts_text points = codes "conflicts " ++ decimal (count_by (λ e. has_conflict e.1) (entries points)) ++ 10 ∷ []
+
+unfoldable pub newest_text : Option ℕ → List ℕ
+newest_text (Some time) = codes "newest " ++ decimal time ++ 10 ∷ []
+newest_text None = codes "newest none" ++ 10 ∷ []
+
+-- the identity of the writer of a label
+unfoldable pub identity_of : Declared → List ℕ → Option WriterId
+identity_of d label = writer_place d label >>= λ place. option_map (λ w. w.0) (slice_get d.writers place)
+
+-- what a query prints, where its labels and ids are declared
+unfoldable pub answer_of : Declared → List Command → Query → Option (List ℕ)
+answer_of d cs (query.Report gateway report) =
+    gateway_place d.gateways gateway >>= λ g. Some (table_text (rollup_rows (ask_of report) (points_at d cs g)))
+answer_of d cs (query.Same one other) =
+    gateway_place d.gateways one >>= λ g. gateway_place d.gateways other >>= λ h. Some (same_text (points_at d cs g) (points_at d cs h))
+answer_of d cs (query.Conflicts gateway) =
+    gateway_place d.gateways gateway >>= λ g. Some (conflicts_text (points_at d cs g))
+answer_of d cs (query.Newest gateway writer start) =
+    gateway_place d.gateways gateway >>= λ g. identity_of d writer >>= λ id. Some (newest_text (newest_time id start (points_at d cs g)))

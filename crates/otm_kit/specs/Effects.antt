@@ -1,0 +1,43 @@
+-- What a line does, by the lines before it.
+use Rattle.std.specs.Prelude.{List, [], ◌∷◌, ℕ, Bool, true, false, not, if◌then◌else◌, Option, Some, None}
+use Rattle.std.specs.List.{list_any}
+use Rattle.std.specs.Option.{option_map_or}
+use Rattle.script_kit.specs.declared.line.Command.{Command}
+use Rattle.script_kit.specs.declared.line.Declaration.{Declaration}
+use Rattle.script_kit.specs.declared.line.Line.{Line}
+use Rattle.script_kit.specs.declared.line.Line.TheVariants as line
+use Rattle.script_kit.specs.declared.line.Query.{Query}
+use Rattle.world_kit.specs.Judged.{reply_to}
+use Rattle.otm_kit.specs.Answers.{answer_of}
+use Rattle.otm_kit.specs.Begin.{begin_fault, setup_of}
+use Rattle.otm_kit.specs.Declarations.{Declared, declared_by, is_taken}
+use Rattle.otm_kit.specs.Events.{commands, event_of, happened}
+use Rattle.otm_kit.specs.Texts.{begin_text, refused, reply_text}
+
+-- a line is done, or bad, and prints this
+pub data Effect : Type 0 where
+  done : List ℕ → Effect
+  bad : List ℕ → Effect
+
+abbrev pub is_begin : Line → Bool
+is_begin line.Begin = true
+is_begin _ = false
+
+-- whether the script has begun
+unfoldable pub has_begun : List Line → Bool
+has_begun lines = list_any is_begin lines
+
+-- done, where the script has begun, and else bad
+abbrev pub once_begun : List Line → Option (List ℕ) → Effect
+once_begun lines printed = if has_begun lines then option_map_or done printed (bad []) else bad []
+
+-- what a command prints: the refusal of its event, or nothing
+abbrev pub told_of : Declared → List Command → Command → Option (List ℕ)
+told_of d cs command = option_map_or (λ event. Some (reply_text (reply_to (setup_of d) (happened d cs) event))) (event_of d command) None
+
+unfoldable pub effect_of : List Line → Line → Effect
+effect_of lines line.Nothing = done []
+effect_of lines (line.Declare declaration) = if has_begun lines then bad [] else if is_taken (declared_by lines) declaration then bad [] else done []
+effect_of lines line.Begin = if has_begun lines then bad [] else option_map_or (λ fault. bad (refused (begin_text fault))) (begin_fault (declared_by lines)) (done [])
+effect_of lines (line.Do command) = once_begun lines (told_of (declared_by lines) (commands lines) command)
+effect_of lines (line.Ask query) = once_begun lines (answer_of (declared_by lines) (commands lines) query)

@@ -1,0 +1,12 @@
+-- What a command line asks for, and what a script says.
+pub mod Asked
+pub mod Declarations
+pub mod Begin
+pub mod Events
+pub mod Answers
+pub mod Texts
+pub mod Effects
+pub mod Says
+pub mod Places
+pub mod Reads
+pub mod Standing

@@ -1,0 +1,38 @@
+-- What is read from a gateway's points.
+use Rattle.std.specs.Prelude.{ℕ, max, Bool, true, false, List, [], ◌∷◌, filter, map, Option, Some, None, unwrap_or}
+use Rattle.std.specs.FinMap.{entries}
+use Rattle.std.specs.Ordering.{eq_by_cmp}
+use Rattle.point_kit.specs.Exports.{Points}
+use Rattle.point_kit.specs.declared.cell.Cell.{Cell}
+use Rattle.point_kit.specs.declared.cell.Held.{Held}
+use Rattle.point_kit.specs.declared.cell.Held.TheVariants.{One, Conflict}
+use Rattle.point_kit.specs.declared.key.Key.{Key}
+use Rattle.point_kit.specs.declared.payload.Payload.{Payload}
+use Rattle.point_kit.specs.declared.writer_id.WriterId.{WriterId}
+use Rattle.gateway_kit.specs.Keys.{part_cmp}
+
+-- whether different payloads came
+abbrev pub is_several : Held Payload → Bool
+is_several (One p) = false
+is_several Conflict = true
+
+-- whether different payloads came at the time of a cell
+abbrev pub has_conflict : Cell Payload → Bool
+has_conflict cell = is_several cell.held
+
+-- whether a key is of this incarnation of a writer
+abbrev pub is_part : WriterId → ℕ → Key → Bool
+is_part writer start key = eq_by_cmp part_cmp (writer, start) (key.writer, key.start)
+
+-- the points of an incarnation, in the order of their keys
+abbrev pub part_points : WriterId → ℕ → Points → List (Key × Cell Payload)
+part_points writer start points = filter (λ e. is_part writer start e.0) (entries points)
+
+-- the greatest of numbers, none where there are none
+abbrev pub greatest : List ℕ → Option ℕ
+greatest [] = None
+greatest (n ∷ ns) = Some (max n (unwrap_or (greatest ns) 0))
+
+-- the greatest time held of an incarnation
+abbrev pub newest_time : WriterId → ℕ → Points → Option ℕ
+newest_time writer start points = greatest (map (λ e. e.1.time) (part_points writer start points))

@@ -1,0 +1,152 @@
+//! What queries print.
+ghost use Rattle.std.specs.Prelude.{◌≡◌, IfOk, string_bytes};
+ghost use Rattle.std.specs.Option.{option_map};
+ghost use Rattle.otm_kit.specs.Answers.{answer_of, ask_of, conflicts_text, newest_text, same_text};
+ghost use Rattle.otm_kit.specs.Standing.{Runs};
+ghost use Rattle.script_kit.specs.declared.line.Query.TheVariants as query;
+
+use crate::reads;
+use crate::running::Running;
+use attr_kit::{AttrSet, AttrValue, NoMemory, Seq, TryCopy, Txt};
+use gateway_kit::Gateway;
+use rollup_kit::{Ask, rollup, table};
+use script_kit::{Query, Report};
+use std::alloc::Global;
+
+impl Running {
+    /// What a query prints, or `None` for a bad line.
+    pub(crate) fn answer(&self, alloc: Global, query: Query) -> Result<Option<String>, NoMemory>
+        ensures { IfOk result (λ printed. (d : _) (cs : _) → Runs d cs self.now → option_map string_bytes printed ≡ answer_of d cs query) }
+    {
+        match query {
+            Query::Report { gateway, report } => self.report(alloc, gateway, report),
+            Query::Same { one, other } => self.same(alloc, one, other),
+            Query::Conflicts { gateway } => self.conflicts(alloc, gateway),
+            Query::Newest {
+                gateway,
+                writer,
+                start,
+            } => self.newest(alloc, gateway, &writer, start),
+        }
+    }
+
+    fn report(
+        &self,
+        alloc: Global,
+        gateway: u32,
+        report: Report,
+    ) -> Result<Option<String>, NoMemory>
+        ensures { IfOk result (λ printed. (d : _) (cs : _) → Runs d cs self.now → option_map string_bytes printed ≡ answer_of d cs (query.Report gateway report)) }
+    {
+        let Some(gateway) = self.gateway(gateway) else {
+            return Ok(None);
+        };
+        let ask = ask_of(alloc, report)?;
+        let rows = rollup(alloc, gateway, &ask)?;
+        Ok(Some(table(alloc, rows.as_slice())?.into_string()))
+    }
+
+    fn same(&self, alloc: Global, one: u32, other: u32) -> Result<Option<String>, NoMemory>
+        ensures { IfOk result (λ printed. (d : _) (cs : _) → Runs d cs self.now → option_map string_bytes printed ≡ answer_of d cs (query.Same one other)) }
+    {
+        let Some(one) = self.gateway(one) else {
+            return Ok(None);
+        };
+        let Some(other) = self.gateway(other) else {
+            return Ok(None);
+        };
+        Ok(Some(same_line(alloc, one, other)?))
+    }
+
+    fn conflicts(&self, alloc: Global, gateway: u32) -> Result<Option<String>, NoMemory>
+        ensures { IfOk result (λ printed. (d : _) (cs : _) → Runs d cs self.now → option_map string_bytes printed ≡ answer_of d cs (query.Conflicts gateway)) }
+    {
+        let Some(gateway) = self.gateway(gateway) else {
+            return Ok(None);
+        };
+        Ok(Some(conflicts_line(alloc, gateway)?))
+    }
+
+    fn newest(
+        &self,
+        alloc: Global,
+        gateway: u32,
+        writer: &Txt,
+        start: u64,
+    ) -> Result<Option<String>, NoMemory>
+        ensures { IfOk result (λ printed. (d : _) (cs : _) → Runs d cs self.now → option_map string_bytes printed ≡ answer_of d cs (query.Newest gateway writer.now start)) }
+    {
+        let Some(gateway) = self.gateway(gateway) else {
+            return Ok(None);
+        };
+        let Some(place) = self.writers.place(writer) else {
+            return Ok(None);
+        };
+        let Some(writer) = self.world.writer(place) else {
+            return Ok(None);
+        };
+        let time = reads::newest(gateway, writer.id(), start)?;
+        Ok(Some(newest_line(alloc, time)?))
+    }
+}
+
+// Whether two gateways hold equal points.
+#[tactic(auto, unfolding(crate::specs::Answers::same_text))]
+fn same_line(alloc: Global, one: &Gateway, other: &Gateway) -> Result<String, NoMemory>
+    ensures { IfOk result (λ text. string_bytes text ≡ same_text one.now.points other.now.points) }
+{
+    if reads::same(one, other)? {
+        Ok(String::from_str(alloc, "same yes\n")?)
+    } else {
+        Ok(String::from_str(alloc, "same no\n")?)
+    }
+}
+
+// How many conflicts a gateway holds.
+#[tactic(auto, unfolding(crate::specs::Answers::conflicts_text))]
+fn conflicts_line(alloc: Global, gateway: &Gateway) -> Result<String, NoMemory>
+    ensures { IfOk result (λ text. string_bytes text ≡ conflicts_text gateway.now.points) }
+{
+    let count = reads::conflicts(gateway)?;
+    Ok(format!(in alloc; "conflicts {count}\n")?)
+}
+
+// The greatest time of an incarnation.
+#[tactic(auto, unfolding(crate::specs::Answers::newest_text))]
+fn newest_line(alloc: Global, time: Option<u64>) -> Result<String, NoMemory>
+    ensures { IfOk result (λ text. string_bytes text ≡ newest_text time) }
+{
+    match time {
+        Some(time) => Ok(format!(in alloc; "newest {time}\n")?),
+        None => Ok(String::from_str(alloc, "newest none\n")?),
+    }
+}
+
+// What a report asks of a gateway.
+fn ask_of(alloc: Global, report: Report) -> Result<Ask, NoMemory>
+    ensures { IfOk result (λ ask. ask ≡ ask_of report) }
+{
+    let Report {
+        stream,
+        service,
+        only,
+        keep,
+    } = report;
+    let only = pairs_of(alloc, &only)?;
+    Ok(Ask {
+        stream,
+        service,
+        only,
+        keep,
+    })
+}
+
+fn pairs_of(alloc: Global, attrs: &AttrSet) -> Result<Seq<(Txt, AttrValue)>, NoMemory>
+    ensures { IfOk result (λ pairs. pairs ≡ attrs.now) }
+{
+    let mut pairs = Vec::with_capacity(alloc, attrs.len())?;
+    for pair in attrs.pairs() {
+        pairs.push(pair.try_copy()?)?;
+    }
+    Ok(Seq::from_vec(pairs))
+}

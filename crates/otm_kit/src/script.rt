@@ -1,0 +1,87 @@
+//! Scripts from their first line to their last.
+ghost use Rattle.std.specs.Prelude.{◌≡◌, ◌<◌, ◌≤◌, length, OnOk, OnErr, IfSome, IsErrOf, None, Some};
+ghost use Rattle.std.specs.Io.KnownBytes.{Appends, Keeps};
+ghost use Rattle.script_kit.specs.Bytes.{AppendsFront};
+ghost use Rattle.otm_kit.specs.Says.{bad_line_of, effect_text, piece_effect, says};
+ghost use Rattle.otm_kit.specs.Standing.{Does, Fails, IsAfter};
+
+use crate::desk::{Desk, Outcome};
+use script_kit::{MAX_BYTES, ScriptFault, first_line, parse_line, read_script, write_text};
+use std::alloc::Global;
+use std::io::{Read, Write};
+
+// Does one line, and writes what it prints.
+fn do_line<W: Write>(
+    alloc: Global,
+    desk: &mut Desk,
+    number: u64,
+    text: &[u8],
+    writer: &mut W,
+) -> Result<(), ScriptFault>
+    ensures ok { OnOk result ((before : _) → IsAfter before desk.old → Does before text.now (W.contents writer.old) (W.contents writer.new) desk.new) }
+    ensures number { (n : _) → IsErrOf result (ScriptFault.BadLine n) → n ≡ number }
+    ensures bad { (n : _) → IsErrOf result (ScriptFault.BadLine n) → (before : _) → IsAfter before desk.old → Fails before text.now (W.contents writer.old) (W.contents writer.new) }
+    ensures front { OnErr result ((before : _) → IsAfter before desk.old → AppendsFront (W.contents writer.old) (W.contents writer.new) (effect_text (piece_effect before text.now))) }
+    ensures read_fault { IsErrOf result ScriptFault.ReadFault → ⊥ }
+    ensures too_long { IsErrOf result ScriptFault.TooLong → ⊥ }
+{
+    let line = match parse_line(alloc, text) {
+        Err(_) => return Err(ScriptFault::NoMemory),
+        Ok(None) => return Err(ScriptFault::BadLine(number)),
+        Ok(Some(line)) => line,
+    };
+    match desk.act(line) {
+        Err(_) => Err(ScriptFault::NoMemory),
+        Ok(Outcome::Bad(printed)) => match write_text(writer, printed.as_bytes()) {
+            Err(fault) => Err(fault),
+            Ok(()) => Err(ScriptFault::BadLine(number)),
+        },
+        Ok(Outcome::Done(printed)) => write_text(writer, printed.as_bytes()),
+    }
+}
+
+// Does the lines of a script, and writes what each prints before the next is done.
+fn run_lines<W: Write>(alloc: Global, script: &[u8], writer: &mut W) -> Result<(), ScriptFault>
+    requires { length script.now ≤ MAX_BYTES }
+    ensures ok { OnOk result (Appends (W.contents writer.old) (W.contents writer.new) (says script.now)) }
+    ensures whole { OnOk result (bad_line_of script.now ≡ None) }
+    ensures bad { (n : _) → IsErrOf result (ScriptFault.BadLine n) → Appends (W.contents writer.old) (W.contents writer.new) (says script.now) }
+    ensures bad_line { (n : _) → IsErrOf result (ScriptFault.BadLine n) → bad_line_of script.now ≡ Some n }
+    ensures front { OnErr result (AppendsFront (W.contents writer.old) (W.contents writer.new) (says script.now)) }
+    ensures read_fault { IsErrOf result ScriptFault.ReadFault → ⊥ }
+    ensures too_long { IsErrOf result ScriptFault.TooLong → ⊥ }
+{
+    let mut desk = Desk::new(alloc);
+    let mut number = 1;
+    let mut rest = script;
+    // There are no more lines than bytes.
+    while let Some((text, after)) = first_line(rest) {
+        do_line(alloc, &mut desk, number, text, writer)?;
+        number += 1;
+        rest = after;
+    }
+    if rest.is_empty() {
+        Ok(())
+    } else {
+        Err(ScriptFault::BadLine(number))
+    }
+}
+
+/// Reads a script to its end, and then does its lines in order.
+pub fn run_script<R: Read, W: Write>(
+    alloc: Global,
+    reader: &mut R,
+    writer: &mut W,
+) -> Result<(), ScriptFault>
+    ensures ok { OnOk result (IfSome (R.remaining reader.old) (λ script. Appends (W.contents writer.old) (W.contents writer.new) (says script))) }
+    ensures whole { OnOk result (IfSome (R.remaining reader.old) (λ script. bad_line_of script ≡ None)) }
+    ensures bad { (n : _) → IsErrOf result (ScriptFault.BadLine n) → IfSome (R.remaining reader.old) (λ script. Appends (W.contents writer.old) (W.contents writer.new) (says script)) }
+    ensures bad_line { (n : _) → IsErrOf result (ScriptFault.BadLine n) → IfSome (R.remaining reader.old) (λ script. bad_line_of script ≡ Some n) }
+    ensures front { OnErr result (IfSome (R.remaining reader.old) (λ script. AppendsFront (W.contents writer.old) (W.contents writer.new) (says script))) }
+    ensures unread { IsErrOf result ScriptFault.ReadFault → Keeps (W.contents writer.old) (W.contents writer.new) }
+    ensures long { IsErrOf result ScriptFault.TooLong → Keeps (W.contents writer.old) (W.contents writer.new) }
+    ensures too_long { IsErrOf result ScriptFault.TooLong → IfSome (R.remaining reader.old) (λ script. MAX_BYTES < length script) }
+{
+    let script = read_script(alloc, reader)?;
+    run_lines(alloc, script.as_slice(), writer)
+}
