@@ -1,0 +1,85 @@
+//! `otm run` does the script of the standard input and writes what its lines say to the standard output.
+//!
+//! Exit statuses: 0 where all of it was done; 1 for a bad line, of which `line N` is printed, or a script that is too
+//! long (`too long`); 2 for words that are refused, whose text goes to the standard error; 3 for want of memory
+//! (`no memory`); 4 where a read or a write failed (`read failed` or `write failed`, on the standard error).
+#![tactic(auto)]
+
+use otm_kit::command_line::asked;
+use otm_kit::{Asked, LineFault, run_script};
+use script_kit::ScriptFault;
+use std::process::ExitCode;
+use std::rt::Env;
+use std::{env, io};
+
+const BAD_SCRIPT: u8 = 1;
+
+const BAD_WORDS: u8 = 2;
+
+const NO_MEMORY: u8 = 3;
+
+const BAD_STREAM: u8 = 4;
+
+fn main(rt: HostRuntime) -> ExitCode {
+    match told(&rt) {
+        Ok(Asked::Run) => run(&rt),
+        Err(fault) => refuse(&rt, &fault),
+    }
+}
+
+// What the words of the command line ask for.
+fn told(rt: &(impl Env + AllocGlobal)) -> Result<Asked, LineFault> {
+    let Ok(args) = env::args(rt) else {
+        return match String::from_str(rt.alloc(), "the words are no text") {
+            Ok(text) => Err(LineFault::BadWords(text)),
+            Err(_) => Err(LineFault::NoMemory),
+        };
+    };
+    let words: Vec<String> = match args.collect(rt.alloc()) {
+        Ok(words) => words,
+        Err(_) => return Err(LineFault::NoMemory),
+    };
+    asked(rt.alloc(), words.as_slice())
+}
+
+// Does the script of the standard input.
+fn run(rt: &(impl Input + Print + Eprint + AllocGlobal)) -> ExitCode {
+    let mut reader = rt.reader();
+    let mut writer = io::writer(rt);
+    match run_script(rt.alloc(), &mut reader, &mut writer) {
+        Ok(()) => ExitCode::SUCCESS,
+        Err(fault) => report(rt, fault),
+    }
+}
+
+// Prints why the words are refused, and gives the status for it.
+fn refuse(rt: &(impl Print + Eprint), fault: &LineFault) -> ExitCode {
+    match fault {
+        LineFault::BadWords(_) => {
+            let _ = eprintln!(rt; "{fault}");
+            ExitCode::from(BAD_WORDS)
+        }
+        LineFault::NoMemory => {
+            let _ = println!(rt; "{fault}");
+            ExitCode::from(NO_MEMORY)
+        }
+    }
+}
+
+// Prints a fault of a script, and gives the status for it.
+fn report(rt: &(impl Print + Eprint), fault: ScriptFault) -> ExitCode {
+    match fault {
+        ScriptFault::BadLine(_) | ScriptFault::TooLong => {
+            let _ = println!(rt; "{fault}");
+            ExitCode::from(BAD_SCRIPT)
+        }
+        ScriptFault::NoMemory => {
+            let _ = println!(rt; "{fault}");
+            ExitCode::from(NO_MEMORY)
+        }
+        ScriptFault::ReadFault | ScriptFault::WriteFault => {
+            let _ = eprintln!(rt; "{fault}");
+            ExitCode::from(BAD_STREAM)
+        }
+    }
+}
