@@ -13,7 +13,11 @@ pub(crate) fn conflicts(gateway: &Gateway) -> Result<u64, NoMemory>
     Err(NoMemory)
 }
 
-pub(crate) fn newest(gateway: &Gateway, writer: &WriterId, start: u64) -> Result<Option<u64>, NoMemory>
+pub(crate) fn newest(
+    gateway: &Gateway,
+    writer: &WriterId,
+    start: u64,
+) -> Result<Option<u64>, NoMemory>
     ensures value { IfOk result (λ n. n ≡ newest_time writer.now start gateway.now.points) }
 {
     Err(NoMemory)

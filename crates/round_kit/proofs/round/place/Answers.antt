@@ -18,7 +18,7 @@ loop-number-preserved c =
     let es = there series number (subst (λ (n : ℕ). number < n) (sym c.plan.ensures.len) within) in
     record {
       placed =
-        c.in_ok-place_series.ensures.points s.0 es.0 s.1 es.1 ∙ ap (λ l. l ++ points_at s.0 es.0) c.loop-number.invariant.placed ∙ sym (one_more streams series number s.0 es.0 s.1 es.1);
+          c.in_ok-place_series.ensures.points s.0 es.0 s.1 es.1 ∙ ap (λ l. l ++ points_at s.0 es.0) c.loop-number.invariant.placed ∙ sym (one_more streams series number s.0 es.0 s.1 es.1);
       apart = λ _. c.in_ok-place_series.ensures.apart;
     }
 
@@ -33,6 +33,6 @@ invariant_of-result c =
     let all_streams : take number streams ≡ streams = take_all number streams (omega arith) in
     let all_series : take number series ≡ series = take_all number series (omega (arith, c.plan.ensures.len)) in
     let points : map point_of c.into_bump_slice.result.now ≡ points_of streams series =
-        ap (map point_of) c.into_bump_slice.ensures ∙ c.loop-number.invariant.placed ∙ (λ i. points_of (all_streams i) (all_series i)) in
+    ap (map point_of) c.into_bump_slice.ensures ∙ c.loop-number.invariant.placed ∙ (λ i. points_of (all_streams i) (all_series i)) in
     ap (export_fault c.args.start c.args.time) points
     ∙ tally_builds c.args.start c.args.time streams series c.requires (apart_from streams number whole c.loop-number.invariant.apart) c.plan.ensures.sound
