@@ -1,7 +1,7 @@
 #!/usr/bin/env python3
 """Callers that must not compile.
 
-A folder tests/misuse/CRATE holds callers of a crate. A line that the borrow checker must refuse ends in a comment
+A folder tests/misuse/CRATE holds callers of a crate, NAME.caller (the gate reads files ending in .rt in crates alone). A line that the borrow checker must refuse ends in a comment
 `//~ borrow-eNNNN`, the name of the error. The callers of each crate are compiled beside it, in a copy of the repository,
 and the errors must be exactly those: this ends with a status other than 0 where a misuse compiles, or anything else
 is refused."""
@@ -22,7 +22,7 @@ def wanted(callers):
     for caller in callers:
         for number, line in enumerate(caller.read_text(encoding="utf-8").splitlines(), 1):
             if mark := re.search(r"//~ (borrow-e\d+)$", line):
-                found.add((caller.name, number, mark.group(1)))
+                found.add((f"{caller.stem}.rt", number, mark.group(1)))
     return found
 
 
@@ -37,7 +37,7 @@ def told(callers, crate):
         sources = top / "crates" / "misuse" / "src"
         sources.mkdir(parents=True)
         for caller in callers:
-            shutil.copy(caller, sources)
+            shutil.copy(caller, sources / f"{caller.stem}.rt")
         modules = "\n".join(f"mod {caller.stem};" for caller in callers)
         (sources / "lib.rt").write_text(ROOT_FILE.format(modules=modules), encoding="utf-8")
         ran = subprocess.run(
@@ -50,7 +50,7 @@ def told(callers, crate):
 def main():
     failed = False
     for folder in sorted(path for path in (TOP / "tests" / "misuse").iterdir() if path.is_dir()):
-        callers = sorted(folder.glob("*.rt"))
+        callers = sorted(folder.glob("*.caller"))
         want = wanted(callers)
         got, output = told(callers, folder.name)
         for name, line, error in sorted(want & got):
