@@ -1,10 +1,10 @@
 #!/usr/bin/env python3
 """Callers that must not compile.
 
-A folder tests/misuse/CRATE holds callers of a crate, NAME.caller (the gate reads files ending in .rt in crates alone). A line that the borrow checker must refuse ends in a comment
-`//~ borrow-eNNNN`, the name of the error. The callers of each crate are compiled beside it, in a copy of the repository,
-and the errors must be exactly those: this ends with a status other than 0 where a misuse compiles, or anything else
-is refused."""
+A folder tests/misuse/CRATE holds callers of a crate, NAME.caller (the gate reads files ending in .rt in crates alone). A
+line that the borrow checker must refuse ends in a comment `//~ borrow-eNNNN`, the name of the error. The callers of each
+crate are compiled beside it, in a copy of the repository, and the errors must be exactly those: this ends with a status
+other than 0 where a misuse compiles, or anything else is refused."""
 import pathlib
 import re
 import shutil
