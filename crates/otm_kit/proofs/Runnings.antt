@@ -17,7 +17,7 @@ use Rattle.script_kit.specs.declared.line.Query.TheVariants as query
 use Rattle.script_kit.specs.declared.line.Report.{Report}
 use Rattle.rollup_kit.specs.Rollups.{rollup_rows}
 use Rattle.rollup_kit.specs.TableText.{table_text}
-use Rattle.otm_kit.specs.Reads.{newest_time}
+use Rattle.gateway_kit.specs.Queries.{newest_time}
 use Rattle.writer_kit.specs.Written.{Written}
 use Rattle.world_kit.specs.Setups.{no_writer, writer_at}
 use Rattle.world_kit.specs.declared.setup.WriterSetup.{WriterSetup}

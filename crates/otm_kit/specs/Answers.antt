@@ -2,7 +2,7 @@
 use Rattle.std.specs.Prelude.{ℕ, ◌==◌, if◌then◌else◌, List, [], ◌∷◌, ◌++◌, codes, count_by, slice_get, Option, Some, None}
 use Rattle.std.specs.Fmt.{decimal}
 use Rattle.std.specs.FinMap.{entries}
-use Rattle.otm_kit.specs.Reads.{has_conflict, newest_time}
+use Rattle.gateway_kit.specs.Queries.{has_conflict, newest_time}
 use Rattle.point_kit.specs.Exports.{Points, changed_points}
 use Rattle.rollup_kit.specs.Rollups.{rollup_rows}
 use Rattle.rollup_kit.specs.TableText.{table_text}

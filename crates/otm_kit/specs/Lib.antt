@@ -8,5 +8,4 @@ pub mod Texts
 pub mod Effects
 pub mod Says
 pub mod Places
-pub mod Reads
 pub mod Standing

@@ -5,7 +5,6 @@ ghost use Rattle.otm_kit.specs.Answers.{answer_of, ask_of, conflicts_text, newes
 ghost use Rattle.otm_kit.specs.Standing.{Runs};
 ghost use Rattle.script_kit.specs.declared.line.Query.TheVariants as query;
 
-use crate::reads;
 use crate::running::Running;
 use attr_kit::{AttrSet, AttrValue, NoMemory, Seq, TryCopy, Txt};
 use gateway_kit::Gateway;
@@ -85,7 +84,7 @@ impl Running {
         let Some(writer) = self.world.writer(place) else {
             return Ok(None);
         };
-        let time = reads::newest(gateway, writer.id(), start)?;
+        let time = gateway.newest(writer.id(), start);
         Ok(Some(newest_line(alloc, time)?))
     }
 }
@@ -95,7 +94,7 @@ impl Running {
 fn same_line(alloc: Global, one: &Gateway, other: &Gateway) -> Result<String, NoMemory>
     ensures { IfOk result (λ text. string_bytes text ≡ same_text one.now.points other.now.points) }
 {
-    if reads::same(one, other)? {
+    if one.same(other) {
         Ok(String::from_str(alloc, "same yes\n")?)
     } else {
         Ok(String::from_str(alloc, "same no\n")?)
@@ -107,7 +106,7 @@ fn same_line(alloc: Global, one: &Gateway, other: &Gateway) -> Result<String, No
 fn conflicts_line(alloc: Global, gateway: &Gateway) -> Result<String, NoMemory>
     ensures { IfOk result (λ text. string_bytes text ≡ conflicts_text gateway.now.points) }
 {
-    let count = reads::conflicts(gateway)?;
+    let count = gateway.conflicts();
     Ok(format!(in alloc; "conflicts {count}\n")?)
 }
 

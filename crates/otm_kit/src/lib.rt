@@ -8,7 +8,6 @@ mod desk;
 mod draft;
 mod gateway_ids;
 mod labels;
-mod reads;
 mod refusals;
 mod running;
 mod script;

@@ -1,5 +1,5 @@
 use Rattle.std.proofs.Common.{◌≡◌, ◌∙◌, sym, ap, refl, Some, None, string_bytes}
-use Rattle.otm_kit.specs.Reads.{newest_time}
+use Rattle.gateway_kit.specs.Queries.{newest_time}
 use Rattle.otm_kit.specs.Answers.{conflicts_text, newest_text, same_text}
 use Rattle.otm_kit.proofs.Runnings.{conflicts_none, conflicts_some, report_none, report_some, same_first, same_second, same_some, newest_first, newest_second, newest_third, newest_some}
 use Rattle.otm_kit.proofs.running.Running.newest.Goals as goal
@@ -14,4 +14,4 @@ pub returns-in_default-writer : goal.returns-in_default-writer
 returns-in_default-writer c = λ d cs r. newest_third d cs c.args.self.now c.args.gateway c.args.writer.now c.args.start c.in-Some-place.place c.in-Some.gateway.now.points r (c.in-Some.ensures.some d cs r) (sym c.in-Some-place.ensures) (sym c.in_default-writer.ensures.value)
 
 pub returns : goal.returns
-returns c = λ d cs r. newest_some d cs c.args.self.now c.args.gateway c.args.writer.now c.args.start c.in-Some-place.place c.in-Some-writer.writer.now c.in-Some.gateway.now.points _ r (c.in-Some.ensures.some d cs r) (sym c.in-Some-place.ensures) (sym c.in-Some-writer.ensures.value) (c.in_ok-newest_line.ensures ∙ ap newest_text (c.in_ok-time.ensures.value ∙ ap (λ w. newest_time w c.args.start c.in-Some.gateway.now.points) c.id.ensures.value))
+returns c = λ d cs r. newest_some d cs c.args.self.now c.args.gateway c.args.writer.now c.args.start c.in-Some-place.place c.in-Some-writer.writer.now c.in-Some.gateway.now.points _ r (c.in-Some.ensures.some d cs r) (sym c.in-Some-place.ensures) (sym c.in-Some-writer.ensures.value) (c.in_ok-newest_line.ensures ∙ ap newest_text (c.newest-time.ensures.value ∙ ap (λ w. newest_time w c.args.start c.in-Some.gateway.now.points) c.id.ensures.value))
