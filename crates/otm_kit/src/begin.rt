@@ -141,11 +141,7 @@ fn writers_of(
     Ok(Seq::from_vec(setups))
 }
 
-fn world(
-    alloc: Global,
-    writers: Seq<WriterSetup>,
-    gateways: Seq<u32>,
-) -> Result<World, BeginFault>
+fn world(alloc: Global, writers: Seq<WriterSetup>, gateways: Seq<u32>) -> Result<World, BeginFault>
     ensures ok { OnOk result (setup_fault (record { writers = writers; gateways = gateways }) ≡ None) }
     ensures value { IfOk result (λ world. Stands (record { writers = writers; gateways = gateways }) [] world) }
     ensures err { IfErr result (λ fault. fault ≢ BeginFault.NoMemory → option_map (λ f. faults.World f) (setup_fault (record { writers = writers; gateways = gateways })) ≡ Some fault) }

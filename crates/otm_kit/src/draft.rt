@@ -79,11 +79,7 @@ impl Draft {
         }
     }
 
-    fn declare_instrument(
-        &mut self,
-        label: Txt,
-        instrument: Instrument,
-    ) -> Result<bool, NoMemory>
+    fn declare_instrument(&mut self, label: Txt, instrument: Instrument) -> Result<bool, NoMemory>
         ensures added { IfOk result (λ added. added ≡ is_none (label_place self.old.instrument_labels label)) }
         ensures value { IfOk result (λ added. self.new ≡ (if added then record self.old { instrument_labels = self.old.instrument_labels ++ label ∷ []; instruments = self.old.instruments ++ instrument ∷ [] } else self.old)) }
     {

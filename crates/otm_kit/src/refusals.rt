@@ -12,11 +12,9 @@ pub(crate) fn reply_line(alloc: Global, reply: &Reply) -> Result<String, AllocEr
     ensures { IfOk result (λ text. string_bytes text ≡ reply_text reply.now) }
 {
     match reply {
-        Reply::Done
-        | Reply::Made(_)
-        | Reply::Changed(_)
-        | Reply::Sent(_)
-        | Reply::Handed(_) => Ok(String::new(alloc)),
+        Reply::Done | Reply::Made(_) | Reply::Changed(_) | Reply::Sent(_) | Reply::Handed(_) => Ok(
+            String::new(alloc),
+        ),
         Reply::Refused(refusal) => format!(in alloc; "refused: {refusal}\n"),
     }
 }

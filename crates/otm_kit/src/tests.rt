@@ -20,8 +20,10 @@ fn prints(
 
 #[test]
 fn row_attribute_values(rt: HostRuntime) -> Result<(), Fail> {
-    let script = "instrument c counter app requests 1\nwriter a shop 00000000-0000-0000-0000-000000000001 100\ngateway 1\nbegin\nmeasure a c 1 k=5\nmeasure a c 2 k='5\nmeasure a c 4 k=5,j=x\ncollect a 200\ndeliver 1 1\nreport 1 app requests 1 sum+ * - *\n";
-    let text = "attributes   points  conflicts  total\n{j=\"x\",k=5}       1          0  4\n{k=\"5\"}           1          0  2\n{k=5}             1          0  1\n";
+    let script =
+        "instrument c counter app requests 1\nwriter a shop 00000000-0000-0000-0000-000000000001 100\ngateway 1\nbegin\nmeasure a c 1 k=5\nmeasure a c 2 k='5\nmeasure a c 4 k=5,j=x\ncollect a 200\ndeliver 1 1\nreport 1 app requests 1 sum+ * - *\n";
+    let text =
+        "attributes   points  conflicts  total\n{j=\"x\",k=5}       1          0  4\n{k=\"5\"}           1          0  2\n{k=5}             1          0  1\n";
     assert!(rt; prints(&rt, script, text, Ok(()))?);
     Ok(())
 }
@@ -76,8 +78,10 @@ fn row_bad_word_count(rt: HostRuntime) -> Result<(), Fail> {
 
 #[test]
 fn row_cardinality_limit(rt: HostRuntime) -> Result<(), Fail> {
-    let script = "instrument c counter app requests 1\nwriter a shop 00000000-0000-0000-0000-000000000001 100\ngateway 1\nlimit 2\nbegin\nmeasure a c 1 k=1\nmeasure a c 2 k=2\nmeasure a c 3 k=3\nmeasure a c 4 k=4\nmeasure a c 5 k=5\ncollect a 200\ndeliver 1 1\nreport 1 app requests 1 sum+ * - *\n";
-    let text = "attributes                   points  conflicts  total\n{k=1}                             1          0  1\n{k=2}                             1          0  2\n{otel.metric.overflow=true}       1          0  12\n";
+    let script =
+        "instrument c counter app requests 1\nwriter a shop 00000000-0000-0000-0000-000000000001 100\ngateway 1\nlimit 2\nbegin\nmeasure a c 1 k=1\nmeasure a c 2 k=2\nmeasure a c 3 k=3\nmeasure a c 4 k=4\nmeasure a c 5 k=5\ncollect a 200\ndeliver 1 1\nreport 1 app requests 1 sum+ * - *\n";
+    let text =
+        "attributes                   points  conflicts  total\n{k=1}                             1          0  1\n{k=2}                             1          0  2\n{otel.metric.overflow=true}       1          0  12\n";
     assert!(rt; prints(&rt, script, text, Ok(()))?);
     Ok(())
 }
@@ -92,8 +96,10 @@ fn row_cut_line(rt: HostRuntime) -> Result<(), Fail> {
 
 #[test]
 fn row_default_bounds(rt: HostRuntime) -> Result<(), Fail> {
-    let script = "instrument h histogram app size By\nwriter a shop 00000000-0000-0000-0000-000000000001 100\ngateway 1\nbegin\nmeasure a h 0 -\nmeasure a h 5 -\nmeasure a h 6 -\nmeasure a h 10001 -\ncollect a 200\ndeliver 1 1\nreport 1 app size By hist * - *\n";
-    let text = "attributes  points  conflicts  total\n{}               1          0  count=4 sum=10012 buckets=1,1,1,0,0,0,0,0,0,0,0,0,0,0,0,1 min=0 max=10001\n";
+    let script =
+        "instrument h histogram app size By\nwriter a shop 00000000-0000-0000-0000-000000000001 100\ngateway 1\nbegin\nmeasure a h 0 -\nmeasure a h 5 -\nmeasure a h 6 -\nmeasure a h 10001 -\ncollect a 200\ndeliver 1 1\nreport 1 app size By hist * - *\n";
+    let text =
+        "attributes  points  conflicts  total\n{}               1          0  count=4 sum=10012 buckets=1,1,1,0,0,0,0,0,0,0,0,0,0,0,0,1 min=0 max=10001\n";
     assert!(rt; prints(&rt, script, text, Ok(()))?);
     Ok(())
 }
@@ -108,7 +114,8 @@ fn row_empty(rt: HostRuntime) -> Result<(), Fail> {
 
 #[test]
 fn row_first_total(rt: HostRuntime) -> Result<(), Fail> {
-    let script = "instrument c counter app requests 1\nwriter a shop 00000000-0000-0000-0000-000000000001 100\ngateway 1\nbegin\nmeasure a c 3 -\nmeasure a c 4 -\ncollect a 200\ndeliver 1 1\nreport 1 app requests 1 sum+ * - *\n";
+    let script =
+        "instrument c counter app requests 1\nwriter a shop 00000000-0000-0000-0000-000000000001 100\ngateway 1\nbegin\nmeasure a c 3 -\nmeasure a c 4 -\ncollect a 200\ndeliver 1 1\nreport 1 app requests 1 sum+ * - *\n";
     let text = "attributes  points  conflicts  total\n{}               1          0  7\n";
     assert!(rt; prints(&rt, script, text, Ok(()))?);
     Ok(())
@@ -116,32 +123,40 @@ fn row_first_total(rt: HostRuntime) -> Result<(), Fail> {
 
 #[test]
 fn row_gauges(rt: HostRuntime) -> Result<(), Fail> {
-    let script = "instrument g gauge app temp -\nwriter a shop 00000000-0000-0000-0000-000000000001 100\nwriter b shop 00000000-0000-0000-0000-000000000002 100\ngateway 1\nbegin\nmeasure a g 9 -\nmeasure b g 8 -\ncollect a 200\ncollect b 200\ndeliver 1 1\ndeliver 2 1\nreport 1 app temp - gauge * - *\ncollect a 300\ndeliver 3 1\nreport 1 app temp - gauge * - *\n";
-    let text = "attributes  points  conflicts  total\n{}               2          0  8@200\nattributes  points  conflicts  total\n{}               2          0  9@300\n";
+    let script =
+        "instrument g gauge app temp -\nwriter a shop 00000000-0000-0000-0000-000000000001 100\nwriter b shop 00000000-0000-0000-0000-000000000002 100\ngateway 1\nbegin\nmeasure a g 9 -\nmeasure b g 8 -\ncollect a 200\ncollect b 200\ndeliver 1 1\ndeliver 2 1\nreport 1 app temp - gauge * - *\ncollect a 300\ndeliver 3 1\nreport 1 app temp - gauge * - *\n";
+    let text =
+        "attributes  points  conflicts  total\n{}               2          0  8@200\nattributes  points  conflicts  total\n{}               2          0  9@300\n";
     assert!(rt; prints(&rt, script, text, Ok(()))?);
     Ok(())
 }
 
 #[test]
 fn row_histogram_buckets(rt: HostRuntime) -> Result<(), Fail> {
-    let script = "instrument h histogram app size By\nview * histogram * - * buckets:0,5,10\nwriter a shop 00000000-0000-0000-0000-000000000001 100\ngateway 1\nbegin\nmeasure a h 0 -\nmeasure a h 5 -\nmeasure a h 6 -\nmeasure a h 10 -\nmeasure a h 11 -\ncollect a 200\ndeliver 1 1\nreport 1 app size By hist:0,5,10 * - *\n";
-    let text = "attributes  points  conflicts  total\n{}               1          0  count=5 sum=32 buckets=1,1,2,1 min=0 max=11\n";
+    let script =
+        "instrument h histogram app size By\nview * histogram * - * buckets:0,5,10\nwriter a shop 00000000-0000-0000-0000-000000000001 100\ngateway 1\nbegin\nmeasure a h 0 -\nmeasure a h 5 -\nmeasure a h 6 -\nmeasure a h 10 -\nmeasure a h 11 -\ncollect a 200\ndeliver 1 1\nreport 1 app size By hist:0,5,10 * - *\n";
+    let text =
+        "attributes  points  conflicts  total\n{}               1          0  count=5 sum=32 buckets=1,1,2,1 min=0 max=11\n";
     assert!(rt; prints(&rt, script, text, Ok(()))?);
     Ok(())
 }
 
 #[test]
 fn row_limit_after_restart(rt: HostRuntime) -> Result<(), Fail> {
-    let script = "instrument c counter app requests 1\nwriter a shop 00000000-0000-0000-0000-000000000001 100\ngateway 1\nlimit 1\nbegin\nmeasure a c 1 k=1\nmeasure a c 2 k=2\ncollect a 200\nrestart a 300\nmeasure a c 4 k=2\ncollect a 400\ndeliver 1 1\ndeliver 2 1\nreport 1 app requests 1 sum+ * - *\n";
-    let text = "attributes                   points  conflicts  total\n{k=1}                             1          0  1\n{k=2}                             1          0  4\n{otel.metric.overflow=true}       1          0  2\n";
+    let script =
+        "instrument c counter app requests 1\nwriter a shop 00000000-0000-0000-0000-000000000001 100\ngateway 1\nlimit 1\nbegin\nmeasure a c 1 k=1\nmeasure a c 2 k=2\ncollect a 200\nrestart a 300\nmeasure a c 4 k=2\ncollect a 400\ndeliver 1 1\ndeliver 2 1\nreport 1 app requests 1 sum+ * - *\n";
+    let text =
+        "attributes                   points  conflicts  total\n{k=1}                             1          0  1\n{k=2}                             1          0  4\n{otel.metric.overflow=true}       1          0  2\n";
     assert!(rt; prints(&rt, script, text, Ok(()))?);
     Ok(())
 }
 
 #[test]
 fn row_limit_one(rt: HostRuntime) -> Result<(), Fail> {
-    let script = "instrument c counter app requests 1\nwriter a shop 00000000-0000-0000-0000-000000000001 100\ngateway 1\nlimit 1\nbegin\nmeasure a c 4 -\nmeasure a c 5 k=1\ncollect a 200\ndeliver 1 1\nreport 1 app requests 1 sum+ * - *\n";
-    let text = "attributes                   points  conflicts  total\n{}                                1          0  4\n{otel.metric.overflow=true}       1          0  5\n";
+    let script =
+        "instrument c counter app requests 1\nwriter a shop 00000000-0000-0000-0000-000000000001 100\ngateway 1\nlimit 1\nbegin\nmeasure a c 4 -\nmeasure a c 5 k=1\ncollect a 200\ndeliver 1 1\nreport 1 app requests 1 sum+ * - *\n";
+    let text =
+        "attributes                   points  conflicts  total\n{}                                1          0  4\n{otel.metric.overflow=true}       1          0  5\n";
     assert!(rt; prints(&rt, script, text, Ok(()))?);
     Ok(())
 }
@@ -156,47 +171,58 @@ fn row_limit_zero(rt: HostRuntime) -> Result<(), Fail> {
 
 #[test]
 fn row_mail_carries_the_past(rt: HostRuntime) -> Result<(), Fail> {
-    let script = "instrument c counter app requests 1\nwriter a shop 00000000-0000-0000-0000-000000000001 100\ngateway 1\ngateway 2\nbegin\nmeasure a c 3 -\ncollect a 200\ndeliver 1 1\nsend 1 2\nmeasure a c 4 -\ncollect a 300\ndeliver 2 1\nhand 1 2\nhand 1 2\nhand 1 1\nhand 9 2\nreport 2 app requests 1 sum+ * - *\n";
-    let text = "refused: NotAddressed\nrefused: NoMail\nattributes  points  conflicts  total\n{}               1          0  3\n";
+    let script =
+        "instrument c counter app requests 1\nwriter a shop 00000000-0000-0000-0000-000000000001 100\ngateway 1\ngateway 2\nbegin\nmeasure a c 3 -\ncollect a 200\ndeliver 1 1\nsend 1 2\nmeasure a c 4 -\ncollect a 300\ndeliver 2 1\nhand 1 2\nhand 1 2\nhand 1 1\nhand 9 2\nreport 2 app requests 1 sum+ * - *\n";
+    let text =
+        "refused: NotAddressed\nrefused: NoMail\nattributes  points  conflicts  total\n{}               1          0  3\n";
     assert!(rt; prints(&rt, script, text, Ok(()))?);
     Ok(())
 }
 
 #[test]
 fn row_merge_and_gossip(rt: HostRuntime) -> Result<(), Fail> {
-    let script = "instrument c counter app requests 1\nwriter a shop 00000000-0000-0000-0000-000000000001 100\nwriter b shop 00000000-0000-0000-0000-000000000002 100\ngateway 1\ngateway 2\ngateway 3\ngateway 4\nbegin\nmeasure a c 7 -\nmeasure b c 5 -\ncollect a 200\ncollect b 200\ndeliver 1 1\ndeliver 2 1\ndeliver 1 2\ndeliver 2 3\nmerge 2 3\nsend 1 4\nhand 1 4\nsame 1 2\nsame 1 4\nsame 2 4\nsame 1 3\nreport 4 app requests 1 sum+ * - *\n";
-    let text = "same yes\nsame yes\nsame yes\nsame no\nattributes  points  conflicts  total\n{}               2          0  12\n";
+    let script =
+        "instrument c counter app requests 1\nwriter a shop 00000000-0000-0000-0000-000000000001 100\nwriter b shop 00000000-0000-0000-0000-000000000002 100\ngateway 1\ngateway 2\ngateway 3\ngateway 4\nbegin\nmeasure a c 7 -\nmeasure b c 5 -\ncollect a 200\ncollect b 200\ndeliver 1 1\ndeliver 2 1\ndeliver 1 2\ndeliver 2 3\nmerge 2 3\nsend 1 4\nhand 1 4\nsame 1 2\nsame 1 4\nsame 2 4\nsame 1 3\nreport 4 app requests 1 sum+ * - *\n";
+    let text =
+        "same yes\nsame yes\nsame yes\nsame no\nattributes  points  conflicts  total\n{}               2          0  12\n";
     assert!(rt; prints(&rt, script, text, Ok(()))?);
     Ok(())
 }
 
 #[test]
 fn row_merge_both_ways(rt: HostRuntime) -> Result<(), Fail> {
-    let script = "instrument c counter app requests 1\nwriter a shop 00000000-0000-0000-0000-000000000001 100\nwriter b shop 00000000-0000-0000-0000-000000000002 100\ngateway 1\ngateway 2\ngateway 3\nbegin\nmeasure a c 7 -\nmeasure b c 5 -\ncollect a 200\ncollect b 200\ndeliver 1 1\ndeliver 2 2\nmerge 1 2\nmerge 2 1\nmerge 2 2\nsame 1 2\nsame 1 3\nnewest 2 a 100\nnewest 3 a 100\nreport 2 app requests 1 sum+ * - *\n";
-    let text = "same yes\nsame no\nnewest 200\nnewest none\nattributes  points  conflicts  total\n{}               2          0  12\n";
+    let script =
+        "instrument c counter app requests 1\nwriter a shop 00000000-0000-0000-0000-000000000001 100\nwriter b shop 00000000-0000-0000-0000-000000000002 100\ngateway 1\ngateway 2\ngateway 3\nbegin\nmeasure a c 7 -\nmeasure b c 5 -\ncollect a 200\ncollect b 200\ndeliver 1 1\ndeliver 2 2\nmerge 1 2\nmerge 2 1\nmerge 2 2\nsame 1 2\nsame 1 3\nnewest 2 a 100\nnewest 3 a 100\nreport 2 app requests 1 sum+ * - *\n";
+    let text =
+        "same yes\nsame no\nnewest 200\nnewest none\nattributes  points  conflicts  total\n{}               2          0  12\n";
     assert!(rt; prints(&rt, script, text, Ok(()))?);
     Ok(())
 }
 
 #[test]
 fn row_names_in_lower_case(rt: HostRuntime) -> Result<(), Fail> {
-    let script = "instrument c counter app Requests 1\nwriter a shop 00000000-0000-0000-0000-000000000001 100\ngateway 1\nbegin\nmeasure a c 3 -\ncollect a 200\ndeliver 1 1\nreport 1 app requests 1 sum+ * - *\nreport 1 app Requests 1 sum+ * - *\n";
-    let text = "attributes  points  conflicts  total\n{}               1          0  3\nattributes  points  conflicts  total\n";
+    let script =
+        "instrument c counter app Requests 1\nwriter a shop 00000000-0000-0000-0000-000000000001 100\ngateway 1\nbegin\nmeasure a c 3 -\ncollect a 200\ndeliver 1 1\nreport 1 app requests 1 sum+ * - *\nreport 1 app Requests 1 sum+ * - *\n";
+    let text =
+        "attributes  points  conflicts  total\n{}               1          0  3\nattributes  points  conflicts  total\n";
     assert!(rt; prints(&rt, script, text, Ok(()))?);
     Ok(())
 }
 
 #[test]
 fn row_no_bounds(rt: HostRuntime) -> Result<(), Fail> {
-    let script = "instrument h histogram app size By\nview * * * - * buckets:\nwriter a shop 00000000-0000-0000-0000-000000000001 100\ngateway 1\nbegin\nmeasure a h 4 -\nmeasure a h 9 -\ncollect a 200\ndeliver 1 1\nreport 1 app size By hist: * - *\n";
-    let text = "attributes  points  conflicts  total\n{}               1          0  count=2 sum=13 buckets=2 min=4 max=9\n";
+    let script =
+        "instrument h histogram app size By\nview * * * - * buckets:\nwriter a shop 00000000-0000-0000-0000-000000000001 100\ngateway 1\nbegin\nmeasure a h 4 -\nmeasure a h 9 -\ncollect a 200\ndeliver 1 1\nreport 1 app size By hist: * - *\n";
+    let text =
+        "attributes  points  conflicts  total\n{}               1          0  count=2 sum=13 buckets=2 min=4 max=9\n";
     assert!(rt; prints(&rt, script, text, Ok(()))?);
     Ok(())
 }
 
 #[test]
 fn row_older_export_after_newer(rt: HostRuntime) -> Result<(), Fail> {
-    let script = "instrument c counter app requests 1\nwriter a shop 00000000-0000-0000-0000-000000000001 100\ngateway 1\nbegin\nmeasure a c 3 -\nmeasure a c 4 -\ncollect a 200\nmeasure a c 5 -\ncollect a 300\ndeliver 2 1\ndeliver 1 1\nreport 1 app requests 1 sum+ * - *\n";
+    let script =
+        "instrument c counter app requests 1\nwriter a shop 00000000-0000-0000-0000-000000000001 100\ngateway 1\nbegin\nmeasure a c 3 -\nmeasure a c 4 -\ncollect a 200\nmeasure a c 5 -\ncollect a 300\ndeliver 2 1\ndeliver 1 1\nreport 1 app requests 1 sum+ * - *\n";
     let text = "attributes  points  conflicts  total\n{}               1          0  12\n";
     assert!(rt; prints(&rt, script, text, Ok(()))?);
     Ok(())
@@ -204,15 +230,18 @@ fn row_older_export_after_newer(rt: HostRuntime) -> Result<(), Fail> {
 
 #[test]
 fn row_overflow_set_recorded(rt: HostRuntime) -> Result<(), Fail> {
-    let script = "instrument c counter app requests 1\nwriter a shop 00000000-0000-0000-0000-000000000001 100\ngateway 1\nlimit 1\nbegin\nmeasure a c 1 otel.metric.overflow=true\nmeasure a c 2 k=1\nmeasure a c 3 k=2\ncollect a 200\ndeliver 1 1\nreport 1 app requests 1 sum+ * - *\n";
-    let text = "attributes                   points  conflicts  total\n{k=1}                             1          0  2\n{otel.metric.overflow=true}       1          0  4\n";
+    let script =
+        "instrument c counter app requests 1\nwriter a shop 00000000-0000-0000-0000-000000000001 100\ngateway 1\nlimit 1\nbegin\nmeasure a c 1 otel.metric.overflow=true\nmeasure a c 2 k=1\nmeasure a c 3 k=2\ncollect a 200\ndeliver 1 1\nreport 1 app requests 1 sum+ * - *\n";
+    let text =
+        "attributes                   points  conflicts  total\n{k=1}                             1          0  2\n{otel.metric.overflow=true}       1          0  4\n";
     assert!(rt; prints(&rt, script, text, Ok(()))?);
     Ok(())
 }
 
 #[test]
 fn row_refusals_and_cut_word(rt: HostRuntime) -> Result<(), Fail> {
-    let script = "instrument c counter app requests 1\nwriter a shop 00000000-0000-0000-0000-000000000001 100\ngateway 1\nbegin\nmeasure a c -1 -\ndeliver 1 1\nrepo";
+    let script =
+        "instrument c counter app requests 1\nwriter a shop 00000000-0000-0000-0000-000000000001 100\ngateway 1\nbegin\nmeasure a c -1 -\ndeliver 1 1\nrepo";
     let text = "refused: Negative\nrefused: NoExport\n";
     assert!(rt; prints(&rt, script, text, Err(ScriptFault::BadLine(7)))?);
     Ok(())
@@ -220,15 +249,18 @@ fn row_refusals_and_cut_word(rt: HostRuntime) -> Result<(), Fail> {
 
 #[test]
 fn row_refused_by_second_feed(rt: HostRuntime) -> Result<(), Fail> {
-    let script = "instrument c counter app requests 1\nwriter a shop 00000000-0000-0000-0000-000000000001 100\ngateway 1\nview requests * * - route default\nview requests * * requests.all - default\nbegin\nmeasure a c 9223372036854775807 route=x\nmeasure a c 1 route=y\ncollect a 200\ndeliver 1 1\nreport 1 app requests 1 sum+ * - *\n";
-    let text = "refused: Overflow(1)\nattributes   points  conflicts  total\n{route=\"x\"}       1          0  9223372036854775807\n";
+    let script =
+        "instrument c counter app requests 1\nwriter a shop 00000000-0000-0000-0000-000000000001 100\ngateway 1\nview requests * * - route default\nview requests * * requests.all - default\nbegin\nmeasure a c 9223372036854775807 route=x\nmeasure a c 1 route=y\ncollect a 200\ndeliver 1 1\nreport 1 app requests 1 sum+ * - *\n";
+    let text =
+        "refused: Overflow(1)\nattributes   points  conflicts  total\n{route=\"x\"}       1          0  9223372036854775807\n";
     assert!(rt; prints(&rt, script, text, Ok(()))?);
     Ok(())
 }
 
 #[test]
 fn row_repeated_delivery(rt: HostRuntime) -> Result<(), Fail> {
-    let script = "instrument c counter app requests 1\nwriter a shop 00000000-0000-0000-0000-000000000001 100\ngateway 1\nbegin\nmeasure a c 3 -\nmeasure a c 4 -\ncollect a 200\ndeliver 1 1\ndeliver 1 1\ndeliver 1 1\nreport 1 app requests 1 sum+ * - *\n";
+    let script =
+        "instrument c counter app requests 1\nwriter a shop 00000000-0000-0000-0000-000000000001 100\ngateway 1\nbegin\nmeasure a c 3 -\nmeasure a c 4 -\ncollect a 200\ndeliver 1 1\ndeliver 1 1\ndeliver 1 1\nreport 1 app requests 1 sum+ * - *\n";
     let text = "attributes  points  conflicts  total\n{}               1          0  7\n";
     assert!(rt; prints(&rt, script, text, Ok(()))?);
     Ok(())
@@ -236,63 +268,78 @@ fn row_repeated_delivery(rt: HostRuntime) -> Result<(), Fail> {
 
 #[test]
 fn row_report_by_service_and_pair(rt: HostRuntime) -> Result<(), Fail> {
-    let script = "instrument c counter app requests 1\nwriter a shop 00000000-0000-0000-0000-000000000001 100\nwriter b till 00000000-0000-0000-0000-000000000002 100\ngateway 1\nbegin\nmeasure a c 1 route=x,host=p\nmeasure a c 2 route=y,host=p\nmeasure b c 4 route=x,host=q\ncollect a 200\ncollect b 200\ndeliver 1 1\ndeliver 2 1\nreport 1 app requests 1 sum+ * - route\nreport 1 app requests 1 sum+ till - -\nreport 1 app requests 1 sum+ * host=p -\n";
-    let text = "attributes   points  conflicts  total\n{route=\"x\"}       2          0  5\n{route=\"y\"}       1          0  2\nattributes  points  conflicts  total\n{}               1          0  4\nattributes  points  conflicts  total\n{}               2          0  3\n";
+    let script =
+        "instrument c counter app requests 1\nwriter a shop 00000000-0000-0000-0000-000000000001 100\nwriter b till 00000000-0000-0000-0000-000000000002 100\ngateway 1\nbegin\nmeasure a c 1 route=x,host=p\nmeasure a c 2 route=y,host=p\nmeasure b c 4 route=x,host=q\ncollect a 200\ncollect b 200\ndeliver 1 1\ndeliver 2 1\nreport 1 app requests 1 sum+ * - route\nreport 1 app requests 1 sum+ till - -\nreport 1 app requests 1 sum+ * host=p -\n";
+    let text =
+        "attributes   points  conflicts  total\n{route=\"x\"}       2          0  5\n{route=\"y\"}       1          0  2\nattributes  points  conflicts  total\n{}               1          0  4\nattributes  points  conflicts  total\n{}               2          0  3\n";
     assert!(rt; prints(&rt, script, text, Ok(()))?);
     Ok(())
 }
 
 #[test]
 fn row_restart(rt: HostRuntime) -> Result<(), Fail> {
-    let script = "instrument c counter app requests 1\nwriter a shop 00000000-0000-0000-0000-000000000001 100\ngateway 1\nbegin\nmeasure a c 3 -\nmeasure a c 4 -\ncollect a 200\nmeasure a c 5 -\ncollect a 300\ndeliver 2 1\ndeliver 1 1\nrestart a 400\nmeasure a c 2 -\ncollect a 500\ndeliver 3 1\nreport 1 app requests 1 sum+ * - *\nrestart a 400\n";
-    let text = "attributes  points  conflicts  total\n{}               2          0  14\nrefused: StartNotAfter(400)\n";
+    let script =
+        "instrument c counter app requests 1\nwriter a shop 00000000-0000-0000-0000-000000000001 100\ngateway 1\nbegin\nmeasure a c 3 -\nmeasure a c 4 -\ncollect a 200\nmeasure a c 5 -\ncollect a 300\ndeliver 2 1\ndeliver 1 1\nrestart a 400\nmeasure a c 2 -\ncollect a 500\ndeliver 3 1\nreport 1 app requests 1 sum+ * - *\nrestart a 400\n";
+    let text =
+        "attributes  points  conflicts  total\n{}               2          0  14\nrefused: StartNotAfter(400)\n";
     assert!(rt; prints(&rt, script, text, Ok(()))?);
     Ok(())
 }
 
 #[test]
 fn row_shared_identity_conflict(rt: HostRuntime) -> Result<(), Fail> {
-    let script = "instrument c counter app requests 1\nwriter a shop 00000000-0000-0000-0000-000000000001 100\nwriter b shop 00000000-0000-0000-0000-000000000001 100\ngateway 1\nbegin\nmeasure a c 7 -\nmeasure b c 9 -\ncollect a 200\ncollect b 200\ndeliver 1 1\ndeliver 2 1\nconflicts 1\nreport 1 app requests 1 sum+ * - *\n";
-    let text = "conflicts 1\nattributes  points  conflicts  total\n{}               0          1  0\n";
+    let script =
+        "instrument c counter app requests 1\nwriter a shop 00000000-0000-0000-0000-000000000001 100\nwriter b shop 00000000-0000-0000-0000-000000000001 100\ngateway 1\nbegin\nmeasure a c 7 -\nmeasure b c 9 -\ncollect a 200\ncollect b 200\ndeliver 1 1\ndeliver 2 1\nconflicts 1\nreport 1 app requests 1 sum+ * - *\n";
+    let text =
+        "conflicts 1\nattributes  points  conflicts  total\n{}               0          1  0\n";
     assert!(rt; prints(&rt, script, text, Ok(()))?);
     Ok(())
 }
 
 #[test]
 fn row_shutdown_and_restart(rt: HostRuntime) -> Result<(), Fail> {
-    let script = "instrument c counter app requests 1\nwriter a shop 00000000-0000-0000-0000-000000000001 100\ngateway 1\nbegin\nmeasure a c 3 -\nshutdown a 200\nmeasure a c 1 -\ncollect a 300\nrestart a 400\nmeasure a c 2 -\ncollect a 500\ndeliver 1 1\ndeliver 2 1\nreport 1 app requests 1 sum+ * - *\n";
-    let text = "refused: Closed\nrefused: Closed\nattributes  points  conflicts  total\n{}               2          0  5\n";
+    let script =
+        "instrument c counter app requests 1\nwriter a shop 00000000-0000-0000-0000-000000000001 100\ngateway 1\nbegin\nmeasure a c 3 -\nshutdown a 200\nmeasure a c 1 -\ncollect a 300\nrestart a 400\nmeasure a c 2 -\ncollect a 500\ndeliver 1 1\ndeliver 2 1\nreport 1 app requests 1 sum+ * - *\n";
+    let text =
+        "refused: Closed\nrefused: Closed\nattributes  points  conflicts  total\n{}               2          0  5\n";
     assert!(rt; prints(&rt, script, text, Ok(()))?);
     Ok(())
 }
 
 #[test]
 fn row_six_orders(rt: HostRuntime) -> Result<(), Fail> {
-    let script = "instrument c counter app requests 1\nwriter a shop 00000000-0000-0000-0000-000000000001 100\nwriter b shop 00000000-0000-0000-0000-000000000001 100\ngateway 1\ngateway 2\ngateway 3\ngateway 4\ngateway 5\ngateway 6\nbegin\nmeasure a c 7 -\nmeasure b c 9 -\ncollect a 200\ncollect b 200\nmeasure a c 5 -\ncollect a 300\ndeliver 1 1\ndeliver 2 1\ndeliver 3 1\ndeliver 1 2\ndeliver 3 2\ndeliver 2 2\ndeliver 2 3\ndeliver 1 3\ndeliver 3 3\ndeliver 2 4\ndeliver 3 4\ndeliver 1 4\ndeliver 3 5\ndeliver 1 5\ndeliver 2 5\ndeliver 3 6\ndeliver 2 6\ndeliver 1 6\nconflicts 1\nreport 1 app requests 1 sum+ * - *\nconflicts 2\nreport 2 app requests 1 sum+ * - *\nconflicts 3\nreport 3 app requests 1 sum+ * - *\nconflicts 4\nreport 4 app requests 1 sum+ * - *\nconflicts 5\nreport 5 app requests 1 sum+ * - *\nconflicts 6\nreport 6 app requests 1 sum+ * - *\nsame 1 2\nsame 1 3\nsame 1 4\nsame 1 5\nsame 1 6\n";
-    let text = "conflicts 0\nattributes  points  conflicts  total\n{}               1          0  12\nconflicts 0\nattributes  points  conflicts  total\n{}               1          0  12\nconflicts 0\nattributes  points  conflicts  total\n{}               1          0  12\nconflicts 0\nattributes  points  conflicts  total\n{}               1          0  12\nconflicts 0\nattributes  points  conflicts  total\n{}               1          0  12\nconflicts 0\nattributes  points  conflicts  total\n{}               1          0  12\nsame yes\nsame yes\nsame yes\nsame yes\nsame yes\n";
+    let script =
+        "instrument c counter app requests 1\nwriter a shop 00000000-0000-0000-0000-000000000001 100\nwriter b shop 00000000-0000-0000-0000-000000000001 100\ngateway 1\ngateway 2\ngateway 3\ngateway 4\ngateway 5\ngateway 6\nbegin\nmeasure a c 7 -\nmeasure b c 9 -\ncollect a 200\ncollect b 200\nmeasure a c 5 -\ncollect a 300\ndeliver 1 1\ndeliver 2 1\ndeliver 3 1\ndeliver 1 2\ndeliver 3 2\ndeliver 2 2\ndeliver 2 3\ndeliver 1 3\ndeliver 3 3\ndeliver 2 4\ndeliver 3 4\ndeliver 1 4\ndeliver 3 5\ndeliver 1 5\ndeliver 2 5\ndeliver 3 6\ndeliver 2 6\ndeliver 1 6\nconflicts 1\nreport 1 app requests 1 sum+ * - *\nconflicts 2\nreport 2 app requests 1 sum+ * - *\nconflicts 3\nreport 3 app requests 1 sum+ * - *\nconflicts 4\nreport 4 app requests 1 sum+ * - *\nconflicts 5\nreport 5 app requests 1 sum+ * - *\nconflicts 6\nreport 6 app requests 1 sum+ * - *\nsame 1 2\nsame 1 3\nsame 1 4\nsame 1 5\nsame 1 6\n";
+    let text =
+        "conflicts 0\nattributes  points  conflicts  total\n{}               1          0  12\nconflicts 0\nattributes  points  conflicts  total\n{}               1          0  12\nconflicts 0\nattributes  points  conflicts  total\n{}               1          0  12\nconflicts 0\nattributes  points  conflicts  total\n{}               1          0  12\nconflicts 0\nattributes  points  conflicts  total\n{}               1          0  12\nconflicts 0\nattributes  points  conflicts  total\n{}               1          0  12\nsame yes\nsame yes\nsame yes\nsame yes\nsame yes\n";
     assert!(rt; prints(&rt, script, text, Ok(()))?);
     Ok(())
 }
 
 #[test]
 fn row_times_must_rise(rt: HostRuntime) -> Result<(), Fail> {
-    let script = "instrument c counter app requests 1\nwriter a shop 00000000-0000-0000-0000-000000000001 100\ngateway 1\nbegin\ncollect a 100\nmeasure a c 3 -\ncollect a 200\ncollect a 200\nmeasure a c 4 -\ncollect a 300\ndeliver 2 1\nreport 1 app requests 1 sum+ * - *\n";
-    let text = "refused: TimeNotAfter(100)\nrefused: TimeNotAfter(200)\nattributes  points  conflicts  total\n{}               1          0  7\n";
+    let script =
+        "instrument c counter app requests 1\nwriter a shop 00000000-0000-0000-0000-000000000001 100\ngateway 1\nbegin\ncollect a 100\nmeasure a c 3 -\ncollect a 200\ncollect a 200\nmeasure a c 4 -\ncollect a 300\ndeliver 2 1\nreport 1 app requests 1 sum+ * - *\n";
+    let text =
+        "refused: TimeNotAfter(100)\nrefused: TimeNotAfter(200)\nattributes  points  conflicts  total\n{}               1          0  7\n";
     assert!(rt; prints(&rt, script, text, Ok(()))?);
     Ok(())
 }
 
 #[test]
 fn row_totals_beyond_i64(rt: HostRuntime) -> Result<(), Fail> {
-    let script = "instrument c counter app requests 1\nwriter a shop 00000000-0000-0000-0000-000000000001 100\nwriter b shop 00000000-0000-0000-0000-000000000002 100\ngateway 1\nbegin\nmeasure a c 9223372036854775807 -\nmeasure a c 1 -\nmeasure b c 9223372036854775807 -\ncollect a 200\ncollect b 200\ndeliver 1 1\ndeliver 2 1\nreport 1 app requests 1 sum+ * - *\n";
-    let text = "refused: Overflow(0)\nattributes  points  conflicts  total\n{}               2          0  18446744073709551614\n";
+    let script =
+        "instrument c counter app requests 1\nwriter a shop 00000000-0000-0000-0000-000000000001 100\nwriter b shop 00000000-0000-0000-0000-000000000002 100\ngateway 1\nbegin\nmeasure a c 9223372036854775807 -\nmeasure a c 1 -\nmeasure b c 9223372036854775807 -\ncollect a 200\ncollect b 200\ndeliver 1 1\ndeliver 2 1\nreport 1 app requests 1 sum+ * - *\n";
+    let text =
+        "refused: Overflow(0)\nattributes  points  conflicts  total\n{}               2          0  18446744073709551614\n";
     assert!(rt; prints(&rt, script, text, Ok(()))?);
     Ok(())
 }
 
 #[test]
 fn row_up_down_counter(rt: HostRuntime) -> Result<(), Fail> {
-    let script = "instrument u updown app depth -\nwriter a shop 00000000-0000-0000-0000-000000000001 100\ngateway 1\nbegin\nmeasure a u 5 -\nmeasure a u -8 -\ncollect a 200\ndeliver 1 1\nreport 1 app depth - sum * - *\n";
+    let script =
+        "instrument u updown app depth -\nwriter a shop 00000000-0000-0000-0000-000000000001 100\ngateway 1\nbegin\nmeasure a u 5 -\nmeasure a u -8 -\ncollect a 200\ndeliver 1 1\nreport 1 app depth - sum * - *\n";
     let text = "attributes  points  conflicts  total\n{}               1          0  -3\n";
     assert!(rt; prints(&rt, script, text, Ok(()))?);
     Ok(())
@@ -300,7 +347,8 @@ fn row_up_down_counter(rt: HostRuntime) -> Result<(), Fail> {
 
 #[test]
 fn row_up_down_overflow(rt: HostRuntime) -> Result<(), Fail> {
-    let script = "instrument u updown app depth -\nwriter a shop 00000000-0000-0000-0000-000000000001 100\ngateway 1\nbegin\nmeasure a u -9223372036854775808 -\nmeasure a u -1 -\n";
+    let script =
+        "instrument u updown app depth -\nwriter a shop 00000000-0000-0000-0000-000000000001 100\ngateway 1\nbegin\nmeasure a u -9223372036854775808 -\nmeasure a u -1 -\n";
     let text = "refused: Overflow(0)\n";
     assert!(rt; prints(&rt, script, text, Ok(()))?);
     Ok(())
@@ -308,7 +356,8 @@ fn row_up_down_overflow(rt: HostRuntime) -> Result<(), Fail> {
 
 #[test]
 fn row_view_drops(rt: HostRuntime) -> Result<(), Fail> {
-    let script = "instrument c counter app requests 1\nwriter a shop 00000000-0000-0000-0000-000000000001 100\ngateway 1\nview * * * - * drop\nbegin\nmeasure a c 3 -\ncollect a 200\ndeliver 1 1\nreport 1 app requests 1 sum+ * - *\n";
+    let script =
+        "instrument c counter app requests 1\nwriter a shop 00000000-0000-0000-0000-000000000001 100\ngateway 1\nview * * * - * drop\nbegin\nmeasure a c 3 -\ncollect a 200\ndeliver 1 1\nreport 1 app requests 1 sum+ * - *\n";
     let text = "attributes  points  conflicts  total\n";
     assert!(rt; prints(&rt, script, text, Ok(()))?);
     Ok(())
@@ -316,7 +365,8 @@ fn row_view_drops(rt: HostRuntime) -> Result<(), Fail> {
 
 #[test]
 fn row_view_keeps_no_key(rt: HostRuntime) -> Result<(), Fail> {
-    let script = "instrument c counter app requests 1\nwriter a shop 00000000-0000-0000-0000-000000000001 100\ngateway 1\nview requests * * - - default\nbegin\nmeasure a c 1 route=x,host=p\nmeasure a c 2 route=x,host=q\ncollect a 200\ndeliver 1 1\nreport 1 app requests 1 sum+ * - *\n";
+    let script =
+        "instrument c counter app requests 1\nwriter a shop 00000000-0000-0000-0000-000000000001 100\ngateway 1\nview requests * * - - default\nbegin\nmeasure a c 1 route=x,host=p\nmeasure a c 2 route=x,host=q\ncollect a 200\ndeliver 1 1\nreport 1 app requests 1 sum+ * - *\n";
     let text = "attributes  points  conflicts  total\n{}               1          0  3\n";
     assert!(rt; prints(&rt, script, text, Ok(()))?);
     Ok(())
@@ -324,13 +374,15 @@ fn row_view_keeps_no_key(rt: HostRuntime) -> Result<(), Fail> {
 
 #[test]
 fn row_view_keeps_one_key(rt: HostRuntime) -> Result<(), Fail> {
-    let script = "instrument c counter app requests 1\nwriter a shop 00000000-0000-0000-0000-000000000001 100\ngateway 1\nview requests * * - route default\nbegin\nmeasure a c 1 route=x,host=p\nmeasure a c 2 route=x,host=q\ncollect a 200\ndeliver 1 1\nreport 1 app requests 1 sum+ * - *\n";
+    let script =
+        "instrument c counter app requests 1\nwriter a shop 00000000-0000-0000-0000-000000000001 100\ngateway 1\nview requests * * - route default\nbegin\nmeasure a c 1 route=x,host=p\nmeasure a c 2 route=x,host=q\ncollect a 200\ndeliver 1 1\nreport 1 app requests 1 sum+ * - *\n";
     let text = "attributes   points  conflicts  total\n{route=\"x\"}       1          0  3\n";
     assert!(rt; prints(&rt, script, text, Ok(()))?);
     Ok(())
 }
 
-const FIRST: &str = "instrument c counter app requests 1\nwriter a shop 00000000-0000-0000-0000-000000000001 100\ngateway 1\nbegin\nmeasure a c 3 -\nmeasure a c 4 -\ncollect a 200\ndeliver 1 1\nreport 1 app requests 1 sum+ * - *\n";
+const FIRST: &str =
+    "instrument c counter app requests 1\nwriter a shop 00000000-0000-0000-0000-000000000001 100\ngateway 1\nbegin\nmeasure a c 3 -\nmeasure a c 4 -\ncollect a 200\ndeliver 1 1\nreport 1 app requests 1 sum+ * - *\n";
 
 const TABLE: &str = "attributes  points  conflicts  total\n{}               1          0  7\n";
 

@@ -29,7 +29,7 @@ returns-in_err-world-clause-err c =
     } in
     let gateways = c.from_vec-3.ensures ∙ ap (λ (d : Declared). d.gateways) dv in
     let same : record { writers = c.in_ok-writers.writers; gateways = c.from_vec-3.result } ≡ setup_of c.args.draft =
-        setup_is c.args.draft c.from_vec.result c.from_vec-2.result c.unwrap_or.result c.in_ok-plan.plan c.draft.inside.writers.items c.in_ok-writers.writers c.from_vec-3.result of c.in_ok-plan.ensures.value c.in_ok-writers.ensures (ap (λ (d : Declared). d.writers) dv) gateways in
+    setup_is c.args.draft c.from_vec.result c.from_vec-2.result c.unwrap_or.result c.in_ok-plan.plan c.draft.inside.writers.items c.in_ok-writers.writers c.from_vec-3.result of c.in_ok-plan.ensures.value c.in_ok-writers.ensures (ap (λ (d : Declared). d.writers) dv) gateways in
     let p = err_from_is_err_and c.from_residual-in_err-world.result c.from_residual-in_err-world.ensures.1 in
     let told : c.in_err-world.field-0.0 ≡ p.0 = cc in
     rw p.1 (λ differs. begin_from_world c.args.draft c.from_vec.result c.from_vec-2.result c.unwrap_or.result _ p.0 of c.in_ok-plan.ensures.ok same (c.in_err-world.ensures.err (λ e. differs (sym told ∙ e)) ∙ ap (λ f. Some f) told))
@@ -44,7 +44,7 @@ returns-clause-ok c =
     } in
     let gateways = c.from_vec-3.ensures ∙ ap (λ (d : Declared). d.gateways) dv in
     let same : record { writers = c.in_ok-writers.writers; gateways = c.from_vec-3.result } ≡ setup_of c.args.draft =
-        setup_is c.args.draft c.from_vec.result c.from_vec-2.result c.unwrap_or.result c.in_ok-plan.plan c.draft.inside.writers.items c.in_ok-writers.writers c.from_vec-3.result of c.in_ok-plan.ensures.value c.in_ok-writers.ensures (ap (λ (d : Declared). d.writers) dv) gateways in
+    setup_is c.args.draft c.from_vec.result c.from_vec-2.result c.unwrap_or.result c.in_ok-plan.plan c.draft.inside.writers.items c.in_ok-writers.writers c.from_vec-3.result of c.in_ok-plan.ensures.value c.in_ok-writers.ensures (ap (λ (d : Declared). d.writers) dv) gateways in
     begin_sound c.args.draft c.from_vec.result c.from_vec-2.result c.unwrap_or.result _ of c.in_ok-plan.ensures.ok same c.in_ok-world.ensures.ok
 
 pub returns-clause-value : goal.returns-clause-value
@@ -57,7 +57,7 @@ returns-clause-value c =
     } in
     let gateways = c.from_vec-3.ensures ∙ ap (λ (d : Declared). d.gateways) dv in
     let same : record { writers = c.in_ok-writers.writers; gateways = c.from_vec-3.result } ≡ setup_of c.args.draft =
-        setup_is c.args.draft c.from_vec.result c.from_vec-2.result c.unwrap_or.result c.in_ok-plan.plan c.draft.inside.writers.items c.in_ok-writers.writers c.from_vec-3.result of c.in_ok-plan.ensures.value c.in_ok-writers.ensures (ap (λ (d : Declared). d.writers) dv) gateways in
+    setup_is c.args.draft c.from_vec.result c.from_vec-2.result c.unwrap_or.result c.in_ok-plan.plan c.draft.inside.writers.items c.in_ok-writers.writers c.from_vec-3.result of c.in_ok-plan.ensures.value c.in_ok-writers.ensures (ap (λ (d : Declared). d.writers) dv) gateways in
     record {
       instruments = ap (λ (d : Declared). d.instrument_labels) dv;
       writers = ap (λ (d : Declared). d.writer_labels) dv;
