@@ -67,7 +67,14 @@ fn run_lines<W: Write>(alloc: Global, script: &[u8], writer: &mut W) -> Result<(
     }
 }
 
-/// Reads a script to its end, and then does its lines in order.
+/// Reads a script to its end, and then does its lines in order. Each line's text is written before the next line is done.
+///
+/// Where all is done, and at `BadLine`, what was written is what the script says (specs `Says`): the text of its lines up to
+/// the first bad one, whose number, from 1, the fault carries. After any other fault it is a front of that.
+///
+/// Refuses, by the first thing that failed: `ReadFault` and `TooLong` (more than `MAX_BYTES` bytes), before anything is
+/// written; `BadLine`; `WriteFault`, also where a write takes no byte; `NoMemory`. A line costs its bytes, a hash look-up
+/// for each label and id, and the call of the world below it.
 pub fn run_script<R: Read, W: Write>(
     alloc: Global,
     reader: &mut R,
