@@ -12,14 +12,10 @@ mod incarnation;
 mod merging;
 mod part_draft;
 mod part_item;
-#[cfg(test)]
-mod plain;
 mod points;
 mod queries;
 mod seek;
 mod taking;
-#[cfg(test)]
-mod tests;
 mod walk;
 mod weave;
 
