@@ -1,0 +1,43 @@
+//! How long the parts of the kit take, by the clock.
+//!
+//! `kit_bench` runs small sizes, so that all of it is tried; `kit_bench full` runs the sizes that docs tell of. Timings go
+//! to standard error, and nothing to standard output.
+#![tactic(auto)]
+
+mod clock;
+mod gateways;
+mod measures;
+mod merges;
+mod rounds;
+mod takes;
+mod tallies;
+
+use std::env;
+
+fn takes_and_merges(rt: &HostRuntime, sizes: &[u32]) -> anyhow::Result<()> {
+    for keys in sizes {
+        takes::run(rt, *keys)?;
+        merges::run(rt, *keys)?;
+    }
+    Ok(())
+}
+
+fn all_rounds(rt: &HostRuntime, sizes: &[u32]) -> anyhow::Result<()> {
+    for series in sizes {
+        rounds::run(rt, *series)?;
+    }
+    Ok(())
+}
+
+fn main(rt: HostRuntime) -> anyhow::Result<()> {
+    let full = env::args(&rt)?.any(|word| word.as_str() == "full");
+    if full {
+        measures::run(&rt, 2_000_000, 2_000)?;
+        takes_and_merges(&rt, &[1_000, 10_000, 100_000])?;
+        all_rounds(&rt, &[1_000, 100_000])
+    } else {
+        measures::run(&rt, 20, 5)?;
+        takes_and_merges(&rt, &[10, 40])?;
+        all_rounds(&rt, &[10, 40])
+    }
+}
