@@ -1,0 +1,15 @@
+-- What a push is refused for, by what the writer refuses.
+use Rattle.std.proofs.Common.{◌≡◌, ◌≢◌, ◌∙◌, ℕ, Some, ap, refl}
+use Rattle.push_kit.specs.Faults.{told, push_fault}
+use Rattle.push_kit.specs.declared.fault.TickFault.{TickFault}
+use Rattle.push_kit.specs.declared.fault.TickFault.TheVariants as tick
+use Rattle.writer_kit.specs.Refusals.{collect_fault}
+use Rattle.writer_kit.specs.Written.{Written}
+use Rattle.writer_kit.specs.declared.fault.CollectFault.{CollectFault}
+use Rattle.writer_kit.specs.declared.fault.CollectFault.TheVariants as collect
+
+pub push_refused : (w : Written) (time : ℕ) (f : CollectFault) (e : TickFault) → e ≡ told f → (f ≢ collect.NoMemory → collect_fault w time ≡ Some f) → e ≢ tick.NoMemory → push_fault w time ≡ Some e
+unfolding push_fault
+push_refused w time f e gives refused other =
+    let fit : collect_fault w time ≡ Some f = refused (λ n. other (gives ∙ ap told n)) in
+    rw (fit, gives) refl
