@@ -117,7 +117,7 @@ impl Gateway {
 
     /// An equal gateway, with the same id: O(n).
     pub fn try_copy(&self) -> Result<Gateway, NoMemory>
-        ensures { IfOk result (λ copy. copy ≡ self.now) }
+        ensures value { IfOk result (λ copy. copy ≡ self.now) }
     {
         Ok(Gateway {
             id: self.id,

@@ -16,6 +16,8 @@ mod points;
 mod queries;
 mod seek;
 mod taking;
+#[cfg(test)]
+mod tests;
 mod walk;
 mod weave;
 

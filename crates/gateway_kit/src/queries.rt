@@ -15,7 +15,7 @@ use point_kit::{Cell, Held, Key, WriterId};
 impl Gateway {
     /// The cell under a key: O(log n). Takes no memory.
     pub fn find(&self, key: &Key) -> Option<&Cell>
-        ensures { option_copied result ≡ finite.get self.now.points key.now }
+        ensures value { option_copied result ≡ finite.get self.now.points key.now }
     {
         match part_place(self.incarnations.as_slice(), &key.writer, key.start) {
             Ok(place) => self.incarnations[place].find(&key.stream, &key.attrs),
@@ -27,7 +27,7 @@ impl Gateway {
 impl Gateway {
     /// All points, in the order of their keys. Takes no memory.
     pub fn points(&self) -> Points<'_>
-        ensures { points_left result ≡ entries self.now.points }
+        ensures value { points_left result ≡ entries self.now.points }
     {
         Points {
             here: None,
@@ -39,7 +39,7 @@ impl Gateway {
     /// The points whose writer is of a service, in the order of their keys. Takes no memory; incarnations of other
     /// services are passed over whole.
     pub fn points_of<'a>(&'a self, service: &'a str) -> Points<'a>
-        ensures { points_left result ≡ filter (λ e. is_of service.now e.0.writer) (entries self.now.points) }
+        ensures value { points_left result ≡ filter (λ e. is_of service.now e.0.writer) (entries self.now.points) }
     {
         Points {
             here: None,

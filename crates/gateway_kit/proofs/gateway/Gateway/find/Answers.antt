@@ -17,13 +17,19 @@ returns-in-Ok c =
     let parts = c.self.inside.incarnations.items in
     let k = c.args.key.now in
     let at : IsAt part_cmp (map part_of parts) (k.writer, k.start) c.in-Ok.place = subst (λ (ps : List Part). IsAt part_cmp (map part_of ps) (k.writer, k.start) c.in-Ok.place) c.as_slice.ensures.value c.in-Ok.ensures in
-    c.find.ensures
-    ∙ get-entries c.index.result.now.cells (k.stream, k.attrs)
-    ∙ sym (ap (λ (v : View). get v.points k) (sym c.self.view_is) ∙ get_points parts c.self.invariant.sorted (k.writer, k.start) (k.stream, k.attrs) ∙ ap (λ o. find item_cmp (k.stream, k.attrs) (entries_at o)) (found_place part_of part_total parts c.in-Ok.place c.index.result.now (k.writer, k.start) (as_T c.self.invariant.sorted) at c.index.ensures))
+    record {
+      value =
+          c.find.ensures
+          ∙ get-entries c.index.result.now.cells (k.stream, k.attrs)
+          ∙ sym (ap (λ (v : View). get v.points k) (sym c.self.view_is) ∙ get_points parts c.self.invariant.sorted (k.writer, k.start) (k.stream, k.attrs) ∙ ap (λ o. find item_cmp (k.stream, k.attrs) (entries_at o)) (found_place part_of part_total parts c.in-Ok.place c.index.result.now (k.writer, k.start) (as_T c.self.invariant.sorted) at c.index.ensures));
+    }
 
 pub returns-in-Err : goal.returns-in-Err
 returns-in-Err c =
     let parts = c.self.inside.incarnations.items in
     let k = c.args.key.now in
     let gap : IsGap part_cmp (map part_of parts) (k.writer, k.start) c.in-Err.field-0 = subst (λ (ps : List Part). IsGap part_cmp (map part_of ps) (k.writer, k.start) c.in-Err.field-0) c.as_slice.ensures.value c.in-Err.ensures in
-    sym (ap (λ (v : View). get v.points k) (sym c.self.view_is) ∙ get_points parts c.self.invariant.sorted (k.writer, k.start) (k.stream, k.attrs) ∙ ap (λ o. find item_cmp (k.stream, k.attrs) (entries_at o)) gap.none)
+    record {
+      value =
+          sym (ap (λ (v : View). get v.points k) (sym c.self.view_is) ∙ get_points parts c.self.invariant.sorted (k.writer, k.start) (k.stream, k.attrs) ∙ ap (λ o. find item_cmp (k.stream, k.attrs) (entries_at o)) gap.none);
+    }

@@ -9,6 +9,9 @@ use Rattle.gateway_kit.proofs.gateway.Gateway.points.Goals as goal
 
 pub returns : goal.returns
 returns c =
-    filter_all (listed c.as_slice.result.now) ∙ ap listed c.as_slice.ensures.value
-    ∙ sym (entries_points c.self.inside.incarnations.items c.self.invariant.sorted)
-    ∙ ap (λ (v : View). entries v.points) c.self.view_is
+    record {
+      value =
+          filter_all (listed c.as_slice.result.now) ∙ ap listed c.as_slice.ensures.value
+          ∙ sym (entries_points c.self.inside.incarnations.items c.self.invariant.sorted)
+          ∙ ap (λ (v : View). entries v.points) c.self.view_is;
+    }

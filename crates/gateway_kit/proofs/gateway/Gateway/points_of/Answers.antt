@@ -9,7 +9,10 @@ use Rattle.gateway_kit.proofs.gateway.Gateway.points_of.Goals as goal
 
 pub returns : goal.returns
 returns c =
-    ap (filter (λ e. is_of c.args.service.now e.0.writer))
-    (ap listed c.as_slice.ensures.value
-    ∙ sym (entries_points c.self.inside.incarnations.items c.self.invariant.sorted)
-    ∙ ap (λ (v : View). entries v.points) c.self.view_is)
+    record {
+      value =
+          ap (filter (λ e. is_of c.args.service.now e.0.writer))
+          (ap listed c.as_slice.ensures.value
+          ∙ sym (entries_points c.self.inside.incarnations.items c.self.invariant.sorted)
+          ∙ ap (λ (v : View). entries v.points) c.self.view_is);
+    }

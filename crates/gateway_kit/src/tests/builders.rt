@@ -1,0 +1,148 @@
+//! Keys, cells and exports for the tests.
+use crate::Gateway;
+use attr_kit::{AttrSet, AttrValue, NoMemory, Seq, Txt};
+use point_kit::{
+    Cell, Export, ExportPoint, Held, Key, Payload, Shape, SharedStream, Stream, WriterId,
+};
+use std::alloc::Global;
+use std::test::Fail;
+use uuid::Uuid;
+
+/// The service of a writer: the first is of the shop, every other of the till.
+pub fn service(writer: u128) -> &'static str {
+    if writer == 1 { "shop" } else { "till" }
+}
+
+pub fn writer(alloc: Global, number: u128) -> Result<WriterId, NoMemory> {
+    Ok(WriterId {
+        service: Txt::from_str(alloc, service(number))?,
+        instance: Uuid::from_u128(number),
+    })
+}
+
+pub fn requests(alloc: Global) -> Result<Stream, NoMemory> {
+    Ok(Stream {
+        scope: Txt::from_str(alloc, "app")?,
+        name: Txt::from_str(alloc, "requests")?,
+        unit: Txt::from_str(alloc, "1")?,
+        shape: Shape::Sum { monotonic: true },
+    })
+}
+
+/// The attributes k = number.
+pub fn numbered(alloc: Global, number: i64) -> Result<AttrSet, NoMemory> {
+    AttrSet::single(alloc, Txt::from_str(alloc, "k")?, AttrValue::Whole(number))
+}
+
+/// The number of such attributes, -1 of others.
+pub fn number(attrs: &AttrSet) -> i64 {
+    match attrs.get("k") {
+        Some(AttrValue::Whole(number)) => *number,
+        _ => -1,
+    }
+}
+
+/// A total under the attributes k = number.
+pub fn point(alloc: Global, number: i64, total: i64) -> Result<ExportPoint, NoMemory> {
+    Ok(ExportPoint {
+        stream: SharedStream::new(alloc, requests(alloc)?)?,
+        attrs: numbered(alloc, number)?,
+        payload: Payload::Sum(total),
+    })
+}
+
+pub fn key(alloc: Global, number: u128, start: u64, set: i64) -> Result<Key, NoMemory> {
+    Ok(Key {
+        writer: writer(alloc, number)?,
+        start,
+        stream: requests(alloc)?,
+        attrs: numbered(alloc, set)?,
+    })
+}
+
+pub fn cell(time: u64, total: i64) -> Cell {
+    Cell {
+        time,
+        held: Held::One(Payload::Sum(total)),
+    }
+}
+
+/// The total of a cell; none of a conflict.
+pub fn total(cell: &Cell) -> Option<i64> {
+    match &cell.held {
+        Held::One(Payload::Sum(total)) => Some(*total),
+        _ => None,
+    }
+}
+
+pub fn export(
+    alloc: Global,
+    number: u128,
+    start: u64,
+    time: u64,
+    points: Vec<ExportPoint>,
+) -> Result<Export, Fail> {
+    let writer = writer(alloc, number)?;
+    Ok(Export::build(alloc, writer, start, time, Seq::from_vec(points))?)
+}
+
+/// An export of one total.
+pub fn single(
+    alloc: Global,
+    number: u128,
+    start: u64,
+    time: u64,
+    total: i64,
+) -> Result<Export, Fail> {
+    let mut points = Vec::new(alloc);
+    points.push(point(alloc, 0, total)?)?;
+    export(alloc, number, start, time, points)
+}
+
+/// A gateway that took these exports, in this order.
+pub fn told(alloc: Global, id: u32, exports: &[&Export]) -> Result<Gateway, Fail> {
+    let mut gateway = Gateway::new(alloc, id);
+    for export in exports {
+        gateway.take(export)?;
+    }
+    Ok(gateway)
+}
+
+/// Whether the gateway takes an export and answers so many changed keys.
+pub fn takes(gateway: &mut Gateway, export: &Export, changed: u64) -> Result<bool, Fail> {
+    Ok(gateway.take(export)? == changed)
+}
+
+/// Whether this is held under the key of a writer's incarnation that `single` tells of: a time and a total, no total of a
+/// conflict.
+pub fn holds(
+    alloc: Global,
+    gateway: &Gateway,
+    number: u128,
+    start: u64,
+    time: u64,
+    wanted: Option<i64>,
+) -> Result<bool, Fail> {
+    let key = key(alloc, number, start, 0)?;
+    Ok(match gateway.find(&key) {
+        Some(cell) => cell.time == time && total(cell) == wanted,
+        None => false,
+    })
+}
+
+/// The time of the newest point of a writer's incarnation.
+pub fn newest(
+    alloc: Global,
+    gateway: &Gateway,
+    number: u128,
+    start: u64,
+) -> Result<Option<u64>, Fail> {
+    let writer = writer(alloc, number)?;
+    Ok(gateway.newest(&writer, start))
+}
+
+/// How many points are lent of a writer's incarnation.
+pub fn part_len(alloc: Global, gateway: &Gateway, number: u128, start: u64) -> Result<usize, Fail> {
+    let writer = writer(alloc, number)?;
+    Ok(gateway.part(&writer, start).len())
+}
