@@ -11,19 +11,19 @@ use Rattle.rollup_kit.proofs.Queried.{all_sorted, some_sorted, all_few, some_few
 use Rattle.rollup_kit.proofs.query.asked_points.Goals as goal
 
 pub returns-in-Some-clause-sorted : goal.returns-in-Some-clause-sorted
-returns-in-Some-clause-sorted c = ap (is_sorted key_cmp) c.points_of.ensures ∙ some_sorted c.args.gateway.now.points (λ k. is_of c.as_str.result.now k.writer)
+returns-in-Some-clause-sorted c = ap (is_sorted key_cmp) c.points_of.ensures.value ∙ some_sorted c.args.gateway.now.points (λ k. is_of c.as_str.result.now k.writer)
 
 pub returns-in-Some-clause-few : goal.returns-in-Some-clause-few
-returns-in-Some-clause-few c = some_few c.args.gateway.now.points (λ k. is_of c.as_str.result.now k.writer) (points_left c.points_of.result) c.points_of.ensures
+returns-in-Some-clause-few c = some_few c.args.gateway.now.points (λ k. is_of c.as_str.result.now k.writer) (points_left c.points_of.result) c.points_of.ensures.value
 
 pub returns-in-Some-clause-whole : goal.returns-in-Some-clause-whole
 returns-in-Some-clause-whole c = λ buckets groups stands.
     stands_whole c.args.ask.now buckets (entries c.args.gateway.now.points) groups (λ k. is_of c.as_str.result.now k.writer)
     (λ k asked. subst (λ (s : List ℕ). is_of s k.writer ≡ true) (sym c.as_str.ensures) (of_service c.args.ask.now c.in-Some.service c.in-Some.is k asked))
-    (subst (λ (es : List (Key × Cell Payload)). Stands c.args.ask.now buckets es groups) c.points_of.ensures stands)
+    (subst (λ (es : List (Key × Cell Payload)). Stands c.args.ask.now buckets es groups) c.points_of.ensures.value stands)
 
 pub returns-in-None-clause-sorted : goal.returns-in-None-clause-sorted
-returns-in-None-clause-sorted c = ap (is_sorted key_cmp) c.points.ensures ∙ all_sorted c.args.gateway.now.points
+returns-in-None-clause-sorted c = ap (is_sorted key_cmp) c.points.ensures.value ∙ all_sorted c.args.gateway.now.points
 
 pub returns-in-None-clause-few : goal.returns-in-None-clause-few
-returns-in-None-clause-few c = all_few c.args.gateway.now.points (points_left c.points.result) c.points.ensures
+returns-in-None-clause-few c = all_few c.args.gateway.now.points (points_left c.points.result) c.points.ensures.value
