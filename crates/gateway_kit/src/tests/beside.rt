@@ -162,8 +162,9 @@ fn coin(turn: u64, which: u64) -> bool {
     draw(turn, which) % 2 == 0
 }
 
+// A time that rises from turn to turn by and large, so that there is always something new.
 fn drawn_time(turn: u64) -> u64 {
-    21 + draw(turn, 2) % 3
+    21 + turn / 20 + draw(turn, 2) % 3
 }
 
 // A point of a turn.

@@ -20,7 +20,7 @@ pub fn writer(alloc: Global, number: u128) -> Result<WriterId, NoMemory> {
     })
 }
 
-pub fn requests(alloc: Global) -> Result<Stream, NoMemory> {
+fn requests(alloc: Global) -> Result<Stream, NoMemory> {
     Ok(Stream {
         scope: Txt::from_str(alloc, "app")?,
         name: Txt::from_str(alloc, "requests")?,
@@ -29,8 +29,8 @@ pub fn requests(alloc: Global) -> Result<Stream, NoMemory> {
     })
 }
 
-/// The attributes k = number.
-pub fn numbered(alloc: Global, number: i64) -> Result<AttrSet, NoMemory> {
+// The attributes k = number.
+fn numbered(alloc: Global, number: i64) -> Result<AttrSet, NoMemory> {
     AttrSet::single(alloc, Txt::from_str(alloc, "k")?, AttrValue::Whole(number))
 }
 
