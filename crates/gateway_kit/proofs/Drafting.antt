@@ -13,9 +13,8 @@ use Rattle.point_kit.specs.declared.payload.Payload.{Payload}
 use Rattle.point_kit.specs.Join.{join_cells}
 use Rattle.point_kit.specs.Equality.{payload_eq}
 use Rattle.point_kit.specs.Join.{join_options}
-use Rattle.gateway_kit.specs.Amending.{amended}
 use Rattle.gateway_kit.specs.Bringing.{Brings, is_new, is_change}
-use Rattle.gateway_kit.specs.Changing.{Entry, Drafts, IsUpdate, replaced}
+use Rattle.gateway_kit.specs.Changing.{Entry, Drafts, replaced}
 use Rattle.gateway_kit.specs.Keys.{ItemKey, item_cmp, entry_of}
 use Rattle.point_kit.specs.Equality.{cell_eq}
 use Rattle.gateway_kit.specs.declared.part_item.PartItem.{PartItem}

@@ -1,5 +1,5 @@
 -- Entries in the order of their keys: what is found in them, in two lists woven, and after a change at a place.
-use Rattle.std.proofs.Common.{◌≡◌, ℕ, zero, suc, ◌+◌, Bool, true, false, ◌&&◌, cond, List, [], ◌∷◌, ◌++◌, map, take, Option, Some, None, refl, sym, ap, subst, ◌∙◌, true≢false, is_some, length}
+use Rattle.std.proofs.Common.{◌≡◌, ℕ, zero, suc, Bool, true, false, ◌&&◌, cond, List, [], ◌∷◌, ◌++◌, map, take, Option, Some, None, refl, sym, ap, subst, ◌∙◌, true≢false, is_some, length}
 use Rattle.std.specs.Prelude.{T, slice_get}
 use Rattle.std.specs.Option.{option_or, option_map, unwrap_or}
 use Rattle.std.specs.declared.cmp.Ordering.{Ordering}
@@ -9,7 +9,7 @@ use Rattle.std.specs.Cmp.{IsTotalOrder, Equal-is, alike_right, tied_itself}
 use Rattle.std.specs.FinMap.{from_sorted, empty, empty_of_len, len-entries, entries-from_sorted}
 use Rattle.std.specs.FinMap.Entries.{by_order, find, is_sorted, below_all}
 use Rattle.gateway_kit.specs.Amending.{amend, amended}
-use Rattle.gateway_kit.specs.Weave.{weave, weave_one}
+use Rattle.gateway_kit.specs.Weave.{weave}
 
 pub both : (a b : Bool) → T a → T b → T (a && b)
 both true b p q = q

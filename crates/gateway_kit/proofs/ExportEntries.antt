@@ -1,10 +1,10 @@
 -- The entries of an export: no key comes twice.
-use Rattle.std.proofs.Common.{◌≡◌, ℕ, zero, suc, ◌+◌, ◌<◌, Bool, true, false, ◌&&◌, cond, List, [], ◌∷◌, ◌++◌, map, take, length, get_or, Option, Some, None, refl, sym, ap, subst, ◌∙◌, arith}
+use Rattle.std.proofs.Common.{◌≡◌, ℕ, zero, suc, ◌+◌, ◌<◌, false, ◌&&◌, cond, List, [], ◌∷◌, ◌++◌, map, take, length, get_or, Some, None, refl, sym, ap, ◌∙◌, arith}
 use Rattle.std.specs.List.{IsDistinct, AllByRecursion}
 use Rattle.std.specs.declared.cmp.Ordering.{Ordering}
 use Rattle.std.specs.declared.cmp.Ordering.TheVariants.{Less, Equal, Greater}
 use Rattle.std.specs.Ordering.{eq_by_cmp, is_eq, ordering_then}
-use Rattle.std.specs.Cmp.{IsEquivalence, eq_by_cmp_equiv}
+use Rattle.std.specs.Cmp.{eq_by_cmp_equiv}
 use Rattle.std.specs.FinMap.Entries.{find}
 use Rattle.attr_kit.specs.contracts.attr_set.AttrSetEq.TheImpl.Laws as set_laws
 use Rattle.attr_kit.specs.contracts.attr_set.AttrSetOrd.TheImpl.Laws as set_orders
@@ -14,7 +14,7 @@ use Rattle.point_kit.specs.declared.export.Export.{Export}
 use Rattle.point_kit.specs.declared.export_point.ExportPoint.{ExportPoint}
 use Rattle.point_kit.specs.ExportFaults.{same_key}
 use Rattle.point_kit.proofs.Sound.{sound_keys}
-use Rattle.gateway_kit.specs.Changing.{Entry, entries_of}
+use Rattle.gateway_kit.specs.Changing.{entries_of}
 use Rattle.gateway_kit.specs.Keys.{ItemKey, item_cmp, entry_of}
 use Rattle.gateway_kit.specs.declared.part_item.PartItem.{PartItem}
 use Rattle.point_kit.specs.declared.cell.Held.TheVariants.{One}

@@ -1,6 +1,5 @@
 -- Changes in the making become changes: new items in order, and room for them.
-use Rattle.std.proofs.Common.{◌≡◌, ℕ, ◌+◌, ◌≤◌, ◌⊎◌, inl, inr, Bool, true, false, cond, List, [], ◌∷◌, map, length, Option, Some, None, refl, sym, ap, subst, ◌∙◌, arith, nat_le, vec_capacity, true≢false, le-leb}
-use Rattle.std.specs.Prelude.{T}
+use Rattle.std.proofs.Common.{◌≡◌, ℕ, ◌+◌, ◌≤◌, ◌⊎◌, inl, inr, true, false, cond, List, [], ◌∷◌, map, length, refl, sym, ap, ◌∙◌, arith, nat_le, vec_capacity, true≢false, le-leb}
 use Rattle.std.specs.FinMap.Entries.{find, is_sorted}
 use Rattle.point_kit.specs.Join.{join_cells}
 use Rattle.point_kit.specs.Equality.{payload_eq}

@@ -1,13 +1,11 @@
 -- One part changed in its place, or put in where it belongs.
-use Rattle.std.proofs.Common.{◌≡◌, ◌≢◌, ℕ, zero, suc, ◌+◌, ◌<◌, ◌≤◌, Bool, true, false, ◌&&◌, cond, List, [], ◌∷◌, ◌++◌, map, take, drop, length, get_or, Option, Some, None, refl, sym, ap, subst, ◌∙◌, arith, true≢false, is_some, count_by}
-use Rattle.std.specs.Prelude.{T, slice_get, slice_set}
+use Rattle.std.proofs.Common.{◌≡◌, ◌≢◌, ℕ, zero, suc, ◌+◌, ◌<◌, Bool, true, false, ◌&&◌, cond, List, [], ◌∷◌, map, length, get_or, Option, Some, None, refl, sym, ap, ◌∙◌, arith, true≢false, is_some, count_by}
+use Rattle.std.specs.Prelude.{slice_get, slice_set}
 use Rattle.std.specs.Option.{option_map}
 use Rattle.std.specs.List.{list_all, insert}
-use Rattle.std.specs.declared.cmp.Ordering.{Ordering}
 use Rattle.std.specs.Ordering.{eq_by_cmp}
 use Rattle.std.specs.FinMap.{entries, from_sorted, entries-from_sorted, entries_sorted, empty}
 use Rattle.std.specs.FinMap.Entries.{find, is_sorted, put, find-put, is_sorted-put}
-use Rattle.std.proofs.lemmas.List.{take-map, map-append}
 use Rattle.point_kit.specs.declared.export.Export.{Export}
 use Rattle.point_kit.specs.declared.cell.Cell.{Cell}
 use Rattle.point_kit.specs.declared.payload.Payload.{Payload}

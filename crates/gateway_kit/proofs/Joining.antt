@@ -1,12 +1,12 @@
 -- What a gateway's points are after one of its parts was joined with what came.
-use Rattle.std.proofs.Common.{◌≡◌, ℕ, ◌+◌, ◌≤◌, ◌^◌, Bool, true, false, cond, List, [], ◌∷◌, ◌++◌, map, length, Option, Some, None, refl, sym, ap, subst, ◌∙◌, not, append-nil}
-use Rattle.std.specs.Prelude.{T, filter, is_none}
+use Rattle.std.proofs.Common.{◌≡◌, ℕ, ◌+◌, ◌≤◌, ◌^◌, Bool, true, false, cond, List, [], ◌∷◌, map, length, Option, Some, None, refl, sym, ap, subst, ◌∙◌, not, append-nil}
+use Rattle.std.specs.Prelude.{filter, is_none}
 use Rattle.std.specs.Option.{option_eq}
 use Rattle.std.specs.List.{IsDistinct, AllByRecursion, flat_map}
 use Rattle.std.specs.declared.cmp.Ordering.{Ordering}
 use Rattle.std.specs.Ordering.{eq_by_cmp, is_eq, ordering_then}
 use Rattle.std.specs.Cmp.{IsTotalOrder, IsEquivalence, Equal-is, tied_itself}
-use Rattle.std.specs.FinMap.{FinMap, IsAntisymmetric, get, entries, from_sorted, get-from_sorted, entries-from_sorted, get-entries, same_map}
+use Rattle.std.specs.FinMap.{IsAntisymmetric, get, entries, from_sorted, get-from_sorted, entries-from_sorted, get-entries, same_map}
 use Rattle.std.specs.FinMap.Entries.{find, is_sorted}
 use Rattle.attr_kit.specs.Exact.{IsExact}
 use Rattle.point_kit.specs.Best.{best}
@@ -20,7 +20,7 @@ use Rattle.point_kit.specs.Join.{join_cells}
 use Rattle.point_kit.specs.Orders.{key_cmp}
 use Rattle.point_kit.specs.Equality.{payload_eq}
 use Rattle.point_kit.specs.Join.{join_options}
-use Rattle.point_kit.specs.States.{join_maps, points_under}
+use Rattle.point_kit.specs.States.{points_under}
 use Rattle.point_kit.proofs.BestLaws.{cell_of, best_more}
 use Rattle.point_kit.proofs.OrderLaws.{key_total, key_exact}
 use Rattle.point_kit.proofs.EqualityLaws.{payload_equivalence, payload_exact}
@@ -29,7 +29,7 @@ use Rattle.gateway_kit.specs.Bringing.{is_new, is_change}
 use Rattle.gateway_kit.specs.Changing.{Entry, entries_of}
 use Rattle.gateway_kit.specs.Growth.{Grows, part_at}
 use Rattle.gateway_kit.specs.Keys.{PartKey, ItemKey, part_cmp, item_cmp, whole_key}
-use Rattle.gateway_kit.specs.Part.{Part, Cells}
+use Rattle.gateway_kit.specs.Part.{Part}
 use Rattle.gateway_kit.specs.Parts.{IsWhole, listed, part_of, entries_at}
 use Rattle.point_kit.specs.Equality.{cell_eq}
 use Rattle.point_kit.specs.Exports.{Points, join_points, changed_points}

@@ -1,5 +1,5 @@
 -- The order of whole keys is that of their parts, one after the other, and both parts' orders are total and tell all apart.
-use Rattle.std.proofs.Common.{◌≡◌, ◌∙◌, [], refl, ap, sym}
+use Rattle.std.proofs.Common.{◌≡◌, ◌∙◌, [], refl, ap}
 use Rattle.point_kit.specs.contracts.writer_id.WriterIdOrd.TheImpl as writers
 use Rattle.point_kit.specs.declared.shape.Shape.TheVariants.{Gauge}
 use Rattle.std.specs.declared.cmp.Ordering.{Ordering}
@@ -13,7 +13,7 @@ use Rattle.point_kit.specs.contracts.stream.StreamOrd.TheImpl.Laws as stream_law
 use Rattle.point_kit.specs.contracts.writer_id.WriterIdOrd.TheImpl.Laws as writer_laws
 use Rattle.point_kit.specs.declared.key.Key.{Key}
 use Rattle.point_kit.specs.Orders.{key_cmp}
-use Rattle.point_kit.proofs.OrderLaws.{key_total, key_exact}
+use Rattle.point_kit.proofs.OrderLaws.{key_exact}
 use Rattle.gateway_kit.specs.Keys.{PartKey, ItemKey, part_cmp, item_cmp, whole_key}
 
 then_assoc : (a b c : Ordering) → ordering_then a (ordering_then b c) ≡ ordering_then (ordering_then a b) c

@@ -1,9 +1,9 @@
 -- The parts of two gateways, walked together.
-use Rattle.std.proofs.Common.{◌≡◌, ℕ, ◌+◌, ◌-◌, ◌^◌, ◌<◌, zero, suc, ◌≤◌, nat_le, vec_capacity, true≢false, Bool, true, false, not, ◌&&◌, cond, List, [], ◌∷◌, ◌++◌, map, length, get_or, Option, Some, None, refl, sym, ap, subst, ◌∙◌, arith, count_by, append_assoc, append-nil}
-use Rattle.std.specs.Prelude.{T, slice_get, is_none}
+use Rattle.std.proofs.Common.{◌≡◌, ℕ, ◌+◌, ◌^◌, zero, suc, ◌≤◌, nat_le, vec_capacity, true≢false, Bool, true, false, not, ◌&&◌, cond, List, [], ◌∷◌, ◌++◌, map, length, get_or, Some, None, refl, sym, ap, subst, ◌∙◌, arith, count_by, append_assoc, append-nil}
+use Rattle.std.specs.Prelude.{slice_get, is_none}
 use Rattle.std.specs.List.{list_all}
 use Rattle.std.specs.Option.{option_eq}
-use Rattle.std.specs.FinMap.{get, entries, from_sorted, get-entries, entries-from_sorted, entries_sorted, same_map}
+use Rattle.std.specs.FinMap.{entries, get-entries, entries-from_sorted, entries_sorted, same_map}
 use Rattle.std.specs.FinMap.Entries.{by_order, find, is_sorted}
 use Rattle.std.specs.declared.cmp.Ordering.{Ordering}
 use Rattle.std.specs.declared.cmp.Ordering.TheVariants.{Less, Equal, Greater}
@@ -12,9 +12,7 @@ use Rattle.std.proofs.lemmas.List.Sums.{sum_by-append, count_by-le-length}
 use Rattle.point_kit.specs.Equality.{payload_eq, cell_eq}
 use Rattle.point_kit.specs.Join.{join_cells, join_options}
 use Rattle.point_kit.specs.Orders.{key_cmp}
-use Rattle.point_kit.specs.States.{join_maps}
 use Rattle.point_kit.specs.declared.cell.Cell.{Cell}
-use Rattle.point_kit.specs.declared.key.Key.{Key}
 use Rattle.point_kit.specs.declared.payload.Payload.{Payload}
 use Rattle.point_kit.proofs.StateLaws.{get-join_maps}
 use Rattle.gateway_kit.specs.Amending.{amend, amended}

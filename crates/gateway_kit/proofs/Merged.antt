@@ -1,5 +1,5 @@
 -- What a gateway's points are after its parts were joined with another's.
-use Rattle.std.proofs.Common.{◌≡◌, ◌≢◌, ℕ, ◌+◌, ◌≤◌, ◌^◌, Bool, true, false, List, [], ◌∷◌, ◌++◌, map, length, Option, Some, None, refl, sym, ap, subst, ◌∙◌, true≢false, count_by}
+use Rattle.std.proofs.Common.{◌≡◌, ℕ, ◌+◌, ◌≤◌, ◌^◌, true, false, List, [], ◌∷◌, ◌++◌, map, length, Option, Some, None, refl, sym, ap, subst, ◌∙◌, true≢false, count_by}
 use Rattle.std.specs.Prelude.{T}
 use Rattle.std.specs.List.{IsDistinct, AllByRecursion, list_all}
 use Rattle.std.specs.declared.cmp.Ordering.{Ordering}
@@ -23,7 +23,7 @@ use Rattle.gateway_kit.specs.Merging.{Merges, join_parts}
 use Rattle.gateway_kit.specs.Part.{Part, Cells}
 use Rattle.gateway_kit.specs.Parts.{IsWhole, listed, part_of, entries_at, has_some, has_cells}
 use Rattle.gateway_kit.proofs.Counting.{changes_by, longer_by}
-use Rattle.gateway_kit.proofs.Entries.{as_T, as_true, first, second, less, apart_less, from_sorted-nil}
+use Rattle.gateway_kit.proofs.Entries.{as_T, first, second, less, from_sorted-nil}
 use Rattle.gateway_kit.proofs.Growing.{first_true}
 use Rattle.gateway_kit.proofs.Joining.{get_points, entries_points, unjoined}
 use Rattle.gateway_kit.proofs.KeyOrders.{item_total, item_exact, split_key, compares, part_total}

@@ -1,7 +1,6 @@
 -- A binary search of a list whose values are entries in the order of their keys.
-use Rattle.std.proofs.Common.{◌≡◌, ℕ, zero, suc, ◌+◌, ◌<◌, ◌≤◌, Bool, true, false, ◌&&◌, cond, List, [], ◌∷◌, map, length, get_or, Option, Some, None, Ok, Err, Result, refl, sym, ap, subst, ◌∙◌, arith, add-one}
-use lib.ListN.{length-map}
-use Rattle.std.specs.Prelude.{T, slice_get, MatchResult}
+use Rattle.std.proofs.Common.{◌≡◌, ℕ, zero, suc, ◌+◌, ◌<◌, ◌≤◌, false, cond, List, [], ◌∷◌, map, length, get_or, Some, Ok, Err, Result, refl, sym, ap, ◌∙◌, arith, add-one}
+use Rattle.std.specs.Prelude.{T}
 use Rattle.std.specs.List.{insert}
 use Rattle.std.specs.List.Sorted.{IsBinarySearchResult, IsSearchInRange}
 use Rattle.std.specs.declared.cmp.Ordering.{Ordering}
@@ -10,11 +9,9 @@ use Rattle.std.specs.Ordering.{is_lt, is_eq, ordering_reverse}
 use Rattle.std.specs.Cmp.{IsTotalOrder}
 use Rattle.std.specs.FinMap.{IsAntisymmetric}
 use Rattle.std.specs.FinMap.Entries.{by_order, find, is_sorted, below_all, put}
-use Rattle.std.proofs.lemmas.List.{get_or-map}
 use Rattle.std.proofs.lemmas.List.Sorted.{searchable_from_sorted}
-use Rattle.std.proofs.lemmas.Option.{slice_get-get_or}
 use Rattle.gateway_kit.specs.Places.{IsAt, IsGap, IsPlace}
-use Rattle.gateway_kit.proofs.Entries.{first, second, less, find_below, both, is_less, turned_greater}
+use Rattle.gateway_kit.proofs.Entries.{first, second, less, turned_greater}
 
 module _ {A K V : Type 0} {R : K → K → Ordering} (o : IsTotalOrder R) (anti : IsAntisymmetric R) (f : A → K × V) where
   -- where all before are below the key and all from there on are above it, it is not there

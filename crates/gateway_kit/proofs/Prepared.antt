@@ -1,18 +1,18 @@
 -- Changes prepared for entries, while what comes in is walked: what they bring where, and how one more entry adds to them.
-use Rattle.std.proofs.Common.{◌≡◌, ℕ, ◌+◌, Bool, true, false, cond, List, [], ◌∷◌, ◌++◌, map, Option, Some, None, refl, sym, ap, subst, ◌∙◌, true≢false, is_some}
+use Rattle.std.proofs.Common.{◌≡◌, ℕ, Bool, true, false, cond, List, [], ◌∷◌, ◌++◌, map, Option, Some, None, refl, sym, ap, subst, ◌∙◌, true≢false, is_some}
 use Rattle.std.specs.List.{IsDistinct, AllByRecursion}
 use Rattle.std.specs.Prelude.{T, slice_get}
 use Rattle.std.specs.Option.{option_or, option_map}
 use Rattle.std.specs.declared.cmp.Ordering.{Ordering}
 use Rattle.std.specs.Ordering.{eq_by_cmp}
 use Rattle.std.specs.Cmp.{IsTotalOrder, Equal-is, eq_by_cmp_equiv}
-use Rattle.std.specs.FinMap.{IsAntisymmetric, get, from_sorted, get-from_sorted}
+use Rattle.std.specs.FinMap.{IsAntisymmetric}
 use Rattle.std.specs.FinMap.Entries.{find, is_sorted, find-append}
 use Rattle.point_kit.specs.Join.{join_options}
-use Rattle.gateway_kit.specs.Amending.{amend, amended}
+use Rattle.gateway_kit.specs.Amending.{amended}
 use Rattle.gateway_kit.specs.Bringing.{Brings, held_of, new_of}
 use Rattle.gateway_kit.specs.Weave.{weave}
-use Rattle.gateway_kit.proofs.Entries.{on_keys, find-amend, find-weave, sorted_weave, is_sorted-amended, keys-amended, amended-push, as_T, as_true, itself}
+use Rattle.gateway_kit.proofs.Entries.{on_keys, find-amend, find-weave, is_sorted-amended, keys-amended, amended-push, as_T, as_true, itself}
 
 module _ {V : Type 0} (join : V → V → V) where
   pub or_none : (a : Option V) → a ≡ option_or a None

@@ -1,8 +1,8 @@
 -- Equal points come of equal incarnations.
-use Rattle.std.proofs.Common.{◌≡◌, Bool, true, false, ◌&&◌, cond, List, [], ◌∷◌, map, filter, Option, Some, None, refl, sym, ap, subst, ◌∙◌, true≢false}
+use Rattle.std.proofs.Common.{◌≡◌, true, false, cond, List, [], ◌∷◌, map, filter, Option, Some, None, refl, sym, ap, ◌∙◌, true≢false}
 use Rattle.std.specs.Cmp.Lexicographic.{pointwise, lists_equiv}
-use Rattle.std.specs.FinMap.{FinMap, entries, from_sorted, entries-from_sorted, same_entries_map}
-use Rattle.std.specs.FinMap.Entries.{find, is_sorted, same_entries}
+use Rattle.std.specs.FinMap.{entries, from_sorted, same_entries_map}
+use Rattle.std.specs.FinMap.Entries.{find, same_entries}
 use Rattle.std.specs.List.{list_all}
 use Rattle.std.specs.Ordering.{eq_by_cmp}
 use Rattle.attr_kit.specs.Exact.{IsExact, exact_lists, exact_pairs, exact_texts, exact_values, exact_through}
@@ -14,11 +14,10 @@ use Rattle.point_kit.specs.declared.payload.Payload.{Payload}
 use Rattle.point_kit.proofs.EqualityLaws.{cell_exact}
 use Rattle.gateway_kit.specs.contracts.part_item.PartItemPartialEq.TheImpl as equal
 use Rattle.gateway_kit.specs.contracts.part_item.PartItemEq.TheImpl.Laws as equal_laws
-use Rattle.gateway_kit.specs.declared.incarnation.Incarnation.{Incarnation}
 use Rattle.gateway_kit.specs.declared.part_item.PartItem.{PartItem}
 use Rattle.gateway_kit.specs.Changing.{Entry}
 use Rattle.gateway_kit.specs.Growth.{part_at}
-use Rattle.gateway_kit.specs.Keys.{PartKey, ItemKey, item_cmp, part_cmp, entry_of, whole_key}
+use Rattle.gateway_kit.specs.Keys.{PartKey, part_cmp, entry_of, whole_key}
 use Rattle.gateway_kit.specs.Part.{Part, Cells}
 use Rattle.gateway_kit.specs.Parts.{IsWhole, listed, part_of, has_some, has_cells, entries_at}
 use Rattle.gateway_kit.specs.Queries.{is_part}

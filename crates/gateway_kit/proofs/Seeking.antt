@@ -1,6 +1,6 @@
 -- Going up a list in which the answers to a key do not fall.
-use Rattle.std.proofs.Common.{◌≡◌, ℕ, zero, suc, ◌+◌, ◌<◌, ◌≤◌, List, [], ◌∷◌, length, get_or, Ok, Err, sym, ap, subst, ◌∙◌, arith, refl}
-use Rattle.std.specs.List.Sorted.{IsBinarySearchResult, IsNonDecreasingBy}
+use Rattle.std.proofs.Common.{◌≡◌, ℕ, zero, suc, ◌+◌, ◌<◌, ◌≤◌, List, [], ◌∷◌, length, get_or, Ok, Err, sym, ap, ◌∙◌, arith, refl}
+use Rattle.std.specs.List.Sorted.{IsBinarySearchResult}
 use Rattle.std.specs.declared.cmp.Ordering.{Ordering}
 use Rattle.std.specs.declared.cmp.Ordering.TheVariants.{Less, Equal, Greater}
 use Rattle.std.specs.Ordering.{ordering_index}

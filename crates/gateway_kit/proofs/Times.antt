@@ -1,5 +1,5 @@
 -- The greatest time of items, as they change.
-use Rattle.std.proofs.Common.{◌≡◌, ℕ, zero, suc, ◌+◌, ◌<◌, ◌≤◌, max, Bool, true, false, cond, nat_lt, List, [], ◌∷◌, ◌++◌, map, length, get_or, Some, refl, sym, ap, subst, ◌∙◌, arith}
+use Rattle.std.proofs.Common.{◌≡◌, ℕ, zero, suc, ◌<◌, ◌≤◌, max, true, false, cond, nat_lt, List, [], ◌∷◌, ◌++◌, map, length, get_or, Some, refl, sym, ap, subst, ◌∙◌, arith}
 use Rattle.std.proofs.lemmas.Bool.Decides.{nat_tests}
 use Rattle.std.specs.Prelude.{slice_set}
 use Rattle.point_kit.specs.Equality.{payload_eq}
@@ -7,7 +7,7 @@ use Rattle.point_kit.specs.Join.{join_cells}
 use Rattle.point_kit.specs.declared.cell.Cell.{Cell}
 use Rattle.point_kit.specs.declared.payload.Payload.{Payload}
 use Rattle.gateway_kit.specs.Amending.{amend}
-use Rattle.gateway_kit.specs.Changing.{Entry, replaced}
+use Rattle.gateway_kit.specs.Changing.{replaced}
 use Rattle.gateway_kit.specs.Keys.{entry_of}
 use Rattle.gateway_kit.specs.Parts.{has_some}
 use Rattle.gateway_kit.specs.Times.{greatest, latest}

@@ -1,5 +1,5 @@
 -- What one list of entries brings to another: values joined where there are some, new entries elsewhere.
-use Rattle.std.specs.Prelude.{◌≡◌, ℕ, ◌+◌, Bool, not, is_none, List, length, map, Option, Some, None, count_by}
+use Rattle.std.specs.Prelude.{◌≡◌, ℕ, Bool, not, is_none, List, map, Option, Some, None}
 use Rattle.std.specs.List.{IsDistinct}
 use Rattle.std.specs.Option.{option_eq}
 use Rattle.std.specs.declared.cmp.Ordering.{Ordering}

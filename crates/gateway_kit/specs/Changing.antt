@@ -1,5 +1,5 @@
 -- How the cells of an incarnation change.
-use Rattle.std.specs.Prelude.{◌≡◌, ℕ, ◌+◌, Bool, false, cond, nat_le, nat_lt, List, length, map, Option, Some, None, count_by, vec_capacity}
+use Rattle.std.specs.Prelude.{◌≡◌, ℕ, ◌+◌, false, cond, nat_le, nat_lt, List, length, map, Option, Some, None, count_by, vec_capacity}
 use Rattle.std.specs.FinMap.{find}
 use Rattle.point_kit.specs.Join.{join_options}
 use Rattle.point_kit.specs.declared.cell.Cell.{Cell}

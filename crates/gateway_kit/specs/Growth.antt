@@ -1,5 +1,5 @@
 -- How the parts of a gateway grow by what comes of one incarnation.
-use Rattle.std.specs.Prelude.{◌≡◌, ℕ, IsTrue, cond, List, [], map, Option, Some, None, count_by}
+use Rattle.std.specs.Prelude.{◌≡◌, ℕ, IsTrue, cond, List, map, Some, count_by}
 use Rattle.std.specs.FinMap.{entries}
 use Rattle.std.specs.FinMap.Entries.{find, is_sorted}
 use Rattle.std.specs.List.{list_all}

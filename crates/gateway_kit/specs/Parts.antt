@@ -7,10 +7,8 @@ use Rattle.std.specs.FinMap.{FinMap, entries}
 use Rattle.point_kit.specs.declared.cell.Cell.{Cell}
 use Rattle.point_kit.specs.declared.key.Key.{Key}
 use Rattle.point_kit.specs.declared.payload.Payload.{Payload}
-use Rattle.point_kit.specs.Orders.{key_cmp}
-use Rattle.gateway_kit.specs.Keys.{PartKey, ItemKey, part_cmp, whole_key}
+use Rattle.gateway_kit.specs.Keys.{PartKey, part_cmp, whole_key}
 use Rattle.gateway_kit.specs.Part.{Part, Cells}
-use Rattle.point_kit.specs.Exports.{Points}
 
 -- the entries of a map, none where there is no map
 abbrev pub entries_at : {B V : Type 0} {S : B → B → Ordering} → Option (FinMap S V) → List (B × V)

@@ -4,7 +4,7 @@ use Rattle.std.proofs.lemmas.Fn.{always_returns_same}
 use Rattle.std.proofs.lemmas.List.Sorted.{ranks_by}
 use Rattle.point_kit.specs.declared.cell.Held.TheVariants.{Conflict}
 use Rattle.gateway_kit.specs.declared.part_item.PartItem.{PartItem}
-use Rattle.gateway_kit.specs.Keys.{ItemKey, entry_of, item_cmp}
+use Rattle.gateway_kit.specs.Keys.{entry_of, item_cmp}
 use Rattle.gateway_kit.specs.Weave.{Rises}
 use Rattle.gateway_kit.proofs.Entries.{as_true}
 use Rattle.gateway_kit.proofs.KeyOrders.{item_total}

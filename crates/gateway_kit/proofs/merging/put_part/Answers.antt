@@ -1,4 +1,4 @@
-use Rattle.std.proofs.Common.{refl, ap, rules}
+use Rattle.std.proofs.Common.{ap, rules}
 use Rattle.gateway_kit.specs.Merging.{made}
 use Rattle.gateway_kit.specs.Parts.{part_of}
 use Rattle.gateway_kit.proofs.Moved.{set_amend, past_amend}

@@ -1,5 +1,4 @@
 use Rattle.std.proofs.Common.{◌≡◌, ◌+◌, ◌-◌, ◌<◌, length, sym, subst, arith, ◌∙◌}
-use Rattle.std.proofs.lemmas.Grind.{common_steps}
 use Rattle.gateway_kit.specs.Weave.{AreBelow}
 use Rattle.gateway_kit.proofs.Seeking.{below_here}
 use Rattle.gateway_kit.proofs.seek.begin.Goals as goal

@@ -1,9 +1,8 @@
-use Rattle.std.proofs.Common.{◌≡◌, ◌+◌, length, ap, sym, subst, ◌∙◌, rules, arith}
+use Rattle.std.proofs.Common.{◌≡◌, ◌+◌, length, subst, ◌∙◌, rules, arith}
 use Rattle.std.proofs.lemmas.Grind.{common_steps}
 use Rattle.std.specs.FinMap.{entries, from_sorted}
-use Rattle.std.specs.List.{insert}
 use Rattle.gateway_kit.specs.Changing.{Prepares, entries_of, grown}
-use Rattle.gateway_kit.specs.Part.{Part, Cells}
+use Rattle.gateway_kit.specs.Part.{Cells}
 use Rattle.gateway_kit.proofs.Growing.{grows_new, no_cells}
 use Rattle.gateway_kit.proofs.taking.take_new.Goals as goal
 

@@ -1,11 +1,9 @@
-use Rattle.std.proofs.Common.{◌≡◌, ◌++◌, ◌∷◌, [], map, Some, None, Ok, Err, subst, ap, sym, ◌∙◌, option_copied, rules}
-use Rattle.std.specs.Prelude.{MatchResult, slice_get}
-use Rattle.std.specs.FinMap.Entries.{find}
+use Rattle.std.proofs.Common.{map, Ok, Err, subst, ap, sym, option_copied}
 use Rattle.point_kit.specs.declared.cell.Cell.{Cell}
 use Rattle.point_kit.specs.declared.payload.Payload.{Payload}
-use Rattle.gateway_kit.specs.Changing.{Drafts, IsUpdate, held_as}
+use Rattle.gateway_kit.specs.Changing.{IsUpdate, held_as}
 use Rattle.gateway_kit.specs.Keys.{entry_of, item_cmp}
-use Rattle.gateway_kit.specs.Places.{IsPlace, IsAt, IsGap}
+use Rattle.gateway_kit.specs.Places.{IsPlace}
 use Rattle.gateway_kit.specs.declared.part_item.PartItem.{PartItem}
 use Rattle.gateway_kit.proofs.Drafting.{drafts_kept, drafts_changed, drafts_fresh, found_place}
 use Rattle.gateway_kit.proofs.Entries.{as_T}

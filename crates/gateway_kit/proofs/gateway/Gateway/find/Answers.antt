@@ -1,4 +1,4 @@
-use Rattle.std.proofs.Common.{◌≡◌, List, map, sym, ap, subst, ◌∙◌}
+use Rattle.std.proofs.Common.{List, map, sym, ap, subst, ◌∙◌}
 use Rattle.gateway_kit.specs.Places.{IsAt, IsGap}
 use Rattle.std.specs.FinMap.{get, get-entries}
 use Rattle.std.specs.FinMap.Entries.{find}

@@ -1,4 +1,4 @@
-use Rattle.std.proofs.Common.{◌≡◌, [], ◌∷◌, is_some, nat_lt, true≢false, sym, ap, ◌∙◌}
+use Rattle.std.proofs.Common.{[], ◌∷◌, is_some, nat_lt, true≢false, sym, ap, ◌∙◌}
 use Rattle.std.specs.FinMap.{get, from_sorted, from_entries, get-from_entries}
 use Rattle.point_kit.specs.Exports.{join_points, changed_points}
 use Rattle.point_kit.specs.Orders.{key_cmp}

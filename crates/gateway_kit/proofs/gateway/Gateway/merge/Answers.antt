@@ -1,6 +1,6 @@
 use Rattle.std.proofs.Common.{◌≡◌, [], List, length, sym, ap, subst, ◌∙◌, arith}
 use Rattle.std.proofs.lemmas.Grind.{common_steps}
-use Rattle.std.specs.FinMap.{from_sorted, empty}
+use Rattle.std.specs.FinMap.{from_sorted}
 use Rattle.point_kit.specs.Exports.{join_points, changed_points}
 use Rattle.point_kit.specs.Orders.{key_cmp}
 use Rattle.gateway_kit.specs.Merging.{Merges}

@@ -1,5 +1,4 @@
-use Rattle.std.proofs.Common.{◌≡◌, List, map, sym, ap, subst, ◌∙◌}
-use Rattle.gateway_kit.specs.Growth.{part_at}
+use Rattle.std.proofs.Common.{List, map, sym, ap, subst, ◌∙◌}
 use Rattle.gateway_kit.specs.Keys.{part_cmp}
 use Rattle.gateway_kit.specs.Part.{Part}
 use Rattle.gateway_kit.specs.Parts.{part_of, entries_at}

@@ -1,6 +1,5 @@
-use Rattle.std.proofs.Common.{◌≡◌, List, filter, true, sym, ap, ◌∙◌}
+use Rattle.std.proofs.Common.{sym, ap, ◌∙◌}
 use Rattle.std.specs.FinMap.{entries}
-use Rattle.gateway_kit.specs.Part.{Part}
 use Rattle.gateway_kit.specs.Parts.{listed}
 use Rattle.gateway_kit.specs.View.{View}
 use Rattle.gateway_kit.proofs.Joining.{entries_points}

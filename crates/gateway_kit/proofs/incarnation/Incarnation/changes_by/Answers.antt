@@ -1,4 +1,4 @@
-use Rattle.std.proofs.Common.{◌≡◌, ◌<◌, List, get_or, ◌++◌, ◌∷◌, [], map, take, length, ap, sym, subst, ◌∙◌, arith}
+use Rattle.std.proofs.Common.{◌≡◌, ◌<◌, List, get_or, map, take, length, ap, sym, subst, ◌∙◌, arith}
 use Rattle.std.proofs.lemmas.Grind.{common_steps}
 use Rattle.std.proofs.lemmas.List.{take-map}
 use Rattle.std.proofs.lemmas.Result.{IfOk-weaker}
@@ -8,7 +8,6 @@ use Rattle.std.specs.Ordering.{eq_by_cmp}
 use Rattle.gateway_kit.specs.Changing.{Entry, Drafts, Prepares, entries_of}
 use Rattle.gateway_kit.specs.Keys.{ItemKey, entry_of, item_cmp}
 use Rattle.gateway_kit.specs.declared.changes.Changes.{Changes}
-use Rattle.gateway_kit.proofs.Drafting.{drafts_none}
 use Rattle.gateway_kit.proofs.ExportEntries.{first_point, more_points, keys_of_items}
 use Rattle.gateway_kit.proofs.incarnation.Incarnation.changes_by.Goals as goal
 

@@ -1,4 +1,4 @@
-use Rattle.std.proofs.Common.{◌≡◌, take}
+use Rattle.std.proofs.Common.{take}
 use Rattle.std.specs.FinMap.{entries}
 use Rattle.gateway_kit.specs.Changing.{Drafts}
 use Rattle.gateway_kit.proofs.incarnation.Incarnation.changes_with.Given as goal

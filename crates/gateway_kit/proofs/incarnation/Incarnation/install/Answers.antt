@@ -4,7 +4,6 @@ use Rattle.std.specs.FinMap.Entries.{is_sorted}
 use Rattle.gateway_kit.specs.Changing.{Entry, grown}
 use Rattle.gateway_kit.specs.Keys.{item_cmp, entry_of}
 use Rattle.gateway_kit.specs.Part.{Part}
-use Rattle.gateway_kit.specs.declared.changes.Changes.{Changes}
 use Rattle.gateway_kit.proofs.Entries.{as_T}
 use Rattle.gateway_kit.proofs.Finishing.{installed, sorted_grown}
 use Rattle.gateway_kit.proofs.incarnation.Incarnation.install.Goals as goal

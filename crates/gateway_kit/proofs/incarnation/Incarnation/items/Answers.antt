@@ -1,4 +1,4 @@
-use Rattle.std.proofs.Common.{◌≡◌, ◌∙◌, ap, sym, map}
+use Rattle.std.proofs.Common.{◌∙◌, ap, sym, map}
 use Rattle.std.specs.FinMap.{entries, entries-from_sorted}
 use Rattle.gateway_kit.specs.Keys.{item_cmp, entry_of}
 use Rattle.gateway_kit.specs.Part.{Part}

@@ -1,4 +1,4 @@
-use Rattle.std.proofs.Common.{◌≡◌, ◌&&◌, IsTrue, List, map, true, false, sym, ap, ◌∙◌, true≢false}
+use Rattle.std.proofs.Common.{◌≡◌, map, true, false, sym, ap, ◌∙◌, true≢false}
 use borrow.Author.Tests.{eqb-true}
 use Rattle.std.specs.Cmp.Lexicographic.{pointwise}
 use Rattle.std.specs.FinMap.{entries, from_sorted, entries-from_sorted}
@@ -6,7 +6,6 @@ use Rattle.gateway_kit.specs.contracts.part_item.PartItemPartialEq.TheImpl as eq
 use Rattle.point_kit.specs.Exact.{exact_writers}
 use Rattle.gateway_kit.specs.Keys.{item_cmp, entry_of}
 use Rattle.gateway_kit.specs.Part.{Part}
-use Rattle.gateway_kit.specs.declared.part_item.PartItem.{PartItem}
 use Rattle.gateway_kit.proofs.Entries.{as_T}
 use Rattle.gateway_kit.proofs.Same.{same_items, items_themselves, items_by_entries}
 use Rattle.gateway_kit.proofs.incarnation.Incarnation.same.Goals as goal

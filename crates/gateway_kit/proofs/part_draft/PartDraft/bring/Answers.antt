@@ -1,11 +1,10 @@
-use Rattle.std.proofs.Common.{◌≡◌, ◌+◌, ◌++◌, ◌∷◌, [], List, map, length, Ok, Err, sym, ap, subst, ◌∙◌, rules, arith}
+use Rattle.std.proofs.Common.{◌≡◌, ◌+◌, map, length, Ok, Err, sym, ap, ◌∙◌, rules, arith}
 use lib.ListN.{length-map}
 use Rattle.std.proofs.lemmas.Grind.{common_steps}
 use Rattle.std.specs.FinMap.{entries}
 use Rattle.gateway_kit.specs.Changing.{Prepares}
 use Rattle.gateway_kit.specs.Keys.{part_cmp, entry_of}
-use Rattle.gateway_kit.specs.Merging.{PartDrafts, capped}
-use Rattle.gateway_kit.specs.Part.{Part}
+use Rattle.gateway_kit.specs.Merging.{capped}
 use Rattle.gateway_kit.specs.Parts.{part_of}
 use Rattle.gateway_kit.specs.Places.{IsPlace}
 use Rattle.gateway_kit.proofs.MergeParts.{drafts_part_held, drafts_part_new}

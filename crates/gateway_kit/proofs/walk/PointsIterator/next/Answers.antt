@@ -4,7 +4,6 @@ use Rattle.point_kit.specs.declared.cell.Cell.{Cell}
 use Rattle.point_kit.specs.declared.key.Key.{Key}
 use Rattle.point_kit.specs.declared.payload.Payload.{Payload}
 use Rattle.gateway_kit.specs.declared.points.Points.{Points}
-use Rattle.gateway_kit.specs.Changing.{Entry}
 use Rattle.gateway_kit.specs.Keys.{whole_key}
 use Rattle.gateway_kit.specs.Part.{Part}
 use Rattle.gateway_kit.specs.Walks.{items_left, is_asked, points_left}
