@@ -15,7 +15,7 @@ use Rattle.agg_kit.specs.Entries.{Entry, Arrivals, brought, arrivals}
 use Rattle.agg_kit.specs.Feeding.{own_sets, goes_to, placed, fed}
 use Rattle.agg_kit.specs.Feeds.{series_at, shape_at, leaves_range, first_out}
 use Rattle.agg_kit.specs.Payloads.{payload_of, is_out_of_range}
-use Rattle.agg_kit.specs.Refusals.{is_negative_for, overflows, refused}
+use Rattle.agg_kit.specs.Refusals.{is_negative_for, overflows, refused, refused_by}
 use Rattle.agg_kit.specs.Rounds.{values_of, StandsFor}
 use Rattle.agg_kit.specs.Steps.{place, payload_after}
 use Rattle.agg_kit.specs.Tallies.{Points, Tallied}
@@ -122,14 +122,6 @@ first-out t h e s fit =
     (every-both (λ (f : Feed). f.stream < length p.streams) (BringsOne fs e.attrs e.value) fs (below (length p.streams) fs fit) (bring-one (length p.streams) fs e.attrs e.value fit))))
 
 -- the refusal by the points alone
-abbrev pub refused_by : Planned → List Points → Entry → Option MeasureFault
-refused_by p ss e =
-    first
-    (when (is_none (kind_of p e.instrument)) faults.NoInstrument
-    ∷ when (is_negative_for (kind_of p e.instrument) e.value) faults.Negative
-    ∷ first_out p e.attrs e.value ss (feeds_of p e.instrument)
-    ∷ [])
-
 pub refused-is : (t : Tallied) (h : List Entry) (e : Entry) → StandsFor t h → AreFeeds (length t.plan.streams) (feeds_of t.plan e.instrument) → refused t.plan h e ≡ refused_by t.plan t.series e
 unfolding refused
 refused-is t h e s fit =
@@ -161,14 +153,37 @@ or-nothing : {X : Type 0} (o : Option X) → option_or o None ≡ o
 or-nothing None = refl
 or-nothing (Some x) = refl
 
--- past these two, it is refused as the points say
+-- no instrument, and a value below 0, by the points
+pub by-gone : (p : Planned) (ss : List Points) (e : Entry) → is_none (kind_of p e.instrument) ≡ true → refused_by p ss e ≡ Some faults.NoInstrument
+by-gone p ss e n =
+    ap (λ b. first (when b faults.NoInstrument ∷ when (is_negative_for (kind_of p e.instrument) e.value) faults.Negative ∷ first_out p e.attrs e.value ss (feeds_of p e.instrument) ∷ [])) n
+
+pub by-negative : (p : Planned) (ss : List Points) (e : Entry) → is_none (kind_of p e.instrument) ≡ false → is_negative_for (kind_of p e.instrument) e.value ≡ true → refused_by p ss e ≡ Some faults.Negative
+by-negative p ss e n b =
+    ap (λ c. first (when c faults.NoInstrument ∷ when (is_negative_for (kind_of p e.instrument) e.value) faults.Negative ∷ first_out p e.attrs e.value ss (feeds_of p e.instrument) ∷ [])) n
+    ∙ ap (λ c. first (when c faults.Negative ∷ first_out p e.attrs e.value ss (feeds_of p e.instrument) ∷ [])) b
+
+-- past these two, it is refused as the first point that would be out of range says
+pub by-points : (p : Planned) (ss : List Points) (e : Entry) → is_none (kind_of p e.instrument) ≡ false → is_negative_for (kind_of p e.instrument) e.value ≡ false
+    → refused_by p ss e ≡ first_out p e.attrs e.value ss (feeds_of p e.instrument)
+by-points p ss e n b =
+    ap (λ c. first (when c faults.NoInstrument ∷ when (is_negative_for (kind_of p e.instrument) e.value) faults.Negative ∷ first_out p e.attrs e.value ss (feeds_of p e.instrument) ∷ [])) n
+    ∙ ap (λ c. first (when c faults.Negative ∷ first_out p e.attrs e.value ss (feeds_of p e.instrument) ∷ [])) b
+    ∙ or-nothing (first_out p e.attrs e.value ss (feeds_of p e.instrument))
+
+pub by-told : (t s : Tallied) (e : Entry) (fs : List Feed) → t ≡ s → fs ≡ feeds_of t.plan e.instrument → is_none (kind_of t.plan e.instrument) ≡ false → is_negative_for (kind_of t.plan e.instrument) e.value ≡ false
+    → refused_by s.plan s.series e ≡ first_out t.plan e.attrs e.value t.series fs
+by-told t s e fs same is n b =
+    ap (λ (x : Tallied). refused_by x.plan x.series e) (sym same)
+    ∙ by-points t.plan t.series e n b
+    ∙ ap (first_out t.plan e.attrs e.value t.series) (sym is)
+
+-- the same by the recordings that a tally stands for
 pub refused-told : (t s : Tallied) (h : List Entry) (e : Entry) (fs : List Feed) → t ≡ s → StandsFor s h → AreFeeds (length t.plan.streams) (feeds_of t.plan e.instrument) → fs ≡ feeds_of t.plan e.instrument
     → is_none (kind_of t.plan e.instrument) ≡ false → is_negative_for (kind_of t.plan e.instrument) e.value ≡ false
     → refused s.plan h e ≡ first_out t.plan e.attrs e.value t.series fs
 refused-told t s h e fs same stands fit is n b =
     ap (λ (x : Tallied). refused x.plan h e) (sym same)
     ∙ refused-is t h e (subst (λ (x : Tallied). StandsFor x h) (sym same) stands) fit
-    ∙ ap (λ c. first (when c faults.NoInstrument ∷ when (is_negative_for (kind_of t.plan e.instrument) e.value) faults.Negative ∷ first_out t.plan e.attrs e.value t.series (feeds_of t.plan e.instrument) ∷ [])) n
-    ∙ ap (λ c. first (when c faults.Negative ∷ first_out t.plan e.attrs e.value t.series (feeds_of t.plan e.instrument) ∷ [])) b
-    ∙ or-nothing (first_out t.plan e.attrs e.value t.series (feeds_of t.plan e.instrument))
+    ∙ by-points t.plan t.series e n b
     ∙ ap (first_out t.plan e.attrs e.value t.series) (sym is)

@@ -6,8 +6,9 @@ use Rattle.attr_kit.specs.Keeping.{kept}
 use Rattle.attr_kit.specs.declared.keep.Keep.TheVariants.{All}
 use Rattle.point_kit.specs.declared.shape.Shape.{Shape}
 use Rattle.point_kit.specs.declared.shape.Shape.TheVariants as shapes
-use Rattle.plan_kit.specs.Plans.{Planned, stream_of}
+use Rattle.plan_kit.specs.Plans.{Planned, feeds_of, stream_of}
 use Rattle.plan_kit.specs.declared.feed.Feed.{Feed}
+use Rattle.agg_kit.specs.Entries.{Entry}
 use Rattle.agg_kit.specs.Payloads.{is_out_of_range}
 use Rattle.agg_kit.specs.Steps.{Stored, held, place, payload_after, step}
 use Rattle.agg_kit.specs.Tallies.{Points}
@@ -41,6 +42,10 @@ applied p [] a v ss = ss
 applied p (f ∷ fs) a v ss =
     let after = applied p fs a v ss in
     slice_set after f.stream (step (shape_at p f.stream) p.limit (series_at after f.stream) (kept f.keep a) v)
+
+-- the points after an entry, which every feed of its instrument takes
+abbrev pub measured : Planned → List Points → Entry → List Points
+measured p ss e = applied p (feeds_of p e.instrument) e.attrs e.value ss
 
 -- each feed keeps all keys
 abbrev pub AllWhole : List Feed → Type 0

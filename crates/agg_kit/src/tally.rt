@@ -6,10 +6,10 @@ ghost use Rattle.attr_kit.specs.Keeping.{kept};
 ghost use Rattle.attr_kit.specs.declared.keep.Keep.TheVariants as keeps;
 ghost use Rattle.agg_kit.specs.Entries.{Entry, entry_of};
 ghost use Rattle.agg_kit.specs.Feeding.{overflow_set};
-ghost use Rattle.agg_kit.specs.Feeds.{entries_of, series_at, shape_at, first_out, applied, AllWhole, AllHeld};
+ghost use Rattle.agg_kit.specs.Feeds.{entries_of, series_at, shape_at, first_out, applied, measured, AllWhole, AllHeld};
 ghost use Rattle.agg_kit.specs.Laws.{SumsAddUp, CountsAddUp, IsLimited, OwnPointsStay, FedGrows, RoundsHaveFed};
 ghost use Rattle.agg_kit.specs.Payloads.{is_out_of_range};
-ghost use Rattle.agg_kit.specs.Refusals.{is_negative_for, refused};
+ghost use Rattle.agg_kit.specs.Refusals.{is_negative_for, refused, refused_by};
 ghost use Rattle.agg_kit.specs.Rounds.{StandsFor};
 ghost use Rattle.agg_kit.specs.Slots.{committed, CanCommit};
 ghost use Rattle.agg_kit.specs.Sound.{AllSound};
@@ -83,6 +83,12 @@ impl Tally {
         // Points that are there take no memory where every feed keeps all keys.
         ensures held { AllHeld self.old.plan (feeds_of self.old.plan instrument) attrs.now self.old.series → IfErr result (λ f. f ≢ MeasureFault.NoMemory) }
         ensures unchanged { OnErr result (self.new ≡ self.old) }
+
+        // What becomes of the series and when a recording is refused, by the series alone.
+        ensures applied { OnOk result (self.new.series ≡ measured self.old.plan self.old.series (entry_of instrument attrs.now value)) }
+        ensures fits { OnOk result (refused_by self.old.plan self.old.series (entry_of instrument attrs.now value) ≡ None) }
+        ensures told { IfErr result (λ f. f ≢ MeasureFault.NoMemory → refused_by self.old.plan self.old.series (entry_of instrument attrs.now value) ≡ Some f) }
+        ensures last { AllWhole (feeds_of self.old.plan instrument) → IfErr result (λ f. f ≡ MeasureFault.NoMemory → refused_by self.old.plan self.old.series (entry_of instrument attrs.now value) ≡ None) }
     {
         let Some(feeds) = self.plan.feeds(instrument) else {
             return Err(MeasureFault::NoInstrument);

@@ -5,13 +5,13 @@ use Rattle.plan_kit.specs.declared.feed.Feed.{Feed}
 use Rattle.plan_kit.specs.declared.instrument.Kind.{Kind}
 use Rattle.agg_kit.specs.Entries.{Entry, entry_of}
 use Rattle.agg_kit.specs.Feeds.{entries_of, applied, first_out, AllWhole}
-use Rattle.agg_kit.specs.Refusals.{is_negative_for, refused}
+use Rattle.agg_kit.specs.Refusals.{is_negative_for, refused, refused_by}
 use Rattle.agg_kit.specs.Rounds.{StandsFor}
 use Rattle.agg_kit.specs.Tallies.{Tallied}
 use Rattle.agg_kit.specs.declared.fault.MeasureFault.{MeasureFault}
 use Rattle.agg_kit.specs.declared.fault.MeasureFault.TheVariants as faults
 use Rattle.agg_kit.proofs.Records.{stored-length, sound-applied, sound-either, rising-feeds, some-kind, on_ok, if_err}
-use Rattle.agg_kit.proofs.Refusals.{kind-there, kind-gone, refused-gone, refused-negative, refused-told}
+use Rattle.agg_kit.proofs.Refusals.{kind-there, kind-gone, refused-gone, refused-negative, refused-told, by-gone, by-negative, by-told}
 use Rattle.agg_kit.proofs.Rounds.{stands-push}
 use Rattle.agg_kit.proofs.tally.Tally.measure.Goals as goal
 
@@ -21,6 +21,16 @@ returns-in_default-clause-err c = λ h s _.
     let e : Entry = entry_of c.args.instrument c.args.attrs.now c.args.value in
     let gone = kind-gone t.plan c.args.instrument (λ l. absurd (true≢false (sym (c.in_default.ensures.variant.1 l)))) in
     ap (λ (x : Tallied). refused x.plan h e) (sym c.self.view_is) ∙ refused-gone t.plan h e gone
+
+pub returns-in_default-clause-told : goal.returns-in_default-clause-told
+returns-in_default-clause-told c = λ _.
+    let t : Tallied = record { plan = c.self.inside.plan; series = entries_of c.self.inside.series.items } in
+    let e : Entry = entry_of c.args.instrument c.args.attrs.now c.args.value in
+    let gone = kind-gone t.plan c.args.instrument (λ l. absurd (true≢false (sym (c.in_default.ensures.variant.1 l)))) in
+    ap (λ (x : Tallied). refused_by x.plan x.series e) (sym c.self.view_is) ∙ by-gone t.plan t.series e gone
+
+pub returns-in_default-clause-last : goal.returns-in_default-clause-last
+returns-in_default-clause-last c = λ w n. absurd (cc)
 
 pub returns-in_default-clause-no_memory : goal.returns-in_default-clause-no_memory
 returns-in_default-clause-no_memory c = λ h s w n. absurd (cc)
@@ -34,6 +44,19 @@ returns-then-is_negative-clause-err c = λ h s _.
     let negative = simp to_z-of_z at c.if-is_negative.ensures in
     ap (λ (x : Tallied). refused x.plan h e) (sym c.self.view_is)
     ∙ refused-negative t.plan h e some (sym (negative ∙ ap (λ (k : Option Kind). is_negative_for k c.args.value) c.kind.ensures.value))
+
+pub returns-then-is_negative-clause-told : goal.returns-then-is_negative-clause-told
+returns-then-is_negative-clause-told c = λ _.
+    let t : Tallied = record { plan = c.self.inside.plan; series = entries_of c.self.inside.series.items } in
+    let e : Entry = entry_of c.args.instrument c.args.attrs.now c.args.value in
+    let fit : FitsSigned w64 c.args.value = c.ranges.value in
+    let some = kind-there t.plan c.args.instrument (c.in-Some.ensures.variant.0 refl) in
+    let negative = simp to_z-of_z at c.if-is_negative.ensures in
+    ap (λ (x : Tallied). refused_by x.plan x.series e) (sym c.self.view_is)
+    ∙ by-negative t.plan t.series e some (sym (negative ∙ ap (λ (k : Option Kind). is_negative_for k c.args.value) c.kind.ensures.value))
+
+pub returns-then-is_negative-clause-last : goal.returns-then-is_negative-clause-last
+returns-then-is_negative-clause-last c = λ w n. absurd (cc)
 
 pub returns-then-is_negative-clause-no_memory : goal.returns-then-is_negative-clause-no_memory
 returns-then-is_negative-clause-no_memory c = λ h s w n. absurd (cc)
@@ -100,5 +123,47 @@ returns-clause-no_memory c = λ h s whole.
     let negative = simp to_z-of_z at c.if-is_negative.ensures in
     let rises : is_negative_for (kind_of t.plan c.args.instrument) c.args.value ≡ false = sym (negative ∙ ap (λ (k : Option Kind). is_negative_for k c.args.value) c.kind.ensures.value) in
     let first = refused-told t c.args.self.now h e c.in-Some.feeds.now c.self.view_is s c.in-Some.ensures.feeds c.in-Some.ensures.value some rises in
+    let all : AllWhole c.in-Some.feeds.now = subst AllWhole (sym c.in-Some.ensures.value) (subst (λ (x : Tallied). AllWhole (feeds_of x.plan c.args.instrument)) (sym c.self.view_is) whole) in
+    if_err _ _ c.record.result (λ f told n. first ∙ told n) ((simp to_z-of_z at c.record.ensures.no_memory) all)
+
+pub returns-clause-applied : goal.returns-clause-applied
+returns-clause-applied c =
+    let fit : FitsSigned w64 c.args.value = c.ranges.value in
+    on_ok _ _ c.record.result
+    (λ ok. ok ∙ ap (λ (fs : List Feed). applied c.self.inside.plan fs c.args.attrs.now c.args.value (entries_of c.self.inside.series.items)) c.in-Some.ensures.value
+    ∙ ap (λ (x : Tallied). applied x.plan (feeds_of x.plan c.args.instrument) c.args.attrs.now c.args.value x.series) c.self.view_is)
+    (simp to_z-of_z at c.record.ensures.ok)
+
+pub returns-clause-fits : goal.returns-clause-fits
+returns-clause-fits c =
+    let t : Tallied = record { plan = c.self.inside.plan; series = entries_of c.self.inside.series.items } in
+    let e : Entry = entry_of c.args.instrument c.args.attrs.now c.args.value in
+    let fit : FitsSigned w64 c.args.value = c.ranges.value in
+    let some = kind-there t.plan c.args.instrument (c.in-Some.ensures.variant.0 refl) in
+    let negative = simp to_z-of_z at c.if-is_negative.ensures in
+    let rises : is_negative_for (kind_of t.plan c.args.instrument) c.args.value ≡ false = sym (negative ∙ ap (λ (k : Option Kind). is_negative_for k c.args.value) c.kind.ensures.value) in
+    let first = by-told t c.args.self.now e c.in-Some.feeds.now c.self.view_is c.in-Some.ensures.value some rises in
+    on_ok _ _ c.record.result (λ ok. first ∙ ok) (simp to_z-of_z at c.record.ensures.fits)
+
+pub returns-clause-told : goal.returns-clause-told
+returns-clause-told c =
+    let t : Tallied = record { plan = c.self.inside.plan; series = entries_of c.self.inside.series.items } in
+    let e : Entry = entry_of c.args.instrument c.args.attrs.now c.args.value in
+    let fit : FitsSigned w64 c.args.value = c.ranges.value in
+    let some = kind-there t.plan c.args.instrument (c.in-Some.ensures.variant.0 refl) in
+    let negative = simp to_z-of_z at c.if-is_negative.ensures in
+    let rises : is_negative_for (kind_of t.plan c.args.instrument) c.args.value ≡ false = sym (negative ∙ ap (λ (k : Option Kind). is_negative_for k c.args.value) c.kind.ensures.value) in
+    let first = by-told t c.args.self.now e c.in-Some.feeds.now c.self.view_is c.in-Some.ensures.value some rises in
+    if_err _ _ c.record.result (λ f told n. first ∙ told n) (simp to_z-of_z at c.record.ensures.err)
+
+pub returns-clause-last : goal.returns-clause-last
+returns-clause-last c = λ whole.
+    let t : Tallied = record { plan = c.self.inside.plan; series = entries_of c.self.inside.series.items } in
+    let e : Entry = entry_of c.args.instrument c.args.attrs.now c.args.value in
+    let fit : FitsSigned w64 c.args.value = c.ranges.value in
+    let some = kind-there t.plan c.args.instrument (c.in-Some.ensures.variant.0 refl) in
+    let negative = simp to_z-of_z at c.if-is_negative.ensures in
+    let rises : is_negative_for (kind_of t.plan c.args.instrument) c.args.value ≡ false = sym (negative ∙ ap (λ (k : Option Kind). is_negative_for k c.args.value) c.kind.ensures.value) in
+    let first = by-told t c.args.self.now e c.in-Some.feeds.now c.self.view_is c.in-Some.ensures.value some rises in
     let all : AllWhole c.in-Some.feeds.now = subst AllWhole (sym c.in-Some.ensures.value) (subst (λ (x : Tallied). AllWhole (feeds_of x.plan c.args.instrument)) (sym c.self.view_is) whole) in
     if_err _ _ c.record.result (λ f told n. first ∙ told n) ((simp to_z-of_z at c.record.ensures.no_memory) all)
