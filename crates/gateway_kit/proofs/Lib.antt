@@ -20,3 +20,4 @@ pub mod Served
 pub mod Sorting
 pub mod Times
 pub mod Ahead
+pub mod SharedPoints

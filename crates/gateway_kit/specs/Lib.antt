@@ -12,6 +12,7 @@ pub mod OneCell
 pub mod Parts
 pub mod Places
 pub mod Queries
+pub mod Shared
 pub mod Times
 pub mod View
 pub mod Walks

@@ -15,6 +15,7 @@ mod part_item;
 mod points;
 mod queries;
 mod seek;
+mod shared;
 mod taking;
 #[cfg(test)]
 mod tests;
@@ -24,3 +25,4 @@ mod weave;
 pub use gateway::Gateway;
 pub use part_item::PartItem;
 pub use points::{PointRef, Points};
+pub use shared::{GatewayChange, SeatsOut, SharedGateway};

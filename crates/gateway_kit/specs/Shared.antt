@@ -1,0 +1,115 @@
+-- The history of a shared gateway, and what it brings.
+use Rattle.std.specs.Prelude.{◌≡◌, ◌↔◌, ◌<◌, ℕ, Bool, List, [], ◌∷◌, ◌++◌, length, Option, Some}
+use Rattle.std.specs.FinMap.{empty}
+use mathlib.Core.Option.{some}
+use lib.ListN.{get_elem?}
+use Rattle.point_kit.specs.declared.export.Export.{Export}
+use Rattle.point_kit.specs.Exports.{Points, join_points, changed_points, state}
+use Rattle.turn_kit.specs.declared.note.Note.{Note}
+use Rattle.turn_kit.specs.declared.seat.Seat.{Seat}
+use Rattle.turn_kit.specs.History.{IsReplay}
+use Rattle.turn_kit.specs.Public.{IsOf, IsNoteOf, Enters, Looks, Exhausts, Refuses, Closes, opening, limit_of, seen, number}
+use Rattle.gateway_kit.specs.View.{View}
+use Rattle.gateway_kit.specs.declared.shared.SharedGateway.{SharedGateway}
+use Rattle.gateway_kit.specs.declared.shared.change.GatewayChange.{GatewayChange}
+use Rattle.gateway_kit.specs.declared.shared.change.GatewayChange.TheVariants.{Taken, Merged}
+
+-- accepted changes, each with the number of the seat that made it, in their order
+abbrev pub History : Type 0
+History = List (ℕ × GatewayChange)
+
+-- what a change brings: the state of the export that was taken, or the points that were merged in
+abbrev pub brought_by : GatewayChange → Points
+brought_by (Taken export) = state (export ∷ [])
+brought_by (Merged other) = other.points
+
+-- a gateway after a change: each is accepted, and is joined in
+abbrev pub told : View → GatewayChange → Option View
+told g c = Some (record g { points = join_points g.points (brought_by c) })
+
+-- how many keys it changes
+abbrev pub changed_by : View → GatewayChange → ℕ
+changed_by g c = changed_points g.points (join_points g.points (brought_by c))
+
+-- the exports that were taken, in the history's order
+abbrev pub also_taken : GatewayChange → List Export → List Export
+also_taken (Taken export) es = export ∷ es
+also_taken (Merged other) es = es
+
+abbrev pub exports_of : History → List Export
+exports_of [] = []
+exports_of (x ∷ xs) = also_taken x.1 (exports_of xs)
+
+-- the join of the states that were merged in
+abbrev pub also_merged : GatewayChange → Points → Points
+also_merged (Taken export) points = points
+also_merged (Merged other) points = join_points other.points points
+
+abbrev pub merged_of : History → Points
+merged_of [] = empty
+merged_of (x ∷ xs) = also_merged x.1 (merged_of xs)
+
+-- what a history brings: the state of the exports that were taken, joined with the states merged in
+abbrev pub brought : History → Points
+brought h = join_points (state (exports_of h)) (merged_of h)
+
+-- what a history leaves of the opening gateway: its points joined with what was brought, which is all where it was empty
+pub record Keeps (first : View) (h : History) (g : View) : Type 0 where
+  pub same_id : g.id ≡ first.id
+  pub joined : g.points ≡ join_points first.points (brought h)
+  pub of_empty : first.points ≡ empty → g.points ≡ brought h
+
+-- the change stands in the history
+abbrev pub HasChange : History → GatewayChange → Type 0
+HasChange h c = (place : ℕ) × (n : ℕ) × (get_elem? h place ≡ some (n, c))
+
+-- histories with the same changes bring the same
+abbrev pub DependsOnChanges : Type 0
+DependsOnChanges = (g h : History) → ((c : GatewayChange) → HasChange g c ↔ HasChange h c) → brought g ≡ brought h
+
+-- the seat is at this shared gateway, and so is the note
+abbrev pub IsAt : {g : _} → SharedGateway → Seat View GatewayChange g → Type 0
+IsAt shared s = IsOf shared.turn s
+
+abbrev pub IsNoteAt : {g : _} → SharedGateway → Note View GatewayChange g → Type 0
+IsNoteAt shared n = IsNoteOf shared.turn n
+
+-- the gateway that was shared
+abbrev pub first_of : SharedGateway → View
+first_of shared = opening shared.turn
+
+-- the most changes that are accepted
+abbrev pub most_of : SharedGateway → ℕ
+most_of shared = limit_of shared.turn
+
+module _ {g : _} (shared : SharedGateway) where
+  -- the seat's change was accepted, and changed so many keys
+  abbrev pub Accepts : GatewayChange → ℕ → Seat View GatewayChange g → Seat View GatewayChange g → Type 0
+  Accepts c n s t = Enters (λ v. v) told (first_of shared) (most_of shared) c (λ v. n ≡ changed_by v c) s t
+
+  -- so the history goes on with it, and what was kept before it and what is kept after it differ at so many keys
+  pub record Adds (c : GatewayChange) (n : ℕ) (s t : Seat View GatewayChange g) : Type 0 where
+    pub before : History
+    pub ends : seen t ≡ before ++ (number s, c) ∷ []
+    pub old : View
+    pub new : View
+    pub kept : Keeps (first_of shared) before old
+    pub keeps : Keeps (first_of shared) (seen t) new
+    pub value : n ≡ changed_points old.points new.points
+
+  -- the look was taken at what is kept of all that is now seen
+  pub record Sees (answered : View → Type 0) (t : Seat View GatewayChange g) : Type 0 where
+    pub found : View
+    pub keeps : Keeps (first_of shared) (seen t) found
+    pub answer : answered found
+
+  abbrev pub LooksAt : (View → Type 0) → Seat View GatewayChange g → Seat View GatewayChange g → Type 0
+  LooksAt answered s t = Looks (λ v. v) told (first_of shared) answered s t
+
+  -- the history has as many changes as it may
+  abbrev pub IsExhausted : Seat View GatewayChange g → Seat View GatewayChange g → Type 0
+  IsExhausted s t = Exhausts (λ v. v) told (first_of shared) (most_of shared) s t
+
+  -- there was no memory, though the history had room
+  abbrev pub LacksMemory : Seat View GatewayChange g → Seat View GatewayChange g → Type 0
+  LacksMemory s t = Refuses (λ v. v) told (first_of shared) (most_of shared) (λ v. Unit {0}) s t

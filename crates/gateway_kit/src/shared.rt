@@ -1,0 +1,113 @@
+//! A gateway that threads share: a turn over a gateway, whose every answer is tied to one history of what was taken and
+//! merged.
+ghost use Rattle.std.specs.Prelude.{◌≡◌, ◌↔◌, ◌<◌, ◌≤◌, ◌^◌, ℕ, IfOk, IfErr};
+ghost use Rattle.gateway_kit.specs.Shared.{IsAt, IsNoteAt, first_of, most_of, told, Keeps, DependsOnChanges};
+ghost use Rattle.turn_kit.specs.Public.{IsFirst, IsBadLimit, IsUnchanged, Closes, AreOut, Hears, Joins, seen, made, told as told_to, told_made};
+ghost use Rattle.turn_kit.specs.declared.fault.TurnFault.TheVariants.{BadLimit};
+
+mod change;
+mod steps;
+mod tries;
+mod waits;
+
+use crate::gateway::Gateway;
+pub use change::GatewayChange;
+use std::alloc::Global;
+use turn_kit::{Note, Seat, Turn, TurnFault};
+
+/// A gateway that threads take exports into, merge into and look at, each by a seat of its own.
+///
+/// What is accepted stands in one history, a list of (seat number, [`GatewayChange`]), and the points are the opening
+/// gateway's joined with all that the history brought. So its order is irrelevant to them, and what came twice counts once.
+#[derive(Drop)]
+pub struct SharedGateway {
+    pub(crate) turn: Turn<Gateway>,
+}
+
+/// The shared gateway was not closed, since other seats are out: they were split off and not joined.
+#[derive(Drop)]
+pub struct SeatsOut {
+    pub gateway: SharedGateway,
+    pub seat: Seat<Gateway>,
+    /// How many, at least 1.
+    pub out: u64,
+}
+
+impl SharedGateway {
+    /// Shares a gateway, of which at most `limit` changes are accepted from now on, 1 to 2^62 of them, and its first seat.
+    ///
+    /// Refused, with the gateway handed back: `BadLimit`, then `NoMemory`. It takes two small blocks of memory.
+    #[tactic(auto, using(crate::proofs::SharedPoints::depends_on_changes))]
+    pub fn new(
+        alloc: Global,
+        gateway: Gateway,
+        limit: u64,
+    ) -> Result<(SharedGateway, Seat<Gateway>), (Gateway, TurnFault)>
+        ensures ok { IfOk result (λ t. (0 < limit) × (limit ≤ 2 ^ 62)) }
+        ensures first { IfOk result (λ t. (first_of t.0 ≡ gateway) × (most_of t.0 ≡ limit)) }
+        ensures seat { IfOk result (λ t. IsAt t.0 t.1 × IsFirst t.1) }
+        ensures gateway { IfErr result (λ e. e.0 ≡ gateway) }
+        ensures bad_limit { IfErr result (λ e. (e.1 ≡ BadLimit) ↔ IsBadLimit limit) }
+
+        // What a history brings depends on the changes in it alone, not on their order, nor on what came again.
+        ensures orderless { DependsOnChanges }
+    {
+        let (turn, seat) = Turn::new(alloc, gateway, limit)?;
+        Ok((SharedGateway { turn }, seat))
+    }
+
+    /// What the seat has seen, for another seat to hear. Takes no memory.
+    pub fn note(&self, seat: &mut Seat<Gateway>) -> Note<Gateway>
+        requires { IsAt self.now seat.old }
+        ensures seat { IsAt self.now seat.new }
+        ensures unchanged { IsUnchanged seat.old seat.new }
+        ensures note { IsNoteAt self.now result }
+        ensures value { (told_to result ≡ seen seat.old) × (told_made result ≡ made seat.old) }
+    {
+        self.turn.note(seat)
+    }
+
+    /// From now on the seat has seen what the note says, too. Takes no memory.
+    pub fn hear(&self, seat: &mut Seat<Gateway>, note: Note<Gateway>)
+        requires seat { IsAt self.now seat.old }
+        requires note { IsNoteAt self.now note }
+        ensures seat { IsAt self.now seat.new }
+        ensures value { Hears seat.old seat.new note }
+    {
+        self.turn.hear(seat, note);
+    }
+
+    /// Takes in another seat, which is then no longer out. From now on this one has seen what the other had, and answers
+    /// for the changes of both. Takes no memory.
+    pub fn join(&self, seat: &mut Seat<Gateway>, other: Seat<Gateway>)
+        requires seat { IsAt self.now seat.old }
+        requires other { IsAt self.now other }
+        ensures seat { IsAt self.now seat.new }
+        ensures value { Joins seat.old seat.new other }
+    {
+        self.turn.join(seat, other);
+    }
+
+    /// The gateway, where no other seat is out. It is what the whole history makes of the opening one, and each change in
+    /// the history is the closing seat's or one of a seat that was joined into it.
+    ///
+    /// Refused, with the shared gateway and the seat handed back, where other seats were split off and not joined. Takes
+    /// no memory.
+    pub fn close(self, seat: Seat<Gateway>) -> Result<Gateway, SeatsOut>
+        requires { IsAt self seat }
+        ensures ok { IfOk result (Closes (λ g. g) told (first_of self) seat) }
+        ensures points { IfOk result (λ g. (c : Closes (λ g. g) told (first_of self) seat g) × Keeps (first_of self) c.history g) }
+        ensures err { IfErr result (λ e. (e.gateway ≡ self) × IsAt e.gateway e.seat × IsUnchanged seat e.seat) }
+        ensures out { IfErr result (λ e. (0 < e.out) × AreOut seat e.out) }
+    {
+        let SharedGateway { turn } = self;
+        match turn.close(seat) {
+            Ok(gateway) => Ok(gateway),
+            Err(turn_kit::SeatsOut { turn, seat, out }) => Err(SeatsOut {
+                gateway: SharedGateway { turn },
+                seat,
+                out,
+            }),
+        }
+    }
+}
