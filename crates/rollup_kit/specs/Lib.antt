@@ -1,3 +1,14 @@
+pub use Rattle.agg_kit.specs.Payloads
+pub use Rattle.attr_kit.specs.Keeping
+pub use Rattle.attr_kit.specs.Putting
+pub use Rattle.gateway_kit.specs.View
+pub use Rattle.point_kit.specs.Orders
+pub use Rattle.schedule_kit.specs.Deeds
+pub use Rattle.schedule_kit.specs.Members
+pub use Rattle.schedule_kit.specs.Rounds
+pub use Rattle.schedule_kit.specs.Rows
+pub use Rattle.schedule_kit.specs.Taken
+pub use Rattle.schedule_kit.specs.Totals
 pub mod Asks
 pub mod Counts
 pub mod Groups

@@ -1,8 +1,8 @@
 //! Reading a script of bounded size from any reader, and writing a text to any writer.
 
-ghost use Rattle.std.specs.Prelude.{◌≡◌, ◌≢◌, ◌≤◌, ◌<◌, ◌^◌, length, IfOk, OnOk, IfErr, IfSome, IsErrOf};
-ghost use Rattle.std.specs.Io.KnownBytes.{Appends, Keeps};
-ghost use Rattle.script_kit.specs.Bytes.{AppendsFront, Leaves};
+ghost use Rattle.std.specs.Prelude.{◌≡◌, ◌≢◌, ◌≤◌, ◌<◌, ◌^◌, length, IfOk, OnOk, IfErr, IfSome, IsErrOf, IsOk, [], ◌+◌};
+ghost use Rattle.std.specs.Io.KnownBytes.{Appends, IsAtEnd, Keeps};
+ghost use Rattle.script_kit.specs.Bytes.{AppendsFront, Leaves, ReadsUpTo};
 
 use crate::ScriptFault;
 use std::alloc::Global;
@@ -16,6 +16,8 @@ const CHUNK_BYTES: usize = 4096;
 /// Reads to the end of the input, and no more than one byte past the length that a script may have.
 pub fn read_script<R: Read>(alloc: Global, reader: &mut R) -> Result<Vec<u8>, ScriptFault>
     ensures whole { IfOk result (λ v. IfSome (R.remaining reader.old) (λ xs. v.items ≡ xs)) }
+    ensures end { OnOk result (IsAtEnd (R.remaining reader.new)) }
+    ensures few { ReadsUpTo (R.remaining reader.old) (R.remaining reader.new) (MAX_BYTES + 1) }
     ensures small { IfOk result (λ v. length v.items ≤ MAX_BYTES) }
     ensures long { IsErrOf result ScriptFault.TooLong → IfSome (R.remaining reader.old) (λ xs. MAX_BYTES < length xs) }
     ensures bad_line { (n : _) → IsErrOf result (ScriptFault.BadLine n) → ⊥ }
@@ -60,8 +62,9 @@ fn write_some<'a, W: Write>(writer: &mut W, text: &'a [u8]) -> Result<&'a [u8], 
     Ok(rest)
 }
 
-/// Writes the whole text. A write that fails or takes no byte ends it.
+/// Writes the whole text. A write that fails or takes no byte ends it. An empty text needs no write.
 pub fn write_text<W: Write>(writer: &mut W, text: &[u8]) -> Result<(), ScriptFault>
+    ensures empty { text.now ≡ [] → IsOk result }
     ensures ok { OnOk result (Appends (W.contents writer.old) (W.contents writer.new) text.now) }
     ensures err { IfErr result (λ e. e ≡ ScriptFault.WriteFault) }
     ensures front { IfErr result (λ _. AppendsFront (W.contents writer.old) (W.contents writer.new) text.now) }

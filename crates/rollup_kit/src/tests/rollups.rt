@@ -52,6 +52,18 @@ fn one_sum(rt: HostRuntime) -> Result<(), Fail> {
 }
 
 #[test]
+fn one_route(rt: HostRuntime) -> Result<(), Fail> {
+    let alloc = rt.alloc();
+    let mut gateway = Gateway::new(alloc, 1);
+    let route = single(alloc, worded(alloc, "route", "x")?)?;
+    take(alloc, &mut gateway, 1, 200, counted(alloc, route, 3)?)?;
+    let wanted =
+        "attributes   points  conflicts  total\n{route=\"x\"}       1          0  3\n";
+    assert!(rt; answers_all(alloc, &gateway, counter(), wanted)?);
+    Ok(())
+}
+
+#[test]
 fn a_conflict_is_counted_and_adds_nothing(rt: HostRuntime) -> Result<(), Fail> {
     let alloc = rt.alloc();
     let gateway = two_sums(alloc, (1, 7), (1, 9))?;
@@ -153,44 +165,89 @@ fn histograms_add_up_part_by_part(rt: HostRuntime) -> Result<(), Fail> {
     Ok(())
 }
 
-#[test]
-fn no_bounds_give_one_bucket(rt: HostRuntime) -> Result<(), Fail> {
-    let alloc = rt.alloc();
+// Whether this is what is answered of one histogram with these bounds.
+fn answers_one(
+    alloc: Global,
+    bounds: &[i64],
+    payload: Payload,
+    wanted: &str,
+) -> Result<bool, Fail> {
     let mut gateway = Gateway::new(alloc, 1);
-    let all = parts(alloc, 2, 13, &[2], Some((4, 9)))?;
-    take_histogram(alloc, &mut gateway, 1, &[], all)?;
+    take_histogram(alloc, &mut gateway, 1, bounds, payload)?;
+    Ok(answers_all(alloc, &gateway, histogram(alloc, bounds)?, wanted)?)
+}
+
+#[test]
+fn one_histogram(rt: HostRuntime) -> Result<(), Fail> {
+    let alloc = rt.alloc();
+    let all = parts(alloc, 5, 32, &[1, 1, 2, 1], Some((0, 11)))?;
     let wanted = "attributes  points  conflicts  total\n\
-                  {}               1          0  count=2 sum=13 buckets=2 min=4 max=9\n";
-    assert!(rt; answers_all(alloc, &gateway, histogram(alloc, &[])?, wanted)?);
+                  {}               1          0  count=5 sum=32 buckets=1,1,2,1 min=0 max=11\n";
+    assert!(rt; answers_one(alloc, &[0, 5, 10], all, wanted)?);
     Ok(())
 }
 
-// What is answered of two values from 2 to 9 and of this histogram.
-fn beside_known(alloc: Global, other: Payload, wanted: &str) -> Result<bool, Fail> {
-    let mut gateway = Gateway::new(alloc, 1);
-    let known = parts(alloc, 2, 11, &[2], Some((2, 9)))?;
-    take_histogram(alloc, &mut gateway, 1, &[], known)?;
-    take_histogram(alloc, &mut gateway, 2, &[], other)?;
-    Ok(answers_all(alloc, &gateway, histogram(alloc, &[])?, wanted)?)
+#[test]
+fn no_bounds_give_one_bucket(rt: HostRuntime) -> Result<(), Fail> {
+    let alloc = rt.alloc();
+    let all = parts(alloc, 2, 13, &[2], Some((4, 9)))?;
+    let wanted = "attributes  points  conflicts  total\n\
+                  {}               1          0  count=2 sum=13 buckets=2 min=4 max=9\n";
+    assert!(rt; answers_one(alloc, &[], all, wanted)?);
+    Ok(())
 }
 
 #[test]
-fn a_range_is_told_where_every_point_with_values_tells_its_own(
-    rt: HostRuntime,
-) -> Result<(), Fail> {
+fn fifteen_bounds_give_sixteen_buckets(rt: HostRuntime) -> Result<(), Fail> {
     let alloc = rt.alloc();
-    let untold = parts(alloc, 1, 3, &[1], None)?;
+    let bounds = [
+        0, 5, 10, 25, 50, 75, 100, 250, 500, 750, 1000, 2500, 5000, 7500, 10000,
+    ];
+    let counts = [1, 1, 1, 0, 0, 0, 0, 0, 0, 0, 0, 0, 0, 0, 0, 1];
+    let all = parts(alloc, 4, 10012, &counts, Some((0, 10001)))?;
     let wanted = "attributes  points  conflicts  total\n\
-                  {}               2          0  count=3 sum=14 buckets=3\n";
+                  {}               1          0  count=4 sum=10012 \
+                  buckets=1,1,1,0,0,0,0,0,0,0,0,0,0,0,0,1 min=0 max=10001\n";
+    assert!(rt; answers_one(alloc, &bounds, all, wanted)?);
+    Ok(())
+}
+
+// Whether this is what is answered of two values from 2 to 9 and of this histogram.
+fn beside_known(alloc: Global, other: Payload, wanted: &str) -> Result<bool, Fail> {
+    let mut gateway = Gateway::new(alloc, 1);
+    let known = parts(alloc, 2, 11, &[2, 0], Some((2, 9)))?;
+    take_histogram(alloc, &mut gateway, 1, &[10], known)?;
+    take_histogram(alloc, &mut gateway, 2, &[10], other)?;
+    Ok(answers_all(alloc, &gateway, histogram(alloc, &[10])?, wanted)?)
+}
+
+#[test]
+fn a_point_with_values_and_no_range_leaves_none(rt: HostRuntime) -> Result<(), Fail> {
+    let alloc = rt.alloc();
+    let untold = parts(alloc, 1, 3, &[1, 0], None)?;
+    let wanted = "attributes  points  conflicts  total\n\
+                  {}               2          0  count=3 sum=14 buckets=3,0\n";
     assert!(rt; beside_known(alloc, untold, wanted)?);
-    let empty = parts(alloc, 0, 0, &[0], None)?;
+    Ok(())
+}
+
+#[test]
+fn a_point_without_values_leaves_the_range(rt: HostRuntime) -> Result<(), Fail> {
+    let alloc = rt.alloc();
+    let empty = parts(alloc, 0, 0, &[0, 0], None)?;
     let wanted = "attributes  points  conflicts  total\n\
-                  {}               2          0  count=2 sum=11 buckets=2 min=2 max=9\n";
+                  {}               2          0  count=2 sum=11 buckets=2,0 min=2 max=9\n";
     assert!(rt; beside_known(alloc, empty, wanted)?);
-    let wider = parts(alloc, 1, 12, &[1], Some((12, 12)))?;
+    Ok(())
+}
+
+#[test]
+fn a_range_goes_over_all_points(rt: HostRuntime) -> Result<(), Fail> {
+    let alloc = rt.alloc();
+    let greater = parts(alloc, 1, 12, &[0, 1], Some((12, 12)))?;
     let wanted = "attributes  points  conflicts  total\n\
-                  {}               2          0  count=3 sum=23 buckets=3 min=2 max=12\n";
-    assert!(rt; beside_known(alloc, wider, wanted)?);
+                  {}               2          0  count=3 sum=23 buckets=2,1 min=2 max=12\n";
+    assert!(rt; beside_known(alloc, greater, wanted)?);
     Ok(())
 }
 
@@ -275,13 +332,30 @@ fn only_points_with_the_pairs(rt: HostRuntime) -> Result<(), Fail> {
     let host = having(alloc, one(alloc, worded(alloc, "host", "p")?)?)?;
     let wanted = "attributes  points  conflicts  total\n{}               2          0  3\n";
     assert!(rt; answers(alloc, &gateway, &host, wanted)?);
-    // no point has two values of one key
+    Ok(())
+}
+
+// Whether this is what is answered of points that have both hosts.
+fn answers_hosts(alloc: Global, first: &str, second: &str, wanted: &str) -> Result<bool, Fail> {
     let pairs = two(
         alloc,
-        worded(alloc, "host", "p")?,
-        worded(alloc, "host", "q")?,
+        worded(alloc, "host", first)?,
+        worded(alloc, "host", second)?,
     )?;
-    assert!(rt; answers(alloc, &gateway, &having(alloc, pairs)?, HEADER)?);
+    let asked = having(alloc, pairs)?;
+    Ok(answers(alloc, &shop_and_till(alloc)?, &asked, wanted)?)
+}
+
+#[test]
+fn a_pair_asked_twice_is_asked_once(rt: HostRuntime) -> Result<(), Fail> {
+    let wanted = "attributes  points  conflicts  total\n{}               2          0  3\n";
+    assert!(rt; answers_hosts(rt.alloc(), "p", "p", wanted)?);
+    Ok(())
+}
+
+#[test]
+fn no_point_has_two_values_of_one_key(rt: HostRuntime) -> Result<(), Fail> {
+    assert!(rt; answers_hosts(rt.alloc(), "p", "q", HEADER)?);
     Ok(())
 }
 
@@ -295,15 +369,37 @@ fn numbered(alloc: Global, numbers: i64) -> Result<Vec<ExportPoint>, Fail> {
     Ok(points)
 }
 
+// A gateway that took ten thousand of them.
+fn ten_thousand(alloc: Global) -> Result<Gateway, Fail> {
+    let mut gateway = Gateway::new(alloc, 1);
+    gateway.take(&export(alloc, "shop", 1, 200, numbered(alloc, 10000)?)?)?;
+    Ok(gateway)
+}
+
+#[test]
+fn ten_thousand_points_in_one_row(rt: HostRuntime) -> Result<(), Fail> {
+    let alloc = rt.alloc();
+    let asked = ask(alloc, counter(), Keep::Only(AllowList::empty(alloc)))?;
+    let wanted = "attributes  points  conflicts  total\n{}           10000          0  49995000\n";
+    assert!(rt; answers(alloc, &ten_thousand(alloc)?, &asked, wanted)?);
+    Ok(())
+}
+
+// The table of a row under each number below this one.
+fn numbered_lines(alloc: Global, numbers: i64) -> Result<String, NoMemory> {
+    let mut lines = HEADER.to_string(alloc)?;
+    for number in 0..numbers {
+        let attrs = format!(in alloc; "{{n={number}}}")?;
+        write!(lines, "{attrs:<10}       1          0  {number}\n")?;
+    }
+    Ok(lines)
+}
+
 #[test]
 fn ten_thousand_rows(rt: HostRuntime) -> Result<(), Fail> {
     let alloc = rt.alloc();
-    let mut gateway = Gateway::new(alloc, 1);
-    gateway.take(&export(alloc, "shop", 1, 200, numbered(alloc, 10000)?)?)?;
-    let rows = rollup(alloc, &gateway, &ask(alloc, counter(), Keep::All)?)?;
-    assert_eq!(rt; rows.len(), 10000);
-    let asked = ask(alloc, counter(), Keep::Only(AllowList::empty(alloc)))?;
-    let wanted = "attributes  points  conflicts  total\n{}           10000          0  49995000\n";
-    assert!(rt; answers(alloc, &gateway, &asked, wanted)?);
+    let wanted = numbered_lines(alloc, 10000)?;
+    let gateway = ten_thousand(alloc)?;
+    assert!(rt; answers_all(alloc, &gateway, counter(), wanted.as_str())?);
     Ok(())
 }

@@ -88,6 +88,25 @@ fn quotes_backslashes_and_control_characters_are_escaped(rt: HostRuntime) -> Res
     Ok(())
 }
 
+// Whether a text of this character alone is `\x` and two digits in quotes, which make a cell as wide as the header's.
+fn is_escaped(alloc: Global, code: u8) -> Result<bool, Fail> {
+    let mut control = String::new(alloc);
+    control.push(code as char)?;
+    let attrs = single(alloc, worded(alloc, "k", control.as_str())?)?;
+    let wanted = format!(in alloc; "attributes  points  conflicts  total\n{{k=\"\\x{code:02x}\"}}       0          1  -\n")?;
+    Ok(prints_set(alloc, attrs, wanted.as_str())?)
+}
+
+#[test]
+fn every_control_character_is_escaped(rt: HostRuntime) -> Result<(), Fail> {
+    let alloc = rt.alloc();
+    for code in 0..0x20 {
+        assert!(rt; is_escaped(alloc, code)?, "{code}");
+    }
+    assert!(rt; is_escaped(alloc, 0x7f)?);
+    Ok(())
+}
+
 #[test]
 fn widths_count_scalar_values(rt: HostRuntime) -> Result<(), Fail> {
     let alloc = rt.alloc();

@@ -19,3 +19,9 @@ loop-turn-preserved g c =
     let fits : c.in-Ok.count ≤ length c.read.new.buf = search rules in
     let items : c.extend_from_slice.new.self.items ≡ c.loop-turn.bytes.items ++ take c.in-Ok.count c.read.new.buf = rw take-append-le at (rw stored at c.extend_from_slice.ensures.items) in
     record { some = omega (arith, len); few = omega arith; read = rw items (Consumes-trans _ _ _ _ _ c.loop-turn.invariant.read c.in-Ok.ensures.bytes.0) }
+
+pub returns-then-is_err-clause-few : goal.returns-then-is_err-clause-few
+returns-then-is_err-clause-few g c =
+    let fits : c.in-Ok.count ≤ length c.read.new.buf = search rules in
+    let len : length (take c.in-Ok.count c.read.new.buf) ≤ c.in-Ok.count = grind (arith, common_steps) in
+    (c.loop-turn.bytes.items ++ take c.in-Ok.count c.read.new.buf, Consumes-trans _ _ _ _ _ c.loop-turn.invariant.read c.in-Ok.ensures.bytes.0, grind (arith, common_steps, len))
