@@ -1,6 +1,8 @@
 -- The points of the first streams and of one more, and those of the first series and of one more.
 use Rattle.std.proofs.Common.{◌≡◌, ◌<◌, ◌+◌, ◌++◌, ◌∙◌, ℕ, zero, suc, List, [], ◌∷◌, Option, Some, None, length, take, refl, sym, ap, arith, append_assoc, append-nil, slice_get, subst}
+use Rattle.std.specs.Prelude.{min, sum_by}
 use Rattle.std.specs.Option.{unwrap_or, option_map}
+use Rattle.std.proofs.lemmas.List.Sums.{sum_by_more}
 use Rattle.agg_kit.specs.Feeds.{series_at}
 use Rattle.agg_kit.specs.Tallies.{Points}
 use Rattle.attr_kit.specs.declared.attr_set.AttrSet.{AttrSet}
@@ -78,3 +80,12 @@ points_len (es ∷ ess) (suc m) = points_len ess m
 pub apart_from : (ss : List Stream) (n : ℕ) → n ≡ length ss → (0 < n → AreApart ss) → AreApart ss
 apart_from [] n e h = λ i j s at other. absurd (cc)
 apart_from (s ∷ ss) n e h = h (omega arith)
+
+-- how many points the first streams and one more have
+pub more_points : (ess : List Points) (n : ℕ) → n < length ess
+    → sum_by (λ (es : Points). length es) (take (n + 1) ess) ≡ sum_by (λ (es : Points). length es) (take n ess) + length (series_at ess n)
+more_points ess n h = sum_by_more (λ (es : Points). length es) ess n [] h
+
+-- a bound on a sum may be kept at each step
+pub bounded_sum : (s l m : ℕ) → min (min s m + l) m ≡ min (s + l) m
+bounded_sum s l m = omega arith

@@ -1,5 +1,6 @@
 //! Rounds: what a tally holds at a time, in an arena.
-ghost use Rattle.std.specs.Prelude.{◌≡◌, ◌<◌, ◌++◌, map, length, slice_get, IfOk, OnOk, Some, None};
+ghost use Rattle.std.specs.Prelude.{◌≡◌, ◌<◌, ◌-◌, ◌^◌, ◌++◌, map, min, length, slice_get, sum_by, IfOk, OnOk, Some, None};
+ghost use Rattle.std.specs.Option.{option_copied, option_map};
 ghost use Rattle.point_kit.specs.ExportFaults.{export_fault};
 ghost use Rattle.plan_kit.specs.Plans.{AreApart};
 ghost use Rattle.round_kit.specs.Placed.{stream_of};
@@ -96,10 +97,10 @@ impl<'b> Round<'b> {
     }
 }
 
-// The stream of a point, shared with the point before where it is the same.
+// The stream of a point, shared with the point before where it is the same. A stream is copied once for all its points.
 fn shared(
     alloc: Global,
-    last: &Option<SharedStream>,
+    last: &mut Option<SharedStream>,
     stream: &RoundStream<'_>,
 ) -> Result<SharedStream, NoMemory>
     ensures { IfOk result (λ shared. shared ≡ stream_of stream.now) }
@@ -109,7 +110,9 @@ fn shared(
             return last.try_copy();
         }
     }
-    SharedStream::new(alloc, stream.copy_out(alloc)?)
+    let fresh = SharedStream::new(alloc, stream.copy_out(alloc)?)?;
+    *last = Some(fresh.try_copy()?);
+    Ok(fresh)
 }
 
 fn copy_points(alloc: Global, points: &[RoundPoint<'_>]) -> Result<Vec<ExportPoint>, NoMemory>
@@ -118,10 +121,8 @@ fn copy_points(alloc: Global, points: &[RoundPoint<'_>]) -> Result<Vec<ExportPoi
     let mut copy = Vec::with_capacity(alloc, points.len())?;
     let mut last = None;
     for point in points {
-        let stream = shared(alloc, &last, point.stream)?;
-        last = Some(stream.try_copy()?);
         copy.push(ExportPoint {
-            stream,
+            stream: shared(alloc, &mut last, point.stream)?,
             attrs: point.attrs.copy_out(alloc)?,
             payload: point.payload.copy_out(alloc)?,
         })?;
@@ -134,8 +135,9 @@ fn copy_points(alloc: Global, points: &[RoundPoint<'_>]) -> Result<Vec<ExportPoi
 /// collection is covered by the next. The tally stays as it is. `NoMemory` is the only refusal; what was placed until then
 /// stays in the arena until its reset.
 ///
-/// O(size of the points), each text and list copied once and the texts of a stream once for all its points; no allocation
-/// outside the arena, which is the caller's and is reset by nobody else.
+/// O(size of the points), each value and list copied once, the texts of a stream once for all its points, and a key once for
+/// all points in a row that have it at the same place. The list of points gets its room once. No allocation outside the
+/// arena, which is the caller's and is reset by nobody else.
 pub fn place<'b>(
     bump: &'b Bump,
     tally: &Tally,
@@ -147,7 +149,7 @@ pub fn place<'b>(
     ensures taken_at { IfOk result (λ r. r.time ≡ time) }
     ensures points { IfOk result (λ r. r.points ≡ points_of tally.now.plan.streams tally.now.series) }
 {
-    let mut points: Vec<RoundPoint<'b>, &'b Bump> = Vec::new(bump);
+    let mut points: Vec<RoundPoint<'b>, &'b Bump> = Vec::with_capacity(bump, points_len(tally))?;
     for number in 0..tally.plan().streams_len() {
         place_series(bump, tally, number, &mut points)?;
     }
@@ -156,6 +158,24 @@ pub fn place<'b>(
         time,
         points: into_bump_slice(points),
     })
+}
+
+// How many points a tally has: the room that their list takes.
+fn points_len(tally: &Tally) -> usize
+    ensures { result ≡ min (sum_by (λ es. length es) tally.now.series) (2 ^ 64 - 1) }
+{
+    let mut total: usize = 0;
+    for number in 0..tally.plan().streams_len() {
+        total = total.saturating_add(tally.series_len(number).unwrap_or(0));
+    }
+    total
+}
+
+// The set of the last point.
+fn last_set<'p, 'b>(points: &'p [RoundPoint<'b>]) -> Option<&'p RoundSet<'b>>
+    ensures { option_copied result ≡ option_map (λ p. p.attrs) (slice_get points.now (length points.now - 1)) }
+{
+    Some(&points.last()?.attrs)
 }
 
 // The points of one stream.
@@ -177,7 +197,7 @@ fn place_series<'b>(
         if let Some((attrs, payload)) = tally.entry(number, k) {
             points.push(RoundPoint {
                 stream: placed,
-                attrs: RoundSet::place(bump, attrs)?,
+                attrs: RoundSet::place(bump, last_set(points), attrs)?,
                 payload: RoundPayload::place(bump, payload)?,
             })?;
         }

@@ -67,12 +67,20 @@ impl<'b> RoundSet<'b> {
         self.pairs
     }
 
-    pub(crate) fn place(bump: &'b Bump, set: &AttrSet) -> Result<RoundSet<'b>, NoMemory>
+    /// A set in an arena. It shares the keys of a set that was placed before, where it has the same at the same place.
+    pub(crate) fn place(
+        bump: &'b Bump,
+        before: Option<&RoundSet<'b>>,
+        set: &AttrSet,
+    ) -> Result<RoundSet<'b>, NoMemory>
         ensures { IfOk result (λ placed. placed ≡ set.now) }
     {
-        let mut pairs: Vec<(&'b str, RoundValue<'b>), &'b Bump> = Vec::new(bump);
-        for (key, value) in set.pairs() {
-            let key = bump.try_alloc_str(key.as_str())?;
+        let mut pairs: Vec<(&'b str, RoundValue<'b>), &'b Bump> = Vec::with_capacity(
+            bump,
+            set.len(),
+        )?;
+        for (index, (key, value)) in set.pairs().iter().enumerate() {
+            let key = place_key(bump, before, index, key.as_str())?;
             let value = RoundValue::place(bump, value)?;
             pairs.push((key, value))?;
         }
@@ -81,24 +89,47 @@ impl<'b> RoundSet<'b> {
         })
     }
 
-    fn copy_pairs(&self, alloc: Global) -> Result<Vec<(Txt, AttrValue)>, NoMemory>
-        ensures { IfOk result (λ pairs. pairs.items ≡ self.now) }
-    {
-        let mut pairs = Vec::with_capacity(alloc, self.pairs.len())?;
-        for (key, value) in self.pairs {
-            pairs.push((Txt::from_str(alloc, key)?, value.copy_out(alloc)?))?;
-        }
-        Ok(pairs)
-    }
-
     pub(crate) fn copy_out(&self, alloc: Global) -> Result<AttrSet, NoMemory>
         ensures { IfOk result (λ set. set ≡ self.now) }
     {
-        let _ = &self.pairs;
-        match AttrSet::from_pairs(self.copy_pairs(alloc)?) {
+        match AttrSet::from_pairs(copy_pairs(alloc, self.pairs)?) {
             Ok(set) => Ok(set),
-            Err(AttrFault::EmptyKey(_)) => Ok(AttrSet::empty(alloc)),
+            // The pairs are a set's, so none of their keys is empty.
+            Err(AttrFault::EmptyKey(_)) => unreachable!(),
             Err(AttrFault::NoMemory) => Err(NoMemory),
         }
     }
+}
+
+// The key of a pair, in an arena: that of a set that was placed before, where it is the same.
+fn place_key<'b>(
+    bump: &'b Bump,
+    before: Option<&RoundSet<'b>>,
+    index: usize,
+    key: &str,
+) -> Result<&'b str, NoMemory>
+    ensures { IfOk result (λ placed. placed.now ≡ key.now) }
+{
+    if let Some(before) = before {
+        if let Some((held, _)) = before.pairs.get(index) {
+            if *held == key {
+                return Ok(*held);
+            }
+        }
+    }
+    Ok(bump.try_alloc_str(key)?)
+}
+
+// The pairs of a set, copied out of the arena.
+fn copy_pairs(
+    alloc: Global,
+    pairs: &[(&str, RoundValue<'_>)],
+) -> Result<Vec<(Txt, AttrValue)>, NoMemory>
+    ensures { IfOk result (λ copy. copy.items ≡ map pair_of pairs.now) }
+{
+    let mut copy = Vec::with_capacity(alloc, pairs.len())?;
+    for (key, value) in pairs {
+        copy.push((Txt::from_str(alloc, key)?, value.copy_out(alloc)?))?;
+    }
+    Ok(copy)
 }
