@@ -1,6 +1,6 @@
 //! A schedule from its beginning.
-ghost use Rattle.std.specs.Prelude.{◌≡◌, IfOk, IfErr};
-ghost use Rattle.world_kit.specs.Building.{replies};
+ghost use Rattle.std.specs.Prelude.{◌≡◌, None, IfOk, IfErr, OnOk};
+ghost use Rattle.world_kit.specs.Building.{replies, setup_fault};
 ghost use Rattle.world_kit.specs.Answering.{AnswersRecorded};
 ghost use Rattle.world_kit.specs.Converging.{AnswersAlike, Converges, IsReplayFault};
 ghost use Rattle.world_kit.specs.Exact.{AreTold, HoldsNoConflict, HoldsNewest};
@@ -18,6 +18,7 @@ pub fn replay(
     setup: Setup,
     events: &[Event],
 ) -> Result<(World, Seq<Reply>), ReplayFault>
+    ensures ok { OnOk result (setup_fault setup ≡ None) }
     ensures stands { IfOk result (λ done. Stands setup (deeds setup events.now) done.0) }
     ensures value { IfOk result (λ done. done.1 ≡ replies setup events.now) }
 
