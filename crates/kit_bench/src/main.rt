@@ -4,13 +4,17 @@
 //! to standard error, and nothing to standard output.
 #![tactic(auto)]
 
+mod changes;
 mod clock;
+mod counter;
 mod gateways;
 mod measures;
 mod merges;
+mod mutexes;
 mod rounds;
 mod takes;
 mod tallies;
+mod turns;
 
 use std::env;
 
@@ -32,10 +36,12 @@ fn all_rounds(rt: &HostRuntime, sizes: &[u32]) -> anyhow::Result<()> {
 fn main(rt: HostRuntime) -> anyhow::Result<()> {
     let full = env::args(&rt)?.any(|word| word.as_str() == "full");
     if full {
+        changes::run(&rt, 7, 400_000)?;
         measures::run(&rt, 2_000_000, 2_000)?;
         takes_and_merges(&rt, &[1_000, 10_000, 100_000])?;
         all_rounds(&rt, &[1_000, 100_000])
     } else {
+        changes::run(&rt, 1, 1_000)?;
         measures::run(&rt, 20, 5)?;
         takes_and_merges(&rt, &[10, 40])?;
         all_rounds(&rt, &[10, 40])

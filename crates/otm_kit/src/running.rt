@@ -5,11 +5,12 @@ ghost use Rattle.otm_kit.specs.Declarations.{gateway_place};
 ghost use Rattle.otm_kit.specs.Effects.{told_of};
 ghost use Rattle.otm_kit.specs.Events.{event_of};
 ghost use Rattle.otm_kit.specs.Standing.{IsGatewayOf, Runs};
+ghost use Rattle.script_kit.specs.declared.line.Command.TheVariants as command;
 
 use crate::gateway_ids::GatewayIds;
 use crate::labels::Labels;
 use crate::refusals::reply_line;
-use attr_kit::NoMemory;
+use attr_kit::{AttrSet, NoMemory, Txt};
 use gateway_kit::Gateway;
 use script_kit::Command;
 use std::alloc::Global;
@@ -36,12 +37,7 @@ impl Running {
                 instrument,
                 value,
                 attrs,
-            } => Some(Event::Measure {
-                writer: self.writers.place(&writer)?,
-                instrument: self.instruments.place(&instrument)?,
-                attrs,
-                value,
-            }),
+            } => self.measurement(&writer, &instrument, value, attrs),
             Command::Collect { writer, time } => Some(Event::Collect {
                 writer: self.writers.place(&writer)?,
                 time,
@@ -71,6 +67,25 @@ impl Running {
                 gateway: self.gateways.place(gateway)?,
             }),
         }
+    }
+
+    // The event of a recording, or `None` where a label names nothing.
+    #[tactic(auto, unfolding(crate::specs::Events::event_of))]
+    fn measurement(
+        &self,
+        writer: &Txt,
+        instrument: &Txt,
+        value: i64,
+        attrs: AttrSet,
+    ) -> Option<Event>
+        ensures { (d : _) (cs : _) → Runs d cs self.now → result ≡ event_of d (command.Measure writer.now instrument.now value attrs) }
+    {
+        Some(Event::Measure {
+            writer: self.writers.place(writer)?,
+            instrument: self.instruments.place(instrument)?,
+            attrs,
+            value,
+        })
     }
 
     /// Does a command, and answers what it prints, or `None` for a bad line.

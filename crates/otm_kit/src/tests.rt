@@ -1,6 +1,7 @@
 //! The worked scripts: what each prints.
 use crate::run_script;
-use script_kit::ScriptFault;
+use script_kit::{MAX_BYTES, ScriptFault};
+use std::alloc::Global;
 use std::io;
 use std::io::{Error, ErrorKind, Read, Write};
 use std::test::Fail;
@@ -131,6 +132,27 @@ fn row_gauges(rt: HostRuntime) -> Result<(), Fail> {
     Ok(())
 }
 
+// A script of so many bytes, a comment line.
+fn comment(alloc: Global, len: usize) -> Result<String, Fail> {
+    let mut script = "#".repeat(alloc, len.saturating_sub(1))?;
+    script.push('\n')?;
+    Ok(script)
+}
+
+#[test]
+fn row_greatest_comment(rt: HostRuntime) -> Result<(), Fail> {
+    let script = comment(rt.alloc(), MAX_BYTES)?;
+    assert!(rt; prints(&rt, script.as_str(), "", Ok(()))?);
+    Ok(())
+}
+
+#[test]
+fn row_one_byte_too_long(rt: HostRuntime) -> Result<(), Fail> {
+    let script = comment(rt.alloc(), MAX_BYTES + 1)?;
+    assert!(rt; prints(&rt, script.as_str(), "", Err(ScriptFault::TooLong))?);
+    Ok(())
+}
+
 #[test]
 fn row_histogram_buckets(rt: HostRuntime) -> Result<(), Fail> {
     let script =
@@ -179,13 +201,15 @@ fn row_mail_carries_the_past(rt: HostRuntime) -> Result<(), Fail> {
     Ok(())
 }
 
+const GOSSIP: &str =
+    "instrument c counter app requests 1\nwriter a shop 00000000-0000-0000-0000-000000000001 100\nwriter b shop 00000000-0000-0000-0000-000000000002 100\ngateway 1\ngateway 2\ngateway 3\ngateway 4\nbegin\nmeasure a c 7 -\nmeasure b c 5 -\ncollect a 200\ncollect b 200\ndeliver 1 1\ndeliver 2 1\ndeliver 1 2\ndeliver 2 3\nmerge 2 3\nsend 1 4\nhand 1 4\nsame 1 2\nsame 1 4\nsame 2 4\nsame 1 3\nreport 4 app requests 1 sum+ * - *\n";
+
+const GOSSIP_TEXT: &str =
+    "same yes\nsame yes\nsame yes\nsame no\nattributes  points  conflicts  total\n{}               2          0  12\n";
+
 #[test]
 fn row_merge_and_gossip(rt: HostRuntime) -> Result<(), Fail> {
-    let script =
-        "instrument c counter app requests 1\nwriter a shop 00000000-0000-0000-0000-000000000001 100\nwriter b shop 00000000-0000-0000-0000-000000000002 100\ngateway 1\ngateway 2\ngateway 3\ngateway 4\nbegin\nmeasure a c 7 -\nmeasure b c 5 -\ncollect a 200\ncollect b 200\ndeliver 1 1\ndeliver 2 1\ndeliver 1 2\ndeliver 2 3\nmerge 2 3\nsend 1 4\nhand 1 4\nsame 1 2\nsame 1 4\nsame 2 4\nsame 1 3\nreport 4 app requests 1 sum+ * - *\n";
-    let text =
-        "same yes\nsame yes\nsame yes\nsame no\nattributes  points  conflicts  total\n{}               2          0  12\n";
-    assert!(rt; prints(&rt, script, text, Ok(()))?);
+    assert!(rt; prints(&rt, GOSSIP, GOSSIP_TEXT, Ok(()))?);
     Ok(())
 }
 
@@ -384,8 +408,6 @@ fn row_view_keeps_one_key(rt: HostRuntime) -> Result<(), Fail> {
 const FIRST: &str =
     "instrument c counter app requests 1\nwriter a shop 00000000-0000-0000-0000-000000000001 100\ngateway 1\nbegin\nmeasure a c 3 -\nmeasure a c 4 -\ncollect a 200\ndeliver 1 1\nreport 1 app requests 1 sum+ * - *\n";
 
-const TABLE: &str = "attributes  points  conflicts  total\n{}               1          0  7\n";
-
 /// Takes one byte at a time, and fails after so many.
 #[derive(Drop)]
 struct ShortWriter {
@@ -442,15 +464,15 @@ impl Read for ShortReader<'_> {
 
 #[test]
 fn writes_that_fail(rt: HostRuntime) -> Result<(), Fail> {
-    for count in 0..TABLE.len() {
-        let mut reader = FIRST.as_bytes();
+    for count in 0..GOSSIP_TEXT.len() {
+        let mut reader = GOSSIP.as_bytes();
         let mut writer = ShortWriter {
             left: count,
             written: Vec::new(rt.alloc()),
         };
         let result = run_script(rt.alloc(), &mut reader, &mut writer);
         assert_eq!(rt; result, Err(ScriptFault::WriteFault));
-        assert_eq!(rt; writer.written.as_slice(), &TABLE.as_bytes()[..count]);
+        assert_eq!(rt; writer.written.as_slice(), &GOSSIP_TEXT.as_bytes()[..count]);
     }
     Ok(())
 }

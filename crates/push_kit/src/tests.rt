@@ -127,37 +127,37 @@ fn the_next_collection_covers_a_lost_one(rt: HostRuntime) -> Result<(), Fail> {
     Ok(())
 }
 
-// Records 1 and then ticks: whether the exporter refused.
-fn is_refused(periodic: &mut Periodic<Failing>, alloc: Global, now: u64) -> Result<bool, Fail>
+// Records 1 and then ticks: the total that the exporter took, or `None` where it refused.
+fn taken(periodic: &mut Periodic<Failing>, alloc: Global, now: u64) -> Result<Option<i64>, Fail>
     requires { periodic.old.exporter.failures < 18446744073709551615 }
     ensures { OnOk result (periodic.new.exporter.failures ≤ periodic.old.exporter.failures + 1) }
 {
     adds(periodic, alloc, 1)?;
     match periodic.tick(&Bump::new(alloc), now) {
-        Ok(_) => Ok(false),
-        Err(TickFault::ExportRefused) => Ok(true),
+        Ok(_) => Ok(periodic.exporter().last),
+        Err(TickFault::ExportRefused) => Ok(None),
         Err(fault) => Err(Fail::from(fault)),
     }
 }
 
-// Which of four due ticks an exporter refuses that fails at one of its calls, and the total that it took last.
-fn four_ticks(alloc: Global, at: u64) -> Result<([bool; 4], Option<i64>), Fail> {
+// What each of four due ticks hands to an exporter that fails at one of its calls.
+fn four_ticks(alloc: Global, at: u64) -> Result<[Option<i64>; 4], Fail> {
     let mut periodic = reading(alloc, Failing::at(at))?;
-    let first = is_refused(&mut periodic, alloc, MINUTE)?;
-    let second = is_refused(&mut periodic, alloc, 2 * MINUTE)?;
-    let third = is_refused(&mut periodic, alloc, 3 * MINUTE)?;
-    let fourth = is_refused(&mut periodic, alloc, 4 * MINUTE)?;
-    Ok(([first, second, third, fourth], periodic.exporter().last))
+    let first = taken(&mut periodic, alloc, MINUTE)?;
+    let second = taken(&mut periodic, alloc, 2 * MINUTE)?;
+    let third = taken(&mut periodic, alloc, 3 * MINUTE)?;
+    let fourth = taken(&mut periodic, alloc, 4 * MINUTE)?;
+    Ok([first, second, third, fourth])
 }
 
 #[test]
 fn one_of_four_ticks_is_refused(rt: HostRuntime) -> Result<(), Fail> {
     let at_first = four_ticks(rt.alloc(), 1)?;
-    assert_eq!(rt; at_first, ([true, false, false, false], Some(4)));
+    assert_eq!(rt; at_first, [None, Some(2), Some(3), Some(4)]);
     let at_second = four_ticks(rt.alloc(), 2)?;
-    assert_eq!(rt; at_second, ([false, true, false, false], Some(4)));
+    assert_eq!(rt; at_second, [Some(1), None, Some(3), Some(4)]);
     let at_third = four_ticks(rt.alloc(), 3)?;
-    assert_eq!(rt; at_third, ([false, false, true, false], Some(4)));
+    assert_eq!(rt; at_third, [Some(1), Some(2), None, Some(4)]);
     Ok(())
 }
 
