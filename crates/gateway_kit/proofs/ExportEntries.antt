@@ -6,9 +6,7 @@ use Rattle.std.specs.declared.cmp.Ordering.TheVariants.{Less, Equal, Greater}
 use Rattle.std.specs.Ordering.{eq_by_cmp, is_eq, ordering_then}
 use Rattle.std.specs.Cmp.{eq_by_cmp_equiv}
 use Rattle.std.specs.FinMap.Entries.{find}
-use Rattle.attr_kit.specs.contracts.attr_set.AttrSetEq.TheImpl.Laws as set_laws
 use Rattle.attr_kit.specs.contracts.attr_set.AttrSetOrd.TheImpl.Laws as set_orders
-use Rattle.point_kit.specs.contracts.stream.StreamEq.TheImpl.Laws as stream_laws
 use Rattle.point_kit.specs.contracts.stream.StreamOrd.TheImpl.Laws as stream_orders
 use Rattle.point_kit.specs.declared.export.Export.{Export}
 use Rattle.point_kit.specs.declared.export_point.ExportPoint.{ExportPoint}

@@ -1,5 +1,5 @@
 //! Where a key stands in a list, when two lists are walked together.
-ghost use Rattle.std.specs.Prelude.{◌≡◌, ◌≤◌, IsTrue, length};
+ghost use Rattle.std.specs.Prelude.{◌≡◌, ◌≤◌, ◌+◌, ◌-◌, ◌^◌, IsTrue, MatchResult, length, min};
 ghost use Rattle.std.specs.List.Sorted.{IsBinarySearchResult, IsSearchInRange};
 ghost use Rattle.gateway_kit.specs.Weave.{AreBelow, Rises};
 
@@ -38,8 +38,10 @@ pub(crate) fn place_from<T: Keyed>(values: &[T], hint: usize, key: &T) -> Result
     Err(place)
 }
 
-/// The hint for the next key of a walk.
-pub(crate) fn after(place: Result<usize, usize>) -> usize {
+/// The hint for the next key of a walk: past the place where one was found, else where it belongs.
+pub(crate) fn after(place: Result<usize, usize>) -> usize
+    ensures { MatchResult place (λ found. result ≡ min (found + 1) (2 ^ 64 - 1)) (λ gap. result ≡ gap) }
+{
     match place {
         Ok(place) => place.saturating_add(1),
         Err(place) => place,
@@ -48,7 +50,8 @@ pub(crate) fn after(place: Result<usize, usize>) -> usize {
 
 /// Whether each key of a list is below the next: one walk.
 pub(crate) fn rises<T: Keyed>(values: &[T]) -> bool
-    ensures { IsTrue result → Rises T.order values.now }
+    ensures rises { IsTrue result → Rises T.order values.now }
+    ensures all { Rises T.order values.now → IsTrue result }
 {
     for place in 1..values.len() {
         match values[place - 1].order(&values[place]) {

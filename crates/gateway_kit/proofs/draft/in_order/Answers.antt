@@ -13,7 +13,7 @@ use Rattle.gateway_kit.proofs.draft.in_order.Goals as goal
 
 pub returns-then-rises-clause-sorted : goal.returns-then-rises-clause-sorted
 returns-then-rises-clause-sorted c =
-    as_true _ (rising_neighbours item_total entry_of c.args.items.items (subst (λ (xs : List PartItem). Rises (λ x y. item_cmp (entry_of x).0 (entry_of y).0) xs) c.as_slice.ensures.value (c.rises.ensures c.if-rises.true)))
+    as_true _ (rising_neighbours item_total entry_of c.args.items.items (subst (λ (xs : List PartItem). Rises (λ x y. item_cmp (entry_of x).0 (entry_of y).0) xs) c.as_slice.ensures.value (c.rises.ensures.rises c.if-rises.true)))
 
 pub returns-clause-sorted : goal.returns-clause-sorted
 returns-clause-sorted c =

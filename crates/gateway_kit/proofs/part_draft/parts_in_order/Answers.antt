@@ -14,7 +14,7 @@ use Rattle.gateway_kit.proofs.part_draft.parts_in_order.Goals as goal
 
 pub returns-then-rises-clause-sorted : goal.returns-then-rises-clause-sorted
 returns-then-rises-clause-sorted c =
-    as_true _ (rising_neighbours part_total part_of c.args.parts.items (subst (λ (xs : List Part). Rises (λ x y. part_cmp (part_of x).0 (part_of y).0) xs) c.as_slice.ensures.value (c.rises.ensures c.if-rises.true)))
+    as_true _ (rising_neighbours part_total part_of c.args.parts.items (subst (λ (xs : List Part). Rises (λ x y. part_cmp (part_of x).0 (part_of y).0) xs) c.as_slice.ensures.value (c.rises.ensures.rises c.if-rises.true)))
 
 pub returns-clause-sorted : goal.returns-clause-sorted
 returns-clause-sorted c =

@@ -1,4 +1,4 @@
-use Rattle.std.proofs.Common.{◌≡◌, map, true, false, sym, ap, ◌∙◌, true≢false}
+use Rattle.std.proofs.Common.{◌≡◌, map, sym, ap, ◌∙◌, true≢false}
 use borrow.Author.Tests.{eqb-true}
 use Rattle.std.specs.Cmp.Lexicographic.{pointwise}
 use Rattle.std.specs.FinMap.{entries, from_sorted, entries-from_sorted}
