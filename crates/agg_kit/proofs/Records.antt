@@ -1,27 +1,31 @@
 -- A recording in the points of one stream, once it is made in the others.
-use Rattle.std.proofs.Common.{◌≡◌, ℕ, ℤ, ◌<◌, ◌≢◌, Bool, true, false, cond, List, [], ◌∷◌, Option, Some, None, length, slice_get, get_or, set, map, refl, sym, ap, subst, ◌∙◌, suc, zero, arith, Result, Ok, Err, OnErr, OnOk, IfErr, IfSome, IsSome, is_some, is_none, not, ◌||◌, ◌&&◌, int_lt, pos, true≢false, find, replicate}
-use Rattle.std.specs.Map.{keys_of}
+use Rattle.std.proofs.Common.{◌≡◌, ℕ, ℤ, ◌<◌, ◌≢◌, ◌==◌, Bool, true, false, cond, List, [], ◌∷◌, Option, Some, None, length, slice_get, get_or, set, map, position, refl, sym, ap, subst, ◌∙◌, suc, zero, arith, Result, Ok, Err, OnErr, OnOk, IfErr, IfSome, is_some, is_none, not, ◌||◌, ◌&&◌, int_lt, pos, true≢false, find, replicate, FitsSigned, w64}
+use Rattle.std.specs.Cmp.{unsigned_Decides}
+use Rattle.std.specs.Map.{keys_of, lookup}
 use Rattle.std.specs.Option.{option_map}
 use Rattle.std.proofs.lemmas.List.{map-set, length-map, length-set}
 use Rattle.attr_kit.specs.declared.attr_set.AttrSet.{AttrSet}
 use Rattle.attr_kit.specs.Keeping.{kept}
+use Rattle.attr_kit.specs.declared.keep.Keep.{Keep}
+use Rattle.attr_kit.specs.declared.keep.Keep.TheVariants.{All, Only}
+use Rattle.point_kit.specs.declared.payload.Payload.{Payload}
 use Rattle.point_kit.specs.declared.shape.Shape.{Shape}
 use Rattle.point_kit.specs.declared.stream.Stream.{Stream}
 use Rattle.plan_kit.specs.Plans.{Planned, stream_of, lacks, AreFeeds, AllRise, rises, only_rises}
 use Rattle.plan_kit.specs.declared.instrument.Kind.{Kind}
 use Rattle.plan_kit.specs.declared.feed.Feed.{Feed}
-use Rattle.agg_kit.specs.Feeds.{entries_of, series_at, shape_at, leaves_range, first_out, applied}
+use Rattle.agg_kit.specs.Feeding.{set_eq}
+use Rattle.agg_kit.specs.Feeds.{entries_of, series_at, shape_at, leaves_range, first_out, applied, keeps_all, whole_first, AllWhole}
 use Rattle.agg_kit.specs.Payloads.{is_out_of_range}
-use Rattle.agg_kit.specs.Slots.{CanCommit, committed}
 use Rattle.agg_kit.specs.Sound.{AreSound, AreOnce, AllSound}
-use Rattle.agg_kit.specs.Steps.{Stored, place, payload_after, step}
+use Rattle.agg_kit.specs.Steps.{Stored, bounds_of, held, place, payload_after, recorded, step}
 use Rattle.agg_kit.specs.Tallies.{Points}
 use Rattle.agg_kit.specs.declared.fault.MeasureFault.{MeasureFault}
 use Rattle.agg_kit.specs.declared.fault.MeasureFault.TheVariants as faults
-use Rattle.agg_kit.specs.declared.series.Slot.{Slot}
 use Rattle.agg_kit.proofs.Refusals.{Every}
 use Rattle.agg_kit.proofs.Rounds.{got, there, shape-is}
-use Rattle.agg_kit.proofs.Sound.{sound-step, once-step}
+use Rattle.agg_kit.proofs.Sound.{first-fits, sound-step, once-step}
+use Rattle.agg_kit.proofs.Steps.{payload-new}
 
 pub set-other : {X : Type 0} (xs : List X) (i m : ℕ) (x : X) → (m ≢ i) → slice_get (set xs i x) m ≡ slice_get xs m
 set-other [] i m x n = refl
@@ -100,41 +104,112 @@ pub first-later : (p : Planned) (a : AttrSet) (v : ℤ) (ss : List Points) (f : 
 first-later p a v ss f fs h = ap (λ b. option_map (λ (g : Feed). faults.Overflow g.stream) (cond b (Some f) (find (leaves_range p a v ss) fs))) h
 
 -- the same of all feeds, where the points that were read are in range
+pub first-kept : (p : Planned) (a : AttrSet) (v : ℤ) (ss : List Stored) (old : Stored) (f : Feed) (fs all : List Feed) → all ≡ f ∷ fs → f.stream < length ss → old ≡ get_or ss f.stream old
+    → is_out_of_range (payload_after (shape_at p f.stream) old.entries (place p.limit old.entries (kept f.keep a)) v) ≡ false
+    → first_out p a v (entries_of ss) all ≡ first_out p a v (entries_of ss) fs
+first-kept p a v ss old f fs all is l was ok = ap (first_out p a v (entries_of ss)) is ∙ first-later p a v (entries_of ss) f fs (leaves-here p f a v ss old l was ∙ ok)
+
 pub first-rest : (p : Planned) (a : AttrSet) (v : ℤ) (ss : List Stored) (old q : Stored) (f : Feed) (fs all : List Feed) → all ≡ f ∷ fs → f.stream < length ss → old ≡ get_or ss f.stream old → q.entries ≡ old.entries
     → is_out_of_range (payload_after (shape_at p f.stream) old.entries (place p.limit old.entries (kept f.keep a)) v) ≡ false
     → first_out p a v (entries_of ss) all ≡ first_out p a v (entries_of (set ss f.stream q)) fs
 first-rest p a v ss old q f fs all is l was same ok =
-    ap (first_out p a v (entries_of ss)) is
-    ∙ first-later p a v (entries_of ss) f fs (leaves-here p f a v ss old l was ∙ ok)
-    ∙ ap (λ (es : List Points). first_out p a v es fs) (sym (same_entries ss f.stream q old was same))
+    first-kept p a v ss old f fs all is l was ok ∙ ap (λ (es : List Points). first_out p a v es fs) (sym (same_entries ss f.stream q old was same))
 
-module _ (p : Planned) (f : Feed) (fs : List Feed) (a : AttrSet) (v : ℤ) (ss ns : List Stored) (old q now x : Stored) (slot : Slot)
-    (feeds : AreFeeds (length ss) (f ∷ fs))
-    (was : old ≡ get_or ss f.stream old)
+-- the same of the feeds before the first that keeps a list
+pub whole-kept : (p : Planned) (a : AttrSet) (v : ℤ) (ss : List Stored) (old : Stored) (f : Feed) (fs all : List Feed) → all ≡ f ∷ fs → f.stream < length ss → old ≡ get_or ss f.stream old
+    → is_out_of_range (payload_after (shape_at p f.stream) old.entries (place p.limit old.entries (kept f.keep a)) v) ≡ false
+    → first_out p a v (entries_of ss) (whole_first fs) ≡ None → first_out p a v (entries_of ss) (whole_first all) ≡ None
+whole-kept p a v ss old f fs all is l was ok h = ap (λ (gs : List Feed). first_out p a v (entries_of ss) (whole_first gs)) is ∙ by (keeps_all f.keep)
+  where
+    by : (b : Bool) → first_out p a v (entries_of ss) (cond b (f ∷ whole_first fs) []) ≡ None
+    by true = first-later p a v (entries_of ss) f (whole_first fs) (leaves-here p f a v ss old l was ∙ ok) ∙ h
+    by false = refl
+
+pub whole-rest : (p : Planned) (a : AttrSet) (v : ℤ) (ss : List Stored) (old q : Stored) (f : Feed) (fs all : List Feed) → all ≡ f ∷ fs → f.stream < length ss → old ≡ get_or ss f.stream old → q.entries ≡ old.entries
+    → is_out_of_range (payload_after (shape_at p f.stream) old.entries (place p.limit old.entries (kept f.keep a)) v) ≡ false
+    → first_out p a v (entries_of (set ss f.stream q)) (whole_first fs) ≡ None → first_out p a v (entries_of ss) (whole_first all) ≡ None
+whole-rest p a v ss old q f fs all is l was same ok h =
+    whole-kept p a v ss old f fs all is l was ok (ap (λ (es : List Points). first_out p a v es (whole_first fs)) (sym (same_entries ss f.stream q old was same)) ∙ h)
+
+listed : (k : Keep) → (k ≢ All) → keeps_all k ≡ false
+listed All h = absurd (h refl)
+listed (Only l) h = refl
+
+pub whole-listed : (p : Planned) (a : AttrSet) (v : ℤ) (ss : List Points) (f : Feed) (fs all : List Feed) → all ≡ f ∷ fs → (f.keep ≢ All) → first_out p a v ss (whole_first all) ≡ None
+whole-listed p a v ss f fs all is n =
+    ap (λ (gs : List Feed). first_out p a v ss (whole_first gs)) is ∙ ap (λ b. first_out p a v ss (cond b (f ∷ whole_first fs) [])) (listed f.keep n)
+
+-- all feeds where each keeps all keys
+pub whole_first-whole : (fs : List Feed) → AllWhole fs → whole_first fs ≡ fs
+whole_first-whole [] w = refl
+whole_first-whole (f ∷ fs) w = ap (λ k. cond (keeps_all k) (f ∷ whole_first fs) []) w.0 ∙ ap (λ l. f ∷ l) (whole_first-whole fs w.1)
+
+-- where the point is that a feed reaches, by the limit and the set that it was looked for under
+pub found-at : (p : Planned) (b : AttrSet) (es : Points) (limit : ℕ) (set : AttrSet) (found at : Option ℕ) → limit ≡ p.limit → set ≡ b → found ≡ at
+    → found ≡ position (set_eq (place limit es set)) (keys_of es) → position (set_eq (place p.limit es b)) (keys_of es) ≡ at
+found-at p b es limit set found at e f is h =
+    ap (λ n. position (set_eq (place n es b)) (keys_of es)) (sym e) ∙ ap (λ x. position (set_eq (place limit es x)) (keys_of es)) (sym f) ∙ sym h ∙ is
+
+-- the same of a step
+pub step-along : (es xs : Points) (v : ℤ) (s s' : Shape) (n n' : ℕ) (b b' : AttrSet) → s ≡ s' → n ≡ n' → b ≡ b' → xs ≡ step s n es b v → xs ≡ step s' n' es b' v
+step-along es xs v s s' n n' b b' e f g h = h ∙ ap (λ x. step x n es b v) e ∙ ap (λ x. step s' x es b v) f ∙ ap (λ x. step s' n' es x v) g
+
+-- a set that has no point is not held, and its first value is in range
+pub new-fits : (shape : Shape) (es : Points) (b : AttrSet) (v : ℤ) → FitsSigned w64 v → lookup (set_eq b) es ≡ None → is_out_of_range (payload_after shape es b v) ≡ false
+new-fits shape es b v f n = ap (λ (t : Payload). is_out_of_range (recorded (bounds_of shape) t v)) (payload-new shape es b n) ∙ first-fits shape v f
+
+pub new-gone : (es : Points) (b : AttrSet) → lookup (set_eq b) es ≡ None → held es b ≡ true → ⊥
+new-gone es b n h = true≢false (sym h ∙ ap is_some n)
+
+-- a feed's stream, read once the other feeds have taken their recording
+module _ (p : Planned) (f : Feed) (fs : List Feed) (a : AttrSet) (v : ℤ) (ss ns : List Stored) (old q now x : Stored) (done : Points → Points)
+    (stays : slice_get ns f.stream ≡ Some q)
     (same : q.entries ≡ old.entries)
-    (others : (m : ℕ) → lacks m fs → slice_get ns m ≡ slice_get (set ss f.stream q) m)
     (read-now : now ≡ get_or ns f.stream now) where
-  stays : slice_get ns f.stream ≡ Some q
-  stays = others f.stream feeds.1 ∙ set-here ss f.stream q feeds.0
-
   pub unmoved : now ≡ q
   unmoved = read ns f.stream q now stays read-now
 
-  pub recorded-here : entries_of ns ≡ applied p fs a v (entries_of (set ss f.stream q))
-      → committed (shape_at p f.stream) v slot old.entries ≡ step (shape_at p f.stream) p.limit old.entries (kept f.keep a) v
-      → x.entries ≡ committed (shape_at p f.stream) v slot now.entries
+  pub recorded-here : entries_of ns ≡ applied p fs a v (entries_of ss)
+      → done old.entries ≡ step (shape_at p f.stream) p.limit old.entries (kept f.keep a) v
+      → x.entries ≡ done now.entries
       → entries_of (set ns f.stream x) ≡ applied p (f ∷ fs) a v (entries_of ss)
-  recorded-here rest slots done =
-      let rest' : entries_of ns ≡ applied p fs a v (entries_of ss) = rest ∙ ap (applied p fs a v) (same_entries ss f.stream q old was same) in
+  recorded-here rest steps after =
       let mid : now.entries ≡ old.entries = ap (λ (s : Stored). s.entries) unmoved ∙ same in
       let at : old.entries ≡ series_at (entries_of ns) f.stream = sym (entries-at ns f.stream q stays ∙ same) in
       map-set (λ (s : Stored). s.entries) ns f.stream x
-      ∙ ap (set (entries_of ns) f.stream) (done ∙ ap (committed (shape_at p f.stream) v slot) mid ∙ slots ∙ ap (λ s. step (shape_at p f.stream) p.limit s (kept f.keep a) v) at)
-      ∙ ap (λ l. set l f.stream (step (shape_at p f.stream) p.limit (series_at l f.stream) (kept f.keep a) v)) rest'
+      ∙ ap (set (entries_of ns) f.stream) (after ∙ ap done mid ∙ steps ∙ ap (λ s. step (shape_at p f.stream) p.limit s (kept f.keep a) v) at)
+      ∙ ap (λ l. set l f.stream (step (shape_at p f.stream) p.limit (series_at l f.stream) (kept f.keep a) v)) rest
+
+-- an element that was read there
+pub read-there : {X : Type 0} (xs : List X) (i : ℕ) (x : X) → i < length xs → x ≡ get_or xs i x → slice_get xs i ≡ Some x
+read-there [] i x l e = absurd (omega arith)
+read-there (y ∷ xs) zero x l e = ap (λ z. Some z) (sym e)
+read-there (y ∷ xs) (suc i) x l e = read-there xs i x (omega arith) e
+
+-- two reads of an element
+pub same-read : {X : Type 0} (xs : List X) (i : ℕ) (x y : X) → i < length xs → x ≡ get_or xs i x → y ≡ get_or xs i y → y ≡ x
+same-read xs i x y l e h = read xs i x y (read-there xs i x l e) h
+
+-- a list of no feeds
+pub no-feeds : (fs : List Feed) → (length fs == 0) ≡ true → fs ≡ []
+no-feeds [] h = refl
+no-feeds (f ∷ fs) h = let k = (unsigned_Decides (length (f ∷ fs)) 0).0 h in absurd (omega arith)
+
+pub if_some_self : {X : Type 0} (o x : Option X) → o ≡ x → IfSome o (λ i. x ≡ Some i)
+if_some_self None x e = tt
+if_some_self (Some i) x e = sym e
 
 pub on_err : {T E : Type 0} (P : Type 0) (r : Result T E) → P → OnErr r P
 on_err P (Ok x) p = tt
 on_err P (Err e) p = p
+
+pub if_err_so : {T E : Type 0} (P : Type 0) (Q : E → Type 0) (r : Result T E) → P → IfErr r (λ e. Q e → P)
+if_err_so P Q (Ok x) p = tt
+if_err_so P Q (Err e) p = λ _. p
+
+pub on_err_map : {T E : Type 0} (P Q : Type 0) (r : Result T E) → (P → Q) → OnErr r P → OnErr r Q
+on_err_map P Q (Ok x) f p = tt
+on_err_map P Q (Err e) f p = f p
 
 pub on_ok : {T E : Type 0} (P Q : Type 0) (r : Result T E) → (P → Q) → OnOk r P → OnOk r Q
 on_ok P Q (Ok x) f p = f p
@@ -143,19 +218,6 @@ on_ok P Q (Err e) f p = tt
 pub if_err : {T E : Type 0} (P Q : E → Type 0) (r : Result T E) → ((e : E) → P e → Q e) → IfErr r P → IfErr r Q
 if_err P Q (Ok x) f p = tt
 if_err P Q (Err e) f p = f e p
-
-pub from_err : {T E : Type 0} (P : Type 0) (Q : E → Type 0) (r : Result T E) → OnErr r P → IfErr r (λ e. Q e → P)
-from_err P Q (Ok x) p = tt
-from_err P Q (Err e) p = λ _. p
-
-pub at_some : {X : Type 0} (P : X → Type 0) (o : Option X) (x : X) → o ≡ Some x → IfSome o P → P x
-at_some P o x e h = let k : IfSome (Some x) P = subst (λ o. IfSome o P) e h in k
-
--- memory was had so far, and here
-pub still-had : {X : Type 0} (short : Bool) (o : Option X) (b : Bool) → short ≡ false → is_some o ≡ not b → IsSome o → (short || b) ≡ false
-still-had short None b h e s = absurd (true≢false (sym s))
-still-had short (Some x) true h e s = absurd (true≢false e)
-still-had short (Some x) false h e s = ap (λ s. s || false) h
 
 pub sound-either : {T E : Type 0} (r : Result T E) (ss : List Stream) (before after now : List Points) → OnOk r (now ≡ after) → OnErr r (now ≡ before) → AllSound ss before → AllSound ss after → AllSound ss now
 sound-either (Ok x) ss before after now ok err s k = subst (AllSound ss) (sym ok) k

@@ -15,7 +15,7 @@ use Rattle.agg_kit.specs.Entries.{Entry, Arrivals, brought, arrivals}
 use Rattle.agg_kit.specs.Feeding.{own_sets, goes_to, placed, fed}
 use Rattle.agg_kit.specs.Feeds.{series_at, shape_at, leaves_range, first_out}
 use Rattle.agg_kit.specs.Payloads.{payload_of, is_out_of_range}
-use Rattle.agg_kit.specs.Refusals.{is_negative_for, overflows, refused, refused_by}
+use Rattle.agg_kit.specs.Refusals.{is_negative_for, overflows, refused, refused_by, refused_in}
 use Rattle.agg_kit.specs.Rounds.{values_of, StandsFor}
 use Rattle.agg_kit.specs.Steps.{place, payload_after}
 use Rattle.agg_kit.specs.Tallies.{Points, Tallied}
@@ -154,29 +154,28 @@ or-nothing None = refl
 or-nothing (Some x) = refl
 
 -- no instrument, and a value below 0, by the points
-pub by-gone : (p : Planned) (ss : List Points) (e : Entry) → is_none (kind_of p e.instrument) ≡ true → refused_by p ss e ≡ Some faults.NoInstrument
-by-gone p ss e n =
-    ap (λ b. first (when b faults.NoInstrument ∷ when (is_negative_for (kind_of p e.instrument) e.value) faults.Negative ∷ first_out p e.attrs e.value ss (feeds_of p e.instrument) ∷ [])) n
+pub in-gone : (p : Planned) (ss : List Points) (e : Entry) (fs : List Feed) → is_none (kind_of p e.instrument) ≡ true → refused_in p ss e fs ≡ Some faults.NoInstrument
+in-gone p ss e fs n =
+    ap (λ b. first (when b faults.NoInstrument ∷ when (is_negative_for (kind_of p e.instrument) e.value) faults.Negative ∷ first_out p e.attrs e.value ss fs ∷ [])) n
 
-pub by-negative : (p : Planned) (ss : List Points) (e : Entry) → is_none (kind_of p e.instrument) ≡ false → is_negative_for (kind_of p e.instrument) e.value ≡ true → refused_by p ss e ≡ Some faults.Negative
-by-negative p ss e n b =
-    ap (λ c. first (when c faults.NoInstrument ∷ when (is_negative_for (kind_of p e.instrument) e.value) faults.Negative ∷ first_out p e.attrs e.value ss (feeds_of p e.instrument) ∷ [])) n
-    ∙ ap (λ c. first (when c faults.Negative ∷ first_out p e.attrs e.value ss (feeds_of p e.instrument) ∷ [])) b
+pub in-negative : (p : Planned) (ss : List Points) (e : Entry) (fs : List Feed) → is_none (kind_of p e.instrument) ≡ false → is_negative_for (kind_of p e.instrument) e.value ≡ true → refused_in p ss e fs ≡ Some faults.Negative
+in-negative p ss e fs n b =
+    ap (λ c. first (when c faults.NoInstrument ∷ when (is_negative_for (kind_of p e.instrument) e.value) faults.Negative ∷ first_out p e.attrs e.value ss fs ∷ [])) n
+    ∙ ap (λ c. first (when c faults.Negative ∷ first_out p e.attrs e.value ss fs ∷ [])) b
 
 -- past these two, it is refused as the first point that would be out of range says
-pub by-points : (p : Planned) (ss : List Points) (e : Entry) → is_none (kind_of p e.instrument) ≡ false → is_negative_for (kind_of p e.instrument) e.value ≡ false
-    → refused_by p ss e ≡ first_out p e.attrs e.value ss (feeds_of p e.instrument)
-by-points p ss e n b =
-    ap (λ c. first (when c faults.NoInstrument ∷ when (is_negative_for (kind_of p e.instrument) e.value) faults.Negative ∷ first_out p e.attrs e.value ss (feeds_of p e.instrument) ∷ [])) n
-    ∙ ap (λ c. first (when c faults.Negative ∷ first_out p e.attrs e.value ss (feeds_of p e.instrument) ∷ [])) b
-    ∙ or-nothing (first_out p e.attrs e.value ss (feeds_of p e.instrument))
+pub in-points : (p : Planned) (ss : List Points) (e : Entry) (fs : List Feed) → is_none (kind_of p e.instrument) ≡ false → is_negative_for (kind_of p e.instrument) e.value ≡ false → refused_in p ss e fs ≡ first_out p e.attrs e.value ss fs
+in-points p ss e fs n b =
+    ap (λ c. first (when c faults.NoInstrument ∷ when (is_negative_for (kind_of p e.instrument) e.value) faults.Negative ∷ first_out p e.attrs e.value ss fs ∷ [])) n
+    ∙ ap (λ c. first (when c faults.Negative ∷ first_out p e.attrs e.value ss fs ∷ [])) b
+    ∙ or-nothing (first_out p e.attrs e.value ss fs)
 
-pub by-told : (t s : Tallied) (e : Entry) (fs : List Feed) → t ≡ s → fs ≡ feeds_of t.plan e.instrument → is_none (kind_of t.plan e.instrument) ≡ false → is_negative_for (kind_of t.plan e.instrument) e.value ≡ false
-    → refused_by s.plan s.series e ≡ first_out t.plan e.attrs e.value t.series fs
-by-told t s e fs same is n b =
-    ap (λ (x : Tallied). refused_by x.plan x.series e) (sym same)
-    ∙ by-points t.plan t.series e n b
-    ∙ ap (first_out t.plan e.attrs e.value t.series) (sym is)
+pub in-told : (t s : Tallied) (e : Entry) (some : List Feed → List Feed) (fs : List Feed) → t ≡ s → fs ≡ feeds_of t.plan e.instrument → is_none (kind_of t.plan e.instrument) ≡ false → is_negative_for (kind_of t.plan e.instrument) e.value ≡ false
+    → refused_in s.plan s.series e (some (feeds_of s.plan e.instrument)) ≡ first_out t.plan e.attrs e.value t.series (some fs)
+in-told t s e some fs same is n b =
+    ap (λ (x : Tallied). refused_in x.plan x.series e (some (feeds_of x.plan e.instrument))) (sym same)
+    ∙ in-points t.plan t.series e (some (feeds_of t.plan e.instrument)) n b
+    ∙ ap (λ (gs : List Feed). first_out t.plan e.attrs e.value t.series (some gs)) (sym is)
 
 -- the same by the recordings that a tally stands for
 pub refused-told : (t s : Tallied) (h : List Entry) (e : Entry) (fs : List Feed) → t ≡ s → StandsFor s h → AreFeeds (length t.plan.streams) (feeds_of t.plan e.instrument) → fs ≡ feeds_of t.plan e.instrument
@@ -185,5 +184,5 @@ pub refused-told : (t s : Tallied) (h : List Entry) (e : Entry) (fs : List Feed)
 refused-told t s h e fs same stands fit is n b =
     ap (λ (x : Tallied). refused x.plan h e) (sym same)
     ∙ refused-is t h e (subst (λ (x : Tallied). StandsFor x h) (sym same) stands) fit
-    ∙ by-points t.plan t.series e n b
+    ∙ in-points t.plan t.series e (feeds_of t.plan e.instrument) n b
     ∙ ap (first_out t.plan e.attrs e.value t.series) (sym is)

@@ -8,8 +8,8 @@ use Rattle.attr_kit.specs.declared.attr_set.AttrSet.{AttrSet}
 use Rattle.point_kit.specs.declared.payload.Payload.{Payload}
 use Rattle.point_kit.specs.declared.shape.Shape.{Shape}
 use Rattle.agg_kit.specs.Feeding.{set_eq, overflow_set, is_own}
-use Rattle.agg_kit.specs.Payloads.{payload_of}
-use Rattle.agg_kit.specs.Slots.{payload_in}
+use Rattle.agg_kit.specs.Payloads.{payload_of, is_out_of_range}
+use Rattle.agg_kit.specs.FreshPoints.{payload_in}
 use Rattle.agg_kit.specs.Steps.{own_count, held, place, payload_at, payload_after, recorded, bounds_of, add_under, step}
 use Rattle.agg_kit.specs.Tallies.{Points}
 use Rattle.agg_kit.proofs.Rounds.{got}
@@ -30,6 +30,11 @@ pub payload-in-there : (shape : Shape) (es : Points) (b : AttrSet) (i : ℕ) →
 payload-in-there shape es b i p =
     let t = valued es i (within-held es b i p) in
     got (values_of es) i t.0 (payload_of shape []) t.1 ∙ sym (payload-there shape es b i t.0 p t.1)
+
+-- whether it stays in range with one more value
+pub range-there : (shape : Shape) (es : Points) (b : AttrSet) (v : ℤ) (i : ℕ) (out : Bool) → position (set_eq b) (keys_of es) ≡ Some i
+    → is_out_of_range (recorded (bounds_of shape) (payload_in shape es i) v) ≡ out → is_out_of_range (payload_after shape es b v) ≡ out
+range-there shape es b v i out p h = ap (λ (t : Payload). is_out_of_range (recorded (bounds_of shape) t v)) (sym (payload-in-there shape es b i p)) ∙ h
 
 pub add_under-held : (shape : Shape) (es : Points) (b : AttrSet) (v : ℤ) (i : ℕ) → position (set_eq b) (keys_of es) ≡ Some i
     → set_value_at es i (recorded (bounds_of shape) (payload_in shape es i) v) ≡ add_under shape es b v
@@ -86,8 +91,8 @@ unfolding own_count
 own_count-nil = refl
 
 -- what an insert of a set without a point leaves
-pub inserted : (es ns : Points) (a : AttrSet) (t : Payload) → lookup (set_eq a) es ≡ None → ns ≡ insert_entry set_eq es a t → ns ≡ es ++ (a, t) ∷ []
-inserted es ns a t n e = e ∙ insert_entry-absent set_eq a t es (absent_from_lookup (set_eq a) es n)
+pub inserted-new : (es ns : Points) (a : AttrSet) (t : Payload) → lookup (set_eq a) es ≡ None → ns ≡ insert_entry set_eq es a t → ns ≡ es ++ (a, t) ∷ []
+inserted-new es ns a t n e = e ∙ insert_entry-absent set_eq a t es (absent_from_lookup (set_eq a) es n)
 
 pub own_count-inserted : (es ns : Points) (a : AttrSet) (t : Payload) (own : Bool) → own ≡ is_own a → ns ≡ es ++ (a, t) ∷ [] → own_count ns ≡ own_count es + cond own 1 0
 own_count-inserted es ns a t own o e = ap own_count e ∙ own_count-push es a t ∙ ap (λ b. own_count es + cond b 1 0) (sym o)

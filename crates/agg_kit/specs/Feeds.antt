@@ -1,9 +1,10 @@
 -- What one recording does to the points of all streams.
-use Rattle.std.specs.Prelude.{◌≡◌, true, ℕ, ℤ, Bool, List, [], ◌∷◌, Option, find, map, slice_set, slice_index_or}
+use Rattle.std.specs.Prelude.{◌≡◌, true, false, cond, ℕ, ℤ, Bool, List, [], ◌∷◌, Option, find, map, slice_set, slice_index_or}
 use Rattle.std.specs.Option.{option_map, option_map_or}
 use Rattle.attr_kit.specs.declared.attr_set.AttrSet.{AttrSet}
 use Rattle.attr_kit.specs.Keeping.{kept}
-use Rattle.attr_kit.specs.declared.keep.Keep.TheVariants.{All}
+use Rattle.attr_kit.specs.declared.keep.Keep.{Keep}
+use Rattle.attr_kit.specs.declared.keep.Keep.TheVariants.{All, Only}
 use Rattle.point_kit.specs.declared.shape.Shape.{Shape}
 use Rattle.point_kit.specs.declared.shape.Shape.TheVariants as shapes
 use Rattle.plan_kit.specs.Plans.{Planned, feeds_of, stream_of}
@@ -46,6 +47,16 @@ applied p (f ∷ fs) a v ss =
 -- the points after an entry, which every feed of its instrument takes
 abbrev pub measured : Planned → List Points → Entry → List Points
 measured p ss e = applied p (feeds_of p e.instrument) e.attrs e.value ss
+
+-- whether all keys are kept
+abbrev pub keeps_all : Keep → Bool
+keeps_all All = true
+keeps_all (Only list) = false
+
+-- the feeds before the first that keeps a list of keys
+abbrev pub whole_first : List Feed → List Feed
+whole_first [] = []
+whole_first (f ∷ fs) = cond (keeps_all f.keep) (f ∷ whole_first fs) []
 
 -- each feed keeps all keys
 abbrev pub AllWhole : List Feed → Type 0

@@ -1,6 +1,7 @@
 pub mod Entries
 pub mod Feeds
 pub mod Feeding
+pub mod FreshPoints
 pub mod Kept
 pub mod Laws
 pub mod Parts
@@ -8,6 +9,5 @@ pub mod Payloads
 pub mod Refusals
 pub mod Rounds
 pub mod Sound
-pub mod Slots
 pub mod Steps
 pub mod Tallies

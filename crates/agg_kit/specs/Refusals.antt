@@ -39,11 +39,15 @@ measure_faults p h e =
 unfoldable pub refused : Planned → List Entry → Entry → Option MeasureFault
 refused p h e = first (measure_faults p h e)
 
--- the first refusal that fits a recording, by the points before it
-abbrev pub refused_by : Planned → List Points → Entry → Option MeasureFault
-refused_by p ss e =
+-- the first refusal that fits a recording into these feeds, by the points before it
+abbrev pub refused_in : Planned → List Points → Entry → List Feed → Option MeasureFault
+refused_in p ss e fs =
     first
     (when (is_none (kind_of p e.instrument)) faults.NoInstrument
     ∷ when (is_negative_for (kind_of p e.instrument) e.value) faults.Negative
-    ∷ first_out p e.attrs e.value ss (feeds_of p e.instrument)
+    ∷ first_out p e.attrs e.value ss fs
     ∷ [])
+
+-- the same into all feeds of its instrument
+abbrev pub refused_by : Planned → List Points → Entry → Option MeasureFault
+refused_by p ss e = refused_in p ss e (feeds_of p e.instrument)

@@ -7,7 +7,7 @@ ghost use Rattle.point_kit.specs.declared.shape.Shape.{Shape};
 ghost use Rattle.plan_kit.specs.Plans.{is_proper};
 ghost use Rattle.agg_kit.specs.Feeding.{set_eq, overflow_set, is_own};
 ghost use Rattle.agg_kit.specs.Payloads.{payload_of, is_out_of_range};
-ghost use Rattle.agg_kit.specs.Slots.{committed, payload_in, CanCommit};
+ghost use Rattle.agg_kit.specs.FreshPoints.{inserted, payload_in, CanInsert};
 ghost use Rattle.agg_kit.specs.Sound.{AreSound};
 ghost use Rattle.agg_kit.specs.Steps.{bounds_of, recorded, held, place, payload_after, add_under, own_count, step};
 
@@ -18,26 +18,12 @@ use point_kit::{Payload, Shape};
 use std::alloc::Global;
 use std::marker::Model;
 
-/// A recording that was checked and found room, for one stream.
+/// A point that a recording makes, and that there is room for.
 #[derive(Drop)]
-pub(crate) enum Slot {
-    /// It goes to the point at this place.
-    Held(usize),
-    /// It makes a new point of this set, which is counted to the limit if it is `own`.
-    Fresh {
-        set: AttrSet,
-        payload: Payload,
-        own: bool,
-    },
-}
-
-/// Why a recording can't be prepared.
-#[derive(Drop)]
-pub(crate) enum Want {
-    /// The point would be out of range.
-    Range,
-    /// There was no memory to look for the point.
-    Sight,
+pub(crate) struct Fresh {
+    set: AttrSet,
+    payload: Payload,
+    own: bool,
 }
 
 /// The points of one stream: attribute sets with their payloads, in first-seen order.
@@ -129,37 +115,37 @@ impl Series {
         own: bool,
         shape: &Shape,
         value: i64,
-    ) -> Result<Slot, NoMemory>
+    ) -> Result<Fresh, NoMemory>
         requires own { own ≡ is_own set.now }
         requires absent { lookup (set_eq set.now) self.old.entries ≡ None }
         requires proper { IsTrue (is_proper shape.now) }
         ensures entries { self.new.entries ≡ self.old.entries }
-        ensures ready { IfOk result (λ slot. CanCommit shape.now value slot self.new) }
-        ensures slot { IfOk result (λ slot. committed shape.now value slot self.old.entries ≡ add_under shape.now self.old.entries set.now value) }
+        ensures ready { IfOk result (λ fresh. CanInsert fresh self.new) }
+        ensures point { IfOk result (λ fresh. inserted fresh self.old.entries ≡ add_under shape.now self.old.entries set.now value) }
     {
         let alloc = *self.points.allocator();
         let mut payload = empty(alloc, shape)?;
         add(&mut payload, shape, value);
         let set = set.try_copy()?;
         self.points.reserve(1)?;
-        Ok(Slot::Fresh { set, payload, own })
+        Ok(Fresh { set, payload, own })
     }
 
-    /// Makes room for a new point of the set that a set feeds, which holds the value.
-    fn fresh(
+    /// Makes room for a new point of the set that a set feeds, which holds the value. The points stay.
+    pub(crate) fn fresh(
         &mut self,
         limit: u64,
         overflow: &AttrSet,
         set: &AttrSet,
         shape: &Shape,
         value: i64,
-    ) -> Result<Slot, NoMemory>
+    ) -> Result<Fresh, NoMemory>
         requires overflow { overflow.now ≡ overflow_set }
         requires absent { lookup (set_eq (place limit self.old.entries set.now)) self.old.entries ≡ None }
         requires proper { IsTrue (is_proper shape.now) }
         ensures entries { self.new.entries ≡ self.old.entries }
-        ensures ready { IfOk result (λ slot. CanCommit shape.now value slot self.new) }
-        ensures slot { IfOk result (λ slot. committed shape.now value slot self.old.entries ≡ step shape.now limit self.old.entries set.now value) }
+        ensures ready { IfOk result (λ fresh. CanInsert fresh self.new) }
+        ensures point { IfOk result (λ fresh. inserted fresh self.old.entries ≡ step shape.now limit self.old.entries set.now value) }
     {
         if self.has_room(limit) {
             let own = *set != *overflow;
@@ -169,58 +155,17 @@ impl Series {
         }
     }
 
-    /// Checks a recording and makes room for it, or answers none where there is no memory for a new point. The points stay.
-    pub(crate) fn prepare(
-        &mut self,
-        limit: u64,
-        overflow: &AttrSet,
-        set: &AttrSet,
-        shape: &Shape,
-        value: i64,
-    ) -> Result<Option<Slot>, Want>
-        requires overflow { overflow.now ≡ overflow_set }
-        requires proper { IsTrue (is_proper shape.now) }
-        ensures entries { self.new.entries ≡ self.old.entries }
-        ensures ready { IfOk result (λ slot. IfSome slot (λ slot. CanCommit shape.now value slot self.new)) }
-        ensures slot { IfOk result (λ slot. IfSome slot (λ slot. committed shape.now value slot self.old.entries ≡ step shape.now limit self.old.entries set.now value)) }
-        ensures ok { OnOk result (is_out_of_range (payload_after shape.now self.old.entries (place limit self.old.entries set.now) value) ≡ false) }
-        ensures range { OnErr result (is_out_of_range (payload_after shape.now self.old.entries (place limit self.old.entries set.now) value) ≡ true) }
-        ensures sight { IfErr result (λ want. want ≡ Want.Range) }
-        // A point that is there takes no memory.
-        ensures held { held self.old.entries (place limit self.old.entries set.now) ≡ true → IfOk result (λ slot. IsSome slot) }
+    /// Adds a new point.
+    pub(crate) fn insert(&mut self, fresh: Fresh)
+        requires ready { CanInsert fresh self.old }
+        ensures { self.new.entries ≡ inserted fresh self.old.entries }
     {
-        match self.find(limit, overflow, set) {
-            Some(index) => {
-                if self.takes(index, value) {
-                    Ok(Some(Slot::Held(index)))
-                } else {
-                    Err(Want::Range)
-                }
-            }
-            None => match self.fresh(limit, overflow, set, shape, value) {
-                Ok(slot) => Ok(Some(slot)),
-                Err(_) => Ok(None),
-            },
-        }
-    }
-
-    /// Does what was prepared.
-    pub(crate) fn commit(&mut self, slot: Slot, shape: &Shape, value: i64)
-        requires ready { CanCommit shape.now value slot self.old }
-        requires sound { AreSound shape.now self.old.entries }
-        requires proper { IsTrue (is_proper shape.now) }
-        ensures { self.new.entries ≡ committed shape.now value slot self.old.entries }
-    {
-        match slot {
-            Slot::Held(index) => self.add(index, shape, value),
-            Slot::Fresh { set, payload, own } => {
-                // `len` is called for its bound, which the proof cites.
-                let _len = self.points.len();
-                self.points.insert(set, payload).unwrap();
-                if own {
-                    self.own += 1;
-                }
-            }
+        let Fresh { set, payload, own } = fresh;
+        // `len` is called for its bound, which the proof cites.
+        let _len = self.points.len();
+        self.points.insert(set, payload).unwrap();
+        if own {
+            self.own += 1;
         }
     }
 

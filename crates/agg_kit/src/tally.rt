@@ -1,22 +1,21 @@
 //! The points of all streams of a plan, as recordings come in.
-ghost use Rattle.std.specs.Prelude.{◌≡◌, ◌≢◌, ◌<◌, ◌++◌, ◌∷◌, [], ℕ, List, length, map, replicate, slice_get, slice_index_or, Some, None, true, false, IfOk, IfErr, IfSome, OnOk, OnErr, IsSome, IsTrue};
-ghost use Rattle.std.specs.Option.{option_map};
+ghost use Rattle.std.specs.Prelude.{◌≡◌, ◌≢◌, ◌<◌, ◌++◌, ◌∷◌, [], ℕ, List, length, map, position, replicate, slice_get, slice_index_or, Some, None, true, false, IfOk, IfErr, IfSome, OnOk, OnErr, IsSome, IsTrue};
+ghost use Rattle.std.specs.Map.{keys_of};
+ghost use Rattle.std.specs.Option.{option_map, unwrap_or};
 ghost use Rattle.plan_kit.specs.Plans.{feeds_of, kind_of, is_proper, AreFeeds, lacks};
 ghost use Rattle.attr_kit.specs.Keeping.{kept};
 ghost use Rattle.attr_kit.specs.declared.keep.Keep.TheVariants as keeps;
 ghost use Rattle.agg_kit.specs.Entries.{Entry, entry_of};
-ghost use Rattle.agg_kit.specs.Feeding.{overflow_set};
-ghost use Rattle.agg_kit.specs.Feeds.{entries_of, series_at, shape_at, first_out, applied, measured, AllWhole, AllHeld};
+ghost use Rattle.agg_kit.specs.Feeding.{overflow_set, set_eq};
+ghost use Rattle.agg_kit.specs.Feeds.{entries_of, series_at, shape_at, first_out, applied, measured, whole_first, AllWhole, AllHeld};
 ghost use Rattle.agg_kit.specs.Laws.{SumsAddUp, CountsAddUp, IsLimited, OwnPointsStay, FedGrows, RoundsHaveFed};
-ghost use Rattle.agg_kit.specs.Payloads.{is_out_of_range};
-ghost use Rattle.agg_kit.specs.Refusals.{is_negative_for, refused, refused_by};
+ghost use Rattle.agg_kit.specs.Refusals.{is_negative_for, refused, refused_by, refused_in};
 ghost use Rattle.agg_kit.specs.Rounds.{StandsFor};
-ghost use Rattle.agg_kit.specs.Slots.{committed, CanCommit};
 ghost use Rattle.agg_kit.specs.Sound.{AllSound};
 ghost use Rattle.agg_kit.specs.Steps.{held, place, payload_after, step};
 
 use crate::MeasureFault;
-use crate::series::{Series, Slot, Want};
+use crate::series::Series;
 use attr_kit::{AttrSet, AttrValue, Keep, NoMemory, Txt};
 use plan_kit::{Feed, Kind, Plan};
 use point_kit::{Payload, Shape};
@@ -89,6 +88,8 @@ impl Tally {
         ensures fits { OnOk result (refused_by self.old.plan self.old.series (entry_of instrument attrs.now value) ≡ None) }
         ensures told { IfErr result (λ f. f ≢ MeasureFault.NoMemory → refused_by self.old.plan self.old.series (entry_of instrument attrs.now value) ≡ Some f) }
         ensures last { AllWhole (feeds_of self.old.plan instrument) → IfErr result (λ f. f ≡ MeasureFault.NoMemory → refused_by self.old.plan self.old.series (entry_of instrument attrs.now value) ≡ None) }
+        // Where a feed keeps a list of keys, what it keeps takes memory; the feeds before the first such feed are in range.
+        ensures short { IfErr result (λ f. f ≡ MeasureFault.NoMemory → refused_in self.old.plan self.old.series (entry_of instrument attrs.now value) (whole_first (feeds_of self.old.plan instrument)) ≡ None) }
     {
         let Some(feeds) = self.plan.feeds(instrument) else {
             return Err(MeasureFault::NoInstrument);
@@ -103,7 +104,6 @@ impl Tally {
             feeds,
             attrs,
             value,
-            false,
         )
     }
 
@@ -212,38 +212,80 @@ fn shape_of(plan: &Plan, stream: usize) -> &Shape
     &plan.stream(stream).unwrap().shape
 }
 
-// Checks a recording in one stream and makes room for it, or answers none where there is no memory for a new point.
-fn prepare_feed(
-    plan: &Plan,
-    overflow: &AttrSet,
-    series: &mut Series,
-    feed: &Feed,
-    attrs: &AttrSet,
-    value: i64,
-) -> Result<Option<Slot>, Want>
-    requires overflow { overflow.now ≡ overflow_set }
-    requires stream { feed.now.stream < length plan.now.streams }
-    ensures entries { series.new.entries ≡ series.old.entries }
-    ensures ready { IfOk result (λ slot. IfSome slot (λ slot. CanCommit (shape_at plan.now feed.now.stream) value slot series.new)) }
-    ensures slot { IfOk result (λ slot. IfSome slot (λ slot. committed (shape_at plan.now feed.now.stream) value slot series.old.entries ≡ step (shape_at plan.now feed.now.stream) plan.now.limit series.old.entries (kept feed.now.keep attrs.now) value)) }
-    ensures ok { OnOk result (is_out_of_range (payload_after (shape_at plan.now feed.now.stream) series.old.entries (place plan.now.limit series.old.entries (kept feed.now.keep attrs.now)) value) ≡ false) }
-    ensures range { IfErr result (λ want. want ≡ Want.Range → is_out_of_range (payload_after (shape_at plan.now feed.now.stream) series.old.entries (place plan.now.limit series.old.entries (kept feed.now.keep attrs.now)) value) ≡ true) }
-    ensures sight { feed.now.keep ≡ keeps.All → IfErr result (λ want. want ≡ Want.Range) }
-    ensures held { feed.now.keep ≡ keeps.All → held series.old.entries (place plan.now.limit series.old.entries attrs.now) ≡ true → IfOk result (λ slot. IsSome slot) }
+// The set that a feed keeps of the attributes, or none where it keeps them all: they are not copied.
+fn restricted(attrs: &AttrSet, keep: &Keep) -> Result<Option<AttrSet>, NoMemory>
+    ensures value { IfOk result (λ set. unwrap_or set attrs.now ≡ kept keep.now attrs.now) }
+    ensures no_memory { OnErr result (keep.now ≢ keeps.All) }
 {
-    let limit = plan.limit();
-    let shape = shape_of(plan, feed.stream);
-    match &feed.keep {
-        Keep::All => series.prepare(limit, overflow, attrs, shape, value),
-        Keep::Only(_) => match attrs.kept(&feed.keep) {
-            Ok(set) => series.prepare(limit, overflow, &set, shape, value),
-            Err(_) => Err(Want::Sight),
-        },
+    match keep {
+        Keep::All => Ok(None),
+        Keep::Only(_) => Ok(Some(attrs.kept(keep)?)),
     }
 }
 
-/// Records a value in every feed's stream, or in none. `short` says that an earlier feed found no memory.
+// That set, or the attributes where there is none.
+fn chosen<'a>(only: &'a Option<AttrSet>, attrs: &'a AttrSet) -> &'a AttrSet
+    ensures { result.now ≡ unwrap_or only.now attrs.now }
+{
+    match only {
+        Some(set) => set,
+        None => attrs,
+    }
+}
+
+// The place of the point that a feed reaches, if the feed keeps all keys and the point is there.
+fn place_of(
+    plan: &Plan,
+    overflow: &AttrSet,
+    points: &Series,
+    feed: &Feed,
+    attrs: &AttrSet,
+) -> Option<usize>
+    requires { overflow.now ≡ overflow_set }
+    ensures { IfSome result (λ i. position (set_eq (place plan.now.limit points.now.entries (kept feed.now.keep attrs.now))) (keys_of points.now.entries) ≡ Some i) }
+{
+    match &feed.keep {
+        Keep::All => points.find(plan.limit(), overflow, attrs),
+        Keep::Only(_) => None,
+    }
+}
+
+// Records a value in every feed's stream, or in none. A lone feed whose point is there needs the point's place alone.
 fn record(
+    plan: &Plan,
+    overflow: &AttrSet,
+    series: &mut Vec<Series>,
+    feeds: &[Feed],
+    attrs: &AttrSet,
+    value: i64,
+) -> Result<(), MeasureFault>
+    requires overflow { overflow.now ≡ overflow_set }
+    requires feeds { AreFeeds (length series.old.items) feeds.now }
+    requires sound { AllSound plan.now.streams (entries_of series.old.items) }
+    ensures ok { OnOk result (entries_of series.new.items ≡ applied plan.now feeds.now attrs.now value (entries_of series.old.items)) }
+    ensures fits { OnOk result (first_out plan.now attrs.now value (entries_of series.old.items) feeds.now ≡ None) }
+    ensures unchanged { OnErr result (entries_of series.new.items ≡ entries_of series.old.items) }
+    ensures err { IfErr result (λ f. f ≢ MeasureFault.NoMemory → first_out plan.now attrs.now value (entries_of series.old.items) feeds.now ≡ Some f) }
+    ensures no_memory { IfErr result (λ f. f ≡ MeasureFault.NoMemory → first_out plan.now attrs.now value (entries_of series.old.items) (whole_first feeds.now) ≡ None) }
+    ensures held { AllHeld plan.now feeds.now attrs.now (entries_of series.old.items) → IfErr result (λ f. f ≢ MeasureFault.NoMemory) }
+{
+    if let Some((feed, rest)) = feeds.split_first()
+        && rest.is_empty()
+        && let Some(place) = place_of(plan, overflow, &series[feed.stream], feed, attrs)
+    {
+        let shape = shape_of(plan, feed.stream);
+        let lone = &mut series[feed.stream];
+        if !lone.takes(place, value) {
+            return Err(MeasureFault::Overflow(feed.stream));
+        }
+        lone.add(place, shape, value);
+        return Ok(());
+    }
+    record_each(plan, overflow, series, feeds, attrs, value, false)
+}
+
+// Records a value in every feed's stream, or in none. `short` says that an earlier feed found no memory.
+fn record_each(
     plan: &Plan,
     overflow: &AttrSet,
     series: &mut Vec<Series>,
@@ -260,7 +302,7 @@ fn record(
     ensures had { OnOk result (short ≡ false) }
     ensures unchanged { OnErr result (entries_of series.new.items ≡ entries_of series.old.items) }
     ensures err { IfErr result (λ f. f ≢ MeasureFault.NoMemory → first_out plan.now attrs.now value (entries_of series.old.items) feeds.now ≡ Some f) }
-    ensures no_memory { AllWhole feeds.now → IfErr result (λ f. f ≡ MeasureFault.NoMemory → first_out plan.now attrs.now value (entries_of series.old.items) feeds.now ≡ None) }
+    ensures no_memory { IfErr result (λ f. f ≡ MeasureFault.NoMemory → first_out plan.now attrs.now value (entries_of series.old.items) (whole_first feeds.now) ≡ None) }
     ensures held { short ≡ false → AllHeld plan.now feeds.now attrs.now (entries_of series.old.items) → IfErr result (λ f. f ≢ MeasureFault.NoMemory) }
     ensures len { length series.new.items ≡ length series.old.items }
     ensures others { (m : ℕ) → lacks m feeds.now → slice_get series.new.items m ≡ slice_get series.old.items m }
@@ -272,17 +314,24 @@ fn record(
             Ok(())
         };
     };
+    let only = restricted(attrs, &feed.keep)?;
+    let set = chosen(&only, attrs);
+    let limit = plan.limit();
+    let shape = shape_of(plan, feed.stream);
     let points = &mut series[feed.stream];
-    let slot = match prepare_feed(plan, overflow, points, feed, attrs, value) {
-        Ok(slot) => slot,
-        Err(Want::Range) => return Err(MeasureFault::Overflow(feed.stream)),
-        Err(Want::Sight) => return Err(MeasureFault::NoMemory),
+    let Some(place) = points.find(limit, overflow, set) else {
+        let Ok(fresh) = points.fresh(limit, overflow, set, shape, value) else {
+            // It is refused, and the feeds that follow say why.
+            return record_each(plan, overflow, series, rest, attrs, value, true);
+        };
+        record_each(plan, overflow, series, rest, attrs, value, short)?;
+        series[feed.stream].insert(fresh);
+        return Ok(());
     };
-    let short = short | slot.is_none();
-    record(plan, overflow, series, rest, attrs, value, short)?;
-    if let Some(slot) = slot {
-        let points = &mut series[feed.stream];
-        points.commit(slot, shape_of(plan, feed.stream), value);
+    if !points.takes(place, value) {
+        return Err(MeasureFault::Overflow(feed.stream));
     }
+    record_each(plan, overflow, series, rest, attrs, value, short)?;
+    series[feed.stream].add(place, shape, value);
     Ok(())
 }

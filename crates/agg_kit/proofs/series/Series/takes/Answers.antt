@@ -3,7 +3,7 @@ use Rattle.std.specs.Map.{values_of}
 use Rattle.std.proofs.lemmas.Int.{to_z-of_z}
 use Rattle.point_kit.specs.declared.payload.Payload.{Payload}
 use Rattle.agg_kit.specs.Payloads.{payload_of, is_out_of_range}
-use Rattle.agg_kit.specs.Slots.{payload_in}
+use Rattle.agg_kit.specs.FreshPoints.{payload_in}
 use Rattle.agg_kit.specs.Steps.{Stored, bounds_of, recorded}
 use Rattle.agg_kit.proofs.Rounds.{got}
 use Rattle.agg_kit.proofs.series.Series.takes.Goals as goal

@@ -4,14 +4,14 @@ use Rattle.plan_kit.specs.Plans.{Planned, feeds_of, kind_of, AreFeeds, AllRise}
 use Rattle.plan_kit.specs.declared.feed.Feed.{Feed}
 use Rattle.plan_kit.specs.declared.instrument.Kind.{Kind}
 use Rattle.agg_kit.specs.Entries.{Entry, entry_of}
-use Rattle.agg_kit.specs.Feeds.{entries_of, applied, first_out, AllWhole}
-use Rattle.agg_kit.specs.Refusals.{is_negative_for, refused, refused_by}
+use Rattle.agg_kit.specs.Feeds.{entries_of, applied, first_out, whole_first, AllWhole}
+use Rattle.agg_kit.specs.Refusals.{is_negative_for, refused, refused_by, refused_in}
 use Rattle.agg_kit.specs.Rounds.{StandsFor}
 use Rattle.agg_kit.specs.Tallies.{Tallied}
 use Rattle.agg_kit.specs.declared.fault.MeasureFault.{MeasureFault}
 use Rattle.agg_kit.specs.declared.fault.MeasureFault.TheVariants as faults
-use Rattle.agg_kit.proofs.Records.{stored-length, sound-applied, sound-either, rising-feeds, some-kind, on_ok, if_err}
-use Rattle.agg_kit.proofs.Refusals.{kind-there, kind-gone, refused-gone, refused-negative, refused-told, by-gone, by-negative, by-told}
+use Rattle.agg_kit.proofs.Records.{stored-length, sound-applied, sound-either, rising-feeds, some-kind, whole_first-whole, on_ok, if_err}
+use Rattle.agg_kit.proofs.Refusals.{kind-there, kind-gone, refused-gone, refused-negative, refused-told, in-gone, in-negative, in-told}
 use Rattle.agg_kit.proofs.Rounds.{stands-push}
 use Rattle.agg_kit.proofs.tally.Tally.measure.Goals as goal
 
@@ -27,10 +27,13 @@ returns-in_default-clause-told c = λ _.
     let t : Tallied = record { plan = c.self.inside.plan; series = entries_of c.self.inside.series.items } in
     let e : Entry = entry_of c.args.instrument c.args.attrs.now c.args.value in
     let gone = kind-gone t.plan c.args.instrument (λ l. absurd (true≢false (sym (c.in_default.ensures.variant.1 l)))) in
-    ap (λ (x : Tallied). refused_by x.plan x.series e) (sym c.self.view_is) ∙ by-gone t.plan t.series e gone
+    ap (λ (x : Tallied). refused_by x.plan x.series e) (sym c.self.view_is) ∙ in-gone t.plan t.series e (feeds_of t.plan e.instrument) gone
 
 pub returns-in_default-clause-last : goal.returns-in_default-clause-last
 returns-in_default-clause-last c = λ w n. absurd (cc)
+
+pub returns-in_default-clause-short : goal.returns-in_default-clause-short
+returns-in_default-clause-short c = λ n. absurd (cc)
 
 pub returns-in_default-clause-no_memory : goal.returns-in_default-clause-no_memory
 returns-in_default-clause-no_memory c = λ h s w n. absurd (cc)
@@ -53,10 +56,13 @@ returns-then-is_negative-clause-told c = λ _.
     let some = kind-there t.plan c.args.instrument (c.in-Some.ensures.variant.0 refl) in
     let negative = simp to_z-of_z at c.if-is_negative.ensures in
     ap (λ (x : Tallied). refused_by x.plan x.series e) (sym c.self.view_is)
-    ∙ by-negative t.plan t.series e some (sym (negative ∙ ap (λ (k : Option Kind). is_negative_for k c.args.value) c.kind.ensures.value))
+    ∙ in-negative t.plan t.series e (feeds_of t.plan e.instrument) some (sym (negative ∙ ap (λ (k : Option Kind). is_negative_for k c.args.value) c.kind.ensures.value))
 
 pub returns-then-is_negative-clause-last : goal.returns-then-is_negative-clause-last
 returns-then-is_negative-clause-last c = λ w n. absurd (cc)
+
+pub returns-then-is_negative-clause-short : goal.returns-then-is_negative-clause-short
+returns-then-is_negative-clause-short c = λ n. absurd (cc)
 
 pub returns-then-is_negative-clause-no_memory : goal.returns-then-is_negative-clause-no_memory
 returns-then-is_negative-clause-no_memory c = λ h s w n. absurd (cc)
@@ -124,7 +130,8 @@ returns-clause-no_memory c = λ h s whole.
     let rises : is_negative_for (kind_of t.plan c.args.instrument) c.args.value ≡ false = sym (negative ∙ ap (λ (k : Option Kind). is_negative_for k c.args.value) c.kind.ensures.value) in
     let first = refused-told t c.args.self.now h e c.in-Some.feeds.now c.self.view_is s c.in-Some.ensures.feeds c.in-Some.ensures.value some rises in
     let all : AllWhole c.in-Some.feeds.now = subst AllWhole (sym c.in-Some.ensures.value) (subst (λ (x : Tallied). AllWhole (feeds_of x.plan c.args.instrument)) (sym c.self.view_is) whole) in
-    if_err _ _ c.record.result (λ f told n. first ∙ told n) ((simp to_z-of_z at c.record.ensures.no_memory) all)
+    let same = ap (first_out t.plan e.attrs e.value t.series) (sym (whole_first-whole c.in-Some.feeds.now all)) in
+    if_err _ _ c.record.result (λ f told n. first ∙ same ∙ told n) (simp to_z-of_z at c.record.ensures.no_memory)
 
 pub returns-clause-applied : goal.returns-clause-applied
 returns-clause-applied c =
@@ -142,7 +149,7 @@ returns-clause-fits c =
     let some = kind-there t.plan c.args.instrument (c.in-Some.ensures.variant.0 refl) in
     let negative = simp to_z-of_z at c.if-is_negative.ensures in
     let rises : is_negative_for (kind_of t.plan c.args.instrument) c.args.value ≡ false = sym (negative ∙ ap (λ (k : Option Kind). is_negative_for k c.args.value) c.kind.ensures.value) in
-    let first = by-told t c.args.self.now e c.in-Some.feeds.now c.self.view_is c.in-Some.ensures.value some rises in
+    let first = in-told t c.args.self.now e (λ fs. fs) c.in-Some.feeds.now c.self.view_is c.in-Some.ensures.value some rises in
     on_ok _ _ c.record.result (λ ok. first ∙ ok) (simp to_z-of_z at c.record.ensures.fits)
 
 pub returns-clause-told : goal.returns-clause-told
@@ -153,7 +160,7 @@ returns-clause-told c =
     let some = kind-there t.plan c.args.instrument (c.in-Some.ensures.variant.0 refl) in
     let negative = simp to_z-of_z at c.if-is_negative.ensures in
     let rises : is_negative_for (kind_of t.plan c.args.instrument) c.args.value ≡ false = sym (negative ∙ ap (λ (k : Option Kind). is_negative_for k c.args.value) c.kind.ensures.value) in
-    let first = by-told t c.args.self.now e c.in-Some.feeds.now c.self.view_is c.in-Some.ensures.value some rises in
+    let first = in-told t c.args.self.now e (λ fs. fs) c.in-Some.feeds.now c.self.view_is c.in-Some.ensures.value some rises in
     if_err _ _ c.record.result (λ f told n. first ∙ told n) (simp to_z-of_z at c.record.ensures.err)
 
 pub returns-clause-last : goal.returns-clause-last
@@ -164,6 +171,18 @@ returns-clause-last c = λ whole.
     let some = kind-there t.plan c.args.instrument (c.in-Some.ensures.variant.0 refl) in
     let negative = simp to_z-of_z at c.if-is_negative.ensures in
     let rises : is_negative_for (kind_of t.plan c.args.instrument) c.args.value ≡ false = sym (negative ∙ ap (λ (k : Option Kind). is_negative_for k c.args.value) c.kind.ensures.value) in
-    let first = by-told t c.args.self.now e c.in-Some.feeds.now c.self.view_is c.in-Some.ensures.value some rises in
+    let first = in-told t c.args.self.now e (λ fs. fs) c.in-Some.feeds.now c.self.view_is c.in-Some.ensures.value some rises in
     let all : AllWhole c.in-Some.feeds.now = subst AllWhole (sym c.in-Some.ensures.value) (subst (λ (x : Tallied). AllWhole (feeds_of x.plan c.args.instrument)) (sym c.self.view_is) whole) in
-    if_err _ _ c.record.result (λ f told n. first ∙ told n) ((simp to_z-of_z at c.record.ensures.no_memory) all)
+    let same = ap (first_out t.plan e.attrs e.value t.series) (sym (whole_first-whole c.in-Some.feeds.now all)) in
+    if_err _ _ c.record.result (λ f told n. first ∙ same ∙ told n) (simp to_z-of_z at c.record.ensures.no_memory)
+
+pub returns-clause-short : goal.returns-clause-short
+returns-clause-short c =
+    let t : Tallied = record { plan = c.self.inside.plan; series = entries_of c.self.inside.series.items } in
+    let e : Entry = entry_of c.args.instrument c.args.attrs.now c.args.value in
+    let fit : FitsSigned w64 c.args.value = c.ranges.value in
+    let some = kind-there t.plan c.args.instrument (c.in-Some.ensures.variant.0 refl) in
+    let negative = simp to_z-of_z at c.if-is_negative.ensures in
+    let rises : is_negative_for (kind_of t.plan c.args.instrument) c.args.value ≡ false = sym (negative ∙ ap (λ (k : Option Kind). is_negative_for k c.args.value) c.kind.ensures.value) in
+    let first = in-told t c.args.self.now e whole_first c.in-Some.feeds.now c.self.view_is c.in-Some.ensures.value some rises in
+    if_err _ _ c.record.result (λ f told n. first ∙ told n) (simp to_z-of_z at c.record.ensures.no_memory)
