@@ -1,5 +1,5 @@
 -- Pairs that are a set make that set, and no refusal fits them.
-use Rattle.std.proofs.Common.{◌≡◌, ℕ, List, Bool, true, false, not, None, ap, refl}
+use Rattle.std.proofs.Common.{◌≡◌, ℕ, List, not, None, ap, refl}
 use Rattle.attr_kit.proofs.Places.{nowhere_back}
 use Rattle.attr_kit.proofs.Putting.{attributes_rising}
 use Rattle.attr_kit.specs.Attributes.{AreAttributes, has_text}

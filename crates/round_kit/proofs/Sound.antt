@@ -1,12 +1,10 @@
 -- No refusal fits the points of a tally: each is sound in its stream, and no two are of one stream and one set.
-use Rattle.std.proofs.Common.{◌≡◌, ◌≢◌, ◌<◌, ◌&&◌, ◌||◌, ◌++◌, ℕ, zero, suc, Bool, true, false, List, [], ◌∷◌, Some, None, length, arith, refl, sym, ap, get_or, map, slice_get, cond}
-use Rattle.std.specs.Cmp.{IsEquivalence}
-use Rattle.std.specs.List.{All, AllByRecursion, IsDistinct, list_any}
+use Rattle.std.proofs.Common.{◌≡◌, ◌<◌, ◌&&◌, ◌||◌, ◌++◌, ℕ, zero, suc, Bool, true, false, List, [], ◌∷◌, Some, None, arith, refl, sym, ap, slice_get}
+use Rattle.std.specs.List.{All, AllByRecursion, IsDistinct}
 use Rattle.std.specs.Map.{keys_of}
 use Rattle.agg_kit.specs.Feeding.{set_eq, has_set}
 use Rattle.agg_kit.specs.Sound as tallied
 use Rattle.agg_kit.specs.Tallies.{Points}
-use Rattle.attr_kit.specs.declared.attr_set.AttrSet.{AttrSet}
 use Rattle.plan_kit.specs.Plans.{AreApart}
 use Rattle.point_kit.proofs.Sound.{fitting_builds}
 use Rattle.point_kit.specs.Exact.{exact_streams}

@@ -1,5 +1,5 @@
 -- The points of the first streams and of one more, and those of the first series and of one more.
-use Rattle.std.proofs.Common.{◌≡◌, ◌<◌, ◌+◌, ◌++◌, ◌∙◌, ℕ, zero, suc, List, [], ◌∷◌, Option, Some, None, length, take, refl, sym, ap, arith, append_assoc, append-nil, slice_get, subst}
+use Rattle.std.proofs.Common.{◌≡◌, ◌<◌, ◌+◌, ◌++◌, ◌∙◌, ℕ, zero, suc, List, [], ◌∷◌, Some, None, length, take, refl, sym, ap, arith, append_assoc, append-nil, slice_get, subst}
 use Rattle.std.specs.Prelude.{min, sum_by}
 use Rattle.std.specs.Option.{unwrap_or, option_map}
 use Rattle.std.proofs.lemmas.List.Sums.{sum_by_more}

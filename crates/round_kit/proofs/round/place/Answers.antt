@@ -1,4 +1,4 @@
-use Rattle.std.proofs.Common.{◌≡◌, ◌∙◌, ◌<◌, ◌≤◌, ◌++◌, ℕ, ap, sym, subst, map, take, length, arith}
+use Rattle.std.proofs.Common.{◌≡◌, ◌∙◌, ◌<◌, ◌++◌, ℕ, ap, sym, subst, map, take, length, arith}
 use Rattle.std.proofs.lemmas.List.{take_all}
 use Rattle.plan_kit.specs.Plans.{Planned}
 use Rattle.point_kit.specs.ExportFaults.{export_fault}

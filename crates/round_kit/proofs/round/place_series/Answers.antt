@@ -1,9 +1,8 @@
-use Rattle.std.proofs.Common.{◌≡◌, ◌∙◌, ◌<◌, ◌≤◌, ◌++◌, ℕ, List, Some, None, ap, sym, subst, map, take, length, slice_get}
+use Rattle.std.proofs.Common.{◌≡◌, ◌∙◌, ◌<◌, ◌≤◌, ◌++◌, ℕ, Some, ap, sym, subst, map, take, length}
 use Rattle.std.proofs.lemmas.List.{map-append, take_all}
 use Rattle.std.specs.Option.{unwrap_or}
 use Rattle.agg_kit.specs.Feeds.{series_at}
 use Rattle.plan_kit.specs.Plans.{Planned, stream_of as stream_at}
-use Rattle.point_kit.specs.declared.stream.Stream.{Stream}
 use Rattle.round_kit.specs.Placed.{stream_of}
 use Rattle.round_kit.specs.Rounds.{point_of, points_at}
 use Rattle.round_kit.proofs.Steps.{none_there, placed_more, points_len, series_there, some_same}

@@ -1,4 +1,4 @@
-use Rattle.std.proofs.Common.{◌≡◌, ◌<◌, ℕ, ap, sym, subst, map}
+use Rattle.std.proofs.Common.{◌≡◌, ◌<◌, ℕ, ap, subst, map}
 use Rattle.point_kit.proofs.Sound.{sound_time}
 use Rattle.round_kit.specs.Rounds.{Collected, point_of}
 use Rattle.round_kit.proofs.round.Round.time.Goals as goal
