@@ -1,2 +1,4 @@
 pub mod Following
 pub mod Refusals
+pub mod Sharing
+pub mod PlanFeeds

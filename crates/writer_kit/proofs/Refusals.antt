@@ -1,15 +1,18 @@
 -- When a writer refuses, by its parts.
-use Rattle.std.proofs.Common.{◌≡◌, ◌∙◌, ℕ, ◌<◌, ◌≤◌, Bool, true, false, List, [], ◌∷◌, None, Some, refl, sym}
+use Rattle.std.proofs.Common.{◌≡◌, ◌≢◌, ◌∙◌, ℕ, ◌<◌, ◌≤◌, Bool, true, false, List, [], ◌∷◌, Option, None, Some, Result, Ok, Err, IfErr, refl, sym, ap, subst}
 use Rattle.std.specs.Prelude.{nat_le}
+use Rattle.std.specs.Option.{option_map}
 use Rattle.std.proofs.lemmas.Bool.{le-leb, lt-leb, leb-false}
 use Rattle.attr_kit.specs.Refusing.{first, when}
 use Rattle.agg_kit.specs.Entries.{Entry}
-use Rattle.agg_kit.specs.Refusals.{refused}
+use Rattle.agg_kit.specs.Refusals.{refused, refused_by}
 use Rattle.agg_kit.specs.declared.fault.MeasureFault.{MeasureFault}
-use Rattle.writer_kit.specs.Refusals.{measure_fault, collect_fault, restart_fault}
+use Rattle.writer_kit.specs.Refusals.{measure_fault, fault_now, collect_fault, restart_fault}
 use Rattle.writer_kit.specs.Written.{Written}
 use Rattle.writer_kit.specs.declared.fault.CollectFault.TheVariants as collect
+use Rattle.writer_kit.specs.declared.fault.MeasureFault as measures
 use Rattle.writer_kit.specs.declared.fault.MeasureFault.TheVariants as measure
+use Rattle.agg_kit.specs.declared.fault.MeasureFault.TheVariants as tallies
 use Rattle.writer_kit.specs.declared.fault.RestartFault.TheVariants as restart
 
 pub measure_closed : (w : Written) (h : List Entry) (e : Entry) → w.closed ≡ true → measure_fault w h e ≡ Some measure.Closed
@@ -23,6 +26,37 @@ measure_refused w h e f c r = rw (c, r) refl
 pub measure_accepted : (w : Written) (h : List Entry) (e : Entry) → w.closed ≡ false → refused w.tally.plan h e ≡ None → measure_fault w h e ≡ None
 unfolding measure_fault
 measure_accepted w h e c r = rw (c, r) refl
+
+-- the same by the points
+pub now_closed : (w : Written) (e : Entry) → w.closed ≡ true → fault_now w e ≡ Some measure.Closed
+unfolding fault_now
+now_closed w e c = rw c refl
+
+pub now_refused : (w : Written) (e : Entry) (f : MeasureFault) → w.closed ≡ false → refused_by w.tally.plan w.tally.series e ≡ Some f → fault_now w e ≡ Some (measure.Refused f)
+unfolding fault_now
+now_refused w e f c r = rw (c, r) refl
+
+pub now_accepted : (w : Written) (e : Entry) → w.closed ≡ false → refused_by w.tally.plan w.tally.series e ≡ None → fault_now w e ≡ None
+unfolding fault_now
+now_accepted w e c r = rw (c, r) refl
+
+pub all_told : {R : Type 0} (w : Written) (e : Entry) (r : Result R measures.MeasureFault) (f : MeasureFault) → r ≡ Err (measure.Refused f) → w.closed ≡ false → (f ≢ tallies.NoMemory → refused_by w.tally.plan w.tally.series e ≡ Some f)
+    → IfErr r (λ g. g ≢ measure.Refused tallies.NoMemory → fault_now w e ≡ Some g)
+all_told w e r f is open_ told =
+    subst (λ x. IfErr x (λ g. g ≢ measure.Refused tallies.NoMemory → fault_now w e ≡ Some g)) (sym is) (λ other. now_refused w e f open_ (told (λ same. other (ap measure.Refused same))))
+
+pub none_told : {R F : Type 0} (r : Result R F) (x : R) (P : F → Type 0) → r ≡ Ok x → IfErr r P
+none_told r x P is = subst (λ y. IfErr y P) (sym is) tt
+
+-- where a recording is accepted, the writer is open, and nothing of the points refuses it
+pub now_open : (w : Written) (e : Entry) → fault_now w e ≡ None → (w.closed ≡ false) × (refused_by w.tally.plan w.tally.series e ≡ None)
+unfolding fault_now
+now_open w e none = by w.closed (refused_by w.tally.plan w.tally.series e) none
+  where
+    by : (b : Bool) (o : Option MeasureFault) → first (when b measure.Closed ∷ option_map (λ f. measure.Refused f) o ∷ []) ≡ None → (b ≡ false) × (o ≡ None)
+    by true o e = cc
+    by false (Some f) e = cc
+    by false None e = (refl, refl)
 
 pub collect_closed : (w : Written) (time : ℕ) → w.closed ≡ true → collect_fault w time ≡ Some collect.Closed
 unfolding collect_fault

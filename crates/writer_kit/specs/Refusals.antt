@@ -3,7 +3,7 @@ use Rattle.std.specs.Prelude.{ℕ, List, [], ◌∷◌, nat_le, Option}
 use Rattle.std.specs.Option.{option_map}
 use Rattle.attr_kit.specs.Refusing.{first, when}
 use Rattle.agg_kit.specs.Entries.{Entry}
-use Rattle.agg_kit.specs.Refusals.{refused}
+use Rattle.agg_kit.specs.Refusals.{refused, refused_by}
 use Rattle.writer_kit.specs.Written.{Written}
 use Rattle.writer_kit.specs.declared.fault.CollectFault.{CollectFault}
 use Rattle.writer_kit.specs.declared.fault.CollectFault.TheVariants as collect
@@ -15,6 +15,10 @@ use Rattle.writer_kit.specs.declared.fault.RestartFault.TheVariants as restart
 -- why a recording is refused where the writer's points stand for the recordings h: it is closed, or else what its tally refuses
 unfoldable pub measure_fault : Written → List Entry → Entry → Option MeasureFault
 measure_fault w h e = first (when w.closed measure.Closed ∷ option_map (λ f. measure.Refused f) (refused w.tally.plan h e) ∷ [])
+
+-- the same by the points of the writer
+unfoldable pub fault_now : Written → Entry → Option MeasureFault
+fault_now w e = first (when w.closed measure.Closed ∷ option_map (λ f. measure.Refused f) (refused_by w.tally.plan w.tally.series e) ∷ [])
 
 -- why a collection is refused: the writer is closed, or else the time is not after the last
 unfoldable pub collect_fault : Written → ℕ → Option CollectFault

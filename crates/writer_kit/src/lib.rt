@@ -6,17 +6,22 @@
 //! under a later start: what was recorded before is of an incarnation of its own. The times of an incarnation's
 //! collections rise, as later ones are refused otherwise. A [`Pace`] says when the next collection is due.
 //!
+//! A [`SharedWriter`] is a writer that threads record with and collect from, each by a seat of its own. Whatever they do at
+//! once, there is one history, and each round is that of all that the history has before it.
+//!
 //! Times are nanoseconds since the Unix epoch. What contracts cite stands in `specs/`: `Written` (what contracts see of a
-//! writer), `Refusals`, `Schedules` (the events that a writer accepts, and what is read off them), `Following` (what a
-//! writer is after them), `Pacing`.
+//! writer), `Refusals`, `Recording`, `Schedules` (the events that a writer accepts, and what is read off them), `Following`
+//! (what a writer is after them), `Shared` (the history of a shared writer), `Pacing`.
 #![tactic(auto)]
 
 mod fault;
 mod pace;
+mod shared;
 mod writer;
 
 pub use fault::{CollectFault, MeasureFault, RestartFault};
 pub use pace::{DEFAULT_INTERVAL, Pace};
+pub use shared::{SeatsOut, SharedWriter, WriterChange};
 pub use writer::Writer;
 
 #[cfg(test)]

@@ -6,7 +6,8 @@ ghost use Rattle.agg_kit.specs.Rounds.{StandsFor};
 ghost use Rattle.plan_kit.specs.Plans.{feeds_of};
 ghost use Rattle.round_kit.specs.Rounds.{points_of};
 ghost use Rattle.writer_kit.specs.Following.{Follows, round_of};
-ghost use Rattle.writer_kit.specs.Refusals.{measure_fault, collect_fault, restart_fault};
+ghost use Rattle.writer_kit.specs.Refusals.{measure_fault, fault_now, collect_fault, restart_fault};
+ghost use Rattle.writer_kit.specs.Recording.{recorded};
 ghost use Rattle.writer_kit.specs.Schedules.{Act, collected};
 ghost use Rattle.schedule_kit.specs.Schedule.Act.{Measured, Collected, Restarted};
 
@@ -104,7 +105,7 @@ impl Writer {
     ///
     /// Refuses, in this order: `Closed`; `Refused` with what the tally refuses, `NoMemory` last. A refusal changes
     /// nothing. O(feeds of the instrument times the size of the attributes and the bounds).
-    #[tactic(auto, using(crate::proofs::Refusals::measure_closed, crate::proofs::Refusals::measure_refused, crate::proofs::Refusals::measure_accepted))]
+    #[tactic(auto, using(crate::proofs::Refusals::measure_closed, crate::proofs::Refusals::measure_refused, crate::proofs::Refusals::measure_accepted, crate::proofs::Refusals::now_closed, crate::proofs::Refusals::now_refused, crate::proofs::Refusals::now_accepted))]
     pub fn measure(
         &mut self,
         instrument: usize,
@@ -116,6 +117,10 @@ impl Writer {
         ensures plan { OnOk result (self.new.tally.plan ≡ self.old.tally.plan) }
         ensures rest { OnOk result (self.new ≡ record self.old { tally = self.new.tally }) }
         ensures follows { OnOk result ((first : ℕ) (acts : List (Act Entry)) → Follows first acts self.old → Follows first (Measured (entry_of instrument attrs.now value) ∷ acts) self.new) }
+        // The same by the points alone, whatever they stand for.
+        ensures fits { OnOk result (fault_now self.old (entry_of instrument attrs.now value) ≡ None) }
+        ensures recorded { OnOk result (self.new ≡ recorded self.old (entry_of instrument attrs.now value)) }
+        ensures told { IfErr result (λ f. f ≢ MeasureFault.Refused TallyFault.NoMemory → fault_now self.old (entry_of instrument attrs.now value) ≡ Some f) }
         ensures err { IfErr result (λ f. f ≢ MeasureFault.Refused TallyFault.NoMemory → (h : List Entry) → StandsFor self.old.tally h → measure_fault self.old h (entry_of instrument attrs.now value) ≡ Some f) }
         // Points that are there take no memory where every feed keeps all keys.
         ensures held { AllHeld self.old.tally.plan (feeds_of self.old.tally.plan instrument) attrs.now self.old.tally.series → IfErr result (λ f. f ≢ MeasureFault.Refused TallyFault.NoMemory) }

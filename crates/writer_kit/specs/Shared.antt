@@ -1,0 +1,129 @@
+-- The history of a shared writer, and what it makes of the writer.
+use Rattle.std.specs.Prelude.{◌≡◌, ◌≢◌, ℕ, nat_le, false, cond, is_none, List, [], ◌∷◌, ◌++◌, Option, Some, None}
+use Rattle.agg_kit.specs.Entries.{Entry, entry_of}
+use Rattle.agg_kit.specs.Rounds.{StandsFor}
+use Rattle.attr_kit.specs.declared.attr_set.AttrSet.{AttrSet}
+use Rattle.round_kit.specs.Rounds.{points_of}
+use Rattle.round_kit.specs.Rounds as rounds
+use Rattle.turn_kit.specs.declared.note.Note.{Note}
+use Rattle.turn_kit.specs.declared.seat.Seat.{Seat}
+use Rattle.turn_kit.specs.Public.{IsOf, IsNoteOf, Enters, Looks, Exhausts, Refuses, opening, limit_of, seen, number}
+use Rattle.schedule_kit.specs.Schedule.{Act, Collection, collections}
+use Rattle.writer_kit.specs.Following.{Follows, round_of}
+use Rattle.writer_kit.specs.Recording.{recorded}
+use Rattle.writer_kit.specs.Refusals.{fault_now, collect_fault}
+use Rattle.writer_kit.specs.Written.{Written}
+use Rattle.writer_kit.specs.declared.fault.CollectFault.{CollectFault}
+use Rattle.writer_kit.specs.declared.fault.CollectFault.TheVariants as collect
+use Rattle.writer_kit.specs.declared.fault.MeasureFault.{MeasureFault}
+use Rattle.writer_kit.specs.declared.fault.MeasureFault.TheVariants as measure
+use Rattle.agg_kit.specs.declared.fault.MeasureFault.TheVariants as tallies
+use Rattle.writer_kit.specs.declared.shared.writer.SharedWriter.{SharedWriter}
+use Rattle.writer_kit.specs.declared.shared.change.WriterChange.{WriterChange}
+use Rattle.writer_kit.specs.declared.shared.change.WriterChange.TheVariants.{Measured, Collected}
+
+-- accepted changes, each with the number of the seat that made it, in their order
+abbrev pub History : Type 0
+History = List (ℕ × WriterChange)
+
+-- a writer after a change, as one thread makes it, none where the change is not accepted; an instrument's place fits 64 bits
+abbrev pub told : Written → WriterChange → Option Written
+told w (Measured i a v) = cond (nat_le i 18446744073709551615) (cond (is_none (fault_now w (entry_of i a v))) (Some (recorded w (entry_of i a v))) None) None
+told w (Collected time) = cond (is_none (collect_fault w time)) (Some (record w { last = time })) None
+
+-- the measured entries of a history, in its order
+abbrev pub also_measured : WriterChange → List Entry → List Entry
+also_measured (Measured i a v) es = entry_of i a v ∷ es
+also_measured (Collected time) es = es
+
+abbrev pub entries_of : History → List Entry
+entries_of [] = []
+entries_of (x ∷ xs) = also_measured x.1 (entries_of xs)
+
+-- a change as an event of a writer's schedule
+abbrev pub act_of : WriterChange → Act Entry
+act_of (Measured i a v) = Act.Measured (entry_of i a v)
+act_of (Collected time) = Act.Collected time false
+
+-- the events of a history behind earlier ones, the newest first
+abbrev pub acts_after : List (Act Entry) → History → List (Act Entry)
+acts_after earlier [] = earlier
+acts_after earlier (x ∷ xs) = acts_after (act_of x.1 ∷ earlier) xs
+
+-- What a history makes of the first writer: it stands for what that one stood for, followed by the measured entries, and the history's changes are
+-- accepted events of one writer's schedule.
+pub record Serves (first : Written) (h : History) (w : Written) : Type 0 where
+  pub same_plan : w.tally.plan ≡ first.tally.plan
+  pub same_start : w.start ≡ first.start
+  pub stands : (es : List Entry) → StandsFor first.tally es → StandsFor w.tally (es ++ entries_of h)
+  pub follows : (start : ℕ) (earlier : List (Act Entry)) → Follows start earlier first → Follows start (acts_after earlier h) w
+
+-- the seat is at this shared writer, and so is the note
+abbrev pub IsAt : {g : _} → SharedWriter → Seat Written WriterChange g → Type 0
+IsAt shared s = IsOf shared.turn s
+
+abbrev pub IsNoteAt : {g : _} → SharedWriter → Note Written WriterChange g → Type 0
+IsNoteAt shared n = IsNoteOf shared.turn n
+
+-- the writer that was shared
+abbrev pub first_of : SharedWriter → Written
+first_of shared = opening shared.turn
+
+-- the most changes that are accepted
+abbrev pub most_of : SharedWriter → ℕ
+most_of shared = limit_of shared.turn
+
+-- a round has the points of the writer as of a time
+pub record IsRound (w : Written) (time : ℕ) (r : rounds.Collected) : Type 0 where
+  pub starts : r.start ≡ w.start
+  pub taken_at : r.time ≡ time
+  pub points : r.points ≡ points_of w.tally.plan.streams w.tally.series
+
+-- why a writer may refuse a recording, and a collection
+abbrev pub MayRefuse : Written → Entry → MeasureFault → Type 0
+MayRefuse w e f = f ≢ measure.Refused tallies.NoMemory → fault_now w e ≡ Some f
+
+abbrev pub MayRefuseRound : Written → ℕ → CollectFault → Type 0
+MayRefuseRound w time f = f ≢ collect.NoMemory → collect_fault w time ≡ Some f
+
+module _ {g : _} (shared : SharedWriter) where
+  -- the seat's change was accepted, with this reply
+  abbrev pub Accepts : WriterChange → (Written → Type 0) → Seat Written WriterChange g → Seat Written WriterChange g → Type 0
+  Accepts c replied s t = Enters (λ w. w) told (first_of shared) (most_of shared) c replied s t
+
+  -- so the history goes on with it, and what the writer was before it and is after it is what the history makes of the first one
+  pub record Adds (c : WriterChange) (s t : Seat Written WriterChange g) : Type 0 where
+    pub before : History
+    pub ends : seen t ≡ before ++ (number s, c) ∷ []
+    pub old : Written
+    pub new : Written
+    pub served : Serves (first_of shared) before old
+    pub serves : Serves (first_of shared) (seen t) new
+
+  -- The round is that of what the first writer stood for, followed by the measured entries that are now seen.
+  abbrev pub HasAllMeasured : ℕ → rounds.Collected → Seat Written WriterChange g → Type 0
+  HasAllMeasured time r t = (es : List Entry) → StandsFor (first_of shared).tally es
+      → r ≡ round_of (first_of shared).tally.plan (record { start = (first_of shared).start; time = time; entries = es ++ entries_of (seen t) })
+
+  -- The round is the newest of the collections of one writer's schedule: of a first writer that was just started the k-th collection of the history is the
+  -- k-th of the schedule.
+  abbrev pub IsNewest : rounds.Collected → Seat Written WriterChange g → Type 0
+  IsNewest r t = (start : ℕ) (earlier : List (Act Entry)) → Follows start earlier (first_of shared)
+      → (c : Collection Entry) × (before : List (Collection Entry)) × (collections start (acts_after earlier (seen t)) ≡ c ∷ before) × (r ≡ round_of (first_of shared).tally.plan c)
+
+  abbrev pub LooksAt : (Written → Type 0) → Seat Written WriterChange g → Seat Written WriterChange g → Type 0
+  LooksAt answered s t = Looks (λ w. w) told (first_of shared) answered s t
+
+  -- the look was taken at what all that is now seen makes of the first writer
+  pub record Sees (answered : Written → Type 0) (t : Seat Written WriterChange g) : Type 0 where
+    pub found : Written
+    pub serves : Serves (first_of shared) (seen t) found
+    pub answer : answered found
+
+  -- the history has as many changes as it may
+  abbrev pub IsExhausted : Seat Written WriterChange g → Seat Written WriterChange g → Type 0
+  IsExhausted s t = Exhausts (λ w. w) told (first_of shared) (most_of shared) s t
+
+  -- the writer refused, though the history had room
+  abbrev pub IsRefused : (Written → Type 0) → Seat Written WriterChange g → Seat Written WriterChange g → Type 0
+  IsRefused refused s t = Refuses (λ w. w) told (first_of shared) (most_of shared) refused s t

@@ -1,0 +1,106 @@
+//! A writer that threads share: a turn over a writer, whose every answer is tied to one history of recordings and
+//! collections.
+ghost use Rattle.std.specs.Prelude.{◌≡◌, ◌↔◌, ◌<◌, ◌≤◌, ◌^◌, IfOk, IfErr};
+ghost use Rattle.turn_kit.specs.Public.{IsFirst, IsBadLimit, IsUnchanged, Closes, AreOut, Hears, Joins, seen, made, told as told_to, told_made};
+ghost use Rattle.turn_kit.specs.declared.fault.TurnFault.TheVariants.{BadLimit};
+ghost use Rattle.writer_kit.specs.Shared.{IsAt, IsNoteAt, Serves, first_of, most_of, told};
+
+mod change;
+mod feeds;
+mod steps;
+mod tries;
+mod waits;
+mod writer;
+
+use crate::Writer;
+pub use change::WriterChange;
+use feeds::look_over_feeds;
+use std::alloc::Global;
+use turn_kit::{Note, Seat, Turn, TurnFault};
+pub use writer::SharedWriter;
+
+/// The shared writer was not closed, since other seats are out: they were split off and not joined.
+#[derive(Drop)]
+pub struct SeatsOut {
+    pub writer: SharedWriter,
+    pub seat: Seat<Writer>,
+    /// How many, at least 1.
+    pub out: u64,
+}
+
+impl SharedWriter {
+    /// Shares a writer, of which at most `limit` changes are accepted from now on, 1 to 2^62 of them, and its first seat.
+    ///
+    /// Refused, with the writer handed back: `BadLimit`, then `NoMemory`. It takes two small blocks of memory. O(instruments
+    /// of the plan).
+    pub fn new(
+        alloc: Global,
+        writer: Writer,
+        limit: u64,
+    ) -> Result<(SharedWriter, Seat<Writer>), (Writer, TurnFault)>
+        ensures ok { IfOk result (λ t. (0 < limit) × (limit ≤ 2 ^ 62)) }
+        ensures first { IfOk result (λ t. (first_of t.0 ≡ writer) × (most_of t.0 ≡ limit)) }
+        ensures seat { IfOk result (λ t. IsAt t.0 t.1 × IsFirst t.1) }
+        ensures writer { IfErr result (λ e. e.0 ≡ writer) }
+        ensures bad_limit { IfErr result (λ e. (e.1 ≡ BadLimit) ↔ IsBadLimit limit) }
+    {
+        look_over_feeds(writer.tally().plan());
+        let (turn, seat) = Turn::new(alloc, writer, limit)?;
+        Ok((SharedWriter { turn }, seat))
+    }
+
+    /// What the seat has seen, for another seat to hear. Takes no memory.
+    pub fn note(&self, seat: &mut Seat<Writer>) -> Note<Writer>
+        requires { IsAt self.now seat.old }
+        ensures seat { IsAt self.now seat.new }
+        ensures unchanged { IsUnchanged seat.old seat.new }
+        ensures note { IsNoteAt self.now result }
+        ensures value { (told_to result ≡ seen seat.old) × (told_made result ≡ made seat.old) }
+    {
+        self.turn.note(seat)
+    }
+
+    /// From now on the seat has seen what the note says, too. Takes no memory.
+    pub fn hear(&self, seat: &mut Seat<Writer>, note: Note<Writer>)
+        requires seat { IsAt self.now seat.old }
+        requires note { IsNoteAt self.now note }
+        ensures seat { IsAt self.now seat.new }
+        ensures value { Hears seat.old seat.new note }
+    {
+        self.turn.hear(seat, note);
+    }
+
+    /// Takes in another seat, which is then no longer out. From now on this one has seen what the other had, and answers
+    /// for the changes of both. Takes no memory.
+    pub fn join(&self, seat: &mut Seat<Writer>, other: Seat<Writer>)
+        requires seat { IsAt self.now seat.old }
+        requires other { IsAt self.now other }
+        ensures seat { IsAt self.now seat.new }
+        ensures value { Joins seat.old seat.new other }
+    {
+        self.turn.join(seat, other);
+    }
+
+    /// The writer, where no other seat is out. It is what the whole history makes of the opening one, and each change in
+    /// the history is the closing seat's or one of a seat that was joined into it.
+    ///
+    /// Refused, with the shared writer and the seat handed back, where other seats were split off and not joined. Takes no
+    /// memory.
+    pub fn close(self, seat: Seat<Writer>) -> Result<Writer, SeatsOut>
+        requires { IsAt self seat }
+        ensures ok { IfOk result (Closes (λ w. w) told (first_of self) seat) }
+        ensures serves { IfOk result (λ w. (c : Closes (λ w. w) told (first_of self) seat w) × Serves (first_of self) c.history w) }
+        ensures err { IfErr result (λ e. (e.writer ≡ self) × IsAt e.writer e.seat × IsUnchanged seat e.seat) }
+        ensures out { IfErr result (λ e. (0 < e.out) × AreOut seat e.out) }
+    {
+        let SharedWriter { turn } = self;
+        match turn.close(seat) {
+            Ok(writer) => Ok(writer),
+            Err(turn_kit::SeatsOut { turn, seat, out }) => Err(SeatsOut {
+                writer: SharedWriter { turn },
+                seat,
+                out,
+            }),
+        }
+    }
+}

@@ -1,0 +1,26 @@
+//! A writer as a machine: its state, and what a change makes of it.
+ghost use Rattle.writer_kit.specs.Shared.{told};
+ghost use Rattle.writer_kit.specs.Written.{Written};
+
+use crate::Writer;
+use attr_kit::AttrSet;
+use turn_kit::Machine;
+
+/// An accepted change of a shared writer, an entry of its history. Contracts speak of it; no value of it is made.
+#[derive(Drop)]
+pub enum WriterChange {
+    /// An instrument measured a value, with attributes.
+    Measured(usize, AttrSet, i64),
+    /// The points were collected, as of a time.
+    Collected(u64),
+}
+
+impl Machine for Writer {
+    type Entry = WriterChange;
+
+    ghost State = { Written };
+
+    ghost state = { λ w. w };
+
+    ghost after = { told };
+}

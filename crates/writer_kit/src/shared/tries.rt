@@ -1,0 +1,102 @@
+//! The calls that ask for the turn once and wait for nobody.
+ghost use Rattle.std.specs.Prelude.{OnErr, IfOk, IfErr};
+ghost use Rattle.agg_kit.specs.Entries.{entry_of};
+ghost use Rattle.turn_kit.specs.Public.{IsLeft, Splits, IsFull, AtBusy, AtExhausted, AtRefused, AtSplitBusy, AtSeatsFull};
+ghost use Rattle.writer_kit.specs.Shared.{IsAt, IsRound, Accepts, Adds, HasAllMeasured, IsNewest, LooksAt, Sees, IsExhausted, IsRefused, MayRefuse, MayRefuseRound};
+ghost use Rattle.writer_kit.specs.declared.shared.change.WriterChange.TheVariants.{Measured, Collected};
+
+use super::SharedWriter;
+use super::steps::{Collect, Measure};
+use crate::{CollectFault, MeasureFault, Writer};
+use attr_kit::AttrSet;
+use bumpalo::Bump;
+use round_kit::Round;
+use turn_kit::{Busy, ChangeFault, Look, Seat, SplitFault};
+
+impl SharedWriter {
+    /// Asks for the turn once, and records a value where it is had, as `Writer::measure` does.
+    ///
+    /// Refused: `Busy` where the turn is held, which it never is to the first seat before its first split; `Exhausted`
+    /// where as many changes were accepted as the limit allows; `Refused` with what the writer refuses. Nothing is recorded
+    /// then. The turn is held for one recording.
+    pub fn try_measure(
+        &self,
+        seat: &mut Seat<Writer>,
+        instrument: usize,
+        attrs: &AttrSet,
+        value: i64,
+    ) -> Result<(), ChangeFault<MeasureFault>>
+        requires { IsAt self.now seat.old }
+        ensures seat { IsAt self.now seat.new }
+        ensures ok { IfOk result (λ r. Accepts self.now (Measured instrument attrs.now value) (λ w. Unit {0}) seat.old seat.new) }
+        ensures serves { IfOk result (λ r. Adds self.now (Measured instrument attrs.now value) seat.old seat.new) }
+        ensures busy { IfErr result (AtBusy (IsLeft seat.old seat.new)) }
+        ensures exhausted { IfErr result (AtExhausted (IsExhausted self.now seat.old seat.new)) }
+        ensures refused { IfErr result (AtRefused (λ f. IsRefused self.now (λ w. MayRefuse w (entry_of instrument attrs.now value) f) seat.old seat.new)) }
+    {
+        self.turn.try_change(
+            seat,
+            Measure {
+                instrument,
+                attrs,
+                value,
+            },
+        )
+    }
+
+    /// Asks for the turn once, and collects where it is had, as `Writer::collect` does: the round is placed in the arena
+    /// while the turn is held. To copy it out needs no turn.
+    ///
+    /// Refused: `Busy` where the turn is held, which it never is to the first seat before its first split; `Exhausted`
+    /// where as many changes were accepted as the limit allows; `Refused` with what the writer refuses. Nothing is collected
+    /// then.
+    pub fn try_collect<'b>(
+        &self,
+        seat: &mut Seat<Writer>,
+        arena: &'b Bump,
+        time: u64,
+    ) -> Result<Round<'b>, ChangeFault<CollectFault>>
+        requires { IsAt self.now seat.old }
+        ensures seat { IsAt self.now seat.new }
+        ensures ok { IfOk result (λ r. Accepts self.now (Collected time) (λ w. IsRound w time r) seat.old seat.new) }
+        ensures serves { IfOk result (λ r. Adds self.now (Collected time) seat.old seat.new) }
+        ensures round { IfOk result (λ r. HasAllMeasured self.now time r seat.new) }
+        ensures newest { IfOk result (λ r. IsNewest self.now r seat.new) }
+        ensures busy { IfErr result (AtBusy (IsLeft seat.old seat.new)) }
+        ensures exhausted { IfErr result (AtExhausted (IsExhausted self.now seat.old seat.new)) }
+        ensures refused { IfErr result (AtRefused (λ f. IsRefused self.now (λ w. MayRefuseRound w time f) seat.old seat.new)) }
+    {
+        self.turn.try_change(seat, Collect { arena, time })
+    }
+
+    /// Asks for the turn once, and looks at the writer where it is had. A look is not counted.
+    ///
+    /// Refused where the turn is held.
+    pub fn try_look<T: Look<Writer>>(
+        &self,
+        seat: &mut Seat<Writer>,
+        look: T,
+    ) -> Result<T::Answer, Busy>
+        requires { IsAt self.now seat.old }
+        ensures seat { IsAt self.now seat.new }
+        ensures ok { IfOk result (λ r. LooksAt self.now (λ w. T.answers look w r) seat.old seat.new) }
+        ensures serves { IfOk result (λ r. Sees self.now (λ w. T.answers look w r) seat.new) }
+        ensures busy { OnErr result (IsLeft seat.old seat.new) }
+    {
+        self.turn.try_look(seat, look)
+    }
+
+    /// Asks for the turn once, and splits off a new seat where it is had. The new seat has seen what this one has.
+    ///
+    /// Refused: `Busy` where the turn is held; `SeatsFull` where 4,096 seats were made.
+    pub fn try_split(&self, seat: &mut Seat<Writer>) -> Result<Seat<Writer>, SplitFault>
+        requires { IsAt self.now seat.old }
+        ensures seat { IsAt self.now seat.new }
+        ensures new { IfOk result (λ s. IsAt self.now s) }
+        ensures ok { IfOk result (λ s. Splits seat.old seat.new s) }
+        ensures busy { IfErr result (AtSplitBusy (IsLeft seat.old seat.new)) }
+        ensures seats_full { IfErr result (AtSeatsFull (IsFull seat.old seat.new)) }
+    {
+        self.turn.try_split(seat)
+    }
+}
