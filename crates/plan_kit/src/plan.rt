@@ -113,6 +113,9 @@ impl Plan {
     /// How many streams there are. Takes no memory and constant time.
     pub fn streams_len(&self) -> usize
         ensures len { result ≡ length self.now.streams }
+
+        // No instrument feeds a stream that is not there, nor one twice.
+        ensures feeds { (i : ℕ) → AreFeeds (length self.now.streams) (feeds_of self.now i) }
     {
         self.streams.len()
     }
