@@ -1,9 +1,9 @@
 -- A recording in the points of one stream, once it is made in the others.
-use Rattle.std.proofs.Common.{◌≡◌, ℕ, ℤ, ◌<◌, ◌≢◌, ◌==◌, Bool, true, false, cond, List, [], ◌∷◌, Option, Some, None, length, slice_get, get_or, set, map, position, refl, sym, ap, subst, ◌∙◌, suc, zero, arith, Result, Ok, Err, OnErr, OnOk, IfErr, IfSome, is_some, is_none, not, ◌||◌, ◌&&◌, int_lt, pos, true≢false, find, replicate, FitsSigned, w64}
+use Rattle.std.proofs.Common.{◌≡◌, ℕ, ℤ, ◌<◌, ◌≢◌, ◌==◌, Bool, true, false, cond, List, [], ◌∷◌, Option, Some, None, length, slice_get, get_or, set, position, refl, sym, ap, subst, ◌∙◌, suc, zero, arith, Result, Ok, Err, OnErr, OnOk, IfErr, IfSome, is_some, is_none, ◌&&◌, int_lt, pos, true≢false, find, replicate, FitsSigned, w64}
 use Rattle.std.specs.Cmp.{unsigned_Decides}
 use Rattle.std.specs.Map.{keys_of, lookup}
 use Rattle.std.specs.Option.{option_map}
-use Rattle.std.proofs.lemmas.List.{map-set, length-map, length-set}
+use Rattle.std.proofs.lemmas.List.{map-set, length-map}
 use Rattle.attr_kit.specs.declared.attr_set.AttrSet.{AttrSet}
 use Rattle.attr_kit.specs.Keeping.{kept}
 use Rattle.attr_kit.specs.declared.keep.Keep.{Keep}
@@ -11,7 +11,7 @@ use Rattle.attr_kit.specs.declared.keep.Keep.TheVariants.{All, Only}
 use Rattle.point_kit.specs.declared.payload.Payload.{Payload}
 use Rattle.point_kit.specs.declared.shape.Shape.{Shape}
 use Rattle.point_kit.specs.declared.stream.Stream.{Stream}
-use Rattle.plan_kit.specs.Plans.{Planned, stream_of, lacks, AreFeeds, AllRise, rises, only_rises}
+use Rattle.plan_kit.specs.Plans.{Planned, AreFeeds, AllRise, rises, only_rises}
 use Rattle.plan_kit.specs.declared.instrument.Kind.{Kind}
 use Rattle.plan_kit.specs.declared.feed.Feed.{Feed}
 use Rattle.agg_kit.specs.Feeding.{set_eq}
@@ -20,10 +20,9 @@ use Rattle.agg_kit.specs.Payloads.{is_out_of_range}
 use Rattle.agg_kit.specs.Sound.{AreSound, AreOnce, AllSound}
 use Rattle.agg_kit.specs.Steps.{Stored, bounds_of, held, place, payload_after, recorded, step}
 use Rattle.agg_kit.specs.Tallies.{Points}
-use Rattle.agg_kit.specs.declared.fault.MeasureFault.{MeasureFault}
 use Rattle.agg_kit.specs.declared.fault.MeasureFault.TheVariants as faults
 use Rattle.agg_kit.proofs.Refusals.{Every}
-use Rattle.agg_kit.proofs.Rounds.{got, there, shape-is}
+use Rattle.agg_kit.proofs.Rounds.{there, shape-is}
 use Rattle.agg_kit.proofs.Sound.{first-fits, sound-step, once-step}
 use Rattle.agg_kit.proofs.Steps.{payload-new}
 

@@ -1,25 +1,22 @@
 -- Why a recording is refused, by the points of a tally that stands for the recordings before it.
-use Rattle.std.proofs.Common.{◌≡◌, ◌≢◌, ℕ, ℤ, ◌<◌, ◌==◌, Bool, true, false, cond, List, [], ◌∷◌, ◌++◌, Option, None, Some, length, slice_get, refl, sym, ap, subst, ◌∙◌, true≢false, map, filter, find, pos, int_lt, is_none}
+use Rattle.std.proofs.Common.{◌≡◌, ◌≢◌, ℕ, ℤ, ◌<◌, ◌==◌, Bool, true, false, cond, List, [], ◌∷◌, ◌++◌, Option, None, Some, length, slice_get, refl, sym, ap, subst, ◌∙◌, map, filter, find, is_none}
 use Rattle.std.specs.Cmp.{unsigned_Decides}
 use Rattle.std.specs.Option.{option_map, option_map_or, option_or}
 use Rattle.attr_kit.specs.declared.attr_set.AttrSet.{AttrSet}
 use Rattle.attr_kit.specs.Keeping.{kept}
 use Rattle.attr_kit.specs.Refusing.{first, when}
-use Rattle.point_kit.specs.declared.payload.Payload.{Payload}
 use Rattle.point_kit.specs.declared.shape.Shape.{Shape}
 use Rattle.point_kit.specs.declared.stream.Stream.{Stream}
-use Rattle.plan_kit.specs.Plans.{Planned, Source, feeds_of, kind_of, stream_of, lacks, AreFeeds}
+use Rattle.plan_kit.specs.Plans.{Planned, Source, feeds_of, kind_of, lacks, AreFeeds}
 use Rattle.plan_kit.specs.declared.feed.Feed.{Feed}
-use Rattle.plan_kit.specs.declared.instrument.Kind.{Kind}
 use Rattle.agg_kit.specs.Entries.{Entry, Arrivals, brought, arrivals}
 use Rattle.agg_kit.specs.Feeding.{own_sets, goes_to, placed, fed}
-use Rattle.agg_kit.specs.Feeds.{series_at, shape_at, leaves_range, first_out}
+use Rattle.agg_kit.specs.Feeds.{shape_at, leaves_range, first_out}
 use Rattle.agg_kit.specs.Payloads.{payload_of, is_out_of_range}
 use Rattle.agg_kit.specs.Refusals.{is_negative_for, overflows, refused, refused_by, refused_in}
 use Rattle.agg_kit.specs.Rounds.{values_of, StandsFor}
 use Rattle.agg_kit.specs.Steps.{place, payload_after}
 use Rattle.agg_kit.specs.Tallies.{Points, Tallied}
-use Rattle.agg_kit.specs.declared.fault.MeasureFault.{MeasureFault}
 use Rattle.agg_kit.specs.declared.fault.MeasureFault.TheVariants as faults
 use Rattle.agg_kit.proofs.Limits.{placed-push}
 use Rattle.agg_kit.proofs.Points.{payload-after}

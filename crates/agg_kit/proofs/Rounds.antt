@@ -1,7 +1,7 @@
 -- What a list of recordings comes to, as one more recording is accepted.
-use Rattle.std.proofs.Common.{◌≡◌, ◌≢◌, ℕ, ℤ, ◌<◌, ◌==◌, ◌+◌, Bool, true, false, cond, List, [], ◌∷◌, ◌++◌, Option, None, Some, length, slice_get, get_or, set, refl, sym, ap, subst, ◌∙◌, arith, suc, zero, true≢false, map, filter, replicate, append-nil, append_assoc}
+use Rattle.std.proofs.Common.{◌≡◌, ◌≢◌, ℕ, ℤ, ◌<◌, ◌==◌, ◌+◌, Bool, true, false, cond, List, [], ◌∷◌, ◌++◌, Some, length, slice_get, get_or, set, refl, sym, ap, subst, ◌∙◌, arith, suc, zero, true≢false, map, filter, replicate, append-nil}
 use Rattle.std.specs.Cmp.{unsigned_Decides}
-use Rattle.std.specs.List.{flat_map, enumerate_from}
+use Rattle.std.specs.List.{enumerate_from}
 use Rattle.std.specs.Option.{option_map_or}
 use Rattle.std.proofs.lemmas.Grind.{flat_map-append}
 use Rattle.std.proofs.lemmas.List.{length-set, length-map, get_or-set_same, get_or-set_other, ext_get_or}

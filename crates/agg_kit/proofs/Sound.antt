@@ -1,5 +1,5 @@
 -- Every point of a tally is what an export asks of one, as one more recording comes.
-use Rattle.std.proofs.Common.{◌≡◌, ℕ, ℤ, pos, ◌+◌, ◌+ℤ◌, ◌<◌, ◌==◌, ◌||◌, ◌&&◌, Bool, true, false, cond, not, List, [], ◌∷◌, ◌++◌, Option, None, Some, length, get_or, set, sum, replicate, slice_get, refl, sym, ap, subst, ◌∙◌, arith, suc, zero, int_lt, true≢false, FitsSigned, w64, map, if◌then◌else◌}
+use Rattle.std.proofs.Common.{◌≡◌, ℕ, ℤ, pos, ◌+◌, ◌+ℤ◌, ◌<◌, ◌==◌, ◌||◌, ◌&&◌, Bool, true, false, cond, not, List, [], ◌∷◌, ◌++◌, Option, None, Some, length, get_or, sum, replicate, slice_get, refl, sym, ap, subst, ◌∙◌, arith, suc, zero, int_lt, true≢false, FitsSigned, w64, if◌then◌else◌}
 use Rattle.std.proofs.Math.IntN.{+ℤ_idl}
 use Rattle.std.specs.Cmp.{unsigned_Decides}
 use Rattle.std.specs.Int.{int_min, int_max}
@@ -10,7 +10,7 @@ use Rattle.std.proofs.lemmas.List.{length-set, length-replicate}
 use Rattle.std.proofs.lemmas.List.Sums.{sum_by-set}
 use Rattle.indexmap.specs.IndexMap.{insert_entry}
 use Rattle.attr_kit.specs.declared.attr_set.AttrSet.{AttrSet}
-use Rattle.point_kit.specs.Payload.{wrong_shape, wrong_buckets, wrong_count, negative, wrong_range}
+use Rattle.point_kit.specs.Payload.{wrong_range}
 use Rattle.point_kit.specs.declared.payload.Payload.{Payload}
 use Rattle.point_kit.specs.declared.payload.Payload.TheVariants as payloads
 use Rattle.point_kit.specs.declared.shape.Shape.{Shape}
@@ -19,7 +19,7 @@ use Rattle.plan_kit.specs.Plans.{rises}
 use Rattle.agg_kit.specs.Feeding.{set_eq, has_set, add_once}
 use Rattle.agg_kit.specs.Payloads.{bucket, buckets, fits_sum, payload_of, is_out_of_range}
 use Rattle.agg_kit.specs.Sound.{IsSound, AreSound, AreOnce}
-use Rattle.agg_kit.specs.Steps.{bounds_of, counted, widened, recorded, place, payload_at, payload_after, add_under, step}
+use Rattle.agg_kit.specs.Steps.{bounds_of, counted, widened, recorded, place, payload_at, payload_after, step}
 use Rattle.agg_kit.specs.Tallies.{Points}
 use Rattle.agg_kit.proofs.Distinct.{or-no, once-add}
 use Rattle.agg_kit.proofs.Limits.{not-false}

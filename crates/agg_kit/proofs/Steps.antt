@@ -1,5 +1,5 @@
 -- What one recording does to the points of a stream, by where its set is.
-use Rattle.std.proofs.Common.{◌≡◌, ℕ, ℤ, ◌<◌, ◌≤◌, ◌+◌, Bool, true, false, cond, ◌||◌, List, [], ◌∷◌, ◌++◌, Option, None, Some, length, position, slice_get, get_or, refl, sym, ap, ◌∙◌, is_some, if◌then◌else◌, nat_lt, arith, suc, zero, lt-ltb, le-ltb, true≢false}
+use Rattle.std.proofs.Common.{◌≡◌, ℕ, ℤ, ◌<◌, ◌≤◌, ◌+◌, Bool, true, false, cond, ◌||◌, [], ◌∷◌, ◌++◌, Option, None, Some, length, position, slice_get, refl, sym, ap, ◌∙◌, is_some, if◌then◌else◌, nat_lt, arith, suc, zero, lt-ltb, le-ltb, true≢false}
 use Rattle.std.specs.Map.{keys_of, values_of, lookup}
 use Rattle.std.specs.Option.{option_map_or}
 use Rattle.indexmap.specs.IndexMap.{insert_entry, set_value_at}
@@ -10,7 +10,7 @@ use Rattle.point_kit.specs.declared.shape.Shape.{Shape}
 use Rattle.agg_kit.specs.Feeding.{set_eq, overflow_set, is_own}
 use Rattle.agg_kit.specs.Payloads.{payload_of, is_out_of_range}
 use Rattle.agg_kit.specs.FreshPoints.{payload_in}
-use Rattle.agg_kit.specs.Steps.{own_count, held, place, payload_at, payload_after, recorded, bounds_of, add_under, step}
+use Rattle.agg_kit.specs.Steps.{own_count, held, place, payload_at, payload_after, recorded, bounds_of, add_under}
 use Rattle.agg_kit.specs.Tallies.{Points}
 use Rattle.agg_kit.proofs.Rounds.{got}
 

@@ -1,5 +1,5 @@
 -- A new point of a stream, and the payload of one that is there.
-use Rattle.std.specs.Prelude.{◌≡◌, ℕ, ◌<◌, List, [], ◌∷◌, ◌++◌, None, slice_index_or}
+use Rattle.std.specs.Prelude.{◌≡◌, ℕ, ◌<◌, [], ◌∷◌, ◌++◌, None, slice_index_or}
 use Rattle.std.specs.Map.{values_of, lookup}
 use Rattle.point_kit.specs.declared.payload.Payload.{Payload}
 use Rattle.point_kit.specs.declared.shape.Shape.{Shape}

@@ -1,5 +1,5 @@
 -- Why a recording is refused, by the recordings before it.
-use Rattle.std.specs.Prelude.{◌∷◌, [], ◌++◌, ◌&&◌, ℕ, ℤ, pos, int_lt, Bool, true, false, List, Option, Some, None, find, is_none}
+use Rattle.std.specs.Prelude.{◌∷◌, [], ◌++◌, ◌&&◌, ℤ, pos, int_lt, Bool, false, List, Option, Some, None, find, is_none}
 use Rattle.std.specs.Option.{option_map, option_map_or}
 use Rattle.attr_kit.specs.declared.attr_set.AttrSet.{AttrSet}
 use Rattle.attr_kit.specs.Refusing.{first, when}

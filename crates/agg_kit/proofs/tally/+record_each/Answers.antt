@@ -1,24 +1,21 @@
-use Rattle.std.proofs.Common.{◌≡◌, ◌≢◌, ◌∙◌, ◌∷◌, ◌<◌, ℕ, ℤ, Bool, List, Option, length, slice_set, position, rules, sym, subst, ap, refl, true, false, not, Some, None, FitsSigned, w64}
+use Rattle.std.proofs.Common.{◌≡◌, ◌≢◌, ◌∙◌, ◌∷◌, ◌<◌, ℕ, List, length, rules, sym, subst, ap, refl, true, false, not, Some, None, FitsSigned, w64}
 use Rattle.std.proofs.lemmas.Int.{to_z-of_z}
 use Rattle.std.proofs.lemmas.List.{length-set}
-use Rattle.std.specs.Map.{keys_of, lookup}
+use Rattle.std.specs.Map.{lookup}
 use Rattle.indexmap.specs.IndexMap.{set_value_at}
 use Rattle.attr_kit.specs.Keeping.{kept}
-use Rattle.attr_kit.specs.declared.attr_set.AttrSet.{AttrSet}
 use Rattle.attr_kit.specs.declared.keep.Keep.{Keep}
 use Rattle.point_kit.specs.declared.shape.Shape.{Shape}
 use Rattle.plan_kit.specs.Plans.{lacks, AreFeeds}
 use Rattle.plan_kit.specs.declared.feed.Feed.{Feed}
 use Rattle.agg_kit.specs.Feeding.{set_eq}
-use Rattle.agg_kit.specs.Feeds.{entries_of, series_at, shape_at, first_out, applied, AllWhole, AllHeld}
+use Rattle.agg_kit.specs.Feeds.{entries_of, shape_at, first_out, applied, AllHeld}
 use Rattle.agg_kit.specs.FreshPoints.{payload_in, inserted, CanInsert}
 use Rattle.agg_kit.specs.Payloads.{is_out_of_range}
 use Rattle.agg_kit.specs.Sound.{AreSound, AllSound}
-use Rattle.agg_kit.specs.Steps.{Stored, place, held, step, payload_after, bounds_of, recorded}
+use Rattle.agg_kit.specs.Steps.{Stored, place, held, step, bounds_of, recorded}
 use Rattle.agg_kit.specs.Tallies.{Points}
-use Rattle.agg_kit.specs.declared.fault.MeasureFault.{MeasureFault}
 use Rattle.agg_kit.specs.declared.fault.MeasureFault.TheVariants as faults
-use Rattle.agg_kit.specs.declared.series.Fresh.{Fresh}
 use Rattle.agg_kit.proofs.Records.{set-other, set-here, same_entries, entries-read, stored-length, sound-shape, leaves-here, first-here, first-rest, found-at, new-fits, new-gone, unmoved, recorded-here, whole-rest, whole-listed, if_err_so, on_err, on_err_map, step-along, if_err}
 use Rattle.agg_kit.proofs.Steps.{absent, range-there, add_under-held, within-held}
 use Rattle.agg_kit.proofs.tally.+record_each.Goals as goal

@@ -1,4 +1,4 @@
-use Rattle.std.proofs.Common.{◌≡◌, ◌∙◌, [], ap, sym, subst, false, FitsSigned, w64, slice_get, Some}
+use Rattle.std.proofs.Common.{◌∙◌, [], ap, sym, FitsSigned, w64, slice_get}
 use Rattle.std.specs.Map.{values_of}
 use Rattle.std.proofs.lemmas.Int.{to_z-of_z}
 use Rattle.indexmap.specs.IndexMap.{set_value_at}
@@ -6,7 +6,6 @@ use Rattle.point_kit.specs.declared.payload.Payload.{Payload}
 use Rattle.agg_kit.specs.Payloads.{payload_of, is_out_of_range}
 use Rattle.agg_kit.specs.FreshPoints.{payload_in}
 use Rattle.agg_kit.specs.Steps.{Stored, bounds_of, recorded}
-use Rattle.agg_kit.specs.Tallies.{Points}
 use Rattle.agg_kit.proofs.Rounds.{got}
 use Rattle.agg_kit.proofs.Sound.{sound-at}
 use Rattle.agg_kit.proofs.Steps.{own_count-set}

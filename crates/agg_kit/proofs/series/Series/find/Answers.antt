@@ -1,8 +1,8 @@
-use Rattle.std.proofs.Common.{arith, true≢false, ◌≡◌, ◌∙◌, ◌<◌, ◌≤◌, ℕ, Option, Some, None, is_some, position, sym, ap, subst, true, false}
+use Rattle.std.proofs.Common.{arith, true≢false, ◌≡◌, ◌∙◌, ◌<◌, ◌≤◌, is_some, position, sym, ap, true, false}
 use Rattle.std.specs.Map.{keys_of}
 use Rattle.attr_kit.specs.declared.attr_set.AttrSet.{AttrSet}
-use Rattle.agg_kit.specs.Feeding.{set_eq, overflow_set}
-use Rattle.agg_kit.specs.Steps.{Stored, held, place, own_count}
+use Rattle.agg_kit.specs.Feeding.{set_eq}
+use Rattle.agg_kit.specs.Steps.{Stored, held, own_count}
 use Rattle.agg_kit.specs.Tallies.{Points}
 use Rattle.agg_kit.proofs.Steps.{place-held, place-room, place-full}
 use Rattle.agg_kit.proofs.series.Series.find.Goals as goal

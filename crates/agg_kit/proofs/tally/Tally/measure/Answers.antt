@@ -1,15 +1,13 @@
-use Rattle.std.proofs.Common.{◌≡◌, ◌≢◌, ◌∙◌, ◌<◌, ℕ, ℤ, List, length, ap, sym, subst, refl, true, false, Option, None, Some, is_none, FitsSigned, w64, true≢false}
+use Rattle.std.proofs.Common.{◌≡◌, ◌∙◌, ℕ, List, length, ap, sym, subst, refl, false, Option, Some, FitsSigned, w64, true≢false}
 use Rattle.std.proofs.lemmas.Int.{to_z-of_z}
-use Rattle.plan_kit.specs.Plans.{Planned, feeds_of, kind_of, AreFeeds, AllRise}
+use Rattle.plan_kit.specs.Plans.{feeds_of, kind_of, AreFeeds, AllRise}
 use Rattle.plan_kit.specs.declared.feed.Feed.{Feed}
 use Rattle.plan_kit.specs.declared.instrument.Kind.{Kind}
 use Rattle.agg_kit.specs.Entries.{Entry, entry_of}
 use Rattle.agg_kit.specs.Feeds.{entries_of, applied, first_out, whole_first, AllWhole}
-use Rattle.agg_kit.specs.Refusals.{is_negative_for, refused, refused_by, refused_in}
+use Rattle.agg_kit.specs.Refusals.{is_negative_for, refused, refused_by}
 use Rattle.agg_kit.specs.Rounds.{StandsFor}
 use Rattle.agg_kit.specs.Tallies.{Tallied}
-use Rattle.agg_kit.specs.declared.fault.MeasureFault.{MeasureFault}
-use Rattle.agg_kit.specs.declared.fault.MeasureFault.TheVariants as faults
 use Rattle.agg_kit.proofs.Records.{stored-length, sound-applied, sound-either, rising-feeds, some-kind, whole_first-whole, on_ok, if_err}
 use Rattle.agg_kit.proofs.Refusals.{kind-there, kind-gone, refused-gone, refused-negative, refused-told, in-gone, in-negative, in-told}
 use Rattle.agg_kit.proofs.Rounds.{stands-push}

@@ -1,6 +1,5 @@
-use Rattle.std.proofs.Common.{◌≡◌, ◌∙◌, [], List, length, ap, sym, subst, replicate}
+use Rattle.std.proofs.Common.{◌∙◌, [], ap, sym, subst, replicate}
 use Rattle.agg_kit.specs.Sound.{AllSound}
-use Rattle.agg_kit.specs.Tallies.{Points}
 use Rattle.agg_kit.proofs.Records.{sound-nothing}
 use Rattle.agg_kit.proofs.Rounds.{round-none}
 use Rattle.agg_kit.proofs.tally.Tally.restart.Goals as goal
