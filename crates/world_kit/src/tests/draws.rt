@@ -4,7 +4,7 @@ use super::plain::Plain;
 use crate::Event;
 use std::alloc::Global;
 
-/// A row of numbers that look like chance, and a clock that often stands still.
+/// A row of numbers that look like chance, and a clock that mostly stands still.
 #[derive(Drop)]
 pub struct Draws {
     state: u64,
@@ -33,14 +33,25 @@ impl Draws {
         self.below(4) as usize
     }
 
-    // A number of one of so many, or of none.
+    // A number of one of so many, or of none; every other time one of the last.
     fn number(&mut self, made: usize) -> u64 {
-        self.below((made as u64).wrapping_add(2))
+        let made = made as u64;
+        if self.below(2) == 0 {
+            self.below(made.wrapping_add(2))
+        } else {
+            made.saturating_sub(self.below(8))
+        }
     }
 
     fn time(&mut self) -> u64 {
-        self.clock = self.clock.wrapping_add(self.below(3));
+        self.clock = self.clock.wrapping_add(self.below(3) / 2);
         self.clock
+    }
+
+    // A start: every sixteenth time, so that writers often share one.
+    fn start(&mut self) -> u64 {
+        let time = self.time();
+        time.wrapping_sub(time % 16)
     }
 
     // A value: one in eight below 0, one in 64 so great that a few of them are too much for a total.
@@ -56,15 +67,15 @@ impl Draws {
     fn writing(&mut self, alloc: Global) -> Event {
         let writer = self.place();
         match self.below(64) {
-            0 => Event::Restart {
+            0..=1 => Event::Restart {
                 writer,
-                start: self.time(),
+                start: self.start(),
             },
-            1 if self.below(2) == 0 => Event::Shutdown {
+            2 if self.below(2) == 0 => Event::Shutdown {
                 writer,
                 time: self.time(),
             },
-            1..=30 => Event::Collect {
+            2..=30 => Event::Collect {
                 writer,
                 time: self.time(),
             },

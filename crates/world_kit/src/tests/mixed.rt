@@ -151,6 +151,14 @@ fn is_alike(alloc: Global, world: &World, plain: &Plain) -> Result<bool, NoMemor
     Ok(true)
 }
 
+// Whether a conflict stands at the first gateway.
+fn has_conflict(world: &World) -> bool {
+    match world.node(0) {
+        Some(node) => node.gateway().conflicts() > 0,
+        None => false,
+    }
+}
+
 #[test]
 fn mixed_events_end_as_in_a_plain_world(rt: HostRuntime) -> Result<(), Fail> {
     let alloc = rt.alloc();
@@ -166,5 +174,6 @@ fn mixed_events_end_as_in_a_plain_world(rt: HostRuntime) -> Result<(), Fail> {
     assert_eq!(rt; replies.len(), 10_000);
     assert_eq!(rt; replies.as_slice(), both.replies.as_slice());
     assert!(rt; is_alike(alloc, &world, &both.plain)?);
+    assert!(rt; has_conflict(&world));
     Ok(())
 }
