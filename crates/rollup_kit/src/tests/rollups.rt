@@ -57,8 +57,7 @@ fn one_route(rt: HostRuntime) -> Result<(), Fail> {
     let mut gateway = Gateway::new(alloc, 1);
     let route = single(alloc, worded(alloc, "route", "x")?)?;
     take(alloc, &mut gateway, 1, 200, counted(alloc, route, 3)?)?;
-    let wanted =
-        "attributes   points  conflicts  total\n{route=\"x\"}       1          0  3\n";
+    let wanted = "attributes   points  conflicts  total\n{route=\"x\"}       1          0  3\n";
     assert!(rt; answers_all(alloc, &gateway, counter(), wanted)?);
     Ok(())
 }

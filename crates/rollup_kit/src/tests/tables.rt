@@ -93,7 +93,9 @@ fn is_escaped(alloc: Global, code: u8) -> Result<bool, Fail> {
     let mut control = String::new(alloc);
     control.push(code as char)?;
     let attrs = single(alloc, worded(alloc, "k", control.as_str())?)?;
-    let wanted = format!(in alloc; "attributes  points  conflicts  total\n{{k=\"\\x{code:02x}\"}}       0          1  -\n")?;
+    let wanted = format!(in alloc;
+        "attributes  points  conflicts  total\n{{k=\"\\x{code:02x}\"}}       0          1  -\n"
+    )?;
     Ok(prints_set(alloc, attrs, wanted.as_str())?)
 }
 
