@@ -1,4 +1,3 @@
 pub mod Following
 pub mod Refusals
 pub mod Sharing
-pub mod PlanFeeds

@@ -1,7 +1,6 @@
 -- What a shared writer's history makes of the first writer.
-use Rattle.std.proofs.Common.{◌≡◌, ◌∙◌, ℕ, ◌≤◌, Bool, true, false, cond, List, [], ◌∷◌, ◌++◌, length, Option, Some, None, Result, Ok, Err, IfOk, refl, sym, ap, subst, append_assoc, append-nil}
-use Rattle.std.specs.Prelude.{ℤ, nat_le, is_none}
-use Rattle.std.proofs.lemmas.Bool.{le-leb, leb-true}
+use Rattle.std.proofs.Common.{◌≡◌, ◌∙◌, ℕ, false, cond, List, [], ◌∷◌, ◌++◌, length, Option, Some, None, Result, Ok, Err, IfOk, refl, sym, ap, subst, append_assoc, append-nil}
+use Rattle.std.specs.Prelude.{ℤ, is_none}
 use Rattle.agg_kit.specs.Entries.{Entry, entry_of}
 use Rattle.agg_kit.specs.Rounds.{StandsFor, round}
 use Rattle.agg_kit.proofs.Refusals.{refused-is}
@@ -44,11 +43,8 @@ none_is y e = subst is_nothing e tt
 
 -- ---- one change
 
-pub told_measured : (w v : Written) (i : ℕ) (a : AttrSet) (x : ℤ) → i ≤ 18446744073709551615 → fault_now w (entry_of i a x) ≡ None → v ≡ recorded w (entry_of i a x) → told w (Measured i a x) ≡ Some v
-told_measured w v i a x small fits is =
-    ap (λ b. cond b (cond (is_none (fault_now w (entry_of i a x))) (Some (recorded w (entry_of i a x))) None) None) (le-leb i 18446744073709551615 small)
-    ∙ ap (λ o. cond (is_none o) (Some (recorded w (entry_of i a x))) None) fits
-    ∙ ap Some (sym is)
+pub told_measured : (w v : Written) (i : ℕ) (a : AttrSet) (x : ℤ) → fault_now w (entry_of i a x) ≡ None → v ≡ recorded w (entry_of i a x) → told w (Measured i a x) ≡ Some v
+told_measured w v i a x fits is = ap (λ o. cond (is_none o) (Some (recorded w (entry_of i a x))) None) fits ∙ ap Some (sym is)
 
 pub told_collected : (w v : Written) (time : ℕ) → collect_fault w time ≡ None → v ≡ record w { last = time } → told w (Collected time) ≡ Some v
 told_collected w v time fits is = ap (λ o. cond (is_none o) (Some (record w { last = time })) None) fits ∙ ap Some (sym is)
@@ -57,10 +53,6 @@ told_collected w v time fits is = ap (λ o. cond (is_none o) (Some (record w { l
 chosen : {F : Type 0} (o : Option F) (next v : Written) → cond (is_none o) (Some next) None ≡ Some v → (o ≡ None) × (v ≡ next)
 chosen None next v is = (refl, sym (some_is next v is))
 chosen (Some f) next v is = absurd (none_is v is)
-
-placed : (b : Bool) (o : Option Written) (v : Written) → cond b o None ≡ Some v → (b ≡ true) × (o ≡ Some v)
-placed true o v is = (refl, is)
-placed false o v is = absurd (none_is v is)
 
 record Steps (w : Written) (c : WriterChange) (v : Written) : Type 0 where
   same_plan : v.tally.plan ≡ w.tally.plan
@@ -71,9 +63,8 @@ record Steps (w : Written) (c : WriterChange) (v : Written) : Type 0 where
 one : (w v : Written) (c : WriterChange) → AllFeeds w.tally.plan → told w c ≡ Some v → Steps w c v
 one w v (Measured i a x) feeds is =
     let e = entry_of i a x in
-    let small = placed (nat_le i 18446744073709551615) (cond (is_none (fault_now w e)) (Some (recorded w e)) None) v is in
-    let fed : AreFeeds (length w.tally.plan.streams) (feeds_of w.tally.plan i) = feeds i (leb-true i 18446744073709551615 small.0) in
-    let d = chosen (fault_now w e) (recorded w e) v small.1 in
+    let fed : AreFeeds (length w.tally.plan.streams) (feeds_of w.tally.plan i) = feeds i in
+    let d = chosen (fault_now w e) (recorded w e) v is in
     let open_ = now_open w e d.0 in
     let standing : (es : List Entry) → StandsFor w.tally es → StandsFor v.tally (es ++ e ∷ []) = λ es s. subst (λ (u : Written). StandsFor u.tally (es ++ e ∷ [])) (sym d.1) (stands-push w.tally es e fed s) in
     let plan : v.tally.plan ≡ w.tally.plan = ap (λ (u : Written). u.tally.plan) d.1 in

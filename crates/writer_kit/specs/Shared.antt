@@ -1,5 +1,5 @@
 -- The history of a shared writer, and what it makes of the writer.
-use Rattle.std.specs.Prelude.{◌≡◌, ◌≢◌, ℕ, nat_le, false, cond, is_none, List, [], ◌∷◌, ◌++◌, Option, Some, None}
+use Rattle.std.specs.Prelude.{◌≡◌, ◌≢◌, ℕ, false, cond, is_none, List, [], ◌∷◌, ◌++◌, Option, Some, None}
 use Rattle.agg_kit.specs.Entries.{Entry, entry_of}
 use Rattle.agg_kit.specs.Rounds.{StandsFor}
 use Rattle.attr_kit.specs.declared.attr_set.AttrSet.{AttrSet}
@@ -26,9 +26,9 @@ use Rattle.writer_kit.specs.declared.shared.change.WriterChange.TheVariants.{Mea
 abbrev pub History : Type 0
 History = List (ℕ × WriterChange)
 
--- a writer after a change, as one thread makes it, none where the change is not accepted; an instrument's place fits 64 bits
+-- a writer after a change, as one thread makes it; none where the change is not accepted
 abbrev pub told : Written → WriterChange → Option Written
-told w (Measured i a v) = cond (nat_le i 18446744073709551615) (cond (is_none (fault_now w (entry_of i a v))) (Some (recorded w (entry_of i a v))) None) None
+told w (Measured i a v) = cond (is_none (fault_now w (entry_of i a v))) (Some (recorded w (entry_of i a v))) None
 told w (Collected time) = cond (is_none (collect_fault w time)) (Some (record w { last = time })) None
 
 -- the measured entries of a history, in its order

@@ -6,7 +6,6 @@ ghost use Rattle.turn_kit.specs.declared.fault.TurnFault.TheVariants.{BadLimit};
 ghost use Rattle.writer_kit.specs.Shared.{IsAt, IsNoteAt, Serves, first_of, most_of, told};
 
 mod change;
-mod feeds;
 mod steps;
 mod tries;
 mod waits;
@@ -14,7 +13,6 @@ mod writer;
 
 use crate::Writer;
 pub use change::WriterChange;
-use feeds::look_over_feeds;
 use std::alloc::Global;
 use turn_kit::{Note, Seat, Turn, TurnFault};
 pub use writer::SharedWriter;
@@ -31,8 +29,7 @@ pub struct SeatsOut {
 impl SharedWriter {
     /// Shares a writer, of which at most `limit` changes are accepted from now on, 1 to 2^62 of them, and its first seat.
     ///
-    /// Refused, with the writer handed back: `BadLimit`, then `NoMemory`. It takes two small blocks of memory. O(instruments
-    /// of the plan).
+    /// Refused, with the writer handed back: `BadLimit`, then `NoMemory`. It takes two small blocks of memory.
     pub fn new(
         alloc: Global,
         writer: Writer,
@@ -44,7 +41,8 @@ impl SharedWriter {
         ensures writer { IfErr result (λ e. e.0 ≡ writer) }
         ensures bad_limit { IfErr result (λ e. (e.1 ≡ BadLimit) ↔ IsBadLimit limit) }
     {
-        look_over_feeds(writer.tally().plan());
+        // What a plan says of the feeds of all its instruments at once.
+        let _ = writer.tally().plan().streams_len();
         let (turn, seat) = Turn::new(alloc, writer, limit)?;
         Ok((SharedWriter { turn }, seat))
     }
