@@ -19,7 +19,7 @@ use Rattle.point_kit.specs.declared.payload.Payload.{Payload}
 use Rattle.point_kit.specs.declared.shape.Shape.{Shape}
 use Rattle.point_kit.specs.declared.shape.Shape.TheVariants as shapes
 use Rattle.schedule_kit.specs.Rows as rows
-use Rattle.schedule_kit.proofs.Tabulated.{find-tabulated}
+use Rattle.point_kit.proofs.StateLaws.{find-tabulated}
 use Rattle.rollup_kit.specs.Asks.{Attributes, attributes_cmp, asks, group}
 use Rattle.rollup_kit.specs.Groups.{Grouped}
 use Rattle.rollup_kit.specs.Parts.{Parts, no_parts, plus_parts, parts_of}

@@ -5,7 +5,6 @@ pub mod Newest
 pub mod Totals
 pub mod Parts
 pub mod Incarnations
-pub mod Tabulated
 pub mod Recorded
 pub mod Stable
 pub mod Taking

@@ -22,7 +22,7 @@ use Rattle.schedule_kit.proofs.Members.{In-append, map-In, In-map, flat_map-In, 
 use Rattle.schedule_kit.proofs.Newest.{NewestIs, newest_is}
 use Rattle.schedule_kit.proofs.Parts as parts
 use Rattle.schedule_kit.proofs.Parts.{AreTaken}
-use Rattle.schedule_kit.proofs.Tabulated.{find-tabulated}
+use Rattle.point_kit.proofs.StateLaws.{find-tabulated}
 use Rattle.schedule_kit.proofs.Totals.{total_same, total_zero, total-map, total-flat_map, by_name, total-from_entries}
 
 -- lists in which nothing stands twice
