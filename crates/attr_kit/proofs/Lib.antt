@@ -3,6 +3,7 @@ pub mod DerivedOrder
 pub mod Finding
 pub mod Firsts
 pub mod Keeping
+pub mod LowerCase
 pub mod Places
 pub mod Putting
 pub mod Repeats

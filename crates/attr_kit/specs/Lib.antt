@@ -7,3 +7,4 @@ pub mod Orders
 pub mod OrderLaws
 pub mod Putting
 pub mod Refusing
+pub mod Texts

@@ -15,6 +15,7 @@ mod keep;
 mod pair_list;
 mod pairs;
 mod seq;
+mod short_text;
 #[cfg(test)]
 mod tests;
 mod try_copy;

@@ -1,5 +1,6 @@
 //! A text, seen by contracts as the list of its bytes.
-ghost use Rattle.std.specs.Prelude.{◌≡◌, ◌↔◌, nat_eq, IfOk, IsTrue, [], refl, string_bytes};
+ghost use Rattle.std.specs.Prelude.{◌≡◌, ◌↔◌, nat_eq, IfOk, IfSome, IsTrue, [], map, refl, string_bytes};
+ghost use Rattle.std.specs.Char.{to_ascii_lowercase};
 ghost use Rattle.std.proofs.Common.{rules};
 ghost use Rattle.std.specs.Cmp.{partial_order_from_own_ties};
 ghost use Rattle.std.specs.Cmp.Lexicographic.{slice_cmp, pointwise};
@@ -8,23 +9,47 @@ ghost use Rattle.std.specs.Hash as fed;
 ghost use Rattle.std.specs.Ordering.{nat_cmp, as_partial_cmp};
 
 use crate::NoMemory;
+use crate::short_text::{ROOM, ShortText};
 use std::alloc::Global;
 use std::cmp::Ordering;
+use std::fmt;
 use std::hash::{Hash, Hasher};
 use std::marker::Model;
 
 /// A text in UTF-8. Texts are ordered by their bytes, a proper prefix being less.
-#[derive(Debug, Drop)]
+///
+/// A text of at most 30 bytes is held in the value itself, so that it and its copies take no memory.
+#[derive(Drop)]
 pub struct Txt {
-    text: String,
+    text: Form,
+}
+
+/// Where the bytes of a text lie: in place, or in memory.
+#[derive(Drop)]
+enum Form {
+    Short(ShortText),
+    Long(String),
 }
 
 impl Model for Txt {
-    ghost use Rattle.std.specs.Prelude.{List, ℕ, string_bytes};
+    ghost use Rattle.std.specs.Prelude.{List, ℕ};
+    ghost use Rattle.attr_kit.specs.Texts.{form_bytes};
 
     ghost Value = { List ℕ };
 
-    ghost view = { λ t. string_bytes t.text };
+    ghost view = { λ t. form_bytes t.text };
+}
+
+/// The short form of a text, where it has room.
+fn in_place(text: &str) -> Option<Txt>
+    ensures { IfSome result (λ copy. copy ≡ text.now) }
+{
+    if text.len() <= ROOM {
+        let text = Form::Short(ShortText::from_str(text));
+        Some(Txt { text })
+    } else {
+        None
+    }
 }
 
 impl Txt {
@@ -32,47 +57,82 @@ impl Txt {
     pub fn from_str(alloc: Global, text: &str) -> Result<Txt, NoMemory>
         ensures { IfOk result (λ copy. copy ≡ text.now) }
     {
-        Ok(Txt {
-            text: String::from_str(alloc, text)?,
-        })
+        if let Some(short) = in_place(text) {
+            return Ok(short);
+        }
+        let text = Form::Long(String::from_str(alloc, text)?);
+        Ok(Txt { text })
     }
 
     /// The text of a string. Takes no memory.
     pub fn from_string(text: String) -> Txt
         ensures { result ≡ string_bytes text }
     {
+        if let Some(short) = in_place(text.as_str()) {
+            return short;
+        }
+        Txt {
+            text: Form::Long(text),
+        }
+    }
+
+    /// The string of the text. Takes memory only for a text of at most 30 bytes.
+    pub fn into_string(self, alloc: Global) -> Result<String, NoMemory>
+        ensures { IfOk result (λ string. string_bytes string ≡ self) }
+    {
+        match self.text {
+            Form::Short(text) => Ok(String::from_str(alloc, text.as_str())?),
+            Form::Long(text) => Ok(text),
+        }
+    }
+
+    /// The text with the letters of ASCII in lower case, in place. Takes no memory.
+    pub fn into_ascii_lowercase(self) -> Txt
+        ensures { result ≡ map to_ascii_lowercase self }
+    {
+        let text = match self.text {
+            Form::Short(text) => Form::Short(text.into_ascii_lowercase()),
+            Form::Long(mut text) => {
+                text.make_ascii_lowercase();
+                Form::Long(text)
+            }
+        };
         Txt { text }
     }
 
-    /// The string of the text. Takes no memory.
-    pub fn into_string(self) -> String
-        ensures { string_bytes result ≡ self }
-    {
-        let Txt { text } = self;
-        text
-    }
-
     /// The text as a slice. Takes no memory.
+    #[inline]
     pub fn as_str(&self) -> &str
         ensures { result.now ≡ self.now }
     {
-        self.text.as_str()
+        match &self.text {
+            Form::Short(text) => text.as_str(),
+            Form::Long(text) => text.as_str(),
+        }
     }
 
     /// Whether there are no bytes. Takes no memory.
     pub fn is_empty(&self) -> bool
         ensures { IsTrue result ↔ (self.now ≡ []) }
     {
-        self.text.is_empty()
+        self.as_str().is_empty()
     }
 
     /// An equal text. O(n).
     pub fn try_copy(&self) -> Result<Txt, NoMemory>
         ensures { IfOk result (λ copy. copy ≡ self.now) }
     {
-        Ok(Txt {
-            text: self.text.clone()?,
-        })
+        let text = match &self.text {
+            Form::Short(text) => Form::Short(text.copy()),
+            Form::Long(text) => Form::Long(text.clone()?),
+        };
+        Ok(Txt { text })
+    }
+}
+
+impl fmt::Debug for Txt {
+    fn fmt<W: fmt::Write>(&self, f: &mut fmt::Formatter<W>) -> fmt::Result {
+        f.debug_struct("Txt").field("text", &self.as_str()).finish()
     }
 }
 
@@ -82,7 +142,7 @@ impl PartialEq for Txt {
     ghost laws = { Prim.search (comparing, rules) };
 
     fn eq(&self, other: &Txt) -> bool {
-        self.text == other.text
+        self.as_str() == other.as_str()
     }
 }
 
@@ -110,7 +170,7 @@ impl Ord for Txt {
     ghost matches_eq = { Prim.search (comparing, rules) };
 
     fn cmp(&self, other: &Txt) -> Ordering {
-        self.text.cmp(&other.text)
+        self.as_str().cmp(other.as_str())
     }
 }
 
@@ -120,6 +180,6 @@ impl Hash for Txt {
     ghost respects_eq = { Prim.search (hashing, rules) };
 
     fn hash<H: Hasher>(&self, state: &mut H) {
-        self.text.hash(state);
+        self.as_str().hash(state);
     }
 }

@@ -42,7 +42,7 @@ impl Running {
         };
         let ask = ask_of(alloc, report)?;
         let rows = rollup(alloc, gateway, &ask)?;
-        Ok(Some(table(alloc, rows.as_slice())?.into_string()))
+        Ok(Some(table(alloc, rows.as_slice())?.into_string(alloc)?))
     }
 
     fn same(&self, alloc: Global, one: u32, other: u32) -> Result<Option<String>, NoMemory>

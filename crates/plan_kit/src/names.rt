@@ -61,7 +61,5 @@ pub(crate) fn is_good_unit(text: &Txt) -> bool
 pub(crate) fn in_lower_case(text: Txt) -> Txt
     ensures { result ≡ lower text }
 {
-    let mut text = text.into_string();
-    text.make_ascii_lowercase();
-    Txt::from_string(text)
+    text.into_ascii_lowercase()
 }

@@ -9,3 +9,6 @@ loop-key-preserved-in_ok-insert-2 c = put_next _ _ _ _ _ c.loop-key.invariant c.
 
 pub loop-key-preserved : goal.loop-key-preserved
 loop-key-preserved c = put_next _ _ _ _ _ c.loop-key.invariant c.in_ok-insert.ensures.entries
+
+pub loop-key-preserved-in_ok-insert-3 : goal.loop-key-preserved-in_ok-insert-3
+loop-key-preserved-in_ok-insert-3 c = put_next _ _ _ _ _ c.loop-key.invariant c.in_ok-insert.ensures.entries

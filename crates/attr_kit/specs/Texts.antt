@@ -1,0 +1,9 @@
+-- What lies under a text.
+use Rattle.std.specs.Prelude.{ℕ, List, string_bytes}
+use Rattle.attr_kit.specs.declared.txt.Form.{Form}
+use Rattle.attr_kit.specs.declared.txt.Form.TheVariants.{Short, Long}
+
+-- the bytes of a text, held in place or in memory
+abbrev pub form_bytes : Form → List ℕ
+form_bytes (Short text) = text
+form_bytes (Long text) = string_bytes text
