@@ -106,3 +106,37 @@ fn large_sets_are_made_and_restricted(rt: HostRuntime) -> Result<(), Fail> {
     assert_eq!(rt; kept.len(), 50_000);
     Ok(())
 }
+
+fn stays_one_text(rt: &impl Abort, alloc: Global, text: &str, lower: &str) -> Result<(), Fail> {
+    let held = Txt::from_str(alloc, text)?;
+    assert_eq!(rt; held.as_str(), text);
+    assert_eq!(rt; Txt::from_string(String::from_str(alloc, text)?), held);
+    assert_eq!(rt; held.try_copy()?.into_string(alloc)?.as_str(), text);
+    assert_eq!(rt; held.into_ascii_lowercase().as_str(), lower);
+    Ok(())
+}
+
+// 0, 4, 30 and 31 bytes: the last alone lies in memory.
+#[test]
+fn texts_are_one_in_place_and_in_memory(rt: HostRuntime) -> Result<(), Fail> {
+    let alloc = rt.alloc();
+    stays_one_text(&rt, alloc, "", "")?;
+    stays_one_text(&rt, alloc, "ÄB.", "Äb.")?;
+    stays_one_text(
+        &rt,
+        alloc,
+        "Thirty Bytes are held in Place",
+        "thirty bytes are held in place",
+    )?;
+    stays_one_text(
+        &rt,
+        alloc,
+        "Thirty-one Bytes lie in Memory.",
+        "thirty-one bytes lie in memory.",
+    )?;
+    assert_eq!(rt;
+        format!(in alloc; "{:?}", Txt::from_str(alloc, "x")?)?.as_str(),
+        "Txt { text: \"x\" }"
+    );
+    Ok(())
+}
