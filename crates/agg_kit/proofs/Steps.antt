@@ -1,5 +1,5 @@
 -- What one recording does to the points of a stream, by where its set is.
-use Rattle.std.proofs.Common.{◌≡◌, ℕ, ℤ, ◌<◌, ◌≤◌, ◌+◌, Bool, true, false, cond, ◌||◌, [], ◌∷◌, ◌++◌, Option, None, Some, length, position, slice_get, refl, sym, ap, ◌∙◌, is_some, if◌then◌else◌, nat_lt, arith, suc, zero, lt-ltb, le-ltb, true≢false}
+use Rattle.std.proofs.Common.{◌≡◌, ℕ, ℤ, ◌<◌, ◌≤◌, ◌+◌, Bool, true, false, cond, ◌||◌, [], ◌∷◌, ◌++◌, Option, None, Some, length, position, slice_get, refl, sym, ap, ◌∙◌, is_some, if◌then◌else◌, nat_lt, arith, suc, zero, lt-ltb, le-ltb, ltb-true, ltb-false, true≢false}
 use Rattle.std.specs.Map.{keys_of, values_of, lookup}
 use Rattle.std.specs.Option.{option_map_or}
 use Rattle.indexmap.specs.IndexMap.{insert_entry, set_value_at}
@@ -64,6 +64,26 @@ place-room limit es a h l = ap (λ b. if b || nat_lt (own_count es) limit then a
 
 pub place-full : (limit : ℕ) (es : Points) (a : AttrSet) → held es a ≡ false → limit ≤ own_count es → place limit es a ≡ overflow_set
 place-full limit es a h l = ap (λ b. if b || nat_lt (own_count es) limit then a else overflow_set) h ∙ ap (λ b. if b then a else overflow_set) (le-ltb (own_count es) limit l)
+
+-- where the point is that a set without one feeds, by whether there is room
+pub place-past : (limit : ℕ) (es : Points) (a : AttrSet) (at : Option ℕ) → held es a ≡ false → None ≡ position (set_eq a) (keys_of es)
+    → (own_count es < limit → at ≡ None) → (limit ≤ own_count es → at ≡ position (set_eq overflow_set) (keys_of es))
+    → at ≡ position (set_eq (place limit es a)) (keys_of es)
+place-past limit es a at h none room full = by (nat_lt (own_count es) limit) refl
+  where
+    by : (b : Bool) → nat_lt (own_count es) limit ≡ b → at ≡ position (set_eq (place limit es a)) (keys_of es)
+    by true e =
+        let l : own_count es < limit = ltb-true (own_count es) limit e in
+        room l ∙ none ∙ ap (λ (b : AttrSet). position (set_eq b) (keys_of es)) (sym (place-room limit es a h l))
+    by false e =
+        let l : limit ≤ own_count es = ltb-false (own_count es) limit e in
+        full l ∙ ap (λ (b : AttrSet). position (set_eq b) (keys_of es)) (sym (place-full limit es a h l))
+
+-- the points, where the payload that is there is put there again
+pub set_value_at-same : (es : Points) (i : ℕ) (t : Payload) → slice_get (values_of es) i ≡ Some t → set_value_at es i t ≡ es
+set_value_at-same [] i t h = refl
+set_value_at-same (e ∷ es) zero t h = let same : e.1 ≡ t = cc in ap (λ (t : Payload). let p : AttrSet × Payload = (e.0, t) in p ∷ es) (sym same)
+set_value_at-same (e ∷ es) (suc i) t h = ap (λ l. e ∷ l) (set_value_at-same es i t h)
 
 -- the count of sets with a point of their own
 pub own_count-set : (es : Points) (i : ℕ) (w : Payload) → own_count (set_value_at es i w) ≡ own_count es

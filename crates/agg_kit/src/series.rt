@@ -1,5 +1,5 @@
 //! The points of one stream.
-ghost use Rattle.std.specs.Prelude.{◌≡◌, ◌≢◌, ◌<◌, ◌++◌, ◌∷◌, [], length, Some, None, position, slice_get, true, false, not, IsTrue, ◌↔◌, IsSome, OnOk, OnErr, IfOk, IfErr, IfSome};
+ghost use Rattle.std.specs.Prelude.{◌≡◌, ◌≢◌, ◌<◌, ◌≤◌, ◌++◌, ◌∷◌, [], length, Some, None, position, slice_get, true, false, not, IsTrue, ◌↔◌, IsSome, OnOk, OnErr, IfOk, IfErr, IfSome};
 ghost use Rattle.std.specs.Map.{keys_of, lookup};
 ghost use Rattle.std.specs.Option.{option_map};
 ghost use Rattle.indexmap.specs.IndexMap.{insert_entry, set_value_at};
@@ -11,7 +11,7 @@ ghost use Rattle.agg_kit.specs.FreshPoints.{inserted, payload_in, CanInsert};
 ghost use Rattle.agg_kit.specs.Sound.{AreSound};
 ghost use Rattle.agg_kit.specs.Steps.{bounds_of, recorded, held, place, payload_after, add_under, own_count, step};
 
-use crate::payload::{add, empty, takes};
+use crate::payload::{add, empty, takes, try_add};
 use attr_kit::{AttrSet, NoMemory, TryCopy};
 use indexmap::IndexMap;
 use point_kit::{Payload, Shape};
@@ -76,13 +76,24 @@ impl Series {
     }
 
     /// The place of the point that a set feeds, if it is there.
+    #[inline(always)]
     pub(crate) fn find(&self, limit: u64, overflow: &AttrSet, set: &AttrSet) -> Option<usize>
         requires { overflow.now ≡ overflow_set }
         ensures { result ≡ position (set_eq (place limit self.now.entries set.now)) (keys_of self.now.entries) }
     {
-        if let Some(index) = self.points.get_index_of(set) {
-            return Some(index);
+        match self.points.get_index_of(set) {
+            Some(index) => Some(index),
+            None => self.find_past(limit, overflow),
         }
+    }
+
+    // The place of the point that a set without one feeds, if it is there. Not inlined, so that `find` is.
+    #[inline(never)]
+    fn find_past(&self, limit: u64, overflow: &AttrSet) -> Option<usize>
+        requires { overflow.now ≡ overflow_set }
+        ensures room { own_count self.now.entries < limit → result ≡ None }
+        ensures full { limit ≤ own_count self.now.entries → result ≡ position (set_eq overflow_set) (keys_of self.now.entries) }
+    {
         if self.has_room(limit) {
             return None;
         }
@@ -106,6 +117,19 @@ impl Series {
         ensures { self.new.entries ≡ set_value_at self.old.entries index (recorded (bounds_of shape.now) (payload_in shape.now self.old.entries index) value) }
     {
         add(&mut self.points[index], shape, value);
+    }
+
+    /// Adds a value to the point at a place, if the point stays in range, and says whether it does.
+    #[inline(always)]
+    pub(crate) fn try_add(&mut self, index: usize, shape: &Shape, value: i64) -> bool
+        requires within { index < length self.old.entries }
+        requires sound { AreSound shape.now self.old.entries }
+        requires proper { IsTrue (is_proper shape.now) }
+        ensures fits { is_out_of_range (recorded (bounds_of shape.now) (payload_in shape.now self.old.entries index) value) ≡ not result }
+        ensures added { result ≡ true → self.new.entries ≡ set_value_at self.old.entries index (recorded (bounds_of shape.now) (payload_in shape.now self.old.entries index) value) }
+        ensures kept { result ≡ false → self.new.entries ≡ self.old.entries }
+    {
+        try_add(&mut self.points[index], shape, value)
     }
 
     /// Makes room for a new point of this very set, which holds the value.

@@ -193,6 +193,7 @@ fn copy_series(series: &Vec<Series>) -> Result<Vec<Series>, NoMemory>
 }
 
 // Whether the value is below 0 and the instrument takes none.
+#[inline(always)]
 fn is_negative(kind: Option<Kind>, value: i64) -> bool
     ensures { result ≡ is_negative_for kind value }
 {
@@ -204,6 +205,7 @@ fn is_negative(kind: Option<Kind>, value: i64) -> bool
 }
 
 // The shape of a stream.
+#[inline(always)]
 fn shape_of(plan: &Plan, stream: usize) -> &Shape
     requires { stream < length plan.now.streams }
     ensures value { result.now ≡ shape_at plan.now stream }
@@ -234,6 +236,7 @@ fn chosen<'a>(only: &'a Option<AttrSet>, attrs: &'a AttrSet) -> &'a AttrSet
 }
 
 // The place of the point that a feed reaches, if the feed keeps all keys and the point is there.
+#[inline(always)]
 fn place_of(
     plan: &Plan,
     overflow: &AttrSet,
@@ -251,6 +254,7 @@ fn place_of(
 }
 
 // Records a value in every feed's stream, or in none. A lone feed whose point is there needs the point's place alone.
+#[inline(always)]
 fn record(
     plan: &Plan,
     overflow: &AttrSet,
@@ -275,10 +279,9 @@ fn record(
     {
         let shape = shape_of(plan, feed.stream);
         let lone = &mut series[feed.stream];
-        if !lone.takes(place, value) {
+        if !lone.try_add(place, shape, value) {
             return Err(MeasureFault::Overflow(feed.stream));
         }
-        lone.add(place, shape, value);
         return Ok(());
     }
     record_each(plan, overflow, series, feeds, attrs, value, false)
