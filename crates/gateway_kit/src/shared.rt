@@ -7,6 +7,8 @@ ghost use Rattle.turn_kit.specs.declared.fault.TurnFault.TheVariants.{BadLimit};
 
 mod change;
 mod steps;
+#[cfg(test)]
+mod tests;
 mod tries;
 mod waits;
 
