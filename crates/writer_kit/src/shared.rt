@@ -7,6 +7,8 @@ ghost use Rattle.writer_kit.specs.Shared.{IsAt, IsNoteAt, Serves, first_of, most
 
 mod change;
 mod steps;
+#[cfg(test)]
+mod tests;
 mod tries;
 mod waits;
 mod writer;

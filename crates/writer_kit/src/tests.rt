@@ -19,8 +19,8 @@ fn instruments(alloc: Global) -> Result<Seq<Instrument>, NoMemory> {
     Ok(Seq::from_vec(instruments))
 }
 
-// A writer of one counter from 100 on.
-fn counting(alloc: Global) -> Result<Writer, Fail> {
+/// A writer of one counter from a start on.
+pub(crate) fn counting_from(alloc: Global, start: u64) -> Result<Writer, Fail> {
     let plan = Plan::build(
         alloc,
         instruments(alloc)?,
@@ -31,11 +31,15 @@ fn counting(alloc: Global) -> Result<Writer, Fail> {
         service: Txt::from_str(alloc, "shop")?,
         instance: Uuid::from_u128(1),
     };
-    Ok(Writer::start(alloc, id, plan, 100)?)
+    Ok(Writer::start(alloc, id, plan, start)?)
 }
 
-// The total that a writer holds, none where it has no point.
-fn held(writer: &Writer) -> Option<i64> {
+fn counting(alloc: Global) -> Result<Writer, Fail> {
+    counting_from(alloc, 100)
+}
+
+/// The total that a writer holds, none where it has no point.
+pub(crate) fn held(writer: &Writer) -> Option<i64> {
     match writer.tally().entry(0, 0) {
         Some((_, Payload::Sum(total))) => Some(*total),
         _ => None,

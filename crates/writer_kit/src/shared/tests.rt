@@ -1,0 +1,402 @@
+//! Shared writers: limits, seats and notes, and three threads that record while a fourth collects.
+ghost use Rattle.std.specs.Prelude.{IfOk};
+ghost use Rattle.writer_kit.specs.Shared.{IsAt};
+ghost use denote.Param.Send.{IsSync};
+
+use super::*;
+use crate::tests::{counting_from, held};
+use crate::{CollectFault, MeasureFault};
+use agg_kit::MeasureFault as TallyFault;
+use attr_kit::AttrSet;
+use bumpalo::Bump;
+use round_kit::{Round, RoundPayload};
+use std::sync::Wait;
+use std::test::Fail;
+use std::thread::{Threads, join};
+use turn_kit::{Busy, ChangeFault, Look, SplitFault};
+
+// The total of a round's only point, 0 where it has no point; none of any other round.
+fn total(round: &Round<'_>) -> Option<i64> {
+    match round.points() {
+        [] => Some(0),
+        [point] => match &point.payload {
+            RoundPayload::Sum(total) => Some(*total),
+            _ => None,
+        },
+        _ => None,
+    }
+}
+
+/// Reads the total.
+#[derive(Drop)]
+struct HeldTotal;
+
+impl Look<Writer> for HeldTotal {
+    type Answer = Option<i64>;
+
+    ghost answers = { λ _ _ _. Unit {0} };
+
+    fn look(self, machine: &Writer) -> Option<i64> {
+        held(machine)
+    }
+}
+
+/// A shared writer of one counter, and a seat at it.
+#[derive(Drop)]
+struct Served {
+    shared: SharedWriter,
+    seat: Seat<Writer>,
+    ghost at: { IsAt shared seat },
+}
+
+// Shares a writer that counts from a start on.
+fn open(alloc: Global, start: u64, limit: u64) -> Result<Served, Fail> {
+    match SharedWriter::new(alloc, counting_from(alloc, start)?, limit) {
+        Ok((shared, seat)) => Ok(Served { shared, seat }),
+        Err(_) => Err("not shared".into()),
+    }
+}
+
+// A second seat.
+fn second(shared: &SharedWriter, seat: &mut Seat<Writer>) -> Result<Seat<Writer>, Fail>
+    requires { IsAt shared.now seat.old }
+    ensures seat { IsAt shared.now seat.new }
+    ensures new { IfOk result (λ s. IsAt shared.now s) }
+{
+    match shared.try_split(seat) {
+        Ok(other) => Ok(other),
+        Err(_) => Err("no second seat".into()),
+    }
+}
+
+// Records a value without attributes.
+fn measures(
+    alloc: Global,
+    shared: &SharedWriter,
+    seat: &mut Seat<Writer>,
+    value: i64,
+) -> Result<(), ChangeFault<MeasureFault>>
+    requires { IsAt shared.now seat.old }
+    ensures { IsAt shared.now seat.new }
+{
+    let none = AttrSet::empty(alloc);
+    shared.try_measure(seat, 0, &none, value)
+}
+
+// The total of a collection.
+fn collects(
+    alloc: Global,
+    shared: &SharedWriter,
+    seat: &mut Seat<Writer>,
+    time: u64,
+) -> Result<Option<i64>, ChangeFault<CollectFault>>
+    requires { IsAt shared.now seat.old }
+    ensures { IsAt shared.now seat.new }
+{
+    let arena = Bump::new(alloc);
+    match shared.try_collect(seat, &arena, time) {
+        Ok(round) => Ok(total(&round)),
+        Err(fault) => Err(fault),
+    }
+}
+
+#[test]
+fn a_limit_of_none_is_refused(rt: HostRuntime) -> Result<(), Fail> {
+    let writer = counting_from(rt.alloc(), 100)?;
+    let Err((writer, fault)) = SharedWriter::new(rt.alloc(), writer, 0) else {
+        return Err("shared".into());
+    };
+    assert!(rt; fault == TurnFault::BadLimit && writer.start_time() == 100);
+    Ok(())
+}
+
+#[test]
+fn a_refused_recording_counts_for_nothing(rt: HostRuntime) -> Result<(), Fail> {
+    let alloc = rt.alloc();
+    let Served { shared, mut seat } = open(alloc, 100, 1)?;
+    let negative = ChangeFault::Refused(MeasureFault::Refused(TallyFault::Negative));
+    assert!(rt; measures(alloc, &shared, &mut seat, -1) == Err(negative));
+    assert!(rt; measures(alloc, &shared, &mut seat, 5) == Ok(()));
+    assert!(rt; measures(alloc, &shared, &mut seat, -1) == Err(ChangeFault::Exhausted));
+    Ok(())
+}
+
+#[test]
+fn a_second_collection_at_a_time_is_late(rt: HostRuntime) -> Result<(), Fail> {
+    let alloc = rt.alloc();
+    let Served { shared, mut seat } = open(alloc, 100, 8)?;
+    let late = ChangeFault::Refused(CollectFault::TimeNotAfter(200));
+    assert!(rt; collects(alloc, &shared, &mut seat, 200) == Ok(Some(0)));
+    assert!(rt; collects(alloc, &shared, &mut seat, 200) == Err(late));
+    Ok(())
+}
+
+#[test]
+fn who_hears_a_note_collects_what_it_tells(rt: HostRuntime) -> Result<(), Fail> {
+    let alloc = rt.alloc();
+    let Served { shared, mut seat } = open(alloc, 100, 8)?;
+    let mut other = second(&shared, &mut seat)?;
+    assert!(rt; measures(alloc, &shared, &mut seat, 3) == Ok(()));
+    let note = shared.note(&mut seat);
+    shared.hear(&mut other, note);
+    assert!(rt; collects(alloc, &shared, &mut other, 200) == Ok(Some(3)));
+    Ok(())
+}
+
+/// Asks for the turn that is held, by another seat, and gives that seat back.
+#[derive(Drop)]
+struct Meanwhile<'a> {
+    shared: &'a SharedWriter,
+    seat: Seat<Writer>,
+    attrs: &'a AttrSet,
+    arena: &'a Bump,
+    ghost at: { IsAt shared.now seat },
+}
+
+impl<'a> Look<Writer> for Meanwhile<'a> {
+    type Answer = (bool, Seat<Writer>);
+
+    ghost answers = { λ m _ r. IsAt m.shared.now r.1 };
+
+    fn look(self, _machine: &Writer) -> (bool, Seat<Writer>) {
+        let Meanwhile {
+            shared,
+            mut seat,
+            attrs,
+            arena,
+        } = self;
+        let busy = shared.try_measure(&mut seat, 0, attrs, 1) == Err(ChangeFault::Busy)
+            && shared.try_collect(&mut seat, arena, 150).err() == Some(ChangeFault::Busy)
+            && shared.try_look(&mut seat, HeldTotal) == Err(Busy)
+            && shared.try_split(&mut seat).err() == Some(SplitFault::Busy);
+        (busy, seat)
+    }
+}
+
+// Whether a second seat finds the turn held while the first looks.
+fn found_busy(alloc: Global, served: Served) -> Result<bool, Fail> {
+    let Served { shared, mut seat } = served;
+    let other = second(&shared, &mut seat)?;
+    let none = AttrSet::empty(alloc);
+    let arena = Bump::new(alloc);
+    let meanwhile = Meanwhile {
+        shared: &shared,
+        seat: other,
+        attrs: &none,
+        arena: &arena,
+    };
+    match shared.try_look(&mut seat, meanwhile) {
+        Ok((busy, _)) => Ok(busy),
+        Err(_) => Err("no look".into()),
+    }
+}
+
+#[test]
+fn a_held_turn_is_busy(rt: HostRuntime) -> Result<(), Fail> {
+    assert!(rt; found_busy(rt.alloc(), open(rt.alloc(), 100, 2)?)?);
+    Ok(())
+}
+
+#[test]
+fn close_waits_for_seats_to_be_joined(rt: HostRuntime) -> Result<(), Fail> {
+    let Served { shared, mut seat } = open(rt.alloc(), 100, 8)?;
+    let other = second(&shared, &mut seat)?;
+    let Err(
+        SeatsOut {
+            writer: shared,
+            mut seat,
+            out,
+        },
+    ) = shared.close(seat)
+    else {
+        return Err("closed too soon".into());
+    };
+    assert!(rt; out == 1);
+    shared.join(&mut seat, other);
+    assert!(rt; shared.close(seat).is_ok());
+    Ok(())
+}
+
+/// Measures 1, a thousand times.
+fn measure_many<R: Wait>(
+    rt: &R,
+    shared: &SharedWriter,
+    mut seat: Seat<Writer>,
+    attrs: &AttrSet,
+) -> Seat<Writer>
+    requires { IsAt shared.now seat }
+    ensures { IsAt shared.now result }
+{
+    for _ in 0..1000 {
+        let _ = shared.measure(rt, &mut seat, 0, attrs, 1);
+    }
+    seat
+}
+
+/// The same by two seats, each in a thread of its own. One seat remains.
+fn measure_by_two<R: Threads + Wait + Sync>(
+    rt: &R,
+    shared: &SharedWriter,
+    first: Seat<Writer>,
+    second: Seat<Writer>,
+    attrs: &AttrSet,
+) -> Seat<Writer>
+    requires first { IsAt shared.now first }
+    requires second { IsAt shared.now second }
+    ensures { IsAt shared.now result }
+{
+    let (mut first, second) = join(
+        rt,
+        || -> Seat<Writer>
+            requires { IsSync R.row × IsAt shared.now first }
+            ensures { IsAt shared.entry.now result }
+        { measure_many(rt, shared, first, attrs) },
+        || -> Seat<Writer>
+            requires { IsSync R.row × IsAt shared.now second }
+            ensures { IsAt shared.entry.now result }
+        { measure_many(rt, shared, second, attrs) },
+    );
+    shared.join(&mut first, second);
+    first
+}
+
+/// The total of a collection, by a call that waits.
+fn collect_once<R: Wait>(
+    rt: &R,
+    alloc: Global,
+    shared: &SharedWriter,
+    seat: &mut Seat<Writer>,
+    time: u64,
+) -> Option<i64>
+    requires { IsAt shared.now seat.old }
+    ensures { IsAt shared.now seat.new }
+{
+    let arena = Bump::new(alloc);
+    match shared.collect(rt, seat, &arena, time) {
+        Ok(round) => total(&round),
+        Err(_) => None,
+    }
+}
+
+/// Collects at 1 to 100, and answers whether each collection has a total and none is less than the one before.
+fn collect_many<R: Wait>(
+    rt: &R,
+    alloc: Global,
+    shared: &SharedWriter,
+    mut seat: Seat<Writer>,
+) -> (bool, Seat<Writer>)
+    requires { IsAt shared.now seat }
+    ensures { IsAt shared.now result.1 }
+{
+    let mut rise = true;
+    let mut last = 0;
+    for time in 1..101 {
+        match collect_once(rt, alloc, shared, &mut seat, time) {
+            Some(next) if next >= last => last = next,
+            _ => rise = false,
+        }
+    }
+    (rise, seat)
+}
+
+/// A seat measures in a thread while another collects. One seat remains.
+fn measure_beside_collect<R: Threads + Wait + Sync>(
+    rt: &R,
+    alloc: Global,
+    shared: &SharedWriter,
+    seats: (Seat<Writer>, Seat<Writer>),
+    attrs: &AttrSet,
+) -> (bool, Seat<Writer>)
+    requires { IsAt shared.now seats.0 × IsAt shared.now seats.1 }
+    ensures { IsAt shared.now result.1 }
+{
+    let (one, two) = seats;
+    let (mut one, collected) = join(
+        rt,
+        || -> Seat<Writer>
+            requires { IsSync R.row × IsAt shared.now one }
+            ensures { IsAt shared.entry.now result }
+        { measure_many(rt, shared, one, attrs) },
+        || -> (bool, Seat<Writer>)
+            requires { IsSync R.row × IsAt shared.now two }
+            ensures { IsAt shared.entry.now result.1 }
+        { collect_many(rt, alloc, shared, two) },
+    );
+    let (rise, two) = collected;
+    shared.join(&mut one, two);
+    (rise, one)
+}
+
+/// Three seats measure while a fourth collects, each in a thread of its own. One seat remains.
+fn measure_by_three<R: Threads + Wait + Sync>(
+    rt: &R,
+    alloc: Global,
+    shared: &SharedWriter,
+    seats: (Seat<Writer>, Seat<Writer>, Seat<Writer>, Seat<Writer>),
+    attrs: &AttrSet,
+) -> (bool, Seat<Writer>)
+    requires { IsAt shared.now seats.0 × IsAt shared.now seats.1 × IsAt shared.now seats.2 × IsAt shared.now seats.3 }
+    ensures { IsAt shared.now result.1 }
+{
+    let (a, b, c, d) = seats;
+    let (mut one, collected) = join(
+        rt,
+        || -> Seat<Writer>
+            requires { IsSync R.row × IsAt shared.now a × IsAt shared.now b }
+            ensures { IsAt shared.entry.now result }
+        { measure_by_two(rt, shared, a, b, attrs) },
+        || -> (bool, Seat<Writer>)
+            requires { IsSync R.row × IsAt shared.now c × IsAt shared.now d }
+            ensures { IsAt shared.entry.now result.1 }
+        { measure_beside_collect(rt, alloc, shared, (c, d), attrs) },
+    );
+    let (rise, two) = collected;
+    shared.join(&mut one, two);
+    (rise, one)
+}
+
+// What the writer holds that is handed out, none where it is not.
+fn closed(shared: SharedWriter, seat: Seat<Writer>) -> Option<i64>
+    requires { IsAt shared seat }
+{
+    match shared.close(seat) {
+        Ok(writer) => held(&writer),
+        Err(_) => None,
+    }
+}
+
+// Whether the totals that the fourth thread collected rise, what a collection has after all threads have ended, and what the
+// writer holds then.
+fn after_threads<R: Threads + Wait + Sync>(
+    rt: &R,
+    alloc: Global,
+    served: Served,
+) -> Result<(bool, Option<i64>, Option<i64>), Fail> {
+    let Served { shared, mut seat } = served;
+    let b = second(&shared, &mut seat)?;
+    let c = second(&shared, &mut seat)?;
+    let d = second(&shared, &mut seat)?;
+    let none = AttrSet::empty(alloc);
+    let (rise, mut all) = measure_by_three(rt, alloc, &shared, (seat, b, c, d), &none);
+    let after = collect_once(rt, alloc, &shared, &mut all, 101);
+    Ok((rise, after, closed(shared, all)))
+}
+
+#[test]
+fn three_threads_record_while_a_fourth_collects(rt: HostRuntime) -> Result<(), Fail> {
+    let served = open(rt.alloc(), 0, 1 << 62)?;
+    let (rise, after, held) = after_threads(&rt, rt.alloc(), served)?;
+    assert!(rt; rise && after == Some(3000) && held == Some(3000));
+    Ok(())
+}
+
+#[test]
+fn a_new_seat_and_a_look_that_wait(rt: HostRuntime) -> Result<(), Fail> {
+    let Served { shared, mut seat } = open(rt.alloc(), 100, 8)?;
+    let Ok(mut other) = shared.split(&rt, &mut seat) else {
+        return Err("no second seat".into());
+    };
+    assert!(rt; measures(rt.alloc(), &shared, &mut seat, 3) == Ok(()));
+    assert!(rt; shared.look(&rt, &mut other, HeldTotal) == Some(3));
+    Ok(())
+}
