@@ -5,4 +5,5 @@ mod gathering;
 mod mixed;
 mod plain;
 mod refusing;
+mod sharing;
 mod writing;

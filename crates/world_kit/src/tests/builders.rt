@@ -12,15 +12,16 @@ use uuid::Uuid;
 /// When each writer starts.
 pub const START: u64 = 100;
 
-fn identity(alloc: Global, instance: u128) -> Result<WriterId, NoMemory> {
+/// The identity of a writer of the shop.
+pub fn identity(alloc: Global, instance: u128) -> Result<WriterId, NoMemory> {
     Ok(WriterId {
         service: Txt::from_str(alloc, "shop")?,
         instance: Uuid::from_u128(instance),
     })
 }
 
-// A plan of one instrument.
-fn plan(alloc: Global, kind: Kind, limit: u64) -> Result<Plan, Fail> {
+/// A plan of one instrument.
+pub fn plan(alloc: Global, kind: Kind, limit: u64) -> Result<Plan, Fail> {
     let mut instruments = Vec::new(alloc);
     instruments.push(Instrument {
         scope: Txt::from_str(alloc, "app")?,
