@@ -62,18 +62,6 @@ fn hash_of(pairs: &Pairs) -> u64
     state.finish()
 }
 
-// The set of pairs that are one.
-fn closed(pairs: Vec<(Txt, AttrValue)>) -> AttrSet
-    requires { AreAttributes pairs.items }
-    ensures { result ≡ pairs.items }
-{
-    let pairs = Pairs {
-        pairs: Seq::from_vec(pairs),
-    };
-    let hash = hash_of(&pairs);
-    AttrSet { pairs, hash }
-}
-
 // The set of the pairs whose key is listed.
 fn restricted(pairs: &Vec<(Txt, AttrValue)>, list: &AllowList) -> Result<AttrSet, NoMemory>
     requires { AreAttributes pairs.now.items }
@@ -81,7 +69,7 @@ fn restricted(pairs: &Vec<(Txt, AttrValue)>, list: &AllowList) -> Result<AttrSet
     ensures no_memory { OnErr result (filter (λ p. is_listed list.now p.0) pairs.now.items ≢ []) }
 {
     let few = listed(pairs, list)?;
-    Ok(closed(few))
+    Ok(AttrSet::from_attributes(few))
 }
 
 impl AttrSet {
@@ -103,7 +91,20 @@ impl AttrSet {
         if let Some(place) = empty_key_at(pairs.as_slice()) {
             return Err(AttrFault::EmptyKey(place));
         }
-        Ok(closed(in_order(pairs)?))
+        Ok(AttrSet::from_attributes(in_order(pairs)?))
+    }
+
+    /// The set of pairs that are one: their keys rise, so each stands once, and none is empty. Nothing is compared or moved;
+    /// O(n) for the hash. Takes no memory.
+    pub fn from_attributes(pairs: Vec<(Txt, AttrValue)>) -> AttrSet
+        requires { AreAttributes pairs.items }
+        ensures { result ≡ pairs.items }
+    {
+        let pairs = Pairs {
+            pairs: Seq::from_vec(pairs),
+        };
+        let hash = hash_of(&pairs);
+        AttrSet { pairs, hash }
     }
 
     /// The set of one pair.
@@ -113,14 +114,14 @@ impl AttrSet {
     {
         let mut pairs = Vec::with_capacity(alloc, 1)?;
         pairs.push((key, value))?;
-        Ok(closed(pairs))
+        Ok(AttrSet::from_attributes(pairs))
     }
 
     /// The set without pairs. Takes no memory.
     pub fn empty(alloc: Global) -> AttrSet
         ensures { result ≡ [] }
     {
-        closed(Vec::new(alloc))
+        AttrSet::from_attributes(Vec::new(alloc))
     }
 
     // The pairs as the list that holds them.

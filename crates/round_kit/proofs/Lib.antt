@@ -1,3 +1,2 @@
-pub mod SetLaws
 pub mod Sound
 pub mod Steps

@@ -3,7 +3,7 @@ ghost use Rattle.std.specs.Prelude.{◌≡◌, IfOk, map};
 ghost use Rattle.attr_kit.specs.Attributes.{AreAttributes};
 ghost use Rattle.round_kit.specs.Placed.{value_of, pair_of};
 
-use attr_kit::{AttrFault, AttrSet, AttrValue, NoMemory, Txt};
+use attr_kit::{AttrSet, AttrValue, NoMemory, Txt};
 use bumpalo::Bump;
 use bumpalo::collections::into_bump_slice;
 use std::alloc::Global;
@@ -92,12 +92,7 @@ impl<'b> RoundSet<'b> {
     pub(crate) fn copy_out(&self, alloc: Global) -> Result<AttrSet, NoMemory>
         ensures { IfOk result (λ set. set ≡ self.now) }
     {
-        match AttrSet::from_pairs(copy_pairs(alloc, self.pairs)?) {
-            Ok(set) => Ok(set),
-            // The pairs are a set's, so none of their keys is empty.
-            Err(AttrFault::EmptyKey(_)) => unreachable!(),
-            Err(AttrFault::NoMemory) => Err(NoMemory),
-        }
+        Ok(AttrSet::from_attributes(copy_pairs(alloc, self.pairs)?))
     }
 }
 
