@@ -1,5 +1,5 @@
 -- A recording in the points of one stream, once it is made in the others.
-use Rattle.std.proofs.Common.{◌≡◌, ℕ, ℤ, ◌<◌, ◌≢◌, ◌==◌, Bool, true, false, cond, List, [], ◌∷◌, Option, Some, None, length, slice_get, get_or, set, position, refl, sym, ap, subst, ◌∙◌, suc, zero, arith, Result, Ok, Err, OnErr, OnOk, IfErr, IfSome, is_some, is_none, ◌&&◌, int_lt, pos, true≢false, find, replicate, FitsSigned, w64}
+use Rattle.std.proofs.Common.{◌≡◌, ℕ, ℤ, ◌<◌, ◌≢◌, ◌==◌, Bool, true, false, cond, List, [], ◌∷◌, ◌++◌, ◌⊎◌, inl, inr, Option, Some, None, length, slice_get, get_or, set, position, refl, sym, ap, subst, ◌∙◌, suc, zero, arith, Result, Ok, Err, OnErr, OnOk, IfErr, IfSome, is_some, is_none, ◌&&◌, int_lt, pos, true≢false, find, replicate, FitsSigned, w64}
 use Rattle.std.specs.Cmp.{unsigned_Decides}
 use Rattle.std.specs.Map.{keys_of, lookup}
 use Rattle.std.specs.Option.{option_map}
@@ -11,11 +11,12 @@ use Rattle.attr_kit.specs.declared.keep.Keep.TheVariants.{All, Only}
 use Rattle.point_kit.specs.declared.payload.Payload.{Payload}
 use Rattle.point_kit.specs.declared.shape.Shape.{Shape}
 use Rattle.point_kit.specs.declared.stream.Stream.{Stream}
-use Rattle.plan_kit.specs.Plans.{Planned, AreFeeds, AllRise, rises, only_rises}
+use Rattle.plan_kit.specs.Plans.{Planned, feeds_of, AreFeeds, AllRise, rises, only_rises}
 use Rattle.plan_kit.specs.declared.instrument.Kind.{Kind}
 use Rattle.plan_kit.specs.declared.feed.Feed.{Feed}
 use Rattle.agg_kit.specs.Feeding.{set_eq}
 use Rattle.agg_kit.specs.Feeds.{entries_of, series_at, shape_at, leaves_range, first_out, applied, keeps_all, whole_first, AllWhole}
+use Rattle.agg_kit.specs.Kept.{whole_feed, AreLone}
 use Rattle.agg_kit.specs.Payloads.{is_out_of_range}
 use Rattle.agg_kit.specs.Sound.{AreSound, AreOnce, AllSound}
 use Rattle.agg_kit.specs.Steps.{Stored, bounds_of, held, place, payload_after, recorded, step}
@@ -193,6 +194,41 @@ same-read xs i x y l e h = read xs i x y (read-there xs i x l e) h
 pub no-feeds : (fs : List Feed) → (length fs == 0) ≡ true → fs ≡ []
 no-feeds [] h = refl
 no-feeds (f ∷ fs) h = let k = (unsigned_Decides (length (f ∷ fs)) 0).0 h in absurd (omega arith)
+
+-- the one feed whose stream is known
+pub lone-is : (o : Option ℕ) (m : ℕ) (fs : List Feed) → o ≡ Some m → IfSome o (λ m. fs ≡ whole_feed m ∷ []) → fs ≡ whole_feed m ∷ []
+lone-is o m fs e h = subst (λ (o : Option ℕ). IfSome o (λ m. fs ≡ whole_feed m ∷ [])) e h
+
+-- its stream is that of a feed which has no other beside it, and keeps all keys
+pub lone-here : (fs rest : List Feed) (f : Feed) → fs ≡ f ∷ rest → (length rest == 0) ≡ true → f.keep ≡ All → fs ≡ whole_feed f.stream ∷ []
+lone-here fs rest f is none all = is ∙ ap (λ (l : List Feed). f ∷ l) (no-feeds rest none) ∙ ap (λ (k : Keep). let g : Feed = record { stream = f.stream; keep = k } in g ∷ []) all
+
+pub if_some : {X : Type 0} (P Q : X → Type 0) (o : Option X) → ((x : X) → P x → Q x) → IfSome o P → IfSome o Q
+if_some P Q None f h = tt
+if_some P Q (Some x) f h = f x h
+
+-- one more instrument's
+get-push : {X : Type 0} (xs : List X) (x y : X) (i : ℕ) → slice_get (xs ++ x ∷ []) i ≡ Some y → (slice_get xs i ≡ Some y) ⊎ ((i ≡ length xs) × (x ≡ y))
+get-push [] x y zero e = let same : x ≡ y = cc in inr (refl, same)
+get-push [] x y (suc i) e = absurd (cc)
+get-push (z ∷ xs) x y zero e = inl e
+get-push (z ∷ xs) x y (suc i) e = elim (get-push xs x y i e) [
+  | inl h ↦ inl h
+  | inr h ↦ inr (ap suc h.0, h.1)
+]
+
+pub lone_none : (p : Planned) (ys : List (Option ℕ)) → ys ≡ [] → AreLone p ys
+lone_none p ys is = λ i m at. none i m (sym (ap (λ (l : List (Option ℕ)). slice_get l i) is) ∙ at)
+  where
+    none : (i m : ℕ) → (let l : List (Option ℕ) = [] in slice_get l i) ≡ Some (Some m) → feeds_of p i ≡ whole_feed m ∷ []
+    none i m e = absurd (cc)
+
+pub lone_push : (p : Planned) (xs ys : List (Option ℕ)) (n : ℕ) (o : Option ℕ) → AreLone p xs → length xs ≡ n → IfSome o (λ m. feeds_of p n ≡ whole_feed m ∷ []) → ys ≡ xs ++ o ∷ [] → AreLone p ys
+lone_push p xs ys n o l e h is = λ i m at. by i m (get-push xs o (Some m) i (sym (ap (λ (l : List (Option ℕ)). slice_get l i) is) ∙ at))
+  where
+    by : (i m : ℕ) → (slice_get xs i ≡ Some (Some m)) ⊎ ((i ≡ length xs) × (o ≡ Some m)) → feeds_of p i ≡ whole_feed m ∷ []
+    by i m (inl g) = l i m g
+    by i m (inr g) = ap (feeds_of p) (g.0 ∙ e) ∙ subst (λ (o : Option ℕ). IfSome o (λ m. feeds_of p n ≡ whole_feed m ∷ [])) g.1 h
 
 pub if_some_self : {X : Type 0} (o x : Option X) → o ≡ x → IfSome o (λ i. x ≡ Some i)
 if_some_self None x e = tt

@@ -11,6 +11,7 @@ ghost use Rattle.agg_kit.specs.Feeds.{entries_of, series_at, shape_at, first_out
 ghost use Rattle.agg_kit.specs.Laws.{SumsAddUp, CountsAddUp, IsLimited, OwnPointsStay, FedGrows, RoundsHaveFed};
 ghost use Rattle.agg_kit.specs.Refusals.{is_negative_for, refused, refused_by, refused_in};
 ghost use Rattle.agg_kit.specs.Rounds.{StandsFor};
+ghost use Rattle.agg_kit.specs.Kept.{whole_feed, AreLone};
 ghost use Rattle.agg_kit.specs.Sound.{AllSound};
 ghost use Rattle.agg_kit.specs.Steps.{held, place, payload_after, step};
 
@@ -28,6 +29,8 @@ pub struct Tally {
     plan: Plan,
     overflow: AttrSet,
     series: Vec<Series>,
+    // Of each instrument with one feed, which keeps all keys, the feed's stream: a short way to a point that is held.
+    lone: Vec<Option<usize>>,
 }
 
 impl Model for Tally {
@@ -39,7 +42,7 @@ impl Model for Tally {
 
     ghost view = { λ t. record { plan = t.plan; series = entries_of t.series.items } };
 
-    ghost invariant = { λ t. IsTally t.plan t.overflow (entries_of t.series.items) };
+    ghost invariant = { λ t. IsTally t.plan t.overflow (entries_of t.series.items) t.lone.items };
 }
 
 impl Tally {
@@ -60,10 +63,12 @@ impl Tally {
     {
         let overflow = overflow_attrs(alloc)?;
         let series = no_points(alloc, plan.streams_len())?;
+        let lone = lone_streams(alloc, &plan)?;
         Ok(Tally {
             plan,
             overflow,
             series,
+            lone,
         })
     }
 
@@ -101,6 +106,7 @@ impl Tally {
             &self.plan,
             &self.overflow,
             &mut self.series,
+            lone_at(&self.lone, instrument),
             feeds,
             attrs,
             value,
@@ -127,6 +133,7 @@ impl Tally {
             plan: self.plan.try_copy()?,
             overflow: self.overflow.try_copy()?,
             series: copy_series(&self.series)?,
+            lone: Vec::from_slice(*self.lone.allocator(), self.lone.as_slice())?,
         })
     }
 
@@ -235,35 +242,62 @@ fn chosen<'a>(only: &'a Option<AttrSet>, attrs: &'a AttrSet) -> &'a AttrSet
     }
 }
 
-// The place of the point that a feed reaches, if the feed keeps all keys and the point is there.
-#[inline(always)]
-fn place_of(
-    plan: &Plan,
-    overflow: &AttrSet,
-    points: &Series,
-    feed: &Feed,
-    attrs: &AttrSet,
-) -> Option<usize>
-    requires { overflow.now ≡ overflow_set }
-    ensures { IfSome result (λ i. position (set_eq (place plan.now.limit points.now.entries (kept feed.now.keep attrs.now))) (keys_of points.now.entries) ≡ Some i) }
+// The stream of a feed that has no other beside it and keeps all keys.
+fn lone_stream(feeds: &[Feed]) -> Option<usize>
+    ensures { IfSome result (λ m. feeds.now ≡ whole_feed m ∷ []) }
 {
+    let Some((feed, rest)) = feeds.split_first() else {
+        return None;
+    };
+    if !rest.is_empty() {
+        return None;
+    }
     match &feed.keep {
-        Keep::All => points.find(plan.limit(), overflow, attrs),
+        Keep::All => Some(feed.stream),
         Keep::Only(_) => None,
     }
 }
 
-// Records a value in every feed's stream, or in none. A lone feed whose point is there needs the point's place alone.
+// That stream of each instrument that has one.
+#[tactic(auto, using(crate::proofs::Records::lone_none, crate::proofs::Records::lone_push))]
+fn lone_streams(alloc: Global, plan: &Plan) -> Result<Vec<Option<usize>>, NoMemory>
+    ensures { IfOk result (λ lone. AreLone plan.now lone.items) }
+{
+    let mut lone = Vec::new(alloc);
+    for instrument in 0..usize::MAX {
+        let Some(feeds) = plan.feeds(instrument) else {
+            return Ok(lone);
+        };
+        lone.push(lone_stream(feeds))?;
+    }
+    Ok(lone)
+}
+
+// That stream of an instrument, if it is kept.
+#[inline(always)]
+fn lone_at(lone: &Vec<Option<usize>>, instrument: usize) -> Option<usize>
+    ensures { IfSome result (λ m. slice_get lone.now.items instrument ≡ Some (Some m)) }
+{
+    match lone.get(instrument) {
+        Some(stream) => *stream,
+        None => None,
+    }
+}
+
+// Records a value in every feed's stream, or in none. Where the stream of a lone feed is given and the point is there, the
+// point's place alone is needed.
 #[inline(always)]
 fn record(
     plan: &Plan,
     overflow: &AttrSet,
     series: &mut Vec<Series>,
+    lone: Option<usize>,
     feeds: &[Feed],
     attrs: &AttrSet,
     value: i64,
 ) -> Result<(), MeasureFault>
     requires overflow { overflow.now ≡ overflow_set }
+    requires lone { IfSome lone (λ m. feeds.now ≡ whole_feed m ∷ []) }
     requires feeds { AreFeeds (length series.old.items) feeds.now }
     requires sound { AllSound plan.now.streams (entries_of series.old.items) }
     ensures ok { OnOk result (entries_of series.new.items ≡ applied plan.now feeds.now attrs.now value (entries_of series.old.items)) }
@@ -273,14 +307,13 @@ fn record(
     ensures no_memory { IfErr result (λ f. f ≡ MeasureFault.NoMemory → first_out plan.now attrs.now value (entries_of series.old.items) (whole_first feeds.now) ≡ None) }
     ensures held { AllHeld plan.now feeds.now attrs.now (entries_of series.old.items) → IfErr result (λ f. f ≢ MeasureFault.NoMemory) }
 {
-    if let Some((feed, rest)) = feeds.split_first()
-        && rest.is_empty()
-        && let Some(place) = place_of(plan, overflow, &series[feed.stream], feed, attrs)
+    if let Some(stream) = lone
+        && let Some(place) = series[stream].find(plan.limit(), overflow, attrs)
     {
-        let shape = shape_of(plan, feed.stream);
-        let lone = &mut series[feed.stream];
-        if !lone.try_add(place, shape, value) {
-            return Err(MeasureFault::Overflow(feed.stream));
+        let shape = shape_of(plan, stream);
+        let points = &mut series[stream];
+        if !points.try_add(place, shape, value) {
+            return Err(MeasureFault::Overflow(stream));
         }
         return Ok(());
     }

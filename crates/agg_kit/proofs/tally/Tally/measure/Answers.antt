@@ -1,14 +1,15 @@
-use Rattle.std.proofs.Common.{◌≡◌, ◌∙◌, ℕ, List, length, ap, sym, subst, refl, false, Option, Some, FitsSigned, w64, true≢false}
+use Rattle.std.proofs.Common.{◌≡◌, ◌∙◌, ◌∷◌, [], ℕ, List, length, slice_get, ap, sym, subst, refl, false, Option, Some, FitsSigned, w64, true≢false}
 use Rattle.std.proofs.lemmas.Int.{to_z-of_z}
 use Rattle.plan_kit.specs.Plans.{feeds_of, kind_of, AreFeeds, AllRise}
 use Rattle.plan_kit.specs.declared.feed.Feed.{Feed}
 use Rattle.plan_kit.specs.declared.instrument.Kind.{Kind}
 use Rattle.agg_kit.specs.Entries.{Entry, entry_of}
 use Rattle.agg_kit.specs.Feeds.{entries_of, applied, first_out, whole_first, AllWhole}
+use Rattle.agg_kit.specs.Kept.{whole_feed}
 use Rattle.agg_kit.specs.Refusals.{is_negative_for, refused, refused_by}
 use Rattle.agg_kit.specs.Rounds.{StandsFor}
 use Rattle.agg_kit.specs.Tallies.{Tallied}
-use Rattle.agg_kit.proofs.Records.{stored-length, sound-applied, sound-either, rising-feeds, some-kind, whole_first-whole, on_ok, if_err}
+use Rattle.agg_kit.proofs.Records.{stored-length, sound-applied, sound-either, rising-feeds, some-kind, whole_first-whole, on_ok, if_err, if_some}
 use Rattle.agg_kit.proofs.Refusals.{kind-there, kind-gone, refused-gone, refused-negative, refused-told, in-gone, in-negative, in-told}
 use Rattle.agg_kit.proofs.Rounds.{stands-push}
 use Rattle.agg_kit.proofs.tally.Tally.measure.Goals as goal
@@ -70,6 +71,11 @@ record-requires-clause-feeds c =
     subst (λ (n : ℕ). AreFeeds n c.in-Some.feeds.now) (sym (stored-length c.self.inside.plan.streams c.self.inside.series.items c.self.invariant.sound))
     (subst (AreFeeds (length c.self.inside.plan.streams)) (sym c.in-Some.ensures.value) c.in-Some.ensures.feeds)
 
+pub record-requires-clause-lone : goal.record-requires-clause-lone
+record-requires-clause-lone c =
+    if_some (λ (m : ℕ). slice_get c.self.inside.lone.items c.args.instrument ≡ Some (Some m)) (λ (m : ℕ). c.in-Some.feeds.now ≡ whole_feed m ∷ []) c.lone_at.result
+    (λ m at. c.in-Some.ensures.value ∙ c.self.invariant.lone_is c.args.instrument m at) c.lone_at.ensures
+
 pub invariant_of-self : goal.invariant_of-self
 invariant_of-self c =
     let fit : FitsSigned w64 c.args.value = c.ranges.value in
@@ -85,6 +91,7 @@ invariant_of-self c =
       sound = sound-either c.record.result p.streams before (applied p c.in-Some.feeds.now c.args.attrs.now c.args.value before) (entries_of c.record.new.series.items)
           (simp to_z-of_z at c.record.ensures.ok) c.record.ensures.unchanged c.self.invariant.sound
           (sound-applied p (length p.streams) c.in-Some.feeds.now c.args.attrs.now c.args.value before refl feeds rise c.self.invariant.sound);
+      lone_is = c.self.invariant.lone_is;
     }
 
 pub returns-clause-ok : goal.returns-clause-ok

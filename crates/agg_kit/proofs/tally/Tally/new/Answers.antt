@@ -9,6 +9,7 @@ pub invariant_of-result : goal.invariant_of-result
 invariant_of-result c = record {
   overflow_is = c.in_ok-overflow.ensures;
   sound = subst (AllSound c.args.plan.streams) (sym (c.in_ok-series.ensures ∙ ap (λ n. replicate n []) c.streams_len.ensures.len)) (sound-nothing c.args.plan.streams);
+  lone_is = c.in_ok-lone.ensures;
 }
 
 pub returns-clause-stands : goal.returns-clause-stands
@@ -16,6 +17,9 @@ returns-clause-stands c = c.in_ok-series.ensures ∙ ap (λ n. replicate n []) c
 
 pub returns-in_err-overflow-clause-fed : goal.returns-in_err-overflow-clause-fed
 returns-in_err-overflow-clause-fed c = rounds_have_fed
+
+pub returns-in_err-lone-clause-fed : goal.returns-in_err-lone-clause-fed
+returns-in_err-lone-clause-fed c = rounds_have_fed
 
 pub returns-in_err-series-clause-fed : goal.returns-in_err-series-clause-fed
 returns-in_err-series-clause-fed c = rounds_have_fed

@@ -8,6 +8,7 @@ pub invariant_of-self : goal.invariant_of-self
 invariant_of-self c = record {
   overflow_is = c.self.invariant.overflow_is;
   sound = subst (AllSound c.self.inside.plan.streams) (sym (c.in_ok-series.ensures ∙ ap (λ n. replicate n []) c.streams_len.ensures.len)) (sound-nothing c.self.inside.plan.streams);
+  lone_is = c.self.invariant.lone_is;
 }
 
 pub returns-clause-stands : goal.returns-clause-stands
