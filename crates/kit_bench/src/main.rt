@@ -11,7 +11,9 @@ mod gateways;
 mod measures;
 mod merges;
 mod mutexes;
+mod recordings;
 mod rounds;
+mod shared_writers;
 mod takes;
 mod tallies;
 mod turns;
@@ -38,11 +40,13 @@ fn main(rt: HostRuntime) -> anyhow::Result<()> {
     if full {
         changes::run(&rt, 7, 400_000)?;
         measures::run(&rt, 2_000_000, 2_000)?;
+        recordings::run(&rt, 7, 400_000)?;
         takes_and_merges(&rt, &[1_000, 10_000, 100_000])?;
         all_rounds(&rt, &[1_000, 100_000])
     } else {
         changes::run(&rt, 1, 1_000)?;
         measures::run(&rt, 20, 5)?;
+        recordings::run(&rt, 1, 100)?;
         takes_and_merges(&rt, &[10, 40])?;
         all_rounds(&rt, &[10, 40])
     }

@@ -1,4 +1,4 @@
-//! Attribute sets, and tallies of one instrument.
+//! Attribute sets, and plans and tallies of one instrument.
 use agg_kit::Tally;
 use attr_kit::{AllowList, AttrSet, AttrValue, Keep, Seq, Txt};
 use plan_kit::{Aggregation, Instrument, Kind, NameRule, Plan, View};
@@ -49,8 +49,8 @@ pub fn first_key(alloc: Global) -> anyhow::Result<View> {
     })
 }
 
-/// A tally without points, of one instrument of a kind under these views.
-pub fn tally(alloc: Global, kind: Kind, views: Vec<View>) -> anyhow::Result<Tally> {
+/// A plan of one instrument of a kind under these views.
+pub fn plan(alloc: Global, kind: Kind, views: Vec<View>) -> anyhow::Result<Plan> {
     let mut instruments = Vec::new(alloc);
     instruments.push(Instrument {
         scope: Txt::from_str(alloc, "app")?,
@@ -59,6 +59,10 @@ pub fn tally(alloc: Global, kind: Kind, views: Vec<View>) -> anyhow::Result<Tall
         kind,
     })?;
     let instruments = Seq::from_vec(instruments);
-    let plan = Plan::build(alloc, instruments, Seq::from_vec(views), LIMIT)?;
-    Ok(Tally::new(alloc, plan)?)
+    Ok(Plan::build(alloc, instruments, Seq::from_vec(views), LIMIT)?)
+}
+
+/// A tally without points, of one instrument of a kind under these views.
+pub fn tally(alloc: Global, kind: Kind, views: Vec<View>) -> anyhow::Result<Tally> {
+    Ok(Tally::new(alloc, plan(alloc, kind, views)?)?)
 }
