@@ -39,7 +39,8 @@ fn copied(rt: &HostRuntime, round: &Round<'_>, writer: &WriterId) -> anyhow::Res
     tell(rt, "copy out", export.points().len() as u64, took)
 }
 
-/// Rounds of so many points: in a new arena, and in one that was reset.
+/// Rounds of so many points: in a new arena, in one that was reset, and in one that was reset twice, whose last piece holds
+/// the whole round.
 pub fn run(rt: &HostRuntime, series: u32) -> anyhow::Result<()> {
     let alloc = rt.alloc();
     let writer = writer(alloc)?;
@@ -49,5 +50,8 @@ pub fn run(rt: &HostRuntime, series: u32) -> anyhow::Result<()> {
     copied(rt, &round, &writer)?;
     bump.reset()?;
     let round = placed(rt, "place in an arena that was reset", &bump, &tally)?;
-    copied(rt, &round, &writer)
+    copied(rt, &round, &writer)?;
+    bump.reset()?;
+    placed(rt, "place in an arena that was reset twice", &bump, &tally)?;
+    Ok(())
 }
