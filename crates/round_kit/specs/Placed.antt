@@ -1,5 +1,6 @@
 -- What lies in an arena, as the values that it stands for.
-use Rattle.std.specs.Prelude.{ℕ, List}
+use Rattle.std.specs.Prelude.{ℕ, List, map}
+use Rattle.std.specs.List.{zip}
 use Rattle.std.specs.Borrow.{Bor}
 use Rattle.attr_kit.specs.declared.attr_value.AttrValue.{AttrValue}
 use Rattle.attr_kit.specs.declared.attr_value.AttrValue.TheVariants as values
@@ -21,8 +22,9 @@ value_of (placed_value.Text t) = values.Text t.now
 value_of (placed_value.Truth b) = values.Truth b
 value_of (placed_value.Whole n) = values.Whole n
 
-abbrev pub pair_of : Bor (List ℕ) × RoundValue → List ℕ × AttrValue
-pair_of p = (p.0.now, value_of p.1)
+-- each key beside its value
+abbrev pub pairs_of : List (Bor (List ℕ)) → List RoundValue → List (List ℕ × AttrValue)
+pairs_of keys values = zip (map (λ key. key.now) keys) (map value_of values)
 
 abbrev pub shape_of : RoundShape → Shape
 shape_of (placed_shape.Sum monotonic) = shapes.Sum monotonic
@@ -35,4 +37,4 @@ stream_of s = record { scope = s.scope.now; name = s.name.now; unit = s.unit.now
 abbrev pub payload_of : RoundPayload → Payload
 payload_of (placed_payload.Sum n) = payloads.Sum n
 payload_of (placed_payload.Gauge v) = payloads.Gauge v
-payload_of (placed_payload.Hist count sum buckets range) = payloads.Hist count sum buckets.now range
+payload_of (placed_payload.Hist h) = payloads.Hist h.now.count h.now.sum h.now.buckets.now h.now.range

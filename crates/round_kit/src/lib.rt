@@ -14,7 +14,7 @@ mod round;
 mod set;
 mod stream;
 
-pub use payload::RoundPayload;
+pub use payload::{RoundHistogram, RoundPayload};
 pub use round::{Round, RoundPoint, place};
 pub use set::{RoundSet, RoundValue};
 pub use stream::{RoundShape, RoundStream};

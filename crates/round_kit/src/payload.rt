@@ -7,17 +7,22 @@ use bumpalo::Bump;
 use point_kit::Payload;
 use std::alloc::Global;
 
-/// The value of a point, its buckets in an arena.
+/// What a histogram has counted, its buckets in an arena.
+#[derive(Clone, Copy, Debug)]
+pub struct RoundHistogram<'b> {
+    pub count: u64,
+    pub sum: i64,
+    pub buckets: &'b [u64],
+    /// The least and the greatest value, where there are values.
+    pub range: Option<(i64, i64)>,
+}
+
+/// The value of a point. A histogram's parts lie in an arena, so that a point of another kind takes no room for them.
 #[derive(Clone, Copy, Debug)]
 pub enum RoundPayload<'b> {
     Sum(i64),
     Gauge(i64),
-    Hist {
-        count: u64,
-        sum: i64,
-        buckets: &'b [u64],
-        range: Option<(i64, i64)>,
-    },
+    Hist(&'b RoundHistogram<'b>),
 }
 
 impl<'b> RoundPayload<'b> {
@@ -32,12 +37,12 @@ impl<'b> RoundPayload<'b> {
                 sum,
                 buckets,
                 range,
-            } => RoundPayload::Hist {
+            } => RoundPayload::Hist(bump.try_alloc(RoundHistogram {
                 count: *count,
                 sum: *sum,
                 buckets: bump.try_alloc_slice_copy(buckets.as_slice())?,
                 range: *range,
-            },
+            })?),
         })
     }
 
@@ -47,16 +52,11 @@ impl<'b> RoundPayload<'b> {
         Ok(match self {
             RoundPayload::Sum(sum) => Payload::Sum(*sum),
             RoundPayload::Gauge(value) => Payload::Gauge(*value),
-            RoundPayload::Hist {
-                count,
-                sum,
-                buckets,
-                range,
-            } => Payload::Hist {
-                count: *count,
-                sum: *sum,
-                buckets: Seq::from_vec(Vec::from_slice(alloc, buckets)?),
-                range: *range,
+            RoundPayload::Hist(histogram) => Payload::Hist {
+                count: histogram.count,
+                sum: histogram.sum,
+                buckets: Seq::from_vec(Vec::from_slice(alloc, histogram.buckets)?),
+                range: histogram.range,
             },
         })
     }

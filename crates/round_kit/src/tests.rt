@@ -134,14 +134,14 @@ fn point_at(export: &Export, place: usize) -> Option<(&str, &str, i64)> {
 // The same of a round.
 fn placed_at<'b>(round: &Round<'b>, place: usize) -> Option<(&'b str, &'b str, i64)> {
     let point = round.points().get(place)?;
-    let route = match point.attrs.pairs().first() {
-        Some((_, RoundValue::Text(text))) => *text,
+    let route = match point.attrs.values().first() {
+        Some(RoundValue::Text(text)) => *text,
         _ => "",
     };
     let total = match point.payload {
         RoundPayload::Sum(sum) => sum,
         RoundPayload::Gauge(value) => value,
-        RoundPayload::Hist { sum, .. } => sum,
+        RoundPayload::Hist(histogram) => histogram.sum,
     };
     Some((point.stream.name, route, total))
 }
@@ -200,6 +200,45 @@ fn points_are_copied_whole(rt: HostRuntime) -> Result<(), Fail> {
     let export = collected(rt.alloc(), &tally, 200)?;
     let wanted = point_of_ten(rt.alloc())?;
     assert!(rt; export.points().first() == Some(&wanted));
+    Ok(())
+}
+
+// A text of more bytes than one that is held in place.
+const LONG: &str = "a text of thirty-one bytes here";
+
+#[test]
+fn long_texts_are_placed_and_copied(rt: HostRuntime) -> Result<(), Fail> {
+    let entries = [(0, LONG, 3), (0, "a", 4)];
+    let tally = recorded(rt.alloc(), bounded(rt.alloc())?, &entries)?;
+    let bump = Bump::new(rt.alloc());
+    let round = place(&bump, &tally, 100, 200)?;
+    assert_eq!(rt; placed_at(&round, 0), Some(("requests", LONG, 3)));
+    let export = round.copy_out(rt.alloc(), &writer(rt.alloc(), 1)?)?;
+    assert_eq!(rt; point_at(&export, 0), Some(("requests", LONG, 3)));
+    assert_eq!(rt; point_at(&export, 1), Some(("requests", "a", 4)));
+    Ok(())
+}
+
+// The set of a point of a round that has the first of these keys and, where it is told, the second.
+fn keyed(alloc: Global, second: bool) -> Result<AttrSet, Fail> {
+    let mut pairs = Vec::new(alloc);
+    pairs.push((Txt::from_str(alloc, "route")?, AttrValue::Truth(true)))?;
+    if second {
+        pairs.push((Txt::from_str(alloc, "tries")?, AttrValue::Whole(-7)))?;
+    }
+    Ok(AttrSet::from_pairs(pairs)?)
+}
+
+#[test]
+fn sets_of_other_keys_have_their_own(rt: HostRuntime) -> Result<(), Fail> {
+    let mut tally = recorded(rt.alloc(), bounded(rt.alloc())?, &[(0, "a", 1)])?;
+    tally.measure(0, &keyed(rt.alloc(), true)?, 2)?;
+    tally.measure(0, &keyed(rt.alloc(), false)?, 3)?;
+    let export = collected(rt.alloc(), &tally, 200)?;
+    let sets = export.points().iter().map(|point| point.attrs.len());
+    assert!(rt; sets.eq([1, 2, 1].iter().copied()));
+    assert!(rt; export.points()[1].attrs == keyed(rt.alloc(), true)?);
+    assert!(rt; export.points()[2].attrs == keyed(rt.alloc(), false)?);
     Ok(())
 }
 

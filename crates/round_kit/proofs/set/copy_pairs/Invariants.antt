@@ -1,6 +1,6 @@
-use Rattle.std.proofs.Common.{◌≡◌, map, take}
-use Rattle.round_kit.specs.Placed.{pair_of}
+use Rattle.std.proofs.Common.{◌≡◌, take}
+use Rattle.round_kit.specs.Placed.{pairs_of}
 use Rattle.round_kit.proofs.set.copy_pairs.Given as goal
 
-abbrev pub invariant-loop-key : goal.invariant-loop-key
-invariant-loop-key l = l.copy.items ≡ map pair_of (take l.key-index l.pairs)
+abbrev pub invariant-loop-index : goal.invariant-loop-index
+invariant-loop-index l = l.copy.items ≡ pairs_of (take l.index l.keys) (take l.index l.values)
