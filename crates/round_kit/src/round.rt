@@ -135,9 +135,9 @@ fn copy_points(alloc: Global, points: &[RoundPoint<'_>]) -> Result<Vec<ExportPoi
 /// collection is covered by the next. The tally stays as it is. `NoMemory` is the only refusal; what was placed until then
 /// stays in the arena until its reset.
 ///
-/// O(size of the points), each value and list copied once, the texts of a stream once for all its points, and a key once for
-/// all points in a row that have it at the same place. The list of points gets its room once. No allocation outside the
-/// arena, which is the caller's and is reset by nobody else.
+/// O(size of the points), each value and list copied once, the texts of a stream once for all its points, and the keys of a
+/// set once for all points in a row that have the same. The lists of points and of values get their room once. No allocation
+/// outside the arena, which is the caller's and is reset by nobody else.
 pub fn place<'b>(
     bump: &'b Bump,
     tally: &Tally,
