@@ -148,6 +148,7 @@ fn place_values<'b>(
 ) -> Result<&'b [RoundValue<'b>], NoMemory>
     ensures { IfOk result (λ values. map value_of values.now ≡ values_of pairs.now) }
 {
+    // The list is given its room where it stays: `with_capacity` answers a list, which is copied before it is used.
     let mut values: Vec<RoundValue<'b>, &'b Bump> = Vec::new(bump);
     values.reserve_exact(pairs.len())?;
     for (_, value) in pairs {

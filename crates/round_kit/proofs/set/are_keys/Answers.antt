@@ -1,4 +1,4 @@
-use Rattle.std.proofs.Common.{◌≡◌, ◌<◌, ◌∙◌, ℕ, ap, arith, length, sym}
+use Rattle.std.proofs.Common.{◌∙◌, ap, arith}
 use Rattle.round_kit.proofs.Pairs.{not_apart, same_more}
 use Rattle.round_kit.proofs.set.are_keys.Goals as goal
 

@@ -1,4 +1,4 @@
-use Rattle.std.proofs.Common.{◌≡◌, ◌∙◌, ◌++◌, ◌∷◌, [], ap, arith, sym}
+use Rattle.std.proofs.Common.{◌∙◌, ◌++◌, ◌∷◌, [], arith, sym}
 use Rattle.round_kit.proofs.Pairs.{pairs_more}
 use Rattle.round_kit.proofs.set.copy_pairs.Goals as goal
 
