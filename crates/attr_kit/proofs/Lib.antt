@@ -4,6 +4,7 @@ pub mod Finding
 pub mod Firsts
 pub mod Keeping
 pub mod LowerCase
+pub mod Padded
 pub mod Places
 pub mod Putting
 pub mod Repeats

@@ -28,5 +28,6 @@ pub use error::{AttrFault, NoMemory};
 pub use exact::Exact;
 pub use keep::Keep;
 pub use seq::Seq;
+pub use short_text::ShortText;
 pub use try_copy::{TryCopy, copy_all};
 pub use txt::Txt;

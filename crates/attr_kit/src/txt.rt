@@ -100,6 +100,17 @@ impl Txt {
         Txt { text }
     }
 
+    /// The text where it is held in place, as every text that was made of at most 30 bytes is. Takes no memory.
+    #[inline]
+    pub fn short(&self) -> Option<&ShortText>
+        ensures { IfSome result (λ short. short.now ≡ self.now) }
+    {
+        match &self.text {
+            Form::Short(text) => Some(text),
+            Form::Long(_) => None,
+        }
+    }
+
     /// The text as a slice. Takes no memory.
     #[inline]
     pub fn as_str(&self) -> &str
@@ -142,7 +153,11 @@ impl PartialEq for Txt {
     ghost laws = { Prim.search (comparing, rules) };
 
     fn eq(&self, other: &Txt) -> bool {
-        self.as_str() == other.as_str()
+        // Most texts lie in place, where they are compared as arrays of a known size.
+        match (&self.text, &other.text) {
+            (Form::Short(text), Form::Short(other)) => text == other,
+            _ => self.as_str() == other.as_str(),
+        }
     }
 }
 

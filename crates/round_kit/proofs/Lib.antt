@@ -1,3 +1,4 @@
 pub mod Pairs
+pub mod Room
 pub mod Sound
 pub mod Steps

@@ -1,5 +1,5 @@
 -- What lies in an arena, as the values that it stands for.
-use Rattle.std.specs.Prelude.{ℕ, List, map}
+use Rattle.std.specs.Prelude.{ℕ, List, Option, Some, None, map}
 use Rattle.std.specs.List.{zip}
 use Rattle.std.specs.Borrow.{Bor}
 use Rattle.attr_kit.specs.declared.attr_value.AttrValue.{AttrValue}
@@ -18,9 +18,16 @@ use Rattle.round_kit.specs.declared.stream.RoundShape.TheVariants as placed_shap
 use Rattle.round_kit.specs.declared.stream.RoundStream.{RoundStream}
 
 abbrev pub value_of : RoundValue → AttrValue
-value_of (placed_value.Text t) = values.Text t.now
+value_of (placed_value.Short t) = values.Text t
+value_of (placed_value.Long t) = values.Text t.now
 value_of (placed_value.Truth b) = values.Truth b
 value_of (placed_value.Whole n) = values.Whole n
+
+-- the text of a value that is one
+abbrev pub text_of : AttrValue → Option (List ℕ)
+text_of (values.Text t) = Some t
+text_of (values.Truth b) = None
+text_of (values.Whole n) = None
 
 -- each key beside its value
 abbrev pub pairs_of : List (Bor (List ℕ)) → List RoundValue → List (List ℕ × AttrValue)

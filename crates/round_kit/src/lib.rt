@@ -13,11 +13,13 @@ mod payload;
 mod round;
 mod set;
 mod stream;
+mod text;
 
 pub use payload::{RoundHistogram, RoundPayload};
 pub use round::{Round, RoundPoint, place};
 pub use set::{RoundSet, RoundValue};
 pub use stream::{RoundShape, RoundStream};
+pub use text::RoundText;
 
 #[cfg(test)]
 mod tests;

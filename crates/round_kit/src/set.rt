@@ -1,41 +1,46 @@
 //! Attribute sets in an arena.
-ghost use Rattle.std.specs.Prelude.{◌≡◌, IfOk, IsTrue, length, map};
+ghost use Rattle.std.specs.Prelude.{◌≡◌, ◌+◌, ◌<◌, ◌++◌, ◌∷◌, [], IfOk, IsTrue, OnOk, length, map, vec_len, vec_capacity};
 ghost use Rattle.std.specs.Map.{keys_of, values_of};
+ghost use Rattle.std.specs.Option.{option_copied};
 ghost use Rattle.attr_kit.specs.Attributes.{AreAttributes};
-ghost use Rattle.round_kit.specs.Placed.{value_of, pairs_of};
+ghost use Rattle.round_kit.specs.Placed.{text_of, value_of, pairs_of};
 
+use crate::text::RoundText;
 use attr_kit::{AttrSet, AttrValue, NoMemory, Txt};
 use bumpalo::Bump;
 use bumpalo::collections::into_bump_slice;
 use std::alloc::Global;
 use std::marker::Model;
 
-/// The value of an attribute, its text in an arena.
-#[derive(Clone, Copy, Debug)]
+/// The value of an attribute, in an arena. A text of at most 20 bytes lies in the value itself.
+#[derive(Debug, Drop)]
 pub enum RoundValue<'b> {
-    Text(&'b str),
+    Short(RoundText),
+    Long(&'b str),
     Truth(bool),
     Whole(i64),
 }
 
 impl<'b> RoundValue<'b> {
+    /// The text, where the value is one.
+    pub fn text(&self) -> Option<&str>
+        ensures { option_copied result ≡ text_of (value_of self.now) }
+    {
+        match self {
+            RoundValue::Short(text) => Some(text.as_str()),
+            RoundValue::Long(text) => Some(*text),
+            RoundValue::Truth(_) | RoundValue::Whole(_) => None,
+        }
+    }
+
     fn copy_out(&self, alloc: Global) -> Result<AttrValue, NoMemory>
         ensures { IfOk result (λ value. value ≡ value_of self.now) }
     {
         Ok(match self {
-            RoundValue::Text(text) => AttrValue::Text(Txt::from_str(alloc, text)?),
+            RoundValue::Short(text) => AttrValue::Text(Txt::from_str(alloc, text.as_str())?),
+            RoundValue::Long(text) => AttrValue::Text(Txt::from_str(alloc, text)?),
             RoundValue::Truth(truth) => AttrValue::Truth(*truth),
             RoundValue::Whole(number) => AttrValue::Whole(*number),
-        })
-    }
-
-    fn place(bump: &'b Bump, value: &AttrValue) -> Result<RoundValue<'b>, NoMemory>
-        ensures { IfOk result (λ placed. value_of placed ≡ value.now) }
-    {
-        Ok(match value {
-            AttrValue::Text(text) => RoundValue::Text(bump.try_alloc_str(text.as_str())?),
-            AttrValue::Truth(truth) => RoundValue::Truth(*truth),
-            AttrValue::Whole(number) => RoundValue::Whole(*number),
         })
     }
 }
@@ -142,6 +147,35 @@ fn place_keys<'b>(bump: &'b Bump, pairs: &[(Txt, AttrValue)]) -> Result<&'b [&'b
     Ok(into_bump_slice(keys))
 }
 
+// Puts a value at the end of a list that has room for it. Each kind is put there as it is made: a value that is made first
+// and put there later is copied twice.
+fn put_value<'b>(
+    bump: &'b Bump,
+    values: &mut Vec<RoundValue<'b>, &'b Bump>,
+    value: &AttrValue,
+) -> Result<(), NoMemory>
+    requires { vec_len values.old < vec_capacity values.old }
+    ensures placed { OnOk result (map value_of values.new.items ≡ map value_of values.old.items ++ value.now ∷ []) }
+    ensures len { OnOk result (vec_len values.new ≡ vec_len values.old + 1) }
+    ensures room { OnOk result (vec_capacity values.new ≡ vec_capacity values.old) }
+{
+    match value {
+        AttrValue::Text(text) => {
+            if let Some(short) = text.short() {
+                if let Some(text) = RoundText::of(short) {
+                    values.push_reserved(RoundValue::Short(text));
+                    return Ok(());
+                }
+            }
+            let text = bump.try_alloc_str(text.as_str())?;
+            values.push_reserved(RoundValue::Long(text));
+        }
+        AttrValue::Truth(truth) => values.push_reserved(RoundValue::Truth(*truth)),
+        AttrValue::Whole(number) => values.push_reserved(RoundValue::Whole(*number)),
+    }
+    Ok(())
+}
+
 fn place_values<'b>(
     bump: &'b Bump,
     pairs: &[(Txt, AttrValue)],
@@ -152,7 +186,7 @@ fn place_values<'b>(
     let mut values: Vec<RoundValue<'b>, &'b Bump> = Vec::new(bump);
     values.reserve_exact(pairs.len())?;
     for (_, value) in pairs {
-        values.push_reserved(RoundValue::place(bump, value)?);
+        put_value(bump, &mut values, value)?;
     }
     Ok(into_bump_slice(values))
 }

@@ -135,8 +135,8 @@ fn point_at(export: &Export, place: usize) -> Option<(&str, &str, i64)> {
 fn placed_at<'b>(round: &Round<'b>, place: usize) -> Option<(&'b str, &'b str, i64)> {
     let point = round.points().get(place)?;
     let route = match point.attrs.values().first() {
-        Some(RoundValue::Text(text)) => *text,
-        _ => "",
+        Some(value) => value.text().unwrap_or(""),
+        None => "",
     };
     let total = match point.payload {
         RoundPayload::Sum(sum) => sum,
@@ -203,7 +203,7 @@ fn points_are_copied_whole(rt: HostRuntime) -> Result<(), Fail> {
     Ok(())
 }
 
-// A text of more bytes than one that is held in place.
+// A text of more bytes than a value of a round holds in itself.
 const LONG: &str = "a text of thirty-one bytes here";
 
 #[test]
