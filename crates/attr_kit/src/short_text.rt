@@ -49,7 +49,8 @@ impl ShortText {
     /// The text as a slice. Takes no memory.
     #[inline]
     pub fn as_str(&self) -> &str
-        ensures { result.now ≡ self.now }
+        ensures value { result.now ≡ self.now }
+        ensures room { length self.now ≤ 30 }
     {
         // The invariant says that these bytes are UTF-8, so they are not looked at again.
         unsafe { str::from_utf8_unchecked(&self.bytes[..usize::from(self.len)]) }

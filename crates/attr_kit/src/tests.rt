@@ -116,6 +116,29 @@ fn stays_one_text(rt: &impl Abort, alloc: Global, text: &str, lower: &str) -> Re
     Ok(())
 }
 
+// A text in place shows its bytes with zeros behind them; one byte more than there is room, and it lies in memory.
+#[test]
+fn short_texts_are_shown_in_their_room(rt: HostRuntime) -> Result<(), Fail> {
+    let alloc = rt.alloc();
+    let held = Txt::from_str(alloc, "shop")?;
+    let other = Txt::from_str(alloc, "ship")?;
+    assert!(rt;
+        Txt::from_str(alloc, "thirty-one bytes lie in memory.")?
+            .short()
+            .is_none()
+    );
+    let short = held.short().ok_or("in memory")?;
+    let ship = other.short().ok_or("in memory")?;
+    assert_eq!(rt; short.as_str(), "shop");
+    assert_eq!(rt; &short.room()[..6], [115, 104, 111, 112, 0, 0].as_slice());
+    assert!(rt; short == short && short != ship);
+    assert_eq!(rt;
+        format!(in alloc; "{short:?}")?.as_str(),
+        "ShortText { text: \"shop\" }"
+    );
+    Ok(())
+}
+
 // 0, 4, 30 and 31 bytes: the last alone lies in memory.
 #[test]
 fn texts_are_one_in_place_and_in_memory(rt: HostRuntime) -> Result<(), Fail> {

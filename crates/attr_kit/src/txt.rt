@@ -1,5 +1,5 @@
 //! A text, seen by contracts as the list of its bytes.
-ghost use Rattle.std.specs.Prelude.{◌≡◌, ◌↔◌, nat_eq, IfOk, IfSome, IsTrue, [], map, refl, string_bytes};
+ghost use Rattle.std.specs.Prelude.{◌≡◌, ◌<◌, ◌≤◌, ◌↔◌, nat_eq, IfNone, IfOk, IfSome, IsTrue, OnErr, [], length, map, refl, string_bytes};
 ghost use Rattle.std.specs.Char.{to_ascii_lowercase};
 ghost use Rattle.std.proofs.Common.{rules};
 ghost use Rattle.std.specs.Cmp.{partial_order_from_own_ties};
@@ -33,16 +33,19 @@ enum Form {
 
 impl Model for Txt {
     ghost use Rattle.std.specs.Prelude.{List, ℕ};
-    ghost use Rattle.attr_kit.specs.Texts.{form_bytes};
+    ghost use Rattle.attr_kit.specs.Texts.{form_bytes, IsPlaced};
 
     ghost Value = { List ℕ };
 
     ghost view = { λ t. form_bytes t.text };
+
+    ghost invariant = { λ t. IsPlaced t.text };
 }
 
 /// The short form of a text, where it has room.
 fn in_place(text: &str) -> Option<Txt>
-    ensures { IfSome result (λ copy. copy ≡ text.now) }
+    ensures some { IfSome result (λ copy. copy ≡ text.now) }
+    ensures none { IfNone result (30 < length text.now) }
 {
     if text.len() <= ROOM {
         let text = Form::Short(ShortText::from_str(text));
@@ -53,9 +56,10 @@ fn in_place(text: &str) -> Option<Txt>
 }
 
 impl Txt {
-    /// A copy of a text. O(n).
+    /// A copy of a text. O(n). Takes memory only for a text of more than 30 bytes.
     pub fn from_str(alloc: Global, text: &str) -> Result<Txt, NoMemory>
-        ensures { IfOk result (λ copy. copy ≡ text.now) }
+        ensures ok { IfOk result (λ copy. copy ≡ text.now) }
+        ensures err { OnErr result (30 < length text.now) }
     {
         if let Some(short) = in_place(text) {
             return Ok(short);
@@ -78,7 +82,8 @@ impl Txt {
 
     /// The string of the text. Takes memory only for a text of at most 30 bytes.
     pub fn into_string(self, alloc: Global) -> Result<String, NoMemory>
-        ensures { IfOk result (λ string. string_bytes string ≡ self) }
+        ensures ok { IfOk result (λ string. string_bytes string ≡ self) }
+        ensures err { OnErr result (length self ≤ 30) }
     {
         match self.text {
             Form::Short(text) => Ok(String::from_str(alloc, text.as_str())?),
@@ -100,10 +105,11 @@ impl Txt {
         Txt { text }
     }
 
-    /// The text where it is held in place, as every text that was made of at most 30 bytes is. Takes no memory.
+    /// The text where it is held in place, as every text of at most 30 bytes is. Takes no memory.
     #[inline]
     pub fn short(&self) -> Option<&ShortText>
-        ensures { IfSome result (λ short. short.now ≡ self.now) }
+        ensures some { IfSome result (λ short. short.now ≡ self.now) }
+        ensures none { IfNone result (30 < length self.now) }
     {
         match &self.text {
             Form::Short(text) => Some(text),
@@ -129,9 +135,10 @@ impl Txt {
         self.as_str().is_empty()
     }
 
-    /// An equal text. O(n).
+    /// An equal text. O(n). Takes memory only for a text of more than 30 bytes.
     pub fn try_copy(&self) -> Result<Txt, NoMemory>
-        ensures { IfOk result (λ copy. copy ≡ self.now) }
+        ensures ok { IfOk result (λ copy. copy ≡ self.now) }
+        ensures err { OnErr result (30 < length self.now) }
     {
         let text = match &self.text {
             Form::Short(text) => Form::Short(text.copy()),

@@ -1,5 +1,5 @@
 //! A text of few bytes, in a value of a round.
-ghost use Rattle.std.specs.Prelude.{◌≡◌, IfSome};
+ghost use Rattle.std.specs.Prelude.{◌≡◌, ◌<◌, ◌≤◌, IfNone, IfSome, length};
 
 use attr_kit::ShortText;
 use std::marker::Model;
@@ -30,7 +30,8 @@ impl RoundText {
     /// A copy of a text that has room. The whole room is copied, whose size is known, and not a run of bytes of any length.
     #[inline]
     pub(crate) fn of(text: &ShortText) -> Option<RoundText>
-        ensures { IfSome result (λ copy. copy ≡ text.now) }
+        ensures some { IfSome result (λ copy. copy ≡ text.now) }
+        ensures none { IfNone result (20 < length text.now) }
     {
         let len = text.as_str().len();
         if len > ROOM {
@@ -47,7 +48,8 @@ impl RoundText {
     /// The text as a slice of the arena.
     #[inline]
     pub fn as_str(&self) -> &str
-        ensures { result.now ≡ self.now }
+        ensures value { result.now ≡ self.now }
+        ensures room { length self.now ≤ 20 }
     {
         // The invariant says that these bytes are UTF-8, so they are not looked at again.
         unsafe { str::from_utf8_unchecked(&self.bytes[..usize::from(self.len)]) }

@@ -17,5 +17,5 @@ loop-place-preserved c =
       | in-Exact+in_ok-try_copy-in-Exact+in_ok-add-in-Exact w ↦
           let own = w.in-Exact.name in
           rw (w.exact-is, w.every-is) (index_exact c.loop-place.exact w.add.new.lists c.loop-place.every.items views place view own c.loop-place-test.true c.index-views-place.is w.in-Exact.is c.loop-place.invariant
-          (λ q. w.in_ok-add-in-Exact.ensures q ∙ ap (λ n. cond (text_eq n q) (listed c.loop-place.exact q ++ place ∷ []) (listed c.loop-place.exact q)) (w.in_lower_case.ensures ∙ ap lower w.in_ok-try_copy-in-Exact.ensures)))
+          (λ q. w.in_ok-add-in-Exact.ensures q ∙ ap (λ n. cond (text_eq n q) (listed c.loop-place.exact q ++ place ∷ []) (listed c.loop-place.exact q)) (w.in_lower_case.ensures ∙ ap lower w.in_ok-try_copy-in-Exact.ensures.ok)))
     ]
