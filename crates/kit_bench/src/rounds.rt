@@ -10,6 +10,9 @@ use round_kit::{Round, place};
 use std::alloc::Global;
 use std::time::Instant;
 
+// After one reset an arena may still ask for a greater piece, and the system gives out its pages as they are first written.
+const ROUNDS_BEFORE: u64 = 4;
+
 // A counter with so many points.
 fn filled(alloc: Global, series: u32) -> anyhow::Result<Tally> {
     let mut tally = tally(alloc, Kind::Counter, Vec::new(alloc))?;
@@ -39,8 +42,8 @@ fn copied(rt: &HostRuntime, round: &Round<'_>, writer: &WriterId) -> anyhow::Res
     tell(rt, "copy out", export.points().len() as u64, took)
 }
 
-/// Rounds of so many points: in a new arena, in one that was reset, and in one that was reset twice, whose last piece holds
-/// the whole round.
+/// Rounds of so many points: in a new arena, in one that was reset, and in one that is kept for round after round, as a
+/// writer's is, whose last piece holds the whole round.
 pub fn run(rt: &HostRuntime, series: u32) -> anyhow::Result<()> {
     let alloc = rt.alloc();
     let writer = writer(alloc)?;
@@ -51,7 +54,11 @@ pub fn run(rt: &HostRuntime, series: u32) -> anyhow::Result<()> {
     bump.reset()?;
     let round = placed(rt, "place in an arena that was reset", &bump, &tally)?;
     copied(rt, &round, &writer)?;
+    for _ in 0..ROUNDS_BEFORE {
+        bump.reset()?;
+        place(&bump, &tally, 100, 200)?;
+    }
     bump.reset()?;
-    placed(rt, "place in an arena that was reset twice", &bump, &tally)?;
+    placed(rt, "place in an arena that is kept", &bump, &tally)?;
     Ok(())
 }
