@@ -1,3 +1,4 @@
+pub mod Alike
 pub mod Entries
 pub mod Feeds
 pub mod Feeding

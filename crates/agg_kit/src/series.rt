@@ -5,6 +5,7 @@ ghost use Rattle.std.specs.Option.{option_map};
 ghost use Rattle.indexmap.specs.IndexMap.{insert_entry, set_value_at};
 ghost use Rattle.point_kit.specs.declared.shape.Shape.{Shape};
 ghost use Rattle.plan_kit.specs.Plans.{is_proper};
+ghost use Rattle.agg_kit.specs.Alike.{HaveSameKeys, ShareKeys};
 ghost use Rattle.agg_kit.specs.Feeding.{set_eq, overflow_set, is_own};
 ghost use Rattle.agg_kit.specs.Payloads.{payload_of, is_out_of_range};
 ghost use Rattle.agg_kit.specs.FreshPoints.{inserted, payload_in, CanInsert};
@@ -12,7 +13,7 @@ ghost use Rattle.agg_kit.specs.Sound.{AreSound};
 ghost use Rattle.agg_kit.specs.Steps.{bounds_of, recorded, held, place, payload_after, add_under, own_count, step};
 
 use crate::payload::{add, empty, takes, try_add};
-use attr_kit::{AttrSet, NoMemory, TryCopy};
+use attr_kit::{AttrSet, AttrValue, NoMemory, TryCopy, Txt};
 use indexmap::IndexMap;
 use point_kit::{Payload, Shape};
 use std::alloc::Global;
@@ -31,18 +32,21 @@ pub(crate) struct Fresh {
 pub(crate) struct Series {
     points: IndexMap<AttrSet, Payload>,
     own: u64,
+    /// Whether all sets are known to have the same keys, so that a collection need not compare them.
+    alike: bool,
 }
 
 impl Model for Series {
-    ghost use Rattle.std.specs.Prelude.{◌≡◌};
+    ghost use Rattle.std.specs.Prelude.{◌≡◌, true};
     ghost use Rattle.indexmap.specs.IndexMap.{spare};
+    ghost use Rattle.agg_kit.specs.Alike.{HaveSameKeys};
     ghost use Rattle.agg_kit.specs.Steps.{Stored, own_count};
 
     ghost Value = { Stored };
 
     ghost view = { λ s. record { entries = s.points.entries; room = spare s.points } };
 
-    ghost invariant = { λ s. s.own ≡ own_count s.points.entries };
+    ghost invariant = { λ s. (s.own ≡ own_count s.points.entries) × (s.alike ≡ true → HaveSameKeys s.points.entries) };
 }
 
 impl Series {
@@ -52,6 +56,7 @@ impl Series {
         Series {
             points: IndexMap::new(alloc),
             own: 0,
+            alike: true,
         }
     }
 
@@ -66,6 +71,23 @@ impl Series {
         ensures { option_map (λ p. (p.0.now, p.1.now)) result ≡ slice_get self.now.entries place }
     {
         self.points.get_index(place)
+    }
+
+    /// Whether the sets are known to have the same keys, as they are as long as none with other keys was inserted.
+    pub(crate) fn shares_keys(&self) -> bool
+        ensures { IsTrue result → ShareKeys self.now.entries }
+    {
+        self.alike
+    }
+
+    // Whether the sets are known to have the same keys with one more.
+    fn shares_keys_with(&self, set: &AttrSet) -> bool
+        ensures { IsTrue result → (payload : Payload) → HaveSameKeys (self.now.entries ++ (set.now, payload) ∷ []) }
+    {
+        match self.points.first() {
+            Some((first, _)) => self.alike && have_same_keys(first.pairs(), set.pairs()),
+            None => true,
+        }
     }
 
     // Whether one more set may have a point of its own.
@@ -184,10 +206,12 @@ impl Series {
         requires ready { CanInsert fresh self.old }
         ensures { self.new.entries ≡ inserted fresh self.old.entries }
     {
+        let alike = self.shares_keys_with(&fresh.set);
         let Fresh { set, payload, own } = fresh;
         // `len` is called for its bound, which the proof cites.
         let _len = self.points.len();
         self.points.insert(set, payload).unwrap();
+        self.alike = alike;
         if own {
             self.own += 1;
         }
@@ -207,8 +231,24 @@ impl Series {
         Ok(Series {
             points,
             own: self.own,
+            alike: self.alike,
         })
     }
+}
+
+// Whether the keys of the pairs are the same.
+fn have_same_keys(pairs: &[(Txt, AttrValue)], others: &[(Txt, AttrValue)]) -> bool
+    ensures { IsTrue result → keys_of pairs.now ≡ keys_of others.now }
+{
+    if pairs.len() != others.len() {
+        return false;
+    }
+    for (index, (key, _)) in others.iter().enumerate() {
+        if pairs[index].0 != *key {
+            return false;
+        }
+    }
+    true
 }
 
 // Inserts copies of a set and its payload.

@@ -5,6 +5,7 @@ ghost use Rattle.std.specs.Option.{option_map, unwrap_or};
 ghost use Rattle.plan_kit.specs.Plans.{feeds_of, kind_of, is_proper, AreFeeds, lacks};
 ghost use Rattle.attr_kit.specs.Keeping.{kept};
 ghost use Rattle.attr_kit.specs.declared.keep.Keep.TheVariants as keeps;
+ghost use Rattle.agg_kit.specs.Alike.{ShareKeys};
 ghost use Rattle.agg_kit.specs.Entries.{Entry, entry_of};
 ghost use Rattle.agg_kit.specs.Feeding.{overflow_set, set_eq};
 ghost use Rattle.agg_kit.specs.Feeds.{entries_of, series_at, shape_at, first_out, applied, measured, whole_first, AllWhole, AllHeld};
@@ -155,6 +156,17 @@ impl Tally {
         match self.series.get(stream) {
             Some(series) => Some(series.len()),
             None => None,
+        }
+    }
+
+    /// Whether the sets of a stream's points are known to have the same keys, as they have where no recording came with
+    /// others: then who copies the points need not compare keys. Constant time, takes no memory.
+    pub fn shares_keys(&self, stream: usize) -> bool
+        ensures { IsTrue result → ShareKeys (series_at self.now.series stream) }
+    {
+        match self.series.get(stream) {
+            Some(series) => series.shares_keys(),
+            None => false,
         }
     }
 

@@ -329,3 +329,19 @@ fn a_copy_has_the_points(rt: HostRuntime) -> Result<(), Fail> {
     assert_eq!(rt; copy.plan().streams_len(), 1);
     Ok(())
 }
+
+#[test]
+fn sets_share_keys_until_one_has_others(rt: HostRuntime) -> Result<(), Fail> {
+    let alloc = rt.alloc();
+    let mut tally = plain(alloc, Kind::Counter)?;
+    measured(&mut tally, &route(alloc, "/cart")?, 1)?;
+    measured(&mut tally, &route(alloc, "/home")?, 1)?;
+    assert!(rt; tally.shares_keys(0));
+    measured(&mut tally, &numbered(alloc, 1)?, 1)?;
+    assert!(rt; !tally.shares_keys(0));
+    assert!(rt; !tally.try_copy()?.shares_keys(0));
+    tally.restart()?;
+    assert!(rt; tally.shares_keys(0));
+    assert!(rt; !tally.shares_keys(1));
+    Ok(())
+}

@@ -1,9 +1,7 @@
 -- Keys and values apart, and the pairs that they are.
-use Rattle.std.proofs.Common.{◌≡◌, ◌∙◌, Bool, true, false, not, nat_eq, ◌<◌, ◌+◌, ◌++◌, ℕ, zero, suc, List, [], ◌∷◌, length, map, take, refl, sym, ap, subst, arith}
+use Rattle.std.proofs.Common.{◌≡◌, ◌∙◌, ◌<◌, ◌+◌, ◌++◌, ℕ, zero, suc, List, [], ◌∷◌, length, map, take, refl, sym, ap, subst, arith}
 use Rattle.std.proofs.Math.ListN.{get_or}
-use Rattle.std.proofs.lemmas.List.{take_more, map-append}
 use Rattle.std.specs.Borrow.{Bor}
-use Rattle.std.specs.Cmp.Lexicographic.{pointwise, same_text}
 use Rattle.std.specs.List.{zip}
 use Rattle.std.specs.Map.{keys_of, values_of}
 use Rattle.std.proofs.lemmas.Map.Made.{keys_of-zip}
@@ -46,14 +44,6 @@ pub as_many : (ks : List (Bor (List ℕ))) (vs : List RoundValue) (ps : List (Li
 as_many ks vs ps keys values =
     sym (length_mapped (λ key. key.now) ks) ∙ ap length keys ∙ lengths_apart ps ∙ ap length (sym values) ∙ length_mapped value_of vs
 
--- one element more of two lists that stand for the same
-pub same_more : {A B C : Type 0} (f : A → C) (g : B → C) (xs : List A) (ys : List B) (i : ℕ) (d : A) (e : B) → i < length xs → i < length ys
-    → map f (take i xs) ≡ map g (take i ys) → f (get_or xs i d) ≡ g (get_or ys i e) → map f (take (i + 1) xs) ≡ map g (take (i + 1) ys)
-same_more f g xs ys i d e a b before here =
-    ap (map f) (take_more xs i d a) ∙ map-append f (take i xs) (get_or xs i d ∷ [])
-    ∙ (λ j. before j ++ here j ∷ [])
-    ∙ sym (ap (map g) (take_more ys i e b) ∙ map-append g (take i ys) (get_or ys i e ∷ []))
-
 pairs_more_suc : (ks : List (Bor (List ℕ))) (vs : List RoundValue) (i : ℕ) (d : Bor (List ℕ)) (e : RoundValue) → i < length ks → i < length vs
     → pairs_of (take (suc i) ks) (take (suc i) vs) ≡ pairs_of (take i ks) (take i vs) ++ ((get_or ks i d).now, value_of (get_or vs i e)) ∷ []
 pairs_more_suc [] vs i d e a b = absurd (omega (arith, a))
@@ -67,10 +57,3 @@ pub pairs_more : (ks : List (Bor (List ℕ))) (vs : List RoundValue) (i : ℕ) (
 pairs_more ks vs i d e a b =
     let next : suc i ≡ i + 1 = omega arith in
     subst (λ (n : ℕ). pairs_of (take n ks) (take n vs) ≡ pairs_of (take i ks) (take i vs) ++ ((get_or ks i d).now, value_of (get_or vs i e)) ∷ []) next (pairs_more_suc ks vs i d e a b)
-
--- what a test of two texts that does not find them apart has told
-pub not_apart : (xs ys : List ℕ) → false ≡ not (pointwise nat_eq xs ys) → xs ≡ ys
-not_apart xs ys e = same_text xs ys (holds (pointwise nat_eq xs ys) e) where
-  holds : (b : Bool) → false ≡ not b → true ≡ b
-  holds true f = refl
-  holds false f = cc

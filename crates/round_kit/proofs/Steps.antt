@@ -89,3 +89,8 @@ more_points ess n h = sum_by_more (λ (es : Points). length es) ess n [] h
 -- a bound on a sum may be kept at each step
 pub bounded_sum : (s l m : ℕ) → min (min s m + l) m ≡ min (s + l) m
 bounded_sum s l m = omega arith
+
+-- a series without a first point has none
+pub no_points : (s : Stream) (es : Points) → slice_get es 0 ≡ None → points_at s es ≡ []
+no_points s [] none = refl
+no_points s (e ∷ es) none = cc

@@ -1,13 +1,12 @@
 //! Rounds: what a tally holds at a time, in an arena.
 ghost use Rattle.std.specs.Prelude.{◌≡◌, ◌<◌, ◌-◌, ◌^◌, ◌++◌, map, min, length, slice_get, sum_by, IfOk, OnOk, Some, None};
-ghost use Rattle.std.specs.Option.{option_copied, option_map};
 ghost use Rattle.point_kit.specs.ExportFaults.{export_fault};
 ghost use Rattle.plan_kit.specs.Plans.{AreApart};
 ghost use Rattle.round_kit.specs.Placed.{stream_of};
 ghost use Rattle.round_kit.specs.Rounds.{point_of, points_at, points_of};
 
 use crate::payload::RoundPayload;
-use crate::set::RoundSet;
+use crate::set::{RoundSet, keys_for};
 use crate::stream::RoundStream;
 use agg_kit::Tally;
 use attr_kit::{NoMemory, Seq, TryCopy};
@@ -136,8 +135,9 @@ fn copy_points(alloc: Global, points: &[RoundPoint<'_>]) -> Result<Vec<ExportPoi
 /// stays in the arena until its reset.
 ///
 /// O(size of the points), each value and list copied once, the texts of a stream once for all its points, and the keys of a
-/// set once for all points in a row that have the same. The lists of points and of values get their room once. No allocation
-/// outside the arena, which is the caller's and is reset by nobody else.
+/// set once for all points in a row that have the same; keys are not compared in a stream whose sets are known to share them.
+/// The lists of points and of values get their room once. No allocation outside the arena, which is the caller's and is reset
+/// by nobody else.
 pub fn place<'b>(
     bump: &'b Bump,
     tally: &Tally,
@@ -171,11 +171,13 @@ fn points_len(tally: &Tally) -> usize
     total
 }
 
-// The set of the last point.
-fn last_set<'p, 'b>(points: &'p [RoundPoint<'b>]) -> Option<&'p RoundSet<'b>>
-    ensures { option_copied result ≡ option_map (λ p. p.attrs) (slice_get points.now (length points.now - 1)) }
-{
-    Some(&points.last()?.attrs)
+// The keys of the last point.
+fn last_keys<'b>(bump: &'b Bump, points: &[RoundPoint<'b>]) -> &'b [&'b str] {
+    if let Some(point) = points.last() {
+        return point.attrs.keys();
+    }
+    let none: Vec<&'b str, &'b Bump> = Vec::new(bump);
+    into_bump_slice(none)
 }
 
 // The points of one stream.
@@ -192,12 +194,18 @@ fn place_series<'b>(
     let Some(stream) = tally.plan().stream(number) else {
         return Ok(());
     };
+    let Some((first, _)) = tally.entry(number, 0) else {
+        return Ok(());
+    };
     let placed = &*bump.try_alloc(RoundStream::place(bump, stream)?)?;
+    let mut keys = keys_for(bump, last_keys(bump, points), false, first)?;
+    let shared = tally.shares_keys(number);
     for k in 0..tally.series_len(number).unwrap_or(0) {
         if let Some((attrs, payload)) = tally.entry(number, k) {
+            keys = keys_for(bump, keys, shared, attrs)?;
             points.push(RoundPoint {
                 stream: placed,
-                attrs: RoundSet::place(bump, last_set(points), attrs)?,
+                attrs: RoundSet::place(bump, keys, attrs)?,
                 payload: RoundPayload::place(bump, payload)?,
             })?;
         }

@@ -84,17 +84,18 @@ impl<'b> RoundSet<'b> {
         self.values
     }
 
-    /// A set in an arena. It shares the keys of a set that was placed before, where it has the same.
+    /// A set in an arena, whose keys lie there already.
     #[tactic(auto, using(crate::proofs::Pairs::pairs_again, crate::proofs::Pairs::as_many))]
     pub(crate) fn place(
         bump: &'b Bump,
-        before: Option<&RoundSet<'b>>,
+        keys: &'b [&'b str],
         set: &AttrSet,
     ) -> Result<RoundSet<'b>, NoMemory>
+        requires { map (λ key. key.now) keys.now ≡ keys_of set.now }
         ensures { IfOk result (λ placed. placed ≡ set.now) }
     {
         Ok(RoundSet {
-            keys: keys_for(bump, before, set.pairs())?,
+            keys,
             values: place_values(bump, set.pairs())?,
         })
     }
@@ -121,20 +122,22 @@ fn are_keys(keys: &[&str], pairs: &[(Txt, AttrValue)]) -> bool
     true
 }
 
-// The keys of the pairs, in an arena: those of a set that was placed before, where they are the same.
-fn keys_for<'b>(
+/// The keys of a set, in an arena: those that were placed before, where they are the same. Where they are known to be, they
+/// are not compared.
+pub(crate) fn keys_for<'b>(
     bump: &'b Bump,
-    before: Option<&RoundSet<'b>>,
-    pairs: &[(Txt, AttrValue)],
+    before: &'b [&'b str],
+    are_known: bool,
+    set: &AttrSet,
 ) -> Result<&'b [&'b str], NoMemory>
-    ensures { IfOk result (λ keys. map (λ key. key.now) keys.now ≡ keys_of pairs.now) }
+    requires { IsTrue are_known → map (λ key. key.now) before.now ≡ keys_of set.now }
+    ensures { IfOk result (λ keys. map (λ key. key.now) keys.now ≡ keys_of set.now) }
 {
-    if let Some(before) = before {
-        if are_keys(before.keys, pairs) {
-            return Ok(before.keys);
-        }
+    if are_known || are_keys(before, set.pairs()) {
+        Ok(before)
+    } else {
+        place_keys(bump, set.pairs())
     }
-    place_keys(bump, pairs)
 }
 
 fn place_keys<'b>(bump: &'b Bump, pairs: &[(Txt, AttrValue)]) -> Result<&'b [&'b str], NoMemory>

@@ -1,5 +1,5 @@
 use Rattle.std.proofs.Common.{◌∙◌, ap, arith}
-use Rattle.round_kit.proofs.Pairs.{not_apart, same_more}
+use Rattle.agg_kit.proofs.Alike.{not_apart, same_more}
 use Rattle.round_kit.proofs.set.are_keys.Goals as goal
 
 pub loop-index-preserved : goal.loop-index-preserved

@@ -6,6 +6,7 @@ use Rattle.point_kit.specs.declared.payload.Payload.{Payload}
 use Rattle.agg_kit.specs.Payloads.{payload_of, is_out_of_range}
 use Rattle.agg_kit.specs.FreshPoints.{payload_in}
 use Rattle.agg_kit.specs.Steps.{Stored, bounds_of, recorded}
+use Rattle.agg_kit.proofs.Alike.{alike-set}
 use Rattle.agg_kit.proofs.Rounds.{got}
 use Rattle.agg_kit.proofs.Sound.{sound-at}
 use Rattle.agg_kit.proofs.Steps.{own_count-set}
@@ -27,7 +28,7 @@ add-requires-clause-in_range c =
     ∙ c.requires.in_range)
 
 pub invariant_of-self : goal.invariant_of-self
-invariant_of-self c = c.self.invariant ∙ sym (own_count-set _ _ _)
+invariant_of-self c = (c.self.invariant.0 ∙ sym (own_count-set _ _ _), λ on. alike-set _ _ _ (c.self.invariant.1 on))
 
 pub returns : goal.returns
 returns c =

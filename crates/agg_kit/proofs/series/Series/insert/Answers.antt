@@ -1,6 +1,8 @@
-use Rattle.std.proofs.Common.{◌≡◌, ◌+◌, ℕ, arith, sym, ap, ◌∙◌, rules, Bool, None, cond}
+use Rattle.std.proofs.Common.{◌≡◌, ◌+◌, ℕ, arith, sym, ap, ◌∙◌, rules, Bool, true, None, cond, subst, ◌++◌, ◌∷◌, []}
 use Rattle.std.specs.Map.{lookup}
 use Rattle.indexmap.specs.IndexMap.{insert_entry}
+use Rattle.point_kit.specs.declared.payload.Payload.{Payload}
+use Rattle.agg_kit.specs.Alike.{HaveSameKeys}
 use Rattle.agg_kit.specs.Feeding.{set_eq}
 use Rattle.agg_kit.specs.FreshPoints.{CanInsert, inserted}
 use Rattle.agg_kit.specs.Steps.{Stored, own_count}
@@ -22,20 +24,27 @@ counted s es ns fresh ready view e = own_count-inserted es ns fresh.set fresh.pa
 after : (s : Stored) (es ns : Points) (fresh : Fresh) → CanInsert fresh s → es ≡ s.entries → ns ≡ insert_entry set_eq es fresh.set fresh.payload → ns ≡ inserted fresh s.entries
 after s es ns fresh ready view e = grown s es ns fresh ready view e ∙ ap (inserted fresh) view
 
+-- and that they have the same keys, where they have with the new one
+alike : {b : Bool} (s : Stored) (es ns : Points) (fresh : Fresh) → CanInsert fresh s → es ≡ s.entries → ns ≡ insert_entry set_eq es fresh.set fresh.payload
+    → (b ≡ true → (payload : Payload) → HaveSameKeys (s.entries ++ (fresh.set, payload) ∷ [])) → b ≡ true → HaveSameKeys ns
+alike s es ns fresh ready view e same on = subst HaveSameKeys (sym (after s es ns fresh ready view e)) (same on fresh.payload)
+
 pub overflow_add-self : goal.overflow_add-self
 overflow_add-self c =
     let n = own_count-le c.self.inside.points.entries in
-    let m = c.self.invariant in
+    let m = c.self.invariant.0 in
     let k = c.len-len.ensures in
     search rules
 
 pub invariant_of-self : goal.invariant_of-self
 invariant_of-self c =
     let view = ap (λ (s : Stored). s.entries) c.self.view_is in
-    let at = rw c.unwrap.ensures at c.insert.ensures.entries in
-    ap (λ (n : ℕ). n + 1) c.self.invariant
-    ∙ sym (counted c.args.self.now c.self.inside.points.entries c.insert.new.self.entries c.args.fresh c.requires.ready view at
-    ∙ ap (λ (b : Bool). own_count c.self.inside.points.entries + cond b 1 0) c.if-own.true)
+    let at = rw c.unwrap.ensures at c.insert.ensures.entries in (
+      ap (λ (n : ℕ). n + 1) c.self.invariant.0
+          ∙ sym (counted c.args.self.now c.self.inside.points.entries c.insert.new.self.entries c.args.fresh c.requires.ready view at
+          ∙ ap (λ (b : Bool). own_count c.self.inside.points.entries + cond b 1 0) c.if-own.true),
+      alike c.args.self.now c.self.inside.points.entries c.insert.new.self.entries c.args.fresh c.requires.ready view at c.shares_keys_with-alike.ensures,
+    )
 
 pub invariant_of-self-else-own : goal.invariant_of-self-else-own
 invariant_of-self-else-own c =
@@ -44,7 +53,7 @@ invariant_of-self-else-own c =
     let all : own_count c.insert.new.self.entries ≡ own_count c.self.inside.points.entries + 0 =
     counted c.args.self.now c.self.inside.points.entries c.insert.new.self.entries c.args.fresh c.requires.ready view at
     ∙ ap (λ (b : Bool). own_count c.self.inside.points.entries + cond b 1 0) c.if-own.false in
-    c.self.invariant ∙ omega arith
+    (c.self.invariant.0 ∙ omega arith, alike c.args.self.now c.self.inside.points.entries c.insert.new.self.entries c.args.fresh c.requires.ready view at c.shares_keys_with-alike.ensures)
 
 pub returns-then-own : goal.returns-then-own
 returns-then-own c =
