@@ -208,7 +208,7 @@ if_some P Q None f h = tt
 if_some P Q (Some x) f h = f x h
 
 -- one more instrument's
-get-push : {X : Type 0} (xs : List X) (x y : X) (i : ℕ) → slice_get (xs ++ x ∷ []) i ≡ Some y → (slice_get xs i ≡ Some y) ⊎ ((i ≡ length xs) × (x ≡ y))
+pub get-push : {X : Type 0} (xs : List X) (x y : X) (i : ℕ) → slice_get (xs ++ x ∷ []) i ≡ Some y → (slice_get xs i ≡ Some y) ⊎ ((i ≡ length xs) × (x ≡ y))
 get-push [] x y zero e = let same : x ≡ y = cc in inr (refl, same)
 get-push [] x y (suc i) e = absurd (cc)
 get-push (z ∷ xs) x y zero e = inl e

@@ -5,7 +5,7 @@ ghost use Rattle.std.specs.Option.{option_map};
 ghost use Rattle.indexmap.specs.IndexMap.{insert_entry, set_value_at};
 ghost use Rattle.point_kit.specs.declared.shape.Shape.{Shape};
 ghost use Rattle.plan_kit.specs.Plans.{is_proper};
-ghost use Rattle.agg_kit.specs.Alike.{HaveSameKeys, ShareKeys};
+ghost use Rattle.agg_kit.specs.Alike.{ShareKeys};
 ghost use Rattle.agg_kit.specs.Feeding.{set_eq, overflow_set, is_own};
 ghost use Rattle.agg_kit.specs.Payloads.{payload_of, is_out_of_range};
 ghost use Rattle.agg_kit.specs.FreshPoints.{inserted, payload_in, CanInsert};
@@ -32,21 +32,21 @@ pub(crate) struct Fresh {
 pub(crate) struct Series {
     points: IndexMap<AttrSet, Payload>,
     own: u64,
-    /// Whether all sets are known to have the same keys, so that a collection need not compare them.
+    /// Whether all sets have the same keys, so that a collection need not compare them.
     alike: bool,
 }
 
 impl Model for Series {
-    ghost use Rattle.std.specs.Prelude.{◌≡◌, true};
+    ghost use Rattle.std.specs.Prelude.{◌≡◌, ◌↔◌, IsTrue};
     ghost use Rattle.indexmap.specs.IndexMap.{spare};
-    ghost use Rattle.agg_kit.specs.Alike.{HaveSameKeys};
+    ghost use Rattle.agg_kit.specs.Alike.{ShareKeys};
     ghost use Rattle.agg_kit.specs.Steps.{Stored, own_count};
 
     ghost Value = { Stored };
 
     ghost view = { λ s. record { entries = s.points.entries; room = spare s.points } };
 
-    ghost invariant = { λ s. (s.own ≡ own_count s.points.entries) × (s.alike ≡ true → HaveSameKeys s.points.entries) };
+    ghost invariant = { λ s. (s.own ≡ own_count s.points.entries) × (IsTrue s.alike ↔ ShareKeys s.points.entries) };
 }
 
 impl Series {
@@ -73,16 +73,16 @@ impl Series {
         self.points.get_index(place)
     }
 
-    /// Whether the sets are known to have the same keys, as they are as long as none with other keys was inserted.
+    /// Whether the sets have the same keys.
     pub(crate) fn shares_keys(&self) -> bool
-        ensures { IsTrue result → ShareKeys self.now.entries }
+        ensures { IsTrue result ↔ ShareKeys self.now.entries }
     {
         self.alike
     }
 
-    // Whether the sets are known to have the same keys with one more.
+    // Whether the sets have the same keys with one more.
     fn shares_keys_with(&self, set: &AttrSet) -> bool
-        ensures { IsTrue result → (payload : Payload) → HaveSameKeys (self.now.entries ++ (set.now, payload) ∷ []) }
+        ensures { (payload : Payload) → IsTrue result ↔ ShareKeys (self.now.entries ++ (set.now, payload) ∷ []) }
     {
         match self.points.first() {
             Some((first, _)) => self.alike && have_same_keys(first.pairs(), set.pairs()),
@@ -238,7 +238,7 @@ impl Series {
 
 // Whether the keys of the pairs are the same.
 fn have_same_keys(pairs: &[(Txt, AttrValue)], others: &[(Txt, AttrValue)]) -> bool
-    ensures { IsTrue result → keys_of pairs.now ≡ keys_of others.now }
+    ensures { IsTrue result ↔ (keys_of pairs.now ≡ keys_of others.now) }
 {
     if pairs.len() != others.len() {
         return false;

@@ -1,5 +1,5 @@
 //! The points of all streams of a plan, as recordings come in.
-ghost use Rattle.std.specs.Prelude.{◌≡◌, ◌≢◌, ◌<◌, ◌++◌, ◌∷◌, [], ℕ, List, length, map, position, replicate, slice_get, slice_index_or, Some, None, true, false, IfOk, IfErr, IfSome, OnOk, OnErr, IsSome, IsTrue};
+ghost use Rattle.std.specs.Prelude.{◌≡◌, ◌≢◌, ◌↔◌, ◌<◌, ◌++◌, ◌∷◌, [], ℕ, List, length, map, position, replicate, slice_get, slice_index_or, Some, None, true, false, IfOk, IfErr, IfSome, OnOk, OnErr, IsSome, IsTrue};
 ghost use Rattle.std.specs.Map.{keys_of};
 ghost use Rattle.std.specs.Option.{option_map, unwrap_or};
 ghost use Rattle.plan_kit.specs.Plans.{feeds_of, kind_of, is_proper, AreFeeds, lacks};
@@ -159,14 +159,14 @@ impl Tally {
         }
     }
 
-    /// Whether the sets of a stream's points are known to have the same keys, as they have where no recording came with
-    /// others: then who copies the points need not compare keys. Constant time, takes no memory.
+    /// Whether all sets of a stream's points have the same keys, as those of no points have, so that who copies the points need
+    /// not compare keys. Constant time, takes no memory.
     pub fn shares_keys(&self, stream: usize) -> bool
-        ensures { IsTrue result → ShareKeys (series_at self.now.series stream) }
+        ensures { IsTrue result ↔ ShareKeys (series_at self.now.series stream) }
     {
         match self.series.get(stream) {
             Some(series) => series.shares_keys(),
-            None => false,
+            None => true,
         }
     }
 

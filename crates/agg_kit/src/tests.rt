@@ -342,6 +342,6 @@ fn sets_share_keys_until_one_has_others(rt: HostRuntime) -> Result<(), Fail> {
     assert!(rt; !tally.try_copy()?.shares_keys(0));
     tally.restart()?;
     assert!(rt; tally.shares_keys(0));
-    assert!(rt; !tally.shares_keys(1));
+    assert!(rt; tally.shares_keys(1));
     Ok(())
 }

@@ -3,6 +3,7 @@ use Rattle.std.proofs.Common.{◌≡◌, ◌<◌, ◌+◌, ◌++◌, ◌∙◌, 
 use Rattle.std.specs.Prelude.{min, sum_by}
 use Rattle.std.specs.Option.{unwrap_or, option_map}
 use Rattle.std.proofs.lemmas.List.Sums.{sum_by_more}
+use Rattle.std.proofs.lemmas.Option.{same_Some}
 use Rattle.agg_kit.specs.Feeds.{series_at}
 use Rattle.agg_kit.specs.Tallies.{Points}
 use Rattle.attr_kit.specs.declared.attr_set.AttrSet.{AttrSet}
@@ -11,9 +12,6 @@ use Rattle.point_kit.specs.declared.export_point.ExportPoint.{ExportPoint}
 use Rattle.point_kit.specs.declared.payload.Payload.{Payload}
 use Rattle.point_kit.specs.declared.stream.Stream.{Stream}
 use Rattle.round_kit.specs.Rounds.{points_at, points_of}
-
-pub some_same : {A : Type 0} (x y : A) → Some x ≡ Some y → x ≡ y
-some_same x y e = cc
 
 -- the point of a set and a payload
 abbrev pub point : Stream → AttrSet × Payload → ExportPoint
@@ -24,8 +22,8 @@ one_more_suc : (ss : List Stream) (ess : List Points) (n : ℕ) (s : Stream) (es
 one_more_suc [] ess n s es a b = cc
 one_more_suc (t ∷ ts) [] n s es a b = cc
 one_more_suc (t ∷ ts) (fs ∷ fss) zero s es a b =
-    let streams : t ≡ s = some_same t s a in
-    let points : fs ≡ es = some_same fs es b in
+    let streams : t ≡ s = same_Some t s a in
+    let points : fs ≡ es = same_Some fs es b in
     append-nil (points_at t fs) ∙ (λ i. points_at (streams i) (points i))
 one_more_suc (t ∷ ts) (fs ∷ fss) (suc n) s es a b =
     ap (λ l. points_at t fs ++ l) (one_more_suc ts fss n s es a b) ∙ sym (append_assoc (points_at t fs) (points_of (take n ts) (take n fss)) (points_at s es))
@@ -39,7 +37,7 @@ one_more ss ess n s es a b =
 
 one_point : (s : Stream) (es : Points) (k : ℕ) (e : AttrSet × Payload) → slice_get es k ≡ Some e → points_at s (take (suc k) es) ≡ points_at s (take k es) ++ point s e ∷ []
 one_point s [] k e at = cc
-one_point s (x ∷ es) zero e at = ap (λ y. point s y ∷ []) (some_same x e at)
+one_point s (x ∷ es) zero e at = ap (λ y. point s y ∷ []) (same_Some x e at)
 one_point s (x ∷ es) (suc k) e at = ap (λ l. point s x ∷ l) (one_point s es k e at)
 
 -- one point more is placed
@@ -67,7 +65,7 @@ none_there (x ∷ xs) (suc k) e h = none_there xs k e (omega arith)
 
 pub series_there : (ess : List Points) (m : ℕ) (es : Points) → slice_get ess m ≡ Some es → series_at ess m ≡ es
 series_there [] m es e = cc
-series_there (x ∷ ess) zero es e = some_same x es e
+series_there (x ∷ ess) zero es e = same_Some x es e
 series_there (x ∷ ess) (suc m) es e = series_there ess m es e
 
 -- how many points a stream has
