@@ -8,7 +8,7 @@ use Rattle.attr_kit.specs.OrderLaws.{text_apart}
 use Rattle.std.specs.Ordering.{nat_cmp}
 use Rattle.std.specs.declared.cmp.Ordering.{Ordering}
 use Rattle.std.specs.declared.cmp.Ordering.TheVariants.{Less, Equal, Greater}
-use Rattle.std.specs.FinMap.Entries.{put, find, is_sorted, is_sorted-put, below_all, find-put, same_entries}
+use Rattle.std.specs.FinMap.Entries.{put, is_sorted, is_sorted-put, below_all, find-put, same_entries}
 use Rattle.std.specs.Ordering.{ordering_reverse}
 use Rattle.attr_kit.proofs.Sorted.{below_within}
 use Rattle.std.specs.BTreeMap.{insert_entry}

@@ -1,5 +1,5 @@
 -- What a shared gateway keeps of its history: the join of all that the changes brought, in whatever order.
-use Rattle.std.proofs.Common.{◌≡◌, ℕ, zero, suc, List, [], ◌∷◌, ◌++◌, Option, Some, None, Result, Ok, Err, IfOk, refl, sym, ap, ◌∙◌}
+use Rattle.std.proofs.Common.{◌≡◌, ℕ, zero, suc, [], ◌∷◌, ◌++◌, Option, Some, None, Result, Ok, Err, IfOk, refl, sym, ap, ◌∙◌}
 use Rattle.std.specs.FinMap.{empty}
 use mathlib.Core.Option.{some, some-ne-none, some-injective}
 use lib.ListN.{get_elem?}
@@ -13,7 +13,7 @@ use Rattle.gateway_kit.specs.View.{View}
 use Rattle.gateway_kit.specs.declared.shared.SharedGateway.{SharedGateway}
 use Rattle.gateway_kit.specs.declared.shared.change.GatewayChange.{GatewayChange}
 use Rattle.gateway_kit.specs.declared.shared.change.GatewayChange.TheVariants.{Taken, Merged}
-use Rattle.gateway_kit.specs.Shared.{History, told, brought_by, changed_by, brought, also_taken, exports_of, also_merged, merged_of, Keeps, HasChange, DependsOnChanges, first_of, Accepts, Adds, LooksAt, Sees}
+use Rattle.gateway_kit.specs.Shared.{History, told, brought_by, brought, also_taken, exports_of, also_merged, merged_of, Keeps, HasChange, DependsOnChanges, first_of, Accepts, Adds, LooksAt, Sees}
 use Rattle.gateway_kit.proofs.Merged.{joined_empty}
 
 some_is : (x y : View) → Some x ≡ Some y → x ≡ y

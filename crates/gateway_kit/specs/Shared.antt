@@ -1,5 +1,5 @@
 -- The history of a shared gateway, and what it brings.
-use Rattle.std.specs.Prelude.{◌≡◌, ◌↔◌, ◌<◌, ℕ, Bool, List, [], ◌∷◌, ◌++◌, length, Option, Some}
+use Rattle.std.specs.Prelude.{◌≡◌, ◌↔◌, ℕ, List, [], ◌∷◌, ◌++◌, Option, Some}
 use Rattle.std.specs.FinMap.{empty}
 use mathlib.Core.Option.{some}
 use lib.ListN.{get_elem?}
@@ -7,8 +7,7 @@ use Rattle.point_kit.specs.declared.export.Export.{Export}
 use Rattle.point_kit.specs.Exports.{Points, join_points, changed_points, state}
 use Rattle.turn_kit.specs.declared.note.Note.{Note}
 use Rattle.turn_kit.specs.declared.seat.Seat.{Seat}
-use Rattle.turn_kit.specs.History.{IsReplay}
-use Rattle.turn_kit.specs.Public.{IsOf, IsNoteOf, Enters, Looks, Exhausts, Refuses, Closes, opening, limit_of, seen, number}
+use Rattle.turn_kit.specs.Public.{IsOf, IsNoteOf, Enters, Looks, Exhausts, Refuses, opening, limit_of, seen, number}
 use Rattle.gateway_kit.specs.View.{View}
 use Rattle.gateway_kit.specs.declared.shared.SharedGateway.{SharedGateway}
 use Rattle.gateway_kit.specs.declared.shared.change.GatewayChange.{GatewayChange}

@@ -1,8 +1,7 @@
 -- The program's command, and an answer that is there.
-use Rattle.std.proofs.Common.{◌≡◌, Option, Some, None, Result, Ok, Err, refl, true, false, Bool}
+use Rattle.std.proofs.Common.{◌≡◌, Option, Some, None, Result, refl, true, false, Bool}
 use Rattle.std.specs.Prelude.{IfSome, IfOk, ok_or}
-use Rattle.std.specs.Str.Parse.{digits_value, without_leading_plus}
-use Rattle.clap.specs.Words.{Row, Text, one_of, ReadsOne, is_simple}
+use Rattle.clap.specs.Words.{is_simple}
 use Rattle.clap.proofs.OnLiterals.{clap_on_literals}
 use Rattle.otm_kit.specs.Asked.{otm}
 

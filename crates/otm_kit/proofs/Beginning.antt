@@ -1,7 +1,6 @@
 -- How a script begins, from its parts.
-use Rattle.std.proofs.Common.{◌≡◌, ℕ, List, [], ◌∷◌, map, Option, Some, None, refl, sym, ap, ◌∙◌, subst}
+use Rattle.std.proofs.Common.{◌≡◌, ℕ, List, [], map, Some, None, refl, sym, ap, ◌∙◌, subst}
 use Rattle.std.specs.Option.{option_map}
-use Rattle.attr_kit.specs.Refusing.{first}
 use Rattle.plan_kit.specs.declared.instrument.Instrument.{Instrument}
 use Rattle.plan_kit.specs.declared.view.View.{View}
 use Rattle.plan_kit.specs.Feeds.{plan_of}
@@ -10,7 +9,6 @@ use Rattle.plan_kit.specs.Plans.{Planned}
 use Rattle.point_kit.specs.declared.writer_id.WriterId.{WriterId}
 use Rattle.world_kit.specs.Building.{setup_fault}
 use Rattle.world_kit.specs.Held.{Held}
-use Rattle.world_kit.specs.Judged.{Deeds}
 use Rattle.world_kit.specs.Stands.{Stands}
 use Rattle.world_kit.specs.declared.setup.Setup.{Setup}
 use Rattle.world_kit.specs.declared.setup.WriterSetup.{WriterSetup}

@@ -1,10 +1,10 @@
 -- What a piece does, from what its line does.
-use Rattle.std.proofs.Common.{◌≡◌, ◌∙◌, ℕ, List, [], ◌∷◌, ◌++◌, sym, ap, Option, Some, None, Result, Ok, Err}
+use Rattle.std.proofs.Common.{◌≡◌, ◌∙◌, ℕ, List, [], sym, ap, Option, Some, None, Result, Ok, Err}
 use Rattle.std.specs.Prelude.{OnOk, OnErr, IfErr}
 use Rattle.std.specs.Option.{option_map_or}
 use Rattle.script_kit.specs.Lines.{line_of}
 use Rattle.script_kit.specs.declared.line.Line.{Line}
-use Rattle.otm_kit.specs.Effects.{Effect, bad, effect_of}
+use Rattle.otm_kit.specs.Effects.{bad, effect_of}
 use Rattle.otm_kit.specs.Says.{piece_effect}
 use Rattle.otm_kit.specs.Standing.{Acts, effect}
 use Rattle.otm_kit.specs.declared.desk.Desk.{Desk}

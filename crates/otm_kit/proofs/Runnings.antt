@@ -1,6 +1,6 @@
 -- What a desk stands for after one line more.
 use mathlib.Core.Bool.{true≢false}
-use Rattle.std.proofs.Common.{◌≡◌, ℕ, ◌<◌, ◌≤◌, Bool, true, false, not, cond, List, [], ◌∷◌, ◌++◌, length, map, Option, Some, None, refl, sym, ap, ◌∙◌, subst, arith, string_bytes, slice_get, get_or, inl, inr}
+use Rattle.std.proofs.Common.{◌≡◌, ℕ, ◌<◌, ◌≤◌, Bool, true, false, not, List, [], ◌∷◌, ◌++◌, length, Option, Some, None, refl, sym, ap, ◌∙◌, subst, arith, slice_get, get_or, inl, inr}
 use Rattle.std.specs.Prelude.{if◌then◌else◌, IfSome, codes, IsTrue, ◌↔◌, ◌==◌}
 use Rattle.std.specs.Option.{is_some, option_map, option_map_or, unwrap_or}
 use Rattle.std.proofs.lemmas.List.Elements.{filter_map-append}
@@ -25,13 +25,13 @@ use Rattle.plan_kit.specs.Feeds.{plan_of}
 use Rattle.point_kit.specs.declared.writer_id.WriterId.{WriterId}
 use Rattle.std.proofs.lemmas.List.{get_or-map, length-map}
 use Rattle.world_kit.specs.Held.{Held}
-use Rattle.world_kit.specs.Judged.{Deeds, after, deeds, reply_to}
+use Rattle.world_kit.specs.Judged.{Deeds, after}
 use Rattle.world_kit.specs.Stands.{Acts, Stands}
 use Rattle.world_kit.specs.declared.event.Event.{Event}
 use Rattle.world_kit.specs.declared.event.Reply.{Reply}
 use Rattle.otm_kit.specs.Begin.{begin_fault, limit_of, setup_of, with_plan}
 use Rattle.otm_kit.specs.Declarations.{Declared, declared_by, gateway_place, is_taken, label_place, with_declaration}
-use Rattle.otm_kit.specs.Effects.{Effect, done, bad, effect_of, has_begun, is_begin, once_begun, told_of}
+use Rattle.otm_kit.specs.Effects.{done, bad, effect_of, has_begun, once_begun, told_of}
 use Rattle.otm_kit.specs.Events.{commands, event_of, happened}
 use Rattle.otm_kit.specs.Answers.{answer_of, ask_of, conflicts_text, identity_of, newest_text, same_text}
 use Rattle.gossip_kit.specs.Views.{NodeView}
@@ -44,7 +44,7 @@ use Rattle.otm_kit.specs.declared.begin.BeginFault.{BeginFault}
 use Rattle.otm_kit.specs.Places.{Knows}
 use Rattle.otm_kit.specs.declared.gateway_ids.GatewayIds.{GatewayIds}
 use Rattle.otm_kit.specs.declared.running.Running.{Running}
-use Rattle.otm_kit.proofs.Lines.{IsQuiet, no_line, a_begin, a_command, a_query, declares_more, declares_none, begun_more, begun_now, commands_more, commands_nothing, commands_declare, commands_begin, commands_ask}
+use Rattle.otm_kit.proofs.Lines.{no_line, a_begin, a_command, a_query, declares_more, declares_none, begun_more, begun_now, commands_more, commands_nothing, commands_declare, commands_begin, commands_ask}
 
 -- what happened by one command more
 pub happened_more : (d : Declared) (cs : List Command) (c : Command) (e : Event) → event_of d c ≡ Some e → happened d (cs ++ c ∷ []) ≡ after (setup_of d) (happened d cs) e

@@ -1,5 +1,5 @@
 -- The commands of the program, and what a command line asks for.
-use Rattle.std.specs.Prelude.{◌≡◌, List, Option, Some, None, codes, true, Bool}
+use Rattle.std.specs.Prelude.{◌≡◌, List, Option, Some, codes, true, Bool}
 use Rattle.clap.specs.Words.{App, Row, Text, new_app, subcommand_of, takes, with_subcommand}
 use Rattle.otm_kit.specs.declared.words.Asked.{Asked}
 use Rattle.otm_kit.specs.declared.words.Asked.TheVariants as asked

@@ -1,5 +1,5 @@
 -- How a script begins.
-use Rattle.std.specs.Prelude.{ℕ, List, [], ◌∷◌, map, Option, unwrap_or}
+use Rattle.std.specs.Prelude.{ℕ, [], ◌∷◌, map, Option, unwrap_or}
 use Rattle.std.specs.Option.{option_map}
 use Rattle.attr_kit.specs.Refusing.{first}
 use Rattle.plan_kit.specs.Feeds.{plan_of}

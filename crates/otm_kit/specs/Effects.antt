@@ -1,12 +1,10 @@
 -- What a line does, by the lines before it.
-use Rattle.std.specs.Prelude.{List, [], ◌∷◌, ℕ, Bool, true, false, not, if◌then◌else◌, Option, Some, None}
+use Rattle.std.specs.Prelude.{List, [], ℕ, Bool, true, false, if◌then◌else◌, Option, Some, None}
 use Rattle.std.specs.List.{list_any}
 use Rattle.std.specs.Option.{option_map_or}
 use Rattle.script_kit.specs.declared.line.Command.{Command}
-use Rattle.script_kit.specs.declared.line.Declaration.{Declaration}
 use Rattle.script_kit.specs.declared.line.Line.{Line}
 use Rattle.script_kit.specs.declared.line.Line.TheVariants as line
-use Rattle.script_kit.specs.declared.line.Query.{Query}
 use Rattle.world_kit.specs.Judged.{reply_to}
 use Rattle.otm_kit.specs.Answers.{answer_of}
 use Rattle.otm_kit.specs.Begin.{begin_fault, setup_of}

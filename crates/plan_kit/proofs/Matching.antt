@@ -1,5 +1,5 @@
 -- Places of views: merged, filtered, and one view more.
-use Rattle.std.proofs.Common.{◌≡◌, ℕ, zero, suc, ◌+◌, ◌<◌, ◌≤◌, nat_lt, ◌&&◌, ◌||◌, Bool, true, false, cond, List, [], ◌∷◌, ◌++◌, filter, length, take, get_or, Option, Some, None, position, slice_get, refl, sym, ap, ◌∙◌, subst, arith, append-nil, Vec}
+use Rattle.std.proofs.Common.{◌≡◌, ℕ, zero, suc, ◌+◌, ◌<◌, ◌≤◌, ◌&&◌, ◌||◌, Bool, true, false, cond, List, [], ◌∷◌, ◌++◌, filter, length, take, get_or, Option, Some, None, position, slice_get, refl, sym, ap, ◌∙◌, subst, arith, append-nil, Vec}
 use Rattle.std.specs.List.{filter_map, cons_option, position_from}
 use Rattle.std.specs.Option.{option_and_then, option_map_or}
 use Rattle.std.specs.HashMap.{HashMap, get_by}

@@ -2,7 +2,7 @@
 use Rattle.std.proofs.Common.{◌≡◌, ℕ, ℤ, Bool, true, false, cond, ◌&&◌, T, List, [], ◌∷◌, map, filter, Option, Some, None, refl, sym, ap, subst, ◌∙◌}
 use Rattle.std.specs.BTreeMap.{get, is_at, IsOrdered}
 use Rattle.std.specs.Cmp.{IsTotalOrder, Equal-is}
-use Rattle.std.specs.List.{list_any, AllByRecursion}
+use Rattle.std.specs.List.{AllByRecursion}
 use Rattle.std.specs.List.Sorted.{IsStrictlySortedBy}
 use Rattle.std.specs.Map.{keys_of, lookup}
 use Rattle.std.specs.Option.{option_map}
@@ -14,7 +14,6 @@ use Rattle.std.specs.FinMap.{FinMap, IsAntisymmetric, entries, entries_sorted, f
 use Rattle.std.specs.FinMap.Entries.{find, is_sorted, below_all}
 use Rattle.point_kit.specs.Orders.{key_cmp}
 use Rattle.point_kit.specs.declared.cell.Cell.{Cell}
-use Rattle.point_kit.specs.declared.key.Key.{Key}
 use Rattle.point_kit.specs.declared.payload.Payload.{Payload}
 use Rattle.point_kit.specs.declared.shape.Shape.{Shape}
 use Rattle.point_kit.specs.declared.shape.Shape.TheVariants as shapes
@@ -24,7 +23,7 @@ use Rattle.rollup_kit.specs.Asks.{Attributes, attributes_cmp, asks, group}
 use Rattle.rollup_kit.specs.Groups.{Grouped}
 use Rattle.rollup_kit.specs.Parts.{Parts, no_parts, plus_parts, parts_of}
 use Rattle.rollup_kit.specs.Rollups.{newest, total_of, row_of, rollup_rows}
-use Rattle.rollup_kit.specs.Standing.{grouped, row_among, is_row, standing, Stands}
+use Rattle.rollup_kit.specs.Standing.{grouped, row_among, is_row, Stands}
 use Rattle.rollup_kit.specs.Walks.{Rows, buckets_of, total_read, row_read}
 use Rattle.rollup_kit.specs.declared.ask.Ask.{Ask}
 use Rattle.rollup_kit.specs.declared.row.Row.{Row}

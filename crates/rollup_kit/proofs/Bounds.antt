@@ -1,5 +1,5 @@
 -- No total leaves its range.
-use Rattle.std.proofs.Common.{◌≡◌, ℕ, ℤ, pos, ◌+◌, ◌*◌, ◌^◌, ◌<◌, ◌≤◌, ◌+ℤ◌, ◌-ℤ◌, ◌≤ℤ◌, ◌<ℤ◌, List, length, slice_index, get_or, FitsSigned, Fits, w64, sym, subst, arith}
+use Rattle.std.proofs.Common.{◌≡◌, ℕ, ℤ, pos, ◌+◌, ◌*◌, ◌^◌, ◌<◌, ◌≤◌, ◌+ℤ◌, ◌-ℤ◌, ◌≤ℤ◌, List, slice_index, get_or, FitsSigned, w64, sym, subst, arith}
 use Rattle.std.proofs.lemmas.Int.{ints}
 use Rattle.rollup_kit.specs.Counts.{counts_from, add_each}
 use Rattle.rollup_kit.specs.Groups.{IsBounded}

@@ -1,7 +1,7 @@
 -- Cells that no ask asks for may be left out.
-use Rattle.std.proofs.Common.{◌≡◌, ℕ, ◌+◌, Bool, true, false, cond, ◌&&◌, ◌||◌, List, [], ◌∷◌, map, filter, Option, Some, None, refl, sym, ap, ◌∙◌}
+use Rattle.std.proofs.Common.{◌≡◌, ℕ, ◌+◌, Bool, true, false, cond, ◌&&◌, ◌||◌, List, [], ◌∷◌, map, filter, Some, None, refl, sym, ap, ◌∙◌}
 use mathlib.Core.Bool.{true≢false}
-use Rattle.std.specs.List.{list_any, filter_map, cons_option}
+use Rattle.std.specs.List.{list_any, cons_option}
 use Rattle.std.specs.Option.{option_map}
 use Rattle.std.specs.Ordering.{eq_by_cmp}
 use Rattle.point_kit.specs.Orders.{key_cmp}
@@ -11,9 +11,9 @@ use Rattle.point_kit.specs.declared.payload.Payload.{Payload}
 use Rattle.schedule_kit.specs.Rows as rows
 use Rattle.schedule_kit.specs.Rows.{value_of, is_one, is_conflict}
 use Rattle.rollup_kit.specs.Asks.{Attributes, attributes_cmp, asks, group}
-use Rattle.rollup_kit.specs.Newest.{Dated, latest, as_point}
-use Rattle.rollup_kit.specs.Parts.{Parts, no_parts, plus_parts, parts_of}
-use Rattle.rollup_kit.specs.Rollups.{gauge_of, gauges_in, newest}
+use Rattle.rollup_kit.specs.Newest.{latest, as_point}
+use Rattle.rollup_kit.specs.Parts.{no_parts, plus_parts, parts_of}
+use Rattle.rollup_kit.specs.Rollups.{gauge_of, gauges_in}
 use Rattle.rollup_kit.specs.Standing.{grouped, row_among, is_row, standing}
 use Rattle.rollup_kit.specs.declared.ask.Ask.{Ask}
 use Rattle.rollup_kit.proofs.PartLaws.{parts_add_up, counts_add_up}

@@ -1,5 +1,5 @@
 -- What a gateway's points, or those of one service, come to.
-use Rattle.std.proofs.Common.{◌≡◌, ℕ, ◌≤◌, ◌<◌, ◌^◌, Bool, true, false, ◌&&◌, T, List, length, filter, Some, refl, sym, ap, subst, ◌∙◌, arith}
+use Rattle.std.proofs.Common.{◌≡◌, ℕ, ◌≤◌, Bool, true, false, ◌&&◌, T, List, length, filter, Some, refl, sym, ap, ◌∙◌, arith}
 use mathlib.Core.Bool.{true≢false}
 use Rattle.std.specs.FinMap.{FinMap, entries, entries_sorted, len, len-entries}
 use Rattle.std.specs.FinMap.Entries.{is_sorted, is_sorted-where_key}

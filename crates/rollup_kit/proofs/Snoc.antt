@@ -1,23 +1,22 @@
 -- One more cell.
-use Rattle.std.proofs.Common.{◌≡◌, ℕ, ℤ, pos, ◌+◌, ◌+ℤ◌, Bool, true, false, cond, ◌&&◌, ◌||◌, List, [], ◌∷◌, ◌++◌, map, filter, Option, Some, None, unwrap_or, refl, sym, ap, ◌∙◌, arith}
+use Rattle.std.proofs.Common.{◌≡◌, ℕ, ◌+◌, Bool, true, false, cond, ◌&&◌, ◌||◌, List, [], ◌∷◌, ◌++◌, map, filter, None, refl, ap, ◌∙◌, arith}
 use mathlib.Core.Bool.{true≢false}
-use Rattle.std.specs.List.{list_any, filter_map, cons_option}
+use Rattle.std.specs.List.{list_any, cons_option}
 use Rattle.std.proofs.lemmas.List.Elements.{filter_map-append}
 use Rattle.std.specs.declared.cmp.Ordering.TheVariants.{Less}
 use Rattle.point_kit.specs.Orders.{key_cmp}
 use Rattle.point_kit.specs.declared.payload.Payload.TheVariants as payloads
 use Rattle.rollup_kit.specs.Newest.{Dated}
 use Rattle.rollup_kit.proofs.Newest.{AllBelow}
-use Rattle.std.specs.Option.{option_map}
 use Rattle.std.specs.Ordering.{eq_by_cmp}
 use Rattle.point_kit.specs.declared.cell.Cell.{Cell}
 use Rattle.point_kit.specs.declared.cell.Held.{Held}
 use Rattle.point_kit.specs.declared.cell.Held.TheVariants.{One, Conflict}
 use Rattle.point_kit.specs.declared.key.Key.{Key}
 use Rattle.point_kit.specs.declared.payload.Payload.{Payload}
-use Rattle.schedule_kit.specs.Totals.{IsSum, total, total_where}
+use Rattle.schedule_kit.specs.Totals.{IsSum, total}
 use Rattle.schedule_kit.specs.Rows as rows
-use Rattle.schedule_kit.specs.Rows.{in_row, rollup_row, value_of, is_one, is_conflict}
+use Rattle.schedule_kit.specs.Rows.{in_row, value_of, is_one, is_conflict}
 use Rattle.schedule_kit.proofs.Totals.{total-append}
 use Rattle.rollup_kit.specs.Asks.{Attributes, attributes_cmp, asks, group}
 use Rattle.rollup_kit.specs.Parts.{Parts, no_parts, plus_parts, parts_of}

@@ -12,7 +12,6 @@ use Rattle.std.proofs.lemmas.List.Sums.{count_by-le-length, sum_by-cons}
 use Rattle.point_kit.specs.declared.shape.Shape.{Shape}
 use Rattle.point_kit.specs.declared.shape.Shape.TheVariants as shapes
 use Rattle.agg_kit.specs.Payloads as payloads
-use Rattle.agg_kit.specs.Payloads.{payload_of}
 use Rattle.rollup_kit.specs.Parts.{parts_of_value, bucket_of}
 use Rattle.rollup_kit.specs.Recordings.{added, PayloadsAddUp}
 use Rattle.rollup_kit.specs.Spans.{join_spans, span_of}

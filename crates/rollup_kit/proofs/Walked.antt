@@ -1,9 +1,8 @@
 -- A walk over cells in the order of their keys.
-use Rattle.std.proofs.Common.{◌≡◌, ℕ, ◌+◌, ◌<◌, ◌≤◌, ◌^◌, Bool, true, false, cond, ◌&&◌, T, List, [], ◌∷◌, ◌++◌, length, map, append_assoc, length-append, Option, Some, None, unwrap_or, refl, sym, ap, subst, ◌∙◌, arith}
+use Rattle.std.proofs.Common.{◌≡◌, ℕ, ◌+◌, ◌<◌, ◌≤◌, ◌^◌, Bool, true, false, cond, ◌&&◌, List, [], ◌∷◌, ◌++◌, length, map, append_assoc, length-append, Option, Some, None, unwrap_or, refl, sym, ap, subst, ◌∙◌, arith}
 use mathlib.Core.Bool.{true≢false}
 use Rattle.std.proofs.lemmas.List.{map-append}
 use Rattle.std.specs.Prelude.{IfSome}
-use Rattle.std.specs.BTreeMap.{get}
 use Rattle.std.specs.declared.cmp.Ordering.{Ordering}
 use Rattle.std.specs.declared.cmp.Ordering.TheVariants.{Less, Equal, Greater}
 use Rattle.std.specs.Ordering.{is_lt}
@@ -15,7 +14,7 @@ use Rattle.point_kit.specs.declared.cell.Held.TheVariants.{One, Conflict}
 use Rattle.point_kit.specs.declared.key.Key.{Key}
 use Rattle.point_kit.specs.declared.payload.Payload.{Payload}
 use Rattle.schedule_kit.specs.Rows.{is_one, is_conflict}
-use Rattle.rollup_kit.specs.Asks.{Attributes, attributes_cmp}
+use Rattle.rollup_kit.specs.Asks.{Attributes}
 use Rattle.rollup_kit.specs.Groups.{Grouped, no_group, with_held}
 use Rattle.rollup_kit.specs.Rollups.{newest}
 use Rattle.rollup_kit.specs.Standing.{grouped, row_among, is_row, standing, Stands}

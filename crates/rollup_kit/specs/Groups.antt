@@ -1,11 +1,7 @@
 -- The groups of a roll-up while its points are walked over.
-use Rattle.std.specs.Prelude.{◌≡◌, ℕ, ℤ, pos, ◌+◌, ◌*◌, ◌^◌, ◌+ℤ◌, ◌-ℤ◌, ◌≤ℤ◌, ◌≤◌, nat_lt, if◌then◌else◌, cond, List, [], ◌∷◌, map, filter, slice_index, Option, Some, None}
-use Rattle.std.specs.List.{list_any}
-use Rattle.std.specs.Ordering.{eq_by_cmp}
-use Rattle.point_kit.specs.declared.cell.Cell.{Cell}
+use Rattle.std.specs.Prelude.{ℕ, ℤ, pos, ◌+◌, ◌*◌, ◌^◌, ◌+ℤ◌, ◌-ℤ◌, ◌≤ℤ◌, ◌≤◌, nat_lt, if◌then◌else◌, List, slice_index, Option, Some, None}
 use Rattle.point_kit.specs.declared.cell.Held.{Held}
 use Rattle.point_kit.specs.declared.cell.Held.TheVariants.{One, Conflict}
-use Rattle.point_kit.specs.declared.key.Key.{Key}
 use Rattle.point_kit.specs.declared.payload.Payload.{Payload}
 use Rattle.point_kit.specs.declared.payload.Payload.TheVariants as payloads
 use Rattle.rollup_kit.specs.Counts.{counts_from, add_each}

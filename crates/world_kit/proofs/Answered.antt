@@ -1,17 +1,16 @@
 -- What a query answers of a gateway of a world, where no two writers share an identity.
-use Rattle.std.proofs.Common.{◌≡◌, ℕ, ℤ, ◌+◌, Bool, true, false, ◌&&◌, List, slice_get, Some, refl, sym, ap, subst, ◌∙◌, arith}
+use Rattle.std.proofs.Common.{◌≡◌, ℕ, ◌+◌, Bool, true, false, ◌&&◌, List, refl, sym, ap, ◌∙◌, arith}
 use Rattle.agg_kit.specs.Entries.{Entry}
 use Rattle.agg_kit.specs.Feeding.{fed}
 use Rattle.agg_kit.specs.Payloads.{payload_of}
 use Rattle.agg_kit.specs.Rounds.{values_of}
-use Rattle.gossip_kit.specs.Views.{NodeView}
 use Rattle.point_kit.specs.declared.stream.Stream.{Stream}
 use Rattle.point_kit.specs.declared.writer_id.WriterId.{WriterId}
 use Rattle.point_kit.specs.Exact.{exact_streams}
 use Rattle.rollup_kit.proofs.Recordings.{rollup_recorded}
 use Rattle.rollup_kit.specs.Asks.{asks}
 use Rattle.rollup_kit.specs.Recordings.{AreFed, values_under}
-use Rattle.rollup_kit.specs.Rollups.{AddsUp, rollup_rows}
+use Rattle.rollup_kit.specs.Rollups.{rollup_rows}
 use Rattle.rollup_kit.specs.declared.ask.Ask.{Ask}
 use Rattle.schedule_kit.specs.Deeds.Holder.{AtGateway}
 use Rattle.schedule_kit.specs.Members.{In}
@@ -23,7 +22,7 @@ use Rattle.world_kit.specs.declared.setup.Setup.{Setup}
 use Rattle.world_kit.specs.Exact.{AreTold}
 use Rattle.world_kit.specs.Held.{Held}
 use Rattle.world_kit.specs.Judged.{Deeds, fits_at}
-use Rattle.world_kit.specs.Recording.{Name, key_at, name_eq, names_from, number_of, payload_at, rounding, values_from}
+use Rattle.world_kit.specs.Recording.{Name, key_at, name_eq, names_from, number_of, payload_at, rounding}
 use Rattle.world_kit.specs.Setups.{ArePlans, writer_at, starts_of, gateways_of}
 use Rattle.world_kit.specs.Stands.{Stands}
 

@@ -1,8 +1,7 @@
 -- How a world begins.
-use Rattle.std.proofs.Common.{◌≡◌, ◌≢◌, ℕ, zero, suc, ◌+◌, ◌<◌, ◌≤◌, Bool, true, false, not, ◌==◌, List, [], ◌∷◌, ◌++◌, map, length, take, drop, slice_get, get_or, slice_index, position, cond, inl, inr, append_assoc, Option, Some, None, refl, sym, ap, subst, ◌∙◌, arith}
-use Rattle.std.proofs.Math.Seq.{drop-cons}
+use Rattle.std.proofs.Common.{◌≡◌, ◌≢◌, ℕ, zero, suc, ◌+◌, ◌<◌, true, false, ◌==◌, List, [], ◌∷◌, ◌++◌, map, length, slice_get, get_or, slice_index, position, cond, inl, inr, append_assoc, Option, Some, None, refl, sym, ap, subst, ◌∙◌, arith}
 use Rattle.std.proofs.lemmas.Bool.{eq-eqb, cases_lt}
-use Rattle.std.proofs.lemmas.List.{get_or_append_left, length_push, length-take-le, take_more}
+use Rattle.std.proofs.lemmas.List.{get_or_append_left, length_push}
 use Rattle.std.proofs.lemmas.Iterator.Adapters.{position_from-zero}
 use Rattle.std.specs.List.{position_from}
 use Rattle.std.specs.FinMap.{empty}
@@ -17,7 +16,7 @@ use Rattle.world_kit.specs.declared.fault.SetupFault.TheVariants.{SameGateway}
 use Rattle.world_kit.specs.declared.setup.Setup.{Setup}
 use Rattle.world_kit.specs.declared.setup.WriterSetup.{WriterSetup}
 use Rattle.world_kit.specs.Held.{Held}
-use Rattle.world_kit.specs.Setups.{no_writer, writer_at, gateways_of}
+use Rattle.world_kit.specs.Setups.{no_writer}
 use Rattle.world_kit.specs.Stands.{AreApart, Stands, WriterStands}
 use Rattle.world_kit.specs.States.{state_at}
 use Rattle.writer_kit.specs.Written.{Written}

@@ -1,8 +1,7 @@
 -- The rounds of a setup's writers meet the premises of the laws of schedules.
-use Rattle.std.proofs.Common.{◌≡◌, ℕ, ℤ, zero, suc, ◌+◌, ◌<◌, ◌≤◌, Bool, true, false, ◌&&◌, ◌||◌, ◌⊎◌, inl, inr, List, [], ◌∷◌, ◌++◌, map, slice_get, Option, Some, None, refl, sym, ap, subst, ◌∙◌, arith}
+use Rattle.std.proofs.Common.{◌≡◌, ℕ, ℤ, suc, ◌+◌, Bool, true, false, inl, inr, List, [], ◌∷◌, ◌++◌, map, slice_get, Some, refl, sym, ap, subst, ◌∙◌, arith}
 use mathlib.Core.Bool.{true≢false}
 use Rattle.std.specs.Cmp.{IsEquivalence}
-use Rattle.std.specs.List.{list_any}
 use Rattle.std.proofs.lemmas.List.{map-append}
 use Rattle.attr_kit.specs.Exact.{IsExact, exact_pairs}
 use Rattle.attr_kit.specs.declared.attr_set.AttrSet.{AttrSet}
@@ -23,7 +22,7 @@ use Rattle.schedule_kit.proofs.Recorded.{Once-append, Once-map}
 use Rattle.schedule_kit.specs.Members.{In, Once}
 use Rattle.schedule_kit.specs.Rounds.{IsSound}
 use Rattle.world_kit.specs.declared.setup.Setup.{Setup}
-use Rattle.world_kit.specs.Recording.{Name, key_at, name_eq, names_from, rounding, stream_eq}
+use Rattle.world_kit.specs.Recording.{Name, name_eq, names_from, rounding}
 use Rattle.world_kit.specs.Setups.{ArePlans, writer_at}
 
 -- a test that tells all apart, and finds each equal to itself

@@ -1,12 +1,12 @@
 -- Ids that stand twice.
-use Rattle.std.proofs.Common.{◌≡◌, ℕ, zero, suc, ◌+◌, ◌<◌, ◌≤◌, Bool, true, false, ◌==◌, List, [], ◌∷◌, ◌++◌, length, take, drop, slice_index, position, cond, Option, Some, None, refl, sym, ap, subst, ◌∙◌, arith}
+use Rattle.std.proofs.Common.{◌≡◌, ℕ, suc, ◌+◌, ◌<◌, true, false, ◌==◌, List, [], ◌∷◌, ◌++◌, length, take, drop, slice_index, position, cond, Option, Some, None, refl, sym, ap, subst, ◌∙◌, arith}
 use Rattle.std.proofs.Math.Seq.{drop-cons}
 use Rattle.std.proofs.lemmas.Bool.{eqb-true}
 use Rattle.std.proofs.lemmas.List.{length-take-le, take_more}
 use Rattle.std.proofs.lemmas.Iterator.Adapters.{position_from-zero}
 use Rattle.std.specs.List.{position_from}
 use Rattle.std.specs.Option.{option_map, option_or}
-use Rattle.world_kit.specs.Building.{same_gateway, same_gateway_from}
+use Rattle.world_kit.specs.Building.{same_gateway_from}
 
 -- at one place more
 pub twice_here : (ids : List ℕ) (k a : ℕ) → k < length ids → position (λ x. x == slice_index ids k) (take k ids) ≡ Some a → same_gateway_from (take k ids) (drop k ids) ≡ Some (a, k)

@@ -1,5 +1,5 @@
 -- What a deed leaves of what a world stands for, and what it changes.
-use Rattle.std.proofs.Common.{◌≡◌, ◌≢◌, ℕ, ◌+◌, ◌<◌, ◌≤◌, Bool, not, ◌⊎◌, inl, inr, List, [], ◌∷◌, ◌++◌, length, length-set, slice_get, slice_index, Option, Some, None, refl, sym, ap, subst, ◌∙◌, arith}
+use Rattle.std.proofs.Common.{◌≡◌, ◌≢◌, ℕ, ◌+◌, ◌<◌, ◌≤◌, inl, inr, List, [], ◌∷◌, ◌++◌, length, length-set, slice_get, slice_index, Some, refl, sym, ap, subst, ◌∙◌, arith}
 use Rattle.std.proofs.Math.ListN.{set}
 use Rattle.std.proofs.lemmas.Bool.{eq-eqb, ne_eqb}
 use Rattle.std.proofs.lemmas.List.{length_push}
@@ -7,8 +7,8 @@ use Rattle.std.proofs.lemmas.Option.{slice_get_within}
 use Rattle.agg_kit.specs.Entries.{Entry}
 use Rattle.gossip_kit.specs.Views.{MessageView, NodeView}
 use Rattle.point_kit.specs.declared.export.Export.{Export}
-use Rattle.point_kit.specs.Exports.{Points, join_points}
-use Rattle.schedule_kit.specs.Deeds.{Deed, Made, Mail, Holder, acts_of, made, mails, mail_of}
+use Rattle.point_kit.specs.Exports.{join_points}
+use Rattle.schedule_kit.specs.Deeds.{Made, acts_of, made, mails, mail_of}
 use Rattle.schedule_kit.specs.Deeds.Holder.{AtGateway, InMail}
 use Rattle.schedule_kit.specs.Schedule.{Act}
 use Rattle.schedule_kit.specs.Taken.{made_of}

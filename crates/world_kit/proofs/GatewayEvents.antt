@@ -1,10 +1,9 @@
 -- What gateways do leads a world that stands for deeds to one that stands for them and one more.
-use Rattle.std.proofs.Common.{◌≡◌, ◌≢◌, ℕ, ◌+◌, ◌-◌, ◌<◌, ◌≤◌, Bool, true, false, cond, not, ◌==◌, List, [], ◌∷◌, ◌++◌, length, slice_get, slice_index, Option, Some, None, Result, Ok, Err, refl, sym, ap, subst, ◌∙◌, arith}
+use Rattle.std.proofs.Common.{◌≡◌, ◌≢◌, ℕ, ◌+◌, ◌-◌, ◌<◌, ◌≤◌, true, false, cond, not, ◌==◌, List, [], ◌∷◌, ◌++◌, length, slice_get, slice_index, Some, None, refl, sym, ap, subst, ◌∙◌, arith}
 use Rattle.std.proofs.Math.ListN.{set}
 use Rattle.std.proofs.lemmas.Bool.{eqb-true, eq-eqb, ne_eqb}
 use Rattle.std.proofs.lemmas.Option.{slice_get_within}
-use Rattle.std.specs.Option.{option_map_or, option_or}
-use Rattle.agg_kit.specs.Entries.{Entry}
+use Rattle.std.specs.Option.{option_or}
 use Rattle.gossip_kit.proofs.Carrying.{brings_held, nothing_below}
 use Rattle.gossip_kit.specs.Gossip.{CarriesHeld, Brings, acknowledged, hand_fault}
 use Rattle.gossip_kit.specs.declared.fault.HandFault.{HandFault}
@@ -12,8 +11,8 @@ use Rattle.gossip_kit.specs.declared.fault.HandFault.TheVariants.{NotAddressed a
 use Rattle.gossip_kit.specs.Views.{MessageView, NodeView}
 use Rattle.point_kit.proofs.PointLaws.{points_idempotent, changed_points-same}
 use Rattle.point_kit.specs.declared.export.Export.{Export}
-use Rattle.point_kit.specs.Exports.{Points, join_points, changed_points, state}
-use Rattle.schedule_kit.specs.Deeds.{Deed, Made, Mail, Holder, made, mails, mail_of, is_to}
+use Rattle.point_kit.specs.Exports.{join_points, changed_points, state}
+use Rattle.schedule_kit.specs.Deeds.{made, mails, mail_of, is_to}
 use Rattle.schedule_kit.specs.Deeds.Deed.{Delivered, Merged, Sent, Handed}
 use Rattle.schedule_kit.specs.Deeds.Holder.{AtGateway, InMail}
 use Rattle.schedule_kit.specs.Taken.{made_of}
@@ -21,15 +20,14 @@ use Rattle.world_kit.proofs.Frames.{writers_same, nodes_same, nodes_set, exports
 use Rattle.world_kit.proofs.Replies.{refused_acts, accepted_acts, guard_true, guard_false, gathered_there, gathered_none, counted_in, counted_zero, counted_past}
 use Rattle.world_kit.proofs.StateSteps.{state_delivered, state_merged, state_handed, state_sent, state_sent_new, state_sent_old, mail_delivered, mail_merged, mail_handed, chosen, passed}
 use Rattle.world_kit.specs.declared.event.Event.TheVariants as event
-use Rattle.world_kit.specs.declared.event.Refusal.{Refusal}
 use Rattle.world_kit.specs.declared.event.Refusal.TheVariants.{NoGateway, NoExport, NoMail, NotAddressed}
 use Rattle.world_kit.specs.declared.event.Reply.TheVariants as reply
 use Rattle.world_kit.specs.declared.setup.Setup.{Setup}
 use Rattle.world_kit.specs.Held.{Held}
-use Rattle.world_kit.specs.Judged.{Deeds, judged, gathered, guard, counted}
-use Rattle.world_kit.specs.Setups.{starts_of, gateways_of}
+use Rattle.world_kit.specs.Judged.{Deeds, counted}
+use Rattle.world_kit.specs.Setups.{starts_of}
 use Rattle.world_kit.specs.Stands.{Acts, Stands, MailStands}
-use Rattle.world_kit.specs.States.{IsExportOf, state_at}
+use Rattle.world_kit.specs.States.{state_at}
 
 -- a world with other nodes
 abbrev pub with_nodes : Held → List NodeView → Held

@@ -1,9 +1,7 @@
 -- One event more of a schedule, and what follows from what a world stands for.
-use Rattle.std.proofs.Common.{◌≡◌, ℕ, zero, suc, ◌+◌, ◌<◌, ◌≤◌, List, [], ◌∷◌, ◌++◌, length, take, slice_get, fold, Some, refl, sym, ap, subst, ◌∙◌, arith}
-use Rattle.std.proofs.lemmas.List.{take_more}
+use Rattle.std.proofs.Common.{◌≡◌, ℕ, zero, suc, ◌+◌, ◌≤◌, List, [], ◌∷◌, ◌++◌, length, take, fold, refl, sym, ap, subst, ◌∙◌, arith}
 use Rattle.std.proofs.lemmas.List.Sums.{fold-append}
 use Rattle.agg_kit.specs.Entries.{Entry}
-use Rattle.gossip_kit.specs.Views.{NodeView}
 use Rattle.point_kit.proofs.EqualityLaws.{payload_equivalence, payload_exact}
 use Rattle.point_kit.proofs.OrderLaws.{key_total, key_exact}
 use Rattle.point_kit.specs.Equality.{payload_eq}

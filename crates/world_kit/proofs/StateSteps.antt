@@ -1,9 +1,7 @@
 -- One more deed, for the states that holders have.
-use Rattle.std.proofs.Common.{◌≡◌, ◌≢◌, ℕ, ◌+◌, ◌≤◌, Bool, true, false, cond, ◌==◌, List, [], ◌∷◌, ◌++◌, map, Option, Some, refl, sym, ap, ◌∙◌}
+use Rattle.std.proofs.Common.{◌≡◌, ◌≢◌, ℕ, ◌+◌, ◌≤◌, Bool, true, false, cond, ◌==◌, List, [], ◌∷◌, ◌++◌, map, Some, refl, sym, ap, ◌∙◌}
 use Rattle.std.specs.List.{flat_map}
 use Rattle.std.proofs.lemmas.Bool.{eqb-true, eq-eqb}
-use Rattle.std.proofs.lemmas.List.{append-nil}
-use mathlib.Core.Bool.{true≢false}
 use Rattle.agg_kit.specs.Entries.{Entry}
 use Rattle.point_kit.proofs.EqualityLaws.{payload_equivalence, payload_exact}
 use Rattle.point_kit.proofs.OrderLaws.{key_total, key_exact}
@@ -13,10 +11,10 @@ use Rattle.point_kit.specs.declared.key.Key.{Key}
 use Rattle.point_kit.specs.declared.payload.Payload.{Payload}
 use Rattle.point_kit.specs.declared.writer_id.WriterId.{WriterId}
 use Rattle.point_kit.specs.Equality.{payload_eq}
-use Rattle.point_kit.specs.Exports.{Points, join_points, points_of, state}
+use Rattle.point_kit.specs.Exports.{join_points, points_of, state}
 use Rattle.point_kit.specs.Orders.{key_cmp}
 use Rattle.point_kit.specs.States.{state_of}
-use Rattle.schedule_kit.specs.Deeds.{Deed, Made, Holder, made, mails, AreLawful}
+use Rattle.schedule_kit.specs.Deeds.{Made, Holder, made, mails, AreLawful}
 use Rattle.schedule_kit.specs.Deeds.Deed.{Wrote, Delivered, Merged, Sent, Handed}
 use Rattle.schedule_kit.specs.Deeds.Holder.{AtGateway, InMail}
 use Rattle.schedule_kit.specs.Schedule.Act.{Measured, Collected, Restarted}

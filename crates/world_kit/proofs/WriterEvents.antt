@@ -1,10 +1,10 @@
 -- What writers do leads a world that stands for deeds to one that stands for them and one more.
-use Rattle.std.proofs.Common.{◌≡◌, ◌≢◌, ℕ, ℤ, zero, suc, ◌+◌, ◌<◌, ◌≤◌, Bool, true, false, cond, not, max, is_none, ◌==◌, inl, inr, List, [], ◌∷◌, ◌++◌, map, length, get_or, slice_get, slice_index, nat_lt, nat_le, Option, Some, None, Result, Ok, Err, refl, sym, ap, subst, ◌∙◌, arith}
+use Rattle.std.proofs.Common.{◌≡◌, ◌≢◌, ℕ, ℤ, zero, suc, ◌+◌, ◌<◌, ◌≤◌, Bool, true, false, cond, not, max, is_none, inl, inr, List, [], ◌∷◌, ◌++◌, map, length, get_or, slice_get, slice_index, nat_lt, nat_le, Option, Some, None, Result, Ok, Err, refl, sym, ap, subst, ◌∙◌, arith}
 use Rattle.std.proofs.Math.ListN.{set}
 use Rattle.std.proofs.lemmas.Bool.{eq-eqb, ne_eqb, lt-ltb, le-ltb, le-leb, lt-leb, cases_lt}
 use Rattle.std.proofs.lemmas.List.{length-map}
 use Rattle.std.proofs.lemmas.Option.{slice_get_within}
-use Rattle.std.specs.Option.{option_and_then, option_map, option_or}
+use Rattle.std.specs.Option.{option_and_then, option_map}
 use mathlib.Core.Bool.{true≢false}
 use Rattle.agg_kit.specs.declared.fault.MeasureFault.{MeasureFault as TallyFault}
 use Rattle.agg_kit.specs.Entries.{Entry}
@@ -16,14 +16,14 @@ use Rattle.attr_kit.specs.declared.attr_set.AttrSet.{AttrSet}
 use Rattle.attr_kit.specs.Refusing.{first, when}
 use Rattle.point_kit.specs.declared.export.Export.{Export}
 use Rattle.round_kit.specs.Rounds.{points_of}
-use Rattle.schedule_kit.specs.Deeds.{Deed, Made, Holder, acts_of, made, mails, start_at}
+use Rattle.schedule_kit.specs.Deeds.{Deed, Made, acts_of, mails}
 use Rattle.schedule_kit.specs.Deeds.Deed.{Wrote}
 use Rattle.schedule_kit.specs.Deeds.Holder.{AtGateway, InMail}
 use Rattle.schedule_kit.proofs.History.{acts_accepted, none_yet}
 use Rattle.schedule_kit.specs.Schedule.{Act, AreAccepted, start_of, last_of, is_open, running}
 use Rattle.schedule_kit.specs.Schedule.Act.{Measured, Collected, Restarted}
 use Rattle.world_kit.proofs.Frames.{writers_set, nodes_same, exports_same, exports_more, mails_same}
-use Rattle.world_kit.proofs.Replies.{refused_acts, accepted_acts, guard_true, guard_false, written_there, written_none}
+use Rattle.world_kit.proofs.Replies.{refused_acts, accepted_acts, guard_true, written_there, written_none}
 use Rattle.world_kit.proofs.StateSteps.{state_measured, state_restarted, state_collected}
 use Rattle.world_kit.specs.Copying.{Copies, Refuses}
 use Rattle.world_kit.specs.declared.event.Event.TheVariants as event
@@ -33,10 +33,9 @@ use Rattle.world_kit.specs.declared.event.Reply.TheVariants as reply
 use Rattle.world_kit.specs.declared.setup.Setup.{Setup}
 use Rattle.world_kit.specs.declared.setup.WriterSetup.{WriterSetup}
 use Rattle.world_kit.specs.Held.{Held}
-use Rattle.world_kit.specs.Judged.{Deeds, collected_at, fits_at, guard, judged, refusal_at, refusal_of, unless, written}
+use Rattle.world_kit.specs.Judged.{Deeds, collected_at, fits_at, guard, judged, refusal_at, refusal_of, unless}
 use Rattle.world_kit.specs.Setups.{no_writer, writer_at, starts_of, gateways_of}
 use Rattle.world_kit.specs.Stands.{Acts, Stands, WriterStands}
-use Rattle.world_kit.specs.States.{IsExportOf}
 use Rattle.world_kit.specs.Told.{measure_refusal, collect_refusal, restart_refusal, collect_event}
 use Rattle.writer_kit.specs.declared.fault.CollectFault.{CollectFault}
 use Rattle.writer_kit.specs.declared.fault.CollectFault.TheVariants as collect

@@ -1,5 +1,5 @@
 -- What holds of gateways that took the same exports, and why a schedule is not done to its end.
-use Rattle.std.specs.Prelude.{◌≡◌, ℕ, ◌≤◌, List, length, slice_get, Option, Some}
+use Rattle.std.specs.Prelude.{◌≡◌, ℕ, ◌≤◌, List, length, slice_get, Some}
 use Rattle.gossip_kit.specs.Views.{NodeView}
 use Rattle.rollup_kit.specs.Rollups.{rollup_rows}
 use Rattle.rollup_kit.specs.declared.ask.Ask.{Ask}

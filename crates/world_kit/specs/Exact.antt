@@ -1,5 +1,5 @@
 -- What a gateway of a world holds of each writer, where no two writers share an identity.
-use Rattle.std.specs.Prelude.{◌≡◌, ℕ, ◌<◌, List, length, slice_get, Some}
+use Rattle.std.specs.Prelude.{◌≡◌, ℕ, ◌<◌, length, slice_get, Some}
 use Rattle.std.specs.FinMap.{get}
 use Rattle.gossip_kit.specs.Views.{NodeView}
 use Rattle.point_kit.specs.declared.key.Key.{Key}

@@ -1,6 +1,4 @@
 -- Why a schedule is not done to its end.
-use Rattle.std.specs.Prelude.{◌≡◌, ℕ, ◌≤◌, List, length, Some}
-use Rattle.world_kit.specs.declared.event.Event.{Event}
 use Rattle.world_kit.specs.declared.fault.ReplayFault.{ReplayFault}
 use Rattle.world_kit.specs.declared.fault.ReplayFault.TheVariants as replay
 use Rattle.world_kit.specs.declared.fault.SetupFault.{SetupFault}

@@ -1,12 +1,12 @@
 -- Which events are accepted, and what is replied.
-use Rattle.std.specs.Prelude.{ℕ, ◌+◌, Bool, true, false, ◌&&◌, if◌then◌else◌, nat_lt, List, [], ◌∷◌, length, fold, is_none, Option, None, Some, Result, Ok, Err, slice_index}
+use Rattle.std.specs.Prelude.{ℕ, ◌+◌, Bool, true, false, ◌&&◌, if◌then◌else◌, nat_lt, List, [], ◌∷◌, length, fold, is_none, Option, None, Some, Result, Ok, Err}
 use Rattle.std.specs.Option.{option_and_then}
 use Rattle.agg_kit.specs.declared.fault.MeasureFault.{MeasureFault}
 use Rattle.agg_kit.specs.declared.fault.MeasureFault.TheVariants as faults
 use Rattle.agg_kit.specs.Entries.{Entry}
 use Rattle.agg_kit.specs.Refusals.{refused}
-use Rattle.point_kit.specs.Exports.{Points, changed_points}
-use Rattle.schedule_kit.specs.Deeds.{Deed, Holder, acts_of, made, mails, mail_of, is_to, start_at}
+use Rattle.point_kit.specs.Exports.{changed_points}
+use Rattle.schedule_kit.specs.Deeds.{Deed, acts_of, made, mails, mail_of, is_to}
 use Rattle.schedule_kit.specs.Deeds.Deed.{Wrote, Delivered, Merged, Sent, Handed}
 use Rattle.schedule_kit.specs.Deeds.Holder.{AtGateway}
 use Rattle.schedule_kit.specs.Schedule.{Act, start_of, last_of, is_open, running}

@@ -1,5 +1,5 @@
 -- What the entries of a writer feed: streams with attribute sets, each with its payload.
-use Rattle.std.specs.Prelude.{ℕ, ℤ, ◌+◌, Bool, ◌&&◌, List, [], ◌∷◌, ◌++◌, map, position, unwrap_or, slice_get, Some}
+use Rattle.std.specs.Prelude.{ℕ, ℤ, ◌+◌, Bool, ◌&&◌, List, [], ◌∷◌, ◌++◌, map, position, unwrap_or}
 use Rattle.attr_kit.specs.declared.attr_set.AttrSet.{AttrSet}
 use Rattle.agg_kit.specs.Entries.{Entry}
 use Rattle.agg_kit.specs.Feeding.{set_eq, distinct, sets_of, fed}

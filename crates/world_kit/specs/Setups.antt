@@ -1,7 +1,6 @@
 -- The writers of a setup by their places.
 use Rattle.std.specs.Prelude.{ℕ, List, [], map, slice_index_or, length}
 use Rattle.plan_kit.specs.Plans.{AreApart}
-use Rattle.point_kit.specs.declared.writer_id.WriterId.{WriterId}
 use Rattle.world_kit.specs.declared.setup.Setup.{Setup}
 use Rattle.world_kit.specs.declared.setup.WriterSetup.{WriterSetup}
 

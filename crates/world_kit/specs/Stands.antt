@@ -1,11 +1,11 @@
 -- A world stands for what happened in it.
-use Rattle.std.specs.Prelude.{◌≡◌, ℕ, ◌+◌, ◌<◌, Bool, not, List, [], length, slice_get, slice_index, Option, Some}
+use Rattle.std.specs.Prelude.{◌≡◌, ℕ, ◌+◌, ◌<◌, not, List, length, slice_get, slice_index, Some}
 use Rattle.agg_kit.specs.Entries.{Entry}
 use Rattle.agg_kit.specs.Rounds.{StandsFor}
 use Rattle.gossip_kit.specs.Views.{MessageView, NodeView}
 use Rattle.point_kit.specs.declared.export.Export.{Export}
 use Rattle.point_kit.specs.Exports.{Points, join_points}
-use Rattle.schedule_kit.specs.Deeds.{Made, Mail, Holder, acts_of, made, mails, mail_of, AreLawful}
+use Rattle.schedule_kit.specs.Deeds.{Made, Mail, acts_of, made, mails, mail_of, AreLawful}
 use Rattle.schedule_kit.specs.Deeds.Holder.{AtGateway, InMail}
 use Rattle.schedule_kit.specs.Schedule.{Act, start_of, last_of, is_open, running}
 use Rattle.schedule_kit.specs.Taken.{made_of}

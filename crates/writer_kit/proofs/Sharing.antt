@@ -12,14 +12,12 @@ use Rattle.round_kit.specs.Rounds as rounds
 use Rattle.turn_kit.specs.declared.seat.Seat.{Seat}
 use Rattle.turn_kit.specs.History.{replay, IsReplay}
 use Rattle.turn_kit.specs.Public.{Closes, seen, number}
-use Rattle.schedule_kit.specs.Schedule.{Act, Collection, collected, collections}
+use Rattle.schedule_kit.specs.Schedule.{Act, collected, collections}
 use Rattle.writer_kit.specs.Following.{Follows, round_of}
 use Rattle.writer_kit.specs.PlanFeeds.{AllFeeds}
 use Rattle.writer_kit.specs.Recording.{recorded}
 use Rattle.writer_kit.specs.Refusals.{fault_now, collect_fault}
 use Rattle.writer_kit.specs.Written.{Written}
-use Rattle.writer_kit.specs.declared.fault.CollectFault.{CollectFault}
-use Rattle.writer_kit.specs.declared.fault.MeasureFault.{MeasureFault}
 use Rattle.writer_kit.specs.declared.shared.writer.SharedWriter.{SharedWriter}
 use Rattle.writer_kit.specs.declared.shared.change.WriterChange.{WriterChange}
 use Rattle.writer_kit.specs.declared.shared.change.WriterChange.TheVariants.{Measured, Collected}

@@ -2,7 +2,6 @@
 use Rattle.std.specs.Prelude.{◌≡◌, ◌≢◌, ℕ, false, cond, is_none, List, [], ◌∷◌, ◌++◌, Option, Some, None}
 use Rattle.agg_kit.specs.Entries.{Entry, entry_of}
 use Rattle.agg_kit.specs.Rounds.{StandsFor}
-use Rattle.attr_kit.specs.declared.attr_set.AttrSet.{AttrSet}
 use Rattle.round_kit.specs.Rounds.{points_of}
 use Rattle.round_kit.specs.Rounds as rounds
 use Rattle.turn_kit.specs.declared.note.Note.{Note}

@@ -1,4 +1,3 @@
-use Rattle.std.proofs.Common.{◌≡◌, ◌∙◌}
 use Rattle.otm_kit.proofs.Runnings.{same_yes, same_no}
 use Rattle.otm_kit.proofs.answers.same_line.Goals as goal
 

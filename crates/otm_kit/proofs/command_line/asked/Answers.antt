@@ -1,6 +1,6 @@
-use Rattle.std.proofs.Common.{◌≡◌, ◌∙◌, ap, map, true, sym, Option, List}
+use Rattle.std.proofs.Common.{◌≡◌, ◌∙◌, ap, map, true}
 use Rattle.std.specs.Prelude.{IfSome}
-use Rattle.clap.specs.Words.{App, Row, Text, app_of, is_simple, subcommand_of, subcommand_rows_of, takes}
+use Rattle.clap.specs.Words.{App, app_of, is_simple, subcommand_of, subcommand_rows_of, takes}
 use Rattle.otm_kit.specs.Asked.{otm, named_by, is_taken, Says}
 use Rattle.otm_kit.proofs.AskedLemmas.{ok_from_some, otm_is_simple, not_taken}
 use Rattle.otm_kit.proofs.command_line.asked.Goals as goal

@@ -1,4 +1,4 @@
-use Rattle.std.proofs.Common.{◌≡◌, ◌∙◌, Some, None, refl, sym, ap, rules}
+use Rattle.std.proofs.Common.{ap, rules}
 use Rattle.std.specs.BTreeMap.{get}
 use Rattle.rollup_kit.specs.Asks.{attributes_cmp}
 use Rattle.rollup_kit.specs.Groups.{Grouped, with_held}

@@ -1,4 +1,4 @@
-use Rattle.std.proofs.Common.{◌≡◌, ◌∷◌, map}
+use Rattle.std.proofs.Common.{map}
 use Rattle.gateway_kit.specs.Walks.{entry_of_ref, points_left}
 use Rattle.rollup_kit.proofs.Walked.{has_room, more_seen, few_seen, stands_next}
 use Rattle.rollup_kit.proofs.groups.groups_of.Goals as goal

@@ -1,4 +1,4 @@
-use Rattle.std.proofs.Common.{◌≡◌, ◌∙◌, sym, slice_index, None, Some}
+use Rattle.std.proofs.Common.{◌∙◌, sym, slice_index, None, Some}
 use Rattle.world_kit.proofs.Firsts.{twice_here, not_twice_here, first_new, from_start}
 use Rattle.world_kit.proofs.build.same_ids.Goals as goal
 

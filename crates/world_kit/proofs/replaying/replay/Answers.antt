@@ -1,4 +1,4 @@
-use Rattle.std.proofs.Common.{◌≡◌, ℕ, ◌+◌, ◌<◌, ◌≤◌, List, [], ◌∷◌, ◌++◌, length, take, get_or, subst, sym, ap, ◌∙◌, arith}
+use Rattle.std.proofs.Common.{◌≡◌, ℕ, ◌+◌, ◌<◌, ◌≤◌, List, [], ◌∷◌, ◌++◌, length, take, subst, sym, ap, ◌∙◌, arith}
 use Rattle.std.proofs.lemmas.Grind.{common_steps}
 use Rattle.std.proofs.lemmas.List.{length-take-le, take_more}
 use Rattle.world_kit.proofs.Answered.{answers}
@@ -9,7 +9,7 @@ use Rattle.world_kit.specs.declared.event.Reply.{Reply}
 use Rattle.world_kit.specs.declared.setup.Setup.{Setup}
 use Rattle.world_kit.specs.Held.{Held}
 use Rattle.world_kit.specs.Judged.{deeds}
-use Rattle.world_kit.specs.Stands.{Acts, Stands}
+use Rattle.world_kit.specs.Stands.{Stands}
 use Rattle.world_kit.proofs.replaying.replay.Goals as goal
 
 pub returns-then-is_err-clause-err : goal.returns-then-is_err-clause-err

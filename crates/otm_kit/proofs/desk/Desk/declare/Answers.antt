@@ -1,9 +1,8 @@
-use Rattle.std.proofs.Common.{◌≡◌, ◌∙◌, sym, ap, true, false, not, [], ◌∷◌, ◌++◌, string_bytes, Some, None}
+use Rattle.std.proofs.Common.{◌≡◌, ◌∙◌, sym, ap, true, false, not, [], ◌∷◌, ◌++◌, string_bytes}
 use Rattle.std.specs.Prelude.{if◌then◌else◌, is_some}
 use Rattle.script_kit.specs.declared.line.Line.TheVariants as line
-use Rattle.otm_kit.specs.Declarations.{is_taken, with_declaration, declared_by}
-use Rattle.otm_kit.specs.Events.{commands}
-use Rattle.otm_kit.proofs.Runnings.{begun_at, waits_at, at_wait, declare_late, declare_bad, declare_done, waits_more, begin_late, begin_done, begin_bad, goes_first, once_bad, once_done, once_none, goes_more, stays_at_nothing, stays_at_query}
+use Rattle.otm_kit.specs.Declarations.{is_taken, with_declaration}
+use Rattle.otm_kit.proofs.Runnings.{begun_at, waits_at, at_wait, declare_late, declare_bad, declare_done, waits_more}
 use Rattle.otm_kit.proofs.desk.Desk.declare.Goals as goal
 
 pub returns-then-is_some : goal.returns-then-is_some

@@ -1,4 +1,4 @@
-use Rattle.std.proofs.Common.{◌≡◌, sym, ◌∙◌, ap, not, is_none}
+use Rattle.std.proofs.Common.{sym, ◌∙◌, ap, is_none}
 use Rattle.std.specs.Cmp.Lexicographic.{pointwise}
 use Rattle.std.specs.Prelude.{nat_eq}
 use Rattle.otm_kit.specs.Declarations.{label_place}

@@ -1,6 +1,4 @@
-use Rattle.std.proofs.Common.{◌≡◌, ◌∙◌, sym, ap, refl, Some, None, string_bytes}
-use Rattle.otm_kit.specs.Answers.{conflicts_text, newest_text, same_text}
-use Rattle.otm_kit.proofs.Runnings.{conflicts_none, conflicts_some, report_none, report_some, same_first, same_second, same_some, newest_first, newest_second, newest_some}
+use Rattle.otm_kit.proofs.Runnings.{conflicts_none, conflicts_some}
 use Rattle.otm_kit.proofs.running.Running.conflicts.Goals as goal
 
 pub returns-in_default : goal.returns-in_default

@@ -1,5 +1,4 @@
-use Rattle.std.proofs.Common.{◌≡◌, ◌∙◌, sym, ap, refl, Some, None}
-use Rattle.std.specs.Option.{option_copied}
+use Rattle.std.proofs.Common.{◌≡◌, sym, Some}
 use Rattle.otm_kit.specs.Declarations.{gateway_place}
 use Rattle.otm_kit.proofs.Runnings.{gateway_there}
 use Rattle.otm_kit.proofs.running.Running.gateway.Goals as goal

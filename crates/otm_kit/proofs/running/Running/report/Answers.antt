@@ -1,8 +1,7 @@
-use Rattle.std.proofs.Common.{◌≡◌, ◌∙◌, sym, ap, refl, Some, None, string_bytes}
+use Rattle.std.proofs.Common.{◌∙◌, ap}
 use Rattle.rollup_kit.specs.Rollups.{rollup_rows}
 use Rattle.rollup_kit.specs.TableText.{table_text}
-use Rattle.otm_kit.specs.Answers.{conflicts_text, newest_text, same_text}
-use Rattle.otm_kit.proofs.Runnings.{conflicts_none, conflicts_some, report_none, report_some, same_first, same_second, same_some, newest_first, newest_second, newest_some}
+use Rattle.otm_kit.proofs.Runnings.{report_none, report_some}
 use Rattle.otm_kit.proofs.running.Running.report.Goals as goal
 
 pub returns-in_default : goal.returns-in_default

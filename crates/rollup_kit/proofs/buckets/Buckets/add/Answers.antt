@@ -1,4 +1,4 @@
-use Rattle.std.proofs.Common.{◌≡◌, ◌∙◌, ◌≤◌, length, slice_index, sym, ap, arith}
+use Rattle.std.proofs.Common.{◌∙◌, ◌≤◌, length, slice_index, ap, arith}
 use Rattle.rollup_kit.specs.Counts.{add_each}
 use Rattle.rollup_kit.proofs.Counts.{all_added}
 use Rattle.rollup_kit.proofs.buckets.Buckets.add.Goals as goal

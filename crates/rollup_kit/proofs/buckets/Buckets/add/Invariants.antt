@@ -1,4 +1,3 @@
-use Rattle.std.proofs.Common.{◌≡◌, ℕ, ◌+◌, ◌<◌, ◌≤◌, length, get_or}
 use Rattle.rollup_kit.proofs.Counts.{AreAdded}
 use Rattle.rollup_kit.proofs.buckets.Buckets.add.Given as goal
 

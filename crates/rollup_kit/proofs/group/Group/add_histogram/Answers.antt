@@ -1,4 +1,4 @@
-use Rattle.std.proofs.Common.{◌≡◌, ℤ, ◌+◌, ◌+ℤ◌, FitsSigned, slice_index, w64, arith, rules}
+use Rattle.std.proofs.Common.{slice_index, arith, rules}
 use Rattle.std.proofs.lemmas.Int.{ints}
 use Rattle.rollup_kit.proofs.Bounds.{histogram_at}
 use Rattle.rollup_kit.proofs.group.Group.add_histogram.Goals as goal

@@ -1,9 +1,8 @@
-use Rattle.std.proofs.Common.{◌≡◌, ℕ, ◌+◌, ◌<◌, ◌≤◌, Bool, false, List, [], ◌∷◌, ◌++◌, length, Some, None, Ok, Err, subst, refl, sym, ap, ◌∙◌, arith}
+use Rattle.std.proofs.Common.{◌≡◌, ℕ, ◌+◌, ◌<◌, List, [], ◌∷◌, ◌++◌, length, Some, subst, refl, sym, ap, ◌∙◌, arith}
 use Rattle.std.proofs.Math.ListN.{set}
 use Rattle.std.proofs.lemmas.Grind.{common_steps}
-use Rattle.std.proofs.lemmas.List.{set-get_or}
 use Rattle.std.proofs.lemmas.Option.{slice_get_read}
-use Rattle.world_kit.proofs.Replies.{left_as, seen_as, same_as}
+use Rattle.world_kit.proofs.Replies.{left_as, seen_as}
 use Rattle.world_kit.proofs.WriterEvents.{collect_nowhere, collect_refused, collects, opened_at, rises_at, with_export}
 use Rattle.world_kit.specs.contracts.world.World as world
 use Rattle.point_kit.specs.declared.export.Export.{Export}

@@ -1,8 +1,8 @@
-use Rattle.std.proofs.Common.{◌≡◌, ℕ, ◌+◌, ◌-◌, ◌<◌, ◌≤◌, length, refl, sym, ap, ◌∙◌, arith}
+use Rattle.std.proofs.Common.{◌-◌, ◌<◌, length, refl, arith}
 use Rattle.std.proofs.lemmas.Grind.{common_steps}
 use Rattle.std.proofs.lemmas.Option.{slice_get_read}
 use Rattle.world_kit.proofs.GatewayEvents.{deliver_nowhere, deliver_zero, deliver_past, delivers}
-use Rattle.world_kit.proofs.Replies.{left_as, seen_as, same_as}
+use Rattle.world_kit.proofs.Replies.{left_as, seen_as}
 use Rattle.world_kit.proofs.world.World.deliver.Goals as goal
 
 pub returns-then-gateway-len-clause-ok : goal.returns-then-gateway-len-clause-ok

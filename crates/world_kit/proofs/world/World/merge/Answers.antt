@@ -1,8 +1,8 @@
-use Rattle.std.proofs.Common.{◌≡◌, ℕ, ◌+◌, ◌-◌, ◌<◌, ◌≤◌, length, length-set, List, ◌++◌, take, drop, get_or, subst, refl, sym, ap, ◌∙◌, arith}
+use Rattle.std.proofs.Common.{◌≡◌, ℕ, ◌+◌, ◌-◌, ◌<◌, length, length-set, List, ◌++◌, take, drop, get_or, subst, sym, ap, ◌∙◌, arith}
 use Rattle.std.proofs.lemmas.Grind.{common_steps}
 use Rattle.std.proofs.lemmas.Option.{slice_get-get_or}
 use Rattle.world_kit.proofs.GatewayEvents.{merge_nowhere, merge_none, merges_itself, merges, with_nodes}
-use Rattle.world_kit.proofs.Replies.{left_as, seen_as, same_as}
+use Rattle.world_kit.proofs.Replies.{left_as, seen_as}
 use Rattle.gossip_kit.specs.Views.{NodeView}
 use Rattle.world_kit.specs.contracts.world.World as world
 use Rattle.world_kit.specs.declared.event.Event.TheVariants as event

@@ -1,4 +1,4 @@
-use Rattle.std.proofs.Common.{◌≡◌, ℕ, List, [], map, Some, None, sym, ap, ◌∙◌}
+use Rattle.std.proofs.Common.{◌≡◌, map, Some, None, ap, ◌∙◌}
 use Rattle.world_kit.proofs.Beginnings.{begins, fault_none, fault_some}
 use Rattle.world_kit.specs.Building.{same_gateway, fresh}
 use Rattle.world_kit.proofs.world.World.new.Goals as goal

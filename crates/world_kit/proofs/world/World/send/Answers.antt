@@ -1,8 +1,8 @@
-use Rattle.std.proofs.Common.{◌≡◌, ℕ, ◌+◌, ◌-◌, ◌<◌, ◌≤◌, length, List, [], ◌∷◌, ◌++◌, subst, refl, sym, ap, ◌∙◌, arith}
+use Rattle.std.proofs.Common.{◌≡◌, ℕ, ◌+◌, ◌-◌, ◌<◌, length, List, [], ◌∷◌, ◌++◌, subst, refl, sym, ap, ◌∙◌, arith}
 use Rattle.std.proofs.lemmas.Grind.{common_steps}
 use Rattle.std.proofs.lemmas.Option.{slice_get_read}
 use Rattle.world_kit.proofs.GatewayEvents.{send_nowhere, send_none, sends, with_mails}
-use Rattle.world_kit.proofs.Replies.{left_as, seen_as, same_as}
+use Rattle.world_kit.proofs.Replies.{left_as, seen_as}
 use Rattle.gateway_kit.specs.View.{View}
 use Rattle.gossip_kit.specs.Views.{MessageView}
 use Rattle.world_kit.specs.contracts.world.World as world
