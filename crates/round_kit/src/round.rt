@@ -135,7 +135,7 @@ fn copy_points(alloc: Global, points: &[RoundPoint<'_>]) -> Result<Vec<ExportPoi
 /// stays in the arena until its reset.
 ///
 /// O(size of the points), each value and list copied once, the texts of a stream once for all its points, and the keys of a
-/// set once for all points in a row that have the same; keys are not compared in a stream whose sets are known to share them.
+/// set once for all points in a row that have the same; keys are not compared in a stream whose sets share them.
 /// The lists of points and of values get their room once. No allocation outside the arena, which is the caller's and is reset
 /// by nobody else.
 pub fn place<'b>(
