@@ -123,7 +123,8 @@ fn are_keys(keys: &[&str], pairs: &[(Txt, AttrValue)]) -> bool
 }
 
 /// The keys of a set, in an arena: those that were placed before, where they are the same. Where they are known to be, they
-/// are not compared.
+/// are not compared; this is inlined, so that a loop over such sets calls nothing for it.
+#[inline(always)]
 pub(crate) fn keys_for<'b>(
     bump: &'b Bump,
     before: &'b [&'b str],
@@ -133,7 +134,23 @@ pub(crate) fn keys_for<'b>(
     requires { IsTrue are_known → map (λ key. key.now) before.now ≡ keys_of set.now }
     ensures { IfOk result (λ keys. map (λ key. key.now) keys.now ≡ keys_of set.now) }
 {
-    if are_known || are_keys(before, set.pairs()) {
+    if are_known {
+        Ok(before)
+    } else {
+        compared_keys(bump, before, set)
+    }
+}
+
+// The keys of a set, compared with those that were placed before.
+#[inline(never)]
+fn compared_keys<'b>(
+    bump: &'b Bump,
+    before: &'b [&'b str],
+    set: &AttrSet,
+) -> Result<&'b [&'b str], NoMemory>
+    ensures { IfOk result (λ keys. map (λ key. key.now) keys.now ≡ keys_of set.now) }
+{
+    if are_keys(before, set.pairs()) {
         Ok(before)
     } else {
         place_keys(bump, set.pairs())

@@ -37,11 +37,10 @@ impl RoundText {
         if len > ROOM {
             return None;
         }
-        let mut bytes = [0; ROOM];
-        bytes[..].copy_from_slice(&text.room()[..ROOM]);
+        let bytes = text.room().first_chunk()?;
         Some(RoundText {
             len: len as u8,
-            bytes,
+            bytes: *bytes,
         })
     }
 
