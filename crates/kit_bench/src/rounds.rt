@@ -10,8 +10,8 @@ use round_kit::{Round, place};
 use std::alloc::Global;
 use std::time::{Duration, Instant};
 
-// Of so many times the least is told: what else the machine does only adds to a time. In an arena that is kept the first
-// rounds may still ask for a greater piece, and are never the least.
+// Of so many times the least is told: what else the machine does only adds to a time. So do the greater pieces that an
+// arena which is kept asks for in its first rounds.
 const TIMES: u64 = 9;
 
 // A counter with so many points.
@@ -38,7 +38,10 @@ fn copied(rt: &HostRuntime, round: &Round<'_>, writer: &WriterId) -> anyhow::Res
     let start = Instant::now(rt)?;
     let export = round.copy_out(rt.alloc(), writer)?;
     let took = start.elapsed(rt)?;
-    anyhow::ensure!(export.points().len() == round.len(), "a point was not copied");
+    anyhow::ensure!(
+        export.points().len() == round.len(),
+        "a point was not copied"
+    );
     Ok(took)
 }
 
@@ -55,7 +58,12 @@ fn in_new_arenas(rt: &HostRuntime, tally: &Tally, series: u32) -> anyhow::Result
         second = second.min(took);
     }
     tell(rt, "place in a new arena", u64::from(series), first)?;
-    tell(rt, "place in an arena that was reset", u64::from(series), second)
+    tell(
+        rt,
+        "place in an arena that was reset",
+        u64::from(series),
+        second,
+    )
 }
 
 // Round after round in one arena, as a writer's collections are, whose last piece holds the whole round.
@@ -67,7 +75,12 @@ fn in_a_kept_arena(rt: &HostRuntime, tally: &Tally, series: u32) -> anyhow::Resu
         least = least.min(took);
         bump.reset()?;
     }
-    tell(rt, "place in an arena that is kept", u64::from(series), least)
+    tell(
+        rt,
+        "place in an arena that is kept",
+        u64::from(series),
+        least,
+    )
 }
 
 fn copied_out(rt: &HostRuntime, tally: &Tally, series: u32) -> anyhow::Result<()> {
