@@ -1,5 +1,5 @@
 -- The history of a shared gateway, and what it brings.
-use Rattle.std.specs.Prelude.{◌≡◌, ◌↔◌, ℕ, List, [], ◌∷◌, ◌++◌, Option, Some}
+use Rattle.std.specs.Prelude.{◌≡◌, ◌≢◌, ◌↔◌, ℕ, List, [], ◌∷◌, ◌++◌, Option, Some}
 use Rattle.std.specs.FinMap.{empty}
 use mathlib.Core.Option.{some}
 use lib.ListN.{get_elem?}
@@ -21,6 +21,11 @@ History = List (ℕ × GatewayChange)
 abbrev pub brought_by : GatewayChange → Points
 brought_by (Taken export) = state (export ∷ [])
 brought_by (Merged other) = other.points
+
+-- it has points to bring; who brings none takes no memory
+abbrev pub HasPoints : GatewayChange → Type 0
+HasPoints (Taken export) = export.points ≢ []
+HasPoints (Merged other) = other.points ≢ empty
 
 -- a gateway after a change: each is accepted, and is joined in
 abbrev pub told : View → GatewayChange → Option View
@@ -109,6 +114,6 @@ module _ {g : _} (shared : SharedGateway) where
   abbrev pub IsExhausted : Seat View GatewayChange g → Seat View GatewayChange g → Type 0
   IsExhausted s t = Exhausts (λ v. v) told (first_of shared) (most_of shared) s t
 
-  -- there was no memory, though the history had room
-  abbrev pub LacksMemory : Seat View GatewayChange g → Seat View GatewayChange g → Type 0
-  LacksMemory s t = Refuses (λ v. v) told (first_of shared) (most_of shared) (λ v. Unit {0}) s t
+  -- there was no memory for the change, though the history had room for it, and it had points to bring
+  abbrev pub LacksMemory : GatewayChange → Seat View GatewayChange g → Seat View GatewayChange g → Type 0
+  LacksMemory c s t = Refuses (λ v. v) told (first_of shared) (most_of shared) (λ v. HasPoints c) s t

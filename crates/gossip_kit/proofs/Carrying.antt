@@ -20,7 +20,7 @@ pub nothing_below : (p : Points) → IsAtOrBelow join_points empty p
 nothing_below p = same_map key_total key_exact _ _ (λ k. get-join_maps key_total key_exact (join_cells payload_eq) empty p k ∙ ap (λ o. join_options (join_cells payload_eq) o (get p k)) (get-empty key_cmp k))
 
 -- what is carried is at or below what is held
-carried_below : (carried held : Points) → CarriesHeld carried held → IsAtOrBelow join_points carried held
+pub carried_below : (carried held : Points) → CarriesHeld carried held → IsAtOrBelow join_points carried held
 carried_below carried held is = same_map key_total key_exact _ _ (λ k. get-join_maps key_total key_exact (join_cells payload_eq) carried held k ∙ go k (get carried k) refl)
   where
     go : (k : Key) (o : Option (Cell Payload)) → get carried k ≡ o → join_options (join_cells payload_eq) (get carried k) (get held k) ≡ get held k

@@ -1,2 +1,4 @@
-pub mod Whole
 pub mod Carrying
+pub mod Changes
+pub mod Kept
+pub mod Sending

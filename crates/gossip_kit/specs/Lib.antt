@@ -1,3 +1,5 @@
+pub mod Bodies
 pub mod Gossip
+pub mod Keyed
 pub mod Views
 pub use Rattle.gateway_kit.specs.View

@@ -1,14 +1,22 @@
 -- Nodes and messages as contracts see them.
-use Rattle.std.specs.Prelude.{ℕ}
+use Rattle.std.specs.Prelude.{ℕ, Option}
+use Rattle.std.specs.FinMap.{FinMap}
+use Rattle.std.specs.Ordering.{nat_cmp}
 use Rattle.gateway_kit.specs.View.{View}
 use Rattle.point_kit.specs.Exports.{Points}
+use Rattle.point_kit.specs.Orders.{key_cmp}
 
--- a message: from which id to which, and the cells that it carries
+-- a message: from which id to which, the cells that it carries, of a delta its sender's change number, and of an Ack the number that is acknowledged
 pub record MessageView : Type 0 where
   pub from : ℕ
   pub to : ℕ
   pub points : Points
+  pub delta : Option ℕ
+  pub ack : Option ℕ
 
--- a node: its gateway
+-- a node: its gateway, how often its points changed, the number of the change of each key that changed, and the greatest number that each peer acknowledged
 pub record NodeView : Type 0 where
   pub gateway : View
+  pub change : ℕ
+  pub numbers : FinMap key_cmp ℕ
+  pub acked : FinMap nat_cmp ℕ

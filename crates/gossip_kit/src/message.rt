@@ -1,18 +1,32 @@
 //! Messages between gateways.
-ghost use Rattle.std.specs.Prelude.{◌≡◌};
+ghost use Rattle.std.specs.Prelude.{◌≡◌, Some, None};
+ghost use Rattle.std.specs.FinMap as finite;
+ghost use Rattle.gossip_kit.specs.Bodies.{cells_of, delta_of, ack_of};
 
 use gateway_kit::Gateway;
 use std::marker::Model;
+
+/// What a message carries.
+#[derive(Debug, Drop)]
+pub(crate) enum Body {
+    /// All that its sender holds.
+    Whole(Gateway),
+    /// What changed at its sender since the last acknowledged number, and the sender's change number.
+    Delta { number: u64, cells: Gateway },
+    /// The number of a delta that was taken in.
+    Ack(u64),
+}
 
 /// What one gateway tells another. It is made by `Node::send` and `Node::hand` alone.
 #[derive(Debug, Drop)]
 pub struct Message {
     from: u32,
     to: u32,
-    whole: Gateway,
+    body: Body,
 }
 
 impl Model for Message {
+    ghost use Rattle.gossip_kit.specs.Bodies.{cells_of, delta_of, ack_of};
     ghost use Rattle.gossip_kit.specs.Views.{MessageView};
     ghost use Rattle.std.specs.Coded.{codes};
     ghost use Rattle.std.specs.FinMap.{code};
@@ -21,15 +35,14 @@ impl Model for Message {
 
     ghost coded = { Prim.hlevel (codes, code) };
 
-    ghost view = { λ m. record { from = m.from; to = m.to; points = m.whole.points } };
+    ghost view = { λ m. record { from = m.from; to = m.to; points = cells_of m.body; delta = delta_of m.body; ack = ack_of m.body } };
 }
 
 impl Message {
-    // A message that carries all that this gateway holds.
-    pub(crate) fn whole(from: u32, to: u32, whole: Gateway) -> Message
-        ensures value { result ≡ record { from = from; to = to; points = whole.points } }
+    pub(crate) fn new(from: u32, to: u32, body: Body) -> Message
+        ensures value { result ≡ record { from = from; to = to; points = cells_of body; delta = delta_of body; ack = ack_of body } }
     {
-        Message { from, to, whole }
+        Message { from, to, body }
     }
 
     /// The id of the gateway that made it. Takes no memory and constant time.
@@ -46,10 +59,22 @@ impl Message {
         self.to
     }
 
-    // What it carries, as a gateway.
-    pub(crate) fn carried(&self) -> &Gateway
-        ensures value { result.now.points ≡ self.now.points }
+    /// The number of cells that it carries, 0 for an Ack. Takes no memory and constant time.
+    pub fn points_len(&self) -> usize
+        ensures value { result ≡ finite.len self.now.points }
     {
-        &self.whole
+        match &self.body {
+            Body::Whole(points) => points.len(),
+            Body::Delta { cells, .. } => cells.len(),
+            Body::Ack(_) => 0,
+        }
+    }
+
+    pub(crate) fn body(&self) -> &Body
+        ensures points { cells_of result.now ≡ self.now.points }
+        ensures delta { delta_of result.now ≡ self.now.delta }
+        ensures ack { ack_of result.now ≡ self.now.ack }
+    {
+        &self.body
     }
 }

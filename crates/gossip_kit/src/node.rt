@@ -1,38 +1,61 @@
 //! Gateways that send and take messages.
-ghost use Rattle.std.specs.Prelude.{◌≡◌, ◌≢◌, List, [], ◌∷◌, OnOk, OnErr, IfOk, IfErr, Some, None};
+ghost use Rattle.std.specs.Prelude.{◌≡◌, ◌≢◌, IsSome, List, [], ◌∷◌, Ok, OnOk, OnErr, IfOk, IfErr, Some, None};
+ghost use Rattle.std.specs.FinMap as finite;
 ghost use Rattle.point_kit.specs.Exports.{join_points, changed_points, state};
-ghost use Rattle.gossip_kit.specs.Gossip.{acknowledged, CarriesHeld, Brings, answer_of, hand_fault};
+ghost use Rattle.gossip_kit.specs.Gossip.{acknowledged, acked_after, answer_of, carried_to, delta_to, hand_fault, recent_to, Brings, CarriesHeld, Renumbers};
 
+use crate::books::Books;
+use crate::changed::{changed_keys, taken_keys};
+use crate::message::Body;
+use crate::numbers::{LAST_NUMBER, Numbers};
 use crate::{HandFault, Message};
 use attr_kit::NoMemory;
 use gateway_kit::Gateway;
 use point_kit::Export;
+use std::alloc::Global;
 use std::marker::Model;
 
 /// A gateway that sends and takes messages. The ids of nodes that exchange messages are distinct.
+///
+/// It counts the changes of its points, and each key that changed has the number of its last change. Numbers end at
+/// 2^62: a node that reached it sends all that it holds.
 #[derive(Debug, Drop)]
 pub struct Node {
+    alloc: Global,
     gateway: Gateway,
+    numbers: Numbers,
+    books: Books,
 }
 
 impl Model for Node {
-    ghost use Rattle.gossip_kit.specs.Views.{NodeView};
+    ghost use Rattle.std.specs.Prelude.{◌≤◌};
     ghost use Rattle.std.specs.Coded.{codes};
     ghost use Rattle.std.specs.FinMap.{code};
+    ghost use Rattle.gossip_kit.specs.Gossip.{last_number};
+    ghost use Rattle.gossip_kit.specs.Keyed.{kept_numbers};
+    ghost use Rattle.gossip_kit.specs.Views.{NodeView};
 
     ghost Value = { NodeView };
 
     ghost coded = { Prim.hlevel (codes, code) };
 
-    ghost view = { λ n. record { gateway = n.gateway } };
+    ghost view = { λ n. record { gateway = n.gateway; change = n.numbers.change; numbers = kept_numbers n.numbers.of_keys; acked = n.books } };
+
+    ghost invariant = { λ n. n.numbers.change ≤ last_number };
 }
 
 impl Node {
-    /// A node of this gateway, to which nobody has acknowledged anything. Takes no memory and constant time.
-    pub fn new(gateway: Gateway) -> Node
-        ensures value { result ≡ record { gateway = gateway } }
+    /// A node of this gateway, none of whose keys has changed yet, and to which nobody has acknowledged anything. Takes no
+    /// memory and constant time.
+    pub fn new(alloc: Global, gateway: Gateway) -> Node
+        ensures value { result ≡ record { gateway = gateway; change = 0; numbers = finite.empty; acked = finite.empty } }
     {
-        Node { gateway }
+        Node {
+            alloc,
+            gateway,
+            numbers: Numbers::new(alloc),
+            books: Books::new(alloc),
+        }
     }
 
     /// Its gateway. Takes no memory and constant time.
@@ -42,50 +65,100 @@ impl Node {
         &self.gateway
     }
 
-    /// Joins the points of an export into the gateway and answers how many keys changed, at the cost of `Gateway::take`.
-    /// Where memory is refused nothing has changed.
+    /// Joins the points of an export into the gateway and answers how many keys changed: they get the number of the next
+    /// change. Where memory is refused nothing has changed. An export without points changes nothing and takes no memory.
+    /// Of k points it takes the cost of `Gateway::take`, that of taking them into a gateway of their own, and k look-ups.
     pub fn take(&mut self, export: &Export) -> Result<u64, NoMemory>
         ensures id { self.new.gateway.id ≡ self.old.gateway.id }
         ensures ok { OnOk result (self.new.gateway.points ≡ join_points self.old.gateway.points (state (export.now ∷ []))) }
         ensures value { IfOk result (λ changed. changed ≡ changed_points self.old.gateway.points self.new.gateway.points) }
+        ensures numbers { OnOk result (Renumbers self.old self.new) }
+        ensures acked { self.new.acked ≡ self.old.acked }
         ensures unchanged { OnErr result (self.new ≡ self.old) }
+        ensures no_points { export.now.points ≡ [] → result ≡ Ok 0 }
     {
-        self.gateway.take(export)
+        if export.points().is_empty() {
+            return Ok(0);
+        }
+        let keys = taken_keys(self.alloc, &self.gateway, export)?;
+        self.numbers.make_room(keys.len())?;
+        let changed = self.gateway.take(export)?;
+        self.numbers.renumber(keys);
+        Ok(changed)
     }
 
-    /// Joins what another gateway holds and answers how many keys changed, at the cost of `Gateway::merge`. Where memory
-    /// is refused nothing has changed.
+    /// Joins what another gateway holds and answers how many keys changed: they get the number of the next change. Where
+    /// memory is refused nothing has changed. A gateway without points changes nothing and takes no memory. Of k points it
+    /// takes the cost of `Gateway::merge` and k look-ups.
     pub fn merge(&mut self, other: &Gateway) -> Result<u64, NoMemory>
         ensures id { self.new.gateway.id ≡ self.old.gateway.id }
         ensures ok { OnOk result (self.new.gateway.points ≡ join_points self.old.gateway.points other.now.points) }
         ensures value { IfOk result (λ changed. changed ≡ changed_points self.old.gateway.points self.new.gateway.points) }
+        ensures numbers { OnOk result (Renumbers self.old self.new) }
+        ensures acked { self.new.acked ≡ self.old.acked }
         ensures unchanged { OnErr result (self.new ≡ self.old) }
+        ensures no_points { other.now.points ≡ finite.empty → result ≡ Ok 0 }
     {
-        self.gateway.merge(other)
+        if other.len() == 0 {
+            return Ok(0);
+        }
+        let keys = changed_keys(self.alloc, &self.gateway, other)?;
+        self.numbers.make_room(keys.len())?;
+        let changed = self.gateway.merge(other)?;
+        self.numbers.renumber(keys);
+        Ok(changed)
+    }
+
+    // The cells that a message to the node of an id carries, where numbers have not ended.
+    fn cells_to(&self, to: u32) -> Result<Gateway, NoMemory>
+        ensures { IfOk result (λ cells. cells.points ≡ recent_to self.now to) }
+    {
+        match self.books.number(to) {
+            Some(number) => self.numbers.since(self.alloc, &self.gateway, number),
+            None => self.gateway.try_copy(),
+        }
     }
 
     /// A message to the node of an id: this gateway may be that node's own. What it carries is held here under the same
     /// keys and, joined into anything that has what that node acknowledged, brings it to or above what is held here.
-    /// O(size of what is carried): today all that is held.
-    #[tactic(auto, using(crate::proofs::Whole::whole_brings))]
+    ///
+    /// It is a delta: it carries the cells of the keys numbered above the greatest number that that node acknowledged, or
+    /// all where it acknowledged none, and asks for an Ack of the change number of this node. Where numbers ended it
+    /// carries all and asks for none. A delta takes a walk over the numbers of all keys that ever changed here, and a look-up
+    /// and a copy for each cell that it carries; else all cells are copied.
     pub fn send(&self, to: u32) -> Result<Message, NoMemory>
         ensures from { IfOk result (λ message. message.from ≡ self.now.gateway.id) }
         ensures to { IfOk result (λ message. message.to ≡ to) }
+        ensures value { IfOk result (λ message. message.points ≡ carried_to self.now to) }
+        ensures delta { IfOk result (λ message. message.delta ≡ delta_to self.now) }
+        ensures ack { IfOk result (λ message. message.ack ≡ None) }
         ensures held { IfOk result (λ message. CarriesHeld message.points self.now.gateway.points) }
         ensures brings { IfOk result (λ message. Brings message.points (acknowledged self.now to) self.now.gateway.points) }
     {
-        let whole = self.gateway.try_copy()?;
-        Ok(Message::whole(self.gateway.id(), to, whole))
+        let number = self.numbers.change;
+        let body = if number < LAST_NUMBER {
+            let cells = self.cells_to(to)?;
+            Body::Delta { number, cells }
+        } else {
+            Body::Whole(self.gateway.try_copy()?)
+        };
+        Ok(Message::new(self.gateway.id(), to, body))
     }
 
-    /// Takes in a message, and answers it where it asks for an answer; one that carries a whole state asks for none.
-    /// Refused where the message goes to another id, and where memory is refused; then nothing has changed. The cost is
-    /// that of `Gateway::merge`.
+    /// Takes in a message: joins the cells of a delta or of a whole state, and of an Ack notes that its sender acknowledged
+    /// its number. A delta is answered by an Ack of its number to its sender, and no other message is answered. Only an Ack
+    /// raises what a peer acknowledged, and nothing lowers it.
+    ///
+    /// Refused where the message goes to another id, and where memory is refused; then nothing has changed. An Ack takes
+    /// memory only where its sender acknowledged nothing before, which no clause says. The cost of cells is that of
+    /// `merge`, that of an Ack is constant.
     #[tactic(auto, unfolding(crate::specs::Gossip::hand_fault))]
     pub fn hand(&mut self, message: &Message) -> Result<Option<Message>, HandFault>
         ensures id { self.new.gateway.id ≡ self.old.gateway.id }
         ensures ok { OnOk result (hand_fault self.old message.now ≡ None) }
         ensures value { OnOk result (self.new.gateway.points ≡ join_points self.old.gateway.points message.now.points) }
+        ensures numbers { OnOk result (Renumbers self.old self.new) }
+        ensures acked { OnOk result (self.new.acked ≡ acked_after self.old message.now) }
         ensures answer { IfOk result (λ answer. answer ≡ answer_of self.old message.now) }
         ensures err { IfErr result (λ fault. fault ≢ HandFault.NoMemory → hand_fault self.old message.now ≡ Some fault) }
         ensures no_memory { IfErr result (λ fault. fault ≡ HandFault.NoMemory → hand_fault self.old message.now ≡ None) }
@@ -94,7 +167,20 @@ impl Node {
         if message.to() != self.gateway.id() {
             return Err(HandFault::NotAddressed);
         }
-        self.gateway.merge(message.carried())?;
-        Ok(None)
+        match message.body() {
+            Body::Whole(points) => {
+                self.merge(points)?;
+                Ok(None)
+            }
+            Body::Delta { number, cells } => {
+                self.merge(cells)?;
+                let answer = Body::Ack(*number);
+                Ok(Some(Message::new(self.gateway.id(), message.from(), answer)))
+            }
+            Body::Ack(number) => {
+                self.books.raise(message.from(), *number)?;
+                Ok(None)
+            }
+        }
     }
 }

@@ -8,6 +8,8 @@
 use otm_kit::command_line::asked;
 use otm_kit::{Asked, LineFault, run_script};
 use script_kit::ScriptFault;
+use std::alloc::Global;
+use std::io::ErrorKind;
 use std::process::ExitCode;
 use std::rt::Env;
 use std::{env, io};
@@ -29,17 +31,26 @@ fn main(rt: HostRuntime) -> ExitCode {
 
 // What the words of the command line ask for.
 fn told(rt: &(impl Env + AllocGlobal)) -> Result<Asked, LineFault> {
-    let Ok(args) = env::args(rt) else {
-        return match String::from_str(rt.alloc(), "the words are no text") {
-            Ok(text) => Err(LineFault::BadWords(text)),
-            Err(_) => Err(LineFault::NoMemory),
-        };
+    let args = match env::args(rt) {
+        Ok(args) => args,
+        Err(error) => return Err(unread(rt.alloc(), &error)),
     };
     let words: Vec<String> = match args.collect(rt.alloc()) {
         Ok(words) => words,
         Err(_) => return Err(LineFault::NoMemory),
     };
     asked(rt.alloc(), words.as_slice())
+}
+
+// Why the words were not read: memory was refused, or one of them is no text.
+fn unread(alloc: Global, error: &io::Error) -> LineFault {
+    if error.kind() == ErrorKind::OutOfMemory {
+        return LineFault::NoMemory;
+    }
+    match String::from_str(alloc, "the words are no text") {
+        Ok(text) => LineFault::BadWords(text),
+        Err(_) => LineFault::NoMemory,
+    }
 }
 
 // Does the script of the standard input.

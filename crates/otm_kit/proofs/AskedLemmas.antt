@@ -1,7 +1,7 @@
 -- The program's command, and an answer that is there.
-use Rattle.std.proofs.Common.{◌≡◌, Option, Some, None, Result, refl, true, false, Bool}
-use Rattle.std.specs.Prelude.{IfSome, IfOk, ok_or}
-use Rattle.clap.specs.Words.{is_simple}
+use Rattle.std.proofs.Common.{◌≡◌, Option, Some, None, Result, Ok, Err, refl, true, false, Bool}
+use Rattle.std.specs.Prelude.{IfSome, IfOk, OnOk, ok_or}
+use Rattle.clap.specs.Words.{is_simple, is_simple_and_free}
 use Rattle.clap.proofs.OnLiterals.{clap_on_literals}
 use Rattle.otm_kit.specs.Asked.{otm}
 
@@ -12,6 +12,14 @@ ok_from_some P (Some a) r e is h = rw is h
 pub otm_is_simple : is_simple otm ≡ true
 unfolding otm clap_on_literals
 otm_is_simple = refl
+
+pub otm_is_free : is_simple_and_free otm ≡ true
+unfolding otm clap_on_literals
+otm_is_free = refl
+
+pub on_ok : {A E : Type 0} (r : Result A E) (P : Type 0) → P → OnOk r P
+on_ok (Ok a) P p = p
+on_ok (Err e) P p = tt
 
 -- words of which it is wrong that they are taken
 pub not_taken : (b : Bool) → (b ≡ true → ⊥) → b ≡ false

@@ -1,6 +1,6 @@
 -- The commands of the program, and what a command line asks for.
 use Rattle.std.specs.Prelude.{◌≡◌, List, Option, Some, codes, true, Bool}
-use Rattle.clap.specs.Words.{App, Row, Text, new_app, subcommand_of, takes, with_subcommand}
+use Rattle.clap.specs.Words.{App, Kinds, Row, Text, fault_of, new_app, subcommand_of, takes, with_subcommand}
 use Rattle.otm_kit.specs.declared.words.Asked.{Asked}
 use Rattle.otm_kit.specs.declared.words.Asked.TheVariants as asked
 
@@ -20,6 +20,10 @@ named_by words = subcommand_of otm words
 -- the words are none that the program refuses
 unfoldable pub is_taken : List Text → Bool
 is_taken words = takes otm words
+
+-- what the program finds wrong with the words: the kinds of refusal that may come, none where it takes them
+unfoldable pub faults_of : List Text → Kinds
+faults_of words = fault_of otm words
 
 -- the command and its options are what was asked
 abbrev pub Says : Option (Text × List Row) → Asked → Type 0

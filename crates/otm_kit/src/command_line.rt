@@ -1,8 +1,8 @@
 //! What the words of a command line ask for.
 ghost use Rattle.clap.specs.Words.{app_of, subcommand_rows_of, is_broken, kind_of};
 ghost use Rattle.clap.specs.declared.builder.command.Command.TheViews.{out-Command};
-ghost use Rattle.otm_kit.specs.Asked.{otm, Says, named_by, is_taken};
-ghost use Rattle.std.specs.Prelude.{◌≡◌, false, true, IfOk, IfSome, IsErrOf, map};
+ghost use Rattle.otm_kit.specs.Asked.{otm, Says, faults_of, named_by, is_taken};
+ghost use Rattle.std.specs.Prelude.{◌≡◌, [], false, true, IfOk, IfSome, IsErrOf, OnOk, map};
 
 use crate::{Asked, LineFault};
 use clap::error::ErrorKind;
@@ -51,6 +51,7 @@ fn read(matches: &ArgMatches<'_>) -> Option<Asked>
 /// then [`LineFault::NoMemory`].
 pub fn asked<S: AsStr>(alloc: Global, words: &[S]) -> Result<Asked, LineFault>
     ensures ok { IfOk result (Says (named_by (map S.text words.now))) }
+    ensures taken { OnOk result (faults_of (map S.text words.now) ≡ []) }
     ensures bad_words { (text : _) → IsErrOf result (LineFault.BadWords text) → is_taken (map S.text words.now) ≡ false }
 {
     let Ok(command) = command(alloc) else {

@@ -1,7 +1,7 @@
 //! Scripts from their first line to their last.
-ghost use Rattle.std.specs.Prelude.{◌≡◌, ◌<◌, ◌≤◌, length, OnOk, OnErr, IfSome, IsErrOf, None, Some};
+ghost use Rattle.std.specs.Prelude.{◌≡◌, ◌+◌, ◌<◌, ◌≤◌, length, OnOk, OnErr, IfSome, IsErrOf, None, Some};
 ghost use Rattle.std.specs.Io.KnownBytes.{Appends, Keeps};
-ghost use Rattle.script_kit.specs.Bytes.{AppendsFront};
+ghost use Rattle.script_kit.specs.Bytes.{AppendsFront, ReadsUpTo};
 ghost use Rattle.otm_kit.specs.Says.{bad_line_of, effect_text, piece_effect, says};
 ghost use Rattle.otm_kit.specs.Standing.{Does, Fails, IsAfter};
 
@@ -88,6 +88,12 @@ pub fn run_script<R: Read, W: Write>(
     ensures unread { IsErrOf result ScriptFault.ReadFault → Keeps (W.contents writer.old) (W.contents writer.new) }
     ensures long { IsErrOf result ScriptFault.TooLong → Keeps (W.contents writer.old) (W.contents writer.new) }
     ensures too_long { IsErrOf result ScriptFault.TooLong → IfSome (R.remaining reader.old) (λ script. MAX_BYTES < length script) }
+
+    // No more is read than a byte past the greatest length, and no line of a longer script is done.
+    ensures few { ReadsUpTo (R.remaining reader.old) (R.remaining reader.new) (MAX_BYTES + 1) }
+    ensures small { OnOk result (IfSome (R.remaining reader.old) (λ script. length script ≤ MAX_BYTES)) }
+    ensures bad_small { (n : _) → IsErrOf result (ScriptFault.BadLine n) → IfSome (R.remaining reader.old) (λ script. length script ≤ MAX_BYTES) }
+    ensures cut_small { IsErrOf result ScriptFault.WriteFault → IfSome (R.remaining reader.old) (λ script. length script ≤ MAX_BYTES) }
 {
     let script = read_script(alloc, reader)?;
     run_lines(alloc, script.as_slice(), writer)

@@ -1,6 +1,7 @@
 //! The worked scripts: what each prints.
-use crate::run_script;
-use script_kit::{MAX_BYTES, ScriptFault};
+use crate::command_line::asked;
+use crate::{Asked, LineFault, run_script};
+use script_kit::ScriptFault;
 use std::alloc::Global;
 use std::io;
 use std::io::{Error, ErrorKind, Read, Write};
@@ -141,14 +142,14 @@ fn comment(alloc: Global, len: usize) -> Result<String, Fail> {
 
 #[test]
 fn row_greatest_comment(rt: HostRuntime) -> Result<(), Fail> {
-    let script = comment(rt.alloc(), MAX_BYTES)?;
+    let script = comment(rt.alloc(), 1_048_576)?;
     assert!(rt; prints(&rt, script.as_str(), "", Ok(()))?);
     Ok(())
 }
 
 #[test]
 fn row_one_byte_too_long(rt: HostRuntime) -> Result<(), Fail> {
-    let script = comment(rt.alloc(), MAX_BYTES + 1)?;
+    let script = comment(rt.alloc(), 1_048_577)?;
     assert!(rt; prints(&rt, script.as_str(), "", Err(ScriptFault::TooLong))?);
     Ok(())
 }
@@ -210,6 +211,33 @@ const GOSSIP_TEXT: &str =
 #[test]
 fn row_merge_and_gossip(rt: HostRuntime) -> Result<(), Fail> {
     assert!(rt; prints(&rt, GOSSIP, GOSSIP_TEXT, Ok(()))?);
+    Ok(())
+}
+
+#[test]
+fn row_acknowledged_deltas(rt: HostRuntime) -> Result<(), Fail> {
+    let script =
+        "instrument c counter app requests 1\nwriter a shop 00000000-0000-0000-0000-000000000001 100\ngateway 1\ngateway 2\ngateway 3\nbegin\nmeasure a c 3 -\ncollect a 200\ndeliver 1 1\nsend 1 2\nmeasure a c 4 -\ncollect a 300\ndeliver 2 1\nsend 1 2\nhand 2 2\nhand 2 2\nhand 2 3\nsend 1 2\nhand 3 1\nhand 5 2\nsame 1 2\nreport 2 app requests 1 sum+ * - *\n";
+    let text = "refused: NotAddressed\nsame yes\nattributes  points  conflicts  total\n{}               1          0  7\n";
+    assert!(rt; prints(&rt, script, text, Ok(()))?);
+    Ok(())
+}
+
+#[test]
+fn row_conflict_by_gossip(rt: HostRuntime) -> Result<(), Fail> {
+    let script =
+        "instrument c counter app requests 1\nwriter a shop 00000000-0000-0000-0000-000000000001 100\nwriter b shop 00000000-0000-0000-0000-000000000001 100\ngateway 1\ngateway 2\nbegin\nmeasure a c 7 -\nmeasure b c 9 -\ncollect a 200\ncollect b 200\ndeliver 1 1\ndeliver 2 2\nsend 1 2\nhand 1 2\nsend 2 1\nhand 3 1\nsame 1 2\nconflicts 1\nconflicts 2\n";
+    let text = "same yes\nconflicts 1\nconflicts 1\n";
+    assert!(rt; prints(&rt, script, text, Ok(()))?);
+    Ok(())
+}
+
+#[test]
+fn row_deltas_after_loss(rt: HostRuntime) -> Result<(), Fail> {
+    let script =
+        "instrument c counter app requests 1\nwriter a shop 00000000-0000-0000-0000-000000000001 100\ngateway 1\ngateway 2\ngateway 3\nbegin\nmeasure a c 3 -\ncollect a 200\ndeliver 1 1\nsend 1 2\nmeasure a c 4 -\ncollect a 300\ndeliver 2 1\nsend 1 2\nhand 2 2\nhand 2 2\nhand 2 3\nsend 1 2\nhand 3 1\nhand 5 2\nsame 1 2\nmeasure a c 5 -\ncollect a 400\ndeliver 3 1\nsend 1 2\nhand 4 1\nhand 7 2\nsame 1 2\nreport 2 app requests 1 sum+ * - *\n";
+    let text = "refused: NotAddressed\nsame yes\nsame yes\nattributes  points  conflicts  total\n{}               1          0  12\n";
+    assert!(rt; prints(&rt, script, text, Ok(()))?);
     Ok(())
 }
 
@@ -519,5 +547,37 @@ fn scripts_that_are_cut(rt: HostRuntime) -> Result<(), Fail> {
         assert_eq!(rt; result, wanted);
         assert!(rt; written.is_empty());
     }
+    Ok(())
+}
+
+// Whether words are refused with this text, and not for want of memory.
+fn is_refused(alloc: Global, words: &[&str], text: &str) -> bool {
+    match asked(alloc, words) {
+        Err(LineFault::BadWords(told)) => told.as_str() == text,
+        _ => false,
+    }
+}
+
+const HELP: &str =
+    "Usage: otm <COMMAND>\n\nCommands:\n  run   \n  help  Print this message or the help of the given subcommand(s)\n\nOptions:\n  -h, --help  Print help\n";
+
+const NO_COMMAND: &str =
+    "error: 'otm' requires a subcommand but one was not provided\n  [subcommands: run, help]\n\nUsage: otm <COMMAND>\n\nFor more information, try '--help'.\n";
+
+const WRONG_COMMAND: &str =
+    "error: unrecognized subcommand 'garbage'\n\nUsage: otm <COMMAND>\n\nFor more information, try '--help'.\n";
+
+const WORD_BEHIND: &str =
+    "error: unexpected argument 'extra' found\n\nUsage: otm run\n\nFor more information, try '--help'.\n";
+
+#[test]
+fn words_of_a_command_line(rt: HostRuntime) -> Result<(), Fail> {
+    let alloc = rt.alloc();
+    assert!(rt; is_refused(alloc, &["otm"], NO_COMMAND));
+    assert!(rt; is_refused(alloc, &["otm", "--help"], HELP));
+    assert!(rt; is_refused(alloc, &["otm", "help"], HELP));
+    assert!(rt; is_refused(alloc, &["otm", "garbage", "run"], WRONG_COMMAND));
+    assert!(rt; is_refused(alloc, &["otm", "run", "extra"], WORD_BEHIND));
+    assert!(rt; matches!(asked(alloc, &["otm", "run"]), Ok(Asked::Run)));
     Ok(())
 }

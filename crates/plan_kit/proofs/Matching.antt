@@ -1,6 +1,6 @@
 -- Places of views: merged, filtered, and one view more.
-use Rattle.std.proofs.Common.{◌≡◌, ℕ, zero, suc, ◌+◌, ◌<◌, ◌≤◌, ◌&&◌, ◌||◌, Bool, true, false, cond, List, [], ◌∷◌, ◌++◌, filter, length, take, get_or, Option, Some, None, position, slice_get, refl, sym, ap, ◌∙◌, subst, arith, append-nil, Vec}
-use Rattle.std.specs.List.{filter_map, cons_option, position_from}
+use Rattle.std.proofs.Common.{◌≡◌, ℕ, zero, suc, ◌+◌, ◌<◌, ◌≤◌, ◌&&◌, ◌||◌, Bool, true, false, not, cond, List, [], ◌∷◌, ◌++◌, filter, length, take, get_or, Option, Some, None, position, slice_get, refl, sym, ap, ◌∙◌, subst, arith, append-nil, Vec, true≢false}
+use Rattle.std.specs.List.{filter_map, cons_option, position_from, list_any}
 use Rattle.std.specs.Option.{option_and_then, option_map_or}
 use Rattle.std.specs.HashMap.{HashMap, get_by}
 use Rattle.std.proofs.lemmas.Bool.{lt-ltb, le-ltb}
@@ -10,9 +10,15 @@ use Rattle.attr_kit.specs.Exact.{exact_texts}
 use Rattle.plan_kit.specs.declared.view.NameRule.TheVariants as rules
 use Rattle.plan_kit.specs.declared.view.NameRule.{NameRule}
 use Rattle.plan_kit.specs.declared.view.View.{View}
-use Rattle.plan_kit.specs.Matching.{places, places_from, holds_at, merge, merge_front, listed, IsIndex, names, rule_names, is_every, rule_is_every}
+use Rattle.plan_kit.specs.declared.instrument.Instrument.{Instrument}
+use Rattle.plan_kit.specs.declared.instrument.Kind.{Kind}
+use Rattle.plan_kit.specs.declared.instrument.Kind.TheVariants as kinds
+use Rattle.plan_kit.specs.declared.view.Aggregation.{Aggregation}
+use Rattle.plan_kit.specs.declared.view.Aggregation.TheVariants as ways
+use Rattle.plan_kit.specs.Aggregations.{is_refused}
+use Rattle.plan_kit.specs.Matching.{places, places_from, holds_at, merge, merge_front, listed, IsIndex, is_of, is_drop, names, rule_names, is_every, rule_is_every, others_fit}
 use Rattle.plan_kit.specs.Names.{lower}
-use Rattle.plan_kit.specs.Views.{text_eq, name_fits}
+use Rattle.plan_kit.specs.Views.{text_eq, name_fits, view_fits, is_bad_view}
 
 pub merge_nil : (xs : List ℕ) → merge xs [] ≡ xs
 merge_nil [] = refl
@@ -34,6 +40,12 @@ front_below x more (y ∷ ys) s = ap (λ b. cond b (x ∷ more (y ∷ ys)) (y �
 merge_above : (n : ℕ) (xs ys : List ℕ) → Starts (n + 1) xs → merge xs (n ∷ ys) ≡ n ∷ merge xs ys
 merge_above n [] ys s = refl
 merge_above n (x ∷ xs) ys s = ap (λ b. cond b (x ∷ merge xs (n ∷ ys)) (n ∷ merge_front x (merge xs) ys)) (le-ltb x n (omega arith))
+
+or_pairs : (a b c d : Bool) → ((a || b) || (c || d)) ≡ ((a || c) || (b || d))
+or_pairs true b c d = refl
+or_pairs false true true d = refl
+or_pairs false true false d = refl
+or_pairs false false c d = refl
 
 module _ {A : Type 0} where
   places_start : (p : A → Bool) (m n : ℕ) (xs : List A) → m ≤ n → Starts m (places_from p n xs)
@@ -85,6 +97,25 @@ module _ {A : Type 0} where
   -- of the places of what passes, those of what passes another test too
   pub filter_places : (p t : A → Bool) (xs : List A) → filter (holds_at xs t) (places p xs) ≡ places (λ x. p x && t x) xs
   filter_places p t xs = filter_places_from xs p t 0 xs (whole xs)
+
+  any_places_from : (all : List A) (p t : A → Bool) (n : ℕ) (xs : List A) → StandsAt all n xs → list_any (holds_at all t) (places_from p n xs) ≡ list_any (λ x. p x && t x) xs
+  any_places_from all p t n [] s = refl
+  any_places_from all p t n (x ∷ xs) s =
+      let P = places_from p (n + 1) xs in
+      let rest = any_places_from all p t (n + 1) xs (later all n x xs s) in
+      elim (p x) as (λ b. list_any (holds_at all t) (cond b (n ∷ P) P) ≡ ((b && t x) || list_any (λ x. p x && t x) xs)) [
+        | true ↦ (λ i. option_map_or t (here all n x xs s i) false || rest i)
+        | false ↦ rest
+      ]
+
+  -- whether one of what passes passes another test too
+  pub any_places : (p t : A → Bool) (xs : List A) → list_any (holds_at xs t) (places p xs) ≡ list_any (λ x. p x && t x) xs
+  any_places p t xs = any_places_from xs p t 0 xs (whole xs)
+
+  -- whether one passes either of two tests
+  pub any_either : (p q : A → Bool) (xs : List A) → (list_any p xs || list_any q xs) ≡ list_any (λ x. p x || q x) xs
+  any_either p q [] = refl
+  any_either p q (x ∷ xs) = or_pairs (p x) (list_any p xs) (q x) (list_any q xs) ∙ ap (λ b. (p x || q x) || b) (any_either p q xs)
 
   through_places_from : {B : Type 0} (all : List A) (h : A → Option B) (p : A → Bool) (n : ℕ) (xs : List A) → StandsAt all n xs → filter_map (λ m. option_and_then h (slice_get all m)) (places_from p n xs) ≡ filter_map h (filter p xs)
   through_places_from all h p n [] s = refl
@@ -141,27 +172,103 @@ rules_together : (name : List ℕ) (r : NameRule) → (rule_names name r || rule
 rules_together name rules.Every = refl
 rules_together name (rules.Exact own) = elim (text_eq (lower own) name) as (λ b. (b || false) ≡ b) [ true ↦ refl | false ↦ refl ]
 
--- the places of the views whose names fit
-pub named_places : (name : List ℕ) (vs : List View) → merge (places (names name) vs) (places is_every vs) ≡ places (λ v. name_fits v.name name) vs
-named_places name vs = merge_places (names name) is_every (λ v. rules_apart name v.name) vs ∙ (λ i. places (λ v. rules_together name v.name i) vs)
+-- tests that are apart stay so within a sort
+apart_within : (s a b : Bool) → (a && b) ≡ false → ((s && a) && (s && b)) ≡ false
+apart_within true a b e = e
+apart_within false a b e = refl
 
-place_more : (p : View → Bool) (vs : List View) (i : ℕ) (v : View) → i < length vs → v ≡ get_or vs i v → places p (take (i + 1) vs) ≡ places p (take i vs) ++ cond (p v) (i ∷ []) []
-place_more p vs i v h e = places_more p vs i v h ∙ ap (λ x. places p (take i vs) ++ cond (p x) (i ∷ []) []) (sym e)
+either_within : (s a b : Bool) → ((s && a) || (s && b)) ≡ (s && (a || b))
+either_within true a b = refl
+either_within false a b = refl
+
+all_three : (a b c : Bool) → ((a && b) && c) ≡ (a && (b && c))
+all_three true b c = refl
+all_three false b c = refl
+
+-- the places of the views of a sort whose names fit
+pub named_places : (sort : Bool) (name : List ℕ) (vs : List View) → merge (places (λ v. is_of sort v && names name v) vs) (places (λ v. is_of sort v && is_every v) vs) ≡ places (λ v. is_of sort v && name_fits v.name name) vs
+named_places sort name vs =
+    merge_places (λ v. is_of sort v && names name v) (λ v. is_of sort v && is_every v) (λ v. apart_within (is_of sort v) (names name v) (is_every v) (rules_apart name v.name)) vs
+    ∙ (λ i. places (λ v. (either_within (is_of sort v) (names name v) (is_every v) ∙ ap (λ b. is_of sort v && b) (rules_together name v.name)) i) vs)
+
+-- those of them that fit beside their names match
+pub fitting_places : (sort : Bool) (i : Instrument) (vs : List View) → filter (holds_at vs (others_fit i)) (places (λ v. is_of sort v && name_fits v.name i.name) vs) ≡ places (λ v. is_of sort v && view_fits v i) vs
+fitting_places sort i vs =
+    filter_places (λ v. is_of sort v && name_fits v.name i.name) (others_fit i) vs
+    ∙ (λ k. places (λ v. all_three (is_of sort v) (name_fits v.name i.name) (others_fit i v) k) vs)
+
+-- whether a view of a sort matches: one of this name, or one of every name
+pub any_fitting : (sort : Bool) (i : Instrument) (vs : List View) → (list_any (holds_at vs (others_fit i)) (places (λ v. is_of sort v && names i.name v) vs) || list_any (holds_at vs (others_fit i)) (places (λ v. is_of sort v && is_every v) vs)) ≡ list_any (λ v. is_of sort v && view_fits v i) vs
+any_fitting sort i vs =
+    (λ k. any_places (λ v. is_of sort v && names i.name v) (others_fit i) vs k || any_places (λ v. is_of sort v && is_every v) (others_fit i) vs k)
+    ∙ any_either (λ v. (is_of sort v && names i.name v) && others_fit i v) (λ v. (is_of sort v && is_every v) && others_fit i v) vs
+    ∙ (λ k. list_any (λ v. fits_either (is_of sort v) (names i.name v) (is_every v) (others_fit i v) (name_fits v.name i.name) (rules_together i.name v.name) k) vs)
+  where
+    fits_either : (s a b o n : Bool) → (a || b) ≡ n → (((s && a) && o) || ((s && b) && o)) ≡ (s && (n && o))
+    fits_either false a b o n e = refl
+    fits_either true true b true n e = ap (λ m. m && true) e
+    fits_either true true true false n e = ap (λ m. m && false) e
+    fits_either true true false false n e = ap (λ m. m && false) e
+    fits_either true false b o n e = ap (λ m. m && o) e
+
+-- either of two tests, of which the second is made only where the first does not pass
+pub first_passes : (r a b : Bool) → r ≡ a → r ≡ true → r ≡ (a || b)
+first_passes r true b e passed = e
+first_passes r false b e passed = absurd (true≢false (sym passed ∙ e))
+
+pub second_tells : (r s a b : Bool) → r ≡ a → r ≡ false → s ≡ b → s ≡ (a || b)
+second_tells r s true b e failed is = absurd (true≢false (sym e ∙ failed))
+second_tells r s false b e failed is = is
+
+refused_drop : (f : Bool) (kind : Kind) → false ≡ (f && is_refused kind ways.Drop)
+refused_drop false kind = refl
+refused_drop true kinds.Counter = refl
+refused_drop true kinds.UpDown = refl
+refused_drop true kinds.Gauge = refl
+refused_drop true kinds.Histogram = refl
+
+-- no view that drops is refused
+refused_by : (f : Bool) (kind : Kind) (way : Aggregation) → ((not (is_drop way) && f) && is_refused kind way) ≡ (f && is_refused kind way)
+refused_by f kind ways.Default = refl
+refused_by f kind ways.Sum = refl
+refused_by f kind ways.LastValue = refl
+refused_by f kind (ways.Buckets bounds) = refl
+refused_by f kind ways.Drop = refused_drop f kind
+
+-- the refused ones of those that match and do not drop are all that match and are refused
+pub bad_places : (i : Instrument) (vs : List View) → filter (holds_at vs (λ v. is_refused i.kind v.aggregation)) (places (λ v. is_of false v && view_fits v i) vs) ≡ places (is_bad_view i) vs
+bad_places i vs =
+    filter_places (λ v. is_of false v && view_fits v i) (λ v. is_refused i.kind v.aggregation) vs
+    ∙ (λ k. places (λ v. refused_by (view_fits v i) i.kind v.aggregation k) vs)
+
+place_more : (p : View → Bool) (vs : List View) (i : ℕ) (v : View) (b : Bool) → i < length vs → v ≡ get_or vs i v → p v ≡ b → places p (take (i + 1) vs) ≡ places p (take i vs) ++ cond b (i ∷ []) []
+place_more p vs i v b h e is = places_more p vs i v h ∙ ap (λ x. places p (take i vs) ++ cond (p x) (i ∷ []) []) (sym e) ∙ ap (λ c. places p (take i vs) ++ cond c (i ∷ []) []) is
+
+-- one view more that does not pass
+place_same : (p : View → Bool) (vs : List View) (i : ℕ) (v : View) → i < length vs → v ≡ get_or vs i v → p v ≡ false → places p (take (i + 1) vs) ≡ places p (take i vs)
+place_same p vs i v h e is = place_more p vs i v false h e is ∙ append-nil (places p (take i vs))
 
 grown : (b : Bool) (ys : List ℕ) (i : ℕ) → cond b (ys ++ i ∷ []) ys ≡ ys ++ cond b (i ∷ []) []
 grown true ys i = refl
 grown false ys i = sym (append-nil ys)
 
 -- an index of one view of every name more
-pub index_every : {Y S : Type 0} (exact : HashMap (List ℕ) (Vec ℕ Y) S) (every new : List ℕ) (vs : List View) (i : ℕ) (v : View) → i < length vs → v ≡ get_or vs i v → v.name ≡ rules.Every → IsIndex exact every (take i vs) → new ≡ every ++ i ∷ [] → IsIndex exact new (take (i + 1) vs)
-index_every exact every new vs i v h at is index pushed = record {
-  named = λ q. index.named q ∙ sym (place_more (names q) vs i v h at ∙ ap (λ r. places (names q) (take i vs) ++ cond (rule_names q r) (i ∷ []) []) is ∙ append-nil (places (names q) (take i vs)));
-  all = pushed ∙ ap (λ l. l ++ i ∷ []) index.all ∙ sym (place_more is_every vs i v h at ∙ ap (λ r. places is_every (take i vs) ++ cond (rule_is_every r) (i ∷ []) []) is);
+pub index_every : {Y S : Type 0} (sort : Bool) (exact : HashMap (List ℕ) (Vec ℕ Y) S) (every new : List ℕ) (vs : List View) (i : ℕ) (v : View) → i < length vs → v ≡ get_or vs i v → is_of sort v ≡ true → v.name ≡ rules.Every → IsIndex sort exact every (take i vs) → new ≡ every ++ i ∷ [] → IsIndex sort exact new (take (i + 1) vs)
+index_every sort exact every new vs i v h at of is index pushed = record {
+  named = λ q. index.named q ∙ sym (place_same (λ w. is_of sort w && names q w) vs i v h at (λ k. of k && rule_names q (is k)));
+  all = pushed ∙ ap (λ l. l ++ i ∷ []) index.all ∙ sym (place_more (λ w. is_of sort w && is_every w) vs i v true h at (λ k. of k && rule_is_every (is k)));
 }
 
 -- an index of one view of one name more
-pub index_exact : {Y S : Type 0} (exact new : HashMap (List ℕ) (Vec ℕ Y) S) (every : List ℕ) (vs : List View) (i : ℕ) (v : View) (own : List ℕ) → i < length vs → v ≡ get_or vs i v → v.name ≡ rules.Exact own → IsIndex exact every (take i vs) → ((q : List ℕ) → listed new q ≡ cond (text_eq (lower own) q) (listed exact q ++ i ∷ []) (listed exact q)) → IsIndex new every (take (i + 1) vs)
-index_exact exact new every vs i v own h at is index added = record {
-  named = λ q. added q ∙ ap (λ l. cond (text_eq (lower own) q) (l ++ i ∷ []) l) (index.named q) ∙ grown (text_eq (lower own) q) (places (names q) (take i vs)) i ∙ sym (place_more (names q) vs i v h at ∙ ap (λ r. places (names q) (take i vs) ++ cond (rule_names q r) (i ∷ []) []) is);
-  all = index.all ∙ sym (place_more is_every vs i v h at ∙ ap (λ r. places is_every (take i vs) ++ cond (rule_is_every r) (i ∷ []) []) is ∙ append-nil (places is_every (take i vs)));
+pub index_exact : {Y S : Type 0} (sort : Bool) (exact new : HashMap (List ℕ) (Vec ℕ Y) S) (every : List ℕ) (vs : List View) (i : ℕ) (v : View) (own : List ℕ) → i < length vs → v ≡ get_or vs i v → is_of sort v ≡ true → v.name ≡ rules.Exact own → IsIndex sort exact every (take i vs) → ((q : List ℕ) → listed new q ≡ cond (text_eq (lower own) q) (listed exact q ++ i ∷ []) (listed exact q)) → IsIndex sort new every (take (i + 1) vs)
+index_exact sort exact new every vs i v own h at of is index added = record {
+  named = λ q. added q ∙ ap (λ l. cond (text_eq (lower own) q) (l ++ i ∷ []) l) (index.named q) ∙ grown (text_eq (lower own) q) (places (λ w. is_of sort w && names q w) (take i vs)) i ∙ sym (place_more (λ w. is_of sort w && names q w) vs i v (text_eq (lower own) q) h at (λ k. of k && rule_names q (is k)));
+  all = index.all ∙ sym (place_same (λ w. is_of sort w && is_every w) vs i v h at (λ k. of k && rule_is_every (is k)));
+}
+
+-- an index beside one view more of the other sort
+pub index_other : {Y S : Type 0} (sort : Bool) (exact : HashMap (List ℕ) (Vec ℕ Y) S) (every : List ℕ) (vs : List View) (i : ℕ) (v : View) → i < length vs → v ≡ get_or vs i v → is_of sort v ≡ false → IsIndex sort exact every (take i vs) → IsIndex sort exact every (take (i + 1) vs)
+index_other sort exact every vs i v h at of index = record {
+  named = λ q. index.named q ∙ sym (place_same (λ w. is_of sort w && names q w) vs i v h at (ap (λ b. b && names q v) of));
+  all = index.all ∙ sym (place_same (λ w. is_of sort w && is_every w) vs i v h at (ap (λ b. b && is_every v) of));
 }

@@ -1,7 +1,9 @@
 -- How the views that match an instrument are found: by the places of those whose names fit.
-use Rattle.std.specs.Prelude.{◌≡◌, ℕ, Vec, ◌+◌, nat_lt, ◌&&◌, Bool, true, false, cond, List, [], ◌∷◌, slice_get}
+use Rattle.std.specs.Prelude.{◌≡◌, ℕ, Vec, ◌+◌, nat_lt, ◌&&◌, not, Bool, true, false, cond, List, [], ◌∷◌, slice_get}
 use Rattle.std.specs.Option.{option_map_or}
 use Rattle.std.specs.HashMap.{HashMap, get_by}
+use Rattle.plan_kit.specs.declared.view.Aggregation.{Aggregation}
+use Rattle.plan_kit.specs.declared.view.Aggregation.TheVariants as ways
 use Rattle.plan_kit.specs.declared.view.NameRule.{NameRule}
 use Rattle.plan_kit.specs.declared.view.NameRule.TheVariants as rules
 use Rattle.plan_kit.specs.declared.view.View.{View}
@@ -55,7 +57,17 @@ others_fit i v = kind_fits v.kind i.kind && scope_fits v.scope i.scope
 abbrev pub listed : {Y S : Type 0} → HashMap (List ℕ) (Vec ℕ Y) S → List ℕ → List ℕ
 listed m name = option_map_or (λ l. l.items) (get_by (text_eq name) m) []
 
--- the places of the views of every name, and those of the views of each name
-pub record IsIndex {Y S : Type 0} (exact : HashMap (List ℕ) (Vec ℕ Y) S) (every : List ℕ) (views : List View) : Type 0 where
-  pub named : (name : List ℕ) → listed exact name ≡ places (names name) views
-  pub all : every ≡ places is_every views
+-- an aggregation that gives no stream, to whatever instrument
+abbrev pub is_drop : Aggregation → Bool
+is_drop ways.Drop = true
+is_drop way = false
+
+-- a view of the asked sort: of those that drop, or of the others
+abbrev pub is_of : Bool → View → Bool
+is_of true v = is_drop v.aggregation
+is_of false v = not (is_drop v.aggregation)
+
+-- of one sort of views, the places of those of every name, and of those of each name
+pub record IsIndex {Y S : Type 0} (sort : Bool) (exact : HashMap (List ℕ) (Vec ℕ Y) S) (every : List ℕ) (views : List View) : Type 0 where
+  pub named : (name : List ℕ) → listed exact name ≡ places (λ v. is_of sort v && names name v) views
+  pub all : every ≡ places (λ v. is_of sort v && is_every v) views

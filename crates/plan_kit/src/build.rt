@@ -46,12 +46,13 @@ fn joint(alloc: Global, named: &[Instrument], views: &[View], limit: u64) -> Res
     ensures value { IfOk result (λ plan. plan ≡ plan_from named.now (wanted_of views.now named.now) limit) }
     ensures err { IfErr result (λ f. f ≢ PlanFault.NoMemory → joint_fault named.now views.now limit ≡ Some f) }
 {
-    let index = ViewIndex::build(alloc, views)?;
+    let feeding = ViewIndex::build(alloc, views, false)?;
+    let dropping = ViewIndex::build(alloc, views, true)?;
     let owners = owners(alloc, named)?;
-    if let Some((instrument, view)) = misfit_at(alloc, &index, views, named, owners.as_slice())? {
+    if let Some((instrument, view)) = misfit_at(alloc, &feeding, views, named, owners.as_slice())? {
         return Err(PlanFault::BadAggregation(instrument, view));
     }
-    let wanted = wanted_feeds(alloc, &index, views, named, owners.as_slice())?;
+    let wanted = wanted_feeds(alloc, &feeding, &dropping, views, named, owners.as_slice())?;
     if let Some((first, second)) = same_stream(alloc, wanted.as_slice())? {
         return Err(PlanFault::SameStream(first, second));
     }
@@ -73,8 +74,9 @@ impl Plan {
     /// An instrument equal to an earlier one (scope, unit and kind equal, names equal but for the case of ASCII letters)
     /// has the feeds of that one. Streams are numbered from 0 in the order of the feeds.
     ///
-    /// Cost: a hash look-up for each view, instrument and feed, and a walk over the views that match an instrument's name;
-    /// a view of every name is walked at each instrument. Only where two feeds have one stream are all feeds compared.
+    /// Cost: two hash look-ups for each view, three for each instrument and one for each feed, and a walk over the views that
+    /// match an instrument's name; a view of every name is walked at each instrument, but of those that drop only up to the
+    /// first that matches. Only where two feeds have one stream are all feeds compared.
     #[tactic(auto, unfolding(crate::specs::PlanFaults::plan_fault, crate::specs::Feeds::plan_of))]
     pub fn build(
         alloc: Global,

@@ -1,5 +1,5 @@
 //! Views whose aggregations do not fit the instruments that they match.
-ghost use Rattle.std.specs.Prelude.{◌≡◌, map, IfOk};
+ghost use Rattle.std.specs.Prelude.{◌≡◌, map, IfOk, false};
 ghost use Rattle.plan_kit.specs.Matching.{IsIndex};
 ghost use Rattle.plan_kit.specs.Owners.{owner_of};
 ghost use Rattle.plan_kit.specs.PlanFaults.{misfit_of};
@@ -18,7 +18,7 @@ pub(crate) fn misfit_at(
     instruments: &[Instrument],
     owners: &[usize],
 ) -> Result<Option<(usize, usize)>, NoMemory>
-    requires index { IsIndex index.now.exact index.now.every.items views.now }
+    requires index { IsIndex false index.now.exact index.now.every.items views.now }
     requires owners { owners.now ≡ map (owner_of instruments.now) instruments.now }
     ensures { IfOk result (λ misfit. misfit ≡ misfit_of views.now instruments.now) }
 {

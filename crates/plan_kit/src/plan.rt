@@ -21,6 +21,8 @@ use std::marker::Model;
 /// Metrics SDK, "Cardinality limits").
 pub const DEFAULT_LIMIT: u64 = 2000;
 
+const _: () = prove!(DEFAULT_LIMIT == 2 * 1_000);
+
 /// Which instrument feeds which streams, and how many attribute sets each stream holds.
 #[derive(Debug, Drop)]
 pub struct Plan {

@@ -1,17 +1,19 @@
 //! The views by the names that they match.
-ghost use Rattle.std.specs.Prelude.{◌≡◌, ℕ, List, [], ◌∷◌, ◌++◌, filter, position, slice_get, IfOk, OnOk, if◌then◌else◌};
-ghost use Rattle.plan_kit.specs.Matching.{places, holds_at, merge, listed, IsIndex, names, is_every, others_fit};
+ghost use Rattle.std.specs.Prelude.{◌≡◌, ℕ, List, [], ◌∷◌, ◌++◌, filter, position, slice_get, IfOk, OnOk, if◌then◌else◌, ◌&&◌, true, false};
+ghost use Rattle.std.specs.List.{list_any};
+ghost use Rattle.plan_kit.specs.Matching.{places, holds_at, merge, listed, IsIndex, is_of, others_fit};
 ghost use Rattle.plan_kit.specs.Views.{text_eq, view_fits, is_bad_view};
 ghost use Rattle.plan_kit.specs.Aggregations.{is_refused};
 
 use crate::fit::refuses;
 use crate::names::in_lower_case;
-use crate::{Instrument, NameRule, View};
+use crate::{Aggregation, Instrument, NameRule, View};
 use attr_kit::{NoMemory, Txt};
 use std::alloc::Global;
 use std::collections::HashMap;
 
-/// The places of views: of each name those that match it alone, and those that match every name.
+/// The places of one sort of views, those that drop or the others: of each name those that match it alone, and those that
+/// match every name.
 #[derive(Drop)]
 pub(crate) struct ViewIndex {
     exact: HashMap<Txt, Vec<usize>>,
@@ -130,20 +132,40 @@ fn first_refused(views: &[View], instrument: &Instrument, places: &[usize]) -> O
     None
 }
 
+// Whether the view at one of the places fits beside its name: looks no further than the first.
+fn any_fits(views: &[View], instrument: &Instrument, places: &[usize]) -> bool
+    ensures { result ≡ list_any (holds_at views.now (others_fit instrument.now)) places.now }
+{
+    places
+        .iter()
+        .any(|place| fits_at(views, instrument, *place))
+}
+
+fn is_of_sort(view: &View, drops: bool) -> bool
+    ensures { result ≡ is_of drops view.now }
+{
+    match &view.aggregation {
+        Aggregation::Drop => drops,
+        _ => !drops,
+    }
+}
+
 impl ViewIndex {
-    /// The index of these views: a hash look-up for each.
-    pub(crate) fn build(alloc: Global, views: &[View]) -> Result<ViewIndex, NoMemory>
-        ensures { IfOk result (λ index. IsIndex index.exact index.every.items views.now) }
+    /// The index of those of these views that drop, or of the others: a hash look-up for each.
+    pub(crate) fn build(alloc: Global, views: &[View], drops: bool) -> Result<ViewIndex, NoMemory>
+        ensures { IfOk result (λ index. IsIndex drops index.exact index.every.items views.now) }
     {
         let mut exact = HashMap::new(alloc);
         let mut every = Vec::new(alloc);
         for (place, view) in views.iter().enumerate() {
-            match &view.name {
-                NameRule::Every => {
-                    every.push(place)?;
-                }
-                NameRule::Exact(name) => {
-                    add(alloc, &mut exact, in_lower_case(name.try_copy()?), place)?;
+            if is_of_sort(view, drops) {
+                match &view.name {
+                    NameRule::Every => {
+                        every.push(place)?;
+                    }
+                    NameRule::Exact(name) => {
+                        add(alloc, &mut exact, in_lower_case(name.try_copy()?), place)?;
+                    }
                 }
             }
         }
@@ -160,31 +182,49 @@ impl ViewIndex {
         }
     }
 
-    /// The places of the views that match an instrument whose name is in lower case.
+    /// The places of the views that do not drop and match an instrument whose name is in lower case.
     pub(crate) fn matching(
         &self,
         alloc: Global,
         views: &[View],
         instrument: &Instrument,
     ) -> Result<Vec<usize>, NoMemory>
-        requires { IsIndex self.now.exact self.now.every.items views.now }
-        ensures { IfOk result (λ fit. fit.items ≡ places (λ v. view_fits v instrument.now) views.now) }
+        requires { IsIndex false self.now.exact self.now.every.items views.now }
+        ensures { IfOk result (λ fit. fit.items ≡ places (λ v. is_of false v && view_fits v instrument.now) views.now) }
     {
         let named = self.named(alloc, &instrument.name)?;
         Ok(fitting(alloc, views, instrument, named.as_slice())?)
     }
 
-    /// The first of the views that match an instrument whose aggregation does not fit.
+    /// The first of the views that match an instrument whose aggregation does not fit, which is none that drops.
     pub(crate) fn bad_view_at(
         &self,
         alloc: Global,
         views: &[View],
         instrument: &Instrument,
     ) -> Result<Option<usize>, NoMemory>
-        requires { IsIndex self.now.exact self.now.every.items views.now }
+        requires { IsIndex false self.now.exact self.now.every.items views.now }
         ensures { IfOk result (λ place. place ≡ position (is_bad_view instrument.now) views.now) }
     {
         let matching = self.matching(alloc, views, instrument)?;
         Ok(first_refused(views, instrument, matching.as_slice()))
+    }
+
+    // Whether one of the views of the instrument's name fits beside it.
+    fn any_named(&self, views: &[View], instrument: &Instrument) -> bool
+        ensures { result ≡ list_any (holds_at views.now (others_fit instrument.now)) (listed self.now.exact instrument.now.name) }
+    {
+        match self.exact.get(&instrument.name) {
+            Some(list) => any_fits(views, instrument, list.as_slice()),
+            None => false,
+        }
+    }
+
+    /// Whether some view drops an instrument whose name is in lower case. Takes no memory.
+    pub(crate) fn drops(&self, views: &[View], instrument: &Instrument) -> bool
+        requires { IsIndex true self.now.exact self.now.every.items views.now }
+        ensures { result ≡ list_any (λ v. is_of true v && view_fits v instrument.now) views.now }
+    {
+        self.any_named(views, instrument) || any_fits(views, instrument, self.every.as_slice())
     }
 }

@@ -1,5 +1,5 @@
 //! The feeds that instruments and views give.
-ghost use Rattle.std.specs.Prelude.{◌≡◌, ℕ, List, [], ◌∷◌, ◌++◌, map, slice_get, IfOk, OnOk};
+ghost use Rattle.std.specs.Prelude.{◌≡◌, ℕ, List, [], ◌∷◌, ◌++◌, map, slice_get, IfOk, OnOk, true, false};
 ghost use Rattle.std.specs.List.{filter_map};
 ghost use Rattle.std.specs.Option.{option_and_then};
 ghost use Rattle.plan_kit.specs.Feeds as feeds;
@@ -118,21 +118,27 @@ fn add_default(
     Ok(())
 }
 
-// Adds the feeds of the instrument at a place.
+// Adds the feeds of the instrument at a place. A view that drops gives none, so one is looked for only where no other
+// matches, to tell whether the default one stands in.
 fn add_feeds(
     alloc: Global,
-    index: &ViewIndex,
+    feeding: &ViewIndex,
+    dropping: &ViewIndex,
     views: &[View],
     owner: usize,
     instrument: &Instrument,
     wanted: &mut Vec<Wanted>,
 ) -> Result<(), NoMemory>
-    requires { IsIndex index.now.exact index.now.every.items views.now }
+    requires feeding { IsIndex false feeding.now.exact feeding.now.every.items views.now }
+    requires dropping { IsIndex true dropping.now.exact dropping.now.every.items views.now }
     ensures { OnOk result (wanted.new.items ≡ wanted.old.items ++ wanted_by views.now owner instrument.now) }
 {
-    let matching = index.matching(alloc, views, instrument)?;
+    let matching = feeding.matching(alloc, views, instrument)?;
     let places = matching.as_slice();
     if places.is_empty() {
+        if dropping.drops(views, instrument) {
+            return Ok(());
+        }
         add_default(alloc, owner, instrument, wanted)
     } else {
         add_each(alloc, owner, instrument, views, places, wanted)
@@ -143,19 +149,29 @@ fn add_feeds(
 #[tactic(auto, unfolding(crate::specs::Feeds::wanted_of))]
 pub(crate) fn wanted_feeds(
     alloc: Global,
-    index: &ViewIndex,
+    feeding: &ViewIndex,
+    dropping: &ViewIndex,
     views: &[View],
     instruments: &[Instrument],
     owners: &[usize],
 ) -> Result<Vec<Wanted>, NoMemory>
-    requires index { IsIndex index.now.exact index.now.every.items views.now }
+    requires feeding { IsIndex false feeding.now.exact feeding.now.every.items views.now }
+    requires dropping { IsIndex true dropping.now.exact dropping.now.every.items views.now }
     requires owners { owners.now ≡ map (owner_of instruments.now) instruments.now }
     ensures { IfOk result (λ wanted. wanted.items ≡ feeds.wanted_of views.now instruments.now) }
 {
     let mut wanted = Vec::new(alloc);
     for (place, instrument) in instruments.iter().enumerate() {
         if owners[place] == place {
-            add_feeds(alloc, index, views, place, instrument, &mut wanted)?;
+            add_feeds(
+                alloc,
+                feeding,
+                dropping,
+                views,
+                place,
+                instrument,
+                &mut wanted,
+            )?;
         }
     }
     Ok(wanted)

@@ -1,5 +1,5 @@
 -- What a push is refused for, by what the writer refuses.
-use Rattle.std.proofs.Common.{◌≡◌, ◌≢◌, ◌∙◌, ℕ, Some, ap, refl}
+use Rattle.std.proofs.Common.{◌≡◌, ◌≢◌, ◌∙◌, ℕ, Some, None, ap, refl}
 use Rattle.push_kit.specs.Faults.{told, push_fault}
 use Rattle.push_kit.specs.declared.fault.TickFault.{TickFault}
 use Rattle.push_kit.specs.declared.fault.TickFault.TheVariants as tick
@@ -13,3 +13,13 @@ unfolding push_fault
 push_refused w time f e gives refused other =
     let fit : collect_fault w time ≡ Some f = refused (λ n. other (gives ∙ ap told n)) in
     rw (fit, gives) refl
+
+-- nothing else is refused where memory was
+pub push_accepted : (w : Written) (time : ℕ) → collect_fault w time ≡ None → push_fault w time ≡ None
+unfolding push_fault
+push_accepted w time fits = rw fits refl
+
+pub push_short : (w : Written) (time : ℕ) (f : CollectFault) (e : TickFault) → e ≡ told f → (f ≡ collect.NoMemory → collect_fault w time ≡ None) → e ≡ tick.NoMemory → push_fault w time ≡ None
+push_short w time collect.Closed e gives fits is = cc
+push_short w time (collect.TimeNotAfter last) e gives fits is = cc
+push_short w time collect.NoMemory e gives fits is = push_accepted w time (fits refl)

@@ -11,7 +11,7 @@ ghost use Rattle.round_kit.specs.Rounds.{points_of};
 ghost use Rattle.schedule_kit.specs.Schedule.Act.{Measured, Collected};
 ghost use Rattle.writer_kit.specs.Following.{Follows};
 ghost use Rattle.writer_kit.specs.Pacing.{next_after};
-ghost use Rattle.writer_kit.specs.Refusals.{measure_fault, collect_fault};
+ghost use Rattle.writer_kit.specs.Refusals.{measure_fault, early_fault, collect_fault};
 ghost use Rattle.writer_kit.specs.Schedules.{Act};
 
 use crate::{ExportRefused, Exporter, TickFault};
@@ -93,6 +93,7 @@ impl<E: Exporter> Periodic<E> {
         ensures err { IfErr result (λ f. f ≢ MeasureFault.Refused TallyFault.NoMemory → (h : List Entry) → StandsFor self.old.writer.tally h → measure_fault self.old.writer h (entry_of instrument attrs.now value) ≡ Some f) }
         ensures held { AllHeld self.old.writer.tally.plan (feeds_of self.old.writer.tally.plan instrument) attrs.now self.old.writer.tally.series → IfErr result (λ f. f ≢ MeasureFault.Refused TallyFault.NoMemory) }
         ensures no_memory { AllWhole (feeds_of self.old.writer.tally.plan instrument) → IfErr result (λ f. f ≡ MeasureFault.Refused TallyFault.NoMemory → (h : List Entry) → StandsFor self.old.writer.tally h → measure_fault self.old.writer h (entry_of instrument attrs.now value) ≡ None) }
+        ensures short { IfErr result (λ f. f ≡ MeasureFault.Refused TallyFault.NoMemory → early_fault self.old.writer (entry_of instrument attrs.now value) ≡ None) }
         ensures exporter { self.new.exporter ≡ self.old.exporter }
         ensures pace { self.new.pace ≡ self.old.pace }
         ensures unchanged { OnErr result (self.new ≡ self.old) }
@@ -124,6 +125,7 @@ impl<E: Exporter> Periodic<E> {
         ensures interval { OnPush result (self.new.pace.interval ≡ self.old.pace.interval) }
         ensures next { OnPush result (self.new.pace.next ≡ next_after now self.old.pace.interval) }
         ensures err { IfErr result (λ f. f ≢ TickFault.ExportRefused → f ≢ TickFault.NoMemory → push_fault self.old.writer now ≡ Some f) }
+        ensures no_memory { IfErr result (λ f. f ≡ TickFault.NoMemory → push_fault self.old.writer now ≡ None) }
         ensures unchanged { IfErr result (λ f. f ≢ TickFault.ExportRefused → self.new ≡ self.old) }
     {
         if !self.pace.due(now) {
@@ -156,6 +158,7 @@ impl<E: Exporter> Periodic<E> {
         ensures follows { OnFlush result ((first : ℕ) (acts : List (Act Entry)) → Follows first acts self.old.writer → Follows first (Collected now closing ∷ acts) self.new.writer) }
         ensures pace { self.new.pace ≡ self.old.pace }
         ensures err { IfErr result (λ f. f ≢ TickFault.ExportRefused → f ≢ TickFault.NoMemory → push_fault self.old.writer now ≡ Some f) }
+        ensures no_memory { IfErr result (λ f. f ≡ TickFault.NoMemory → push_fault self.old.writer now ≡ None) }
         ensures unchanged { IfErr result (λ f. f ≢ TickFault.ExportRefused → self.new ≡ self.old) }
     {
         let export = self.gather(arena, now)?;
@@ -170,6 +173,7 @@ impl<E: Exporter> Periodic<E> {
         ensures ok { OnOk result (collect_fault self.now.writer now ≡ None) }
         ensures collection { IfOk result (λ e. IsCollection self.now.writer now e) }
         ensures err { IfErr result (λ f. f ≢ TickFault.NoMemory → push_fault self.now.writer now ≡ Some f) }
+        ensures no_memory { IfErr result (λ f. f ≡ TickFault.NoMemory → push_fault self.now.writer now ≡ None) }
         ensures kept { IfErr result (λ f. f ≢ TickFault.ExportRefused) }
     {
         let round = self.writer.look_round(arena, now)?;

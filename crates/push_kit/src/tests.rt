@@ -239,6 +239,7 @@ fn a_channel_passes_it_on(rt: HostRuntime) -> Result<(), Fail> {
         return Err(Fail::new("nothing came"));
     };
     assert_eq!(rt; total(&export), Some(7));
+    assert!(rt; from.try_recv(&rt).is_err());
     Ok(())
 }
 

@@ -1,14 +1,26 @@
 pub mod Adding
+pub mod Agreeing
 pub mod Answered
 pub mod Bounds
+pub mod Collected
 pub mod Counts
+pub mod Exported
+pub mod FedMixed
+pub mod FedPast
 pub mod Filtered
+pub mod Fleets
 mod Joined
+pub mod Missing
+pub mod NamedValues
+pub mod NamesMixed
+pub mod Naming
 pub mod Newest
 pub mod PartLaws
 pub mod Queried
 pub mod Recordings
+pub mod Regrouped
 pub mod RowLaws
+pub mod RowsMixed
 pub mod SetOrders
 pub mod Snoc
 pub mod Steps

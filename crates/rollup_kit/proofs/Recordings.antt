@@ -36,7 +36,7 @@ module _ {X : Type 0} where
       ]
 
 module _ {N I X : Type 0} (ask : Ask) (adds : AddsUp ask.stream.shape) (r : Rounding N Key I X Payload) (fed : ℕ → List N → List (X × ℤ)) where
-  abbrev parts_fed : ℕ → List N → List (X × Parts)
+  abbrev pub parts_fed : ℕ → List N → List (X × Parts)
   parts_fed w h = in_parts ask.stream.shape (fed w h)
 
   -- points that are fed values add up to them
@@ -50,7 +50,7 @@ module _ {N I X : Type 0} (ask : Ask) (adds : AddsUp ask.stream.shape) (r : Roun
   }
 
   -- values under their keys, each as its parts
-  parts_under_keys : (who : ℕ × ℕ → X → Key) (entries_of : ℕ × ℕ → List N) (incarnations : List (ℕ × ℕ))
+  pub parts_under_keys : (who : ℕ × ℕ → X → Key) (entries_of : ℕ × ℕ → List N) (incarnations : List (ℕ × ℕ))
       → flat_map (λ i. map (λ p. (who i p.0, p.1)) (parts_fed i.0 (entries_of i))) incarnations
       ≡ in_parts ask.stream.shape (flat_map (λ i. map (λ p. (who i p.0, p.1)) (fed i.0 (entries_of i))) incarnations)
   parts_under_keys who entries_of [] = refl

@@ -11,7 +11,10 @@ pub use Rattle.schedule_kit.specs.Taken
 pub use Rattle.schedule_kit.specs.Totals
 pub mod Asks
 pub mod Counts
+pub mod Fleets
 pub mod Groups
+pub mod Limits
+pub mod Naming
 pub mod Newest
 pub mod Parts
 pub mod Quote
@@ -22,3 +25,4 @@ pub mod Spans
 pub mod Standing
 pub mod TableText
 pub mod Walks
+pub mod Writers

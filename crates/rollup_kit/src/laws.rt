@@ -7,9 +7,11 @@ ghost use Rattle.schedule_kit.specs.Rounds.{Rounding, IsSound, state};
 ghost use Rattle.schedule_kit.specs.Rows.{values_fed, keys_fed};
 ghost use Rattle.schedule_kit.specs.Taken.{taken, recorded_up_to, incarnations};
 ghost use Rattle.schedule_kit.specs.Totals.{IsSum};
+ghost use Rattle.rollup_kit.specs.Fleets.{FleetRows, NotTakenIsMissing};
 ghost use Rattle.rollup_kit.specs.Parts.{no_parts, plus_parts};
 ghost use Rattle.rollup_kit.specs.Recordings.{PayloadsAddUp, by_keys, AreFed};
 ghost use Rattle.rollup_kit.specs.Rollups.{AddsUp, rollup_rows, recorded_rows};
+ghost use Rattle.rollup_kit.specs.Writers.{RowsAgree};
 ghost use Rattle.rollup_kit.specs.declared.ask.Ask.{Ask};
 
 /// What points say adds up, in any order and however it is grouped; and a sum or a histogram of values says what the
@@ -29,4 +31,19 @@ pub fn rows_are_recorded<N, I, X>()
         → (h : Holder) (fed : ℕ → List N → List (X × ℤ)) → AreFed ask (by_keys r) fed
         → rollup_rows ask (state (by_keys r) (taken starts ds h))
         ≡ recorded_rows ask (values_fed (by_keys r) (recorded_up_to starts ds h) (incarnations starts ds) fed) (keys_fed (by_keys r) (recorded_up_to starts ds h) (incarnations starts ds)) }
+{}
+
+/// What is recorded comes to the same rows in whatever order the entries of each writer stand, where no stream is past the
+/// limit of attribute sets; past it the rows that leave out all attributes do.
+#[tactic(auto, using(crate::proofs::Agreeing::rows_agree))]
+pub fn rows_go_by_entries()
+    ensures rows { RowsAgree }
+{}
+
+/// A gateway that took one collection of each writer answers with what the writers' jobs recorded, in whatever order their
+/// recordings came; of a writer whose collection it did not take, it has no point.
+#[tactic(auto, using(crate::proofs::Fleets::fleet_rows, crate::proofs::Missing::not_taken_is_missing))]
+pub fn fleets_answer_for_jobs()
+    ensures rows { FleetRows }
+    ensures missing { NotTakenIsMissing }
 {}

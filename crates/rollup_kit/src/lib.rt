@@ -17,7 +17,7 @@ mod table_text;
 mod tests;
 
 pub use ask::Ask;
-pub use laws::{points_add_up, rows_are_recorded};
+pub use laws::{fleets_answer_for_jobs, points_add_up, rows_are_recorded, rows_go_by_entries};
 pub use query::rollup;
 pub use row::{Row, Total};
 pub use table_text::table;

@@ -2,6 +2,7 @@ pub mod Members
 pub mod History
 pub mod Bests
 pub mod Newest
+pub mod Mixed
 pub mod Totals
 pub mod Parts
 pub mod Incarnations

@@ -1,5 +1,5 @@
 -- What a gateway answers is what was recorded.
-use Rattle.std.proofs.Common.{◌≡◌, ℕ, ◌+◌, Bool, true, false, cond, ◌&&◌, ◌||◌, inl, inr, List, [], ◌∷◌, ◌++◌, map, filter, Option, Some, None, refl, sym, ap, subst, ◌∙◌, arith}
+use Rattle.std.proofs.Common.{◌≡◌, ℕ, ◌+◌, Bool, true, false, cond, ◌&&◌, ◌||◌, inl, inr, List, [], ◌∷◌, ◌++◌, map, filter, Option, Some, None, refl, sym, ap, subst, ◌∙◌}
 use Rattle.std.specs.List.{flat_map, list_any}
 use Rattle.std.specs.Option.{option_map_or}
 use Rattle.std.proofs.lemmas.List.{map-append}
@@ -23,7 +23,7 @@ use Rattle.schedule_kit.proofs.Newest.{NewestIs, newest_is}
 use Rattle.schedule_kit.proofs.Parts as parts
 use Rattle.schedule_kit.proofs.Parts.{AreTaken}
 use Rattle.point_kit.proofs.StateLaws.{find-tabulated}
-use Rattle.schedule_kit.proofs.Totals.{total_same, total_zero, total-map, total-flat_map, by_name, total-from_entries}
+use Rattle.schedule_kit.proofs.Totals.{any_sum, count_sum, any-total, total_same, total_zero, total-map, total-flat_map, by_name, total-from_entries}
 
 -- lists in which nothing stands twice
 module _ {A : Type 0} where
@@ -44,26 +44,6 @@ module _ {A B C : Type 0} where
   map-map : (g : B → C) (f : A → B) (xs : List A) → map g (map f xs) ≡ map (λ x. g (f x)) xs
   map-map g f [] = refl
   map-map g f (x ∷ xs) = ap (λ l. g (f x) ∷ l) (map-map g f xs)
-
--- tests added up
-any_sum : IsSum false ◌||◌
-any_sum = record {
-  assoc = λ a b c. elim a as (λ a. ((a || b) || c) ≡ (a || (b || c))) [ true ↦ refl | false ↦ refl ];
-  comm = λ a b. elim a as (λ a. (a || b) ≡ (b || a)) [ true ↦ elim b as (λ b. true ≡ (b || true)) [ true ↦ refl | false ↦ refl ] | false ↦ elim b as (λ b. b ≡ (b || false)) [ true ↦ refl | false ↦ refl ] ];
-  zero_left = λ a. refl;
-}
-
-count_sum : IsSum 0 ◌+◌
-count_sum = record { assoc = λ a b c. omega arith; comm = λ a b. omega arith; zero_left = λ a. omega arith }
-
-any-total : {A G : Type 0} (eq : G → Bool) (asks : A → Bool) (group : A → G) (xs : List A) → list_any eq (map group (filter asks xs)) ≡ total false ◌||◌ (λ x. asks x && eq (group x)) xs
-any-total eq asks group [] = refl
-any-total eq asks group (x ∷ xs) =
-    let rest = any-total eq asks group xs in
-    elim (asks x) as (λ b. list_any eq (map group (cond b (x ∷ filter asks xs) (filter asks xs))) ≡ (b && eq (group x)) || total false ◌||◌ (λ x. asks x && eq (group x)) xs) [
-      | true ↦ ap (λ b. eq (group x) || b) rest
-      | false ↦ rest
-    ]
 
 found-In : {K C : Type 0} {R : K → K → Ordering} → IsAntisymmetric R → (q : K) (es : List (K × C)) (c : C) → find R q es ≡ Some c → In (q, c) es
 found-In anti q [] c e = cc

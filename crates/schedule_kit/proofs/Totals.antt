@@ -1,6 +1,6 @@
 -- Sums over lists and maps.
-use Rattle.std.proofs.Common.{◌≡◌, Bool, true, false, cond, inl, inr, List, [], ◌∷◌, ◌++◌, map, Some, None, refl, sym, ap, subst, ◌∙◌, arith, length}
-use Rattle.std.specs.List.{flat_map}
+use Rattle.std.proofs.Common.{◌≡◌, ◌+◌, Bool, true, false, cond, ◌&&◌, ◌||◌, inl, inr, List, [], ◌∷◌, ◌++◌, map, filter, Some, None, refl, sym, ap, subst, ◌∙◌, arith, length}
+use Rattle.std.specs.List.{flat_map, list_any}
 use Rattle.std.specs.declared.cmp.Ordering.{Ordering}
 use Rattle.std.specs.declared.cmp.Ordering.TheVariants.{Less, Equal, Greater}
 use Rattle.std.specs.Ordering.{is_eq}
@@ -15,6 +15,28 @@ use Rattle.schedule_kit.specs.Totals.{IsSum, total, total_where}
 no_length : {A : Type 0} (xs : List A) → length xs ≡ 0 → xs ≡ []
 no_length [] e = refl
 no_length (x ∷ xs) e = absurd (omega arith)
+
+-- tests added up
+pub any_sum : IsSum false ◌||◌
+any_sum = record {
+  assoc = λ a b c. elim a as (λ a. ((a || b) || c) ≡ (a || (b || c))) [ true ↦ refl | false ↦ refl ];
+  comm = λ a b. elim a as (λ a. (a || b) ≡ (b || a)) [ true ↦ elim b as (λ b. true ≡ (b || true)) [ true ↦ refl | false ↦ refl ] | false ↦ elim b as (λ b. b ≡ (b || false)) [ true ↦ refl | false ↦ refl ] ];
+  zero_left = λ a. refl;
+}
+
+-- counts added up
+pub count_sum : IsSum 0 ◌+◌
+count_sum = record { assoc = λ a b c. omega arith; comm = λ a b. omega arith; zero_left = λ a. omega arith }
+
+-- whether one of the groups passes
+pub any-total : {A G : Type 0} (eq : G → Bool) (asks : A → Bool) (group : A → G) (xs : List A) → list_any eq (map group (filter asks xs)) ≡ total false ◌||◌ (λ x. asks x && eq (group x)) xs
+any-total eq asks group [] = refl
+any-total eq asks group (x ∷ xs) =
+    let rest = any-total eq asks group xs in
+    elim (asks x) as (λ b. list_any eq (map group (cond b (x ∷ filter asks xs) (filter asks xs))) ≡ (b && eq (group x)) || total false ◌||◌ (λ x. asks x && eq (group x)) xs) [
+      | true ↦ ap (λ b. eq (group x) || b) rest
+      | false ↦ rest
+    ]
 
 module _ {V : Type 0} (zero : V) (plus : V → V → V) (sum : IsSum zero plus) where
   zero_right : (a : V) → plus a zero ≡ a

@@ -1,5 +1,6 @@
 pub mod Deeds
 pub mod Members
+pub mod Mixed
 pub mod Rounds
 pub mod Rows
 pub mod Schedule

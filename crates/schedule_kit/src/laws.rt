@@ -1,12 +1,15 @@
 //! What is true of every lawful history of a world.
-ghost use Rattle.std.specs.Prelude.{◌≡◌, ◌<◌, ℕ, Bool, List, length};
+ghost use Rattle.std.specs.Prelude.{◌≡◌, ◌<◌, ℕ, Bool, true, List, length};
+ghost use Rattle.attr_kit.specs.Exact.{IsExact};
 ghost use Rattle.std.specs.Cmp.{IsTotalOrder};
 ghost use Rattle.std.specs.FinMap.{IsAntisymmetric, get};
 ghost use Rattle.std.specs.declared.cmp.Ordering.{Ordering};
 ghost use Rattle.schedule_kit.specs.Deeds.{Deed, Holder, AreLawful, IsTold, TookSame};
+ghost use Rattle.schedule_kit.specs.Mixed.{AreMixed};
 ghost use Rattle.schedule_kit.specs.Rounds.{Rounding, IsSound, HasNoConflict, part_at, state};
 ghost use Rattle.schedule_kit.specs.Rows.{IsAdded, rollup, recorded, values_fed, keys_fed};
 ghost use Rattle.schedule_kit.specs.Taken.{taken, newest, recorded_up_to, incarnations};
+ghost use Rattle.schedule_kit.specs.Totals.{IsSum, total};
 
 /// Gateways that took the same exports, in any order and with repeats, hold one state.
 #[tactic(auto, using(crate::proofs::Headline::same_state))]
@@ -36,4 +39,11 @@ pub fn roll_ups_are_recorded<N, K, I, X, P, V, G>()
         → (asks : K → Bool) (group : K → G) → IsAdded r zero plus reads fed asks
         → rollup Rg zero plus asks group reads (state r (taken starts ds h))
         ≡ recorded Rg zero plus asks group (values_fed r (recorded_up_to starts ds h) (incarnations starts ds) fed) (keys_fed r (recorded_up_to starts ds h) (incarnations starts ds)) }
+{}
+
+/// Lists with the same elements, each as often, come to the same totals, in whatever order they stand.
+#[tactic(auto, using(crate::proofs::Mixed::totals_mixed))]
+pub fn mixed_lists_add_up<A, V>()
+    ensures totals { (eq : A → A → Bool) → IsExact eq → ((x : A) → eq x x ≡ true) → (zero : V) (plus : V → V → V) → IsSum zero plus
+        → (f : A → V) (xs ys : List A) → AreMixed xs ys → total zero plus f xs ≡ total zero plus f ys }
 {}

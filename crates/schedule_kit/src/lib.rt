@@ -3,4 +3,7 @@
 
 mod laws;
 
-pub use laws::{parts_are_newest_collections, roll_ups_are_recorded, same_exports_give_one_state};
+pub use laws::{
+    mixed_lists_add_up, parts_are_newest_collections, roll_ups_are_recorded,
+    same_exports_give_one_state,
+};

@@ -15,6 +15,7 @@ const CHUNK_BYTES: usize = 4096;
 
 /// Reads to the end of the input, and no more than one byte past the length that a script may have.
 pub fn read_script<R: Read>(alloc: Global, reader: &mut R) -> Result<Vec<u8>, ScriptFault>
+    ensures greatest { MAX_BYTES ≡ 1048576 }
     ensures whole { IfOk result (λ v. IfSome (R.remaining reader.old) (λ xs. v.items ≡ xs)) }
     ensures end { OnOk result (IsAtEnd (R.remaining reader.new)) }
     ensures few { ReadsUpTo (R.remaining reader.old) (R.remaining reader.new) (MAX_BYTES + 1) }

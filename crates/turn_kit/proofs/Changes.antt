@@ -6,9 +6,10 @@ use Rattle.turn_kit.specs.declared.fault.ChangeFault.{ChangeFault}
 use Rattle.turn_kit.specs.declared.fault.ChangeFault.TheVariants.{Busy, Exhausted, Refused}
 use Rattle.turn_kit.specs.declared.view.Who.{Who}
 use Rattle.turn_kit.specs.declared.view.Stage.TheVariants.{Idle, Holds}
-use Rattle.turn_kit.specs.History.{StartsWith, IsReplay, then_next, replay}
+use Rattle.turn_kit.specs.History.{by, StartsWith, IsReplay, then_next, replay}
 use Rattle.turn_kit.specs.Steps.{Sat}
-use Rattle.turn_kit.specs.Places.{idle_who, IsIdle, HasRoom, Grows, IsWhole, HasTurn, Found, Takes, Changed, Looked, Answered}
+use Rattle.turn_kit.specs.Places.{idle_who, IsIdle, Owns, HasRoom, Grows, IsWhole, HasTurn, Found, Takes, Changed, Looked, Answered}
+use Rattle.turn_kit.proofs.Histories.{by_mine}
 
 replay_snoc : {E S : Type 0} (next : S → E → Option S) (s : Option S) (l : List (ℕ × E)) (x : ℕ × E) → replay next s (l ++ x ∷ []) ≡ then_next next (replay next s l) x.1
 replay_snoc next s [] x = refl
@@ -25,8 +26,8 @@ module _ {M E S : Type 0} (state : M → S) (next : S → E → Option S) where
   pub one_more : (a x y : M) (l : List (ℕ × E)) (n : ℕ) (e : E) → IsReplay state next a l x → next (state x) e ≡ Some (state y) → IsReplay state next a (l ++ (n, e) ∷ []) y
   one_more a x y l n e made did = replay_snoc next (Some (state a)) l (n, e) ∙ (ap (λ (s : Option S). then_next next s e) made ∙ did)
 
-  pub found : (m m' : Sat M E) (k : ℕ) (h : HasTurn state next m) → (k ≡ length h.l) × (length h.l ≤ m.0.limit) × (m.0.limit ≤ 4611686018427387904) × (m' ≡ (record m.0 { seen = h.l }, m.1)) → Found state next m k m'
-  found m m' k h t = record { l = h.l; n = h.n; a = h.a; x = h.x; stage = h.stage; is = t.3 ∙ ap (λ (c : List (ℕ × M)). (record m.0 { seen = h.l }, c)) h.hand; from = h.from; made = h.made; saw = h.saw; rest = h.rest; count = t.0; room = t.1; cap = t.2 }
+  pub found : (m m' : Sat M E) (k : ℕ) (h : HasTurn state next m) → (k ≡ length h.l) × (length h.l ≤ m.0.limit) × (m.0.limit ≤ 4611686018427387904) × (m' ≡ (record m.0 { seen = h.l }, m.1)) × (by m.0.who.number h.l ≡ m.0.who.mine) → Found state next m k m'
+  found m m' k h t = record { l = h.l; n = h.n; a = h.a; x = h.x; stage = h.stage; is = t.3 ∙ ap (λ (c : List (ℕ × M)). (record m.0 { seen = h.l }, c)) h.hand; from = h.from; made = h.made; saw = h.saw; rest = h.rest; count = t.0; room = t.1; cap = t.2; own = t.4 }
 
   module _ (m : Sat M E) (k : ℕ) (m1 : Sat M E) (f : Found state next m k m1) where
     -- what the holder finds in the slot is the machine
@@ -115,6 +116,11 @@ module _ {M E S : Type 0} (state : M → S) (next : S → E → Option S) where
               same = q ∙ (λ i. record m.0 { stage = Idle; seen = sym saw i; who = record m.0.who { mine = m.0.who.mine ++ e ∷ [] } });
             }
 
+        -- the seat's own entries are those of its number, and the new one
+        pub owns4 : (s : Sat M E) → s ≡ (record m4.0 { stage = Idle }, []) → Owns s.0
+        unfolding view4 log4
+        owns4 s is = subst (λ (z : Sat M E). Owns z.0) (sym (is ∙ ap (λ (z : Sat M E). (record z.0 { stage = Idle }, [])) is4)) (by_mine m.0.who.number f.l e ∙ ap (λ (es : List E). es ++ e ∷ []) f.own)
+
         pub idle4 : (p : Place M (View M E)) → p.me ≡ (record m4.0 { stage = Idle }, []) → IsIdle p
         unfolding view4 log4
         idle4 p is = is_idled p m4.0 is (ap (λ (s : Sat M E). s.0.who) is4 ∙ (ap (λ (w : Who E). record w { mine = m.0.who.mine ++ e ∷ [] }) f.rest ∙ ap (λ (s : Sat M E). idle_who s.0.who) (sym is4)))
@@ -180,3 +186,7 @@ module _ {M E S : Type 0} (state : M → S) (next : S → E → Option S) where
   still_of busy v w e replies refuses (Err Busy) b h = (ap (λ (z : View M E). z.start) (b h), ap (λ (z : View M E). z.limit) (b h))
   still_of busy v w e replies refuses (Err Exhausted) b h = same_start v w h.0.0 h.0.1
   still_of busy v w e replies refuses (Err (Refused r)) b h = same_start v w h.0.0 h.0.1
+
+module _ {M E : Type 0} where
+  pub owns_same : (m q : Sat M E) → q ≡ m → Owns m.0 → Owns q.0
+  owns_same m q same own = subst (λ (z : Sat M E). Owns z.0) (sym same) own

@@ -13,14 +13,15 @@ use Rattle.atomic_table.proofs.Lists.{set_else, set_again, at_map}
 use Rattle.turn_kit.specs.declared.view.View.{View}
 use Rattle.turn_kit.specs.declared.view.Who.{Who}
 use Rattle.turn_kit.specs.declared.view.Stage.TheVariants.{Idle, Holds}
-use Rattle.turn_kit.specs.History.{StartsWith, IsReplay}
-use Rattle.turn_kit.specs.Rule.{Books, Knows, Slot, Ruled}
+use Rattle.turn_kit.specs.History.{by, StartsWith, IsReplay}
+use Rattle.turn_kit.specs.Rule.{Books, Knowing, Knows, Slot, Ruled}
 use Rattle.turn_kit.specs.Steps.{asked, counted, committed, gave}
 use Rattle.turn_kit.proofs.Lists.{set_there}
 use Rattle.turn_kit.proofs.Lists.{each_moves}
 use Rattle.turn_kit.proofs.Histories.{begins_longer}
 use Rattle.turn_kit.proofs.Stages.{freed, elsewhere, still_held, held_is, idle_not_holds}
-use Rattle.turn_kit.proofs.Books.{grown, books_commit}
+use Rattle.turn_kit.proofs.Books.{grown, books_commit, seated_family}
+use Rattle.turn_kit.proofs.Known.{grown_among, knows_set, knows_still}
 
 module _ {M E S : Type 0} (state : M → S) (next : S → E → Option S) (start : M) (limit : ℕ) where
   abbrev pub V : Type 0
@@ -86,6 +87,7 @@ module _ {M E S : Type 0} (state : M → S) (next : S → E → Option S) (start
           each = each_moves (K n r.made id r.log) s.views id w record { started = k.started; saw = k.saw; told = k.told; held = (refl, refl, some_turn, refl); counted = k.counted }
               (λ j u other e. let q = r.each j u e in record { started = q.started; saw = q.saw; told = q.told; held = freed r.turn r.made r.holder n r.made id r.log r.log j u.stage free q.held; counted = q.counted });
           books = subst (Books r.made r.out r.log) (sym (same_who s.views id me.0 w at refl)) r.books;
+          known = knows_still s.views id me.0 w at refl refl r.made r.known;
         },
         ((λ miss. absurd (miss hit)), (λ _. (r.log, r.made, start, m, (λ i. (w, (0, m) ∷ bare i)), (k.started seated).0, home.1.2, k.saw))),
       ))
@@ -130,6 +132,7 @@ module _ {M E S : Type 0} (state : M → S) (next : S → E → Option S) (start
           each = subst (λ (vs : List V). (j : ℕ) (v : V) → get_elem? vs j ≡ some v → K 2 r.made r.holder r.log j v) (sym (set_again s.views id me.0 at))
               (λ j u e. let q = r.each j u e in record { started = q.started; saw = q.saw; told = q.told; held = still_held r.turn r.made r.holder r.log j u.stage q.held; counted = q.counted });
           books = subst (λ (vs : List V). Books r.made r.out r.log (map (λ (v : V). v.who) vs)) (sym (set_again s.views id me.0 at)) r.books;
+          known = subst (λ (vs : List V). Knowing vs r.made) (sym (set_again s.views id me.0 at)) r.known;
         },
         ((λ _. (refl, not_sole s r id me.0 at (λ z. miss (is ∙ z)) idle)), (λ hit. absurd (miss hit))),
       ))
@@ -166,12 +169,15 @@ module _ {M E S : Type 0} (state : M → S) (next : S → E → Option S) (start
       each = each_moves (K r.turn r.made r.holder r.log) s.views id w record { started = k.started; saw = ([], sym (append-nil r.log)); told = (begins_longer me.0.seen r.log me.0.ours k.saw k.told.0, begins_longer me.0.seen r.log me.0.theirs k.saw k.told.1); held = k.held; counted = k.counted }
           (λ j u other e. r.each j u e);
       books = subst (Books r.made r.out r.log) (sym (same_who s.views id me.0 w at refl)) r.books;
+      known = knows_still s.views id me.0 w at refl refl r.made r.known;
     },
     (λ l' n' is'. let h' = held_is r.turn r.made r.holder r.log id me.0.stage l' n' is' k.held in (
       ap (λ (ws : List ℕ). get_or ws 1 0) r.words ∙ ap length (sym h'.0),
       subst (λ (z : Log). length z ≤ me.0.limit) (sym h'.0) (subst (λ (z : ℕ). length r.log ≤ z) (sym (k.started seated).1) r.room),
       subst (λ (z : ℕ). z ≤ 4611686018427387904) (sym (k.started seated).1) r.small.0,
       ap (λ (z : Log). (record me.0 { seen = z }, me.1)) (sym h'.0),
+      subst (λ (z : Log). by me.0.who.number z ≡ me.0.who.mine) (sym h'.0)
+          (r.books.each id me.0.who (at_map who s.views id me.0 at) 0 me.0.who.number me.0.who.mine (ap (λ (f : List (ℕ × List E)). get_elem? f 0) (seated_family me.0.who seated))).2,
     )),
   )
 
@@ -196,6 +202,7 @@ module _ {M E S : Type 0} (state : M → S) (next : S → E → Option S) (start
           each = each_moves (K 0 r.made r.holder r.log) s.views id w record { started = k.started; saw = k.saw; told = k.told; held = tt; counted = k.counted }
               (λ j u other e. let q = r.each j u e in record { started = q.started; saw = q.saw; told = q.told; held = elsewhere r.turn r.made r.holder 0 r.made r.log r.log j u.stage (λ z. other (z ∙ h.3)) q.held; counted = q.counted });
           books = subst (Books r.made r.out r.log) (sym (same_who s.views id me.0 w at refl)) r.books;
+          known = knows_still s.views id me.0 w at refl refl r.made r.known;
         },
         (λ i. (w, rest (hand i))),
       )
@@ -237,6 +244,7 @@ module _ {M E S : Type 0} (state : M → S) (next : S → E → Option S) (start
               record { started = k.started; saw = ([], sym (append-nil log')); told = (begins_longer me.0.seen log' me.0.ours (wider r.log me.0.seen num k.saw) k.told.0, begins_longer me.0.seen log' me.0.theirs (wider r.log me.0.seen num k.saw) k.told.1); held = (refl, refl, h.2, h.3); counted = k.counted }
               (λ j u other z. let q = r.each j u z in record { started = q.started; saw = wider r.log u.seen num q.saw; told = q.told; held = elsewhere r.turn r.made r.holder r.turn r.made r.log log' j u.stage (λ y. other (y ∙ h.3)) q.held; counted = q.counted });
           books = subst (Books r.made r.out log') (sym (map-set who s.views id w)) (books_commit r.made r.out r.log (map who s.views) id me.0.who e (at_map who s.views id me.0 at) seated r.books);
+          known = knows_set s.views id me.0 w at (grown_among me.0.who e seated) (let z : me.0.made ≤ me.0.made = omega arith in z) r.made r.known;
         },
         (λ l2 n2 e2 is2 says2. let h2 = held_is r.turn r.made r.holder r.log id me.0.stage l2 n2 is2 k.held in let same : e ≡ e2 = some_is e e2 (sym says ∙ says2) in
             λ i. (record me.0 { stage = Holds (sym h2.0 i ++ (num, same i) ∷ []) (sym h2.1 i); seen = sym h2.0 i ++ (num, same i) ∷ []; who = grown me.0.who (same i) }, me.1)),

@@ -5,10 +5,10 @@ use Rattle.atomic_table.specs.declared.shared.Seat.{Seat as Place}
 use Rattle.turn_kit.specs.declared.view.View.{View}
 use Rattle.turn_kit.specs.declared.view.Who.{Who}
 use Rattle.turn_kit.specs.declared.view.Stage.TheVariants.{Idle}
-use Rattle.turn_kit.specs.History.{StartsWith, Apart, longer}
+use Rattle.turn_kit.specs.History.{by, StartsWith, Apart, longer}
 use Rattle.turn_kit.specs.Rule.{family, unmade}
 use Rattle.turn_kit.specs.Steps.{Sat, note_of, nobody, both_of, both_who}
-use Rattle.turn_kit.specs.Places.{idle_who, IsIdle, noted, Heard, Joined, ClosedWith}
+use Rattle.turn_kit.specs.Places.{idle_who, IsIdle, Owns, noted, Heard, Joined, ClosedWith}
 
 module _ {M E : Type 0} where
   pub is_noted : (p : Place M (View M E)) (l : List (ℕ × E)) (n : ℕ) → p.me ≡ (note_of l n, []) → p ≡ noted p
@@ -26,6 +26,10 @@ module _ {M E : Type 0} where
   pub idle_hand : (p : Place M (View M E)) → IsIdle p → p.me.1 ≡ []
   idle_hand p idle = ap (λ (s : Place M (View M E)). s.me.1) idle
 
+  -- the seat has seen all its entries and no others of its number, where it had before the join
+  abbrev pub HasOwn : Sat M E → Type 0
+  HasOwn q = q.0.who.seated ≡ true → by q.0.who.number q.0.ours ≡ q.0.who.mine → by q.0.who.number q.0.seen ≡ q.0.who.mine
+
   module _ (p : Place M (View M E)) (idle : IsIdle p) (w : View M E) where
     heard_view : w.who ≡ nobody → both_of p.me.0 w ≡ record p.me.0 { seen = longer p.me.0.seen w.seen; ours = p.me.0.seen; theirs = w.seen; made = max p.me.0.made w.made }
     heard_view none_of = λ i. record p.me.0 { seen = longer p.me.0.seen w.seen; ours = p.me.0.seen; theirs = w.seen; made = max p.me.0.made w.made; who = both_who p.me.0.who (none_of i) }
@@ -33,6 +37,12 @@ module _ {M E : Type 0} where
     pub heard_idle : (q : Place M (View M E)) → w.who ≡ nobody → q.me ≡ (both_of p.me.0 w, p.me.1) → IsIdle q
     heard_idle q none_of is = let who_is : q.me.0.who ≡ p.me.0.who = ap (λ (m : Sat M E). m.0.who) is ∙ ap (λ (v : View M E). v.who) (heard_view none_of) in
         idle_from q (ap (λ (m : Sat M E). m.0.stage) is ∙ idle_stage p idle) (who_is ∙ (idle_is p idle ∙ ap idle_who (sym who_is))) (ap (λ (m : Sat M E). m.1) is ∙ idle_hand p idle)
+
+    pub heard_own : (q : Sat M E) → w.who ≡ nobody → q ≡ (both_of p.me.0 w, p.me.1) → Owns p.me.0 → HasOwn q → Owns q.0
+    heard_own q none_of is own has =
+        let who_is : q.0.who ≡ p.me.0.who = ap (λ (m : Sat M E). m.0.who) is ∙ ap (λ (v : View M E). v.who) (heard_view none_of) in
+        let ours_is : q.0.ours ≡ p.me.0.seen = ap (λ (m : Sat M E). m.0.ours) is in
+        has (ap (λ (x : Who E). x.seated) who_is ∙ ap (λ (x : Who E). x.seated) (idle_is p idle)) (subst (λ (t : Who E × List (ℕ × E)). by t.0.number t.1 ≡ t.0.mine) (λ i. (sym who_is i, sym ours_is i)) own)
 
     pub heard : (q : Sat M E) → w.who ≡ nobody → q ≡ (both_of p.me.0 w, p.me.1) → StartsWith q.0.seen q.0.ours → StartsWith q.0.seen q.0.theirs → Heard p.me.0 q.0 w.seen w.made
     heard q none_of is a b = (ap (λ (m : Sat M E). m.0) is ∙ heard_view none_of, subst (λ (l : List (ℕ × E)). StartsWith q.0.seen l) (ap (λ (m : Sat M E). m.0.ours) is) a, subst (λ (l : List (ℕ × E)). StartsWith q.0.seen l) (ap (λ (m : Sat M E). m.0.theirs) is) b)
@@ -73,6 +83,14 @@ module _ {M E : Type 0} where
           idle_from t (ap (λ (x : View M E). x.stage) v ∙ idle_stage p idle)
           (ap (λ (x : View M E). x.who) v ∙ (ap (λ (x : Who E). record x { joined = p.me.0.who.joined ++ (w.who.number, w.who.mine) ∷ w.who.joined }) (idle_is p idle) ∙ ap (λ (x : View M E). idle_who x.who) (sym v)))
           (ap (λ (m : Sat M E). m.1) same ∙ (ap (λ (m : Sat M E). m.1) counted ∙ (ap (λ (m : Sat M E). m.1) is ∙ idle_hand p idle)))
+
+      pub joined_own : (q z : Sat M E) → q ≡ (both_of p.me.0 w, p.me.1) → z ≡ (record q.0 { who = record q.0.who { weight = 1 } }, q.1) → Owns p.me.0 → HasOwn q → Owns z.0
+      joined_own q z is counted own has =
+          let number_is : q.0.who.number ≡ p.me.0.who.number = ap (λ (m : Sat M E). m.0.who.number) is ∙ ap (λ (x : Who E). x.number) met_is in
+          let mine_is : q.0.who.mine ≡ p.me.0.who.mine = ap (λ (m : Sat M E). m.0.who.mine) is ∙ ap (λ (x : Who E). x.mine) met_is in
+          let ours_is : q.0.ours ≡ p.me.0.seen = ap (λ (m : Sat M E). m.0.ours) is in
+          subst (λ (m : Sat M E). Owns m.0) (sym counted)
+          (has (met_seated q is) (subst (λ (t : ℕ × List (ℕ × E) × List E). by t.0 t.1 ≡ t.2) (λ i. (sym number_is i, sym ours_is i, sym mine_is i)) own))
 
       pub joined : (q z : Sat M E) → q ≡ (both_of p.me.0 w, p.me.1) → z ≡ (record q.0 { who = record q.0.who { weight = 1 } }, q.1) → StartsWith q.0.seen q.0.ours → StartsWith q.0.seen q.0.theirs → Apart (family q.0.who) → Joined p.me.0 z.0 w
       joined q z is counted a b one = let seen_is : z.0.seen ≡ q.0.seen = ap (λ (m : Sat M E). m.0.seen) counted in (

@@ -91,6 +91,14 @@ module _ {E : Type 0} where
   groups_flat [] bare = refl
   groups_flat (w ∷ ws) bare = flat-append (cut w.weight (family w)) (groups ws) ∙ λ i. cut_flat w.weight (family w) (bare 0 w refl) i ++ groups_flat ws (λ j u at. bare (suc j) u at) i
 
+  first_of : (xs : List (Kin E)) → 0 < length xs → (x : Kin E) × (get_elem? xs 0 ≡ some x)
+  first_of [] less = absurd (omega (arith, less))
+  first_of (x ∷ xs) less = (x, refl)
+
+  flat_long : (gs : List (List (Kin E))) → Peopled gs → 0 < length gs → 0 < length (flat gs)
+  flat_long [] peopled less = absurd (omega (arith, less))
+  flat_long (g ∷ gs) peopled less = let h = peopled 0 g refl in let a = length-append g (flat gs) in omega (arith, h, a)
+
   -- where the families of the first views end
   behind : List (Who E) → ℕ → ℕ
   behind [] j = 0
@@ -156,9 +164,18 @@ module _ {E : Type 0} where
     backed : (j : ℕ) (u : Who E) → get_elem? rest j ≡ some u → u.weight ≤ length (family u)
     backed j u there = ⊎_elim (λ (t : (j ≡ id) × (nobody ≡ u)). subst (λ (x : Who E). x.weight ≤ length (family x)) t.1 (omega arith)) (λ (t : (j ≢ id) × (get_elem? ws j ≡ some u)). b.backed j u t.1) (at_set ws id j nobody u there)
 
+    -- where others are out, a number is theirs
+    pub another : w.weight ≡ 1 → 0 < out → (k : ℕ) × (k < made) × (IsAmong k (family w) → ⊥)
+    another one some_out =
+        let l = groups_long rest in let t = total_set weight ws id w nobody at in let h = b.weighed in
+        let long : 0 < length (groups rest) = omega (arith, l, t, h, one, some_out) in
+        let full : 0 < length (all_of rest) = subst (λ (xs : List (Kin E)). 0 < length xs) (groups_flat rest bare) (flat_long (groups rest) (groups_peopled rest backed) long) in
+        let x = first_of (all_of rest) full in let o = owned 0 x.0.0 x.0.1 x.1 in
+        (x.0.0, o.0, (λ u. o.1 (ap (λ (z : ℕ × ℕ). z.0) (b.each id w at u.0 x.0.0 u.1 u.2).1)))
+
     -- a seat that counts for one sees so many others out
-    pub are_others : w.weight ≡ 1 → (known : ℕ) → known ≤ made → made ≤ 4096 → AreOthers (family w) known out
-    are_others one known less most = let f = groups_flat rest bare in record {
+    pub are_others : w.weight ≡ 1 → (known : ℕ) → known ≤ made → made ≤ 4096 → (k : ℕ) × (k < known) × (IsAmong k (family w) → ⊥) → AreOthers (family w) known out
+    are_others one known less most missing = let f = groups_flat rest bare in record {
       others = groups rest;
       many = let l = groups_long rest in let t = total_set weight ws id w nobody at in let h = b.weighed in omega (arith, l, t, h, one);
       peopled = groups_peopled rest backed;
@@ -166,4 +183,5 @@ module _ {E : Type 0} where
       given = made;
       all = λ k. ((λ below. subst (λ (l : List (Kin E)). IsAmong k (family w ++ l)) (sym f) (housed k below)), (λ t. within k (subst (λ (l : List (Kin E)). IsAmong k (family w ++ l)) f t)));
       more = (less, most);
+      missing = missing;
     }

@@ -33,6 +33,7 @@ module _ {M E S : Type 0} {g : _} (state : M → S) (next : S → E → Option S
     ends = h.seen;
     grows = (h.between ++ (s.place.me.0.who.number, e) ∷ [], h.seen ∙ append_assoc s.place.me.0.seen h.between ((s.place.me.0.who.number, e) ∷ []));
     gains = ap (λ (v : View M E). v.who.mine) h.same;
+    own = t.own;
     same = record {
       same_number = ap (λ (v : View M E). v.who.number) h.same;
       same_joined = ap (λ (v : View M E). v.who.joined) h.same;
@@ -48,6 +49,7 @@ module _ {M E S : Type 0} {g : _} (state : M → S) (next : S → E → Option S
     replays = subst (λ (x : M). IsReplay state next x t.place.me.0.seen m) same h.found;
     answer = says;
     same_mine = ap (λ (v : View M E). v.who.mine) h.same;
+    own = t.own;
     same = record {
       same_number = ap (λ (v : View M E). v.who.number) h.same;
       same_joined = ap (λ (v : View M E). v.who.joined) h.same;
@@ -97,6 +99,7 @@ module _ {M E S : Type 0} {g : _} (state : M → S) (next : S → E → Option S
     new_mine = ap (λ (m : Sat M E). m.0.who.mine) h.4;
     new_joined = ap (λ (m : Sat M E). m.0.who.joined) h.4;
     apart = (ap (λ (x : View M E). x.who.sole) w, ap (λ (m : Sat M E). m.0.who.sole) h.4);
+    own = t.own;
     kept = (
       ap (λ (x : View M E). x.who.number) w ∙ ap (λ (x : View M E). x.who.number) v,
       ap (λ (x : View M E). x.seen) w ∙ ap (λ (x : View M E). x.seen) v,
@@ -124,6 +127,7 @@ module _ {M E : Type 0} {g : _} (s t : Seat M E g) where
     begins = h.1;
     heard = h.2;
     counted = ap (λ (x : View M E). x.made) w;
+    own = t.own;
     kept = (ap (λ (x : View M E). x.who.number) w, ap (λ (x : View M E). x.who.mine) w, ap (λ (x : View M E). x.who.joined) w, ap (λ (x : View M E). x.who.sole) w);
   }
 
@@ -135,5 +139,6 @@ module _ {M E : Type 0} {g : _} (s t : Seat M E g) where
     begins = h.1;
     brought = h.2;
     counted = ap (λ (x : View M E). x.made) w;
+    own = t.own;
     kept = (ap (λ (x : View M E). x.who.number) w, ap (λ (x : View M E). x.who.mine) w, ap (λ (x : View M E). x.who.sole) w);
   }

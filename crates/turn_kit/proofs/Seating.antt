@@ -9,19 +9,20 @@ use native.Mathlib.Nat.{add-mod_right}
 use lib.ListN.{get_elem?}
 use lib.Seq.{set-get_or, map-set}
 use Rattle.atomic_table.specs.Table.{Final, Seen, State, Me, step, keeps, Allows, Splits, Joins, opening}
-use Rattle.atomic_table.proofs.Lists.{set_else, set_again, at_snoc, at_map, at_longer}
+use Rattle.atomic_table.proofs.Lists.{set_else, set_again, at_snoc, at_map, at_longer, at_last}
 use Rattle.turn_kit.specs.declared.view.View.{View}
 use Rattle.turn_kit.specs.declared.view.Who.{Who}
 use Rattle.turn_kit.specs.declared.view.Stage.{Stage}
 use Rattle.turn_kit.specs.declared.view.Stage.TheVariants.{Idle, Holds}
 use Rattle.turn_kit.specs.History.{IsReplay, Apart, IsAmong, AreOthers}
-use Rattle.turn_kit.specs.Rule.{weight, claim, unmade, family, total, Books, Knows, Slot, Ruled, first_who, opening_view}
+use Rattle.turn_kit.specs.Rule.{weight, claim, unmade, family, total, Books, Knowing, Knows, Slot, Ruled, first_who, opening_view}
 use Rattle.turn_kit.specs.Steps.{looked, drew, counted_out, stayed, split_off, note_of, both_of, nobody, newcomer, at_first, compared, joined_in, closing, IsFresh}
 use Rattle.turn_kit.specs.Places.{ClosedWith}
 use Rattle.turn_kit.proofs.Lists.{each_moves}
 use Rattle.turn_kit.proofs.Families.{balances}
 use Rattle.turn_kit.proofs.Others.{are_others}
-use Rattle.turn_kit.proofs.Histories.{absent, begins, begins_both}
+use Rattle.turn_kit.proofs.Known.{both_among, knows_set, knows_still, knows_cut, knows_meet, knows_draw, one_is_missing}
+use Rattle.turn_kit.proofs.Histories.{absent, begins, begins_both, by_between}
 use Rattle.turn_kit.proofs.Stages.{elsewhere, held_is}
 use Rattle.turn_kit.proofs.Books.{total_at, seated_family, plain_family, apart_in, books_weigh, books_draw, books_tell}
 use Rattle.turn_kit.proofs.Unions.{books_cut, books_join, books_sole}
@@ -73,6 +74,7 @@ module _ {M E S : Type 0} (state : M → S) (next : S → E → Option S) (start
       weighty = λ j w e is. heavy j w e;
       backed = back;
     };
+    known = λ k less. ((λ j v e here. only j v e (λ _ u. k < u.made) less), inl (sym (zero_is k less)));
   }
     where
       zero_is : (k : ℕ) → k < 1 → 0 ≡ k
@@ -125,6 +127,7 @@ module _ {M E S : Type 0} (state : M → S) (next : S → E → Option S) (start
         slot = slot_moves state next start limit s r id v w at refl (λ l' n' is'. (n', is'));
         each = each_moves (K r.turn r.made r.holder r.log) s.views id w record { started = k.started; saw = k.saw; told = k.told; held = k.held; counted = omega arith } (λ j u other z. r.each j u z);
         books = subst (Books r.made r.out r.log) (sym (map-set who s.views id w ∙ set_again (map who s.views) id v.who (at_map who s.views id v at))) r.books;
+        known = knows_set s.views id v w at (λ p t. t) k.counted r.made r.known;
       }
 
   -- the holder looks at the number of seats made
@@ -172,6 +175,10 @@ module _ {M E S : Type 0} (state : M → S) (next : S → E → Option S) (start
           each = each_moves (K r.turn (r.made + 1) r.holder r.log) s.views id w record { started = k.started; saw = k.saw; told = k.told; held = (refl, refl, h.2, h.3); counted = omega arith }
               (λ j u other z. let q = r.each j u z in record { started = q.started; saw = q.saw; told = q.told; held = elsewhere r.turn r.made r.holder r.turn (r.made + 1) r.log r.log j u.stage (λ y. other (y ∙ h.3)) q.held; counted = (let z = q.counted in omega arith) });
           books = subst (Books (r.made + 1) r.out r.log) (sym (map-set who s.views id w)) (books_draw r.made r.out r.log (map who s.views) id v.who (at_map who s.views id v at) seated none_yet no_credit r.books);
+          known = let head = r.books.each id v.who (at_map who s.views id v at) 0 v.who.number v.who.mine (ap (λ (f : List (ℕ × List E)). get_elem? f 0) (seated_family v.who seated)) in
+              knows_draw s.views id w r.made v.who.number head.0 refl
+              (λ j u there t. ap (λ (x : ℕ × ℕ). x.0) (sym (r.books.each j u.who (at_map who s.views j u there) t.0 v.who.number t.1 t.2).1 ∙ head.1))
+              (λ j u there t. let above = (r.books.each j u.who (at_map who s.views j u there) t.0 r.made t.1 t.2).0 in omega (arith, above)) r.known;
         },
         (λ l2 n2 is2. let h2 = held_is r.turn r.made r.holder r.log id me.0.stage l2 n2 is2 k.held in
             λ i. (record v { stage = Holds (sym h2.0 i) (sym h2.1 i + 1); made = sym h2.1 i + 1; who = record v.who { sole = false; drawn = sym h2.1 i ∷ []; credit = 1 } }, me.1)),
@@ -200,6 +207,7 @@ module _ {M E S : Type 0} (state : M → S) (next : S → E → Option S) (start
           slot = slot_moves state next start limit s r id v w at refl (λ l' n' is'. (n', is'));
           each = each_moves (K r.turn r.made r.holder r.log) s.views id w record { started = k.started; saw = k.saw; told = k.told; held = k.held; counted = k.counted } (λ j u other z. r.each j u z);
           books = subst (Books r.made (r.out + 1) r.log) (sym (map-set who s.views id w)) (books_weigh r.made r.out (r.out + 1) r.log (map who s.views) id v.who w.who at' refl refl (λ z. z) (omega arith) (two_kin v.who seated drew_one) (omega (arith, one)) (omega (arith, one, credit)) r.books);
+          known = knows_still s.views id v w at refl refl r.made r.known;
         },
         refl,
       )
@@ -236,7 +244,31 @@ module _ {M E S : Type 0} (state : M → S) (next : S → E → Option S) (start
         (λ (t : o ≡ u). subst (K r.turn r.made r.holder r.log j) t record { started = λ _. k.started seated; saw = k.saw; told = ((v.seen, refl), (v.seen, refl)); held = tt; counted = k.counted }) (at_snoc (set s.views id w) o u j e);
     books = subst (Books r.made r.out r.log) (sym (map-append who (set s.views id w) (o ∷ []) ∙ (ap (λ (l : List (Who E)). l ++ newcomer (at_first v.who.drawn) ∷ []) (map-set who s.views id w) ∙ ap (λ (ks : List ℕ). set (map who s.views) id w.who ++ newcomer (at_first ks) ∷ []) drew_it)))
         (books_cut r.made r.out r.log (map who s.views) id v.who n (at_map who s.views id v at) seated drew_it not_sole two no_credit r.books);
+    known = let same : v.made ≤ v.made = omega arith in knows_cut s.views id v w o at (left_among v.who seated drew_it) (new_among v.who seated drew_it) same same r.made r.known;
   }
+    where
+      fam_of : (x : Who E) → x.seated ≡ true → x.drawn ≡ n ∷ [] → family x ≡ ((x.number, x.mine) ∷ x.joined) ++ (n, []) ∷ []
+      fam_of x is drew = seated_family x is ∙ ap (λ (ks : List ℕ). (x.number, x.mine) ∷ (x.joined ++ unmade ks)) drew
+
+      left_among : (x : Who E) → x.seated ≡ true → x.drawn ≡ n ∷ [] → (p : ℕ) → IsAmong p (family (record x { drawn = []; weight = 1 })) → IsAmong p (family x)
+      left_among x is drew p t = (
+        t.0,
+        t.1,
+        ap (λ (f : List (ℕ × List E)). get_elem? f t.0) (fam_of x is drew)
+            ∙ at_longer ((x.number, x.mine) ∷ x.joined) ((n, []) ∷ []) t.0 (p, t.1) (subst (λ (f : List (ℕ × List E)). get_elem? f t.0 ≡ some (p, t.1)) (plain_family (record x { drawn = []; weight = 1 }) is refl) t.2),
+      )
+
+      new_among : (x : Who E) → x.seated ≡ true → x.drawn ≡ n ∷ [] → (p : ℕ) → IsAmong p (family {E = E} (newcomer (at_first x.drawn))) → IsAmong p (family x)
+      new_among x is drew p t = (
+        length ((x.number, x.mine) ∷ x.joined),
+        [],
+        ap (λ (f : List (ℕ × List E)). get_elem? f (length ((x.number, x.mine) ∷ x.joined))) (fam_of x is drew)
+            ∙ (at_last ((x.number, x.mine) ∷ x.joined) (n, []) (length ((x.number, x.mine) ∷ x.joined)) refl ∙ ap (λ (z : ℕ). some (z, [])) (sym (ap at_first drew) ∙ first_is (at_first x.drawn) t.0 t.1 t.2)),
+      )
+        where
+          first_is : (m i : ℕ) (es : List E) → get_elem? {A = ℕ × List E} ((m, []) ∷ []) i ≡ some (p, es) → m ≡ p
+          first_is m zero es e = ap (λ (y : ℕ × List E). y.0) (some-injective (m, []) (p, es) e)
+          first_is m (suc i) es e = absurd (some-ne-none (p, es) (sym e))
 
   -- a note is split off
   pub tells : (id : ℕ) (v : V) → Splits Rule id v v (note_of v.seen v.made)
@@ -253,6 +285,8 @@ module _ {M E S : Type 0} (state : M → S) (next : S → E → Option S) (start
     each = λ j u e. ⊎_elim (r.each j u)
         (λ (t : o ≡ u). subst (K r.turn r.made r.holder r.log j) t record { started = λ z. absurd (true≢false (sym z)); saw = k.saw; told = ((v.seen, refl), (v.seen, refl)); held = tt; counted = k.counted }) (at_snoc s.views o u j e);
     books = subst (Books r.made r.out r.log) (sym (map-append who s.views (o ∷ []))) (books_tell r.made r.out r.log (map who s.views) r.books);
+    known = let same : v.made ≤ v.made = omega arith in
+        subst (λ (vs : List V). Knowing (vs ++ o ∷ []) r.made) (set_again s.views id v at) (knows_cut s.views id v v o at (λ p t. t) (λ p t. absurd (some-ne-none (p, t.1) (sym t.2))) same same r.made r.known);
   }
 
   abbrev is_rest : Stage E → Type 0
@@ -277,6 +311,7 @@ module _ {M E S : Type 0} (state : M → S) (next : S → E → Option S) (start
             (λ j u far z. each_moves (K r.turn r.made r.holder r.log) s.views id v' record { started = λ _. k.started seated; saw = both.2; told = (both.0, both.1); held = k.held; counted = (let x = k.counted in let y = k'.counted in omega arith) } (λ j2 u2 far2 z2. r.each j2 u2 z2) j u z);
         books = subst (Books r.made r.out r.log) (sym (map-set who vs1 other o ∙ ap (λ (l : List (Who E)). set l other nobody) (map-set who s.views id v')))
             (books_join r.made r.out r.log (map who s.views) id other v.who w.who (at_map who s.views id v at) (at_map who s.views other w there) apart seated da db kind r.books);
+        known = knows_meet s.views id other v w v' o at there (both_among v.who w.who seated da db kind) (λ p t. some-ne-none (p, t.1) (sym t.2)) (omega arith) (omega arith) r.made r.known;
       }
     where
       not_idle : (x h : V) (j : ℕ) → x.stage ≡ Idle → get_elem? s.views j ≡ some x → get_elem? s.views r.holder ≡ some h → r.holder ≡ j → (l : List (ℕ × E)) × (n : ℕ) × (h.stage ≡ Holds l n) → ⊥
@@ -284,7 +319,20 @@ module _ {M E S : Type 0} (state : M → S) (next : S → E → Option S) (start
 
   -- what was joined begins what is seen
   pub compares : (slots id : ℕ) (me : Sat) → Allows Rule slots id me 1 (λ x. x) (compared (step slots 1 0 0 none) me)
-  compares slots id me s r deep at _ = let k = r.each id me.0 at in (me.0, keeps, tt, unmoved s 1 id me.0 at r, (refl, k.told.0, k.told.1, apart_in r.made r.out r.log (map who s.views) r.books id me.0.who (at_map who s.views id me.0 at)))
+  compares slots id me s r deep at _ = let k = r.each id me.0 at in (
+    me.0,
+    keeps,
+    tt,
+    unmoved s 1 id me.0 at r,
+    (
+      refl,
+      k.told.0,
+      k.told.1,
+      apart_in r.made r.out r.log (map who s.views) r.books id me.0.who (at_map who s.views id me.0 at),
+      (λ seated before. let own = (r.books.each id me.0.who (at_map who s.views id me.0 at) 0 me.0.who.number me.0.who.mine (ap (λ (f : List (ℕ × List E)). get_elem? f 0) (seated_family me.0.who seated))).2 in
+          by_between me.0.who.number r.log me.0.seen me.0.ours k.saw k.told.0 (before ∙ sym own) ∙ own),
+    ),
+  )
 
   -- a seat that was joined is no longer out
   pub counts_in : (slots id : ℕ) (me : Sat) → me.0.who.seated ≡ true → me.0.who.weight ≡ 2
@@ -310,6 +358,7 @@ module _ {M E S : Type 0} (state : M → S) (next : S → E → Option S) (start
           slot = slot_moves state next start limit s r id v w at refl (λ l' n' is'. (n', is'));
           each = each_moves (K r.turn r.made r.holder r.log) s.views id w record { started = k.started; saw = k.saw; told = k.told; held = k.held; counted = k.counted } (λ j u other z. r.each j u z);
           books = subst (Books r.made (r.out - 1) r.log) (sym (map-set who s.views id w)) (books_weigh r.made r.out (r.out - 1) r.log (map who s.views) id v.who w.who at' refl refl (λ z. z) (omega arith) (let b = r.books.backed id v.who at' in omega (arith, b, two)) (omega (arith, two, pos)) (omega (arith, two)) r.books);
+          known = knows_still s.views id v w at refl refl r.made r.known;
         },
         refl,
       )
@@ -334,6 +383,7 @@ module _ {M E S : Type 0} (state : M → S) (next : S → E → Option S) (start
           slot = slot_moves state next start limit s r id v w at refl (λ l' n' is'. (n', is'));
           each = each_moves (K r.turn r.made r.holder r.log) s.views id w record { started = k.started; saw = k.saw; told = k.told; held = k.held; counted = k.counted } (λ j u other z. r.each j u z);
           books = subst (Books r.made r.out r.log) (sym (map-set who s.views id w)) (books_sole r.made r.out r.log (map who s.views) id v.who (at_map who s.views id v at) seated (sym count ∙ none_out) r.books);
+          known = knows_still s.views id v w at refl refl r.made r.known;
         },
         ((λ _. refl), (λ some_out. absurd (some_out none_out))),
       ))
@@ -344,7 +394,11 @@ module _ {M E S : Type 0} (state : M → S) (next : S → E → Option S) (start
         unmoved s 3 id me.0 at r,
         (
           (λ none_out. absurd (some_out none_out)),
-          (λ _. (refl, subst (λ (n : ℕ). AreOthers (family v.who) v.made n) (sym count) (are_others r.made r.out r.log (map who s.views) r.books id v.who (at_map who s.views id v at) one v.made k.counted r.small.1))),
+          (λ _. (
+            refl,
+            subst (λ (n : ℕ). AreOthers (family v.who) v.made n) (sym count) (are_others r.made r.out r.log (map who s.views) r.books id v.who (at_map who s.views id v at) one v.made k.counted r.small.1
+                (one_is_missing r.made r.out r.log s.views r.books r.known id v at seated one k.counted (omega (arith, count, some_out)))),
+          )),
         ),
       ))
 

@@ -5,7 +5,7 @@ use Rattle.turn_kit.specs.declared.view.View.{View}
 use Rattle.turn_kit.specs.declared.view.Who.{Who}
 use Rattle.turn_kit.specs.declared.view.Stage.TheVariants.{Idle, Holds}
 use Rattle.turn_kit.specs.Steps.{Sat, stayed, split_off, newcomer}
-use Rattle.turn_kit.specs.Places.{idle_who, IsIdle, IsWhole, HasTurn, HasPlace, IsMade, Draws, WasSplit, WasFull}
+use Rattle.turn_kit.specs.Places.{idle_who, IsIdle, Owns, IsWhole, HasTurn, HasPlace, IsMade, Draws, WasSplit, WasFull}
 use Rattle.turn_kit.proofs.Changes.{is_idled}
 
 module _ {M E S : Type 0} (state : M → S) (next : S → E → Option S) (m : Sat M E) (h : HasTurn state next m) where
@@ -82,3 +82,7 @@ module _ {M E S : Type 0} (state : M → S) (next : S → E → Option S) (m : S
 module _ {M E : Type 0} where
   pub new_idle : (p : Place M (View M E)) (n : ℕ) (v w : View M E) → WasSplit n v w p.me → IsIdle p
   new_idle p n v w h = is_idled p (record { start = v.start; limit = v.limit; stage = Idle; who = newcomer n; seen = v.seen; ours = []; theirs = []; made = n + 1 }) h.4 refl
+
+  -- the new seat has no entries yet
+  pub new_owns : (p : Place M (View M E)) (n : ℕ) (v w : View M E) → WasSplit n v w p.me → Owns p.me.0
+  new_owns p n v w h = subst (λ (m : Sat M E). Owns m.0) (sym h.4) h.0.1

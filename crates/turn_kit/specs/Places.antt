@@ -37,6 +37,10 @@ module _ {M E : Type 0} where
   abbrev pub IsIdle : Place M (View M E) → Type 0
   IsIdle p = p ≡ idled p
 
+  -- its own entries are those of its number in what it has seen
+  abbrev pub Owns : View M E → Type 0
+  Owns v = by v.who.number v.seen ≡ v.who.mine
+
   -- the table and the seat are the same, whatever it knows
   abbrev pub IsSamePlace : Place M (View M E) → Place M (View M E) → Type 0
   IsSamePlace p q = (q.table_id ≡ p.table_id) × (q.id ≡ p.id)
@@ -95,6 +99,7 @@ module _ {M E S : Type 0} (state : M → S) (next : S → E → Option S) where
     pub count : k ≡ length l
     pub room : length l ≤ m.0.limit
     pub cap : m.0.limit ≤ 4611686018427387904
+    pub own : by m.0.who.number l ≡ m.0.who.mine
 
   -- the turn was free, and is had
   abbrev pub Takes : Sat M E → Sat M E → Type 0
@@ -144,6 +149,7 @@ module _ {M E S : Type 0} (state : M → S) (next : S → E → Option S) where
     -- how many numbers were given
     pub given : ℕ
     pub all : (k : ℕ) → (k < given) ↔ IsAmong k family
+    -- so each number that the closing seat knew of is in its family
     pub more : known ≤ given
     -- each entry is the closing seat's, or one of a seat that was joined into it
     pub only : (i k : ℕ) (e : E) → get_elem? history i ≡ some (k, e) → IsAmong k family

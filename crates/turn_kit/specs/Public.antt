@@ -29,7 +29,7 @@ module _ {M E : Type 0} {g : _} where
   abbrev pub seen : Seat M E g → List (ℕ × E)
   seen s = s.place.me.0.seen
 
-  -- the seat's own entries, in order
+  -- the seat's own entries, in order: those of its number in what it has seen
   abbrev pub mine : Seat M E g → List E
   mine s = s.place.me.0.who.mine
 
@@ -92,7 +92,8 @@ module _ {M E : Type 0} {g : _} where
 
   -- the seat s, which is t then, has split off the seat u
   pub record Splits (s t u : Seat M E g) : Type 0 where
-    -- its number was not given before: it is as great as the number of seats made, and is none that s knew of
+    -- Its number was not given before, as far as s can tell: it is none that s knew of. That two new seats of seats that told each other nothing have
+    -- two numbers is said where they meet: by `Joins.apart`, and at the end by `ClosedWith.apart`.
     pub fresh : (made s ≤ number u) × (number s < number u) × (by (number u) (seen s) ≡ []) × ((i n : ℕ) (es : List E) → get_elem? (joined s) i ≡ some (n, es) → n < number u)
     pub counted : (made t ≡ number u + 1) × (made u ≡ number u + 1)
     pub room : number u < 4096
@@ -102,6 +103,7 @@ module _ {M E : Type 0} {g : _} where
     pub new_joined : joined u ≡ []
     -- s has what it had, but is not alone
     pub apart : (sole t ≡ false) × (sole u ≡ false)
+    pub own : by (number t) (seen t) ≡ mine t
     pub kept : (number t ≡ number s) × (seen t ≡ seen s) × (mine t ≡ mine s) × (joined t ≡ joined s)
 
   -- the turn has made 4,096 seats, and the seat has what it had
@@ -115,6 +117,7 @@ module _ {M E : Type 0} {g : _} where
     pub begins : StartsWith (seen t) (seen s)
     pub heard : StartsWith (seen t) (told n)
     pub counted : made t ≡ max (made s) (told_made n)
+    pub own : by (number t) (seen t) ≡ mine t
     pub kept : (number t ≡ number s) × (mine t ≡ mine s) × (joined t ≡ joined s) × (sole t ≡ sole s)
 
   -- the seat s, which is t then, has taken in the seat u
@@ -126,9 +129,12 @@ module _ {M E : Type 0} {g : _} where
     pub begins : StartsWith (seen t) (seen s)
     pub brought : StartsWith (seen t) (seen u)
     pub counted : made t ≡ max (made s) (made u)
+    pub own : by (number t) (seen t) ≡ mine t
     pub kept : (number t ≡ number s) × (mine t ≡ mine s) × (sole t ≡ sole s)
 
-  -- So many other seats are out. One that is being joined is out until that is counted, which is the join's last step.
+  -- So many other seats are out. One that is being joined is out until that is counted, which is the join's last step. The seat knows of a number that
+  -- is none of its family's, so one that has joined each seat that it knows to have been made is the only one. How many are out is not the seat's to
+  -- know, since others may have split off and joined: the clause leaves any number from 1 to as many as there are numbers beside its family's.
   abbrev pub AreOut : Seat M E g → ℕ → Type 0
   AreOut s out = AreOthers (family s) (made s) out
 
@@ -150,6 +156,8 @@ module _ {M E S : Type 0} {g : _} (state : M → S) (next : S → E → Option S
     pub ends : seen t ≡ before ++ (number s, e) ∷ []
     pub grows : StartsWith (seen t) (seen s)
     pub gains : mine t ≡ mine s ++ e ∷ []
+    -- so its number has the one entry more in the history, and no others than its own
+    pub own : by (number t) (seen t) ≡ mine t
     pub same : IsSame s t
 
   -- the seat s, which is t then, has seen the whole history so far, and has entered nothing
@@ -160,6 +168,7 @@ module _ {M E S : Type 0} {g : _} (state : M → S) (next : S → E → Option S
     pub replays : IsReplay state next start (seen t) machine
     pub answer : answered machine
     pub same_mine : mine t ≡ mine s
+    pub own : by (number t) (seen t) ≡ mine t
     pub same : IsSame s t
 
   -- the same, and the history has as many entries as it may

@@ -8,7 +8,7 @@ use Rattle.turn_kit.specs.declared.view.View.{View}
 use Rattle.turn_kit.specs.declared.view.Who.{Who}
 use Rattle.turn_kit.specs.declared.view.Stage.{Stage}
 use Rattle.turn_kit.specs.declared.view.Stage.TheVariants.{Idle, Holds}
-use Rattle.turn_kit.specs.History.{by, StartsWith, IsReplay}
+use Rattle.turn_kit.specs.History.{by, StartsWith, IsReplay, IsAmong}
 
 module _ {E : Type 0} where
   -- numbers that are still to have a seat, each with no entries
@@ -51,6 +51,16 @@ module _ {E : Type 0} where
   Held turn made holder log j Idle = Unit {0}
   Held turn made holder log j (Holds l n) = (l ≡ log) × (n ≡ made) × (0 < turn) × (holder ≡ j)
 
+module _ {M E : Type 0} where
+  -- whoever answers for the number p knows that k was given
+  abbrev pub Tells : List (View M E) → ℕ → ℕ → Type 0
+  Tells views p k = (j : ℕ) (v : View M E) → get_elem? views j ≡ some v → IsAmong p (family v.who) → k < v.made
+
+  -- whoever answers for a number knows that it was given; and of each but the first, so does whoever answers for a certain lower one: that of the
+  -- seat that it was split off
+  abbrev pub Knowing : List (View M E) → ℕ → Type 0
+  Knowing views made = (k : ℕ) → k < made → Tells views k k × ((k ≡ 0) ⊎ ((p : ℕ) × (p < k) × Tells views p k))
+
 module _ {M E S : Type 0} (state : M → S) (next : S → E → Option S) (start : M) (limit : ℕ) where
   -- what each view knows is so
   pub record Knows (turn made holder : ℕ) (log : List (ℕ × E)) (j : ℕ) (v : View M E) : Type 0 where
@@ -78,6 +88,7 @@ module _ {M E S : Type 0} (state : M → S) (next : S → E → Option S) (start
     pub slot : Slot turn holder log s.homes s.views
     pub each : (j : ℕ) (v : View M E) → get_elem? s.views j ≡ some v → Knows turn made holder log j v
     pub books : Books made out log (map (λ (v : View M E). v.who) s.views)
+    pub known : Knowing s.views made
 
 -- the first seat
 abbrev pub first_who : {E : Type 0} → Who E

@@ -50,9 +50,9 @@ module _ {M E S : Type 0} (state : M → S) (next : S → E → Option S) where
       × (n ≡ 0 → (log : List (ℕ × E)) × (made : ℕ) × (a : M) × (x : M) × (m' ≡ (record m.0 { stage = Holds log made }, (0, x) ∷ [])) × (m.0.start ≡ Some a) × IsReplay state next a log x × StartsWith log m.0.seen)
 
 module _ {M E : Type 0} where
-  -- the holder sees the whole history
+  -- the holder sees the whole history, in which its own entries are those of its number
   abbrev pub counted : At M → Sat M E → ℕ → Sat M E → Type 0
-  counted st m n m' = (l : List (ℕ × E)) (k : ℕ) → m.0.stage ≡ Holds l k → (n ≡ length l) × (length l ≤ m.0.limit) × (m.0.limit ≤ 4611686018427387904) × (m' ≡ (record m.0 { seen = l }, m.1))
+  counted st m n m' = (l : List (ℕ × E)) (k : ℕ) → m.0.stage ≡ Holds l k → (n ≡ length l) × (length l ≤ m.0.limit) × (m.0.limit ≤ 4611686018427387904) × (m' ≡ (record m.0 { seen = l }, m.1)) × (by m.0.who.number l ≡ m.0.who.mine)
 
   -- the entry e is added to the history
   abbrev pub committed : Option E → At M → Sat M E → ℕ → Sat M E → Type 0
@@ -90,9 +90,11 @@ module _ {M E : Type 0} where
   abbrev pub both_of : View M E → View M E → View M E
   both_of v w = record v { seen = longer v.seen w.seen; ours = v.seen; theirs = w.seen; made = max v.made w.made; who = both_who v.who w.who }
 
-  -- both that were joined begin what is seen now, and no number stands twice in the family
+  -- Both that were joined begin what is seen now, and no number stands twice in the family. A seat that had seen all its entries has seen no others
+  -- of its number.
   abbrev pub compared : At M → Sat M E → ℕ → Sat M E → Type 0
   compared st m n m' = (m' ≡ m) × StartsWith m.0.seen m.0.ours × StartsWith m.0.seen m.0.theirs × Apart (family m.0.who)
+      × (m.0.who.seated ≡ true → by m.0.who.number m.0.ours ≡ m.0.who.mine → by m.0.who.number m.0.seen ≡ m.0.who.mine)
 
   -- a joined seat is no longer out
   abbrev pub joined_in : At M → Sat M E → ℕ → Sat M E → Type 0

@@ -1,6 +1,6 @@
 //! What the holder of the turn does before it gives the turn back. The machine lies in its slot throughout.
 ghost use Rattle.std.specs.Prelude.{◌≡◌, ℕ, [], ◌∷◌, IfSome, IfNone};
-ghost use Rattle.turn_kit.specs.Places.{IsAt, IsIdle, IsSamePlace, HasTurn, StepsTo, Answered, Looked, WasSplit, WasFull};
+ghost use Rattle.turn_kit.specs.Places.{IsAt, IsIdle, Owns, IsSamePlace, HasTurn, StepsTo, Answered, Looked, WasSplit, WasFull};
 
 use crate::board::{MACHINE, Place, Top};
 use crate::fault::ChangeFault;
@@ -50,6 +50,7 @@ pub(crate) fn change_held<M: Machine, T: Step<M>>(
     requires limit { limit ≡ place.old.me.0.limit }
     requires turn { HasTurn M.state M.after place.old.me }
     ensures place { IsSamePlace place.old place.new × IsIdle place.new }
+    ensures own { Owns place.new.me.0 }
     ensures answer { Answered M.state M.after ⊥ place.old.me.0 place.new.me.0
         (T.entry step) (T.replies step) (T.refuses step) result }
 {
@@ -80,6 +81,7 @@ pub(crate) fn look_held<M: Machine, T: Look<M>>(
     requires place { IsAt top.now.table_id place.old }
     requires turn { HasTurn M.state M.after place.old.me }
     ensures place { IsSamePlace place.old place.new × IsIdle place.new }
+    ensures own { Owns place.new.me.0 }
     ensures answer { (m : M) × Looked M.state M.after place.old.me.0 place.new.me.0 m × T.answers look m result }
 {
     count(top, place);
@@ -92,7 +94,9 @@ pub(crate) fn look_held<M: Machine, T: Look<M>>(
 pub(crate) fn split_held<M: Machine>(top: &Top<M>, place: &mut Place<M>) -> Option<Place<M>>
     requires place { IsAt top.now.table_id place.old }
     requires turn { HasTurn M.state M.after place.old.me }
+    requires own { Owns place.old.me.0 }
     ensures place { IsSamePlace place.old place.new × IsIdle place.new }
+    ensures own { Owns place.new.me.0 }
     ensures full { IfNone result (WasFull place.old.me.0 place.new.me.0) }
     ensures new { IfSome result (λ p. p.table_id ≡ place.old.table_id) }
     ensures split { IfSome result (λ p. (n : ℕ) × WasSplit n place.old.me.0 place.new.me.0 p.me) }

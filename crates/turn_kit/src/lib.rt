@@ -6,7 +6,9 @@
 //! says which beginning of the history its seat has seen, and that it is the answer of one thread there.
 //!
 //! Calls that begin with `try_` wait for nobody, and answer `Busy` where the turn is held. `change`, `look`
-//! and `split` ask until they have the turn. A [`Note`] tells another seat what one has seen, a seat that has
+//! and `split` ask until they have the turn. Which calls may wait is no clause of theirs but their type: a
+//! function can wait only by a bound `Wait`, its own or that of a step or a look that it is given, and only those
+//! three have one. A [`Note`] tells another seat what one has seen, a seat that has
 //! done its work is joined into another, and `close` gives the machine back with the whole history known.
 #![tactic(auto)]
 

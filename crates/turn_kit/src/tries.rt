@@ -1,4 +1,5 @@
-//! The calls that ask for the turn once and wait for nobody.
+//! The calls that ask for the turn once and wait for nobody. That they don't wait is held by their types: with no
+//! bound `Wait` a body that waits is refused by the compiler.
 ghost use Rattle.std.specs.Prelude.{OnErr, IfOk, IfErr};
 ghost use Rattle.turn_kit.specs.Public.{IsOf, IsLeft, Enters, Looks, Splits, IsFull, Exhausts, Refuses, opening, limit_of};
 ghost use Rattle.turn_kit.specs.Public.{AtBusy, AtExhausted, AtRefused, AtSplitBusy, AtSeatsFull};

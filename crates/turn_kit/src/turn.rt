@@ -29,7 +29,8 @@ pub struct Turn<M: Machine> {
 pub struct SeatsOut<M: Machine> {
     pub turn: Turn<M>,
     pub seat: Seat<M>,
-    /// How many, at least 1.
+    /// How many, at least 1. The turn counts them. One seat can't know who was joined into whom, so `close` promises no
+    /// more of the number than that there are so many numbers beside those that the closing seat answers for.
     pub out: u64,
 }
 
@@ -71,8 +72,9 @@ impl<M: Machine> Turn<M> {
     /// The machine, where no other seat is out. It is what the whole history makes of the opening one, and each
     /// entry of the history is the closing seat's or one of a seat that was joined into it.
     ///
-    /// Refused, with the turn and the seat handed back, where other seats were split off and not joined.
-    /// A seat that was dropped stays out; an unheard note is no bar.
+    /// Refused, with the turn and the seat handed back, where other seats were split off and not joined. So it is `Ok`
+    /// exactly where the seat answers for all numbers that it knows to have been given, and who has joined each seat that
+    /// was made is owed it. A seat that was dropped stays out; an unheard note is no bar.
     pub fn close(self, seat: Seat<M>) -> Result<M, SeatsOut<M>>
         requires { IsOf self seat }
         ensures ok { IfOk result (Closes M.state M.after (opening self) seat) }

@@ -1,13 +1,16 @@
 -- How a world begins.
-use Rattle.std.proofs.Common.{◌≡◌, ◌≢◌, ℕ, zero, suc, ◌+◌, ◌<◌, true, false, ◌==◌, List, [], ◌∷◌, ◌++◌, map, length, slice_get, get_or, slice_index, position, cond, inl, inr, append_assoc, Option, Some, None, refl, sym, ap, subst, ◌∙◌, arith}
+use Rattle.std.proofs.Common.{◌≡◌, ◌≢◌, ℕ, zero, suc, ◌+◌, ◌<◌, min, true, false, ◌==◌, List, [], ◌∷◌, ◌++◌, map, length, slice_get, get_or, slice_index, position, cond, inl, inr, append_assoc, Option, Some, None, refl, sym, ap, subst, ◌∙◌, arith}
 use Rattle.std.proofs.lemmas.Bool.{eq-eqb, cases_lt}
 use Rattle.std.proofs.lemmas.List.{get_or_append_left, length_push}
 use Rattle.std.proofs.lemmas.Iterator.Adapters.{position_from-zero}
 use Rattle.std.specs.List.{position_from}
-use Rattle.std.specs.FinMap.{empty}
+use Rattle.std.specs.FinMap.{empty, get, get-empty}
+use Rattle.std.specs.Ordering.{nat_cmp}
 use Rattle.std.specs.Option.{option_map, option_or}
 use Rattle.attr_kit.specs.Refusing.{first}
 use Rattle.agg_kit.specs.Rounds.{StandsFor}
+use Rattle.gateway_kit.proofs.Entries.{not_None}
+use Rattle.gossip_kit.specs.Gossip.{last_number}
 use Rattle.gossip_kit.specs.Views.{NodeView}
 use Rattle.plan_kit.specs.Plans.{AreApart as AreStreamsApart}
 use Rattle.schedule_kit.specs.Deeds.Holder.{AtGateway}
@@ -16,6 +19,7 @@ use Rattle.world_kit.specs.declared.fault.SetupFault.TheVariants.{SameGateway}
 use Rattle.world_kit.specs.declared.setup.Setup.{Setup}
 use Rattle.world_kit.specs.declared.setup.WriterSetup.{WriterSetup}
 use Rattle.world_kit.specs.Held.{Held}
+use Rattle.world_kit.specs.Judged.{changed_events}
 use Rattle.world_kit.specs.Setups.{no_writer}
 use Rattle.world_kit.specs.Stands.{AreApart, Stands, WriterStands}
 use Rattle.world_kit.specs.States.{state_at}
@@ -101,6 +105,10 @@ nothing_taken : (s : Setup) (g : ℕ) → state_at s [] (AtGateway g) ≡ empty
 unfolding state_at
 nothing_taken s g = refl
 
+no_events : (s : Setup) (g : ℕ) → 0 ≡ min (changed_events s [] g) last_number
+unfolding changed_events
+no_events s g = refl
+
 -- a world in which nothing happened
 pub begins : (s : Setup) (w : Held) → same_gateway s.gateways ≡ None → AreStarted s.writers w.writers → w.nodes ≡ map fresh s.gateways → w.exports ≡ [] → w.mails ≡ [] → Stands s [] w
 begins s w none started nodes exports mails = record {
@@ -115,6 +123,11 @@ begins s w none started nodes exports mails = record {
   };
   exports = record { count = ap length exports; each = λ k e at. absurd (nothing_at w.exports exports k e at) };
   mails = record { count = ap length mails; each = λ k m at. absurd (nothing_at w.mails mails k m at) };
+  gossip = record {
+    change = λ g n e. ap (λ (x : NodeView). x.change) (fresh_at s.gateways g n (sym (ap (λ l. slice_get l g) nodes) ∙ e)) ∙ no_events s g;
+    books = λ g h k n e there acked. absurd (not_None (sym (ap (λ (x : NodeView). get x.acked (slice_index s.gateways h)) (fresh_at s.gateways g n (sym (ap (λ l. slice_get l g) nodes) ∙ e)) ∙ get-empty nat_cmp (slice_index s.gateways h)) ∙ acked));
+    mails = λ k m mail at known. absurd (nothing_at w.mails mails k m at);
+  };
 }
 
 pub fault_none : (s : Setup) → same_gateway s.gateways ≡ None → setup_fault s ≡ None

@@ -7,9 +7,8 @@ use Rattle.std.proofs.lemmas.Option.{slice_get_within}
 use Rattle.agg_kit.specs.Entries.{Entry}
 use Rattle.gossip_kit.specs.Views.{MessageView, NodeView}
 use Rattle.point_kit.specs.declared.export.Export.{Export}
-use Rattle.point_kit.specs.Exports.{join_points}
 use Rattle.schedule_kit.specs.Deeds.{Made, acts_of, made, mails, mail_of}
-use Rattle.schedule_kit.specs.Deeds.Holder.{AtGateway, InMail}
+use Rattle.schedule_kit.specs.Deeds.Holder.{AtGateway}
 use Rattle.schedule_kit.specs.Schedule.{Act}
 use Rattle.schedule_kit.specs.Taken.{made_of}
 use Rattle.world_kit.proofs.Places.{in_set, in_push}
@@ -61,32 +60,32 @@ module _ (s : Setup) (old new : Deeds) where
     each = λ k e i. let r = st.each k e i in (r.0, ap (λ l. made_of l (k + 1)) same ∙ r.1, r.2);
   }
 
-  mail_same : (n : ℕ) (m : MessageView) → mail_of new n ≡ mail_of old n → state_at s new (InMail n) ≡ state_at s old (InMail n) → MailStands s old n m → MailStands s new n m
-  mail_same n m same_mail same_state st = record {
+  mail_same : (n : ℕ) (m : MessageView) → mail_of new n ≡ mail_of old n → MailStands s old n m → MailStands s new n m
+  mail_same n m same_mail st = record {
     mail = st.mail;
     known = same_mail ∙ st.known;
+    from = st.from;
     to = st.to;
     there = st.there;
-    brings = λ p. st.brings p ∙ ap (join_points p) (sym same_state);
   }
 
   -- no mail was made
-  pub mails_same : (ms : List MessageView) → mails new ≡ mails old → ((n : ℕ) → n ≤ mails old → mail_of new n ≡ mail_of old n) → ((n : ℕ) → n ≤ mails old → state_at s new (InMail n) ≡ state_at s old (InMail n)) → MailsStand s old ms → MailsStand s new ms
-  mails_same ms count same_mail same_state st = record {
+  pub mails_same : (ms : List MessageView) → mails new ≡ mails old → ((n : ℕ) → n ≤ mails old → mail_of new n ≡ mail_of old n) → MailsStand s old ms → MailsStand s new ms
+  mails_same ms count same_mail st = record {
     count = st.count ∙ sym count;
     each = λ k m e. let inside : k < length ms = slice_get_within ms k m e in let c = st.count in
-        mail_same (k + 1) m (same_mail (k + 1) (omega arith)) (same_state (k + 1) (omega arith)) (st.each k m e);
+        mail_same (k + 1) m (same_mail (k + 1) (omega arith)) (st.each k m e);
   }
 
   -- one was made
-  pub mails_more : (ms : List MessageView) (m : MessageView) → mails new ≡ mails old + 1 → ((n : ℕ) → n ≤ mails old → mail_of new n ≡ mail_of old n) → ((n : ℕ) → n ≤ mails old → state_at s new (InMail n) ≡ state_at s old (InMail n))
+  pub mails_more : (ms : List MessageView) (m : MessageView) → mails new ≡ mails old + 1 → ((n : ℕ) → n ≤ mails old → mail_of new n ≡ mail_of old n)
       → MailStands s new (mails old + 1) m → MailsStand s old ms → MailsStand s new (ms ++ m ∷ [])
-  mails_more ms m count same_mail same_state its st = record {
+  mails_more ms m count same_mail its st = record {
     count = length_push ms m ∙ ap (λ n. n + 1) st.count ∙ sym count;
     each = λ k x e. elim (in_push ms m k x e) [
       | inl last ↦ subst (λ (n : ℕ). MailStands s new n x) (sym (ap (λ n. n + 1) (last.0 ∙ st.count))) (subst (MailStands s new (mails old + 1)) (sym last.1) its)
       | inr known ↦ let inside : k < length ms = slice_get_within ms k x known in let c = st.count in
-          mail_same (k + 1) x (same_mail (k + 1) (omega arith)) (same_state (k + 1) (omega arith)) (st.each k x known)
+          mail_same (k + 1) x (same_mail (k + 1) (omega arith)) (st.each k x known)
     ];
   }
 

@@ -1,5 +1,6 @@
 pub mod Places
 pub mod Frames
+pub mod Claims
 pub mod StateSteps
 pub mod Replies
 pub mod GatewayEvents
@@ -7,7 +8,5 @@ pub mod WriterEvents
 pub mod Beginnings
 pub mod Firsts
 pub mod Replays
-pub mod Exactness
 pub mod Bridging
-pub mod Added
 pub mod Answered

@@ -1,6 +1,7 @@
 -- What an event comes to, where it is judged.
 use Rattle.std.proofs.Common.{◌≡◌, ℕ, ◌+◌, ◌<◌, ◌≤◌, Bool, true, false, ◌∷◌, length, Result, Ok, Err, refl, sym, ap, subst, ◌∙◌, arith}
 use Rattle.std.proofs.lemmas.Bool.{lt-ltb, le-ltb}
+use Rattle.std.specs.Prelude.{IfErr, OnErr}
 use Rattle.agg_kit.specs.Entries.{Entry}
 use Rattle.schedule_kit.specs.Deeds.{Deed}
 use Rattle.world_kit.specs.declared.event.Event.{Event}
@@ -13,6 +14,7 @@ use Rattle.world_kit.specs.Held.{Held}
 use Rattle.world_kit.specs.Judged.{Deeds, after, cons_deed, counted, gathered, guard, judged, reply_of, reply_to, reply_to_judged, written}
 use Rattle.world_kit.specs.Setups.{gateways_of}
 use Rattle.world_kit.specs.Stands.{Acts, Stands}
+use Rattle.world_kit.specs.Wanting.{TakesMemory, Wants}
 
 -- a refused event leaves the world
 pub refused_acts : (event : Event) (w : Held) (r : Refusal) → ((s : Setup) (ds : Deeds) → Stands s ds w → judged s ds event ≡ Err r) → Acts event w (reply.Refused r) w
@@ -30,6 +32,10 @@ accepted_acts event old new said d is = record {
   reply = λ s ds st. (is s ds st).2 ∙ sym (ap (reply_to_judged s ds) (is s ds st).0);
 }
 
+-- an event that is accepted may want memory
+pub accepted_wants : (event : Event) (w : Held) (d : Deed Entry) → ((s : Setup) (ds : Deeds) → Stands s ds w → judged s ds event ≡ Ok d) → Wants event w
+accepted_wants event w d is = record { accepted = λ s ds st. subst (λ (j : Result (Deed Entry) Refusal). IfErr j (TakesMemory s event)) (sym (is s ds st)) tt }
+
 -- seen from within
 pub seen_as : (event : Event) (old seen : Held) (said : Reply) (new : Held) → seen ≡ old → Acts event seen said new → Acts event old said new
 seen_as event old seen said new same acts = subst (λ (w : Held). Acts event w said new) same acts
@@ -40,6 +46,10 @@ left_as event old seen said same acts = subst (λ (w : Held). Acts event w said 
 -- a world that is as it was
 pub same_as : (event : Event) (old new seen : Held) (said : Reply) → seen ≡ old → new ≡ seen → Acts event seen said seen → Acts event old said new
 same_as event old new seen said same kept acts = subst (λ (w : Held). Acts event w said new) same (subst (Acts event seen said) (sym kept) acts)
+
+pub wants_as : {A E : Type 0} (event : Event) (old seen : Held) (r : Result A E) → seen ≡ old → Wants event seen → OnErr r (Wants event old)
+wants_as event old seen (Ok a) same wants = tt
+wants_as event old seen (Err e) same wants = subst (Wants event) same wants
 
 pub guard_true : (b : Bool) (r : Refusal) (x : Result (Deed Entry) Refusal) → b ≡ true → guard b r x ≡ x
 guard_true b r x e = ap (λ t. guard t r x) e

@@ -5,25 +5,30 @@ use Rattle.std.proofs.lemmas.Bool.{eq-eqb, ne_eqb, lt-ltb, le-ltb, le-leb, lt-le
 use Rattle.std.proofs.lemmas.List.{length-map}
 use Rattle.std.proofs.lemmas.Option.{slice_get_within}
 use Rattle.std.specs.Option.{option_and_then, option_map}
+use Rattle.std.specs.Prelude.{IfErr, find}
 use mathlib.Core.Bool.{true≢false}
 use Rattle.agg_kit.specs.declared.fault.MeasureFault.{MeasureFault as TallyFault}
 use Rattle.agg_kit.specs.Entries.{Entry}
-use Rattle.agg_kit.specs.Refusals.{refused}
+use Rattle.agg_kit.specs.declared.fault.MeasureFault.TheVariants as tally
+use Rattle.agg_kit.specs.Feeds.{AllWhole, first_out, whole_first}
+use Rattle.agg_kit.specs.Refusals.{is_negative_for, overflows, refused, refused_in}
 use Rattle.agg_kit.specs.Rounds.{StandsFor, round}
-use Rattle.agg_kit.specs.Tallies.{Tallied}
-use Rattle.plan_kit.specs.Plans.{Planned}
+use Rattle.agg_kit.specs.Tallies.{Points, Tallied}
+use Rattle.plan_kit.specs.declared.feed.Feed.{Feed}
+use Rattle.plan_kit.specs.Plans.{Planned, feeds_of, kind_of}
 use Rattle.attr_kit.specs.declared.attr_set.AttrSet.{AttrSet}
 use Rattle.attr_kit.specs.Refusing.{first, when}
 use Rattle.point_kit.specs.declared.export.Export.{Export}
 use Rattle.round_kit.specs.Rounds.{points_of}
-use Rattle.schedule_kit.specs.Deeds.{Deed, Made, acts_of, mails}
+use Rattle.schedule_kit.specs.Deeds.{Deed, acts_of}
 use Rattle.schedule_kit.specs.Deeds.Deed.{Wrote}
 use Rattle.schedule_kit.specs.Deeds.Holder.{AtGateway, InMail}
 use Rattle.schedule_kit.proofs.History.{acts_accepted, none_yet}
 use Rattle.schedule_kit.specs.Schedule.{Act, AreAccepted, start_of, last_of, is_open, running}
 use Rattle.schedule_kit.specs.Schedule.Act.{Measured, Collected, Restarted}
+use Rattle.world_kit.proofs.Claims.{answers_wrote, gossip_rests}
 use Rattle.world_kit.proofs.Frames.{writers_set, nodes_same, exports_same, exports_more, mails_same}
-use Rattle.world_kit.proofs.Replies.{refused_acts, accepted_acts, guard_true, written_there, written_none}
+use Rattle.world_kit.proofs.Replies.{refused_acts, accepted_acts, accepted_wants, guard_true, written_there, written_none}
 use Rattle.world_kit.proofs.StateSteps.{state_measured, state_restarted, state_collected}
 use Rattle.world_kit.specs.Copying.{Copies, Refuses}
 use Rattle.world_kit.specs.declared.event.Event.TheVariants as event
@@ -37,13 +42,14 @@ use Rattle.world_kit.specs.Judged.{Deeds, collected_at, fits_at, guard, judged, 
 use Rattle.world_kit.specs.Setups.{no_writer, writer_at, starts_of, gateways_of}
 use Rattle.world_kit.specs.Stands.{Acts, Stands, WriterStands}
 use Rattle.world_kit.specs.Told.{measure_refusal, collect_refusal, restart_refusal, collect_event}
+use Rattle.world_kit.specs.Wanting.{TakesMemory, Wants}
 use Rattle.writer_kit.specs.declared.fault.CollectFault.{CollectFault}
 use Rattle.writer_kit.specs.declared.fault.CollectFault.TheVariants as collect
 use Rattle.writer_kit.specs.declared.fault.MeasureFault.{MeasureFault}
 use Rattle.writer_kit.specs.declared.fault.MeasureFault.TheVariants as measure
 use Rattle.writer_kit.specs.declared.fault.RestartFault.{RestartFault}
 use Rattle.writer_kit.specs.declared.fault.RestartFault.TheVariants as restart
-use Rattle.writer_kit.specs.Refusals.{measure_fault, collect_fault, restart_fault}
+use Rattle.writer_kit.specs.Refusals.{early_fault, measure_fault, collect_fault, restart_fault}
 use Rattle.writer_kit.specs.Written.{Written}
 
 -- a world with other writers
@@ -151,6 +157,22 @@ restart_none now start h = elim (cases_lt now start) [
   | inr above ↦ let some : Some (restart.StartNotAfter now) ≡ None = sym (rw (le-leb start now above) refl) ∙ h in cc some
 ]
 
+-- where neither a missing instrument nor a negative value refuses, an overflow alone does
+out_alone : (b c : Bool) (o : Option Feed) (other : Option TallyFault) (f : TallyFault) → first (when b tally.NoInstrument ∷ when c tally.Negative ∷ other ∷ []) ≡ None
+    → first (when b tally.NoInstrument ∷ when c tally.Negative ∷ option_map (λ g. tally.Overflow g.stream) o ∷ []) ≡ Some f → (m : ℕ) × (f ≡ tally.Overflow m)
+out_alone true c o other f none some = cc
+out_alone false true o other f none some = cc
+out_alone false false None other f none some = cc
+out_alone false false (Some g) other f none some = (g.stream, let same : tally.Overflow g.stream ≡ f = cc some in sym same)
+
+overflow_alone : (p : Planned) (h : List Entry) (ss : List Points) (e : Entry) (fs : List Feed) (f : TallyFault) → refused_in p ss e fs ≡ None → refused p h e ≡ Some f → (m : ℕ) × (f ≡ tally.Overflow m)
+unfolding refused
+overflow_alone p h ss e fs f none some =
+    out_alone (is_none (kind_of p e.instrument)) (is_negative_for (kind_of p e.instrument) e.value) (find (overflows p (h ++ e ∷ []) e.attrs) (feeds_of p e.instrument)) (first_out p e.attrs e.value ss fs) f none some
+
+none_some : {A : Type 0} (o : Option A) (a : A) → o ≡ None → o ≡ Some a → ⊥
+none_some o a none some = cc
+
 module _ (w : Held) (v : ℕ) where
   pub measure_nowhere : (i : ℕ) (a : AttrSet) (val : ℤ) → length w.writers ≤ v → Acts (event.Measure v i a val) w (reply.Refused refusal.NoWriter) w
   measure_nowhere i a val past = refused_acts _ w refusal.NoWriter (λ s ds st. written_none s v _ (let c = st.writers.count in omega arith))
@@ -184,6 +206,34 @@ module _ (w : Held) (v : ℕ) (x : Written) (at_v : slice_get w.writers v ≡ So
       ∙ ap (λ b. guard b refusal.Closed (unless (refusal_at s v h e) (Ok (Wrote v (Measured e))))) (sym closed)
       ∙ ap (λ (p : Planned). guard (not x.closed) refusal.Closed (unless (option_and_then refusal_of (refused p h e)) (Ok (Wrote v (Measured e))))) (sym stands.plan)
       ∙ measure_some x.closed (refused x.tally.plan h e) f r (Ok (Wrote v (Measured e))) (refuses h stands.tally) told)
+
+  -- a recording wants memory where the writer is open, and nothing is refused that is found without memory
+  pub measure_wants : (i : ℕ) (a : AttrSet) (val : ℤ) → early_fault x (record { instrument = i; attrs = a; value = val }) ≡ None
+      → (AllWhole (feeds_of x.tally.plan i) → (h : List Entry) → StandsFor x.tally h → measure_fault x h (record { instrument = i; attrs = a; value = val }) ≡ None)
+      → Wants (event.Measure v i a val) w
+  unfolding early_fault measure_fault
+  measure_wants i a val early whole = record {
+    accepted = λ s ds st.
+        let stands = its s ds st in
+        let short = measure_none x.closed (refused_in x.tally.plan x.tally.series (record { instrument = i; attrs = a; value = val }) (whole_first (feeds_of x.tally.plan i))) early in
+        let h = running (writer_at s v).start (acts_of v ds) in
+        let e : Entry = record { instrument = i; attrs = a; value = val } in
+        let d : Deed Entry = Wrote v (Measured e) in
+        let is : is_open (acts_of v ds) ≡ true = open_or (is_open (acts_of v ds)) (sym stands.closed ∙ short.0) in
+        let c = st.writers.count in
+        let there = here in
+        let comes : judged s ds (event.Measure v i a val) ≡ unless (option_and_then refusal_of (refused x.tally.plan h e)) (Ok d) =
+        written_there s v _ (omega arith) ∙ guard_true _ refusal.Closed _ is ∙ ap (λ (p : Planned). unless (option_and_then refusal_of (refused p h e)) (Ok d)) (sym stands.plan) in
+        let takes : (m : ℕ) → refused x.tally.plan h e ≡ Some (tally.Overflow m) → AllWhole (feeds_of (writer_at s v).plan i) → ⊥ = λ m out all.
+        let none = (measure_none x.closed (refused x.tally.plan h e) (whole (subst (λ (p : Planned). AllWhole (feeds_of p i)) (sym stands.plan) all) h stands.tally)).1 in
+        none_some (refused x.tally.plan h e) (tally.Overflow m) none out in
+        subst (λ (j : Result (Deed Entry) Refusal). IfErr j (TakesMemory s (event.Measure v i a val))) (sym comes)
+        (elim (refused x.tally.plan h e) as (λ o. refused x.tally.plan h e ≡ o → IfErr (unless (option_and_then refusal_of o) (Ok d)) (TakesMemory s (event.Measure v i a val))) [
+          | None ↦ λ _. tt
+          | Some f ↦ λ out. let m = overflow_alone x.tally.plan h x.tally.series e (whole_first (feeds_of x.tally.plan i)) f short.1 out in
+              subst (λ (g : TallyFault). IfErr (unless (option_and_then refusal_of (Some g)) (Ok d)) (TakesMemory s (event.Measure v i a val))) (sym m.1) (takes m.0 (out ∙ ap Some m.1))
+        ] refl);
+  }
 
   -- a writer takes a recording
   pub measures : (y : Written) (i : ℕ) (a : AttrSet) (val : ℤ)
@@ -220,7 +270,8 @@ module _ (w : Held) (v : ℕ) (x : Written) (at_v : slice_get w.writers v ≡ So
           writers = writers_set s ds (Wrote v (Measured e) ∷ ds) w.writers v y (λ j other. acts_other v j (Measured e) ds other) (subst (λ (l : List (Act Entry)). WriterStands (writer_at s v) l y) (sym (acts_more v (Measured e) ds)) stays) st.writers;
           nodes = nodes_same s ds (Wrote v (Measured e) ∷ ds) w.nodes (λ g. state_measured s ds v e (AtGateway g)) st.nodes;
           exports = exports_same s ds (Wrote v (Measured e) ∷ ds) w.exports refl st.exports;
-          mails = mails_same s ds (Wrote v (Measured e) ∷ ds) w.mails refl (λ n b. refl) (λ n b. state_measured s ds v e (InMail n)) st.mails;
+          mails = mails_same s ds (Wrote v (Measured e) ∷ ds) w.mails refl (λ n b. refl) st.mails;
+          gossip = gossip_rests s ds (Wrote v (Measured e)) w.nodes w.mails st.nodes st.mails (λ h. state_measured s ds v e h) (λ n. refl) (λ n. answers_wrote s ds v _ n) st.gossip;
         },
         refl,
       ))
@@ -246,6 +297,23 @@ module _ (w : Held) (v : ℕ) (x : Written) (at_v : slice_get w.writers v ≡ So
       ∙ ap (λ l. guard (not x.closed) refusal.Closed (guard (nat_lt l time) (refusal.TimeNotAfter l) (Ok (Wrote v (Collected time closing))))) (sym stands.last)
       ∙ collect_some x.closed x.last time refuses.fault r (Ok (Wrote v (Collected time closing))) refuses.refused refuses.told)
 
+  collect_is : (time : ℕ) (closing : Bool) → collect_fault x time ≡ None → (s : Setup) (ds : Deeds) → Stands s ds w → judged s ds (collect_event v time closing) ≡ Ok (Wrote v (Collected time closing))
+  unfolding collect_fault
+  collect_is time closing accepted s ds st =
+      let stands = its s ds st in
+      let first_start = (writer_at s v).start in
+      let acts = acts_of v ds in
+      let opened = collect_none x.closed x.last time accepted in
+      let is : is_open acts ≡ true = open_or (is_open acts) (sym stands.closed ∙ opened.0) in
+      let last = stands.last in
+      let above = opened.1 in
+      let c = st.writers.count in
+      let there = here in
+      judged_collect s ds v time closing (omega arith) ∙ guard_true _ refusal.Closed _ is ∙ guard_true _ (refusal.TimeNotAfter (last_of first_start acts)) _ (lt-ltb (last_of first_start acts) time (omega arith))
+
+  pub collect_wants : (time : ℕ) (closing : Bool) → collect_fault x time ≡ None → Wants (collect_event v time closing) w
+  collect_wants time closing accepted = accepted_wants _ w (Wrote v (Collected time closing)) (collect_is time closing accepted)
+
   -- a writer's points are collected
   pub collects : (time : ℕ) (closing : Bool) (y : Written) (e : Export) → Copies x time e → y ≡ record { id = x.id; tally = x.tally; start = x.start; last = time; closed = closing }
       → Acts (collect_event v time closing) w (reply.Made (length w.exports + 1)) (with_export w (set w.writers v y) (w.exports ++ e ∷ []))
@@ -270,7 +338,7 @@ module _ (w : Held) (v : ℕ) (x : Written) (at_v : slice_get w.writers v ≡ So
         last = ap (λ (z : Written). z.last) same ∙ latest time (last_of first_start acts) rises;
         closed = ap (λ (z : Written). z.closed) same ∙ closes closing (is_open acts) is;
       } in (
-        judged_collect s ds v time closing (omega arith) ∙ guard_true _ refusal.Closed _ is ∙ guard_true _ (refusal.TimeNotAfter (last_of first_start acts)) _ (lt-ltb (last_of first_start acts) time rises),
+        collect_is time closing copies.accepted s ds st,
         record {
           apart = st.apart;
           plans = st.plans;
@@ -283,7 +351,8 @@ module _ (w : Held) (v : ℕ) (x : Written) (at_v : slice_get w.writers v ≡ So
             time = copies.taken_at;
             points = copies.points ∙ ap (λ (t : Tallied). points_of t.plan.streams t.series) (tally_is s v x first_start acts starts stands.plan stands.tally);
           }) st.exports;
-          mails = mails_same s ds (Wrote v (Collected time closing) ∷ ds) w.mails refl (λ n b. refl) (λ n b. state_collected s ds (fits_at s) st.lawful v time closing (InMail n)) st.mails;
+          mails = mails_same s ds (Wrote v (Collected time closing) ∷ ds) w.mails refl (λ n b. refl) st.mails;
+          gossip = gossip_rests s ds (Wrote v (Collected time closing)) w.nodes w.mails st.nodes st.mails (λ h. state_collected s ds (fits_at s) st.lawful v time closing h) (λ n. refl) (λ n. answers_wrote s ds v _ n) st.gossip;
         },
         ap (λ n. reply.Made (n + 1)) st.exports.count,
       ))
@@ -313,6 +382,21 @@ module _ (w : Held) (v : ℕ) (x : Written) (at_v : slice_get w.writers v ≡ So
       ∙ ap (λ n. guard (nat_lt n start) (refusal.StartNotAfter n) (Ok (Wrote v (Restarted start)))) (sym stands.start)
       ∙ restart_some x.start start f r (Ok (Wrote v (Restarted start))) refuses told)
 
+  restart_is : (start : ℕ) → restart_fault x start ≡ None → (s : Setup) (ds : Deeds) → Stands s ds w → judged s ds (event.Restart v start) ≡ Ok (Wrote v (Restarted start))
+  unfolding restart_fault
+  restart_is start accepts s ds st =
+      let stands = its s ds st in
+      let first_start = (writer_at s v).start in
+      let acts = acts_of v ds in
+      let now = stands.start in
+      let above : x.start < start = restart_none x.start start accepts in
+      let c = st.writers.count in
+      let there = here in
+      written_there s v _ (omega arith) ∙ guard_true _ (refusal.StartNotAfter (start_of first_start acts)) _ (lt-ltb (start_of first_start acts) start (omega arith))
+
+  pub restart_wants : (start : ℕ) → restart_fault x start ≡ None → Wants (event.Restart v start) w
+  restart_wants start accepts = accepted_wants _ w (Wrote v (Restarted start)) (restart_is start accepts)
+
   -- a writer begins anew
   pub restarts : (start : ℕ) (y : Written) → restart_fault x start ≡ None → StandsFor y.tally [] → y.tally.plan ≡ x.tally.plan → y ≡ record { id = x.id; tally = y.tally; start = start; last = start; closed = false }
       → Acts (event.Restart v start) w reply.Done (with_writers w (set w.writers v y))
@@ -336,7 +420,7 @@ module _ (w : Held) (v : ℕ) (x : Written) (at_v : slice_get w.writers v ≡ So
         last = ap (λ (z : Written). z.last) same;
         closed = ap (λ (z : Written). z.closed) same;
       } in (
-        written_there s v _ (omega arith) ∙ guard_true _ (refusal.StartNotAfter (start_of first_start acts)) _ (lt-ltb (start_of first_start acts) start rises),
+        restart_is start accepts s ds st,
         record {
           apart = st.apart;
           plans = st.plans;
@@ -344,7 +428,8 @@ module _ (w : Held) (v : ℕ) (x : Written) (at_v : slice_get w.writers v ≡ So
           writers = writers_set s ds (Wrote v (Restarted start) ∷ ds) w.writers v y (λ j other. acts_other v j (Restarted start) ds other) (subst (λ (l : List (Act Entry)). WriterStands (writer_at s v) l y) (sym (acts_more v (Restarted start) ds)) stays) st.writers;
           nodes = nodes_same s ds (Wrote v (Restarted start) ∷ ds) w.nodes (λ g. state_restarted s ds v start (AtGateway g)) st.nodes;
           exports = exports_same s ds (Wrote v (Restarted start) ∷ ds) w.exports refl st.exports;
-          mails = mails_same s ds (Wrote v (Restarted start) ∷ ds) w.mails refl (λ n b. refl) (λ n b. state_restarted s ds v start (InMail n)) st.mails;
+          mails = mails_same s ds (Wrote v (Restarted start) ∷ ds) w.mails refl (λ n b. refl) st.mails;
+          gossip = gossip_rests s ds (Wrote v (Restarted start)) w.nodes w.mails st.nodes st.mails (λ h. state_restarted s ds v start h) (λ n. refl) (λ n. answers_wrote s ds v _ n) st.gossip;
         },
         refl,
       ))

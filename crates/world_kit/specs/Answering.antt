@@ -3,6 +3,8 @@ use Rattle.std.specs.Prelude.{◌≡◌, ℕ, ℤ, List, slice_get, Some}
 use Rattle.agg_kit.specs.Entries.{Entry}
 use Rattle.gossip_kit.specs.Views.{NodeView}
 use Rattle.point_kit.specs.declared.key.Key.{Key}
+use Rattle.rollup_kit.specs.Naming.{Name}
+use Rattle.rollup_kit.specs.Writers as writers
 use Rattle.rollup_kit.specs.Rollups.{AddsUp, recorded_rows, rollup_rows}
 use Rattle.rollup_kit.specs.declared.ask.Ask.{Ask}
 use Rattle.rollup_kit.specs.declared.row.Row.{Row}
@@ -12,12 +14,12 @@ use Rattle.schedule_kit.specs.Taken.{recorded_up_to, incarnations}
 use Rattle.world_kit.specs.declared.setup.Setup.{Setup}
 use Rattle.world_kit.specs.Held.{Held}
 use Rattle.world_kit.specs.Judged.{Deeds}
-use Rattle.world_kit.specs.Recording.{Name, rounding, values_from}
-use Rattle.world_kit.specs.Setups.{writer_at, starts_of}
+use Rattle.world_kit.specs.Recording.{rounding}
+use Rattle.world_kit.specs.Setups.{starts_of, writers_of}
 
 -- what entries of the writer at a place feed: each value under its name
 abbrev pub entries_fed : Setup → ℕ → List Entry → List (Name × ℤ)
-entries_fed s w h = values_from (writer_at s w).plan h 0 (writer_at s w).plan.streams
+entries_fed s = writers.entries_fed (writers_of s)
 
 -- of every incarnation, what it recorded up to its newest collection that gateway g took: each value under the key that it feeds
 abbrev pub values_recorded : Setup → Deeds → ℕ → List (Key × ℤ)

@@ -1,5 +1,5 @@
 -- What holds of gateways that took the same exports, and why a schedule is not done to its end.
-use Rattle.std.specs.Prelude.{◌≡◌, ℕ, ◌≤◌, List, length, slice_get, Some}
+use Rattle.std.specs.Prelude.{◌≡◌, ℕ, ◌<◌, List, length, slice_get, None, Some}
 use Rattle.gossip_kit.specs.Views.{NodeView}
 use Rattle.rollup_kit.specs.Rollups.{rollup_rows}
 use Rattle.rollup_kit.specs.declared.ask.Ask.{Ask}
@@ -23,7 +23,7 @@ abbrev pub AnswersAlike : Deeds → Held → Type 0
 AnswersAlike ds w = (g h : ℕ) (m n : NodeView) → slice_get w.nodes g ≡ Some m → slice_get w.nodes h ≡ Some n → TookSame ds (AtGateway g) (AtGateway h)
     → (ask : Ask) → rollup_rows ask m.gateway.points ≡ rollup_rows ask n.gateway.points
 
--- why a schedule is not done to its end: its setup, or want of memory after so many events
+-- why a schedule is not done to its end: its setup, or want of memory after so many events, of which there are some only under a setup without a fault, and not all
 abbrev pub IsReplayFault : Setup → List Event → ReplayFault → Type 0
 IsReplayFault s E (replay.SameGateway first second) = setup_fault s ≡ Some (setup.SameGateway first second)
-IsReplayFault s E (replay.NoMemory done) = done ≤ length E
+IsReplayFault s E (replay.NoMemory done) = 0 < done → (done < length E) × (setup_fault s ≡ None)

@@ -3,19 +3,20 @@ use Rattle.std.specs.Prelude.{◌≡◌, ℕ, ◌<◌, length, slice_get, Some}
 use Rattle.std.specs.FinMap.{get}
 use Rattle.gossip_kit.specs.Views.{NodeView}
 use Rattle.point_kit.specs.declared.key.Key.{Key}
-use Rattle.schedule_kit.specs.Deeds.{IsTold}
+use Rattle.rollup_kit.specs.Naming.{Name, key_at}
+use Rattle.rollup_kit.specs.Writers as writers
 use Rattle.schedule_kit.specs.Deeds.Holder.{AtGateway}
 use Rattle.schedule_kit.specs.Rounds.{HasNoConflict, part_at}
 use Rattle.schedule_kit.specs.Taken.{taken, newest}
 use Rattle.world_kit.specs.declared.setup.Setup.{Setup}
 use Rattle.world_kit.specs.Held.{Held}
 use Rattle.world_kit.specs.Judged.{Deeds}
-use Rattle.world_kit.specs.Recording.{Name, key_at, rounding}
-use Rattle.world_kit.specs.Setups.{writer_at, starts_of}
+use Rattle.world_kit.specs.Recording.{rounding}
+use Rattle.world_kit.specs.Setups.{writer_at, starts_of, writers_of}
 
 -- no two writers of a setup share an identity
 abbrev pub AreTold : Setup → Type 0
-AreTold s = IsTold (λ v. (writer_at s v).id) (starts_of s)
+AreTold s = writers.AreTold (writers_of s)
 
 -- no conflict stands at a gateway
 abbrev pub HoldsNoConflict : Held → Type 0

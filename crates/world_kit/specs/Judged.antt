@@ -1,10 +1,11 @@
 -- Which events are accepted, and what is replied.
-use Rattle.std.specs.Prelude.{ℕ, ◌+◌, Bool, true, false, ◌&&◌, if◌then◌else◌, nat_lt, List, [], ◌∷◌, length, fold, is_none, Option, None, Some, Result, Ok, Err}
+use Rattle.std.specs.Prelude.{ℕ, ◌+◌, Bool, true, false, ◌&&◌, ◌==◌, if◌then◌else◌, nat_lt, List, [], ◌∷◌, length, fold, is_none, Option, None, Some, Result, Ok, Err}
 use Rattle.std.specs.Option.{option_and_then}
 use Rattle.agg_kit.specs.declared.fault.MeasureFault.{MeasureFault}
 use Rattle.agg_kit.specs.declared.fault.MeasureFault.TheVariants as faults
 use Rattle.agg_kit.specs.Entries.{Entry}
 use Rattle.agg_kit.specs.Refusals.{refused}
+use Rattle.gossip_kit.specs.Gossip.{last_number}
 use Rattle.point_kit.specs.Exports.{changed_points}
 use Rattle.schedule_kit.specs.Deeds.{Deed, acts_of, made, mails, mail_of, is_to}
 use Rattle.schedule_kit.specs.Deeds.Deed.{Wrote, Delivered, Merged, Sent, Handed}
@@ -66,6 +67,21 @@ abbrev pub collected_at : ℕ → ℕ → List (Act Entry) → ℕ → Bool → 
 collected_at w first acts time closing =
     guard (is_open acts) Closed (guard (nat_lt (last_of first acts) time) (TimeNotAfter (last_of first acts)) (Ok (Wrote w (Collected time closing))))
 
+-- at how many keys the state of gateway g is another after a deed
+abbrev pub changes_at : Setup → Deeds → Deed Entry → ℕ → ℕ
+changes_at s ds d g = changed_points (state_at s ds (AtGateway g)) (state_at s (d ∷ ds) (AtGateway g))
+
+-- how many events changed the state of gateway g
+unfoldable pub changed_events : Setup → Deeds → ℕ → ℕ
+changed_events s [] g = 0
+changed_events s (d ∷ ds) g = if nat_lt 0 (changes_at s ds d g) then changed_events s ds g + 1 else changed_events s ds g
+
+-- whether the Hand of mail n makes a mail: a Send made mail n, and by then fewer events had changed its sender's state than gateways number
+unfoldable pub answers : Setup → Deeds → ℕ → Bool
+answers s [] n = false
+answers s (Sent from to ∷ ds) n = if n == mails ds + 1 then nat_lt (changed_events s ds from) last_number else answers s ds n
+answers s (_ ∷ ds) n = answers s ds n
+
 -- the deed that an event comes to after what happened, or why it is refused
 abbrev pub judged : Setup → Deeds → Event → Result (Deed Entry) Refusal
 judged s ds (event.Measure w i a v) =
@@ -80,7 +96,7 @@ judged s ds (event.Restart w start) =
 judged s ds (event.Deliver x g) = gathered s g (guard (counted x (length (made (starts_of s) ds))) NoExport (Ok (Delivered x g)))
 judged s ds (event.Merge into from) = gathered s into (gathered s from (Ok (Merged into from)))
 judged s ds (event.Send from to) = gathered s from (gathered s to (Ok (Sent from to)))
-judged s ds (event.Hand m g) = gathered s g (guard (counted m (mails ds)) NoMail (guard (is_to g (mail_of ds m)) NotAddressed (Ok (Handed m g false))))
+judged s ds (event.Hand m g) = gathered s g (guard (counted m (mails ds)) NoMail (guard (is_to g (mail_of ds m)) NotAddressed (Ok (Handed m g (answers s ds m)))))
 
 abbrev pub cons_deed : Result (Deed Entry) Refusal → Deeds → Deeds
 cons_deed (Ok d) ds = d ∷ ds
@@ -93,10 +109,6 @@ after s ds e = cons_deed (judged s ds e) ds
 -- what happened by a list of events, which is in order
 abbrev pub deeds : Setup → List Event → Deeds
 deeds s E = fold (after s) [] E
-
--- at how many keys the state of gateway g is another after a deed
-abbrev pub changes_at : Setup → Deeds → Deed Entry → ℕ → ℕ
-changes_at s ds d g = changed_points (state_at s ds (AtGateway g)) (state_at s (d ∷ ds) (AtGateway g))
 
 -- the reply to an accepted event
 abbrev pub reply_of : Setup → Deeds → Deed Entry → Reply

@@ -1,5 +1,6 @@
 pub mod Answering
 pub mod Building
+pub mod Claims
 pub mod Converging
 pub mod Copying
 pub mod Exact
@@ -13,3 +14,4 @@ pub mod Stands
 pub mod States
 pub mod Texts
 pub mod Told
+pub mod Wanting

@@ -4,15 +4,15 @@ use Rattle.agg_kit.specs.Entries.{Entry}
 use Rattle.agg_kit.specs.Rounds.{StandsFor}
 use Rattle.gossip_kit.specs.Views.{MessageView, NodeView}
 use Rattle.point_kit.specs.declared.export.Export.{Export}
-use Rattle.point_kit.specs.Exports.{Points, join_points}
 use Rattle.schedule_kit.specs.Deeds.{Made, Mail, acts_of, made, mails, mail_of, AreLawful}
-use Rattle.schedule_kit.specs.Deeds.Holder.{AtGateway, InMail}
+use Rattle.schedule_kit.specs.Deeds.Holder.{AtGateway}
 use Rattle.schedule_kit.specs.Schedule.{Act, start_of, last_of, is_open, running}
 use Rattle.schedule_kit.specs.Taken.{made_of}
 use Rattle.world_kit.specs.declared.event.Event.{Event}
 use Rattle.world_kit.specs.declared.event.Reply.{Reply}
 use Rattle.world_kit.specs.declared.setup.Setup.{Setup}
 use Rattle.world_kit.specs.declared.setup.WriterSetup.{WriterSetup}
+use Rattle.world_kit.specs.Claims.{GossipStands}
 use Rattle.world_kit.specs.Held.{Held}
 use Rattle.world_kit.specs.Judged.{Deeds, after, fits_at, reply_to}
 use Rattle.world_kit.specs.Setups.{ArePlans, writer_at, starts_of, gateways_of}
@@ -44,13 +44,13 @@ pub record ExportsStand (s : Setup) (ds : Deeds) (es : List Export) : Type 0 whe
   pub count : length es ≡ length (made (starts_of s) ds)
   pub each : (k : ℕ) (e : Export) → slice_get es k ≡ Some e → (m : Made Entry) × (made_of (made (starts_of s) ds) (k + 1) ≡ Some m) × IsExportOf s m e
 
--- a mail goes to the gateway to which it was sent, and joined into anything it brings what its sender had when it was sent
+-- a mail goes from the gateway that sent it to the one to which it was sent
 pub record MailStands (s : Setup) (ds : Deeds) (n : ℕ) (m : MessageView) : Type 0 where
   pub mail : Mail
   pub known : mail_of ds n ≡ Some mail
+  pub from : m.from ≡ slice_index s.gateways mail.from
   pub to : m.to ≡ slice_index s.gateways mail.to
   pub there : mail.to < gateways_of s
-  pub brings : (p : Points) → join_points p m.points ≡ join_points p (state_at s ds (InMail n))
 
 -- each mail, by its number
 pub record MailsStand (s : Setup) (ds : Deeds) (ms : List MessageView) : Type 0 where
@@ -70,6 +70,7 @@ pub record Stands (s : Setup) (ds : Deeds) (w : Held) : Type 0 where
   pub nodes : NodesStand s ds w.nodes
   pub exports : ExportsStand s ds w.exports
   pub mails : MailsStand s ds w.mails
+  pub gossip : GossipStands s ds w.nodes w.mails
 
 -- an event leads a world that stands for deeds to one that stands for them and the event, with the reply of the definition
 pub record Acts (event : Event) (old : Held) (said : Reply) (new : Held) : Type 0 where

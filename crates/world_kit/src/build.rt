@@ -73,7 +73,7 @@ fn open(alloc: Global, ids: &[u32]) -> Result<Vec<Node>, NoMemory>
 {
     let mut nodes = Vec::new(alloc);
     for id in ids {
-        nodes.push(Node::new(Gateway::new(alloc, *id)))?;
+        nodes.push(Node::new(alloc, Gateway::new(alloc, *id)))?;
     }
     Ok(nodes)
 }

@@ -1,17 +1,20 @@
 //! What gateways do.
-ghost use Rattle.std.specs.Prelude.{◌≡◌, ◌≢◌, ◌<◌, length, OnErr, IfOk};
+ghost use Rattle.std.specs.Prelude.{◌≡◌, ◌≢◌, ◌<◌, ◌++◌, ◌∷◌, [], length, vec_len, vec_capacity, OnErr, IfOk};
 ghost use Rattle.world_kit.specs.declared.event.Event.TheVariants as event;
 ghost use Rattle.world_kit.specs.Merging.{Merges};
 ghost use Rattle.world_kit.specs.Stands.{Acts};
+ghost use Rattle.world_kit.specs.Wanting.{OnRefused, Wants};
 
 use crate::{Refusal, Reply, World};
 use attr_kit::NoMemory;
-use gossip_kit::{HandFault, Node};
+use gossip_kit::{HandFault, Message, Node};
 
 impl World {
     // An export comes to a gateway.
     pub(crate) fn deliver(&mut self, export: u64, gateway: usize) -> Result<Reply, NoMemory>
         ensures ok { IfOk result (λ reply. Acts (event.Deliver export gateway) self.old reply self.new) }
+        ensures refused { IfOk result (λ reply. OnRefused reply (self.new ≡ self.old)) }
+        ensures no_memory { OnErr result (Wants (event.Deliver export gateway) self.old) }
         ensures unchanged { OnErr result (self.new ≡ self.old) }
     {
         if gateway >= self.nodes.len() {
@@ -31,6 +34,8 @@ impl World {
     // A gateway joins what another one holds.
     pub(crate) fn merge(&mut self, into: usize, from: usize) -> Result<Reply, NoMemory>
         ensures ok { IfOk result (λ reply. Acts (event.Merge into from) self.old reply self.new) }
+        ensures refused { IfOk result (λ reply. OnRefused reply (self.new ≡ self.old)) }
+        ensures no_memory { OnErr result (Wants (event.Merge into from) self.old) }
         ensures unchanged { OnErr result (self.new ≡ self.old) }
     {
         if into >= self.nodes.len() {
@@ -49,6 +54,8 @@ impl World {
     // A gateway makes a mail to another.
     pub(crate) fn send(&mut self, from: usize, to: usize) -> Result<Reply, NoMemory>
         ensures ok { IfOk result (λ reply. Acts (event.Send from to) self.old reply self.new) }
+        ensures refused { IfOk result (λ reply. OnRefused reply (self.new ≡ self.old)) }
+        ensures no_memory { OnErr result (Wants (event.Send from to) self.old) }
         ensures unchanged { OnErr result (self.new ≡ self.old) }
     {
         if from >= self.nodes.len() {
@@ -63,9 +70,11 @@ impl World {
         Ok(Reply::Sent(self.mails.len() as u64))
     }
 
-    // A mail comes to a gateway. No mail asks for an answer.
+    // A mail comes to a gateway, whose answer is the next mail. Room for it comes first.
     pub(crate) fn hand(&mut self, mail: u64, gateway: usize) -> Result<Reply, NoMemory>
         ensures ok { IfOk result (λ reply. Acts (event.Hand mail gateway) self.old reply self.new) }
+        ensures refused { IfOk result (λ reply. OnRefused reply (self.new ≡ self.old)) }
+        ensures no_memory { OnErr result (Wants (event.Hand mail gateway) self.old) }
         ensures unchanged { OnErr result (self.new ≡ self.old) }
     {
         if gateway >= self.nodes.len() {
@@ -77,14 +86,30 @@ impl World {
         if mail > self.mails.len() as u64 {
             return Ok(Reply::Refused(Refusal::NoMail));
         }
+        let sent = &self.mails[(mail - 1) as usize];
+        if sent.to() != self.nodes[gateway].gateway().id() {
+            return Ok(Reply::Refused(Refusal::NotAddressed));
+        }
+        self.mails.reserve(1)?;
         let message = &self.mails[(mail - 1) as usize];
         match self.nodes[gateway].hand(message) {
-            Ok(_) => {}
-            Err(HandFault::NotAddressed) => return Ok(Reply::Refused(Refusal::NotAddressed)),
-            Err(HandFault::NoMemory) => return Err(NoMemory),
+            Ok(Some(answer)) => {
+                keep(&mut self.mails, answer);
+                Ok(Reply::Handed(Some(self.mails.len() as u64)))
+            }
+            Ok(None) => Ok(Reply::Handed(None)),
+            Err(HandFault::NotAddressed) => Ok(Reply::Refused(Refusal::NotAddressed)),
+            Err(HandFault::NoMemory) => Err(NoMemory),
         }
-        Ok(Reply::Handed(None))
     }
+}
+
+// Puts a mail at the end of a list that has room for it.
+fn keep(mails: &mut Vec<Message>, mail: Message)
+    requires { vec_len mails.old < vec_capacity mails.old }
+    ensures { mails.new.items ≡ mails.old.items ++ mail ∷ [] }
+{
+    let _ = mails.push(mail);
 }
 
 // One of two nodes joins what the other holds.

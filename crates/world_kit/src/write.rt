@@ -4,6 +4,8 @@ ghost use Rattle.world_kit.specs.declared.event.Event.TheVariants as event;
 ghost use Rattle.world_kit.specs.Copying.{IsCopy};
 ghost use Rattle.world_kit.specs.Stands.{Acts};
 ghost use Rattle.world_kit.specs.Told.{measure_refusal, restart_refusal, collect_event};
+ghost use Rattle.world_kit.specs.Wanting.{OnRefused, Wants};
+ghost use Rattle.writer_kit.specs.Refusals.{collect_fault};
 
 use crate::{Refusal, Reply, World};
 use agg_kit::MeasureFault as TallyFault;
@@ -23,6 +25,8 @@ impl World {
         value: i64,
     ) -> Result<Reply, NoMemory>
         ensures ok { IfOk result (λ reply. Acts (event.Measure writer instrument attrs.now value) self.old reply self.new) }
+        ensures refused { IfOk result (λ reply. OnRefused reply (self.new ≡ self.old)) }
+        ensures no_memory { OnErr result (Wants (event.Measure writer instrument attrs.now value) self.old) }
         ensures unchanged { OnErr result (self.new ≡ self.old) }
     {
         if writer >= self.writers.len() {
@@ -42,6 +46,8 @@ impl World {
         closing: bool,
     ) -> Result<Reply, NoMemory>
         ensures ok { IfOk result (λ reply. Acts (collect_event writer time closing) self.old reply self.new) }
+        ensures refused { IfOk result (λ reply. OnRefused reply (self.new ≡ self.old)) }
+        ensures no_memory { OnErr result (Wants (collect_event writer time closing) self.old) }
         ensures unchanged { OnErr result (self.new ≡ self.old) }
     {
         if writer >= self.writers.len() {
@@ -59,6 +65,8 @@ impl World {
     // A writer begins anew.
     pub(crate) fn restart(&mut self, writer: usize, start: u64) -> Result<Reply, NoMemory>
         ensures ok { IfOk result (λ reply. Acts (event.Restart writer start) self.old reply self.new) }
+        ensures refused { IfOk result (λ reply. OnRefused reply (self.new ≡ self.old)) }
+        ensures no_memory { OnErr result (Wants (event.Restart writer start) self.old) }
         ensures unchanged { OnErr result (self.new ≡ self.old) }
     {
         if writer >= self.writers.len() {
@@ -99,6 +107,7 @@ fn told_restart(fault: RestartFault) -> Result<Refusal, NoMemory>
 // An export of what a writer holds at a time, or its refusal. The round lies in an arena that is given up here.
 fn copied(alloc: Global, writer: &Writer, time: u64) -> Result<Result<Export, Refusal>, NoMemory>
     ensures ok { IfOk result (λ copy. IsCopy writer.now time copy) }
+    ensures no_memory { OnErr result (collect_fault writer.now time ≡ None) }
 {
     let arena = Bump::new(alloc);
     match writer.look_round(&arena, time) {

@@ -5,9 +5,11 @@ use Rattle.std.specs.Option.{option_map}
 use Rattle.std.proofs.lemmas.Bool.{le-leb, lt-leb, leb-false}
 use Rattle.attr_kit.specs.Refusing.{first, when}
 use Rattle.agg_kit.specs.Entries.{Entry}
-use Rattle.agg_kit.specs.Refusals.{refused, refused_by}
+use Rattle.agg_kit.specs.Feeds.{whole_first}
+use Rattle.agg_kit.specs.Refusals.{refused, refused_by, refused_in}
 use Rattle.agg_kit.specs.declared.fault.MeasureFault.{MeasureFault}
-use Rattle.writer_kit.specs.Refusals.{measure_fault, fault_now, collect_fault, restart_fault}
+use Rattle.plan_kit.specs.Plans.{feeds_of}
+use Rattle.writer_kit.specs.Refusals.{measure_fault, fault_now, early_fault, collect_fault, restart_fault}
 use Rattle.writer_kit.specs.Written.{Written}
 use Rattle.writer_kit.specs.declared.fault.CollectFault.TheVariants as collect
 use Rattle.writer_kit.specs.declared.fault.MeasureFault as measures
@@ -44,6 +46,19 @@ pub all_told : {R : Type 0} (w : Written) (e : Entry) (r : Result R measures.Mea
     → IfErr r (λ g. g ≢ measure.Refused tallies.NoMemory → fault_now w e ≡ Some g)
 all_told w e r f is open_ told =
     subst (λ x. IfErr x (λ g. g ≢ measure.Refused tallies.NoMemory → fault_now w e ≡ Some g)) (sym is) (λ other. now_refused w e f open_ (told (λ same. other (ap measure.Refused same))))
+
+-- want of memory, which comes only where nothing is refused before memory is wanted
+pub early_accepted : (w : Written) (e : Entry) → w.closed ≡ false → refused_in w.tally.plan w.tally.series e (whole_first (feeds_of w.tally.plan e.instrument)) ≡ None → early_fault w e ≡ None
+unfolding early_fault
+early_accepted w e c r = rw (c, r) refl
+
+pub all_short : {R : Type 0} (w : Written) (e : Entry) (r : Result R measures.MeasureFault) (f : MeasureFault) → r ≡ Err (measure.Refused f) → w.closed ≡ false
+    → (f ≡ tallies.NoMemory → refused_in w.tally.plan w.tally.series e (whole_first (feeds_of w.tally.plan e.instrument)) ≡ None) → IfErr r (λ g. g ≡ measure.Refused tallies.NoMemory → early_fault w e ≡ None)
+all_short w e r f is open_ short =
+    subst (λ x. IfErr x (λ g. g ≡ measure.Refused tallies.NoMemory → early_fault w e ≡ None)) (sym is) (λ same. early_accepted w e open_ (short (inner same)))
+  where
+    inner : measure.Refused f ≡ measure.Refused tallies.NoMemory → f ≡ tallies.NoMemory
+    inner same = cc
 
 pub none_told : {R F : Type 0} (r : Result R F) (x : R) (P : F → Type 0) → r ≡ Ok x → IfErr r P
 none_told r x P is = subst (λ y. IfErr y P) (sym is) tt

@@ -1,8 +1,10 @@
 -- What a shared writer's history makes of the first writer.
-use Rattle.std.proofs.Common.{◌≡◌, ◌∙◌, ℕ, false, cond, List, [], ◌∷◌, ◌++◌, length, Option, Some, None, Result, Ok, Err, IfOk, refl, sym, ap, subst, append_assoc, append-nil}
+use Rattle.std.proofs.Common.{◌≡◌, ◌≢◌, ◌∙◌, ℕ, false, cond, List, [], ◌∷◌, ◌++◌, length, Option, Some, None, Result, Ok, Err, IfOk, IfErr, refl, sym, ap, subst, append_assoc, append-nil}
 use Rattle.std.specs.Prelude.{ℤ, is_none}
 use Rattle.agg_kit.specs.Entries.{Entry, entry_of}
+use Rattle.agg_kit.specs.Feeds.{AllHeld}
 use Rattle.agg_kit.specs.Rounds.{StandsFor, round}
+use Rattle.agg_kit.specs.declared.fault.MeasureFault.TheVariants as tallies
 use Rattle.agg_kit.proofs.Refusals.{refused-is}
 use Rattle.agg_kit.proofs.Rounds.{stands-push}
 use Rattle.attr_kit.specs.declared.attr_set.AttrSet.{AttrSet}
@@ -16,12 +18,16 @@ use Rattle.schedule_kit.specs.Schedule.{Act, collected, collections}
 use Rattle.writer_kit.specs.Following.{Follows, round_of}
 use Rattle.writer_kit.specs.PlanFeeds.{AllFeeds}
 use Rattle.writer_kit.specs.Recording.{recorded}
-use Rattle.writer_kit.specs.Refusals.{fault_now, collect_fault}
+use Rattle.writer_kit.specs.Refusals.{fault_now, early_fault, collect_fault}
 use Rattle.writer_kit.specs.Written.{Written}
+use Rattle.writer_kit.specs.declared.fault.CollectFault as collects
+use Rattle.writer_kit.specs.declared.fault.CollectFault.TheVariants as collect
+use Rattle.writer_kit.specs.declared.fault.MeasureFault as measures
+use Rattle.writer_kit.specs.declared.fault.MeasureFault.TheVariants as measure
 use Rattle.writer_kit.specs.declared.shared.writer.SharedWriter.{SharedWriter}
 use Rattle.writer_kit.specs.declared.shared.change.WriterChange.{WriterChange}
 use Rattle.writer_kit.specs.declared.shared.change.WriterChange.TheVariants.{Measured, Collected}
-use Rattle.writer_kit.specs.Shared.{History, told, also_measured, entries_of, act_of, acts_after, Serves, first_of, IsRound, Accepts, Adds, HasAllMeasured, IsNewest, LooksAt, Sees}
+use Rattle.writer_kit.specs.Shared.{History, told, also_measured, entries_of, act_of, acts_after, Serves, MayRefuse, MayRefuseRound, first_of, IsRound, Accepts, Adds, HasAllMeasured, IsNewest, LooksAt, Sees}
 use Rattle.writer_kit.proofs.Following as following
 use Rattle.writer_kit.proofs.Refusals.{now_open, collect_open, collect_later}
 
@@ -53,6 +59,7 @@ chosen None next v is = (refl, sym (some_is next v is))
 chosen (Some f) next v is = absurd (none_is v is)
 
 record Steps (w : Written) (c : WriterChange) (v : Written) : Type 0 where
+  same_id : v.id ≡ w.id
   same_plan : v.tally.plan ≡ w.tally.plan
   same_start : v.start ≡ w.start
   stands : (es : List Entry) → StandsFor w.tally es → StandsFor v.tally (es ++ also_measured c [])
@@ -67,6 +74,7 @@ one w v (Measured i a x) feeds is =
     let standing : (es : List Entry) → StandsFor w.tally es → StandsFor v.tally (es ++ e ∷ []) = λ es s. subst (λ (u : Written). StandsFor u.tally (es ++ e ∷ [])) (sym d.1) (stands-push w.tally es e fed s) in
     let plan : v.tally.plan ≡ w.tally.plan = ap (λ (u : Written). u.tally.plan) d.1 in
     record {
+      same_id = ap (λ (u : Written). u.id) d.1;
       same_plan = plan;
       same_start = ap (λ (u : Written). u.start) d.1;
       stands = standing;
@@ -77,12 +85,24 @@ one w v (Collected time) feeds is =
     let d = chosen (collect_fault w time) (record w { last = time }) v is in
     let still = collect_open w time d.0 in
     record {
+      same_id = ap (λ (u : Written). u.id) d.1;
       same_plan = ap (λ (u : Written). u.tally.plan) d.1;
       same_start = ap (λ (u : Written). u.start) d.1;
       stands = λ es s. subst (λ (u : Written). StandsFor u.tally (es ++ [])) (sym d.1) (subst (StandsFor w.tally) (sym (append-nil es)) s);
       follows = λ start earlier f.
           following.marked start earlier time false w v still (collect_later w time d.0) (d.1 ∙ (λ i. record w { last = time; closed = still i })) f;
     }
+
+pub may_refuse : {R : Type 0} (w : Written) (e : Entry) (r : Result R measures.MeasureFault) → IfErr r (λ f. f ≢ measure.Refused tallies.NoMemory → fault_now w e ≡ Some f)
+    → IfErr r (λ f. f ≡ measure.Refused tallies.NoMemory → early_fault w e ≡ None)
+    → (AllHeld w.tally.plan (feeds_of w.tally.plan e.instrument) e.attrs w.tally.series → IfErr r (λ f. f ≢ measure.Refused tallies.NoMemory)) → IfErr r (λ f. MayRefuse w e f)
+may_refuse w e (Ok x) told short held = tt
+may_refuse w e (Err f) told short held = record { told = told; short = short; held = held }
+
+pub may_refuse_round : {R : Type 0} (w : Written) (time : ℕ) (r : Result R collects.CollectFault) → IfErr r (λ f. f ≢ collect.NoMemory → collect_fault w time ≡ Some f)
+    → IfErr r (λ f. f ≡ collect.NoMemory → collect_fault w time ≡ None) → IfErr r (λ f. MayRefuseRound w time f)
+may_refuse_round w time (Ok x) told no_memory = tt
+may_refuse_round w time (Err f) told no_memory = record { told = told; no_memory = no_memory }
 
 -- ---- a whole history
 
@@ -96,6 +116,7 @@ split_off (Collected time) es rest = ap (λ (l : List Entry). l ++ rest) (append
 
 then_serves : (first next w : Written) (x : ℕ × WriterChange) (xs : History) → Steps first x.1 next → Serves next xs w → Serves first (x ∷ xs) w
 then_serves first next w x xs s r = record {
+  same_id = r.same_id ∙ s.same_id;
   same_plan = r.same_plan ∙ s.same_plan;
   same_start = r.same_start ∙ s.same_start;
   stands = λ es h. subst (StandsFor w.tally) (split_off x.1 es (entries_of xs)) (r.stands (es ++ also_measured x.1 []) (s.stands es h));
@@ -104,6 +125,7 @@ then_serves first next w x xs s r = record {
 
 pub serves : (first : Written) (h : History) (w : Written) → AllFeeds first.tally.plan → IsReplay (λ v. v) told first h w → Serves first h w
 serves first [] w feeds is = subst (Serves first []) (some_is first w is) (record {
+  same_id = refl;
   same_plan = refl;
   same_start = refl;
   stands = λ es h. subst (StandsFor first.tally) (sym (append-nil es)) h;

@@ -1,7 +1,9 @@
 -- The history of a shared writer, and what it makes of the writer.
 use Rattle.std.specs.Prelude.{◌≡◌, ◌≢◌, ℕ, false, cond, is_none, List, [], ◌∷◌, ◌++◌, Option, Some, None}
 use Rattle.agg_kit.specs.Entries.{Entry, entry_of}
+use Rattle.agg_kit.specs.Feeds.{AllHeld}
 use Rattle.agg_kit.specs.Rounds.{StandsFor}
+use Rattle.plan_kit.specs.Plans.{feeds_of}
 use Rattle.round_kit.specs.Rounds.{points_of}
 use Rattle.round_kit.specs.Rounds as rounds
 use Rattle.turn_kit.specs.declared.note.Note.{Note}
@@ -10,7 +12,7 @@ use Rattle.turn_kit.specs.Public.{IsOf, IsNoteOf, Enters, Looks, Exhausts, Refus
 use Rattle.schedule_kit.specs.Schedule.{Act, Collection, collections}
 use Rattle.writer_kit.specs.Following.{Follows, round_of}
 use Rattle.writer_kit.specs.Recording.{recorded}
-use Rattle.writer_kit.specs.Refusals.{fault_now, collect_fault}
+use Rattle.writer_kit.specs.Refusals.{fault_now, early_fault, collect_fault}
 use Rattle.writer_kit.specs.Written.{Written}
 use Rattle.writer_kit.specs.declared.fault.CollectFault.{CollectFault}
 use Rattle.writer_kit.specs.declared.fault.CollectFault.TheVariants as collect
@@ -49,9 +51,10 @@ abbrev pub acts_after : List (Act Entry) → History → List (Act Entry)
 acts_after earlier [] = earlier
 acts_after earlier (x ∷ xs) = acts_after (act_of x.1 ∷ earlier) xs
 
--- What a history makes of the first writer: it stands for what that one stood for, followed by the measured entries, and the history's changes are
--- accepted events of one writer's schedule.
+-- What a history makes of the first writer: one of the same identity, plan and start, that stands for what that one stood for, followed by the measured
+-- entries. The history's changes are accepted events of one writer's schedule.
 pub record Serves (first : Written) (h : History) (w : Written) : Type 0 where
+  pub same_id : w.id ≡ first.id
   pub same_plan : w.tally.plan ≡ first.tally.plan
   pub same_start : w.start ≡ first.start
   pub stands : (es : List Entry) → StandsFor first.tally es → StandsFor w.tally (es ++ entries_of h)
@@ -78,12 +81,17 @@ pub record IsRound (w : Written) (time : ℕ) (r : rounds.Collected) : Type 0 wh
   pub taken_at : r.time ≡ time
   pub points : r.points ≡ points_of w.tally.plan.streams w.tally.series
 
--- why a writer may refuse a recording, and a collection
-abbrev pub MayRefuse : Written → Entry → MeasureFault → Type 0
-MayRefuse w e f = f ≢ measure.Refused tallies.NoMemory → fault_now w e ≡ Some f
+-- A writer may refuse a recording with this: for the first cause that fits, or for want of memory where none fits that is looked for before memory is
+-- wanted. Points that are there take no memory where every feed keeps all keys.
+pub record MayRefuse (w : Written) (e : Entry) (f : MeasureFault) : Type 0 where
+  pub told : f ≢ measure.Refused tallies.NoMemory → fault_now w e ≡ Some f
+  pub short : f ≡ measure.Refused tallies.NoMemory → early_fault w e ≡ None
+  pub held : AllHeld w.tally.plan (feeds_of w.tally.plan e.instrument) e.attrs w.tally.series → f ≢ measure.Refused tallies.NoMemory
 
-abbrev pub MayRefuseRound : Written → ℕ → CollectFault → Type 0
-MayRefuseRound w time f = f ≢ collect.NoMemory → collect_fault w time ≡ Some f
+-- A writer may refuse a collection with this: for the first cause that fits, or for want of memory where none does.
+pub record MayRefuseRound (w : Written) (time : ℕ) (f : CollectFault) : Type 0 where
+  pub told : f ≢ collect.NoMemory → collect_fault w time ≡ Some f
+  pub no_memory : f ≡ collect.NoMemory → collect_fault w time ≡ None
 
 module _ {g : _} (shared : SharedWriter) where
   -- the seat's change was accepted, with this reply

@@ -6,6 +6,8 @@ ghost use Rattle.writer_kit.specs.Pacing.{next_after};
 /// SDK, "Periodic exporting MetricReader", exportIntervalMillis).
 pub const DEFAULT_INTERVAL: u64 = 60_000_000_000;
 
+const _: () = prove!(DEFAULT_INTERVAL == 60 * 1_000_000_000);
+
 /// How often collections are made, and when the next one is due, in nanoseconds since the Unix epoch.
 #[derive(Clone, Copy, Debug, PartialEq, Eq)]
 pub struct Pace {

@@ -6,7 +6,7 @@ ghost use Rattle.agg_kit.specs.Rounds.{StandsFor};
 ghost use Rattle.plan_kit.specs.Plans.{feeds_of};
 ghost use Rattle.round_kit.specs.Rounds.{points_of};
 ghost use Rattle.writer_kit.specs.Following.{Follows, round_of};
-ghost use Rattle.writer_kit.specs.Refusals.{measure_fault, fault_now, collect_fault, restart_fault};
+ghost use Rattle.writer_kit.specs.Refusals.{measure_fault, fault_now, early_fault, collect_fault, restart_fault};
 ghost use Rattle.writer_kit.specs.Recording.{recorded};
 ghost use Rattle.writer_kit.specs.Schedules.{Act, collected};
 ghost use Rattle.schedule_kit.specs.Schedule.Act.{Measured, Collected, Restarted};
@@ -103,8 +103,9 @@ impl Writer {
 
     /// Records a value in the stream of every feed of an instrument, or in none.
     ///
-    /// Refuses, in this order: `Closed`; `Refused` with what the tally refuses, `NoMemory` last. A refusal changes
-    /// nothing. O(feeds of the instrument times the size of the attributes and the bounds).
+    /// Refuses, in this order: `Closed`; `Refused` with what the tally refuses, `NoMemory` last, but that a feed which keeps a
+    /// list of keys may want memory before it and the feeds behind it are looked at. A refusal changes nothing. O(feeds of the
+    /// instrument times the size of the attributes and the bounds).
     #[tactic(auto, using(crate::proofs::Refusals::measure_closed, crate::proofs::Refusals::measure_refused, crate::proofs::Refusals::measure_accepted, crate::proofs::Refusals::now_closed, crate::proofs::Refusals::now_refused, crate::proofs::Refusals::now_accepted))]
     pub fn measure(
         &mut self,
@@ -126,6 +127,8 @@ impl Writer {
         ensures held { AllHeld self.old.tally.plan (feeds_of self.old.tally.plan instrument) attrs.now self.old.tally.series → IfErr result (λ f. f ≢ MeasureFault.Refused TallyFault.NoMemory) }
         // Where every feed keeps all keys, `NoMemory` comes only where nothing else is refused.
         ensures no_memory { AllWhole (feeds_of self.old.tally.plan instrument) → IfErr result (λ f. f ≡ MeasureFault.Refused TallyFault.NoMemory → (h : List Entry) → StandsFor self.old.tally h → measure_fault self.old h (entry_of instrument attrs.now value) ≡ None) }
+        // Where a feed keeps a list of keys, it comes only where nothing is refused that is looked for before memory is wanted.
+        ensures short { IfErr result (λ f. f ≡ MeasureFault.Refused TallyFault.NoMemory → early_fault self.old (entry_of instrument attrs.now value) ≡ None) }
         ensures unchanged { OnErr result (self.new ≡ self.old) }
     {
         if self.closed {
@@ -149,6 +152,7 @@ impl Writer {
         ensures points { IfOk result (λ r. r.points ≡ points_of self.now.tally.plan.streams self.now.tally.series) }
         ensures collected { IfOk result (λ r. (first : ℕ) (acts : List (Act Entry)) → Follows first acts self.now → r ≡ round_of self.now.tally.plan (collected first acts time)) }
         ensures err { IfErr result (λ f. f ≢ CollectFault.NoMemory → collect_fault self.now time ≡ Some f) }
+        ensures no_memory { IfErr result (λ f. f ≡ CollectFault.NoMemory → collect_fault self.now time ≡ None) }
     {
         if self.closed {
             return Err(CollectFault::Closed);
@@ -184,6 +188,7 @@ impl Writer {
         ensures marked { OnOk result (self.new ≡ record self.old { last = time }) }
         ensures follows { OnOk result ((first : ℕ) (acts : List (Act Entry)) → Follows first acts self.old → Follows first (Collected time false ∷ acts) self.new) }
         ensures err { IfErr result (λ f. f ≢ CollectFault.NoMemory → collect_fault self.old time ≡ Some f) }
+        ensures no_memory { IfErr result (λ f. f ≡ CollectFault.NoMemory → collect_fault self.old time ≡ None) }
         ensures unchanged { OnErr result (self.new ≡ self.old) }
     {
         let round = self.look_round(arena, time)?;
@@ -204,6 +209,7 @@ impl Writer {
         ensures marked { OnOk result (self.new ≡ record self.old { last = time; closed = true }) }
         ensures follows { OnOk result ((first : ℕ) (acts : List (Act Entry)) → Follows first acts self.old → Follows first (Collected time true ∷ acts) self.new) }
         ensures err { IfErr result (λ f. f ≢ CollectFault.NoMemory → collect_fault self.old time ≡ Some f) }
+        ensures no_memory { IfErr result (λ f. f ≡ CollectFault.NoMemory → collect_fault self.old time ≡ None) }
         ensures unchanged { OnErr result (self.new ≡ self.old) }
     {
         let round = self.look_round(arena, time)?;
@@ -224,6 +230,7 @@ impl Writer {
         ensures rest { OnOk result (self.new ≡ record self.old { tally = self.new.tally; start = start; last = start; closed = false }) }
         ensures follows { OnOk result ((first : ℕ) (acts : List (Act Entry)) → Follows first acts self.old → Follows first (Restarted start ∷ acts) self.new) }
         ensures err { IfErr result (λ f. f ≢ RestartFault.NoMemory → restart_fault self.old start ≡ Some f) }
+        ensures no_memory { IfErr result (λ f. f ≡ RestartFault.NoMemory → restart_fault self.old start ≡ None) }
         ensures unchanged { OnErr result (self.new ≡ self.old) }
     {
         if start <= self.start {

@@ -1,6 +1,6 @@
 //! The changes of a shared gateway, each made while the turn is held.
 ghost use Rattle.std.specs.Prelude.{◌≡◌};
-ghost use Rattle.gateway_kit.specs.Shared.{changed_by};
+ghost use Rattle.gateway_kit.specs.Shared.{changed_by, HasPoints};
 ghost use Rattle.gateway_kit.specs.declared.shared.change.GatewayChange.TheVariants.{Taken, Merged};
 
 use crate::gateway::Gateway;
@@ -23,7 +23,7 @@ impl<'a> Step<Gateway> for Take<'a> {
 
     ghost replies = { λ t g n. n ≡ changed_by g (Taken t.export.now) };
 
-    ghost refuses = { λ t g f. Unit {0} };
+    ghost refuses = { λ t g f. HasPoints (Taken t.export.now) };
 
     fn step(self, machine: &mut Gateway) -> Result<u64, NoMemory> {
         machine.take(self.export)
@@ -45,7 +45,7 @@ impl<'a> Step<Gateway> for Merge<'a> {
 
     ghost replies = { λ m g n. n ≡ changed_by g (Merged m.other.now) };
 
-    ghost refuses = { λ m g f. Unit {0} };
+    ghost refuses = { λ m g f. HasPoints (Merged m.other.now) };
 
     fn step(self, machine: &mut Gateway) -> Result<u64, NoMemory> {
         machine.merge(self.other)

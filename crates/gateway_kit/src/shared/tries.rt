@@ -16,7 +16,8 @@ impl SharedGateway {
     /// whose cell changed.
     ///
     /// Refused: `Busy` where the turn is held, which it never is to the first seat before its first split; `Exhausted`
-    /// where as many changes were accepted as the limit allows; `Refused` with `NoMemory`. Nothing is changed then.
+    /// where as many changes were accepted as the limit allows; `Refused` with `NoMemory`, which is never answered for an
+    /// export without points. Nothing is changed then.
     pub fn try_take(
         &self,
         seat: &mut Seat<Gateway>,
@@ -28,7 +29,7 @@ impl SharedGateway {
         ensures points { IfOk result (λ n. Adds self.now (Taken export.now) n seat.old seat.new) }
         ensures busy { IfErr result (AtBusy (IsLeft seat.old seat.new)) }
         ensures exhausted { IfErr result (AtExhausted (IsExhausted self.now seat.old seat.new)) }
-        ensures no_memory { IfErr result (AtRefused (λ _. LacksMemory self.now seat.old seat.new)) }
+        ensures no_memory { IfErr result (AtRefused (λ _. LacksMemory self.now (Taken export.now) seat.old seat.new)) }
     {
         self.turn.try_change(seat, Take { export })
     }
@@ -37,7 +38,8 @@ impl SharedGateway {
     /// of keys whose cell changed.
     ///
     /// Refused: `Busy` where the turn is held, which it never is to the first seat before its first split; `Exhausted`
-    /// where as many changes were accepted as the limit allows; `Refused` with `NoMemory`. Nothing is changed then.
+    /// where as many changes were accepted as the limit allows; `Refused` with `NoMemory`, which is never answered for an
+    /// empty gateway. Nothing is changed then.
     pub fn try_merge(
         &self,
         seat: &mut Seat<Gateway>,
@@ -49,7 +51,7 @@ impl SharedGateway {
         ensures points { IfOk result (λ n. Adds self.now (Merged other.now) n seat.old seat.new) }
         ensures busy { IfErr result (AtBusy (IsLeft seat.old seat.new)) }
         ensures exhausted { IfErr result (AtExhausted (IsExhausted self.now seat.old seat.new)) }
-        ensures no_memory { IfErr result (AtRefused (λ _. LacksMemory self.now seat.old seat.new)) }
+        ensures no_memory { IfErr result (AtRefused (λ _. LacksMemory self.now (Merged other.now) seat.old seat.new)) }
     {
         self.turn.try_change(seat, Merge { other })
     }

@@ -16,8 +16,8 @@ impl SharedGateway {
     /// Asks for the turn until it is had, and then takes an export, once, as `Gateway::take` does. Answers the number of
     /// keys whose cell changed.
     ///
-    /// Refused: `Exhausted` where as many changes were accepted as the limit allows; `Refused` with `NoMemory`. Nothing is
-    /// changed then. It never answers `Busy`.
+    /// Refused: `Exhausted` where as many changes were accepted as the limit allows; `Refused` with `NoMemory`, which is
+    /// never answered for an export without points. Nothing is changed then. It never answers `Busy`.
     pub fn take<R: Wait>(
         &self,
         rt: &R,
@@ -30,7 +30,7 @@ impl SharedGateway {
         ensures points { IfOk result (λ n. Adds self.now (Taken export.now) n seat.old seat.new) }
         ensures busy { IfErr result (AtBusy ⊥) }
         ensures exhausted { IfErr result (AtExhausted (IsExhausted self.now seat.old seat.new)) }
-        ensures no_memory { IfErr result (AtRefused (λ _. LacksMemory self.now seat.old seat.new)) }
+        ensures no_memory { IfErr result (AtRefused (λ _. LacksMemory self.now (Taken export.now) seat.old seat.new)) }
     {
         self.turn.change(rt, seat, Take { export })
     }
@@ -38,8 +38,8 @@ impl SharedGateway {
     /// Asks for the turn until it is had, and then merges another gateway in, once, as `Gateway::merge` does. Answers the
     /// number of keys whose cell changed.
     ///
-    /// Refused: `Exhausted` where as many changes were accepted as the limit allows; `Refused` with `NoMemory`. Nothing is
-    /// changed then. It never answers `Busy`.
+    /// Refused: `Exhausted` where as many changes were accepted as the limit allows; `Refused` with `NoMemory`, which is
+    /// never answered for an empty gateway. Nothing is changed then. It never answers `Busy`.
     pub fn merge<R: Wait>(
         &self,
         rt: &R,
@@ -52,7 +52,7 @@ impl SharedGateway {
         ensures points { IfOk result (λ n. Adds self.now (Merged other.now) n seat.old seat.new) }
         ensures busy { IfErr result (AtBusy ⊥) }
         ensures exhausted { IfErr result (AtExhausted (IsExhausted self.now seat.old seat.new)) }
-        ensures no_memory { IfErr result (AtRefused (λ _. LacksMemory self.now seat.old seat.new)) }
+        ensures no_memory { IfErr result (AtRefused (λ _. LacksMemory self.now (Merged other.now) seat.old seat.new)) }
     {
         self.turn.change(rt, seat, Merge { other })
     }

@@ -84,7 +84,7 @@ fn exports_merges_and_mails_lead_to_one_state(rt: HostRuntime) -> Result<(), Fai
         (deliver(2, 2), Reply::Changed(1)),
         (merge(1, 2), Reply::Changed(1)),
         (send(0, 3), Reply::Sent(1)),
-        (hand(1, 3), Reply::Handed(None)),
+        (hand(1, 3), Reply::Handed(Some(2))),
     ];
     assert_eq!(rt; other_reply(&mut world, &steps)?, None);
     assert!(rt; same(&world, 0, 1));
@@ -182,8 +182,8 @@ fn a_mail_carries_what_its_sender_had(rt: HostRuntime) -> Result<(), Fail> {
         (measure(alloc, 0, 4), Reply::Done),
         (collect(0, 300), Reply::Made(2)),
         (deliver(2, 0), Reply::Changed(1)),
-        (hand(1, 1), Reply::Handed(None)),
-        (hand(1, 1), Reply::Handed(None)),
+        (hand(1, 1), Reply::Handed(Some(2))),
+        (hand(1, 1), Reply::Handed(Some(3))),
         (hand(1, 0), no(Refusal::NotAddressed)),
         (hand(9, 1), no(Refusal::NoMail)),
     ];
@@ -195,6 +195,46 @@ fn a_mail_carries_what_its_sender_had(rt: HostRuntime) -> Result<(), Fail> {
             1,
             counter(),
             "{}               1          0  3\n"
+        )?
+    );
+    Ok(())
+}
+
+#[test]
+fn deltas_are_answered_and_carry_what_is_not_acknowledged(rt: HostRuntime) -> Result<(), Fail> {
+    let alloc = rt.alloc();
+    let mut world = world(alloc, &[1], &[1, 2, 3])?;
+    let steps = [
+        (measure(alloc, 0, 3), Reply::Done),
+        (collect(0, 200), Reply::Made(1)),
+        (deliver(1, 0), Reply::Changed(1)),
+        (send(0, 1), Reply::Sent(1)),
+        (measure(alloc, 0, 4), Reply::Done),
+        (collect(0, 300), Reply::Made(2)),
+        (deliver(2, 0), Reply::Changed(1)),
+        (send(0, 1), Reply::Sent(2)),
+        (hand(2, 1), Reply::Handed(Some(3))),
+        (hand(2, 1), Reply::Handed(Some(4))),
+        (hand(2, 2), no(Refusal::NotAddressed)),
+        (send(0, 1), Reply::Sent(5)),
+        (hand(3, 0), Reply::Handed(None)),
+        (hand(5, 1), Reply::Handed(Some(6))),
+        (measure(alloc, 0, 5), Reply::Done),
+        (collect(0, 400), Reply::Made(3)),
+        (deliver(3, 0), Reply::Changed(1)),
+        (send(0, 1), Reply::Sent(7)),
+        (hand(4, 0), Reply::Handed(None)),
+        (hand(7, 1), Reply::Handed(Some(8))),
+    ];
+    assert_eq!(rt; other_reply(&mut world, &steps)?, None);
+    assert!(rt; same(&world, 0, 1));
+    assert!(rt;
+        prints(
+            alloc,
+            &world,
+            1,
+            counter(),
+            "{}               1          0  12\n"
         )?
     );
     Ok(())

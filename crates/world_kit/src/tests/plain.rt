@@ -84,11 +84,12 @@ struct Brought {
 /// Exports: of each number, from 1 on, whether it is one of them.
 type Exports = Vec<bool>;
 
-/// A mail: to which gateway it goes, and the exports that its sender had.
+/// A mail: from which gateway to which it goes, and the exports that its sender had; of an answer none.
 #[derive(Drop)]
 struct Mailed {
+    from: usize,
     to: usize,
-    had: Exports,
+    had: Option<Exports>,
 }
 
 /// What is held of an incarnation: a time, and the total where all points of that time have the same.
@@ -338,7 +339,8 @@ impl Plain {
             return Ok(Reply::Refused(Refusal::NoGateway));
         }
         let had = self.had(alloc, from)?;
-        self.mails.push(Mailed { to, had })?;
+        let had = Some(had);
+        self.mails.push(Mailed { from, to, had })?;
         Ok(Reply::Sent(self.mails.len() as u64))
     }
 
@@ -352,9 +354,18 @@ impl Plain {
         if mail.to != gateway {
             return Ok(Reply::Refused(Refusal::NotAddressed));
         }
-        let had = mail.had.to_vec(alloc)?;
+        let Some(had) = &mail.had else {
+            return Ok(Reply::Handed(None));
+        };
+        let had = had.to_vec(alloc)?;
+        let answer = Mailed {
+            from: gateway,
+            to: mail.from,
+            had: None,
+        };
         self.take(gateway, had.as_slice())?;
-        Ok(Reply::Handed(None))
+        self.mails.push(answer)?;
+        Ok(Reply::Handed(Some(self.mails.len() as u64)))
     }
 
     /// Does an event, and replies.

@@ -67,7 +67,7 @@ fn what_is_not_there_is_refused_in_a_replay(rt: HostRuntime) -> Result<(), Fail>
         no(Refusal::NoExport),
         Reply::Changed(0),
         Reply::Sent(1),
-        Reply::Handed(None),
+        Reply::Handed(Some(2)),
     ];
     let (_, replies) = replay(alloc, setup(alloc, &[1], &[1])?, &events)?;
     assert_eq!(rt; replies.as_slice(), wanted.as_slice());

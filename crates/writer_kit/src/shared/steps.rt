@@ -28,7 +28,7 @@ impl<'a> Step<Writer> for Measure<'a> {
 
     ghost refuses = { λ m w f. MayRefuse w (entry_of m.instrument m.attrs.now m.value) f };
 
-    #[tactic(auto, using(crate::proofs::Sharing::told_measured))]
+    #[tactic(auto, using(crate::proofs::Sharing::told_measured, crate::proofs::Sharing::may_refuse))]
     fn step(self, machine: &mut Writer) -> Result<(), MeasureFault> {
         machine.measure(self.instrument, self.attrs, self.value)
     }
@@ -52,7 +52,7 @@ impl<'b> Step<Writer> for Collect<'b> {
 
     ghost refuses = { λ c w f. MayRefuseRound w c.time f };
 
-    #[tactic(auto, using(crate::proofs::Sharing::told_collected))]
+    #[tactic(auto, using(crate::proofs::Sharing::told_collected, crate::proofs::Sharing::may_refuse_round))]
     fn step(self, machine: &mut Writer) -> Result<Round<'b>, CollectFault> {
         machine.collect(self.arena, self.time)
     }

@@ -1,6 +1,6 @@
 use Rattle.std.proofs.Common.{rules, ◌≡◌, ap, subst, Some}
 use Rattle.turn_kit.specs.Places.{Grows}
-use Rattle.turn_kit.proofs.Changes.{taken, hand1, whole4, who4, changed, idle4, idle1}
+use Rattle.turn_kit.proofs.Changes.{taken, hand1, whole4, who4, changed, idle4, idle1, owns4}
 use Rattle.turn_kit.proofs.held.change_held.Goals as goal
 
 pub returns-then-count-limit-clause-place : goal.returns-then-count-limit-clause-place
@@ -26,6 +26,12 @@ returns-in-Ok-clause-answer g c = let s = g.M.Machine.state in let n = g.M.Machi
     let was = taken s n _ _ _ f _ d.found in let did = subst (λ z. n (s z) (g.T.Step.entry c.args.step) ≡ Some (s d.y)) was d.answer.0 in let same : c.of-told.result.value ≡ c.args.step = c.of-told.ensures in
     let told = subst (λ st. Grows (g.T.Step.entry st) c.step_in_place.new.place.me c.commit.new.place.me) same c.commit.ensures.told in
     (f.x, changed s n _ _ _ f _ _ d.left _ did _ told _ c.give-in-Ok.ensures.told (search rules), subst (λ z. g.T.Step.replies c.args.step z c.in-Ok.reply) was d.answer.1)
+
+pub returns-in-Ok-clause-own : goal.returns-in-Ok-clause-own
+returns-in-Ok-clause-own g c = let s = g.M.Machine.state in let n = g.M.Machine.after in let f = c.count.ensures.told in let d = c.in-Ok.ensures.did in
+    let did = subst (λ z. n (s z) (g.T.Step.entry c.args.step) ≡ Some (s d.y)) (taken s n _ _ _ f _ d.found) d.answer.0 in let same : c.of-told.result.value ≡ c.args.step = c.of-told.ensures in
+    let told = subst (λ st. Grows (g.T.Step.entry st) c.step_in_place.new.place.me c.commit.new.place.me) same c.commit.ensures.told in
+    owns4 s n _ _ _ f _ _ d.left _ did _ told _ c.give-in-Ok.ensures.told
 
 pub returns-clause-place : goal.returns-clause-place
 returns-clause-place g c = let f = c.count.ensures.told in (search rules, idle1 g.M.Machine.state g.M.Machine.after _ _ _ f c.step_in_place.new.place.me (ap (λ m. m.0) c.in-Err.ensures.did.left) _ c.give-in-Err.ensures.told)

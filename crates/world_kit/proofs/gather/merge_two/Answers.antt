@@ -1,6 +1,7 @@
-use Rattle.std.proofs.Common.{◌≡◌, ◌<◌, ◌≤◌, ◌+◌, ◌-◌, length, slice_set, ◌++◌, get_or, sym, ap, ◌∙◌, arith}
+use Rattle.std.proofs.Common.{◌≡◌, ◌<◌, ◌≤◌, ◌+◌, ◌-◌, length, slice_set, ◌++◌, get_or, sym, ap, subst, ◌∙◌, arith}
 use Rattle.std.proofs.lemmas.List.{set-append_left, set-append_right}
 use Rattle.std.proofs.lemmas.Option.{get_or_from_slice_get}
+use Rattle.gossip_kit.specs.Gossip.{Renumbers}
 use Rattle.gossip_kit.specs.Views.{NodeView}
 use Rattle.point_kit.specs.Exports.{join_points, changed_points}
 use Rattle.world_kit.proofs.gather.merge_two.Goals as goal
@@ -28,6 +29,8 @@ returns-in_ok-changed-clause-ok c =
             did.id ∙ ap (λ (n : NodeView). n.gateway.id) own,
             did.ok ∙ ap (λ (n : NodeView). join_points n.gateway.points c.gateway.result.now.points) own ∙ ap (λ g. join_points was.gateway.points g.points) read ∙ ap (λ (n : NodeView). join_points was.gateway.points n.gateway.points) its,
             did.value ∙ ap (λ (n : NodeView). changed_points n.gateway.points is.gateway.points) own,
+            subst (λ (n : NodeView). Renumbers n is) own did.numbers,
+            did.acked ∙ ap (λ (n : NodeView). n.acked) own,
           );
     }
 
@@ -56,5 +59,7 @@ returns-in_ok-changed-2-clause-ok c =
             did.id ∙ ap (λ (n : NodeView). n.gateway.id) own,
             did.ok ∙ ap (λ (n : NodeView). join_points n.gateway.points c.gateway-else-into-from.result.now.points) own ∙ ap (λ g. join_points was.gateway.points g.points) read ∙ ap (λ (n : NodeView). join_points was.gateway.points n.gateway.points) its,
             did.value ∙ ap (λ (n : NodeView). changed_points n.gateway.points is.gateway.points) own,
+            subst (λ (n : NodeView). Renumbers n is) own did.numbers,
+            did.acked ∙ ap (λ (n : NodeView). n.acked) own,
           );
     }

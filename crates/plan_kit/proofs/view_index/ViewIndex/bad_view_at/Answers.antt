@@ -1,8 +1,8 @@
 use Rattle.std.proofs.Common.{◌∙◌, ap, filter, slice_get}
 use Rattle.plan_kit.specs.Aggregations.{is_refused}
 use Rattle.plan_kit.specs.Matching.{holds_at}
-use Rattle.plan_kit.specs.Views.{view_fits, is_bad_view}
-use Rattle.plan_kit.proofs.Matching.{filter_places, head_places}
+use Rattle.plan_kit.specs.Views.{is_bad_view}
+use Rattle.plan_kit.proofs.Matching.{bad_places, head_places}
 use Rattle.plan_kit.proofs.view_index.ViewIndex.bad_view_at.Goals as goal
 
 pub returns : goal.returns
@@ -11,5 +11,5 @@ returns c =
     let instrument = c.args.instrument.now in
     c.first_refused.ensures
     ∙ ap (λ l. slice_get (filter (holds_at views (λ v. is_refused instrument.kind v.aggregation)) l) 0) (c.as_slice.ensures.value ∙ c.in_ok-matching.ensures)
-    ∙ ap (λ l. slice_get l 0) (filter_places (λ v. view_fits v instrument) (λ v. is_refused instrument.kind v.aggregation) views)
+    ∙ ap (λ l. slice_get l 0) (bad_places instrument views)
     ∙ head_places (is_bad_view instrument) views

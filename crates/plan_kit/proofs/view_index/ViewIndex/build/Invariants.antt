@@ -3,4 +3,4 @@ use Rattle.plan_kit.specs.Matching.{IsIndex}
 use Rattle.plan_kit.proofs.view_index.ViewIndex.build.Given as goal
 
 abbrev pub invariant-loop-place : goal.invariant-loop-place
-invariant-loop-place l = IsIndex l.exact l.every.items (take l.place l.views)
+invariant-loop-place l = IsIndex l.drops l.exact l.every.items (take l.place l.views)

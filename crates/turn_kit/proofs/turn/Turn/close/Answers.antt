@@ -1,5 +1,5 @@
 use Rattle.std.proofs.Common.{rules, ap, ◌∙◌}
-use Rattle.turn_kit.proofs.Changes.{idle_same}
+use Rattle.turn_kit.proofs.Changes.{idle_same, owns_same}
 use Rattle.turn_kit.proofs.Seating.{closes, ends}
 use Rattle.turn_kit.proofs.Meeting.{idle_stage, idle_is, closed_sole}
 use Rattle.turn_kit.proofs.turn.Turn.close.Goals as goal
@@ -8,7 +8,7 @@ pub load-out-requires : goal.load-out-requires
 load-out-requires g c = let n = idle_is _ c.args.seat.idle in (search rules, search rules, closes g.M.Machine.state g.M.Machine.after _ _ _ _ _ (ap (λ w. w.seated) n) (ap (λ w. w.weight) n))
 
 pub invariant_of-result : goal.invariant_of-result
-invariant_of-result g c = record { idle = idle_same _ _ c.args.seat.idle (c.load-out.ensures.2.1 (search rules)).0 }
+invariant_of-result g c = record { idle = idle_same _ _ c.args.seat.idle (c.load-out.ensures.2.1 (search rules)).0; own = owns_same _ _ (c.load-out.ensures.2.1 (search rules)).0 c.args.seat.own }
 
 pub returns-clause-ok : goal.returns-clause-ok
 returns-clause-ok g c = let s = g.M.Machine.state in let x = g.M.Machine.after in let is = c.load-out.ensures.2.0 (search rules) in let n = idle_is _ c.args.seat.idle in

@@ -2,7 +2,7 @@ use Rattle.std.proofs.Common.{rules, ap, ◌∙◌, sym, subst, inl, refl}
 use Rattle.turn_kit.specs.History.{StartsWith, Apart}
 use Rattle.turn_kit.specs.Rule.{family}
 use Rattle.turn_kit.proofs.Seating.{meets, compares, counts_in}
-use Rattle.turn_kit.proofs.Meeting.{idle_stage, idle_is, idle_hand, met_seated, met_weight, joined_idle, joined}
+use Rattle.turn_kit.proofs.Meeting.{idle_stage, idle_is, idle_hand, HasOwn, met_seated, met_weight, joined_idle, joined_own, joined}
 use Rattle.turn_kit.proofs.Publicly.{joins}
 use Rattle.turn_kit.proofs.turn.Turn.join.Goals as goal
 
@@ -18,7 +18,11 @@ fetch_sub-requires g c = let is = c.args.seat.now.idle in let n = idle_is _ c.ar
     (search rules, search rules, counts_in g.M.Machine.state g.M.Machine.after _ _ _ _ _ (met_seated _ is c.args.other.place.me.0 n _ now) (met_weight _ is c.args.other.place.me.0 n _ now))
 
 pub invariant_of-seat : goal.invariant_of-seat
-invariant_of-seat g c = let now = c.load.ensures.2.0 ∙ c.join_seat.ensures.2 in record { idle = joined_idle _ c.args.seat.now.idle c.args.other.place.me.0 (idle_is _ c.args.other.idle) _ _ _ now c.fetch_sub.ensures.2 refl }
+invariant_of-seat g c = let now = c.load.ensures.2.0 ∙ c.join_seat.ensures.2 in record {
+  idle = joined_idle _ c.args.seat.now.idle c.args.other.place.me.0 (idle_is _ c.args.other.idle) _ _ _ now c.fetch_sub.ensures.2 refl;
+  own = joined_own _ c.args.seat.now.idle c.args.other.place.me.0 (idle_is _ c.args.other.idle) c.load.new.seat.me _ now c.fetch_sub.ensures.2 c.args.seat.now.own
+      (subst (λ m. HasOwn m) (sym c.load.ensures.2.0) c.load.ensures.2.4);
+}
 
 pub returns-clause-value : goal.returns-clause-value
 returns-clause-value g c = let now = c.load.ensures.2.0 ∙ c.join_seat.ensures.2 in let t = c.load.ensures.2 in

@@ -2,7 +2,7 @@ use Rattle.std.proofs.Common.{rules, arith, ◌≡◌, [], ◌∷◌, sym, subst
 use Rattle.std.proofs.lemmas.Grind.{common_steps}
 use Rattle.atomic_table.specs.Table.{opening}
 use Rattle.turn_kit.specs.Rule.{Ruled, opening_view}
-use Rattle.turn_kit.proofs.Changes.{is_idled}
+use Rattle.turn_kit.proofs.Changes.{is_idled, owns_same}
 use Rattle.turn_kit.proofs.Seating.{starts}
 use Rattle.turn_kit.proofs.turn.Turn.new.Goals as goal
 
@@ -12,4 +12,4 @@ new-requires g c = let e : c.push.new.self.items ≡ c.of.result.value ∷ [] = 
     (starts g.M.Machine.state g.M.Machine.after c.of.result.value c.args.limit (grind (arith, common_steps)) (grind (arith, common_steps)))
 
 pub invariant_of-result-in-Ok : goal.invariant_of-result-in-Ok
-invariant_of-result-in-Ok g c = record { idle = is_idled _ (opening_view c.of.result.value c.args.limit) c.in-Ok.ensures.ok.4 refl }
+invariant_of-result-in-Ok g c = record { idle = is_idled _ (opening_view c.of.result.value c.args.limit) c.in-Ok.ensures.ok.4 refl; own = owns_same (opening_view c.of.result.value c.args.limit, []) _ c.in-Ok.ensures.ok.4 refl }

@@ -1,9 +1,9 @@
-use Rattle.turn_kit.proofs.Changes.{idle_same, answered_before}
+use Rattle.turn_kit.proofs.Changes.{idle_same, owns_same, answered_before}
 use Rattle.turn_kit.proofs.Publicly.{at_ok, at_exhausted, at_refused}
 use Rattle.turn_kit.proofs.turn.Turn.try_change.Goals as goal
 
 pub invariant_of-seat : goal.invariant_of-seat
-invariant_of-seat g c = record { idle = idle_same _ _ c.args.seat.now.idle c.if-not-ask.ensures.turn.0 }
+invariant_of-seat g c = record { idle = idle_same _ _ c.args.seat.now.idle c.if-not-ask.ensures.turn.0; own = owns_same _ _ c.if-not-ask.ensures.turn.0 c.args.seat.now.own }
 
 pub returns-clause-ok : goal.returns-clause-ok
 returns-clause-ok g c = let e = g.T.Step.entry c.args.step in let yes = g.T.Step.replies c.args.step in let no_ = g.T.Step.refuses c.args.step in let r = c.change_held.result in

@@ -2,8 +2,8 @@ use Rattle.std.proofs.Common.{◌≡◌, ℕ, ◌+◌, ◌<◌, List, [], ◌∷
 use Rattle.std.proofs.Math.ListN.{set}
 use Rattle.std.proofs.lemmas.Grind.{common_steps}
 use Rattle.std.proofs.lemmas.Option.{slice_get_read}
-use Rattle.world_kit.proofs.Replies.{left_as, seen_as}
-use Rattle.world_kit.proofs.WriterEvents.{collect_nowhere, collect_refused, collects, opened_at, rises_at, with_export}
+use Rattle.world_kit.proofs.Replies.{left_as, seen_as, wants_as}
+use Rattle.world_kit.proofs.WriterEvents.{collect_nowhere, collect_refused, collect_wants, collects, opened_at, rises_at, with_export}
 use Rattle.world_kit.specs.contracts.world.World as world
 use Rattle.point_kit.specs.declared.export.Export.{Export}
 use Rattle.world_kit.specs.Copying.{Copies, Refuses, IsCopy}
@@ -74,3 +74,20 @@ returns-clause-ok c =
     (subst (λ (n : ℕ). Acts (collect_event c.args.writer c.args.time c.args.closing) w (reply.Made n) (with_export w (set writers c.args.writer c.mark.new.self) c.push.new.self.items)) (sym count)
     (subst (λ (es : List Export). Acts (collect_event c.args.writer c.args.time c.args.closing) w (reply.Made (length exports + 1)) (with_export w (set writers c.args.writer c.mark.new.self) es)) (sym grown)
     (collects w c.args.writer x at_v c.args.time c.args.closing c.mark.new.self c.in-Ok.export copy after)))
+
+pub returns-in_err-export-clause-no_memory : goal.returns-in_err-export-clause-no_memory
+returns-in_err-export-clause-no_memory c =
+    let writers = c.self.inside.writers.items in
+    let there : c.args.writer < length writers = grind (arith, common_steps) in
+    let x = c.index.result.now in
+    let at_v = slice_get_read writers (length writers) c.args.writer x refl there c.index.ensures in
+    wants_as _ _ _ _ c.self.view_is (collect_wants (world.the_view c.self.inside) c.args.writer x at_v c.args.time c.args.closing c.in_err-export.ensures.no_memory)
+
+pub returns-in_err-push-in-Ok-clause-no_memory : goal.returns-in_err-push-in-Ok-clause-no_memory
+returns-in_err-push-in-Ok-clause-no_memory c =
+    let writers = c.self.inside.writers.items in
+    let there : c.args.writer < length writers = grind (arith, common_steps) in
+    let x = c.index.result.now in
+    let at_v = slice_get_read writers (length writers) c.args.writer x refl there c.index.ensures in
+    let copy : Copies x c.args.time c.in-Ok.export = subst (IsCopy x c.args.time) c.in-Ok.is c.in_ok-export.ensures.ok in
+    wants_as _ _ _ _ c.self.view_is (collect_wants (world.the_view c.self.inside) c.args.writer x at_v c.args.time c.args.closing copy.accepted)

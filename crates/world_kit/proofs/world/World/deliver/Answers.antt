@@ -1,8 +1,8 @@
 use Rattle.std.proofs.Common.{◌-◌, ◌<◌, length, refl, arith}
 use Rattle.std.proofs.lemmas.Grind.{common_steps}
 use Rattle.std.proofs.lemmas.Option.{slice_get_read}
-use Rattle.world_kit.proofs.GatewayEvents.{deliver_nowhere, deliver_zero, deliver_past, delivers}
-use Rattle.world_kit.proofs.Replies.{left_as, seen_as}
+use Rattle.world_kit.proofs.GatewayEvents.{deliver_nowhere, deliver_wants, deliver_zero, deliver_past, delivers}
+use Rattle.world_kit.proofs.Replies.{left_as, seen_as, wants_as}
 use Rattle.world_kit.proofs.world.World.deliver.Goals as goal
 
 pub returns-then-gateway-len-clause-ok : goal.returns-then-gateway-len-clause-ok
@@ -24,4 +24,7 @@ returns-clause-ok c =
     seen_as _ _ _ _ _ c.self.view_is (delivers _ c.args.export c.args.gateway c.in_ok-changed.changed c.index-brought.result.now c.index_mut.result.now c.take.new.self low
     (slice_get_read exports (length exports) (c.args.export - 1) c.index-brought.result.now refl high c.index-brought.ensures)
     (slice_get_read nodes (length nodes) c.args.gateway c.index_mut.result.now refl there c.index_mut.ensures.value)
-    c.in_ok-changed.ensures.id c.in_ok-changed.ensures.ok c.in_ok-changed.ensures.value)
+    c.in_ok-changed.ensures.id c.in_ok-changed.ensures.ok c.in_ok-changed.ensures.value c.in_ok-changed.ensures.numbers c.in_ok-changed.ensures.acked)
+
+pub returns-in_err-changed-clause-no_memory : goal.returns-in_err-changed-clause-no_memory
+returns-in_err-changed-clause-no_memory c = wants_as _ _ _ _ c.self.view_is (deliver_wants _ c.args.export c.args.gateway (grind (arith, common_steps)) (grind (arith, common_steps)) (grind (arith, common_steps)))

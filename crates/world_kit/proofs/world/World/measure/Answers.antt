@@ -6,14 +6,14 @@ use Rattle.std.proofs.lemmas.List.{set-get_or}
 use Rattle.std.proofs.lemmas.Option.{slice_get_read}
 use Rattle.std.specs.Int.{w64}
 use Rattle.std.specs.Prelude.{FitsSigned}
-use Rattle.world_kit.proofs.Replies.{left_as, seen_as, same_as}
-use Rattle.world_kit.proofs.WriterEvents.{measure_nowhere, measure_refused, measures, with_writers}
+use Rattle.world_kit.proofs.Replies.{left_as, seen_as, same_as, wants_as}
+use Rattle.world_kit.proofs.WriterEvents.{measure_nowhere, measure_refused, measure_wants, measures, with_writers}
 use Rattle.world_kit.specs.contracts.world.World as world
-use Rattle.agg_kit.specs.declared.fault.MeasureFault.TheVariants.{NoMemory}
+use Rattle.agg_kit.specs.declared.fault.MeasureFault.TheVariants.{NoInstrument, Negative, Overflow, NoMemory}
 use Rattle.world_kit.specs.declared.event.Refusal.{Refusal}
 use Rattle.world_kit.specs.Told.{measure_refusal}
 use Rattle.writer_kit.specs.declared.fault.MeasureFault.{MeasureFault}
-use Rattle.writer_kit.specs.declared.fault.MeasureFault.TheVariants.{Refused}
+use Rattle.writer_kit.specs.declared.fault.MeasureFault.TheVariants.{Closed, Refused}
 use Rattle.world_kit.proofs.world.World.measure.Goals as goal
 
 not_memory : (f : MeasureFault) (r : Refusal) → measure_refusal f ≡ Some r → f ≡ Refused NoMemory → ⊥
@@ -50,3 +50,24 @@ returns-clause-ok c =
     let accepts = simp to_z-of_z at its.ok in
     let grows = simp to_z-of_z at its.value in
     seen_as _ _ _ _ _ c.self.view_is (measures w c.args.writer x at_v c.measure.new.self c.args.instrument c.args.attrs.now c.args.value accepts grows its.plan its.rest)
+
+-- what is no refusal is want of memory
+memory_of : (f : MeasureFault) → measure_refusal f ≡ None → f ≡ Refused NoMemory
+memory_of Closed none = cc
+memory_of (Refused NoInstrument) none = cc
+memory_of (Refused Negative) none = cc
+memory_of (Refused (Overflow s)) none = cc
+memory_of (Refused NoMemory) none = refl
+
+pub returns-in_err-told_measure-clause-no_memory : goal.returns-in_err-told_measure-clause-no_memory
+returns-in_err-told_measure-clause-no_memory c =
+    let writers = c.self.inside.writers.items in
+    let there : c.args.writer < length writers = grind (arith, common_steps) in
+    let x = c.index_mut.result.now in
+    let at_v = slice_get_read writers (length writers) c.args.writer x refl there c.index_mut.ensures.value in
+    let its = c.in-Err.ensures in
+    let memory = memory_of c.in-Err.fault c.in_err-told_measure.ensures.no_memory in
+    let fits : FitsSigned w64 c.args.value = search rules in
+    let early = simp to_z-of_z at (its.short memory) in
+    let whole = simp to_z-of_z at its.no_memory in
+    wants_as _ _ _ _ c.self.view_is (measure_wants (world.the_view c.self.inside) c.args.writer x at_v c.args.instrument c.args.attrs.now c.args.value early (λ all. whole all memory))

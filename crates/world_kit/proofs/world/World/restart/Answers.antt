@@ -3,13 +3,13 @@ use Rattle.std.proofs.Math.ListN.{set}
 use Rattle.std.proofs.lemmas.Grind.{common_steps}
 use Rattle.std.proofs.lemmas.List.{set-get_or}
 use Rattle.std.proofs.lemmas.Option.{slice_get_read}
-use Rattle.world_kit.proofs.Replies.{left_as, seen_as, same_as}
-use Rattle.world_kit.proofs.WriterEvents.{restart_nowhere, restart_refused, restarts, with_writers}
+use Rattle.world_kit.proofs.Replies.{left_as, seen_as, same_as, wants_as}
+use Rattle.world_kit.proofs.WriterEvents.{restart_nowhere, restart_refused, restart_wants, restarts, with_writers}
 use Rattle.world_kit.specs.contracts.world.World as world
 use Rattle.world_kit.specs.declared.event.Refusal.{Refusal}
 use Rattle.world_kit.specs.Told.{restart_refusal}
 use Rattle.writer_kit.specs.declared.fault.RestartFault.{RestartFault}
-use Rattle.writer_kit.specs.declared.fault.RestartFault.TheVariants.{NoMemory}
+use Rattle.writer_kit.specs.declared.fault.RestartFault.TheVariants.{NoMemory, StartNotAfter}
 use Rattle.world_kit.proofs.world.World.restart.Goals as goal
 
 not_memory : (f : RestartFault) (r : Refusal) → restart_refusal f ≡ Some r → f ≡ NoMemory → ⊥
@@ -41,3 +41,17 @@ returns-clause-ok c =
     let at_v = slice_get_read writers (length writers) c.args.writer x refl there c.index_mut.ensures.value in
     let its = c.in_default.ensures in
     seen_as _ _ _ _ _ c.self.view_is (restarts w c.args.writer x at_v c.args.start c.restart.new.self its.ok its.value its.plan its.rest)
+
+-- what is no refusal is want of memory
+memory_of : (f : RestartFault) → restart_refusal f ≡ None → f ≡ NoMemory
+memory_of (StartNotAfter s) none = cc
+memory_of NoMemory none = refl
+
+pub returns-in_err-told_restart-clause-no_memory : goal.returns-in_err-told_restart-clause-no_memory
+returns-in_err-told_restart-clause-no_memory c =
+    let writers = c.self.inside.writers.items in
+    let there : c.args.writer < length writers = grind (arith, common_steps) in
+    let x = c.index_mut.result.now in
+    let at_v = slice_get_read writers (length writers) c.args.writer x refl there c.index_mut.ensures.value in
+    let memory = memory_of c.in-Err.fault c.in_err-told_restart.ensures.no_memory in
+    wants_as _ _ _ _ c.self.view_is (restart_wants (world.the_view c.self.inside) c.args.writer x at_v c.args.start (c.in-Err.ensures.no_memory memory))

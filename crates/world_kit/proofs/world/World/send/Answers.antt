@@ -1,9 +1,10 @@
-use Rattle.std.proofs.Common.{◌≡◌, ℕ, ◌+◌, ◌-◌, ◌<◌, length, List, [], ◌∷◌, ◌++◌, subst, refl, sym, ap, ◌∙◌, arith}
+use Rattle.std.proofs.Common.{◌≡◌, ℕ, ◌+◌, ◌<◌, length, List, [], ◌∷◌, ◌++◌, subst, refl, sym, ap, ◌∙◌, arith}
 use Rattle.std.proofs.lemmas.Grind.{common_steps}
 use Rattle.std.proofs.lemmas.Option.{slice_get_read}
-use Rattle.world_kit.proofs.GatewayEvents.{send_nowhere, send_none, sends, with_mails}
-use Rattle.world_kit.proofs.Replies.{left_as, seen_as}
+use Rattle.world_kit.proofs.GatewayEvents.{send_nowhere, send_none, send_wants, sends, with_mails}
+use Rattle.world_kit.proofs.Replies.{left_as, seen_as, wants_as}
 use Rattle.gateway_kit.specs.View.{View}
+use Rattle.gossip_kit.specs.Gossip.{Brings, acknowledged}
 use Rattle.gossip_kit.specs.Views.{MessageView}
 use Rattle.world_kit.specs.contracts.world.World as world
 use Rattle.world_kit.specs.declared.event.Event.TheVariants as event
@@ -27,6 +28,7 @@ returns-clause-ok c =
     let there : c.args.to < length nodes = grind (arith, common_steps) in
     let grown : c.push.new.self.items ≡ mails ++ mail ∷ [] = c.in_ok-push.ensures.items in
     let count : c.len-3.result ≡ length mails + 1 = grind (arith, common_steps) in
+    let comes : mail.from ≡ c.index-2.result.now.gateway.id = c.in_ok-mail.ensures.from in
     let goes : mail.to ≡ c.index.result.now.gateway.id = c.in_ok-mail.ensures.to ∙ c.id-receiver.ensures.value ∙ ap (λ (g : View). g.id) c.gateway.ensures.value in
     seen_as _ _ _ _ _ c.self.view_is
     (subst (λ (n : ℕ). Acts (event.Send c.args.from c.args.to) w (reply.Sent n) (with_mails w c.push.new.self.items)) (sym count)
@@ -34,4 +36,11 @@ returns-clause-ok c =
     (sends w c.args.from c.args.to c.index-2.result.now c.index.result.now mail
     (slice_get_read nodes (length nodes) c.args.from c.index-2.result.now refl here c.index-2.ensures)
     (slice_get_read nodes (length nodes) c.args.to c.index.result.now refl there c.index.ensures)
-    goes c.in_ok-mail.ensures.held c.in_ok-mail.ensures.brings)))
+    comes goes c.in_ok-mail.ensures.delta c.in_ok-mail.ensures.ack c.in_ok-mail.ensures.held
+    (subst (λ (t : ℕ). Brings mail.points (acknowledged c.index-2.result.now t) c.index-2.result.now.gateway.points) (sym c.in_ok-mail.ensures.to) c.in_ok-mail.ensures.brings))))
+
+pub returns-in_err-mail-clause-no_memory : goal.returns-in_err-mail-clause-no_memory
+returns-in_err-mail-clause-no_memory c = wants_as _ _ _ _ c.self.view_is (send_wants _ c.args.from c.args.to (grind (arith, common_steps)) (grind (arith, common_steps)))
+
+pub returns-in_err-push-clause-no_memory : goal.returns-in_err-push-clause-no_memory
+returns-in_err-push-clause-no_memory c = wants_as _ _ _ _ c.self.view_is (send_wants _ c.args.from c.args.to (grind (arith, common_steps)) (grind (arith, common_steps)))

@@ -1,0 +1,9 @@
+pub mod Answered
+pub mod Closed
+pub mod Closing
+pub mod Exported
+pub mod Exports
+pub mod Lists
+pub mod Refusals
+pub mod Served
+pub mod Ties

@@ -1,0 +1,28 @@
+//! Fleets: recorder threads that share writers, and gateway threads that take what the writers collected.
+//!
+//! [`run_fleet`] runs each [`Job`] in a thread of its own, all jobs of a writer on one shared writer. After the joins each
+//! writer is collected once, and each gateway's thread is told of the collections over a channel. A fleet that ends without
+//! a fault has exactly the totals of its jobs at every gateway, whatever its threads did in between: `run_fleet` says so of
+//! every query of sums or histograms. The OpenTelemetry specification has no fleets; they are the kit's own.
+//!
+//! What contracts cite stands in `specs/`: `Setups` (the writers and jobs of a setup), `Checks` and `Faults` (why a setup is refused),
+//! `Closing` and `Collected` (what a closed shared writer recorded, and its export), `Jobs` and `Serving` (between threads).
+#![tactic(auto)]
+
+mod checks;
+mod fault;
+mod fleet;
+mod gate;
+mod gateways;
+mod halt;
+mod recorders;
+mod setup;
+mod writers;
+
+pub use fault::FleetFault;
+pub use fleet::run_fleet;
+pub use gate::Gate;
+pub use setup::{FleetSetup, Job};
+
+#[cfg(test)]
+mod tests;

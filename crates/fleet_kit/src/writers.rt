@@ -1,0 +1,126 @@
+//! The writers of a fleet, each shared by its recorders and collected once.
+ghost use Rattle.std.specs.Prelude.{◌≡◌, ◌<◌, ℕ, List, [], IfOk, length, map, slice_index_or, vec_len, All, Ok};
+ghost use Rattle.agg_kit.specs.Entries.{Entry};
+ghost use Rattle.agg_kit.specs.Rounds.{StandsFor};
+ghost use Rattle.point_kit.specs.declared.export.Export.{Export};
+ghost use Rattle.rollup_kit.specs.Fleets.{entries_of};
+ghost use Rattle.turn_kit.specs.Public.{family};
+ghost use Rattle.writer_kit.specs.Shared.{IsAt, first_of};
+ghost use Rattle.fleet_kit.specs.Closing.{Weighs};
+ghost use Rattle.fleet_kit.specs.Collected.{IsCopyOf, IsRoundOfMixed};
+ghost use Rattle.fleet_kit.specs.Jobs.{task_of};
+ghost use Rattle.fleet_kit.specs.Setups.{IsExportAt, AreExportsAt};
+
+use crate::halt::{Halt, gathered};
+use crate::recorders::run_jobs;
+use crate::{FleetSetup, Gate, Job};
+use bumpalo::Bump;
+use point_kit::Export;
+use std::alloc::Global;
+use std::sync::Wait;
+use std::thread;
+use std::thread::Threads;
+use turn_kit::Seat;
+use writer_kit::{SharedWriter, Writer};
+
+/// The most changes of a shared writer: the entries of all its jobs, at most 2^61, are fewer.
+const MOST_CHANGES: u64 = 1 << 62;
+
+// Copies out what the writer has as of a time.
+fn collected(alloc: Global, writer: &Writer, time: u64) -> Result<Export, Halt>
+    ensures ok { IfOk result (λ e. IsCopyOf writer.now time e) }
+{
+    let arena = Bump::new(alloc);
+    match writer.look_round(&arena, time) {
+        Ok(round) => match round.copy_out(alloc, writer.id()) {
+            Ok(export) => Ok(export),
+            Err(_) => Err(Halt::NoMemory),
+        },
+        Err(_) => Err(Halt::NoMemory),
+    }
+}
+
+// Closes a shared writer and copies out what it has: the round of what its seats recorded, in some order.
+fn export_closed(
+    alloc: Global,
+    shared: SharedWriter,
+    main: Seat<Writer>,
+    time: u64,
+) -> Result<Export, Halt>
+    requires at { IsAt shared main }
+    requires empty { StandsFor (first_of shared).tally [] }
+    ensures ok { IfOk result (λ e. (es : List Entry) → Weighs (family main) es → IsRoundOfMixed (first_of shared) time es e) }
+{
+    match shared.close(main) {
+        Ok(writer) => collected(alloc, &writer, time),
+        Err(_out) => Err(Halt::NoThread),
+    }
+}
+
+// Runs the jobs of a writer that was just started, and collects it.
+fn export_of<R: Threads + Wait + Sync, G: Gate + Sync>(
+    rt: &R,
+    alloc: Global,
+    gate: &G,
+    writer: Writer,
+    place: usize,
+    jobs: &[Job],
+    end: u64,
+) -> Result<Export, Halt>
+    requires empty { StandsFor writer.tally [] }
+    ensures ok { IfOk result (λ e. IsRoundOfMixed writer end (entries_of (map task_of jobs.now) place) e) }
+{
+    let Ok((shared, mut main)) = SharedWriter::new(alloc, writer, MOST_CHANGES) else {
+        return Err(Halt::NoMemory);
+    };
+    run_jobs(rt, alloc, gate, &shared, &mut main, place, jobs)?;
+    export_closed(alloc, shared, main, end)
+}
+
+// The collection of the writer at a place, after its jobs. No stream of its plan stands twice: `Plan::stream` says so of
+// every plan.
+fn export_at<R: Threads + Wait + Sync, G: Gate + Sync>(
+    rt: &R,
+    alloc: Global,
+    gate: &G,
+    setup: &FleetSetup,
+    place: usize,
+) -> Result<Export, Halt>
+    requires there { place < length setup.now.writers.items }
+    ensures ok { IfOk result (λ e. IsExportAt setup.now place e) }
+{
+    let writers = setup.writers.as_slice();
+    let (id, plan, start) = &writers[place];
+    let _first = plan.stream(0);
+    let writer = Writer::start(alloc, id.try_copy()?, plan.try_copy()?, *start)?;
+    export_of(
+        rt,
+        alloc,
+        gate,
+        writer,
+        place,
+        setup.jobs.as_slice(),
+        setup.end,
+    )
+}
+
+/// Runs the jobs of all writers at once, and collects each writer after its own.
+pub(crate) fn exports_of<R: Threads + Wait + Sync, G: Gate + Sync>(
+    rt: &R,
+    alloc: Global,
+    gate: &G,
+    setup: &FleetSetup,
+) -> Result<Vec<Export>, Halt>
+    ensures ok { IfOk result (λ es. AreExportsAt setup.now es.items) }
+{
+    let results = thread::map_indices(
+        rt,
+        alloc,
+        setup.writers.len(),
+        &|place: usize| -> Result<Export, Halt>
+            requires { place < length setup.now.writers.items }
+            ensures { IfOk result (λ e. IsExportAt setup.entry.now place e) }
+        { export_at(rt, alloc, gate, setup, place) },
+    )?;
+    gathered(alloc, results)
+}

@@ -1,0 +1,96 @@
+//! Calls of exports, and copies of their parts.
+use crate::start::{START, export, gateway, id, requests, set};
+use crate::telling::{call_begins, call_ends, tell_made};
+use attr_kit::Seq;
+use point_kit::{Cell, Export, ExportPoint, Held, Key, Payload, SharedStream};
+use std::alloc::Global;
+
+fn point(alloc: Global, stream: &SharedStream, shard: i64) -> anyhow::Result<ExportPoint> {
+    Ok(ExportPoint {
+        stream: stream.try_copy()?,
+        attrs: set(alloc, shard)?,
+        payload: Payload::Sum(shard),
+    })
+}
+
+fn build(rt: &HostRuntime) -> anyhow::Result<()> {
+    let alloc = rt.alloc();
+    let stream = SharedStream::new(alloc, requests(alloc)?)?;
+    let mut points = Vec::new(alloc);
+    points.push(point(alloc, &stream, 1)?)?;
+    points.push(point(alloc, &stream, 2)?)?;
+    let writer = id(alloc, 1)?;
+    call_begins(rt);
+    let answer = Export::build(alloc, writer, START, 200, Seq::from_vec(points));
+    call_ends(rt);
+    tell_made(rt, answer)
+}
+
+fn shared(rt: &HostRuntime) -> anyhow::Result<()> {
+    let stream = requests(rt.alloc())?;
+    call_begins(rt);
+    let answer = SharedStream::new(rt.alloc(), stream);
+    call_ends(rt);
+    tell_made(rt, answer)
+}
+
+fn copied(rt: &HostRuntime) -> anyhow::Result<()> {
+    let export = export(rt.alloc(), 1, 200)?;
+    call_begins(rt);
+    let answer = export.try_copy();
+    call_ends(rt);
+    tell_made(rt, answer)
+}
+
+fn copied_key(rt: &HostRuntime) -> anyhow::Result<()> {
+    let alloc = rt.alloc();
+    let key = Key {
+        writer: id(alloc, 1)?,
+        start: START,
+        stream: requests(alloc)?,
+        attrs: set(alloc, 1)?,
+    };
+    call_begins(rt);
+    let answer = key.try_copy();
+    call_ends(rt);
+    tell_made(rt, answer)
+}
+
+fn copied_cell(rt: &HostRuntime) -> anyhow::Result<()> {
+    let buckets = [0, 1, 0].to_vec(rt.alloc())?;
+    let cell = Cell {
+        time: 200,
+        held: Held::One(Payload::Hist {
+            count: 1,
+            sum: 7,
+            buckets: Seq::from_vec(buckets),
+            range: Some((7, 7)),
+        }),
+    };
+    call_begins(rt);
+    let answer = cell.try_copy();
+    call_ends(rt);
+    tell_made(rt, answer)
+}
+
+fn copied_gateway(rt: &HostRuntime) -> anyhow::Result<()> {
+    let gateway = gateway(rt.alloc(), 1, 200)?;
+    call_begins(rt);
+    let answer = gateway.try_copy();
+    call_ends(rt);
+    tell_made(rt, answer)
+}
+
+/// Makes a call of an export, or a copy, if this is the name of one.
+pub fn made(rt: &HostRuntime, call: &str) -> anyhow::Result<bool> {
+    match call {
+        "Export::build" => build(rt)?,
+        "Export::try_copy" => copied(rt)?,
+        "SharedStream::new" => shared(rt)?,
+        "Key::try_copy" => copied_key(rt)?,
+        "Cell::try_copy" => copied_cell(rt)?,
+        "Gateway::try_copy" => copied_gateway(rt)?,
+        _ => return Ok(false),
+    }
+    Ok(true)
+}

@@ -1,0 +1,100 @@
+//! Calls of nodes. What a node keeps of its peers is read by what it sends to them.
+use crate::start::{export, gateway};
+use crate::telling::{call_begins, call_ends, state, tell_made, tell_twice};
+use anyhow::bail;
+use gateway_kit::Gateway;
+use gossip_kit::Node;
+use std::alloc::Global;
+
+// A node of an id that took an export at a time.
+fn node(alloc: Global, id: u32, time: u64) -> anyhow::Result<Node> {
+    let mut node = Node::new(alloc, Gateway::new(alloc, id));
+    node.take(&export(alloc, 1, time)?)?;
+    Ok(node)
+}
+
+// What a node without points holds after a message of this node.
+fn told_by(alloc: Global, node: &Node, to: u32) -> anyhow::Result<Gateway> {
+    let mut fresh = Node::new(alloc, Gateway::new(alloc, to));
+    fresh.hand(&node.send(to)?)?;
+    Ok(fresh.gateway().try_copy()?)
+}
+
+// Whether two nodes hold the same and tell their peers the same.
+fn are_same(alloc: Global, one: &Node, other: &Node) -> anyhow::Result<bool> {
+    let alike = told_by(alloc, one, 2)?.same(&told_by(alloc, other, 2)?);
+    Ok(alike && one.gateway().same(other.gateway()))
+}
+
+fn take(rt: &HostRuntime) -> anyhow::Result<()> {
+    let mut first = node(rt.alloc(), 1, 200)?;
+    let twin = node(rt.alloc(), 1, 200)?;
+    let export = export(rt.alloc(), 2, 200)?;
+    call_begins(rt);
+    let answer = first.take(&export);
+    call_ends(rt);
+    let left = state(are_same(rt.alloc(), &first, &twin)?);
+    let again = first.take(&export);
+    tell_twice(rt, &answer, left, &again)
+}
+
+fn merge(rt: &HostRuntime) -> anyhow::Result<()> {
+    let mut first = Node::new(rt.alloc(), Gateway::new(rt.alloc(), 1));
+    let twin = Node::new(rt.alloc(), Gateway::new(rt.alloc(), 1));
+    let other = gateway(rt.alloc(), 2, 200)?;
+    call_begins(rt);
+    let answer = first.merge(&other);
+    call_ends(rt);
+    let left = state(are_same(rt.alloc(), &first, &twin)?);
+    let again = first.merge(&other);
+    tell_twice(rt, &answer, left, &again)
+}
+
+fn send(rt: &HostRuntime) -> anyhow::Result<()> {
+    let first = node(rt.alloc(), 1, 200)?;
+    call_begins(rt);
+    let answer = first.send(2);
+    call_ends(rt);
+    tell_made(rt, answer)
+}
+
+fn hand(rt: &HostRuntime) -> anyhow::Result<()> {
+    let message = node(rt.alloc(), 1, 300)?.send(2)?;
+    let mut second = Node::new(rt.alloc(), Gateway::new(rt.alloc(), 2));
+    let twin = Node::new(rt.alloc(), Gateway::new(rt.alloc(), 2));
+    call_begins(rt);
+    let answer = second.hand(&message);
+    call_ends(rt);
+    let left = state(are_same(rt.alloc(), &second, &twin)?);
+    let again = second.hand(&message);
+    tell_twice(rt, &answer.err(), left, &again.err())
+}
+
+// Hands a node the answer to its first message. What it keeps of the peer is then other than before.
+fn hand_answer(rt: &HostRuntime) -> anyhow::Result<()> {
+    let mut first = node(rt.alloc(), 1, 200)?;
+    let twin = node(rt.alloc(), 1, 200)?;
+    let mut second = Node::new(rt.alloc(), Gateway::new(rt.alloc(), 2));
+    let Some(message) = second.hand(&first.send(2)?)? else {
+        bail!("not answered");
+    };
+    call_begins(rt);
+    let answer = first.hand(&message);
+    call_ends(rt);
+    let left = state(are_same(rt.alloc(), &first, &twin)?);
+    let again = first.hand(&message);
+    tell_twice(rt, &answer.err(), left, &again.err())
+}
+
+/// Makes a call of a node, if this is the name of one.
+pub fn made(rt: &HostRuntime, call: &str) -> anyhow::Result<bool> {
+    match call {
+        "Node::take" => take(rt)?,
+        "Node::merge" => merge(rt)?,
+        "Node::send" => send(rt)?,
+        "Node::hand" => hand(rt)?,
+        "Node::hand, an answer" => hand_answer(rt)?,
+        _ => return Ok(false),
+    }
+    Ok(true)
+}

@@ -1,0 +1,89 @@
+//! Calls of writers that threads share. Each may accept one change: what was refused is made again, and counts for nothing.
+use crate::rounds::len_of;
+use crate::same::are_same_writers;
+use crate::start::{set, writer};
+use crate::telling::{call_begins, call_ends, state, tell, tell_twice};
+use anyhow::bail;
+use bumpalo::Bump;
+use std::sync::Wait;
+use turn_kit::Look;
+use writer_kit::{SharedWriter, Writer};
+
+// Whether the writer is the same as another.
+#[derive(Drop)]
+struct IsSame<'a>(&'a Writer);
+
+impl Look<Writer> for IsSame<'_> {
+    type Answer = bool;
+
+    ghost answers = { λ _ _ _. Unit {0} };
+
+    fn look(self, machine: &Writer) -> bool {
+        are_same_writers(self.0, machine)
+    }
+}
+
+fn new(rt: &(impl Wait + Print + Eprint + AllocGlobal)) -> anyhow::Result<()> {
+    let writer = writer(rt.alloc(), 1)?;
+    let before = writer.try_copy()?;
+    call_begins(rt);
+    let answer = SharedWriter::new(rt.alloc(), writer, 1);
+    call_ends(rt);
+    match answer {
+        Ok(_) => tell(rt, &"Ok", state(false)),
+        Err((writer, fault)) => tell(rt, &fault, state(are_same_writers(&writer, &before))),
+    }
+}
+
+// A recording, by the call that waits for nobody or by the one that may wait.
+fn measure(rt: &(impl Wait + Print + Eprint + AllocGlobal), waits: bool) -> anyhow::Result<()> {
+    let writer = writer(rt.alloc(), 1)?;
+    let before = writer.try_copy()?;
+    let attrs = set(rt.alloc(), 2)?;
+    let Ok((shared, mut seat)) = SharedWriter::new(rt.alloc(), writer, 1) else {
+        bail!("not shared");
+    };
+    call_begins(rt);
+    let answer = if waits {
+        shared.measure(rt, &mut seat, 0, &attrs, 5)
+    } else {
+        shared.try_measure(&mut seat, 0, &attrs, 5)
+    };
+    call_ends(rt);
+    let left = state(shared.look(rt, &mut seat, IsSame(&before)));
+    let again = shared.try_measure(&mut seat, 0, &attrs, 5);
+    tell_twice(rt, &answer, left, &again)
+}
+
+// The same of a collection.
+fn collect(rt: &(impl Wait + Print + Eprint + AllocGlobal), waits: bool) -> anyhow::Result<()> {
+    let writer = writer(rt.alloc(), 1)?;
+    let before = writer.try_copy()?;
+    let arena = Bump::new(rt.alloc());
+    let Ok((shared, mut seat)) = SharedWriter::new(rt.alloc(), writer, 1) else {
+        bail!("not shared");
+    };
+    call_begins(rt);
+    let answer = if waits {
+        shared.collect(rt, &mut seat, &arena, 200)
+    } else {
+        shared.try_collect(&mut seat, &arena, 200)
+    };
+    call_ends(rt);
+    let left = state(shared.look(rt, &mut seat, IsSame(&before)));
+    let again = shared.try_collect(&mut seat, &arena, 200);
+    tell_twice(rt, &len_of(answer), left, &len_of(again))
+}
+
+/// Makes a call of a shared writer, if this is the name of one.
+pub fn made(rt: &(impl Wait + Print + Eprint + AllocGlobal), call: &str) -> anyhow::Result<bool> {
+    match call {
+        "SharedWriter::new" => new(rt)?,
+        "SharedWriter::try_measure" => measure(rt, false)?,
+        "SharedWriter::measure" => measure(rt, true)?,
+        "SharedWriter::try_collect" => collect(rt, false)?,
+        "SharedWriter::collect" => collect(rt, true)?,
+        _ => return Ok(false),
+    }
+    Ok(true)
+}

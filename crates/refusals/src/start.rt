@@ -1,0 +1,119 @@
+//! What the calls begin with. Texts that are too long to lie in place stand among the short ones, so that copies take memory.
+use attr_kit::{AllowList, AttrSet, AttrValue, Keep, NoMemory, Seq, Txt};
+use bumpalo::Bump;
+use gateway_kit::Gateway;
+use plan_kit::{Aggregation, DEFAULT_LIMIT, Instrument, Kind, NameRule, Plan, View};
+use point_kit::{Export, Shape, Stream, WriterId};
+use std::alloc::Global;
+use uuid::Uuid;
+use writer_kit::Writer;
+
+/// When each writer starts.
+pub const START: u64 = 100;
+
+/// A name of more than 30 bytes.
+pub const LONG: &str = "requests.under.a.name.that.is.not.short";
+
+/// A long route and a number.
+pub fn pairs(alloc: Global, shard: i64) -> anyhow::Result<Vec<(Txt, AttrValue)>> {
+    let mut pairs = Vec::new(alloc);
+    let route = Txt::from_str(alloc, LONG)?;
+    pairs.push((Txt::from_str(alloc, "route")?, AttrValue::Text(route)))?;
+    pairs.push((Txt::from_str(alloc, "shard")?, AttrValue::Whole(shard)))?;
+    Ok(pairs)
+}
+
+/// The set of these pairs.
+pub fn set(alloc: Global, shard: i64) -> anyhow::Result<AttrSet> {
+    Ok(AttrSet::from_pairs(pairs(alloc, shard)?)?)
+}
+
+/// The key of the route alone.
+pub fn route(alloc: Global) -> anyhow::Result<Keep> {
+    let mut keys = Vec::new(alloc);
+    keys.push(Txt::from_str(alloc, "route")?)?;
+    Ok(Keep::Only(AllowList::from_keys(keys)?))
+}
+
+fn instrument(alloc: Global, name: &str, kind: Kind) -> Result<Instrument, NoMemory> {
+    Ok(Instrument {
+        scope: Txt::from_str(alloc, "app")?,
+        name: Txt::from_str(alloc, name)?,
+        unit: Txt::from_str(alloc, "1")?,
+        kind,
+    })
+}
+
+/// A counter of requests and a histogram of sizes.
+pub fn instruments(alloc: Global) -> anyhow::Result<Seq<Instrument>> {
+    let mut instruments = Vec::new(alloc);
+    instruments.push(instrument(alloc, "requests", Kind::Counter)?)?;
+    instruments.push(instrument(alloc, "sizes", Kind::Histogram)?)?;
+    Ok(Seq::from_vec(instruments))
+}
+
+fn view(alloc: Global, rename: Option<Txt>, keep: Keep) -> Result<View, NoMemory> {
+    Ok(View {
+        name: NameRule::Exact(Txt::from_str(alloc, "requests")?),
+        kind: None,
+        scope: None,
+        rename,
+        keep,
+        aggregation: Aggregation::Default,
+    })
+}
+
+/// Requests by their routes, and all of them under a long name.
+pub fn views(alloc: Global) -> anyhow::Result<Seq<View>> {
+    let mut views = Vec::new(alloc);
+    views.push(view(alloc, None, route(alloc)?)?)?;
+    views.push(view(alloc, Some(Txt::from_str(alloc, LONG)?), Keep::All)?)?;
+    Ok(Seq::from_vec(views))
+}
+
+/// The plan of these: two streams of requests, and one of sizes.
+pub fn plan(alloc: Global) -> anyhow::Result<Plan> {
+    Ok(Plan::build(alloc, instruments(alloc)?, views(alloc)?, DEFAULT_LIMIT)?)
+}
+
+/// The identity of a number.
+pub fn id(alloc: Global, number: u128) -> anyhow::Result<WriterId> {
+    Ok(WriterId {
+        service: Txt::from_str(alloc, LONG)?,
+        instance: Uuid::from_u128(number),
+    })
+}
+
+/// A writer of a number that has recorded a request and a size under one set.
+pub fn writer(alloc: Global, number: u128) -> anyhow::Result<Writer> {
+    let mut writer = Writer::start(alloc, id(alloc, number)?, plan(alloc)?, START)?;
+    let attrs = set(alloc, 1)?;
+    writer.measure(0, &attrs, 3)?;
+    writer.measure(1, &attrs, 7)?;
+    Ok(writer)
+}
+
+/// The export of a collection of such a writer: three points.
+pub fn export(alloc: Global, number: u128, time: u64) -> anyhow::Result<Export> {
+    let mut writer = writer(alloc, number)?;
+    let arena = Bump::new(alloc);
+    let round = writer.collect(&arena, time)?;
+    Ok(round.copy_out(alloc, &id(alloc, number)?)?)
+}
+
+/// A gateway of an id that took an export of the first writer at a time.
+pub fn gateway(alloc: Global, id: u32, time: u64) -> anyhow::Result<Gateway> {
+    let mut gateway = Gateway::new(alloc, id);
+    gateway.take(&export(alloc, 1, time)?)?;
+    Ok(gateway)
+}
+
+/// The stream of all requests.
+pub fn requests(alloc: Global) -> anyhow::Result<Stream> {
+    Ok(Stream {
+        scope: Txt::from_str(alloc, "app")?,
+        name: Txt::from_str(alloc, LONG)?,
+        unit: Txt::from_str(alloc, "1")?,
+        shape: Shape::Sum { monotonic: true },
+    })
+}

@@ -1,0 +1,155 @@
+//! Calls of worlds.
+use crate::same::are_same_writers;
+use crate::start::{START, id, plan, set};
+use crate::telling::{call_begins, call_ends, state, tell_made, tell_twice};
+use attr_kit::Seq;
+use std::alloc::Global;
+use world_kit::{Event, Setup, World, WriterSetup, replay};
+
+// A writer and two gateways.
+fn setup(alloc: Global) -> anyhow::Result<Setup> {
+    let mut writers = Vec::new(alloc);
+    writers.push(WriterSetup {
+        id: id(alloc, 1)?,
+        plan: plan(alloc)?,
+        start: START,
+    })?;
+    Ok(Setup {
+        writers: Seq::from_vec(writers),
+        gateways: Seq::from_vec([1, 2].to_vec(alloc)?),
+    })
+}
+
+fn measure(alloc: Global, shard: i64) -> anyhow::Result<Event> {
+    Ok(Event::Measure {
+        writer: 0,
+        instrument: 0,
+        attrs: set(alloc, shard)?,
+        value: 5,
+    })
+}
+
+// A recording, a collection that comes to the first gateway, and its mail to the second.
+fn past(alloc: Global) -> anyhow::Result<[Event; 4]> {
+    Ok([
+        measure(alloc, 1)?,
+        Event::Collect {
+            writer: 0,
+            time: 200,
+        },
+        Event::Deliver {
+            export: 1,
+            gateway: 0,
+        },
+        Event::Send { from: 0, to: 1 },
+    ])
+}
+
+// A world with this past.
+fn world(alloc: Global) -> anyhow::Result<World> {
+    let (world, _) = replay(alloc, setup(alloc)?, &past(alloc)?)?;
+    Ok(world)
+}
+
+fn are_same_nodes(one: &World, other: &World, place: usize) -> bool {
+    match (one.node(place), other.node(place)) {
+        (Some(one), Some(other)) => one.gateway().same(other.gateway()),
+        _ => false,
+    }
+}
+
+// Whether both have the same writer, gateways and exports.
+fn are_same(one: &World, other: &World) -> bool {
+    let writers = match (one.writer(0), other.writer(0)) {
+        (Some(one), Some(other)) => are_same_writers(one, other),
+        _ => false,
+    };
+    writers
+        && are_same_nodes(one, other, 0)
+        && are_same_nodes(one, other, 1)
+        && one.export(2).is_some() == other.export(2).is_some()
+}
+
+fn apply(rt: &HostRuntime, event: Event) -> anyhow::Result<()> {
+    let mut world = world(rt.alloc())?;
+    let twin = crate::worlds::world(rt.alloc())?;
+    call_begins(rt);
+    let answer = world.apply(&event);
+    call_ends(rt);
+    let left = state(are_same(&world, &twin));
+    let again = world.apply(&event);
+    tell_twice(rt, &answer, left, &again)
+}
+
+fn new(rt: &HostRuntime) -> anyhow::Result<()> {
+    let setup = setup(rt.alloc())?;
+    call_begins(rt);
+    let answer = World::new(rt.alloc(), setup);
+    call_ends(rt);
+    tell_made(rt, answer)
+}
+
+fn replayed(rt: &HostRuntime) -> anyhow::Result<()> {
+    let setup = setup(rt.alloc())?;
+    let events = past(rt.alloc())?;
+    call_begins(rt);
+    let answer = replay(rt.alloc(), setup, &events);
+    call_ends(rt);
+    tell_made(rt, answer)
+}
+
+// The event of a name.
+fn event(alloc: Global, name: &str) -> anyhow::Result<Option<Event>> {
+    Ok(Some(match name {
+        "Measure" => measure(alloc, 2)?,
+        "Collect" => Event::Collect {
+            writer: 0,
+            time: 300,
+        },
+        "Shutdown" => Event::Shutdown {
+            writer: 0,
+            time: 300,
+        },
+        "Restart" => Event::Restart {
+            writer: 0,
+            start: 300,
+        },
+        "Deliver" => Event::Deliver {
+            export: 1,
+            gateway: 1,
+        },
+        "Merge" => Event::Merge { into: 1, from: 0 },
+        "Send" => Event::Send { from: 0, to: 1 },
+        "Hand" => Event::Hand {
+            mail: 1,
+            gateway: 1,
+        },
+        _ => return Ok(None),
+    }))
+}
+
+// Applies the event of a name, if there is one.
+fn applied(rt: &HostRuntime, name: &str) -> anyhow::Result<bool> {
+    match event(rt.alloc(), name)? {
+        Some(event) => {
+            apply(rt, event)?;
+            Ok(true)
+        }
+        None => Ok(false),
+    }
+}
+
+/// Makes a call of a world, if this is the name of one.
+pub fn made(rt: &HostRuntime, call: &str) -> anyhow::Result<bool> {
+    match call {
+        "World::new" => new(rt)?,
+        "replay" => replayed(rt)?,
+        _ => {
+            return match call.strip_prefix("World::apply, ") {
+                Some(name) => applied(rt, name),
+                None => Ok(false),
+            };
+        }
+    }
+    Ok(true)
+}

@@ -1,0 +1,34 @@
+"""What the gate cost: processor minutes by crate and kind of work, as a table."""
+import collections
+
+KINDS = ("proofs", "tests", "builds", "edits")
+
+
+def read(ledger):
+    """Processor seconds and seconds by the clock by (crate, kind)."""
+    used = collections.defaultdict(lambda: [0.0, 0.0])
+    with open(ledger, encoding="utf-8") as lines:
+        for line in lines:
+            crate, kind, processor, clock = line.rstrip("\n").split("\t")
+            used[crate, kind][0] += float(processor)
+            used[crate, kind][1] += float(clock)
+    return used
+
+
+def minutes(seconds):
+    return f"{seconds / 60:.1f}" if seconds else ""
+
+
+def table(ledger, head, stages):
+    """The page: what ran and where, minutes by the clock of each stage, and the table."""
+    used = read(ledger)
+    crates = sorted({crate for crate, _ in used}, key=lambda it: -sum(used[it, kind][0] for kind in KINDS))
+    lines = ["# The gate's last cost", "", *head, "", "| Stage | Minutes by the clock |", "|---|---|"]
+    lines += [f"| {name} | {minutes(seconds) or '0.0'} |" for name, seconds in stages]
+    lines += ["", "Processor minutes:", "", "| Crate | Proofs | Tests' own proofs | Builds | Edits | Together |", "|---|---|---|---|---|---|"]
+    for crate in crates:
+        spent = [used[crate, kind][0] for kind in KINDS]
+        lines.append(f"| {crate} | {' | '.join(minutes(it) for it in spent)} | {minutes(sum(spent))} |")
+    whole = [sum(used[crate, kind][0] for crate in crates) for kind in KINDS]
+    lines.append(f"| all | {' | '.join(minutes(it) for it in whole)} | {minutes(sum(whole))} |")
+    return "\n".join(lines) + "\n"
