@@ -23,6 +23,7 @@ import sys
 import tempfile
 import threading
 import time
+import traceback
 import types
 
 import costs
@@ -106,9 +107,32 @@ def prepare(ledger):
     in_lanes = rt.in_lanes
 
     def tests_after_proofs(tasks):
-        return in_lanes({(name, kind): ([*waits, (name, "proof")] if kind == "tests" else waits, *rest) for (name, kind), (waits, *rest) in tasks.items()})
+        made = {}
+        for (name, kind), (waits, lines, needs, call) in tasks.items():
+            made[name, kind] = [*waits, (name, "proof")] if kind == "tests" else waits, lines, needs, twice(f"{name}: {kind}", call)
+        return in_lanes(made)
 
     rt.in_lanes = tests_after_proofs
+
+
+def twice(what, call):
+    """The call, made once more where the machine failed it, as a full disk does; the second fault ends the run."""
+
+    def tried(*given):
+        try:
+            return call(*given)
+        except Exception as fault:
+            print(f"{traceback.format_exc()}{what}: {fault!r}: once more; {what_is_free()}", flush=True)
+            time.sleep(20)
+            return call(*given)
+
+    return tried
+
+
+def what_is_free():
+    """What the machine has left."""
+    disk = ", ".join(f"{shutil.disk_usage(it).free >> 20} MB on the disk of {what}" for what, it in (("the clone", TOP), ("temporary files", tempfile.gettempdir())))
+    return f"{rt.processors()} processors, {rt.free() >> 20} MB of memory, {disk}"
 
 
 def runners():
@@ -264,6 +288,7 @@ def main(words):
             refused, failed, _ = all_edits(crates)
             print(f"{refused} passed, {len(failed)} failed")
             return 1 if failed else 0
+        print(f"free: {what_is_free()}", flush=True)
         rt.began_from_nothing = rt.ci_from_nothing
         rt.ci_from_nothing = lambda aside: whole(aside, ledger)
         return rt.ci()
