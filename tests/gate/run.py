@@ -109,22 +109,23 @@ def prepare(ledger):
     def tests_after_proofs(tasks):
         made = {}
         for (name, kind), (waits, lines, needs, call) in tasks.items():
-            made[name, kind] = [*waits, (name, "proof")] if kind == "tests" else waits, lines, needs, twice(f"{name}: {kind}", call)
+            made[name, kind] = [*waits, (name, "proof")] if kind == "tests" else waits, lines, needs, patiently(f"{name}: {kind}", call)
         return in_lanes(made)
 
     rt.in_lanes = tests_after_proofs
 
 
-def twice(what, call):
-    """The call, made once more where the machine failed it, as a full disk does; the second fault ends the run."""
+def patiently(what, call):
+    """The call, made again where the machine failed it, as a full disk or want of memory does; the sixth fault ends the run."""
 
     def tried(*given):
-        try:
-            return call(*given)
-        except Exception as fault:
-            print(f"{traceback.format_exc()}{what}: {fault!r}: once more; {what_is_free()}", flush=True)
-            time.sleep(20)
-            return call(*given)
+        for _ in range(5):
+            try:
+                return call(*given)
+            except Exception as fault:
+                print(f"{traceback.format_exc()}{what}: {fault!r}: again in a minute; free: {what_is_free()}", flush=True)
+                time.sleep(60)
+        return call(*given)
 
     return tried
 
