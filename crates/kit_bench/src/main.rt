@@ -8,6 +8,7 @@ mod changes;
 mod clock;
 mod counter;
 mod gateways;
+mod gossip;
 mod measures;
 mod merges;
 mod mutexes;
@@ -24,6 +25,7 @@ fn takes_and_merges(rt: &HostRuntime, sizes: &[u32]) -> anyhow::Result<()> {
     for keys in sizes {
         takes::run(rt, *keys)?;
         merges::run(rt, *keys)?;
+        gossip::run(rt, *keys)?;
     }
     Ok(())
 }
