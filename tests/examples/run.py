@@ -17,7 +17,7 @@ BUILDS = ("otm", "otm.by-rattle")
 SECONDS = 60
 
 NO_COMMAND = b"""error: 'otm' requires a subcommand but one was not provided
-  [subcommands: run, help]
+  [subcommands: run, fleet, help]
 
 Usage: otm <COMMAND>
 
@@ -34,8 +34,9 @@ For more information, try '--help'.
 HELP = b"""Usage: otm <COMMAND>
 
 Commands:
-  run   
-  help  Print this message or the help of the given subcommand(s)
+  run    
+  fleet  
+  help   Print this message or the help of the given subcommand(s)
 
 Options:
   -h, --help  Print help

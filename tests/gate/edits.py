@@ -138,7 +138,10 @@ def rounds_of(edits, source, most):
 
 def refused_in(said, texts, edit, source):
     """What the check of a round says against the function that the edit changes: a line, or none."""
-    spans = [it for file, name, owner in applied({}, edit, source)[1] for it in spans_of(file, texts[file]) if (it.folder, it.owner) == (name, owner)]
+    made = applied({}, edit, source)
+    if made is None:
+        return ""
+    spans = [it for file, name, owner in made[1] for it in spans_of(file, texts[file]) if (it.folder, it.owner) == (name, owner)]
     vanished = ""
     for line in said:
         at = AT_SOURCE.match(line)

@@ -8,11 +8,13 @@ fails, and so does one that takes memory though it should not.
 
 `otm run` is then given the scripts of examples/, and each growth is refused from the first of the process on: it must end with
 status 3, `no memory` and before that a front of what the script prints, or do the whole script where that growth was not
-needed. The same holds of a script that outgrows the memory that the process may have.
+needed. The same holds of a script that outgrows the memory that the process may have. `otm fleet` must tell the right totals, or that memory
+was wanting, or that the fleet failed, and never other totals.
 
 This ends with a status other than 0 where one of these does not hold, or a program is missing."""
 import concurrent.futures
 import pathlib
+import re
 import subprocess
 import sys
 import tempfile
@@ -31,6 +33,10 @@ EXPORT = ("Err(ExportRefused) | as before",)
 PUSHED = ("Err(NoMemory) | as before", "Err(ExportRefused) | collected")
 HANDED_BACK = ("NoMemory | as before",)
 NO_MEMORY_TAKEN = ()
+
+FLEET = ("fleet", "--recorders", "3", "--each", "5")
+TOTALS = b"gateway 1 total 30\ngateway 2 total 30\n"
+FLEET_FAULTS = ((3, re.compile(rb"no memory\n")), (1, re.compile(rb"fleet failed\n|missing gateway [12] writer [01]\n")))
 
 # Calls of which one growth alone may be spared: an arena asks for half of a piece that it is refused, and a list that is
 # collected grows as it goes where room for all of it is refused.
@@ -155,6 +161,22 @@ def script_faults(library, program, script, wanted):
     return whole.growths, spared, wrong
 
 
+def fleet_faults(library, program):
+    """The same of a fleet, whose threads make growths in no fixed order: the right totals, or one of its faults."""
+    whole = faults.run(library, [program, *FLEET])
+    if (whole.status, whole.out) != (0, TOTALS):
+        return 0, 0, ["with ample memory it is not as told"]
+    wrong, spared = [], 0
+    for number in range(1, whole.growths + 1):
+        for refused in (f"{number}-{number}", f"{number}-"):
+            ran = faults.run(library, [program, *FLEET], growths=refused)
+            if (ran.status, ran.out) == (0, TOTALS):
+                spared += 1
+            elif ran.err or not any(ran.status == status and text.fullmatch(ran.out) for status, text in FLEET_FAULTS):
+                wrong.append(f"growth {refused} of {whole.growths}: status {ran.status}, {ran.out!r}, {ran.err!r}")
+    return whole.growths, spared, wrong
+
+
 def is_front(ran, wanted):
     """Whether a run ended for want of memory after a front of what was wanted."""
     front, mark, end = ran.out.rpartition(b"no memory\n")
@@ -208,6 +230,9 @@ def refuse_scripts(library, pool):
             total += growths
             text = f"{growths} growths refused in turn, {spared} times not needed"
             failed |= say(f"{program.name}: examples/{script.name}", text, wrong)
+        growths, spared, wrong = fleet_faults(library, program)
+        total += growths
+        failed |= say(f"{program.name}: {' '.join(FLEET)}", f"{growths} growths refused in turn, {spared} times not needed", wrong)
         failed |= bool(outgrown(program))
     return failed, total
 

@@ -1,20 +1,28 @@
-//! `otm run` does the script of the standard input and writes what its lines say to the standard output.
+//! `otm run` does the script of the standard input and writes what its lines say to the standard output. `otm fleet` runs a
+//! fleet of threads and writes the total of each gateway.
 //!
-//! Exit statuses: 0 where all of it was done; 1 for a bad line, of which `line N` is printed, or a script that is too
-//! long (`too long`); 2 for words that are refused, whose text goes to the standard error; 3 for want of memory
-//! (`no memory`); 4 where a read or a write failed (`read failed` or `write failed`, on the standard error).
+//! Exit statuses: 0 where all of it was done; 1 for a bad line, of which `line N` is printed, a script that is too long (`too long`), or a
+//! fleet without an answer (`missing gateway G writer W`, or `fleet failed`); 2 for words that are refused, whose text goes to the standard
+//! error; 3 for want of memory (`no memory`); 4 where a read or a write failed (`read failed` or `write failed`, on the standard error).
 #![tactic(auto)]
 
+ghost use Rattle.std.specs.Prelude.{IfOk};
+ghost use Rattle.otm_kit.specs.Asked.{IsRanged};
+
 use otm_kit::command_line::asked;
-use otm_kit::{Asked, LineFault, run_script};
+use otm_kit::{Asked, FleetEnd, LineFault, fleet_report, run_script};
 use script_kit::ScriptFault;
 use std::alloc::Global;
 use std::io::ErrorKind;
 use std::process::ExitCode;
 use std::rt::Env;
+use std::sync::Wait;
+use std::thread::Threads;
 use std::{env, io};
 
 const BAD_SCRIPT: u8 = 1;
+
+const BAD_FLEET: u8 = 1;
 
 const BAD_WORDS: u8 = 2;
 
@@ -25,12 +33,22 @@ const BAD_STREAM: u8 = 4;
 fn main(rt: HostRuntime) -> ExitCode {
     match told(&rt) {
         Ok(Asked::Run) => run(&rt),
+        Ok(
+            Asked::Fleet {
+                writers,
+                recorders,
+                each,
+                gateways,
+            },
+        ) => fleet(&rt, writers, recorders, each, gateways),
         Err(fault) => refuse(&rt, &fault),
     }
 }
 
 // What the words of the command line ask for.
-fn told(rt: &(impl Env + AllocGlobal)) -> Result<Asked, LineFault> {
+fn told(rt: &(impl Env + AllocGlobal)) -> Result<Asked, LineFault>
+    ensures { IfOk result IsRanged }
+{
     let args = match env::args(rt) {
         Ok(args) => args,
         Err(error) => return Err(unread(rt.alloc(), &error)),
@@ -60,6 +78,49 @@ fn run(rt: &(impl Input + Print + Eprint + AllocGlobal)) -> ExitCode {
     match run_script(rt.alloc(), &mut reader, &mut writer) {
         Ok(()) => ExitCode::SUCCESS,
         Err(fault) => report(rt, fault),
+    }
+}
+
+// Runs a fleet.
+fn fleet(
+    rt: &(impl Threads + Wait + Sync + Print + Eprint + AllocGlobal),
+    writers: u8,
+    recorders: u8,
+    each: u64,
+    gateways: u8,
+) -> ExitCode
+    requires { IsRanged (Asked.Fleet writers recorders each gateways) }
+{
+    let mut writer = io::writer(rt);
+    match fleet_report(
+        rt,
+        rt.alloc(),
+        writers,
+        recorders,
+        each,
+        gateways,
+        &mut writer,
+    ) {
+        Ok(()) => ExitCode::SUCCESS,
+        Err(end) => report_end(rt, &end),
+    }
+}
+
+// Prints why a fleet's totals are not told, and gives the status for it.
+fn report_end(rt: &(impl Print + Eprint), end: &FleetEnd) -> ExitCode {
+    match end {
+        FleetEnd::Fleet(_) => {
+            let _ = println!(rt; "{end}");
+            ExitCode::from(BAD_FLEET)
+        }
+        FleetEnd::NoMemory => {
+            let _ = println!(rt; "{end}");
+            ExitCode::from(NO_MEMORY)
+        }
+        FleetEnd::WriteFault => {
+            let _ = eprintln!(rt; "{end}");
+            ExitCode::from(BAD_STREAM)
+        }
     }
 }
 

@@ -2,6 +2,9 @@ pub mod AskedLemmas
 pub mod Beginning
 pub mod Effecting
 pub mod Finding
+pub mod FleetRows
 pub mod Lines
+pub mod OptionLemmas
 pub mod Runnings
 pub mod Telling
+pub mod Unwritten

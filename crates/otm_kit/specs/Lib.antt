@@ -1,5 +1,7 @@
 -- What a command line asks for, and what a script says.
 pub mod Asked
+pub mod FleetTexts
+pub mod FleetSetups
 pub mod Declarations
 pub mod Begin
 pub mod Events

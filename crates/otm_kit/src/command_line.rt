@@ -1,14 +1,50 @@
 //! What the words of a command line ask for.
-ghost use Rattle.clap.specs.Words.{app_of, subcommand_rows_of, is_broken, kind_of};
+ghost use Rattle.clap.specs.Words.{app_of, found_of, rows_of, rule_of, subcommand_rows_of, is_broken, kind_of};
 ghost use Rattle.clap.specs.declared.builder.command.Command.TheViews.{out-Command};
-ghost use Rattle.otm_kit.specs.Asked.{otm, Says, faults_of, named_by, is_taken};
-ghost use Rattle.std.specs.Prelude.{◌≡◌, [], false, true, IfOk, IfSome, IsErrOf, OnOk, map};
+ghost use Rattle.otm_kit.specs.Asked.{otm, fleet, count_rule, each_rule, Says, IsGiven, IsCount, IsRanged, faults_of, named_by, is_taken};
+ghost use Rattle.std.specs.Prelude.{◌≡◌, ◌≤◌, [], Some, codes, false, true, IfOk, IfSome, IsErrOf, OnOk, map};
 
 use crate::{Asked, LineFault};
 use clap::error::ErrorKind;
-use clap::{ArgMatches, Command};
+use clap::{Arg, ArgMatches, Command, value_parser};
 use std::alloc::{AllocError, Global};
 use std::convert::AsStr;
+
+// An option whose value is a number from 1 to 8, or 2 where it is left out.
+#[tactic(auto)]
+fn count<'a>(alloc: Global, name: &'a str) -> Arg<'a>
+    ensures rule { rule_of result ≡ count_rule name.entry.now }
+    ensures own { result.global ≡ false }
+{
+    Arg::new(alloc, name)
+        .long(name)
+        .value_parser(value_parser!(u8).range(1..=8))
+        .default_value("2")
+}
+
+// The option whose value is how many recordings each recorder makes.
+#[tactic(auto)]
+fn each<'a>(alloc: Global) -> Arg<'a>
+    ensures rule { rule_of result ≡ each_rule }
+    ensures own { result.global ≡ false }
+{
+    Arg::new(alloc, "each")
+        .long("each")
+        .value_parser(value_parser!(u64).range(0..=1_000_000))
+        .default_value("1000")
+}
+
+fn fleet<'a>(alloc: Global) -> Result<Command<'a>, AllocError>
+    ensures app { IfOk result (λ c. app_of c ≡ fleet) }
+    ensures own { IfOk result (λ c. (out-Command c).has_globals ≡ false) }
+    ensures whole { IfOk result (λ c. is_broken c ≡ false) }
+{
+    Command::new(alloc, "fleet")
+        .arg(count(alloc, "writers"))?
+        .arg(count(alloc, "recorders"))?
+        .arg(each(alloc))?
+        .arg(count(alloc, "gateways"))
+}
 
 #[tactic(auto, unfolding(crate::specs::Asked::otm))]
 fn command<'a>(alloc: Global) -> Result<Command<'a>, AllocError>
@@ -18,7 +54,8 @@ fn command<'a>(alloc: Global) -> Result<Command<'a>, AllocError>
 {
     Command::new(alloc, "otm")
         .subcommand_required(true)
-        .subcommand(Command::new(alloc, "run"))
+        .subcommand(Command::new(alloc, "run"))?
+        .subcommand(fleet(alloc)?)
 }
 
 fn refusal(alloc: Global, error: &clap::Error) -> LineFault
@@ -33,13 +70,55 @@ fn refusal(alloc: Global, error: &clap::Error) -> LineFault
     }
 }
 
+// The number from 1 to 8 that is the value of an option.
+fn count_given(options: &ArgMatches<'_>, id: &str) -> Option<u8>
+    ensures given { IfSome result (IsGiven (rows_of (found_of options.now)) id.now) }
+    ensures counts { IfSome result IsCount }
+{
+    let number = options.get_one::<u8>(id)?;
+    if number >= 1 && number <= 8 {
+        Some(number)
+    } else {
+        None
+    }
+}
+
+// How many recordings each recorder is to make.
+fn each_given(options: &ArgMatches<'_>) -> Option<u64>
+    ensures given { IfSome result (IsGiven (rows_of (found_of options.now)) (codes "each")) }
+    ensures few { IfSome result (λ n. n ≤ 1000000) }
+{
+    let number = options.get_one::<u64>("each")?;
+    if number <= 1_000_000 {
+        Some(number)
+    } else {
+        None
+    }
+}
+
+// The fleet that the options of its command ask for.
+fn read_fleet(options: &ArgMatches<'_>) -> Option<Asked>
+    ensures says { IfSome result (Says (Some (codes "fleet", rows_of (found_of options.now)))) }
+    ensures ranged { IfSome result IsRanged }
+{
+    Some(Asked::Fleet {
+        writers: count_given(options, "writers")?,
+        recorders: count_given(options, "recorders")?,
+        each: each_given(options)?,
+        gateways: count_given(options, "gateways")?,
+    })
+}
+
 // What the matches of the program's command ask for.
 fn read(matches: &ArgMatches<'_>) -> Option<Asked>
-    ensures { IfSome result (Says (subcommand_rows_of matches.now)) }
+    ensures says { IfSome result (Says (subcommand_rows_of matches.now)) }
+    ensures ranged { IfSome result IsRanged }
 {
-    let (name, _) = matches.subcommand()?;
+    let (name, options) = matches.subcommand()?;
     if name == "run" {
         Some(Asked::Run)
+    } else if name == "fleet" {
+        read_fleet(options)
     } else {
         None
     }
@@ -47,10 +126,13 @@ fn read(matches: &ArgMatches<'_>) -> Option<Asked>
 
 /// What the words ask for. The first word is the program's name.
 ///
+/// A fleet's numbers are the values of its options, or their defaults, and lie in the ranges of [`Asked::Fleet`].
+///
 /// Refusals: [`LineFault::BadWords`] where `clap` refuses the words for another cause than memory, with the text to show;
 /// then [`LineFault::NoMemory`].
 pub fn asked<S: AsStr>(alloc: Global, words: &[S]) -> Result<Asked, LineFault>
     ensures ok { IfOk result (Says (named_by (map S.text words.now))) }
+    ensures ranged { IfOk result IsRanged }
     ensures taken { OnOk result (faults_of (map S.text words.now) ≡ []) }
     ensures bad_words { (text : _) → IsErrOf result (LineFault.BadWords text) → is_taken (map S.text words.now) ≡ false }
 {

@@ -4,8 +4,10 @@
 //! says; `command_line::asked` reads the words of a command line. What a script says is a definition (specs `Says`): the
 //! effect of each line is read off the lines before it (specs `Declarations`, `Events`, `Effects`, `Answers`, `Texts`), and
 //! the world of the script is that of its accepted events (`world_kit`). Every line of the grammar of `script_kit` is done;
-//! mails carry whole states, so no mail is answered by a mail.
-//! Scripts are the kit's own; the OpenTelemetry specification has none.
+//! mails carry what changed, and a delta is answered by a mail.
+//! `fleet_report` runs a fleet of threads and writes the total of each gateway, which is the number of all recordings (specs
+//! `FleetSetups`, `FleetTexts`).
+//! Scripts and fleets are the kit's own; the OpenTelemetry specification has neither.
 #![tactic(auto)]
 
 mod answers;
@@ -13,6 +15,9 @@ mod begin;
 pub mod command_line;
 mod desk;
 mod draft;
+mod fleet;
+mod fleet_end;
+mod fleet_setup;
 mod gateway_ids;
 mod labels;
 mod refusals;
@@ -22,5 +27,7 @@ mod script;
 mod tests;
 mod words;
 
+pub use fleet::fleet_report;
+pub use fleet_end::FleetEnd;
 pub use script::run_script;
 pub use words::{Asked, LineFault};

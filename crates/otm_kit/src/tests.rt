@@ -1,6 +1,6 @@
 //! The worked scripts: what each prints.
 use crate::command_line::asked;
-use crate::{Asked, LineFault, run_script};
+use crate::{Asked, LineFault, fleet_report, run_script};
 use script_kit::ScriptFault;
 use std::alloc::Global;
 use std::io;
@@ -218,7 +218,8 @@ fn row_merge_and_gossip(rt: HostRuntime) -> Result<(), Fail> {
 fn row_acknowledged_deltas(rt: HostRuntime) -> Result<(), Fail> {
     let script =
         "instrument c counter app requests 1\nwriter a shop 00000000-0000-0000-0000-000000000001 100\ngateway 1\ngateway 2\ngateway 3\nbegin\nmeasure a c 3 -\ncollect a 200\ndeliver 1 1\nsend 1 2\nmeasure a c 4 -\ncollect a 300\ndeliver 2 1\nsend 1 2\nhand 2 2\nhand 2 2\nhand 2 3\nsend 1 2\nhand 3 1\nhand 5 2\nsame 1 2\nreport 2 app requests 1 sum+ * - *\n";
-    let text = "refused: NotAddressed\nsame yes\nattributes  points  conflicts  total\n{}               1          0  7\n";
+    let text =
+        "refused: NotAddressed\nsame yes\nattributes  points  conflicts  total\n{}               1          0  7\n";
     assert!(rt; prints(&rt, script, text, Ok(()))?);
     Ok(())
 }
@@ -236,7 +237,8 @@ fn row_conflict_by_gossip(rt: HostRuntime) -> Result<(), Fail> {
 fn row_deltas_after_loss(rt: HostRuntime) -> Result<(), Fail> {
     let script =
         "instrument c counter app requests 1\nwriter a shop 00000000-0000-0000-0000-000000000001 100\ngateway 1\ngateway 2\ngateway 3\nbegin\nmeasure a c 3 -\ncollect a 200\ndeliver 1 1\nsend 1 2\nmeasure a c 4 -\ncollect a 300\ndeliver 2 1\nsend 1 2\nhand 2 2\nhand 2 2\nhand 2 3\nsend 1 2\nhand 3 1\nhand 5 2\nsame 1 2\nmeasure a c 5 -\ncollect a 400\ndeliver 3 1\nsend 1 2\nhand 4 1\nhand 7 2\nsame 1 2\nreport 2 app requests 1 sum+ * - *\n";
-    let text = "refused: NotAddressed\nsame yes\nsame yes\nattributes  points  conflicts  total\n{}               1          0  12\n";
+    let text =
+        "refused: NotAddressed\nsame yes\nsame yes\nattributes  points  conflicts  total\n{}               1          0  12\n";
     assert!(rt; prints(&rt, script, text, Ok(()))?);
     Ok(())
 }
@@ -559,10 +561,10 @@ fn is_refused(alloc: Global, words: &[&str], text: &str) -> bool {
 }
 
 const HELP: &str =
-    "Usage: otm <COMMAND>\n\nCommands:\n  run   \n  help  Print this message or the help of the given subcommand(s)\n\nOptions:\n  -h, --help  Print help\n";
+    "Usage: otm <COMMAND>\n\nCommands:\n  run    \n  fleet  \n  help   Print this message or the help of the given subcommand(s)\n\nOptions:\n  -h, --help  Print help\n";
 
 const NO_COMMAND: &str =
-    "error: 'otm' requires a subcommand but one was not provided\n  [subcommands: run, help]\n\nUsage: otm <COMMAND>\n\nFor more information, try '--help'.\n";
+    "error: 'otm' requires a subcommand but one was not provided\n  [subcommands: run, fleet, help]\n\nUsage: otm <COMMAND>\n\nFor more information, try '--help'.\n";
 
 const WRONG_COMMAND: &str =
     "error: unrecognized subcommand 'garbage'\n\nUsage: otm <COMMAND>\n\nFor more information, try '--help'.\n";
@@ -579,5 +581,61 @@ fn words_of_a_command_line(rt: HostRuntime) -> Result<(), Fail> {
     assert!(rt; is_refused(alloc, &["otm", "garbage", "run"], WRONG_COMMAND));
     assert!(rt; is_refused(alloc, &["otm", "run", "extra"], WORD_BEHIND));
     assert!(rt; matches!(asked(alloc, &["otm", "run"]), Ok(Asked::Run)));
+    Ok(())
+}
+
+// Whether the words ask for this fleet.
+fn asks_fleet(alloc: Global, words: &[&str], fleet: (u8, u8, u64, u8)) -> bool {
+    match asked(alloc, words) {
+        Ok(
+            Asked::Fleet {
+                writers,
+                recorders,
+                each,
+                gateways,
+            },
+        ) => (writers, recorders, each, gateways) == fleet,
+        _ => false,
+    }
+}
+
+#[test]
+fn fleets_are_asked_for(rt: HostRuntime) -> Result<(), Fail> {
+    let alloc = rt.alloc();
+    let all = [
+        "otm",
+        "fleet",
+        "--writers",
+        "8",
+        "--recorders=3",
+        "--each",
+        "0",
+        "--gateways",
+        "1",
+    ];
+    assert!(rt; asks_fleet(alloc, &["otm", "fleet"], (2, 2, 1000, 2)));
+    assert!(rt; asks_fleet(alloc, &all, (8, 3, 0, 1)));
+    for words in [
+        ["otm", "fleet", "writers", "2"],
+        ["otm", "fleet", "--writers", "9"],
+        ["otm", "fleet", "--gateways", "0"],
+        ["otm", "fleet", "--each", "1000001"],
+    ] {
+        assert!(rt; matches!(asked(alloc, &words), Err(LineFault::BadWords(_))));
+    }
+    Ok(())
+}
+
+#[test]
+fn fleets_tell_totals(rt: HostRuntime) -> Result<(), Fail> {
+    let alloc = rt.alloc();
+    let mut written: Vec<u8> = Vec::new(alloc);
+    let result = fleet_report(&rt, alloc, 2, 3, 1000, 2, &mut written);
+    assert!(rt; result.is_ok());
+    assert!(rt; written.as_slice() == "gateway 1 total 6000\ngateway 2 total 6000\n".as_bytes());
+    let mut idle: Vec<u8> = Vec::new(alloc);
+    let result = fleet_report(&rt, alloc, 1, 2, 0, 2, &mut idle);
+    assert!(rt; result.is_ok());
+    assert!(rt; idle.as_slice() == "gateway 1 total 0\ngateway 2 total 0\n".as_bytes());
     Ok(())
 }

@@ -13,7 +13,7 @@ returns-in-Ok-try_get_matches_from-clause-ok g c =
     let m = c.in-Ok-try_get_matches_from.matches in
     let simple : is_simple (app_of c.in-Ok.command) ≡ true = ap is_simple app ∙ otm_is_simple in
     let same : subcommand_rows_of m ≡ named_by words = (c.in-Ok-try_get_matches_from.ensures.matches simple).1 ∙ ap (λ (a : App). subcommand_of a words) app in
-    let asked : IfSome c.read.result (Says (named_by words)) = rw (← same) c.read.ensures in
+    let asked : IfSome c.read.result (Says (named_by words)) = rw (← same) c.read.ensures.says in
     ok_from_some (Says (named_by words)) c.read.result c.ok_or.result _ c.ok_or.ensures.value asked
 
 pub returns-in-Err-clause-bad_words : goal.returns-in-Err-clause-bad_words

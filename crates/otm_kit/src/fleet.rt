@@ -1,0 +1,112 @@
+//! The totals of a fleet.
+ghost use Rattle.std.specs.Prelude.{◌≡◌, ◌≤◌, ◌*◌, IfOk, IsErrOf, OnErr, OnOk, string_bytes};
+ghost use Rattle.std.specs.Io.KnownBytes.{Appends};
+ghost use Rattle.std.specs.List.{flat_map};
+ghost use Rattle.rollup_kit.specs.Rollups.{rollup_rows};
+ghost use Rattle.script_kit.specs.Bytes.{AppendsFront};
+ghost use Rattle.otm_kit.specs.Asked.{IsCount};
+ghost use Rattle.otm_kit.specs.FleetTexts.{fleet_text, sum_in, total_line};
+
+use crate::FleetEnd;
+use crate::fleet_setup::{ask, setup};
+use attr_kit::NoMemory;
+use fleet_kit::{Gate, run_fleet};
+use gateway_kit::Gateway;
+use rollup_kit::{Ask, Total, rollup};
+use script_kit::write_text;
+use std::alloc::Global;
+use std::io::Write;
+use std::sync::Wait;
+use std::thread::Threads;
+
+/// Lets every recording pass.
+#[derive(Drop)]
+struct Open;
+
+impl Gate for Open {
+    fn pass<R: Wait>(&self, _rt: &R, _job: usize, _entry: usize) -> bool {
+        true
+    }
+}
+
+// The sum in the row that a gateway answers, or 0 where it answers none.
+fn sum(alloc: Global, gateway: &Gateway, ask: &Ask) -> Result<i128, NoMemory>
+    ensures { IfOk result (λ sum. sum ≡ sum_in (rollup_rows ask.now gateway.now.points)) }
+{
+    let rows = rollup(alloc, gateway, ask)?;
+    match rows.as_slice().first() {
+        None => Ok(0),
+        Some(row) => match &row.total {
+            Total::Sum(sum) => Ok(*sum),
+            _ => Ok(0),
+        },
+    }
+}
+
+#[tactic(auto, unfolding(crate::specs::FleetTexts::total_line))]
+fn line(alloc: Global, id: u32, sum: i128) -> Result<String, NoMemory>
+    ensures { IfOk result (λ text. string_bytes text ≡ total_line id sum) }
+{
+    Ok(format!(in alloc; "gateway {id} total {sum}\n")?)
+}
+
+// A line for each gateway.
+fn lines(alloc: Global, gateways: &[Gateway], ask: &Ask) -> Result<String, NoMemory>
+    ensures { IfOk result (λ text. string_bytes text ≡ flat_map (λ g. total_line g.id (sum_in (rollup_rows ask.now g.points))) gateways.now) }
+{
+    let mut text = String::new(alloc);
+    for gateway in gateways {
+        let line = line(alloc, gateway.id(), sum(alloc, gateway, ask)?)?;
+        text.push_str(line.as_str())?;
+    }
+    Ok(text)
+}
+
+// Runs the fleet to its end, and tells the totals of its gateways.
+fn told<R: Threads + Wait + Sync>(
+    rt: &R,
+    alloc: Global,
+    writers: u8,
+    recorders: u8,
+    each: u64,
+    gateways: u8,
+) -> Result<String, FleetEnd>
+    ensures ok { IfOk result (λ text. string_bytes text ≡ fleet_text gateways (writers * recorders * each)) }
+    ensures unwritten { IsErrOf result FleetEnd.WriteFault → ⊥ }
+{
+    let setup = setup(alloc, writers, recorders, each, gateways)?;
+    let gateways = run_fleet(rt, alloc, setup, &Open)?;
+    let ask = ask(alloc)?;
+    Ok(lines(alloc, gateways.as_slice(), &ask)?)
+}
+
+/// Runs a fleet of so many writers, with so many recorder threads each, which make so many recordings of 1 each, and of so
+/// many gateways; and writes, after all threads have ended, `gateway G total N` for each gateway in the order of their ids,
+/// where N is the sum that the gateway answers. Each line ends with a line feed.
+///
+/// Where all is done, each total is the number of all recordings. At `WriteFault` a front of that text was written.
+///
+/// Refuses, by the first thing that failed: [`FleetEnd::Fleet`], and [`FleetEnd::NoMemory`], before anything is written; then
+/// [`FleetEnd::WriteFault`], also where a write takes no byte.
+pub fn fleet_report<R: Threads + Wait + Sync, W: Write>(
+    rt: &R,
+    alloc: Global,
+    writers: u8,
+    recorders: u8,
+    each: u64,
+    gateways: u8,
+    writer: &mut W,
+) -> Result<(), FleetEnd>
+    requires writers { IsCount writers }
+    requires recorders { IsCount recorders }
+    requires each { each ≤ 1000000 }
+    requires gateways { IsCount gateways }
+    ensures ok { OnOk result (Appends (W.contents writer.old) (W.contents writer.new) (fleet_text gateways (writers * recorders * each))) }
+    ensures front { OnErr result (AppendsFront (W.contents writer.old) (W.contents writer.new) (fleet_text gateways (writers * recorders * each))) }
+{
+    let text = told(rt, alloc, writers, recorders, each, gateways)?;
+    match write_text(writer, text.as_bytes()) {
+        Ok(()) => Ok(()),
+        Err(_) => Err(FleetEnd::WriteFault),
+    }
+}

@@ -1,0 +1,129 @@
+//! The setup of the program's fleet.
+ghost use Rattle.std.specs.Prelude.{◌≡◌, ◌++◌, IfOk, OnOk, map, replicate};
+ghost use Rattle.fleet_kit.specs.Jobs.{task_of};
+ghost use Rattle.otm_kit.specs.FleetSetups.{IsFleetSetup, fleet_ask, fleet_plan, fleet_task, fleet_tasks, plans};
+ghost use Rattle.otm_kit.specs.FleetTexts.{fleet_ids};
+
+use attr_kit::{AllowList, AttrSet, Keep, NoMemory, Seq, Txt};
+use fleet_kit::{FleetSetup, Job};
+use plan_kit::{DEFAULT_LIMIT, Instrument, Kind, Plan};
+use point_kit::{Shape, Stream, WriterId};
+use rollup_kit::Ask;
+use std::alloc::Global;
+use uuid::Uuid;
+
+// The plan of every writer. It has no fault, so that only memory can be wanting.
+fn plan(alloc: Global) -> Result<Plan, NoMemory>
+    ensures { IfOk result (λ plan. plan ≡ fleet_plan) }
+{
+    let mut instruments = Vec::new(alloc);
+    instruments.push(Instrument {
+        kind: Kind::Counter,
+        scope: Txt::from_str(alloc, "fleet")?,
+        name: Txt::from_str(alloc, "recordings")?,
+        unit: Txt::from_str(alloc, "1")?,
+    })?;
+    let instruments = Seq::from_vec(instruments);
+    match Plan::build(alloc, instruments, Seq::new(alloc), DEFAULT_LIMIT) {
+        Ok(plan) => Ok(plan),
+        Err(_) => Err(NoMemory),
+    }
+}
+
+// So many writers, each of the service and the instance of its place and 1.
+fn writers(alloc: Global, count: u8) -> Result<Vec<(WriterId, Plan, u64)>, NoMemory>
+    ensures { IfOk result (λ ws. plans ws.items ≡ replicate count (fleet_plan, 1)) }
+{
+    let mut writers = Vec::new(alloc);
+    for place in 0..count {
+        let id = WriterId {
+            service: Txt::from_str(alloc, "fleet")?,
+            instance: Uuid::from_u128(u128::from(place) + 1),
+        };
+        writers.push((id, plan(alloc)?, 1))?;
+    }
+    Ok(writers)
+}
+
+// The job of a recorder.
+fn job(alloc: Global, writer: usize, each: u64) -> Result<Job, NoMemory>
+    ensures { IfOk result (λ job. task_of job ≡ fleet_task each writer) }
+{
+    let mut entries = Vec::new(alloc);
+    for _entry in 0..each {
+        entries.push((0, AttrSet::empty(alloc), 1))?;
+    }
+    Ok(Job { writer, entries })
+}
+
+// Adds the jobs of a writer.
+fn add_jobs(
+    jobs: &mut Vec<Job>,
+    alloc: Global,
+    writer: usize,
+    recorders: u8,
+    each: u64,
+) -> Result<(), NoMemory>
+    ensures { OnOk result (map task_of jobs.new.items ≡ map task_of jobs.old.items ++ replicate recorders (fleet_task each writer)) }
+{
+    for _recorder in 0..recorders {
+        jobs.push(job(alloc, writer, each)?)?;
+    }
+    Ok(())
+}
+
+fn jobs(alloc: Global, writers: u8, recorders: u8, each: u64) -> Result<Vec<Job>, NoMemory>
+    ensures { IfOk result (λ jobs. map task_of jobs.items ≡ fleet_tasks writers recorders each) }
+{
+    let mut jobs = Vec::new(alloc);
+    for writer in 0..writers {
+        add_jobs(&mut jobs, alloc, usize::from(writer), recorders, each)?;
+    }
+    Ok(jobs)
+}
+
+fn ids(alloc: Global, count: u8) -> Result<Vec<u32>, NoMemory>
+    ensures { IfOk result (λ ids. ids.items ≡ fleet_ids count) }
+{
+    let mut ids = Vec::new(alloc);
+    for place in 0..count {
+        ids.push(u32::from(place) + 1)?;
+    }
+    Ok(ids)
+}
+
+/// The setup of a fleet: writers of the service `fleet` with the instances 1, 2 and so on, which start at 1; for each of
+/// them so many jobs of so many recordings of 1, without attributes; and gateways with the ids 1, 2 and so on. It ends at 2.
+pub(crate) fn setup(
+    alloc: Global,
+    writer_count: u8,
+    recorders: u8,
+    each: u64,
+    gateways: u8,
+) -> Result<FleetSetup, NoMemory>
+    ensures { IfOk result (IsFleetSetup writer_count recorders each gateways) }
+{
+    Ok(FleetSetup {
+        writers: writers(alloc, writer_count)?,
+        jobs: jobs(alloc, writer_count, recorders, each)?,
+        gateways: ids(alloc, gateways)?,
+        end: 2,
+    })
+}
+
+/// What is asked of each gateway: the counter's stream, in one row.
+pub(crate) fn ask(alloc: Global) -> Result<Ask, NoMemory>
+    ensures { IfOk result (λ ask. ask ≡ fleet_ask) }
+{
+    Ok(Ask {
+        stream: Stream {
+            scope: Txt::from_str(alloc, "fleet")?,
+            name: Txt::from_str(alloc, "recordings")?,
+            unit: Txt::from_str(alloc, "1")?,
+            shape: Shape::Sum { monotonic: true },
+        },
+        service: None,
+        only: Seq::new(alloc),
+        keep: Keep::Only(AllowList::empty(alloc)),
+    })
+}
