@@ -65,11 +65,21 @@ __attribute__((constructor)) static void begin(void) {
 }
 
 __attribute__((destructor)) static void end(void) {
+    static atomic_int told;
     char line[160];
     counting = 0;
+    if (told++)
+        return;
     int length = snprintf(line, sizeof line, "faults: growths %ld refused %ld reads %ld writes %ld\n", (long)growths,
                           (long)refused, (long)reads, (long)writes);
     syscall(SYS_write, 2, line, (size_t)length);
+}
+
+/* A program with threads ends by this, which runs no destructor. */
+__attribute__((noreturn)) void _exit(int status) {
+    end();
+    syscall(SYS_exit_group, status);
+    __builtin_unreachable();
 }
 
 /* Whether the growth that is asked for now is refused. */
