@@ -61,7 +61,8 @@ LARGE = b"gateway 1\nbegin\n" + b"#" * 1_000_000 + b"\nconflicts 1\n"
 def ended(program, words, wanted, **streams):
     """What a run does otherwise than told, or an empty text. Streams that are not named are empty, or caught."""
     streams = {"stdout": subprocess.PIPE, "stderr": subprocess.PIPE, **streams}
-    ran = subprocess.run([program, *words], timeout=SECONDS, **streams)
+    # (its texts call it by its first word, whichever build it is)
+    ran = subprocess.run(["otm", *words], executable=program, timeout=SECONDS, **streams)
     did = (ran.returncode, ran.stdout, ran.stderr)
     return "" if did == wanted else f"status {did[0]}, wrote {did[1]!r}, and on the standard error {did[2]!r}"
 
