@@ -2,7 +2,7 @@
 //! merged.
 ghost use Rattle.std.specs.Prelude.{◌≡◌, ◌↔◌, ◌<◌, ◌≤◌, ◌^◌, ℕ, IfOk, IfErr};
 ghost use Rattle.gateway_kit.specs.Shared.{IsAt, IsNoteAt, first_of, most_of, told, Keeps, DependsOnChanges};
-ghost use Rattle.turn_kit.specs.Public.{IsFirst, IsBadLimit, IsUnchanged, Closes, AreOut, Hears, Joins, seen, made, told as told_to, told_made};
+ghost use Rattle.turn_kit.specs.Public.{IsFirst, IsBadLimit, IsUnchanged, HasAsked, Closes, AreOut, told_out, Hears, Joins, seen, made, told as told_to, told_made};
 ghost use Rattle.turn_kit.specs.declared.fault.TurnFault.TheVariants.{BadLimit};
 
 mod change;
@@ -31,7 +31,7 @@ pub struct SharedGateway {
 pub struct SeatsOut {
     pub gateway: SharedGateway,
     pub seat: Seat<Gateway>,
-    /// How many, at least 1.
+    /// How many, at least 1: what the turn's own count said at one step of `close`.
     pub out: u64,
 }
 
@@ -99,8 +99,8 @@ impl SharedGateway {
         requires { IsAt self seat }
         ensures ok { IfOk result (Closes (λ g. g) told (first_of self) seat) }
         ensures points { IfOk result (λ g. (c : Closes (λ g. g) told (first_of self) seat g) × Keeps (first_of self) c.history g) }
-        ensures err { IfErr result (λ e. (e.gateway ≡ self) × IsAt e.gateway e.seat × IsUnchanged seat e.seat) }
-        ensures out { IfErr result (λ e. (0 < e.out) × AreOut seat e.out) }
+        ensures err { IfErr result (λ e. (e.gateway ≡ self) × IsAt e.gateway e.seat × HasAsked seat e.seat) }
+        ensures out { IfErr result (λ e. (e.out ≡ told_out e.seat) × (0 < e.out) × AreOut seat e.out) }
     {
         let SharedGateway { turn } = self;
         match turn.close(seat) {

@@ -26,6 +26,15 @@ module _ {M E : Type 0} where
   pub idle_hand : (p : Place M (View M E)) → IsIdle p → p.me.1 ≡ []
   idle_hand p idle = ap (λ (s : Place M (View M E)). s.me.1) idle
 
+  -- a seat that was told how many others are out is at rest as it was
+  module _ (p q : Place M (View M E)) (n : ℕ) (asked : q.me ≡ (record p.me.0 { told_out = n }, p.me.1)) where
+    pub asked_idle : IsIdle p → IsIdle q
+    asked_idle idle = let who_is : q.me.0.who ≡ p.me.0.who = ap (λ (m : Sat M E). m.0.who) asked in
+        idle_from q (ap (λ (m : Sat M E). m.0.stage) asked ∙ idle_stage p idle) (who_is ∙ (idle_is p idle ∙ ap idle_who (sym who_is))) (ap (λ (m : Sat M E). m.1) asked ∙ idle_hand p idle)
+
+    pub asked_own : Owns p.me.0 → Owns q.me.0
+    asked_own own = subst (λ (m : Sat M E). Owns m.0) (sym asked) own
+
   -- the seat has seen all its entries and no others of its number, where it had before the join
   abbrev pub HasOwn : Sat M E → Type 0
   HasOwn q = q.0.who.seated ≡ true → by q.0.who.number q.0.ours ≡ q.0.who.mine → by q.0.who.number q.0.seen ≡ q.0.who.mine

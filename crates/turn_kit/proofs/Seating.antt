@@ -130,6 +130,24 @@ module _ {M E S : Type 0} (state : M → S) (next : S → E → Option S) (start
         known = knows_set s.views id v w at (λ p t. t) k.counted r.made r.known;
       }
 
+  -- a load that tells how many other seats are out
+  knows_out : (s : St) (id : ℕ) (v : V) → get_elem? s.views id ≡ some v → (r : Rule s) → Rule record { words = set s.words 3 (get_or s.words 3 0); homes = s.homes; views = set s.views id (record v { told_out = get_or s.words 3 0 }) }
+  knows_out s id v at r = let k = r.each id v at in let w : V = record v { told_out = get_or s.words 3 0 } in
+      subst (λ (ws : List ℕ). Rule record { words = ws; homes = s.homes; views = set s.views id w }) (sym (set-get_or s.words 3 0)) record {
+        turn = r.turn;
+        made = r.made;
+        out = r.out;
+        holder = r.holder;
+        log = r.log;
+        words = r.words;
+        room = r.room;
+        small = r.small;
+        slot = slot_moves state next start limit s r id v w at refl (λ l' n' is'. (n', is'));
+        each = each_moves (K r.turn r.made r.holder r.log) s.views id w record { started = k.started; saw = k.saw; told = k.told; held = k.held; counted = k.counted } (λ j u other z. r.each j u z);
+        books = subst (Books r.made r.out r.log) (sym (map-set who s.views id w ∙ set_again (map who s.views) id v.who (at_map who s.views id v at))) r.books;
+        known = knows_still s.views id v w at refl refl r.made r.known;
+      }
+
   -- the holder looks at the number of seats made
   pub looks_made : (slots id : ℕ) (me : Sat) (l : List (ℕ × E)) (n : ℕ) → me.0.stage ≡ Holds l n → me.0.who.seated ≡ true
       → Allows Rule slots id me 2 (λ x. x) (looked (step slots 2 0 0 none) me)
@@ -388,10 +406,10 @@ module _ {M E S : Type 0} (state : M → S) (next : S → E → Option S) (start
         ((λ _. refl), (λ some_out. absurd (some_out none_out))),
       ))
       (λ some_out. (
-        me.0,
+        record v { told_out = get_or s.words 3 0 },
         keeps,
         tt,
-        unmoved s 3 id me.0 at r,
+        knows_out s id v at r,
         (
           (λ none_out. absurd (some_out none_out)),
           (λ _. (

@@ -81,7 +81,7 @@ module _ {M E S : Type 0} (state : M → S) (next : S → E → Option S) (m : S
 
 module _ {M E : Type 0} where
   pub new_idle : (p : Place M (View M E)) (n : ℕ) (v w : View M E) → WasSplit n v w p.me → IsIdle p
-  new_idle p n v w h = is_idled p (record { start = v.start; limit = v.limit; stage = Idle; who = newcomer n; seen = v.seen; ours = []; theirs = []; made = n + 1 }) h.4 refl
+  new_idle p n v w h = is_idled p (record { start = v.start; limit = v.limit; stage = Idle; who = newcomer n; seen = v.seen; ours = []; theirs = []; made = n + 1; told_out = 0 }) h.4 refl
 
   -- the new seat has no entries yet
   pub new_owns : (p : Place M (View M E)) (n : ℕ) (v w : View M E) → WasSplit n v w p.me → Owns p.me.0

@@ -166,7 +166,7 @@ module _ {M E S : Type 0} (state : M → S) (next : S → E → Option S) where
 -- the seat v made a seat with the number n, which neither it nor what it has seen knew of
 abbrev pub WasSplit : {M E : Type 0} → ℕ → View M E → View M E → Sat M E → Type 0
 WasSplit n v w new = IsFresh n v.who v.seen × (v.made ≤ n) × (n < 4096) × (w ≡ record v { stage = Idle; made = n + 1; who = record v.who { sole = false } })
-    × (new ≡ (record { start = v.start; limit = v.limit; stage = Idle; who = newcomer n; seen = v.seen; ours = []; theirs = []; made = n + 1 }, []))
+    × (new ≡ (record { start = v.start; limit = v.limit; stage = Idle; who = newcomer n; seen = v.seen; ours = []; theirs = []; made = n + 1; told_out = 0 }, []))
 
 -- the seat v was told that the turn has made as many seats as it may
 abbrev pub WasFull : {M E : Type 0} → View M E → View M E → Type 0

@@ -49,6 +49,10 @@ module _ {M E : Type 0} {g : _} where
   abbrev pub made : Seat M E g → ℕ
   made s = s.place.me.0.made
 
+  -- how many other seats were out when the seat last asked, which `close` does: what the turn's own count said at that step
+  abbrev pub told_out : Seat M E g → ℕ
+  told_out s = s.place.me.0.told_out
+
   -- the seat, and each that was joined into it, by their numbers, with their entries
   abbrev pub family : Seat M E g → List (ℕ × List E)
   family s = (number s, mine s) ∷ joined s
@@ -78,6 +82,10 @@ module _ {M E : Type 0} {g : _} where
   -- the seat knows what it knew, and no more
   abbrev pub IsUnchanged : Seat M E g → Seat M E g → Type 0
   IsUnchanged s t = t.place.me ≡ s.place.me
+
+  -- the seat was told how many others are out, and knows what it knew besides
+  abbrev pub HasAsked : Seat M E g → Seat M E g → Type 0
+  HasAsked s t = t.place.me ≡ (record s.place.me.0 { told_out = told_out t }, s.place.me.1)
 
   -- the seat is unchanged, and another seat may be out
   abbrev pub IsLeft : Seat M E g → Seat M E g → Type 0
@@ -133,8 +141,8 @@ module _ {M E : Type 0} {g : _} where
     pub kept : (number t ≡ number s) × (mine t ≡ mine s) × (sole t ≡ sole s)
 
   -- So many other seats are out. One that is being joined is out until that is counted, which is the join's last step. The seat knows of a number that
-  -- is none of its family's, so one that has joined each seat that it knows to have been made is the only one. How many are out is not the seat's to
-  -- know, since others may have split off and joined: the clause leaves any number from 1 to as many as there are numbers beside its family's.
+  -- is none of its family's, so one that has joined each seat that it knows to have been made is the only one. Which number it is the turn's count says
+  -- (`told_out`): the seat alone can't know, since others may have split off and joined.
   abbrev pub AreOut : Seat M E g → ℕ → Type 0
   AreOut s out = AreOthers (family s) (made s) out
 

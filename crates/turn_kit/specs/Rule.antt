@@ -95,4 +95,4 @@ abbrev pub first_who : {E : Type 0} → Who E
 first_who = record { seated = true; sole = true; number = 0; mine = []; joined = []; drawn = []; weight = 1; credit = 0 }
 
 abbrev pub opening_view : {M E : Type 0} → M → ℕ → View M E
-opening_view m limit = record { start = Some m; limit = limit; stage = Idle; who = first_who; seen = []; ours = []; theirs = []; made = 1 }
+opening_view m limit = record { start = Some m; limit = limit; stage = Idle; who = first_who; seen = []; ours = []; theirs = []; made = 1; told_out = 0 }

@@ -80,11 +80,11 @@ module _ {M E : Type 0} where
   stayed v = record v { who = record v.who { drawn = []; weight = 1 } }
 
   abbrev pub split_off : View M E → View M E
-  split_off v = record { start = v.start; limit = v.limit; stage = Idle; who = newcomer (at_first v.who.drawn); seen = v.seen; ours = []; theirs = []; made = v.made }
+  split_off v = record { start = v.start; limit = v.limit; stage = Idle; who = newcomer (at_first v.who.drawn); seen = v.seen; ours = []; theirs = []; made = v.made; told_out = 0 }
 
   -- a note of what was seen, and of how many seats were made
   abbrev pub note_of : List (ℕ × E) → ℕ → View M E
-  note_of seen made = record { start = None; limit = 0; stage = Idle; who = nobody; seen = seen; ours = []; theirs = []; made = made }
+  note_of seen made = record { start = None; limit = 0; stage = Idle; who = nobody; seen = seen; ours = []; theirs = []; made = made; told_out = 0 }
 
   -- the view v after w was taken in
   abbrev pub both_of : View M E → View M E → View M E
@@ -100,6 +100,6 @@ module _ {M E : Type 0} where
   abbrev pub joined_in : At M → Sat M E → ℕ → Sat M E → Type 0
   joined_in st m n m' = m' ≡ (record m.0 { who = record m.0.who { weight = 1 } }, m.1)
 
-  -- where no other seat is out, the seat is the only one; else it is told how many are
+  -- where no other seat is out, the seat is the only one; else it is told how many are, by the word that counts them
   abbrev pub closing : At M → Sat M E → ℕ → Sat M E → Type 0
-  closing st m n m' = (n ≡ 0 → m' ≡ (record m.0 { who = record m.0.who { sole = true } }, m.1)) × (n ≢ 0 → (m' ≡ m) × AreOthers (family m.0.who) m.0.made n)
+  closing st m n m' = (n ≡ 0 → m' ≡ (record m.0 { who = record m.0.who { sole = true } }, m.1)) × (n ≢ 0 → (m' ≡ (record m.0 { told_out = n }, m.1)) × AreOthers (family m.0.who) m.0.made n)

@@ -29,13 +29,13 @@ pub struct Turn<M: Machine> {
 pub struct SeatsOut<M: Machine> {
     pub turn: Turn<M>,
     pub seat: Seat<M>,
-    /// How many, at least 1. The turn counts them. One seat can't know who was joined into whom, so `close` promises no
-    /// more of the number than that there are so many numbers beside those that the closing seat answers for.
+    /// How many, at least 1: what the turn's own count said at one step of `close`. A seat whose join is under way is out
+    /// until the join's last step.
     pub out: u64,
 }
 
 impl<M: Machine> Turn<M> {
-    ghost use Rattle.turn_kit.specs.Public.{IsOf, IsFirst, IsBadLimit, IsUnchanged, Closes, AreOut, opening, limit_of};
+    ghost use Rattle.turn_kit.specs.Public.{IsOf, IsFirst, IsBadLimit, HasAsked, Closes, AreOut, told_out, opening, limit_of};
 
     /// A turn over the machine that accepts at most `limit` changes, 1 to 2^62 of them, and its first seat.
     ///
@@ -78,8 +78,8 @@ impl<M: Machine> Turn<M> {
     pub fn close(self, seat: Seat<M>) -> Result<M, SeatsOut<M>>
         requires { IsOf self seat }
         ensures ok { IfOk result (Closes M.state M.after (opening self) seat) }
-        ensures err { IfErr result (λ e. (e.turn ≡ self) × IsOf e.turn e.seat × IsUnchanged seat e.seat) }
-        ensures out { IfErr result (λ e. (0 < e.out) × AreOut seat e.out) }
+        ensures err { IfErr result (λ e. (e.turn ≡ self) × IsOf e.turn e.seat × HasAsked seat e.seat) }
+        ensures out { IfErr result (λ e. (e.out ≡ told_out e.seat) × (0 < e.out) × AreOut seat e.out) }
     {
         let Seat { mut place } = seat;
         let out = self.board.shared.load::<Close>(&mut place, OUT);

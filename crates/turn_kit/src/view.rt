@@ -39,4 +39,6 @@ pub struct View<M, E> {
     pub theirs: LinkedList<(u64, E)>,
     /// How many seats were made, as far as it was told.
     pub made: u64,
+    /// How many other seats were out when it last asked, by the turn's count.
+    pub told_out: u64,
 }

@@ -1,7 +1,7 @@
 //! A writer that threads share: a turn over a writer, whose every answer is tied to one history of recordings and
 //! collections.
 ghost use Rattle.std.specs.Prelude.{◌≡◌, ◌↔◌, ◌<◌, ◌≤◌, ◌^◌, IfOk, IfErr};
-ghost use Rattle.turn_kit.specs.Public.{IsFirst, IsBadLimit, IsUnchanged, Closes, AreOut, Hears, Joins, seen, made, told as told_to, told_made};
+ghost use Rattle.turn_kit.specs.Public.{IsFirst, IsBadLimit, IsUnchanged, HasAsked, Closes, AreOut, told_out, Hears, Joins, seen, made, told as told_to, told_made};
 ghost use Rattle.turn_kit.specs.declared.fault.TurnFault.TheVariants.{BadLimit};
 ghost use Rattle.writer_kit.specs.Shared.{IsAt, IsNoteAt, Serves, first_of, most_of, told};
 
@@ -24,7 +24,7 @@ pub use writer::SharedWriter;
 pub struct SeatsOut {
     pub writer: SharedWriter,
     pub seat: Seat<Writer>,
-    /// How many, at least 1.
+    /// How many, at least 1: what the turn's own count said at one step of `close`.
     pub out: u64,
 }
 
@@ -90,8 +90,8 @@ impl SharedWriter {
         requires { IsAt self seat }
         ensures ok { IfOk result (Closes (λ w. w) told (first_of self) seat) }
         ensures serves { IfOk result (λ w. (c : Closes (λ w. w) told (first_of self) seat w) × Serves (first_of self) c.history w) }
-        ensures err { IfErr result (λ e. (e.writer ≡ self) × IsAt e.writer e.seat × IsUnchanged seat e.seat) }
-        ensures out { IfErr result (λ e. (0 < e.out) × AreOut seat e.out) }
+        ensures err { IfErr result (λ e. (e.writer ≡ self) × IsAt e.writer e.seat × HasAsked seat e.seat) }
+        ensures out { IfErr result (λ e. (e.out ≡ told_out e.seat) × (0 < e.out) × AreOut seat e.out) }
     {
         let SharedWriter { turn } = self;
         match turn.close(seat) {

@@ -1,14 +1,13 @@
 use Rattle.std.proofs.Common.{rules, ap, ◌∙◌}
-use Rattle.turn_kit.proofs.Changes.{idle_same, owns_same}
 use Rattle.turn_kit.proofs.Seating.{closes, ends}
-use Rattle.turn_kit.proofs.Meeting.{idle_stage, idle_is, closed_sole}
+use Rattle.turn_kit.proofs.Meeting.{idle_stage, idle_is, asked_idle, asked_own, closed_sole}
 use Rattle.turn_kit.proofs.turn.Turn.close.Goals as goal
 
 pub load-out-requires : goal.load-out-requires
 load-out-requires g c = let n = idle_is _ c.args.seat.idle in (search rules, search rules, closes g.M.Machine.state g.M.Machine.after _ _ _ _ _ (ap (λ w. w.seated) n) (ap (λ w. w.weight) n))
 
 pub invariant_of-result : goal.invariant_of-result
-invariant_of-result g c = record { idle = idle_same _ _ c.args.seat.idle (c.load-out.ensures.2.1 (search rules)).0; own = owns_same _ _ (c.load-out.ensures.2.1 (search rules)).0 c.args.seat.own }
+invariant_of-result g c = let told = (c.load-out.ensures.2.1 (search rules)).0 in record { idle = asked_idle c.args.seat.place c.load-out.new.seat _ told c.args.seat.idle; own = asked_own c.args.seat.place c.load-out.new.seat _ told c.args.seat.own }
 
 pub returns-clause-ok : goal.returns-clause-ok
 returns-clause-ok g c = let s = g.M.Machine.state in let x = g.M.Machine.after in let is = c.load-out.ensures.2.0 (search rules) in let n = idle_is _ c.args.seat.idle in
