@@ -63,7 +63,7 @@ map-insert f (x ∷ xs) (suc i) y = ap (λ l. f x ∷ l) (map-insert f xs i y)
 abbrev pub no_cells : Cells
 no_cells = empty
 
-entries-empty : entries no_cells ≡ []
+pub entries-empty : entries no_cells ≡ []
 entries-empty = sym (ap entries (from_sorted-nil {V = Cell Payload} {R = item_cmp})) ∙ entries-from_sorted item_cmp [] tt
 
 -- where something is found there is something

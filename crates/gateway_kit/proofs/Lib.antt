@@ -18,6 +18,7 @@ pub mod Same
 pub mod Seeking
 pub mod Served
 pub mod Sorting
+pub mod Tallies
 pub mod Times
 pub mod Ahead
 pub mod SharedPoints

@@ -13,6 +13,7 @@ pub mod Parts
 pub mod Places
 pub mod Queries
 pub mod Shared
+pub mod Tallies
 pub mod Times
 pub mod View
 pub mod Walks

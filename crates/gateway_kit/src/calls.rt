@@ -23,6 +23,7 @@ impl Gateway {
             id,
             incarnations: Vec::new(alloc),
             len: 0,
+            conflicts: 0,
         }
     }
 
@@ -43,7 +44,8 @@ impl Gateway {
     /// Joins the points of an export, and answers the number of keys whose cell changed, the new ones among them.
     ///
     /// Of k points into an incarnation of n: O(k log n) where all keys are held, and then no key is copied and nothing
-    /// moves; else O(n + k log k). No other incarnation is touched. Refused with `NoMemory`, with nothing changed, where a
+    /// moves; O(k) where they come in the order in which they are held, each right behind the one before. Else
+    /// O(n + k log k). No other incarnation is touched. Refused with `NoMemory`, with nothing changed, where a
     /// growth was refused, or where the gateway would come to hold more than 2^62 points. An export without points
     /// changes nothing and takes no memory.
     pub fn take(&mut self, export: &Export) -> Result<u64, NoMemory>
@@ -58,6 +60,7 @@ impl Gateway {
         }
         let growth = taken(&mut self.incarnations, self.len, export)?;
         self.len += growth.more;
+        self.conflicts = self.conflicts - growth.before + growth.after;
         Ok(growth.changed)
     }
 
@@ -74,6 +77,7 @@ impl Gateway {
     {
         let growth = joined(&mut self.incarnations, self.len, key, cell)?;
         self.len += growth.more;
+        self.conflicts = self.conflicts - growth.before + growth.after;
         Ok(growth.changed > 0)
     }
 
@@ -112,6 +116,7 @@ impl Gateway {
             other.incarnations.as_slice(),
         )?;
         self.len += growth.more;
+        self.conflicts = self.conflicts - growth.before + growth.after;
         Ok(growth.changed)
     }
 
@@ -123,6 +128,7 @@ impl Gateway {
             id: self.id,
             incarnations: copy_all(&self.incarnations)?,
             len: self.len,
+            conflicts: self.conflicts,
         })
     }
 }

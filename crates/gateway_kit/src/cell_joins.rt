@@ -9,6 +9,7 @@ ghost use Rattle.gateway_kit.specs.Keys.{ItemKey, entry_of, item_cmp, part_cmp};
 ghost use Rattle.gateway_kit.specs.OneCell.{JoinsEntry};
 ghost use Rattle.gateway_kit.specs.Parts.{IsWhole, part_of};
 ghost use Rattle.gateway_kit.specs.Places.{IsAt, IsGap};
+ghost use Rattle.gateway_kit.specs.Tallies.{Tells, part_conflicts};
 
 use crate::draft::{clashes, place_of, put_cell};
 use crate::grow::payload_of;
@@ -44,17 +45,24 @@ impl Incarnation {
         ensures joins { (key : ItemKey) → IsAt item_cmp (entries self.old.cells) key place → JoinsEntry (entries self.old.cells) (entries self.new.cells) (key, cell) result.more result.changed }
         ensures same { self.new ≡ record self.old { cells = self.new.cells } }
         ensures none_new { result.more ≡ 0 }
+        ensures before { result.before ≡ part_conflicts self.old }
+        ensures after { result.after ≡ part_conflicts self.new }
     {
+        let before = self.tally.conflicts;
         let Some(cell) = joined_cell(&self.items[place].cell, cell) else {
             return Growth {
                 more: 0,
                 changed: 0,
+                before,
+                after: before,
             };
         };
-        self.newest = put_cell(&mut self.items, self.newest, place, cell);
+        self.tally = put_cell(&mut self.items, self.tally, place, cell);
         Growth {
             more: 0,
             changed: 1,
+            before,
+            after: self.tally.conflicts,
         }
     }
 
@@ -65,9 +73,9 @@ impl Incarnation {
         ensures same { OnOk result (self.new ≡ record self.old { cells = self.new.cells }) }
         ensures unchanged { OnErr result (self.new ≡ self.old) }
     {
-        let time = item.cell.time;
+        let tally = self.tally.and(&item.cell);
         self.items.insert(place, item)?;
-        self.newest = self.newest.max(time);
+        self.tally = tally;
         Ok(())
     }
 
@@ -84,6 +92,8 @@ impl Incarnation {
         ensures joins { IfOk result (λ g. JoinsEntry (entries self.old.cells) (entries self.new.cells) ((stream, attrs), cell) g.more g.changed) }
         ensures same { OnOk result (self.new ≡ record self.old { cells = self.new.cells }) }
         ensures bounded { IfOk result (λ g. len + g.more ≤ 2 ^ 62) }
+        ensures before { IfOk result (λ g. g.before ≡ part_conflicts self.old) }
+        ensures after { IfOk result (λ g. g.after ≡ part_conflicts self.new) }
         ensures held { IsSome (find item_cmp (stream, attrs) (entries self.old.cells)) → IsOk result }
         ensures unchanged { OnErr result (self.new ≡ self.old) }
     {
@@ -100,10 +110,13 @@ impl Incarnation {
                     attrs,
                     cell,
                 };
+                let before = self.conflicts();
                 self.join_new(place, item)?;
                 Ok(Growth {
                     more: 1,
                     changed: 1,
+                    before,
+                    after: self.conflicts(),
                 })
             }
         }
@@ -122,6 +135,7 @@ fn join_held(
     requires placed { IsAt part_cmp (map part_of incarnations.old.items) (key.writer, key.start) place }
     ensures grows { IfOk result (λ g. Grows incarnations.old.items incarnations.new.items (key.writer, key.start) (((key.stream, key.attrs), cell) ∷ []) g.more g.changed) }
     ensures bounded { IfOk result (λ g. len + g.more ≤ 2 ^ 62) }
+    ensures tells { IfOk result (λ g. Tells incarnations.old.items incarnations.new.items g.before g.after) }
     ensures held { IsSome (find item_cmp (key.stream, key.attrs) (part_at (key.writer, key.start) incarnations.old.items)) → IsOk result }
     ensures unchanged { OnErr result (incarnations.new.items ≡ incarnations.old.items) }
 {
@@ -141,6 +155,7 @@ fn join_gap(
     requires placed { IsGap part_cmp (map part_of incarnations.old.items) (key.writer, key.start) place }
     ensures grows { IfOk result (λ g. Grows incarnations.old.items incarnations.new.items (key.writer, key.start) (((key.stream, key.attrs), cell) ∷ []) g.more g.changed) }
     ensures bounded { IfOk result (λ g. len + g.more ≤ 2 ^ 62) }
+    ensures tells { IfOk result (λ g. Tells incarnations.old.items incarnations.new.items g.before g.after) }
     ensures unchanged { OnErr result (incarnations.new.items ≡ incarnations.old.items) }
 {
     let Key {
@@ -166,6 +181,7 @@ pub(crate) fn joined(
     requires whole { IsWhole incarnations.old.items len }
     ensures grows { IfOk result (λ g. Grows incarnations.old.items incarnations.new.items (key.writer, key.start) (((key.stream, key.attrs), cell) ∷ []) g.more g.changed) }
     ensures bounded { IfOk result (λ g. len + g.more ≤ 2 ^ 62) }
+    ensures tells { IfOk result (λ g. Tells incarnations.old.items incarnations.new.items g.before g.after) }
     ensures held { IsSome (find item_cmp (key.stream, key.attrs) (part_at (key.writer, key.start) incarnations.old.items)) → IsOk result }
     ensures unchanged { OnErr result (incarnations.new.items ≡ incarnations.old.items) }
 {

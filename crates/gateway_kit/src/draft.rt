@@ -9,11 +9,12 @@ ghost use Rattle.std.specs.List.{IsDistinct};
 ghost use Rattle.std.specs.Ordering.{eq_by_cmp};
 ghost use Rattle.gateway_kit.specs.Keys.{ItemKey, entry_of, item_cmp};
 ghost use Rattle.gateway_kit.specs.Places.{IsPlace};
-ghost use Rattle.gateway_kit.specs.Times.{latest};
+ghost use Rattle.gateway_kit.specs.Tallies.{IsTally};
 
 use crate::changes::Changes;
 use crate::part_item::PartItem;
 use crate::seek::rises;
+use crate::tally::{Tally, conflict_of};
 use crate::weave::Keyed;
 use attr_kit::{AttrSet, NoMemory, TryCopy};
 use point_kit::{Cell, Export, Held, Payload, SharedStream, Stream};
@@ -62,33 +63,43 @@ fn update_of(mine: &Cell, time: u64, payload: Option<&Payload>) -> Result<Option
     Ok(None)
 }
 
-// Puts a new cell at a place, where none that is later stands there; past the end nothing. Of the greatest time before it
-// makes the one after.
-pub(crate) fn put_cell(items: &mut Vec<PartItem>, newest: u64, place: usize, cell: Cell) -> u64
+// Puts a new cell at a place, where none that is later stands there; past the end nothing. Of the tally before it makes
+// the one after.
+pub(crate) fn put_cell(items: &mut Vec<PartItem>, tally: Tally, place: usize, cell: Cell) -> Tally
+    requires { IsTally (map entry_of items.old.items) tally }
     ensures put { map entry_of items.new.items ≡ amend replaced (map entry_of items.old.items) place cell }
-    ensures newest { newest ≡ latest (map entry_of items.old.items) → result ≡ latest (map entry_of items.new.items) }
+    ensures tally { IsTally (map entry_of items.new.items) result }
 {
     if place >= items.len() {
-        return newest;
+        return tally;
     }
-    if cell.time < items[place].cell.time {
-        return newest;
+    let held = &items[place].cell;
+    if cell.time < held.time {
+        return tally;
     }
-    let time = cell.time;
+    let tally = Tally {
+        newest: tally.newest.max(cell.time),
+        conflicts: tally.conflicts + conflict_of(&cell) - conflict_of(held),
+    };
     items[place].cell = cell;
-    newest.max(time)
+    tally
 }
 
-// Puts the new cells at their places. Of the greatest time before it makes the one after.
-pub(crate) fn put_cells(items: &mut Vec<PartItem>, newest: u64, updates: Vec<(usize, Cell)>) -> u64
+// Puts the new cells at their places. Of the tally before it makes the one after.
+pub(crate) fn put_cells(
+    items: &mut Vec<PartItem>,
+    tally: Tally,
+    updates: Vec<(usize, Cell)>,
+) -> Tally
+    requires { IsTally (map entry_of items.old.items) tally }
     ensures put { map entry_of items.new.items ≡ amended replaced (map entry_of items.old.items) updates.items }
-    ensures newest { newest ≡ latest (map entry_of items.old.items) → result ≡ latest (map entry_of items.new.items) }
+    ensures tally { IsTally (map entry_of items.new.items) result }
 {
-    let mut newest = newest;
+    let mut tally = tally;
     for (place, cell) in updates {
-        newest = put_cell(items, newest, place, cell);
+        tally = put_cell(items, tally, place, cell);
     }
-    newest
+    tally
 }
 
 // The place of a key among items, or where it belongs: O(log n).
@@ -97,6 +108,25 @@ pub(crate) fn place_of(items: &[PartItem], stream: &Stream, attrs: &AttrSet) -> 
     ensures { IsPlace item_cmp (map entry_of items.now) (stream.now, attrs.now) result }
 {
     items.binary_search_by(|item| item.order(stream, attrs))
+}
+
+/// The place of a key among items, or where it belongs. The item at the guess is asked first, and where it has the key that
+/// is all: else O(log n). Any number may be the guess.
+pub(crate) fn place_near(
+    items: &[PartItem],
+    guess: usize,
+    stream: &Stream,
+    attrs: &AttrSet,
+) -> Result<usize, usize>
+    requires { IsTrue (is_sorted item_cmp (map entry_of items.now)) }
+    ensures { IsPlace item_cmp (map entry_of items.now) (stream.now, attrs.now) result }
+{
+    if guess < items.len() {
+        if let Ordering::Equal = items[guess].order(stream, attrs) {
+            return Ok(guess);
+        }
+    }
+    place_of(items, stream, attrs)
 }
 
 /// Changes in the making.

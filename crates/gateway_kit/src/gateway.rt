@@ -11,13 +11,17 @@ pub struct Gateway {
     pub(crate) incarnations: Vec<Incarnation>,
     /// The number of points.
     pub(crate) len: usize,
+    /// How many of them are conflicts.
+    pub(crate) conflicts: u64,
 }
 
 impl Model for Gateway {
+    ghost use Rattle.std.specs.Prelude.{◌≡◌};
     ghost use Rattle.std.specs.FinMap.{from_sorted, code};
     ghost use Rattle.std.specs.Coded.{codes};
     ghost use Rattle.point_kit.specs.Orders.{key_cmp};
     ghost use Rattle.gateway_kit.specs.Parts.{IsWhole, listed};
+    ghost use Rattle.gateway_kit.specs.Tallies.{conflicts_of};
     ghost use Rattle.gateway_kit.specs.View.{View};
 
     ghost Value = { View };
@@ -26,5 +30,5 @@ impl Model for Gateway {
 
     ghost view = { λ g. record { id = g.id; points = from_sorted {R = key_cmp} (listed g.incarnations.items) } };
 
-    ghost invariant = { λ g. IsWhole g.incarnations.items g.len };
+    ghost invariant = { λ g. IsWhole g.incarnations.items g.len × (g.conflicts ≡ conflicts_of g.incarnations.items) };
 }

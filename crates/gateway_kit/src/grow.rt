@@ -7,15 +7,17 @@ ghost use Rattle.gateway_kit.specs.Changing.{Prepares, entries_of, grown, held_a
 ghost use Rattle.gateway_kit.specs.Keys.{entry_of, item_cmp, part_cmp};
 ghost use Rattle.gateway_kit.specs.Parts.{part_of};
 ghost use Rattle.gateway_kit.specs.Places.{IsPlace};
+ghost use Rattle.gateway_kit.specs.Tallies.{IsTally, part_conflicts};
 ghost use Rattle.gateway_kit.specs.Times.{latest};
 ghost use Rattle.std.specs.declared.cmp.Ordering.{Ordering};
 ghost use Rattle.gateway_kit.specs.Weave.{weave};
 
 use crate::changes::Changes;
-use crate::draft::{Draft, place_of, put_cells};
+use crate::draft::{Draft, place_near, place_of, put_cells};
 use crate::incarnation::Incarnation;
 use crate::part_item::PartItem;
 use crate::seek::{after, place_from};
+use crate::tally::{Tally, tally_of};
 use crate::weave::{Keyed, woven};
 use attr_kit::{AttrSet, NoMemory, TryCopy, copy_all};
 use point_kit::{Cell, Export, Held, Payload, Stream, WriterId};
@@ -23,35 +25,25 @@ use std::alloc::Global;
 use std::cmp::Ordering;
 use std::mem;
 
-// The greatest time of items, 0 of none.
-fn newest_of(items: &[PartItem]) -> u64
-    ensures { result ≡ latest (map entry_of items.now) }
-{
-    let mut newest = 0u64;
-    for item in items {
-        newest = newest.max(item.cell.time);
-    }
-    newest
-}
-
-// Weaves new items in where there is room for them. Of the greatest time before it makes the one after.
+// Weaves new items in where there is room for them. Of the tally before it makes the one after.
 fn put_items(
     items: &mut Vec<PartItem>,
-    newest: u64,
+    tally: Tally,
     fresh: Vec<PartItem>,
     room: Vec<PartItem>,
-) -> u64
-    requires { room.items ≡ [] }
-    ensures newest { newest ≡ latest (map entry_of items.old.items) → result ≡ latest (map entry_of items.new.items) }
+) -> Tally
+    requires empty { room.items ≡ [] }
+    requires tallied { IsTally (map entry_of items.old.items) tally }
+    ensures tally { IsTally (map entry_of items.new.items) result }
     ensures woven { map entry_of items.new.items ≡ (if nat_le (length items.old.items + length fresh.items) (vec_capacity room) then weave (λ x y. item_cmp x.0 y.0) (map entry_of items.old.items) (map entry_of fresh.items) else map entry_of items.old.items) }
 {
     if !fresh.is_empty() && fresh.len() <= room.capacity().saturating_sub(items.len()) {
         let alloc = *items.allocator();
         let mine = mem::replace(items, Vec::new(alloc));
         *items = woven(mine, fresh, room);
-        newest_of(items.as_slice())
+        tally_of(items.as_slice())
     } else {
-        newest
+        tally
     }
 }
 
@@ -65,7 +57,7 @@ impl Incarnation {
             writer,
             start,
             items: Vec::new(alloc),
-            newest: 0,
+            tally: Tally::NONE,
         }
     }
 
@@ -80,7 +72,14 @@ impl Incarnation {
     pub(crate) fn newest(&self) -> u64
         ensures { result ≡ latest (entries self.now.cells) }
     {
-        self.newest
+        self.tally.newest
+    }
+
+    /// How many cells are conflicts: O(1).
+    pub(crate) fn conflicts(&self) -> u64
+        ensures { result ≡ part_conflicts self.now }
+    {
+        self.tally.conflicts
     }
 
     /// The cell under a stream and attributes: O(log n).
@@ -100,8 +99,11 @@ impl Incarnation {
     {
         let items = self.items();
         let mut draft = Draft::new(alloc);
+        // Points mostly come in the order of their keys: the next one is looked for behind the one before.
+        let mut guess = 0;
         for point in export.points() {
-            let place = place_of(items, point.stream.get(), &point.attrs);
+            let place = place_near(items, guess, point.stream.get(), &point.attrs);
+            guess = after(place);
             draft.bring(
                 items,
                 place,
@@ -149,8 +151,8 @@ impl Incarnation {
             fresh,
             room,
         } = changes;
-        let newest = put_cells(&mut self.items, self.newest, updates);
-        self.newest = put_items(&mut self.items, newest, fresh, room);
+        let tally = put_cells(&mut self.items, self.tally, updates);
+        self.tally = put_items(&mut self.items, tally, fresh, room);
     }
 }
 
@@ -186,7 +188,7 @@ impl TryCopy for Incarnation {
             writer: self.writer.try_copy()?,
             start: self.start,
             items: copy_all(&self.items)?,
-            newest: self.newest,
+            tally: self.tally,
         })
     }
 }

@@ -1,5 +1,6 @@
 //! What is held of one incarnation of a writer.
 use crate::part_item::PartItem;
+use crate::tally::Tally;
 use point_kit::WriterId;
 use std::marker::Model;
 
@@ -9,8 +10,7 @@ pub(crate) struct Incarnation {
     pub(crate) writer: WriterId,
     pub(crate) start: u64,
     pub(crate) items: Vec<PartItem>,
-    /// The greatest time that is held, 0 of no items.
-    pub(crate) newest: u64,
+    pub(crate) tally: Tally,
 }
 
 impl Model for Incarnation {
@@ -19,7 +19,7 @@ impl Model for Incarnation {
     ghost use Rattle.std.specs.Coded.{codes};
     ghost use Rattle.gateway_kit.specs.Keys.{entry_of, item_cmp};
     ghost use Rattle.gateway_kit.specs.Part.{Part};
-    ghost use Rattle.gateway_kit.specs.Times.{IsKept};
+    ghost use Rattle.gateway_kit.specs.Tallies.{IsKept};
 
     ghost Value = { Part };
 
@@ -27,5 +27,5 @@ impl Model for Incarnation {
 
     ghost view = { λ i. record { writer = i.writer; start = i.start; cells = from_sorted {R = item_cmp} (map entry_of i.items.items) } };
 
-    ghost invariant = { λ i. IsKept i.items.items i.newest };
+    ghost invariant = { λ i. IsKept i.items.items i.tally };
 }

@@ -17,6 +17,7 @@ mod queries;
 mod seek;
 mod shared;
 mod taking;
+mod tally;
 #[cfg(test)]
 mod tests;
 mod walk;

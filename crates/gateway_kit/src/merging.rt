@@ -5,6 +5,7 @@ ghost use Rattle.std.specs.List.{list_all};
 ghost use Rattle.gateway_kit.specs.Amending.{amend, amended};
 ghost use Rattle.gateway_kit.specs.Keys.{part_cmp};
 ghost use Rattle.gateway_kit.specs.Merging.{Merges, made};
+ghost use Rattle.gateway_kit.specs.Tallies.{Tells};
 ghost use Rattle.gateway_kit.specs.Weave.{weave};
 ghost use Rattle.gateway_kit.specs.Parts.{IsWhole, listed, part_of, has_cells};
 
@@ -12,6 +13,7 @@ use crate::changes::Changes;
 use crate::incarnation::Incarnation;
 use crate::part_draft::{PartDraft, parts_in_order};
 use crate::taking::{Growth, MOST_POINTS};
+use crate::tally::all_conflicts;
 use crate::weave::woven;
 use attr_kit::NoMemory;
 use std::alloc::{AllocError, Global};
@@ -62,6 +64,7 @@ pub(crate) fn merged(
     requires few { length (listed theirs.now) ≤ 2 ^ 62 }
     ensures merges { IfOk result (λ g. Merges incarnations.old.items incarnations.new.items theirs.now g.more g.changed) }
     ensures bounded { IfOk result (λ g. len + g.more ≤ 2 ^ 62) }
+    ensures tells { IfOk result (λ g. Tells incarnations.old.items incarnations.new.items g.before g.after) }
     ensures unchanged { OnErr result (incarnations.new.items ≡ incarnations.old.items) }
 {
     let alloc = *incarnations.allocator();
@@ -80,7 +83,13 @@ pub(crate) fn merged(
     } else {
         Vec::with_capacity(alloc, incarnations.len() + fresh.len())?
     };
+    let before = all_conflicts(incarnations.as_slice());
     put_parts(incarnations, updates);
     put_new(incarnations, fresh, room);
-    Ok(Growth { more, changed })
+    Ok(Growth {
+        more,
+        changed,
+        before,
+        after: all_conflicts(incarnations.as_slice()),
+    })
 }

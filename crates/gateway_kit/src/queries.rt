@@ -10,7 +10,7 @@ use crate::gateway::Gateway;
 use crate::part_item::PartItem;
 use crate::points::Points;
 use crate::taking::part_place;
-use point_kit::{Cell, Held, Key, WriterId};
+use point_kit::{Cell, Key, WriterId};
 
 impl Gateway {
     /// The cell under a key: O(log n). Takes no memory.
@@ -71,30 +71,12 @@ impl Gateway {
     }
 }
 
-// Whether different payloads came at the time of a cell.
-fn is_conflict(cell: &Cell) -> bool
-    ensures { result ≡ has_conflict cell.now }
-{
-    match &cell.held {
-        Held::One(_) => false,
-        Held::Conflict => true,
-    }
-}
-
 impl Gateway {
-    /// The number of keys at whose time different payloads came: O(n). Takes no memory.
+    /// The number of keys at whose time different payloads came. Takes no memory and constant time.
     pub fn conflicts(&self) -> u64
         ensures value { result ≡ count_by (λ e. has_conflict e.1) (entries self.now.points) }
     {
-        // There are at most 2^62 points, so the count fits.
-        let _points = self.len();
-        let mut conflicts = 0;
-        for point in self.points() {
-            if is_conflict(point.cell) {
-                conflicts += 1;
-            }
-        }
-        conflicts
+        self.conflicts
     }
 
     /// Whether both hold equal points; ids are not compared. One walk over both. Takes no memory.

@@ -6,6 +6,7 @@ ghost use Rattle.gateway_kit.specs.Growth.{Grows};
 ghost use Rattle.gateway_kit.specs.Keys.{part_cmp};
 ghost use Rattle.gateway_kit.specs.Parts.{IsWhole, part_of};
 ghost use Rattle.gateway_kit.specs.Places.{IsPlace, IsAt, IsGap};
+ghost use Rattle.gateway_kit.specs.Tallies.{Tells};
 
 use crate::incarnation::Incarnation;
 use attr_kit::{NoMemory, TryCopy};
@@ -16,11 +17,15 @@ use std::cmp::Ordering;
 /// The greatest number of points that a gateway holds.
 pub(crate) const MOST_POINTS: usize = 1 << 62;
 
-/// How many keys are new, and how many changed, the new ones among them.
+/// How many keys are new, how many changed, the new ones among them, and how the number of conflicts changes.
 #[derive(Clone, Copy)]
 pub(crate) struct Growth {
     pub(crate) more: usize,
     pub(crate) changed: u64,
+    /// How many conflicts there were among the incarnations that grew.
+    pub(crate) before: u64,
+    /// How many there are.
+    pub(crate) after: u64,
 }
 
 impl Incarnation {
@@ -56,6 +61,7 @@ fn take_held(
     requires points { export.now.points ≢ [] }
     ensures grows { IfOk result (λ g. Grows incarnations.old.items incarnations.new.items (export.now.writer, export.now.start) (entries_of export.now) g.more g.changed) }
     ensures bounded { IfOk result (λ g. len + g.more ≤ 2 ^ 62) }
+    ensures tells { IfOk result (λ g. Tells incarnations.old.items incarnations.new.items g.before g.after) }
     ensures unchanged { OnErr result (incarnations.new.items ≡ incarnations.old.items) }
 {
     let alloc = *incarnations.allocator();
@@ -65,8 +71,16 @@ fn take_held(
     if more > MOST_POINTS - len {
         return Err(NoMemory);
     }
-    incarnations[place].install(changes);
-    Ok(Growth { more, changed })
+    let incarnation = &mut incarnations[place];
+    let before = incarnation.conflicts();
+    incarnation.install(changes);
+    let after = incarnation.conflicts();
+    Ok(Growth {
+        more,
+        changed,
+        before,
+        after,
+    })
 }
 
 // Adds the incarnation of an export at the place where it belongs.
@@ -81,6 +95,7 @@ fn take_new(
     requires points { export.now.points ≢ [] }
     ensures grows { IfOk result (λ g. Grows incarnations.old.items incarnations.new.items (export.now.writer, export.now.start) (entries_of export.now) g.more g.changed) }
     ensures bounded { IfOk result (λ g. len + g.more ≤ 2 ^ 62) }
+    ensures tells { IfOk result (λ g. Tells incarnations.old.items incarnations.new.items g.before g.after) }
     ensures unchanged { OnErr result (incarnations.new.items ≡ incarnations.old.items) }
 {
     let alloc = *incarnations.allocator();
@@ -92,8 +107,14 @@ fn take_new(
         return Err(NoMemory);
     }
     incarnation.install(changes);
+    let after = incarnation.conflicts();
     incarnations.insert(place, incarnation)?;
-    Ok(Growth { more, changed })
+    Ok(Growth {
+        more,
+        changed,
+        before: 0,
+        after,
+    })
 }
 
 /// Joins an export, which has points, into its incarnation.
@@ -106,6 +127,7 @@ pub(crate) fn taken(
     requires points { export.now.points ≢ [] }
     ensures grows { IfOk result (λ g. Grows incarnations.old.items incarnations.new.items (export.now.writer, export.now.start) (entries_of export.now) g.more g.changed) }
     ensures bounded { IfOk result (λ g. len + g.more ≤ 2 ^ 62) }
+    ensures tells { IfOk result (λ g. Tells incarnations.old.items incarnations.new.items g.before g.after) }
     ensures unchanged { OnErr result (incarnations.new.items ≡ incarnations.old.items) }
 {
     match part_place(incarnations.as_slice(), export.writer(), export.start()) {

@@ -1,10 +1,13 @@
-use Rattle.std.proofs.Common.{◌≡◌, [], ◌∷◌, subst, ◌∙◌}
+use Rattle.std.proofs.Common.{◌≡◌, List, [], ◌∷◌, ap, subst, ◌∙◌}
 use Rattle.std.specs.FinMap.{entries}
+use Rattle.gateway_kit.specs.Changing.{Entry}
 use Rattle.gateway_kit.specs.Keys.{ItemKey}
 use Rattle.gateway_kit.specs.OneCell.{JoinsEntry}
 use Rattle.gateway_kit.specs.Part.{Part, Cells}
-use Rattle.gateway_kit.proofs.Growing.{grows_gap, no_cells}
+use Rattle.gateway_kit.proofs.Growing.{entries-empty, grows_gap, no_cells}
 use Rattle.gateway_kit.proofs.OneCell.{joins_some}
+use Rattle.gateway_kit.proofs.Tallies.{tells_insert}
+use Rattle.gateway_kit.specs.Tallies.{conflicts_in}
 use Rattle.gateway_kit.proofs.cell_joins.join_gap.Goals as goal
 
 pub returns-clause-grows : goal.returns-clause-grows
@@ -18,3 +21,11 @@ returns-clause-grows c =
     let joins : JoinsEntry (entries no_cells) (entries new.cells) (k, w) growth.more growth.changed = subst (λ (cs : Cells). JoinsEntry (entries cs) (entries new.cells) (k, w) growth.more growth.changed) c.new-incarnation.ensures.cells c.in_ok-growth.ensures.joins in
     let is : new ≡ record { writer = key.writer; start = key.start; cells = new.cells } = c.in_ok-growth.ensures.same ∙ (λ i. record { writer = c.new-incarnation.ensures.writer i; start = c.new-incarnation.ensures.start i; cells = new.cells }) in
     rw c.in_ok-insert.ensures.items (grows_gap olds c.args.len c.requires.whole (key.writer, key.start) ((k, w) ∷ []) growth.more growth.changed c.args.place new new.cells c.requires.placed is (joins_some (entries no_cells) (entries new.cells) k w growth.more growth.changed joins) joins.joined joins.more_keys joins.changes)
+
+pub returns-clause-tells : goal.returns-clause-tells
+returns-clause-tells c =
+    let olds = c.args.incarnations.now.items in
+    let new : Part = c.join.new.self in
+    let growth = c.in_ok-growth.growth in
+    let none : growth.before ≡ 0 = c.in_ok-growth.ensures.before ∙ ap (λ (cs : Cells). conflicts_in (entries cs)) c.new-incarnation.ensures.cells ∙ ap (λ (es : List Entry). conflicts_in es) entries-empty in
+    rw (c.in_ok-insert.ensures.items, none) (tells_insert olds c.args.place new growth.after c.in_ok-growth.ensures.after)

@@ -8,6 +8,8 @@ use Rattle.gateway_kit.proofs.Drafting.{found_place}
 use Rattle.gateway_kit.proofs.Entries.{as_T}
 use Rattle.gateway_kit.proofs.KeyOrders.{part_total}
 use Rattle.gateway_kit.proofs.OneCell.{held_grows}
+use Rattle.gateway_kit.proofs.Growing.{within_at}
+use Rattle.gateway_kit.proofs.Tallies.{held_tells}
 use Rattle.gateway_kit.proofs.cell_joins.join_held.Goals as goal
 
 pub returns-clause-grows : goal.returns-clause-grows
@@ -21,3 +23,8 @@ returns-clause-held c = λ some.
     let part = c.index_mut.result.now in
     let here : part_at (key.writer, key.start) c.args.incarnations.now.items ≡ entries part.cells = ap entries_at (found_place part_of part_total c.args.incarnations.now.items c.args.place part (key.writer, key.start) (as_T c.requires.whole.sorted) c.requires.placed c.index_mut.ensures.value) in
     c.join.ensures.held (ap (λ es. is_some (find item_cmp (key.stream, key.attrs) es)) (sym here) ∙ some)
+
+pub returns-clause-tells : goal.returns-clause-tells
+returns-clause-tells c =
+    let olds = c.args.incarnations.now.items in
+    held_tells olds c.args.place c.index_mut.result.now c.join.new.self (within_at part_of olds c.args.place (c.args.key.writer, c.args.key.start) c.requires.placed) c.index_mut.ensures.value c.join.result c.join.ensures.before c.join.ensures.after

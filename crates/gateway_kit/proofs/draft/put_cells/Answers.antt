@@ -8,8 +8,8 @@ use Rattle.gateway_kit.proofs.draft.put_cells.Goals as goal
 
 pub loop-place-preserved : goal.loop-place-preserved
 loop-place-preserved c = (
-  c.put_cell-newest.ensures.put
+  c.put_cell-tally.ensures.put
       ∙ ap (λ es. amend replaced es c.in-Some.place c.in-Some.cell) c.loop-place.invariant.0
       ∙ sym (amended-push item_total replaced (map entry_of c.args.items.now.items) c.loop-place.yielded c.in-Some.place c.in-Some.cell),
-  λ before. c.put_cell-newest.ensures.newest (c.loop-place.invariant.1 before),
+  c.put_cell-tally.ensures.tally,
 )

@@ -4,6 +4,7 @@ use Rattle.std.specs.FinMap.{entries, from_sorted}
 use Rattle.gateway_kit.specs.Changing.{Prepares, entries_of, grown}
 use Rattle.gateway_kit.specs.Part.{Cells}
 use Rattle.gateway_kit.proofs.Growing.{grows_new, no_cells}
+use Rattle.gateway_kit.proofs.Tallies.{tells_insert}
 use Rattle.gateway_kit.proofs.taking.take_new.Goals as goal
 
 pub returns-clause-grows : goal.returns-clause-grows
@@ -16,3 +17,6 @@ returns-clause-grows c =
     let changed : c.len.result + c.len-more.result ≡ length changes.updates.items + length changes.fresh.items = grind (arith, common_steps) in
     let made : c.install.new.self ≡ record { writer = e.writer; start = e.start; cells = from_sorted (grown (entries no_cells) changes) } = c.install.ensures ∙ (λ i. record { writer = (c.new-incarnation.ensures.writer ∙ c.in_ok-try_copy.ensures.value ∙ c.writer.ensures.value) i; start = (c.new-incarnation.ensures.start ∙ c.start.ensures.value) i; cells = from_sorted (grown (entries (c.new-incarnation.ensures.cells i)) changes) }) in
     rw c.in_ok-insert.ensures.items (grows_new olds c.args.len c.requires.whole e c.requires.points changes c.len-more.result (c.len.result + c.len-more.result) c.args.place c.install.new.self c.requires.placed prepared made more changed)
+
+pub returns-clause-tells : goal.returns-clause-tells
+returns-clause-tells c = rw c.in_ok-insert.ensures.items (tells_insert c.args.incarnations.now.items c.args.place c.install.new.self c.conflicts-after.result c.conflicts-after.ensures)

@@ -21,7 +21,7 @@ returns-in-Ok c =
       value =
           c.find.ensures
           ∙ get-entries c.index.result.now.cells (k.stream, k.attrs)
-          ∙ sym (ap (λ (v : View). get v.points k) (sym c.self.view_is) ∙ get_points parts c.self.invariant.sorted (k.writer, k.start) (k.stream, k.attrs) ∙ ap (λ o. find item_cmp (k.stream, k.attrs) (entries_at o)) (found_place part_of part_total parts c.in-Ok.place c.index.result.now (k.writer, k.start) (as_T c.self.invariant.sorted) at c.index.ensures));
+          ∙ sym (ap (λ (v : View). get v.points k) (sym c.self.view_is) ∙ get_points parts c.self.invariant.0.sorted (k.writer, k.start) (k.stream, k.attrs) ∙ ap (λ o. find item_cmp (k.stream, k.attrs) (entries_at o)) (found_place part_of part_total parts c.in-Ok.place c.index.result.now (k.writer, k.start) (as_T c.self.invariant.0.sorted) at c.index.ensures));
     }
 
 pub returns-in-Err : goal.returns-in-Err
@@ -31,5 +31,5 @@ returns-in-Err c =
     let gap : IsGap part_cmp (map part_of parts) (k.writer, k.start) c.in-Err.field-0 = subst (λ (ps : List Part). IsGap part_cmp (map part_of ps) (k.writer, k.start) c.in-Err.field-0) c.as_slice.ensures.value c.in-Err.ensures in
     record {
       value =
-          sym (ap (λ (v : View). get v.points k) (sym c.self.view_is) ∙ get_points parts c.self.invariant.sorted (k.writer, k.start) (k.stream, k.attrs) ∙ ap (λ o. find item_cmp (k.stream, k.attrs) (entries_at o)) gap.none);
+          sym (ap (λ (v : View). get v.points k) (sym c.self.view_is) ∙ get_points parts c.self.invariant.0.sorted (k.writer, k.start) (k.stream, k.attrs) ∙ ap (λ o. find item_cmp (k.stream, k.attrs) (entries_at o)) gap.none);
     }

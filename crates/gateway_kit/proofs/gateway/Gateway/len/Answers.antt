@@ -9,7 +9,7 @@ use Rattle.gateway_kit.proofs.gateway.Gateway.len.Goals as goal
 pub returns-clause-value : goal.returns-clause-value
 returns-clause-value c =
     let parts = c.self.inside.incarnations.items in
-    c.self.invariant.counted
-    ∙ ap length (sym (entries_points parts c.self.invariant.sorted))
+    c.self.invariant.0.counted
+    ∙ ap length (sym (entries_points parts c.self.invariant.0.sorted))
     ∙ sym (len-entries (from_sorted {R = key_cmp} (listed parts)))
     ∙ ap (λ (v : View). len v.points) c.self.view_is

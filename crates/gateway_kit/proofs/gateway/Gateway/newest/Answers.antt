@@ -26,13 +26,13 @@ returns-in-Ok c =
     let s = c.args.start in
     let part = c.index.result.now in
     let at : IsAt part_cmp (map part_of parts) (w, s) c.in-Ok.place = subst (λ (ps : List Part). IsAt part_cmp (map part_of ps) (w, s) c.in-Ok.place) c.as_slice.ensures.value c.in-Ok.ensures in
-    let found : find part_cmp (w, s) (map part_of parts) ≡ Some part.cells = found_place part_of part_total parts c.in-Ok.place part (w, s) (as_T c.self.invariant.sorted) at c.index.ensures in
+    let found : find part_cmp (w, s) (map part_of parts) ≡ Some part.cells = found_place part_of part_total parts c.in-Ok.place part (w, s) (as_T c.self.invariant.0.sorted) at c.index.ensures in
     record {
       value =
           ap (λ n. Some n) c.newest.ensures
-          ∙ sym (newest_under (w, s) (entries part.cells) (found_filled (w, s) parts part.cells c.self.invariant.filled found))
+          ∙ sym (newest_under (w, s) (entries part.cells) (found_filled (w, s) parts part.cells c.self.invariant.0.filled found))
           ∙ ap (λ o. greatest (map (λ e. e.1.time) (under (w, s) (entries_at o)))) (sym found)
-          ∙ ap (λ (es : List (Key × Cell Payload)). greatest (map (λ e. e.1.time) es)) (sym (points_under (w, s) parts c.self.invariant.sorted))
+          ∙ ap (λ (es : List (Key × Cell Payload)). greatest (map (λ e. e.1.time) es)) (sym (points_under (w, s) parts c.self.invariant.0.sorted))
           ∙ ap (λ (v : View). newest_time w s v.points) c.self.view_is;
     }
 
@@ -45,6 +45,6 @@ returns-in-Err c =
     record {
       value =
           ap (λ o. greatest (map (λ e. e.1.time) (under (w, s) (entries_at o)))) (sym gap.none)
-          ∙ ap (λ (es : List (Key × Cell Payload)). greatest (map (λ e. e.1.time) es)) (sym (points_under (w, s) parts c.self.invariant.sorted))
+          ∙ ap (λ (es : List (Key × Cell Payload)). greatest (map (λ e. e.1.time) es)) (sym (points_under (w, s) parts c.self.invariant.0.sorted))
           ∙ ap (λ (v : View). newest_time w s v.points) c.self.view_is;
     }

@@ -21,8 +21,8 @@ returns-in-Ok c =
     record {
       value =
           items_under (w, s) c.items.result.now c.index.result.now.cells c.items.ensures.entries
-          ∙ ap (λ o. under (w, s) (entries_at o)) (sym (found_place part_of part_total parts c.in-Ok.place c.index.result.now (w, s) (as_T c.self.invariant.sorted) at c.index.ensures))
-          ∙ sym (points_under (w, s) parts c.self.invariant.sorted)
+          ∙ ap (λ o. under (w, s) (entries_at o)) (sym (found_place part_of part_total parts c.in-Ok.place c.index.result.now (w, s) (as_T c.self.invariant.0.sorted) at c.index.ensures))
+          ∙ sym (points_under (w, s) parts c.self.invariant.0.sorted)
           ∙ ap (λ (v : View). part_points w s v.points) c.self.view_is;
     }
 
@@ -35,6 +35,6 @@ returns-in-Err c =
     record {
       value =
           ap (λ o. under (w, s) (entries_at o)) (sym gap.none)
-          ∙ sym (points_under (w, s) parts c.self.invariant.sorted)
+          ∙ sym (points_under (w, s) parts c.self.invariant.0.sorted)
           ∙ ap (λ (v : View). part_points w s v.points) c.self.view_is;
     }

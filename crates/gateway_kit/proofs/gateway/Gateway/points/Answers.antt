@@ -11,6 +11,6 @@ returns c =
     record {
       value =
           filter_all (listed c.as_slice.result.now) ∙ ap listed c.as_slice.ensures.value
-          ∙ sym (entries_points c.self.inside.incarnations.items c.self.invariant.sorted)
+          ∙ sym (entries_points c.self.inside.incarnations.items c.self.invariant.0.sorted)
           ∙ ap (λ (v : View). entries v.points) c.self.view_is;
     }

@@ -12,6 +12,6 @@ returns c =
       value =
           ap (filter (λ e. is_of c.args.service.now e.0.writer))
           (ap listed c.as_slice.ensures.value
-          ∙ sym (entries_points c.self.inside.incarnations.items c.self.invariant.sorted)
+          ∙ sym (entries_points c.self.inside.incarnations.items c.self.invariant.0.sorted)
           ∙ ap (λ (v : View). entries v.points) c.self.view_is);
     }

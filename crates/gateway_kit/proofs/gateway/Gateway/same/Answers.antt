@@ -22,7 +22,7 @@ returns-then-self-other c =
         λ equal.
             let parts : mine ≡ theirs = sym c.as_slice.ensures.value ∙ c.all_same.ensures.0 equal ∙ c.as_slice-then-self-other.ensures.value in
             sym mine_is ∙ ap (λ (ps : List Part). from_sorted {R = key_cmp} (listed ps)) parts ∙ theirs_is,
-        λ equal. c.all_same.ensures.1 (c.as_slice.ensures.value ∙ same_parts mine theirs c.self.inside.len c.other.inside.len c.self.invariant c.other.invariant (mine_is ∙ equal ∙ sym theirs_is) ∙ sym c.as_slice-then-self-other.ensures.value),
+        λ equal. c.all_same.ensures.1 (c.as_slice.ensures.value ∙ same_parts mine theirs c.self.inside.len c.other.inside.len c.self.invariant.0 c.other.invariant.0 (mine_is ∙ equal ∙ sym theirs_is) ∙ sym c.as_slice-then-self-other.ensures.value),
       );
     }
 
@@ -35,9 +35,9 @@ returns-else-self-other c =
         λ equal. absurd (c.if-self-other.false (eqb-true c.self.inside.len c.other.inside.len equal)),
         λ equal.
             let points : listed mine ≡ listed theirs =
-            sym (entries_points mine c.self.invariant.sorted)
+            sym (entries_points mine c.self.invariant.0.sorted)
             ∙ ap (λ (m : Points). entries m) (ap (λ (v : View). v.points) c.self.view_is ∙ equal ∙ sym (ap (λ (v : View). v.points) c.other.view_is))
-            ∙ entries_points theirs c.other.invariant.sorted in
-            eq-eqb c.self.inside.len c.other.inside.len (c.self.invariant.counted ∙ ap length points ∙ sym c.other.invariant.counted),
+            ∙ entries_points theirs c.other.invariant.0.sorted in
+            eq-eqb c.self.inside.len c.other.inside.len (c.self.invariant.0.counted ∙ ap length points ∙ sym c.other.invariant.0.counted),
       );
     }

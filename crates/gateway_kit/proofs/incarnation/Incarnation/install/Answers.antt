@@ -10,15 +10,15 @@ use Rattle.gateway_kit.proofs.incarnation.Incarnation.install.Goals as goal
 
 pub invariant_of-self : goal.invariant_of-self
 invariant_of-self c =
-    let told : map entry_of c.put_items-self-inside.new.items.items ≡ grown (map entry_of c.self.inside.items.items) c.args.changes = installed c.self.inside.items.items c.put_cells-newest.new.items.items (map entry_of c.put_items-self-inside.new.items.items) c.args.changes c.put_cells-newest.ensures.put c.put_items-self-inside.ensures.woven in
+    let told : map entry_of c.put_items-self-inside.new.items.items ≡ grown (map entry_of c.self.inside.items.items) c.args.changes = installed c.self.inside.items.items c.put_cells-tally.new.items.items (map entry_of c.put_items-self-inside.new.items.items) c.args.changes c.put_cells-tally.ensures.put c.put_items-self-inside.ensures.woven in
     record {
       sorted = subst (λ (es : List Entry). is_sorted item_cmp es ≡ true) (sym told) (sorted_grown (map entry_of c.self.inside.items.items) c.args.changes c.self.invariant.sorted);
-      newest = c.put_items-self-inside.ensures.newest (c.put_cells-newest.ensures.newest c.self.invariant.newest);
+      tallied = c.put_items-self-inside.ensures.tally;
     }
 
 pub returns : goal.returns
 returns c =
-    let told : map entry_of c.put_items-self-inside.new.items.items ≡ grown (map entry_of c.self.inside.items.items) c.args.changes = installed c.self.inside.items.items c.put_cells-newest.new.items.items (map entry_of c.put_items-self-inside.new.items.items) c.args.changes c.put_cells-newest.ensures.put c.put_items-self-inside.ensures.woven in
+    let told : map entry_of c.put_items-self-inside.new.items.items ≡ grown (map entry_of c.self.inside.items.items) c.args.changes = installed c.self.inside.items.items c.put_cells-tally.new.items.items (map entry_of c.put_items-self-inside.new.items.items) c.args.changes c.put_cells-tally.ensures.put c.put_items-self-inside.ensures.woven in
     let whose : List Entry → Part = λ (es : List Entry). record { writer = c.self.inside.writer; start = c.self.inside.start; cells = from_sorted {R = item_cmp} es } in
     ap whose told
     ∙ ap (λ (es : List Entry). whose (grown es c.args.changes)) (sym (entries-from_sorted item_cmp (map entry_of c.self.inside.items.items) (as_T c.self.invariant.sorted)))

@@ -9,6 +9,8 @@ use Rattle.gateway_kit.specs.Places.{IsAt}
 use Rattle.gateway_kit.proofs.Entries.{as_T, is_sorted-amend}
 use Rattle.gateway_kit.proofs.KeyOrders.{item_total}
 use Rattle.gateway_kit.proofs.OneCell.{cells_of, joins_alike, kept_at, changed_at}
+use Rattle.gateway_kit.specs.Tallies.{conflicts_in}
+use Rattle.gateway_kit.proofs.Tallies.{shown}
 use Rattle.gateway_kit.proofs.incarnation.Incarnation.join_at.Goals as goal
 
 pub index-requires : goal.index-requires
@@ -29,7 +31,7 @@ returns-in_default-clause-joins c = λ key at.
 pub invariant_of-self : goal.invariant_of-self
 invariant_of-self c = record {
   sorted = ap (is_sorted item_cmp) c.put_cell-self-inside.ensures.put ∙ is_sorted-amend item_total replaced (map entry_of c.self.inside.items.items) c.args.place c.in-Some.cell ∙ c.self.invariant.sorted;
-  newest = c.put_cell-self-inside.ensures.newest c.self.invariant.newest;
+  tallied = c.put_cell-self-inside.ensures.tally;
 }
 
 pub returns-clause-joins : goal.returns-clause-joins
@@ -41,3 +43,18 @@ returns-clause-joins c = λ key at.
     let sorted = ap (is_sorted item_cmp) c.put_cell-self-inside.ensures.put ∙ is_sorted-amend item_total replaced (map entry_of items) c.args.place c.in-Some.cell ∙ c.self.invariant.sorted in
     joins_alike (map entry_of items) (entries c.args.self.now.cells) (map entry_of news) (entries (from_sorted {R = item_cmp} (map entry_of news))) (key, c.args.cell) 0 1 (sym listed) (sym (entries-from_sorted item_cmp (map entry_of news) (as_T sorted)))
     (changed_at items c.self.invariant.sorted c.args.place c.index.result.now key c.args.cell here c.index.ensures news c.in-Some.cell c.put_cell-self-inside.ensures.put c.in-Some.ensures.0 c.in-Some.ensures.1)
+
+pub returns-in_default-clause-before : goal.returns-in_default-clause-before
+returns-in_default-clause-before c = shown c.args.self.now c.self.inside.writer c.self.inside.start c.self.inside.items.items c.self.inside.tally.conflicts c.self.invariant.sorted c.self.view_is c.self.invariant.tallied.conflicts
+
+pub returns-in_default-clause-after : goal.returns-in_default-clause-after
+returns-in_default-clause-after c = shown c.args.self.now c.self.inside.writer c.self.inside.start c.self.inside.items.items c.self.inside.tally.conflicts c.self.invariant.sorted c.self.view_is c.self.invariant.tallied.conflicts
+
+pub returns-clause-before : goal.returns-clause-before
+returns-clause-before c = shown c.args.self.now c.self.inside.writer c.self.inside.start c.self.inside.items.items c.self.inside.tally.conflicts c.self.invariant.sorted c.self.view_is c.self.invariant.tallied.conflicts
+
+pub returns-clause-after : goal.returns-clause-after
+returns-clause-after c =
+    let news = c.put_cell-self-inside.new.items.items in
+    let sorted = ap (is_sorted item_cmp) c.put_cell-self-inside.ensures.put ∙ is_sorted-amend item_total replaced (map entry_of c.self.inside.items.items) c.args.place c.in-Some.cell ∙ c.self.invariant.sorted in
+    c.put_cell-self-inside.ensures.tally.conflicts ∙ ap (λ (es : List Entry). conflicts_in es) (sym (entries-from_sorted item_cmp (map entry_of news) (as_T sorted)))

@@ -1,4 +1,4 @@
-use Rattle.std.proofs.Common.{◌≡◌, ◌≤◌, ℕ, max, length, List, map, sym, ap, subst, ◌∙◌, arith}
+use Rattle.std.proofs.Common.{◌≡◌, ◌+◌, ◌≤◌, ◌<◌, ◌^◌, ℕ, max, length, List, map, sym, ap, subst, ◌∙◌, arith}
 use Rattle.std.proofs.lemmas.Grind.{common_steps}
 use lib.ListN.{length-map}
 use Rattle.std.specs.FinMap.{entries, from_sorted, entries-from_sorted}
@@ -7,10 +7,12 @@ use Rattle.std.specs.List.{insert}
 use Rattle.gateway_kit.specs.Changing.{Entry}
 use Rattle.gateway_kit.specs.Keys.{entry_of, item_cmp}
 use Rattle.gateway_kit.specs.Places.{IsGap}
+use Rattle.gateway_kit.specs.Tallies.{conflict, conflicts_in}
 use Rattle.gateway_kit.specs.Times.{latest}
 use Rattle.gateway_kit.specs.declared.part_item.PartItem.{PartItem}
 use Rattle.gateway_kit.proofs.Entries.{as_T}
 use Rattle.gateway_kit.proofs.OneCell.{cells_of, joins_alike, new_at, sorted_at, latest_insert}
+use Rattle.gateway_kit.proofs.Tallies.{conflicts_few, conflicts_insert}
 use Rattle.gateway_kit.proofs.incarnation.Incarnation.join_new.Goals as goal
 
 pub insert-requires : goal.insert-requires
@@ -19,6 +21,15 @@ insert-requires c =
     let long : length (entries c.args.self.now.cells) ≡ length items = ap length (cells_of c.args.self.now c.self.inside.writer c.self.inside.start items c.self.invariant.sorted c.self.view_is) ∙ length-map items entry_of in
     let within : c.args.place ≤ length items = omega (arith, c.requires.within) in
     grind (arith, common_steps)
+
+pub and-tally-requires : goal.and-tally-requires
+and-tally-requires c =
+    let items = c.self.inside.items.items in
+    let few = conflicts_few (map entry_of items) in
+    let long : length (map entry_of items) ≡ length items = length-map items entry_of in
+    let short : length items < 2 ^ 63 = grind (arith, common_steps) in
+    let is = c.self.invariant.tallied.conflicts in
+    omega (arith, few, long, short, is)
 
 pub invariant_of-self-2 : goal.invariant_of-self-2
 invariant_of-self-2 c =
@@ -30,7 +41,10 @@ invariant_of-self-2 c =
     let within : c.args.place ≤ length items = omega (arith, gap.within) in
     record {
       sorted = ap (λ (l : List PartItem). is_sorted item_cmp (map entry_of l)) c.in_ok-insert.ensures.items ∙ sorted_at items item c.args.place c.self.invariant.sorted gap;
-      newest = c.max-self-inside.ensures ∙ ap (λ (n : ℕ). max n item.cell.time) c.self.invariant.newest ∙ sym (latest_insert items item c.args.place within) ∙ ap (λ (l : List PartItem). latest (map entry_of l)) (sym c.in_ok-insert.ensures.items);
+      tallied = record {
+        newest = c.and-tally.ensures.newest ∙ ap (λ (n : ℕ). max n item.cell.time) c.self.invariant.tallied.newest ∙ sym (latest_insert items item c.args.place within) ∙ ap (λ (l : List PartItem). latest (map entry_of l)) (sym c.in_ok-insert.ensures.items);
+        conflicts = c.and-tally.ensures.conflicts ∙ ap (λ (n : ℕ). n + conflict item.cell) c.self.invariant.tallied.conflicts ∙ sym (conflicts_insert items item c.args.place) ∙ ap (λ (l : List PartItem). conflicts_in (map entry_of l)) (sym c.in_ok-insert.ensures.items);
+      };
     }
 
 pub returns-clause-joins : goal.returns-clause-joins

@@ -8,6 +8,6 @@ use Rattle.gateway_kit.proofs.incarnation.Incarnation.newest.Goals as goal
 
 pub returns : goal.returns
 returns c =
-    c.self.invariant.newest
+    c.self.invariant.tallied.newest
     ∙ ap latest (sym (entries-from_sorted item_cmp (map entry_of c.self.inside.items.items) (as_T c.self.invariant.sorted)))
     ∙ ap (λ (p : Part). latest (entries p.cells)) c.self.view_is

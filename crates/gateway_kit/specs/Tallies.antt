@@ -1,0 +1,44 @@
+-- What is kept beside items and beside parts: the greatest time, and how many cells are conflicts.
+use Rattle.std.specs.Prelude.{◌≡◌, ℕ, ◌+◌, ◌≤◌, cond, IsTrue, List, map, count_by}
+use Rattle.std.specs.List.{sum_by}
+use Rattle.std.specs.FinMap.{entries}
+use Rattle.std.specs.FinMap.Entries.{is_sorted}
+use Rattle.point_kit.specs.declared.cell.Cell.{Cell}
+use Rattle.point_kit.specs.declared.payload.Payload.{Payload}
+use Rattle.gateway_kit.specs.Keys.{ItemKey, entry_of, item_cmp}
+use Rattle.gateway_kit.specs.Part.{Part}
+use Rattle.gateway_kit.specs.Queries.{has_conflict}
+use Rattle.gateway_kit.specs.Times.{latest}
+use Rattle.gateway_kit.specs.declared.part_item.PartItem.{PartItem}
+use Rattle.gateway_kit.specs.declared.tally.Tally.{Tally}
+
+-- 1 of a conflict, else 0
+abbrev pub conflict : Cell Payload → ℕ
+conflict cell = cond (has_conflict cell) 1 0
+
+-- how many entries are conflicts
+abbrev pub conflicts_in : {K : Type 0} → List (K × Cell Payload) → ℕ
+conflicts_in es = count_by (λ e. has_conflict e.1) es
+
+-- a tally of entries
+pub record IsTally (es : List (ItemKey × Cell Payload)) (tally : Tally) : Type 0 where
+  pub newest : tally.newest ≡ latest es
+  pub conflicts : tally.conflicts ≡ conflicts_in es
+
+-- items in the order of their keys, and their tally
+pub record IsKept (items : List PartItem) (tally : Tally) : Type 0 where
+  pub sorted : IsTrue (is_sorted item_cmp (map entry_of items))
+  pub tallied : IsTally (map entry_of items) tally
+
+-- how many cells of a part are conflicts
+abbrev pub part_conflicts : Part → ℕ
+part_conflicts p = conflicts_in (entries p.cells)
+
+-- how many cells of all parts are
+abbrev pub conflicts_of : List Part → ℕ
+conflicts_of parts = sum_by part_conflicts parts
+
+-- of one change, the conflicts of what changes before and after it
+pub record Tells (olds news : List Part) (before after : ℕ) : Type 0 where
+  pub all : conflicts_of news + before ≡ conflicts_of olds + after
+  pub among : before ≤ conflicts_of olds
