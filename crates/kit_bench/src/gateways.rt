@@ -39,12 +39,23 @@ pub fn writer(alloc: Global) -> anyhow::Result<WriterId> {
 
 /// An export of one writer with so many keys, from a number on.
 pub fn export(alloc: Global, time: u64, from: u32, keys: u32) -> anyhow::Result<Export> {
+    export_of(alloc, 100, time, from, keys)
+}
+
+/// An export of that writer's incarnation of a start.
+pub fn export_of(
+    alloc: Global,
+    begin: u64,
+    time: u64,
+    from: u32,
+    keys: u32,
+) -> anyhow::Result<Export> {
     let stream = requests(alloc)?;
     let mut points = Vec::new(alloc);
     for number in from..from.saturating_add(keys) {
         points.push(point(alloc, &stream, number)?)?;
     }
-    Ok(Export::build(alloc, writer(alloc)?, 100, time, Seq::from_vec(points))?)
+    Ok(Export::build(alloc, writer(alloc)?, begin, time, Seq::from_vec(points))?)
 }
 
 /// A gateway that took one export.
