@@ -3,7 +3,10 @@ pub mod Closed
 pub mod Closing
 pub mod Exported
 pub mod Exports
+pub mod Halts
 pub mod Lists
+pub mod Posting
 pub mod Refusals
 pub mod Served
+pub mod Stops
 pub mod Ties

@@ -4,11 +4,8 @@ use Rattle.std.specs.Prelude.{nat_eq, nat_le}
 use Rattle.std.specs.Option.{option_map}
 use Rattle.attr_kit.specs.Refusing.{first}
 use Rattle.fleet_kit.specs.Checks.{crowded_from, has_id_of, setup_fault, tied}
-use Rattle.fleet_kit.specs.Faults.{halted, IsLate}
 use Rattle.fleet_kit.specs.declared.fault.FleetFault.{FleetFault}
 use Rattle.fleet_kit.specs.declared.fault.FleetFault.TheVariants.{NoWriter, SameWriter, SameGateway, EndNotAfter, TooManyJobs}
-use Rattle.fleet_kit.specs.declared.halt.Halt.{Halt}
-use Rattle.fleet_kit.specs.declared.halt.Halt.TheVariants as halts
 use Rattle.fleet_kit.specs.declared.setup.FleetSetup.{FleetSetup}
 
 -- the first of these, in their order
@@ -52,11 +49,3 @@ module _ (s : FleetSetup) where
 
   pub not_refused : A ≡ None → B ≡ None → C ≡ None → D ≡ None → E ≡ None → setup_fault s ≡ None
   not_refused a b c d e = is_chain ∙ (λ i. chain (a i) (b i) (c i) (d i) (e i))
-
--- why threads stop short is none of the setup's faults
-pub is_late : (h : Halt) → IsLate (halted h)
-is_late (halts.GateShut job) = tt
-is_late (halts.Refused job entry) = tt
-is_late halts.NoThread = tt
-is_late (halts.Missing gateway writer) = tt
-is_late halts.NoMemory = tt

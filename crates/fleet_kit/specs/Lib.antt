@@ -2,6 +2,8 @@ pub mod Checks
 pub mod Closing
 pub mod Collected
 pub mod Faults
+pub mod Halts
 pub mod Jobs
+pub mod Posting
 pub mod Serving
 pub mod Setups

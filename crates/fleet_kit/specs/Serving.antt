@@ -1,24 +1,20 @@
 -- What a gateway's thread took, of exports that it was told of by their places.
-use Rattle.std.specs.Prelude.{◌≡◌, ◌⊎◌, ℕ, Bool, true, List, [], length, map, slice_get, Some}
+use Rattle.std.specs.Prelude.{◌≡◌, ℕ, List, map, slice_get, Some}
 use Rattle.gateway_kit.specs.View.{View}
 use Rattle.point_kit.specs.Exports.{state}
 use Rattle.point_kit.specs.declared.export.Export.{Export}
 use Rattle.rollup_kit.specs.Fleets.{AreAt, AreCovered}
 use Rattle.schedule_kit.specs.Members.{In}
 
--- the gateway took the exports at these places, among them each that is noted as come, and holds nothing else
-pub record IsServed (exports : List Export) (id : ℕ) (g : View) (came : List Bool) : Type 0 where
+-- the gateway took the exports at these places, of which each was told and all that name an export, and holds nothing else
+pub record IsServed (exports : List Export) (id : ℕ) (told : List ℕ) (g : View) : Type 0 where
   pub same_id : g.id ≡ id
-  pub noted : length came ≡ length exports
   pub took : List ℕ
   pub taken : List Export
   pub at : AreAt exports took taken
   pub holds : g.points ≡ state taken
-  pub told : (w : ℕ) → slice_get came w ≡ Some true → In w took
-
--- each export came, or has no points
-abbrev pub AllCame : List Export → List Bool → Type 0
-AllCame exports came = (w : ℕ) (e : Export) → slice_get exports w ≡ Some e → (slice_get came w ≡ Some true) ⊎ (e.points ≡ [])
+  pub only : (w : ℕ) → In w took → In w told
+  pub all : (w : ℕ) (e : Export) → slice_get exports w ≡ Some e → In w told → In w took
 
 -- a gateway of this id holds all exports, but for such as have no points, and nothing else
 pub record IsWhole (exports : List Export) (id : ℕ) (g : View) : Type 0 where

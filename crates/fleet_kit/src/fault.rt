@@ -33,7 +33,7 @@ pub enum FleetFault {
     /// A thread or a seat for it could not be had.
     #[error("no thread")]
     NoThread,
-    /// The gateway was not told of the writer's collection, which has points; both by place.
+    /// The gateway could not be told of the writer's collection, which has points; both by place.
     #[error("gateway {gateway} lacks writer {writer}")]
     Missing { gateway: usize, writer: usize },
     /// Memory was refused.

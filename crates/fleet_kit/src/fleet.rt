@@ -26,7 +26,8 @@ use std::thread::Threads;
 /// plan's limit, and past it where the query leaves out all attributes. The gate is asked before each recording.
 ///
 /// Refuses as [`FleetFault`] says. The first five, of the setup, are told exactly, and before a thread is started. Which of
-/// the later ones an interleaving gives is not promised; of faults of jobs the least job's is told, and a fault of a job
+/// the later ones an interleaving gives is not promised, but each names what the setup has: a job with entries, an entry of a
+/// job, a gateway and a writer whose collection has points. Of faults of jobs the least job's is told, and a fault of a job
 /// before any other of threads. `NoThread` is told too where a shared writer could not be closed.
 pub fn run_fleet<R: Threads + Wait + Sync, G: Gate + Sync>(
     rt: &R,
@@ -35,7 +36,7 @@ pub fn run_fleet<R: Threads + Wait + Sync, G: Gate + Sync>(
     gate: &G,
 ) -> Result<Vec<Gateway>, FleetFault>
     ensures ok { OnOk result (setup_fault setup ≡ None) }
-    ensures err { IfErr result (λ f. (setup_fault setup ≡ Some f) ⊎ ((setup_fault setup ≡ None) × IsLate f)) }
+    ensures err { IfErr result (λ f. (setup_fault setup ≡ Some f) ⊎ ((setup_fault setup ≡ None) × IsLate setup f)) }
     ensures ids { IfOk result (λ gs. map (λ g. g.id) gs.items ≡ setup.gateways.items) }
     ensures rows { IfOk result (λ gs. (k : ℕ) (g : View) → slice_get gs.items k ≡ Some g → (ask : Ask) → AddsUp ask.stream.shape
         → AllWithin (writers_of setup) (recorded setup) ⊎ IsRegrouped ask → rollup_rows ask g.points ≡ rows_of (writers_of setup) (recorded setup) ask) }

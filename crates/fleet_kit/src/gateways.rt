@@ -1,10 +1,15 @@
 //! The gateways of a fleet: a thread for each, which takes the exports that it is told of.
-ghost use Rattle.std.specs.Prelude.{◌≡◌, ◌<◌, ℕ, IfOk, IfNone, length, map, slice_index_or, slice_index, vec_len, All, Ok};
-ghost use Rattle.fleet_kit.specs.Serving.{IsServed, AllCame, IsWhole, AreWhole};
+ghost use Rattle.std.specs.Prelude.{◌≡◌, [], None, IfErr, IfOk, OnOk, length};
+ghost use Rattle.crossbeam_channel.specs.Claims.{view, IsSeatAt};
+ghost use Rattle.crossbeam_channel.specs.Ends.{receives_on};
+ghost use Rattle.fleet_kit.specs.Halts.{IsLacking, StopsServing};
+ghost use Rattle.fleet_kit.specs.Posting.{IsPosted};
+ghost use Rattle.fleet_kit.specs.Serving.{IsServed, IsWhole, AreWhole};
 
 use crate::halt::{Halt, gathered};
+use crate::posts::{Got, Places, Post, Told, posts_for};
 use attr_kit::NoMemory;
-use crossbeam_channel::{Receiver, unbounded};
+use crossbeam_channel::Pass;
 use gateway_kit::Gateway;
 use point_kit::Export;
 use std::alloc::Global;
@@ -12,100 +17,48 @@ use std::sync::Wait;
 use std::thread;
 use std::thread::Threads;
 
-/// A gateway, and which exports it was told of, by their places.
-#[derive(Drop)]
-struct Served {
-    gateway: Gateway,
-    came: Vec<bool>,
-}
-
-// A channel for each gateway, in which all places stand and whose sender is gone. A place that could not be sent is missed.
-fn posted<R: Wait>(
-    rt: &R,
-    alloc: Global,
-    gateways: usize,
-    places: usize,
-) -> Result<Vec<Receiver<usize>>, Halt>
-    ensures len { IfOk result (λ v. vec_len v ≡ gateways) }
-{
-    let mut posts = Vec::new(alloc);
-    for _ in 0..gateways {
-        let (sender, receiver) = unbounded(alloc)?;
-        for place in 0..places {
-            let _unsent = sender.send(rt, place);
-        }
-        posts.push(receiver)?;
-    }
-    Ok(posts)
-}
-
-// A gateway that was told of nothing yet.
-fn untold(alloc: Global, id: u32, exports: &[Export]) -> Result<Served, NoMemory>
-    ensures ok { IfOk result (λ s. IsServed exports.now id s.gateway s.came.items) }
-{
-    let mut came = Vec::new(alloc);
-    for _ in 0..exports.len() {
-        came.push(false)?;
-    }
-    Ok(Served {
-        gateway: Gateway::new(alloc, id),
-        came,
-    })
-}
-
 // Takes the exports whose places come, until the channel ends. A place that names none is dropped.
 fn serve<R: Wait>(
     rt: &R,
     alloc: Global,
     id: u32,
     exports: &[Export],
-    places: &Receiver<usize>,
-) -> Result<Served, NoMemory>
-    ensures ok { IfOk result (λ s. IsServed exports.now id s.gateway s.came.items) }
+    places: &Places,
+    mut pass: Pass<usize, Told>,
+) -> Result<Gateway, NoMemory>
+    requires at { IsSeatAt (receives_on places.now) pass }
+    requires new { (view pass).got ≡ [] }
+    ensures ok { IfOk result (λ g. IsServed exports.now id (view pass).sent g) }
 {
-    let Served {
-        mut gateway,
-        mut came,
-    } = untold(alloc, id, exports)?;
+    let mut gateway = Gateway::new(alloc, id);
     for _ in rt.forever() {
-        let Ok(place) = places.recv(rt) else {
+        let Ok(place) = places.recv_as::<Got, R>(rt, &mut pass) else {
             break;
         };
         if place < exports.len() {
             gateway.take(&exports[place])?;
-            came[place] = true;
         }
     }
-    Ok(Served { gateway, came })
+    Ok(gateway)
 }
 
-// The least place of an export with points that did not come.
-fn missed(exports: &[Export], came: &[bool]) -> Option<usize>
-    requires noted { length came.now ≡ length exports.now }
-    ensures none { IfNone result (AllCame exports.now came.now) }
-{
-    for (place, export) in exports.iter().enumerate() {
-        if !came[place] && !export.points().is_empty() {
-            return Some(place);
-        }
-    }
-    None
-}
-
-// A gateway's thread. It answers the gateway where that was told of each export with points, and `Missing` with the least
+// A gateway's thread. It answers the gateway where that was told of each export with points, and `Missing` with the first
 // writer otherwise.
-fn served_at<R: Wait>(
-    rt: &R,
-    alloc: Global,
-    place: usize,
-    id: u32,
-    exports: &[Export],
-    places: &Receiver<usize>,
-) -> Result<Gateway, Halt>
-    ensures ok { IfOk result (λ g. IsWhole exports.now id g) }
+fn served<R: Wait>(rt: &R, alloc: Global, exports: &[Export], post: Post) -> Result<Gateway, Halt>
+    requires { IsPosted exports.now (view post.pass) post.unsent }
+    ensures ok { IfOk result (λ g. IsWhole exports.now post.id g) }
+    ensures told { OnOk result (post.unsent ≡ None) }
+    ensures err { IfErr result (IsLacking post.gateway post.unsent) }
 {
-    let Served { gateway, came } = serve(rt, alloc, id, exports, places)?;
-    match missed(exports, came.as_slice()) {
+    let Post {
+        gateway: place,
+        id,
+        places,
+        pass,
+        unsent,
+    } = post;
+    let gateway = serve(rt, alloc, id, exports, &places, pass)?;
+    match unsent {
         None => Ok(gateway),
         Some(writer) => Err(Halt::Missing {
             gateway: place,
@@ -122,17 +75,17 @@ pub(crate) fn gateways_of<R: Threads + Wait + Sync>(
     exports: &[Export],
 ) -> Result<Vec<Gateway>, Halt>
     ensures ok { IfOk result (λ gs. AreWhole exports.now ids.now gs.items) }
+    ensures err { IfErr result (StopsServing exports.now (length ids.now)) }
 {
-    let posts = posted(rt, alloc, ids.len(), exports.len())?;
-    let posts = posts.as_slice();
-    let results = thread::map_indices(
+    let posts = posts_for(rt, alloc, ids, exports)?;
+    let results = thread::map_vec(
         rt,
-        alloc,
-        ids.len(),
-        &|place: usize| -> Result<Gateway, Halt>
-            requires { (place < length ids.now) × (length posts.now ≡ length ids.now) }
-            ensures { IfOk result (λ g. IsWhole exports.entry.now (slice_index ids.entry.now place) g) }
-        { served_at(rt, alloc, place, ids[place], exports, &posts[place]) },
+        posts,
+        &|post: Post| -> Result<Gateway, Halt>
+            requires { IsPosted exports.now (view post.pass) post.unsent }
+            ensures ok { IfOk result (λ g. IsWhole exports.entry.now post.id g) }
+            ensures err { IfErr result (IsLacking post.gateway post.unsent) }
+        { served(rt, alloc, exports, post) },
     )?;
     gathered(alloc, results)
 }

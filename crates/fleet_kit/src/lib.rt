@@ -6,7 +6,8 @@
 //! every query of sums or histograms. The OpenTelemetry specification has no fleets; they are the kit's own.
 //!
 //! What contracts cite stands in `specs/`: `Setups` (the writers and jobs of a setup), `Checks` and `Faults` (why a setup is refused),
-//! `Closing` and `Collected` (what a closed shared writer recorded, and its export), `Jobs` and `Serving` (between threads).
+//! `Closing` and `Collected` (what a closed shared writer recorded, and its export), `Jobs`, `Posting` and `Serving` (between threads),
+//! `Halts` (why threads stop short, and which reason is told).
 #![tactic(auto)]
 
 mod checks;
@@ -15,6 +16,7 @@ mod fleet;
 mod gate;
 mod gateways;
 mod halt;
+mod posts;
 mod recorders;
 mod setup;
 mod writers;

@@ -1,12 +1,15 @@
 //! The recorders of one writer: a thread and a seat for each job.
-ghost use Rattle.std.specs.Prelude.{◌≡◌, ◌+◌, ℕ, [], IfOk, IfNone, All, map};
-ghost use Rattle.std.specs.Option.{ForNone};
+ghost use Rattle.std.specs.Prelude.{◌≡◌, ◌+◌, ℕ, [], Some, IfErr, IfOk, IfSome, IfNone, All, map, slice_get};
+ghost use Rattle.std.specs.Option.{ForNone, ForSome};
 ghost use Rattle.turn_kit.specs.Public.{mine, joined, family};
 ghost use Rattle.turn_kit.specs.History.{weigh_all};
 ghost use Rattle.rollup_kit.specs.Fleets.{entries_of};
+ghost use Rattle.schedule_kit.specs.Members.{In};
 ghost use Rattle.writer_kit.specs.Shared.{IsAt};
 ghost use Rattle.writer_kit.specs.declared.shared.change.WriterChange.{WriterChange};
 ghost use Rattle.fleet_kit.specs.Closing.{Weighs};
+ghost use Rattle.fleet_kit.specs.Halts.{unrecorded, IsFirst, StopsAt, StopsRecording};
+ghost use Rattle.fleet_kit.specs.declared.halt.Halt.TheVariants as halts;
 ghost use Rattle.fleet_kit.specs.Jobs.{changes, job_entries, task_of, work_of};
 
 use crate::halt::Halt;
@@ -19,7 +22,7 @@ use std::thread::Threads;
 use turn_kit::{ChangeFault, Seat};
 use writer_kit::{MeasureFault, SharedWriter, Writer};
 
-/// A job with a new seat for it.
+/// A job, its number, and a new seat for it.
 #[derive(Drop)]
 struct Recorder<'a> {
     job: &'a Job,
@@ -32,6 +35,7 @@ struct Recorder<'a> {
 #[derive(Drop)]
 struct Done<'a> {
     job: &'a Job,
+    number: usize,
     fault: Option<Halt>,
     seat: Seat<Writer>,
     ghost alone: { joined seat ≡ [] },
@@ -39,7 +43,9 @@ struct Done<'a> {
 }
 
 // Why the entry of a job was not recorded.
-fn halt_of(job: usize, entry: usize, fault: &ChangeFault<MeasureFault>) -> Halt {
+fn halt_of(job: usize, entry: usize, fault: &ChangeFault<MeasureFault>) -> Halt
+    ensures { result ≡ unrecorded job entry fault.now }
+{
     match fault {
         ChangeFault::Refused(MeasureFault::Refused(TallyFault::NoMemory)) => Halt::NoMemory,
         _ => Halt::Refused { job, entry },
@@ -59,6 +65,7 @@ fn record_all<R: Wait, G: Gate>(
     requires fresh { (mine seat.old ≡ []) × (joined seat.old ≡ []) }
     ensures at { IsAt shared.now seat.new × (joined seat.new ≡ []) }
     ensures all { IfNone result (mine seat.new ≡ changes job.now) }
+    ensures stops { IfSome result (StopsAt number job.now) }
 {
     for (i, entry) in job.entries.iter().enumerate() {
         if !gate.pass(rt, number, i) {
@@ -79,7 +86,9 @@ fn record<'a, R: Wait, G: Gate>(
     recorder: Recorder<'a>,
 ) -> Done<'a>
     requires { IsAt shared.now recorder.seat }
-    ensures { IsAt shared.now result.seat × (result.job.now ≡ recorder.entry.job.now) }
+    ensures at { IsAt shared.now result.seat }
+    ensures same { (result.job.now ≡ recorder.entry.job.now) × (result.number ≡ recorder.entry.number) }
+    ensures stops { ForSome result.fault (StopsAt result.number result.job.now) }
 {
     let Recorder {
         job,
@@ -87,7 +96,12 @@ fn record<'a, R: Wait, G: Gate>(
         mut seat,
     } = recorder;
     let fault = record_all(rt, gate, shared, job, number, &mut seat);
-    Done { job, fault, seat }
+    Done {
+        job,
+        number,
+        fault,
+        seat,
+    }
 }
 
 // A seat for each job of the writer at a place, in job order.
@@ -103,6 +117,8 @@ fn seats_for<'a, R: Wait>(
     ensures main { IsAt shared.now main.new × (mine main.new ≡ mine main.old) × (joined main.new ≡ joined main.old) }
     ensures at { IfOk result (λ v. All (λ r. IsAt shared.now r.seat) v.items) }
     ensures jobs { IfOk result (λ v. job_entries (map (λ r. r.job.now) v.items) ≡ entries_of (map task_of jobs.now) place) }
+    ensures numbers { IfOk result (λ v. All (λ r. slice_get jobs.now r.number ≡ Some r.job.now) v.items) }
+    ensures err { IfErr result (StopsRecording jobs.now) }
 {
     let mut recorders = Vec::new(alloc);
     for (number, job) in jobs.iter().enumerate() {
@@ -129,13 +145,18 @@ fn record_in_threads<'a, R: Threads + Wait + Sync, G: Gate + Sync>(
     requires { All (λ r. IsAt shared.now r.seat) recorders.items }
     ensures at { IfOk result (λ v. All (λ d. IsAt shared.now d.seat) v.items) }
     ensures jobs { IfOk result (λ v. map (λ d. d.job.now) v.items ≡ map (λ r. r.job.now) recorders.entry.items) }
+    ensures numbers { IfOk result (λ v. map (λ d. d.number) v.items ≡ map (λ r. r.number) recorders.entry.items) }
+    ensures stops { IfOk result (λ v. All (λ d. ForSome d.fault (StopsAt d.number d.job.now)) v.items) }
+    ensures err { IfErr result (λ h. h ≡ halts.NoMemory) }
 {
     match thread::map_vec(
         rt,
         recorders,
         &|recorder: Recorder| -> Done
             requires { IsAt shared.now recorder.seat }
-            ensures { IsAt shared.entry.now result.seat × (result.job.now ≡ recorder.entry.job.now) }
+            ensures at { IsAt shared.entry.now result.seat }
+            ensures same { (result.job.now ≡ recorder.entry.job.now) × (result.number ≡ recorder.entry.number) }
+            ensures stops { ForSome result.fault (StopsAt result.number result.job.now) }
         { record(rt, gate, shared, recorder) },
     ) {
         Ok(dones) => Ok(dones),
@@ -143,12 +164,13 @@ fn record_in_threads<'a, R: Threads + Wait + Sync, G: Gate + Sync>(
     }
 }
 
-// Takes in the seats of all jobs, and tells the fault that comes first. Where there is none, those seats then weigh what the
-// jobs' entries do, however changes are weighed.
+// Takes in the seats of all jobs, and tells the fault that comes first: the least job's. Where there is none, those seats
+// then weigh what the jobs' entries do, however changes are weighed.
 fn join_all(shared: &SharedWriter, main: &mut Seat<Writer>, dones: Vec<Done<'_>>) -> Option<Halt>
     requires main { IsAt shared.now main.old }
     requires dones { All (λ d. IsAt shared.now d.seat) dones.items }
     ensures main { IsAt shared.now main.new × (mine main.new ≡ mine main.old) }
+    ensures first { IsFirst (λ h. In (Some h) (map (λ d. d.fault) dones.entry.items)) result }
     ensures all { IfNone result ((f : WriterChange → ℕ) → weigh_all f (joined main.new) ≡ weigh_all f (joined main.old) + work_of f (map (λ d. d.job.now) dones.entry.items)) }
 {
     let mut dones = dones;
@@ -157,6 +179,7 @@ fn join_all(shared: &SharedWriter, main: &mut Seat<Writer>, dones: Vec<Done<'_>>
         if let Some(done) = dones.pop() {
             let Done {
                 job: _,
+                number: _,
                 fault,
                 seat,
             } = done;
@@ -182,6 +205,7 @@ pub(crate) fn run_jobs<R: Threads + Wait + Sync, G: Gate + Sync>(
     requires fresh { (mine main.old ≡ []) × (joined main.old ≡ []) }
     ensures at { IsAt shared.now main.new }
     ensures all { IfOk result (λ _. Weighs (family main.new) (entries_of (map task_of jobs.now) place)) }
+    ensures err { IfErr result (StopsRecording jobs.now) }
 {
     let recorders = seats_for(rt, alloc, shared, main, place, jobs)?;
     let dones = record_in_threads(rt, gate, shared, recorders)?;

@@ -1,5 +1,5 @@
 //! The writers of a fleet, each shared by its recorders and collected once.
-ghost use Rattle.std.specs.Prelude.{◌≡◌, ◌<◌, ℕ, List, [], IfOk, length, map, slice_index_or, vec_len, All, Ok};
+ghost use Rattle.std.specs.Prelude.{◌≡◌, ◌⊎◌, ◌<◌, ℕ, List, [], IfErr, IfOk, length, map};
 ghost use Rattle.agg_kit.specs.Entries.{Entry};
 ghost use Rattle.agg_kit.specs.Rounds.{StandsFor};
 ghost use Rattle.point_kit.specs.declared.export.Export.{Export};
@@ -8,7 +8,9 @@ ghost use Rattle.turn_kit.specs.Public.{family};
 ghost use Rattle.writer_kit.specs.Shared.{IsAt, first_of};
 ghost use Rattle.fleet_kit.specs.Closing.{Weighs};
 ghost use Rattle.fleet_kit.specs.Collected.{IsCopyOf, IsRoundOfMixed};
+ghost use Rattle.fleet_kit.specs.Halts.{StopsRecording};
 ghost use Rattle.fleet_kit.specs.Jobs.{task_of};
+ghost use Rattle.fleet_kit.specs.declared.halt.Halt.TheVariants as halts;
 ghost use Rattle.fleet_kit.specs.Setups.{IsExportAt, AreExportsAt};
 
 use crate::halt::{Halt, gathered};
@@ -29,6 +31,7 @@ const MOST_CHANGES: u64 = 1 << 62;
 // Copies out what the writer has as of a time.
 fn collected(alloc: Global, writer: &Writer, time: u64) -> Result<Export, Halt>
     ensures ok { IfOk result (λ e. IsCopyOf writer.now time e) }
+    ensures err { IfErr result (λ h. h ≡ halts.NoMemory) }
 {
     let arena = Bump::new(alloc);
     match writer.look_round(&arena, time) {
@@ -50,6 +53,7 @@ fn export_closed(
     requires at { IsAt shared main }
     requires empty { StandsFor (first_of shared).tally [] }
     ensures ok { IfOk result (λ e. (es : List Entry) → Weighs (family main) es → IsRoundOfMixed (first_of shared) time es e) }
+    ensures err { IfErr result (λ h. (h ≡ halts.NoThread) ⊎ (h ≡ halts.NoMemory)) }
 {
     match shared.close(main) {
         Ok(writer) => collected(alloc, &writer, time),
@@ -69,6 +73,7 @@ fn export_of<R: Threads + Wait + Sync, G: Gate + Sync>(
 ) -> Result<Export, Halt>
     requires empty { StandsFor writer.tally [] }
     ensures ok { IfOk result (λ e. IsRoundOfMixed writer end (entries_of (map task_of jobs.now) place) e) }
+    ensures err { IfErr result (StopsRecording jobs.now) }
 {
     let Ok((shared, mut main)) = SharedWriter::new(alloc, writer, MOST_CHANGES) else {
         return Err(Halt::NoMemory);
@@ -88,6 +93,7 @@ fn export_at<R: Threads + Wait + Sync, G: Gate + Sync>(
 ) -> Result<Export, Halt>
     requires there { place < length setup.now.writers.items }
     ensures ok { IfOk result (λ e. IsExportAt setup.now place e) }
+    ensures err { IfErr result (StopsRecording setup.now.jobs.items) }
 {
     let writers = setup.writers.as_slice();
     let (id, plan, start) = &writers[place];
@@ -112,6 +118,7 @@ pub(crate) fn exports_of<R: Threads + Wait + Sync, G: Gate + Sync>(
     setup: &FleetSetup,
 ) -> Result<Vec<Export>, Halt>
     ensures ok { IfOk result (λ es. AreExportsAt setup.now es.items) }
+    ensures err { IfErr result (StopsRecording setup.now.jobs.items) }
 {
     let results = thread::map_indices(
         rt,
@@ -119,7 +126,8 @@ pub(crate) fn exports_of<R: Threads + Wait + Sync, G: Gate + Sync>(
         setup.writers.len(),
         &|place: usize| -> Result<Export, Halt>
             requires { place < length setup.now.writers.items }
-            ensures { IfOk result (λ e. IsExportAt setup.entry.now place e) }
+            ensures ok { IfOk result (λ e. IsExportAt setup.entry.now place e) }
+            ensures err { IfErr result (StopsRecording setup.entry.now.jobs.items) }
         { export_at(rt, alloc, gate, setup, place) },
     )?;
     gathered(alloc, results)

@@ -3,6 +3,8 @@ use Rattle.plan_kit.specs.Plans.{AreApart}
 use Rattle.rollup_kit.specs.Fleets.{entries_of}
 use Rattle.fleet_kit.proofs.Exported.{ok_then}
 use Rattle.fleet_kit.proofs.Exports.{exported, index_at}
+use Rattle.fleet_kit.proofs.Stops.{err_then}
+use Rattle.fleet_kit.specs.Halts.{StopsRecording}
 use Rattle.fleet_kit.specs.Collected.{IsRoundOfMixed}
 use Rattle.fleet_kit.specs.Jobs.{task_of}
 use Rattle.fleet_kit.specs.Setups.{IsExportAt, no_writer, writer_at}
@@ -22,4 +24,5 @@ returns g c =
           (its.start ∙ ap (λ v. v.2) at)
           (subst (λ v. AreApart v.1.streams) at c.stream-first.ensures.apart)
           (subst (λ js. IsRoundOfMixed c.in_ok-writer.writer c.args.setup.now.end (entries_of (map task_of js) c.args.place) e) c.as_slice.ensures.value is)) c.export_of.ensures.ok;
+      err = err_then c.export_of.result _ (StopsRecording c.args.setup.now.jobs.items) (λ h is. subst (λ js. StopsRecording js h) c.as_slice.ensures.value is) c.export_of.ensures.err;
     }
