@@ -2,13 +2,13 @@ pub mod Alike
 pub mod Bounds
 pub mod Copies
 pub mod Distinct
-pub mod Laws
 pub mod Limits
 pub mod Parts
 pub mod Payloads
 pub mod Points
 pub mod Records
 pub mod Refusals
+pub mod RoundLaws
 pub mod Rounds
 pub mod SeriesLaws
 pub mod Sound

@@ -15,7 +15,7 @@ use Rattle.plan_kit.specs.Plans.{Planned, feeds_of, AreFeeds, AllRise, rises, on
 use Rattle.plan_kit.specs.declared.instrument.Kind.{Kind}
 use Rattle.plan_kit.specs.declared.feed.Feed.{Feed}
 use Rattle.agg_kit.specs.Feeding.{set_eq}
-use Rattle.agg_kit.specs.Feeds.{entries_of, series_at, shape_at, leaves_range, first_out, applied, keeps_all, whole_first, AllWhole}
+use Rattle.agg_kit.specs.Feeds.{entries_of, series_at, shape_at, leaves_range, first_out, applied, keeps_all, whole_first}
 use Rattle.agg_kit.specs.Kept.{whole_feed, AreLone}
 use Rattle.agg_kit.specs.Payloads.{is_out_of_range}
 use Rattle.agg_kit.specs.Sound.{AreSound, AreOnce, AllSound}
@@ -138,11 +138,6 @@ listed (Only l) h = refl
 pub whole-listed : (p : Planned) (a : AttrSet) (v : ℤ) (ss : List Points) (f : Feed) (fs all : List Feed) → all ≡ f ∷ fs → (f.keep ≢ All) → first_out p a v ss (whole_first all) ≡ None
 whole-listed p a v ss f fs all is n =
     ap (λ (gs : List Feed). first_out p a v ss (whole_first gs)) is ∙ ap (λ b. first_out p a v ss (cond b (f ∷ whole_first fs) [])) (listed f.keep n)
-
--- all feeds where each keeps all keys
-pub whole_first-whole : (fs : List Feed) → AllWhole fs → whole_first fs ≡ fs
-whole_first-whole [] w = refl
-whole_first-whole (f ∷ fs) w = ap (λ k. cond (keeps_all k) (f ∷ whole_first fs) []) w.0 ∙ ap (λ l. f ∷ l) (whole_first-whole fs w.1)
 
 -- where the point is that a feed reaches, by the limit and the set that it was looked for under
 pub found-at : (p : Planned) (b : AttrSet) (es : Points) (limit : ℕ) (set : AttrSet) (found at : Option ℕ) → limit ≡ p.limit → set ≡ b → found ≡ at

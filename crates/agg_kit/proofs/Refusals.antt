@@ -1,5 +1,5 @@
 -- Why a recording is refused, by the points of a tally that stands for the recordings before it.
-use Rattle.std.proofs.Common.{◌≡◌, ◌≢◌, ℕ, ℤ, ◌<◌, ◌==◌, Bool, true, false, cond, List, [], ◌∷◌, ◌++◌, Option, None, Some, length, slice_get, refl, sym, ap, subst, ◌∙◌, map, filter, find, is_none}
+use Rattle.std.proofs.Common.{◌≡◌, ◌≢◌, ℕ, ℤ, ◌<◌, ◌==◌, Bool, true, false, cond, List, [], ◌∷◌, ◌++◌, Option, None, Some, length, slice_get, refl, sym, ap, subst, ◌∙◌, map, filter, find, is_none, if◌then◌else◌}
 use Rattle.std.specs.Cmp.{unsigned_Decides}
 use Rattle.std.specs.Option.{option_map, option_map_or, option_or}
 use Rattle.attr_kit.specs.declared.attr_set.AttrSet.{AttrSet}
@@ -7,21 +7,25 @@ use Rattle.attr_kit.specs.Keeping.{kept}
 use Rattle.attr_kit.specs.Refusing.{first, when}
 use Rattle.point_kit.specs.declared.shape.Shape.{Shape}
 use Rattle.point_kit.specs.declared.stream.Stream.{Stream}
-use Rattle.plan_kit.specs.Plans.{Planned, Source, feeds_of, kind_of, lacks, AreFeeds}
+use Rattle.plan_kit.specs.Plans.{Planned, Source, feeds_of, kind_of, stream_of, lacks, AreFeeds}
 use Rattle.plan_kit.specs.declared.feed.Feed.{Feed}
 use Rattle.agg_kit.specs.Entries.{Entry, Arrivals, brought, arrivals}
-use Rattle.agg_kit.specs.Feeding.{own_sets, goes_to, placed, fed}
-use Rattle.agg_kit.specs.Feeds.{shape_at, leaves_range, first_out}
+use Rattle.agg_kit.specs.Feeding.{set_eq, overflow_set, is_own, has_set, own_sets, goes_to, placed, fed}
+use Rattle.agg_kit.specs.Feeds.{series_at, leaves_range, first_out, keeps_all, whole_first, AllWhole}
+use Rattle.agg_kit.specs.Measuring.{points_after, series_after, after_measure, counted_under, is_over, fault_into, fault_of, early_fault_of}
 use Rattle.agg_kit.specs.Payloads.{payload_of, is_out_of_range}
-use Rattle.agg_kit.specs.Refusals.{is_negative_for, overflows, refused, refused_by, refused_in}
-use Rattle.agg_kit.specs.Rounds.{values_of, StandsFor}
-use Rattle.agg_kit.specs.Steps.{place, payload_after}
+use Rattle.agg_kit.specs.Refusals.{is_negative_for, overflows, refused}
+use Rattle.agg_kit.specs.Rounds.{values_of, round, StandsFor}
+use Rattle.agg_kit.specs.Steps.{held, place, payload_at, payload_after, step}
 use Rattle.agg_kit.specs.Tallies.{Points, Tallied}
+use Rattle.agg_kit.specs.declared.fault.MeasureFault.{MeasureFault}
 use Rattle.agg_kit.specs.declared.fault.MeasureFault.TheVariants as faults
-use Rattle.agg_kit.proofs.Limits.{placed-push}
-use Rattle.agg_kit.proofs.Points.{payload-after}
-use Rattle.agg_kit.proofs.SeriesLaws.{series_of, place-push}
-use Rattle.agg_kit.proofs.Rounds.{there, within, shape-is, brought-none, arrivals-push, stands-at}
+use Rattle.agg_kit.proofs.Distinct.{same}
+use Rattle.agg_kit.proofs.Limits.{not-false}
+use Rattle.agg_kit.proofs.Points.{payload-is}
+use Rattle.agg_kit.proofs.SeriesLaws.{series_of, held-own}
+use Rattle.agg_kit.proofs.Rounds.{got, there, within, round-at, shape-is, brought-none, at-after, stands-push}
+use Rattle.agg_kit.proofs.Steps.{payload-put, counted-step}
 
 -- what holds of each feed of a list
 abbrev pub Every : {X : Type 0} → (X → Type 0) → List X → Type 0
@@ -70,18 +74,76 @@ below : (n : ℕ) (fs : List Feed) → AreFeeds n fs → Every (λ f. f.stream <
 below n [] fit = tt
 below n (f ∷ fs) fit = (fit.0, below n fs fit.2)
 
--- the point that a feed reaches with one more recording
-pub fed-after : (t : Tallied) (h : List Entry) (e : Entry) (f : Feed) → StandsFor t h → f.stream < length t.plan.streams → BringsOne (feeds_of t.plan e.instrument) e.attrs e.value f
-    → overflows t.plan (h ++ e ∷ []) e.attrs f ≡ leaves_range t.plan e.attrs e.value t.series f
+-- the set under whose point a set is counted, where the points are those of what arrived
+counted-is : (shape : Shape) (limit : ℕ) (hs : Arrivals) (a : AttrSet) → counted_under (series_of shape limit hs) a ≡ goes_to (own_sets limit hs) a
+counted-is shape limit hs a = by (is_own a) refl
+  where
+    either : (b c : Bool) → set_eq a overflow_set ≡ true → (if b then a else overflow_set) ≡ (if c then a else overflow_set)
+    either true true e = refl
+    either true false e = same a overflow_set e
+    either false true e = sym (same a overflow_set e)
+    either false false e = refl
+
+    by : (b : Bool) → is_own a ≡ b → counted_under (series_of shape limit hs) a ≡ goes_to (own_sets limit hs) a
+    by true i = ap (λ t. if t then a else overflow_set) (held-own shape limit hs a (has_set (own_sets limit hs) a) i refl)
+    by false i = either (held (series_of shape limit hs) a) (has_set (own_sets limit hs) a) (not-false (set_eq a overflow_set) i)
+
+-- whether the point that a feed reaches is out of range, by the points of a tally that stands for the recordings
+over-is : (t : Tallied) (h : List Entry) (a : AttrSet) (f : Feed) → StandsFor t h → is_over t a f ≡ overflows t.plan h a f
 unfolding fed
-fed-after t h e f s l one =
-    ap (λ o. option_map_or (λ (s : Stream). is_out_of_range (payload_of s.shape (values_of (placed p.limit (arrivals p m (h ++ e ∷ []))) (goes_to (own_sets p.limit (arrivals p m (h ++ e ∷ []))) b)))) o false) (t'.1)
-    ∙ ap (λ (x : Arrivals). is_out_of_range (payload_of shape (values_of (placed p.limit x) (goes_to (own_sets p.limit x) b)))) grown
-    ∙ ap (λ (x : AttrSet). is_out_of_range (payload_of shape (values_of (placed p.limit (hs ++ (b, e.value) ∷ [])) x))) here
-    ∙ ap (λ (x : Arrivals). is_out_of_range (payload_of shape (values_of x (place p.limit (series_of shape p.limit hs) b)))) (placed-push p.limit hs b e.value ∙ ap (λ x. placed p.limit hs ++ (x, e.value) ∷ []) here)
-    ∙ ap is_out_of_range (payload-after shape (placed p.limit hs) (place p.limit (series_of shape p.limit hs) b) e.value)
-    ∙ ap (λ (x : Shape). is_out_of_range (payload_after x (series_of x p.limit hs) (place p.limit (series_of x p.limit hs) b) e.value)) (sym (shape-is p m t'.0 t'.1))
-    ∙ ap (λ (x : Points). is_out_of_range (payload_after (shape_at p m) x (place p.limit x b) e.value)) (sym (stands-at t h m l s))
+over-is t h a f s = by (stream_of p m) refl
+  where
+    p : Planned
+    p = t.plan
+
+    m : ℕ
+    m = f.stream
+
+    b : AttrSet
+    b = kept f.keep a
+
+    hs : Arrivals
+    hs = arrivals p m h
+
+    by : (o : Option Stream) → stream_of p m ≡ o
+        → option_map_or (λ (s : Stream). is_out_of_range (payload_at s.shape (series_at t.series m) (counted_under (series_at t.series m) b))) o false
+        ≡ option_map_or (λ (s : Stream). is_out_of_range (payload_of s.shape (values_of (placed p.limit hs) (goes_to (own_sets p.limit hs) b)))) o false
+    by None e = refl
+    by (Some x) e =
+        let points : series_at t.series m ≡ series_of x.shape p.limit hs = ap (λ ss. series_at ss m) s ∙ got (round p h) m _ [] (round-at p h m x e) in
+        ap (λ (es : Points). is_out_of_range (payload_at x.shape es (counted_under es b))) points
+        ∙ ap (λ (c : AttrSet). is_out_of_range (payload_at x.shape (series_of x.shape p.limit hs) c)) (counted-is x.shape p.limit hs b)
+        ∙ ap is_out_of_range (payload-is x.shape (placed p.limit hs) (goes_to (own_sets p.limit hs) b))
+
+-- the refusal by the points of a tally is that by the recordings for which it stands
+pub refused-is : (t : Tallied) (h : List Entry) (e : Entry) → StandsFor t h → fault_of t e ≡ refused t.plan h e
+unfolding refused fault_of
+refused-is t h e s =
+    let k = h ++ e ∷ [] in
+    ap (λ (q : Feed → Bool). first (when (is_none (kind_of t.plan e.instrument)) faults.NoInstrument ∷ when (is_negative_for (kind_of t.plan e.instrument) e.value) faults.Negative ∷ option_map (λ (f : Feed). faults.Overflow f.stream) (find q (feeds_of t.plan e.instrument)) ∷ []))
+    (λ i f. over-is (after_measure t e) k e.attrs f (stands-push t h e s) i)
+
+-- all feeds where each keeps all keys
+whole_first-whole : (fs : List Feed) → AllWhole fs → whole_first fs ≡ fs
+whole_first-whole [] w = refl
+whole_first-whole (f ∷ fs) w = ap (λ k. cond (keeps_all k) (f ∷ whole_first fs) []) w.0 ∙ ap (λ l. f ∷ l) (whole_first-whole fs w.1)
+
+-- where every feed keeps all keys, nothing is looked for after memory is wanted
+pub early-is : (t : Tallied) (e : Entry) → AllWhole (feeds_of t.plan e.instrument) → early_fault_of t e ≡ fault_of t e
+unfolding fault_of early_fault_of
+early-is t e whole = ap (fault_into t e) (whole_first-whole (feeds_of t.plan e.instrument) whole)
+
+-- ---- by the points of one feed's stream before the recording
+
+-- whether a feed's point would be out of range
+leaves-is : (t : Tallied) (e : Entry) (f : Feed) → f.stream < length t.plan.streams → BringsOne (feeds_of t.plan e.instrument) e.attrs e.value f
+    → leaves_range t.plan e.attrs e.value t.series f ≡ is_over (after_measure t e) e.attrs f
+leaves-is t e f l one =
+    ap (λ (x : Shape). is_out_of_range (payload_after x es (place p.limit es b) e.value)) (shape-is p m x.0 x.1)
+    ∙ ap is_out_of_range (sym (payload-put shape es (place p.limit es b) (payload_after shape es (place p.limit es b) e.value)))
+    ∙ ap (λ (c : AttrSet). is_out_of_range (payload_at shape (step shape p.limit es b e.value) c)) (sym (counted-step shape p.limit es b e.value))
+    ∙ ap (λ (ns : Points). is_out_of_range (payload_at shape ns (counted_under ns b))) (sym now)
+    ∙ sym (ap (λ o. option_map_or (λ (s : Stream). is_out_of_range (payload_at s.shape (series_at (series_after t e) m) (counted_under (series_at (series_after t e) m) b))) o false) x.1)
   where
     p : Planned
     p = t.plan
@@ -92,37 +154,45 @@ fed-after t h e f s l one =
     b : AttrSet
     b = kept f.keep e.attrs
 
-    hs : Arrivals
-    hs = arrivals p m h
+    es : Points
+    es = series_at t.series m
 
-    t' : (x : Stream) × (slice_get p.streams m ≡ Some x)
-    t' = there p.streams m l
+    x : (s : Stream) × (slice_get p.streams m ≡ Some s)
+    x = there p.streams m l
 
     shape : Shape
-    shape = t'.0.shape
+    shape = x.0.shape
 
-    grown : arrivals p m (h ++ e ∷ []) ≡ hs ++ (b, e.value) ∷ []
-    grown = arrivals-push p m h e ∙ ap (λ l. hs ++ l) one
+    now : series_at (series_after t e) m ≡ step shape p.limit es b e.value
+    now =
+        at-after t e m l
+        ∙ ap (λ (y : Shape). points_after y p.limit es (brought m (feeds_of p e.instrument) e.attrs e.value)) (shape-is p m x.0 x.1)
+        ∙ ap (points_after shape p.limit es) one
 
-    here : goes_to (own_sets p.limit (hs ++ (b, e.value) ∷ [])) b ≡ place p.limit (series_of shape p.limit hs) b
-    here = place-push shape p.limit hs b e.value
+-- a part of the feeds, of which each has what all have
+abbrev IsPart : (List Feed → List Feed) → List Feed → Type 1
+IsPart some fs = (P : Feed → Type 0) → Every P fs → Every P (some fs)
 
--- the first feed whose point would be out of range
-pub first-out : (t : Tallied) (h : List Entry) (e : Entry) → StandsFor t h → AreFeeds (length t.plan.streams) (feeds_of t.plan e.instrument)
-    → option_map (λ (f : Feed). faults.Overflow f.stream) (find (overflows t.plan (h ++ e ∷ []) e.attrs) (feeds_of t.plan e.instrument)) ≡ first_out t.plan e.attrs e.value t.series (feeds_of t.plan e.instrument)
-first-out t h e s fit =
+pub all-part : (fs : List Feed) → IsPart (λ gs. gs) fs
+all-part fs P h = h
+
+pub whole-part : (fs : List Feed) → IsPart whole_first fs
+whole-part [] P h = tt
+whole-part (f ∷ fs) P h = by (keeps_all f.keep) (whole-part fs P h.1)
+  where
+    by : (b : Bool) → Every P (whole_first fs) → Every P (cond b (f ∷ whole_first fs) [])
+    by true rest = (h.0, rest)
+    by false rest = tt
+
+first-out : (t : Tallied) (e : Entry) (some : List Feed → List Feed) → AreFeeds (length t.plan.streams) (feeds_of t.plan e.instrument) → IsPart some (feeds_of t.plan e.instrument)
+    → option_map (λ (f : Feed). faults.Overflow f.stream) (find (is_over (after_measure t e) e.attrs) (some (feeds_of t.plan e.instrument))) ≡ first_out t.plan e.attrs e.value t.series (some (feeds_of t.plan e.instrument))
+first-out t e some fit part =
     let p = t.plan in
     let fs = feeds_of p e.instrument in
-    ap (option_map (λ (f : Feed). faults.Overflow f.stream))
-    (find-same (overflows p (h ++ e ∷ []) e.attrs) (leaves_range p e.attrs e.value t.series) fs
-    (every-map (λ (f : Feed). (f.stream < length p.streams) × BringsOne fs e.attrs e.value f) _ fs (λ f k. fed-after t h e f s k.0 k.1)
-    (every-both (λ (f : Feed). f.stream < length p.streams) (BringsOne fs e.attrs e.value) fs (below (length p.streams) fs fit) (bring-one (length p.streams) fs e.attrs e.value fit))))
-
--- the refusal by the points alone
-pub refused-is : (t : Tallied) (h : List Entry) (e : Entry) → StandsFor t h → AreFeeds (length t.plan.streams) (feeds_of t.plan e.instrument) → refused t.plan h e ≡ refused_by t.plan t.series e
-unfolding refused
-refused-is t h e s fit =
-    ap (λ o. first (when (is_none (kind_of t.plan e.instrument)) faults.NoInstrument ∷ when (is_negative_for (kind_of t.plan e.instrument) e.value) faults.Negative ∷ o ∷ [])) (first-out t h e s fit)
+    sym (ap (option_map (λ (f : Feed). faults.Overflow f.stream))
+    (find-same (leaves_range p e.attrs e.value t.series) (is_over (after_measure t e) e.attrs) (some fs)
+    (every-map (λ (f : Feed). (f.stream < length p.streams) × BringsOne fs e.attrs e.value f) _ (some fs) (λ f k. leaves-is t e f k.0 k.1)
+    (part _ (every-both (λ (f : Feed). f.stream < length p.streams) (BringsOne fs e.attrs e.value) fs (below (length p.streams) fs fit) (bring-one (length p.streams) fs e.attrs e.value fit))))))
 
 -- an instrument is there where its number is below theirs
 pub kind-there : (p : Planned) (i : ℕ) → i < length p.instruments → is_none (kind_of p i) ≡ false
@@ -135,51 +205,30 @@ kind-gone p i n = by (slice_get p.instruments i) refl
     by None e = refl
     by (Some s) e = absurd (n (within p.instruments i s e))
 
-pub refused-gone : (p : Planned) (h : List Entry) (e : Entry) → is_none (kind_of p e.instrument) ≡ true → refused p h e ≡ Some faults.NoInstrument
-unfolding refused
-refused-gone p h e n =
-    ap (λ b. first (when b faults.NoInstrument ∷ when (is_negative_for (kind_of p e.instrument) e.value) faults.Negative ∷ option_map (λ (f : Feed). faults.Overflow f.stream) (find (overflows p (h ++ e ∷ []) e.attrs) (feeds_of p e.instrument)) ∷ [])) n
-
-pub refused-negative : (p : Planned) (h : List Entry) (e : Entry) → is_none (kind_of p e.instrument) ≡ false → is_negative_for (kind_of p e.instrument) e.value ≡ true → refused p h e ≡ Some faults.Negative
-unfolding refused
-refused-negative p h e n b =
-    ap (λ c. first (when c faults.NoInstrument ∷ when (is_negative_for (kind_of p e.instrument) e.value) faults.Negative ∷ option_map (λ (f : Feed). faults.Overflow f.stream) (find (overflows p (h ++ e ∷ []) e.attrs) (feeds_of p e.instrument)) ∷ [])) n
-    ∙ ap (λ c. first (when c faults.Negative ∷ option_map (λ (f : Feed). faults.Overflow f.stream) (find (overflows p (h ++ e ∷ []) e.attrs) (feeds_of p e.instrument)) ∷ [])) b
-
 or-nothing : {X : Type 0} (o : Option X) → option_or o None ≡ o
 or-nothing None = refl
 or-nothing (Some x) = refl
 
--- no instrument, and a value below 0, by the points
-pub in-gone : (p : Planned) (ss : List Points) (e : Entry) (fs : List Feed) → is_none (kind_of p e.instrument) ≡ true → refused_in p ss e fs ≡ Some faults.NoInstrument
-in-gone p ss e fs n =
-    ap (λ b. first (when b faults.NoInstrument ∷ when (is_negative_for (kind_of p e.instrument) e.value) faults.Negative ∷ first_out p e.attrs e.value ss fs ∷ [])) n
+abbrev over : Tallied → Entry → List Feed → Option MeasureFault
+over t e fs = option_map (λ f. faults.Overflow f.stream) (find (is_over (after_measure t e) e.attrs) fs)
 
-pub in-negative : (p : Planned) (ss : List Points) (e : Entry) (fs : List Feed) → is_none (kind_of p e.instrument) ≡ false → is_negative_for (kind_of p e.instrument) e.value ≡ true → refused_in p ss e fs ≡ Some faults.Negative
-in-negative p ss e fs n b =
-    ap (λ c. first (when c faults.NoInstrument ∷ when (is_negative_for (kind_of p e.instrument) e.value) faults.Negative ∷ first_out p e.attrs e.value ss fs ∷ [])) n
-    ∙ ap (λ c. first (when c faults.Negative ∷ first_out p e.attrs e.value ss fs ∷ [])) b
+-- no instrument, and a value below 0
+pub into-gone : (t : Tallied) (e : Entry) (fs : List Feed) → is_none (kind_of t.plan e.instrument) ≡ true → fault_into t e fs ≡ Some faults.NoInstrument
+into-gone t e fs n = ap (λ b. first (when b faults.NoInstrument ∷ when (is_negative_for (kind_of t.plan e.instrument) e.value) faults.Negative ∷ over t e fs ∷ [])) n
+
+pub into-negative : (t : Tallied) (e : Entry) (fs : List Feed) → is_none (kind_of t.plan e.instrument) ≡ false → is_negative_for (kind_of t.plan e.instrument) e.value ≡ true → fault_into t e fs ≡ Some faults.Negative
+into-negative t e fs n b =
+    ap (λ c. first (when c faults.NoInstrument ∷ when (is_negative_for (kind_of t.plan e.instrument) e.value) faults.Negative ∷ over t e fs ∷ [])) n
+    ∙ ap (λ c. first (when c faults.Negative ∷ over t e fs ∷ [])) b
 
 -- past these two, it is refused as the first point that would be out of range says
-pub in-points : (p : Planned) (ss : List Points) (e : Entry) (fs : List Feed) → is_none (kind_of p e.instrument) ≡ false → is_negative_for (kind_of p e.instrument) e.value ≡ false → refused_in p ss e fs ≡ first_out p e.attrs e.value ss fs
-in-points p ss e fs n b =
-    ap (λ c. first (when c faults.NoInstrument ∷ when (is_negative_for (kind_of p e.instrument) e.value) faults.Negative ∷ first_out p e.attrs e.value ss fs ∷ [])) n
-    ∙ ap (λ c. first (when c faults.Negative ∷ first_out p e.attrs e.value ss fs ∷ [])) b
-    ∙ or-nothing (first_out p e.attrs e.value ss fs)
-
-pub in-told : (t s : Tallied) (e : Entry) (some : List Feed → List Feed) (fs : List Feed) → t ≡ s → fs ≡ feeds_of t.plan e.instrument → is_none (kind_of t.plan e.instrument) ≡ false → is_negative_for (kind_of t.plan e.instrument) e.value ≡ false
-    → refused_in s.plan s.series e (some (feeds_of s.plan e.instrument)) ≡ first_out t.plan e.attrs e.value t.series (some fs)
-in-told t s e some fs same is n b =
-    ap (λ (x : Tallied). refused_in x.plan x.series e (some (feeds_of x.plan e.instrument))) (sym same)
-    ∙ in-points t.plan t.series e (some (feeds_of t.plan e.instrument)) n b
-    ∙ ap (λ (gs : List Feed). first_out t.plan e.attrs e.value t.series (some gs)) (sym is)
-
--- the same by the recordings that a tally stands for
-pub refused-told : (t s : Tallied) (h : List Entry) (e : Entry) (fs : List Feed) → t ≡ s → StandsFor s h → AreFeeds (length t.plan.streams) (feeds_of t.plan e.instrument) → fs ≡ feeds_of t.plan e.instrument
+pub into-points : (t s : Tallied) (e : Entry) (some : List Feed → List Feed) (fs : List Feed) → t ≡ s → fs ≡ feeds_of t.plan e.instrument → IsPart some fs → AreFeeds (length t.plan.streams) fs
     → is_none (kind_of t.plan e.instrument) ≡ false → is_negative_for (kind_of t.plan e.instrument) e.value ≡ false
-    → refused s.plan h e ≡ first_out t.plan e.attrs e.value t.series fs
-refused-told t s h e fs same stands fit is n b =
-    ap (λ (x : Tallied). refused x.plan h e) (sym same)
-    ∙ refused-is t h e (subst (λ (x : Tallied). StandsFor x h) (sym same) stands) fit
-    ∙ in-points t.plan t.series e (feeds_of t.plan e.instrument) n b
-    ∙ ap (first_out t.plan e.attrs e.value t.series) (sym is)
+    → fault_into s e (some (feeds_of s.plan e.instrument)) ≡ first_out t.plan e.attrs e.value t.series (some fs)
+into-points t s e some fs same is part fit n b =
+    ap (λ (x : Tallied). fault_into x e (some (feeds_of x.plan e.instrument))) (sym same)
+    ∙ ap (λ c. first (when c faults.NoInstrument ∷ when (is_negative_for (kind_of t.plan e.instrument) e.value) faults.Negative ∷ over t e (some (feeds_of t.plan e.instrument)) ∷ [])) n
+    ∙ ap (λ c. first (when c faults.Negative ∷ over t e (some (feeds_of t.plan e.instrument)) ∷ [])) b
+    ∙ or-nothing (over t e (some (feeds_of t.plan e.instrument)))
+    ∙ first-out t e some (subst (AreFeeds (length t.plan.streams)) is fit) (subst (IsPart some) is part)
+    ∙ ap (λ (gs : List Feed). first_out t.plan e.attrs e.value t.series (some gs)) (sym is)

@@ -1,5 +1,5 @@
 -- What a list of recordings comes to, as one more recording is accepted.
-use Rattle.std.proofs.Common.{◌≡◌, ◌≢◌, ℕ, ℤ, ◌<◌, ◌==◌, ◌+◌, Bool, true, false, cond, List, [], ◌∷◌, ◌++◌, Some, length, slice_get, get_or, set, refl, sym, ap, subst, ◌∙◌, arith, suc, zero, true≢false, map, filter, replicate, append-nil}
+use Rattle.std.proofs.Common.{◌≡◌, ◌≢◌, ℕ, ℤ, ◌<◌, ◌==◌, ◌+◌, Bool, true, false, cond, List, [], ◌∷◌, ◌++◌, Some, length, slice_get, get_or, set, refl, sym, ap, subst, ◌∙◌, arith, suc, zero, true≢false, map, filter, replicate, append-nil, append_assoc}
 use Rattle.std.specs.Cmp.{unsigned_Decides}
 use Rattle.std.specs.List.{enumerate_from}
 use Rattle.std.specs.Option.{option_map_or}
@@ -16,6 +16,7 @@ use Rattle.plan_kit.specs.declared.feed.Feed.{Feed}
 use Rattle.agg_kit.specs.Entries.{Entry, Arrivals, brought, arrivals}
 use Rattle.agg_kit.specs.Feeding.{fed, placed}
 use Rattle.agg_kit.specs.Feeds.{series_at, shape_at, applied}
+use Rattle.agg_kit.specs.Measuring.{empty_tally, points_after, series_after}
 use Rattle.agg_kit.specs.Rounds.{points_of, round, StandsFor}
 use Rattle.agg_kit.specs.Steps.{step}
 use Rattle.agg_kit.specs.Tallies.{Points, Tallied}
@@ -109,19 +110,19 @@ brought-none m [] a v l = refl
 brought-none m (f ∷ fs) a v l =
     ap (λ b. map (λ (f : Feed). let p : AttrSet × ℤ = (kept f.keep a, v) in p) (cond b (f ∷ filter (λ f. f.stream == m) fs) (filter (λ f. f.stream == m) fs))) (apart m f.stream l.0) ∙ brought-none m fs a v l.1
 
-steps-brought : (shape : Shape) (limit n m : ℕ) (hs : Arrivals) (fs : List Feed) (a : AttrSet) (v : ℤ) → AreFeeds n fs
-    → steps shape limit (series_of shape limit hs) (brought m fs a v) ≡ series_of shape limit (hs ++ brought m fs a v)
-steps-brought shape limit n m hs [] a v fit = ap (series_of shape limit) (sym (append-nil hs))
-steps-brought shape limit n m hs (f ∷ fs) a v fit = by (steps-brought shape limit n m hs fs a v fit.2) (f.stream == m) refl
+steps-brought : (shape : Shape) (limit n m : ℕ) (es : Points) (fs : List Feed) (a : AttrSet) (v : ℤ) → AreFeeds n fs
+    → steps shape limit es (brought m fs a v) ≡ points_after shape limit es (brought m fs a v)
+steps-brought shape limit n m es [] a v fit = refl
+steps-brought shape limit n m es (f ∷ fs) a v fit = by (steps-brought shape limit n m es fs a v fit.2) (f.stream == m) refl
   where
     all : Bool → Arrivals
     all b = map (λ f. (kept f.keep a, v)) (cond b (f ∷ filter (λ f. f.stream == m) fs) (filter (λ f. f.stream == m) fs))
 
-    by : steps shape limit (series_of shape limit hs) (brought m fs a v) ≡ series_of shape limit (hs ++ brought m fs a v) → (b : Bool) → (f.stream == m) ≡ b
-        → steps shape limit (series_of shape limit hs) (all b) ≡ series_of shape limit (hs ++ all b)
+    by : steps shape limit es (brought m fs a v) ≡ points_after shape limit es (brought m fs a v) → (b : Bool) → (f.stream == m) ≡ b
+        → steps shape limit es (all b) ≡ points_after shape limit es (all b)
     by go true e =
         let none : brought m fs a v ≡ [] = subst (λ (k : ℕ). brought k fs a v ≡ []) ((unsigned_Decides f.stream m).0 e) (brought-none f.stream fs a v fit.1) in
-        subst (λ (l : Arrivals). step shape limit (steps shape limit (series_of shape limit hs) l) (kept f.keep a) v ≡ series_of shape limit (hs ++ (kept f.keep a, v) ∷ l)) (sym none) (sym (series-push shape limit hs (kept f.keep a) v))
+        subst (λ (l : Arrivals). step shape limit (steps shape limit es l) (kept f.keep a) v ≡ points_after shape limit (step shape limit es (kept f.keep a) v) l) (sym none) refl
     by go false e = go
 
 -- what lists one after the other bring
@@ -135,23 +136,58 @@ arrivals-push p m h e = arrivals-append p m h (e ∷ []) ∙ ap (λ l. arrivals 
 pub stands-at : (t : Tallied) (h : List Entry) (m : ℕ) → m < length t.plan.streams → StandsFor t h → series_at t.series m ≡ series_of (shape_at t.plan m) t.plan.limit (arrivals t.plan m h)
 stands-at t h m l s = ap (λ ss. series_at ss m) s ∙ at-round t.plan h m l
 
--- a tally that stands for h stands for h and one more recording, once each feed has taken it
-pub stands-push : (t : Tallied) (h : List Entry) (e : Entry) → AreFeeds (length t.plan.streams) (feeds_of t.plan e.instrument) → StandsFor t h
-    → applied t.plan (feeds_of t.plan e.instrument) e.attrs e.value t.series ≡ round t.plan (h ++ e ∷ [])
-stands-push t h e fit s =
+-- the points of a stream after a recording
+pub length-after : (t : Tallied) (e : Entry) → length (series_after t e) ≡ length t.plan.streams
+unfolding series_after
+length-after t e =
+    length-map (enumerate_from 0 t.plan.streams) (λ s. points_after s.1.shape t.plan.limit (series_at t.series s.0) (brought s.0 (feeds_of t.plan e.instrument) e.attrs e.value)) ∙ length-enumerate_from 0 t.plan.streams
+
+pub at-after : (t : Tallied) (e : Entry) (m : ℕ) → m < length t.plan.streams
+    → series_at (series_after t e) m ≡ points_after (shape_at t.plan m) t.plan.limit (series_at t.series m) (brought m (feeds_of t.plan e.instrument) e.attrs e.value)
+unfolding series_after
+at-after t e m l =
+    let z : 0 + m ≡ m = omega arith in
+    let s = there t.plan.streams m l in
+    let F : ℕ × Stream → Points = λ s. points_after s.1.shape t.plan.limit (series_at t.series s.0) (brought s.0 (feeds_of t.plan e.instrument) e.attrs e.value) in
+    got (series_after t e) m (F (m, s.0)) [] (at-enumerated F 0 t.plan.streams m s.0 s.1 ∙ ap (λ k. Some (F (k, s.0))) z)
+    ∙ ap (λ (x : Shape). points_after x t.plan.limit (series_at t.series m) (brought m (feeds_of t.plan e.instrument) e.attrs e.value)) (sym (shape-is t.plan m s.0 s.1))
+
+series-more : (shape : Shape) (limit : ℕ) (hs xs : Arrivals) → points_after shape limit (series_of shape limit hs) xs ≡ series_of shape limit (hs ++ xs)
+series-more shape limit hs [] = ap (series_of shape limit) (sym (append-nil hs))
+series-more shape limit hs (x ∷ xs) =
+    ap (λ es. points_after shape limit es xs) (sym (series-push shape limit hs x.0 x.1))
+    ∙ series-more shape limit (hs ++ x ∷ []) xs
+    ∙ ap (series_of shape limit) (append_assoc hs (x ∷ []) xs)
+
+-- a tally that stands for h stands for h and one more recording, once each stream has taken it
+pub stands-push : (t : Tallied) (h : List Entry) (e : Entry) → StandsFor t h → series_after t e ≡ round t.plan (h ++ e ∷ [])
+stands-push t h e s =
     let p = t.plan in
     let fs = feeds_of p e.instrument in
-    let long : length t.series ≡ length p.streams = ap length s ∙ length-round p h in
-    ext_get_or [] (applied p fs e.attrs e.value t.series) (round p (h ++ e ∷ []))
-    (length-applied p fs e.attrs e.value t.series ∙ long ∙ sym (length-round p (h ++ e ∷ [])))
+    ext_get_or [] (series_after t e) (round p (h ++ e ∷ []))
+    (length-after t e ∙ sym (length-round p (h ++ e ∷ [])))
     (λ m k.
-    let k' : m < length t.series = subst (λ (l : ℕ). m < l) (length-applied p fs e.attrs e.value t.series) k in
-    let k'' : m < length p.streams = subst (λ (l : ℕ). m < l) long k' in
-    at-applied p fs e.attrs e.value t.series m k'
-    ∙ ap (λ (x : Points). steps (shape_at p m) p.limit x (brought m fs e.attrs e.value)) (stands-at t h m k'' s)
-    ∙ steps-brought (shape_at p m) p.limit (length p.streams) m (arrivals p m h) fs e.attrs e.value fit
+    let l : m < length p.streams = subst (λ (n : ℕ). m < n) (length-after t e) k in
+    at-after t e m l
+    ∙ ap (λ (x : Points). points_after (shape_at p m) p.limit x (brought m fs e.attrs e.value)) (stands-at t h m l s)
+    ∙ series-more (shape_at p m) p.limit (arrivals p m h) (brought m fs e.attrs e.value)
     ∙ ap (series_of (shape_at p m) p.limit) (sym (arrivals-push p m h e))
-    ∙ sym (at-round p (h ++ e ∷ []) m k''))
+    ∙ sym (at-round p (h ++ e ∷ []) m l))
+
+-- feeds with streams of their own, one after the other, make the same
+pub applied-is : (t : Tallied) (e : Entry) (fs : List Feed) → fs ≡ feeds_of t.plan e.instrument → AreFeeds (length t.plan.streams) fs → length t.series ≡ length t.plan.streams
+    → applied t.plan fs e.attrs e.value t.series ≡ series_after t e
+applied-is t e fs is fit long =
+    let p = t.plan in
+    ext_get_or [] (applied p fs e.attrs e.value t.series) (series_after t e)
+    (length-applied p fs e.attrs e.value t.series ∙ long ∙ sym (length-after t e))
+    (λ m k.
+    let k' : m < length t.series = subst (λ (n : ℕ). m < n) (length-applied p fs e.attrs e.value t.series) k in
+    let l : m < length p.streams = subst (λ (n : ℕ). m < n) long k' in
+    at-applied p fs e.attrs e.value t.series m k'
+    ∙ steps-brought (shape_at p m) p.limit (length p.streams) m (series_at t.series m) fs e.attrs e.value fit
+    ∙ ap (λ (gs : List Feed). points_after (shape_at p m) p.limit (series_at t.series m) (brought m gs e.attrs e.value)) is
+    ∙ sym (at-after t e m l))
 
 -- no recordings come to no points
 pub round-none : (p : Planned) → round p [] ≡ replicate (length p.streams) []
@@ -161,3 +197,8 @@ round-none p = each p.streams 0
     each : (ss : List Stream) (n : ℕ) → map (λ s. points_of s.1.shape (placed p.limit (arrivals p s.0 []))) (enumerate_from n ss) ≡ replicate (length ss) []
     each [] n = refl
     each (s ∷ ss) n = ap (λ l. [] ∷ l) (each ss (n + 1))
+
+pub begins : (p : Planned) (ss : List Points) (n : ℕ) → ss ≡ replicate n [] → n ≡ length p.streams → record { plan = p; series = ss } ≡ empty_tally p
+begins p ss n none len =
+    let is : ss ≡ round p [] = none ∙ ap (λ (n : ℕ). replicate n []) len ∙ sym (round-none p) in
+    λ i. record { plan = p; series = is i }

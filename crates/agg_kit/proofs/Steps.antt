@@ -10,8 +10,10 @@ use Rattle.point_kit.specs.declared.shape.Shape.{Shape}
 use Rattle.agg_kit.specs.Feeding.{set_eq, overflow_set, is_own}
 use Rattle.agg_kit.specs.Payloads.{payload_of, is_out_of_range}
 use Rattle.agg_kit.specs.FreshPoints.{payload_in}
-use Rattle.agg_kit.specs.Steps.{own_count, held, place, payload_at, payload_after, recorded, bounds_of, add_under}
+use Rattle.agg_kit.specs.Measuring.{counted_under}
+use Rattle.agg_kit.specs.Steps.{own_count, held, place, payload_at, payload_after, recorded, bounds_of, add_under, step}
 use Rattle.agg_kit.specs.Tallies.{Points}
+use Rattle.agg_kit.proofs.Distinct.{same, itself}
 use Rattle.agg_kit.proofs.Rounds.{got}
 
 -- where the point is at the place i
@@ -120,3 +122,58 @@ own_count-inserted es ns a t own o e = ap own_count e ∙ own_count-push es a t 
 pub none : {X : Type 0} (o : Option X) → is_some o ≡ false → o ≡ None
 none None h = refl
 none (Some x) h = absurd (true≢false h)
+
+-- ---- after one more value
+
+-- what is read under a set where a payload was put under one
+lookup-put : (es : Points) (c : AttrSet) (w : Payload) → lookup (set_eq c) (insert_entry set_eq es c w) ≡ Some w
+lookup-put [] c w = ap (λ b. cond b (Some w) None) (itself c)
+lookup-put (e ∷ es) c w = by (lookup-put es c w) (set_eq c e.0) refl
+  where
+    by : lookup (set_eq c) (insert_entry set_eq es c w) ≡ Some w → (b : Bool) → set_eq c e.0 ≡ b
+        → lookup (set_eq c) (if b then (e.0, w) ∷ es else e ∷ insert_entry set_eq es c w) ≡ Some w
+    by go true h = ap (λ b. cond b (Some w) (lookup (set_eq c) es)) h
+    by go false h = ap (λ b. cond b (Some e.1) (lookup (set_eq c) (insert_entry set_eq es c w))) h ∙ go
+
+held-other : (es : Points) (a c : AttrSet) (w : Payload) → set_eq a c ≡ false → held (insert_entry set_eq es c w) a ≡ held es a
+held-other [] a c w n = ap (λ b. is_some (cond b (Some w) None)) n
+held-other (e ∷ es) a c w n = by (held-other es a c w n) (set_eq c e.0) refl
+  where
+    apart : set_eq c e.0 ≡ true → set_eq a e.0 ≡ false
+    apart h = ap (set_eq a) (sym (same c e.0 h)) ∙ n
+
+    by : held (insert_entry set_eq es c w) a ≡ held es a → (b : Bool) → set_eq c e.0 ≡ b
+        → held (if b then (e.0, w) ∷ es else e ∷ insert_entry set_eq es c w) a ≡ held (e ∷ es) a
+    by go true h = ap (λ b. is_some (cond b (Some w) (lookup (set_eq a) es))) (apart h) ∙ sym (ap (λ b. is_some (cond b (Some e.1) (lookup (set_eq a) es))) (apart h))
+    by go false h = at (set_eq a e.0) go
+      where
+        at : (t : Bool) → held (insert_entry set_eq es c w) a ≡ held es a → is_some (cond t (Some e.1) (lookup (set_eq a) (insert_entry set_eq es c w))) ≡ is_some (cond t (Some e.1) (lookup (set_eq a) es))
+        at true k = refl
+        at false k = k
+
+pub payload-put : (shape : Shape) (es : Points) (c : AttrSet) (w : Payload) → payload_at shape (insert_entry set_eq es c w) c ≡ w
+payload-put shape es c w = ap (λ o. option_map_or (λ x. x) o (payload_of shape [])) (lookup-put es c w)
+
+-- a set is counted under the point that its value went to
+pub counted-step : (shape : Shape) (limit : ℕ) (es : Points) (a : AttrSet) (v : ℤ) → counted_under (step shape limit es a v) a ≡ place limit es a
+counted-step shape limit es a v = by (held es a || nat_lt (own_count es) limit) refl
+  where
+    neither : (b c : Bool) → (b || c) ≡ false → b ≡ false
+    neither true c h = absurd (true≢false h)
+    neither false c h = refl
+
+    put : AttrSet → Points
+    put c = insert_entry set_eq es c (payload_after shape es c v)
+
+    either : (b : Bool) → a ≡ overflow_set → (if b then a else overflow_set) ≡ overflow_set
+    either true h = h
+    either false h = refl
+
+    -- where it went to the overflow set
+    past : held es a ≡ false → (b : Bool) → set_eq a overflow_set ≡ b → counted_under (put overflow_set) a ≡ overflow_set
+    past n true h = either (held (put overflow_set) a) (same a overflow_set h)
+    past n false h = ap (λ b. if b then a else overflow_set) (held-other es a overflow_set (payload_after shape es overflow_set v) h ∙ n)
+
+    by : (b : Bool) → (held es a || nat_lt (own_count es) limit) ≡ b → counted_under (put (if b then a else overflow_set)) a ≡ (if b then a else overflow_set)
+    by true h = ap (λ o. if is_some o then a else overflow_set) (lookup-put es a (payload_after shape es a v))
+    by false h = past (neither (held es a) (nat_lt (own_count es) limit) h) (set_eq a overflow_set) refl

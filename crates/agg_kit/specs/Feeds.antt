@@ -12,7 +12,7 @@ use Rattle.plan_kit.specs.declared.feed.Feed.{Feed}
 use Rattle.agg_kit.specs.Entries.{Entry}
 use Rattle.agg_kit.specs.Payloads.{is_out_of_range}
 use Rattle.agg_kit.specs.Steps.{Stored, held, place, payload_after, step}
-use Rattle.agg_kit.specs.Tallies.{Points}
+use Rattle.agg_kit.specs.Tallies.{Points, Tallied}
 use Rattle.agg_kit.specs.declared.fault.MeasureFault.{MeasureFault}
 use Rattle.agg_kit.specs.declared.fault.MeasureFault.TheVariants as faults
 
@@ -44,10 +44,6 @@ applied p (f ∷ fs) a v ss =
     let after = applied p fs a v ss in
     slice_set after f.stream (step (shape_at p f.stream) p.limit (series_at after f.stream) (kept f.keep a) v)
 
--- the points after an entry, which every feed of its instrument takes
-abbrev pub measured : Planned → List Points → Entry → List Points
-measured p ss e = applied p (feeds_of p e.instrument) e.attrs e.value ss
-
 -- whether all keys are kept
 abbrev pub keeps_all : Keep → Bool
 keeps_all All = true
@@ -68,3 +64,7 @@ abbrev pub AllHeld : Planned → List Feed → AttrSet → List Points → Type 
 AllHeld p [] a ss = Unit {0}
 AllHeld p (f ∷ fs) a ss =
     (f.keep ≡ All) × (held (series_at ss f.stream) (place p.limit (series_at ss f.stream) a) ≡ true) × AllHeld p fs a ss
+
+-- no recording like this one takes memory: each feed of its instrument keeps all keys, and its stream has the point
+abbrev pub IsHeld : Tallied → Entry → Type 0
+IsHeld t e = AllHeld t.plan (feeds_of t.plan e.instrument) e.attrs t.series

@@ -5,6 +5,7 @@ pub mod Feeding
 pub mod FreshPoints
 pub mod Kept
 pub mod Laws
+pub mod Measuring
 pub mod Parts
 pub mod Payloads
 pub mod Refusals

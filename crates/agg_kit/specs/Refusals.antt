@@ -9,10 +9,8 @@ use Rattle.plan_kit.specs.declared.feed.Feed.{Feed}
 use Rattle.plan_kit.specs.declared.instrument.Kind.{Kind}
 use Rattle.agg_kit.specs.Entries.{Entry, arrivals}
 use Rattle.agg_kit.specs.Feeding.{own_sets, goes_to, fed}
-use Rattle.agg_kit.specs.Feeds.{first_out}
 use Rattle.agg_kit.specs.Payloads.{payload_of, is_out_of_range}
 use Rattle.agg_kit.specs.Rounds.{values_of}
-use Rattle.agg_kit.specs.Tallies.{Points}
 use Rattle.agg_kit.specs.declared.fault.MeasureFault.{MeasureFault}
 use Rattle.agg_kit.specs.declared.fault.MeasureFault.TheVariants as faults
 
@@ -38,16 +36,3 @@ measure_faults p h e =
 -- the first refusal that fits a recording after the recordings h
 unfoldable pub refused : Planned → List Entry → Entry → Option MeasureFault
 refused p h e = first (measure_faults p h e)
-
--- the first refusal that fits a recording into these feeds, by the points before it
-abbrev pub refused_in : Planned → List Points → Entry → List Feed → Option MeasureFault
-refused_in p ss e fs =
-    first
-    (when (is_none (kind_of p e.instrument)) faults.NoInstrument
-    ∷ when (is_negative_for (kind_of p e.instrument) e.value) faults.Negative
-    ∷ first_out p e.attrs e.value ss fs
-    ∷ [])
-
--- the same into all feeds of its instrument
-abbrev pub refused_by : Planned → List Points → Entry → Option MeasureFault
-refused_by p ss e = refused_in p ss e (feeds_of p e.instrument)

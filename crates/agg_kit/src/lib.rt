@@ -2,6 +2,7 @@
 #![tactic(auto)]
 
 mod fault;
+mod laws;
 mod payload;
 mod series;
 mod tally;
@@ -9,4 +10,5 @@ mod tally;
 mod tests;
 
 pub use fault::MeasureFault;
+pub use laws::{rounds_have_what_was_fed, steps_are_recordings};
 pub use tally::Tally;

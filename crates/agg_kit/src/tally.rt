@@ -2,17 +2,16 @@
 ghost use Rattle.std.specs.Prelude.{◌≡◌, ◌≢◌, ◌↔◌, ◌<◌, ◌++◌, ◌∷◌, [], ℕ, List, length, map, position, replicate, slice_get, slice_index_or, Some, None, true, false, IfOk, IfErr, IfSome, OnOk, OnErr, IsSome, IsTrue};
 ghost use Rattle.std.specs.Map.{keys_of};
 ghost use Rattle.std.specs.Option.{option_map, unwrap_or};
-ghost use Rattle.plan_kit.specs.Plans.{feeds_of, kind_of, is_proper, AreFeeds, lacks};
+ghost use Rattle.plan_kit.specs.Plans.{feeds_of, is_proper, AreFeeds, lacks};
 ghost use Rattle.attr_kit.specs.Keeping.{kept};
 ghost use Rattle.attr_kit.specs.declared.keep.Keep.TheVariants as keeps;
 ghost use Rattle.agg_kit.specs.Alike.{ShareKeys};
-ghost use Rattle.agg_kit.specs.Entries.{Entry, entry_of};
+ghost use Rattle.agg_kit.specs.Entries.{entry_of};
 ghost use Rattle.agg_kit.specs.Feeding.{overflow_set, set_eq};
-ghost use Rattle.agg_kit.specs.Feeds.{entries_of, series_at, shape_at, first_out, applied, measured, whole_first, AllWhole, AllHeld};
-ghost use Rattle.agg_kit.specs.Laws.{SumsAddUp, CountsAddUp, IsLimited, OwnPointsStay, FedGrows, RoundsHaveFed};
-ghost use Rattle.agg_kit.specs.Refusals.{is_negative_for, refused, refused_by, refused_in};
-ghost use Rattle.agg_kit.specs.Rounds.{StandsFor};
+ghost use Rattle.agg_kit.specs.Feeds.{entries_of, series_at, shape_at, first_out, applied, whole_first, AllHeld, IsHeld};
 ghost use Rattle.agg_kit.specs.Kept.{whole_feed, AreLone};
+ghost use Rattle.agg_kit.specs.Measuring.{after_measure, early_fault_of, empty_tally, fault_of};
+ghost use Rattle.agg_kit.specs.Refusals.{is_negative_for};
 ghost use Rattle.agg_kit.specs.Sound.{AllSound};
 ghost use Rattle.agg_kit.specs.Steps.{held, place, payload_after, step};
 
@@ -48,19 +47,8 @@ impl Model for Tally {
 
 impl Tally {
     /// A tally without points.
-    #[tactic(auto, using(crate::proofs::Laws::sums_add_up, crate::proofs::Laws::counts_add_up, crate::proofs::Laws::is_limited, crate::proofs::Laws::own_points_stay, crate::proofs::Laws::fed_grows))]
     pub fn new(alloc: Global, plan: Plan) -> Result<Tally, NoMemory>
-        ensures plan { IfOk result (λ tally. tally.plan ≡ plan) }
-        ensures stands { IfOk result (λ tally. StandsFor tally []) }
-
-        // What tallies stand for: sums and counts add up, the limit holds, later recordings leave what was fed, and a
-        // round has each set that was fed, once, with the payload of its values.
-        ensures sums { SumsAddUp }
-        ensures counts { CountsAddUp }
-        ensures limited { IsLimited }
-        ensures own { OwnPointsStay }
-        ensures grows { FedGrows }
-        ensures fed { RoundsHaveFed }
+        ensures value { IfOk result (λ tally. tally ≡ empty_tally plan) }
     {
         let overflow = overflow_attrs(alloc)?;
         let series = no_points(alloc, plan.streams_len())?;
@@ -80,22 +68,14 @@ impl Tally {
         attrs: &AttrSet,
         value: i64,
     ) -> Result<(), MeasureFault>
-        ensures ok { (h : List Entry) → StandsFor self.old h → OnOk result (refused self.old.plan h (entry_of instrument attrs.now value) ≡ None) }
-        ensures stands { (h : List Entry) → StandsFor self.old h → OnOk result (StandsFor self.new (h ++ entry_of instrument attrs.now value ∷ [])) }
-        ensures plan { self.new.plan ≡ self.old.plan }
-        ensures err { (h : List Entry) → StandsFor self.old h → IfErr result (λ f. f ≢ MeasureFault.NoMemory → refused self.old.plan h (entry_of instrument attrs.now value) ≡ Some f) }
-        ensures no_memory { (h : List Entry) → StandsFor self.old h → AllWhole (feeds_of self.old.plan instrument) → IfErr result (λ f. f ≡ MeasureFault.NoMemory → refused self.old.plan h (entry_of instrument attrs.now value) ≡ None) }
-        // Points that are there take no memory where every feed keeps all keys.
-        ensures held { AllHeld self.old.plan (feeds_of self.old.plan instrument) attrs.now self.old.series → IfErr result (λ f. f ≢ MeasureFault.NoMemory) }
-        ensures unchanged { OnErr result (self.new ≡ self.old) }
-
-        // What becomes of the series and when a recording is refused, by the series alone.
-        ensures applied { OnOk result (self.new.series ≡ measured self.old.plan self.old.series (entry_of instrument attrs.now value)) }
-        ensures fits { OnOk result (refused_by self.old.plan self.old.series (entry_of instrument attrs.now value) ≡ None) }
-        ensures told { IfErr result (λ f. f ≢ MeasureFault.NoMemory → refused_by self.old.plan self.old.series (entry_of instrument attrs.now value) ≡ Some f) }
-        ensures last { AllWhole (feeds_of self.old.plan instrument) → IfErr result (λ f. f ≡ MeasureFault.NoMemory → refused_by self.old.plan self.old.series (entry_of instrument attrs.now value) ≡ None) }
+        ensures ok { OnOk result (fault_of self.old (entry_of instrument attrs.now value) ≡ None) }
+        ensures value { OnOk result (self.new ≡ after_measure self.old (entry_of instrument attrs.now value)) }
+        ensures err { IfErr result (λ f. f ≢ MeasureFault.NoMemory → fault_of self.old (entry_of instrument attrs.now value) ≡ Some f) }
         // Where a feed keeps a list of keys, what it keeps takes memory; the feeds before the first such feed are in range.
-        ensures short { IfErr result (λ f. f ≡ MeasureFault.NoMemory → refused_in self.old.plan self.old.series (entry_of instrument attrs.now value) (whole_first (feeds_of self.old.plan instrument)) ≡ None) }
+        ensures no_memory { IfErr result (λ f. f ≡ MeasureFault.NoMemory → early_fault_of self.old (entry_of instrument attrs.now value) ≡ None) }
+        // Points that are there take no memory where every feed keeps all keys.
+        ensures held { IsHeld self.old (entry_of instrument attrs.now value) → IfErr result (λ f. f ≢ MeasureFault.NoMemory) }
+        ensures unchanged { OnErr result (self.new ≡ self.old) }
     {
         let Some(feeds) = self.plan.feeds(instrument) else {
             return Err(MeasureFault::NoInstrument);
@@ -116,8 +96,7 @@ impl Tally {
 
     /// Begins anew, without points, under the same plan.
     pub fn restart(&mut self) -> Result<(), NoMemory>
-        ensures plan { self.new.plan ≡ self.old.plan }
-        ensures stands { OnOk result (StandsFor self.new []) }
+        ensures value { OnOk result (self.new ≡ empty_tally self.old.plan) }
         ensures unchanged { OnErr result (self.new ≡ self.old) }
     {
         let alloc = *self.series.allocator();
@@ -312,8 +291,8 @@ fn record(
     requires lone { IfSome lone (λ m. feeds.now ≡ whole_feed m ∷ []) }
     requires feeds { AreFeeds (length series.old.items) feeds.now }
     requires sound { AllSound plan.now.streams (entries_of series.old.items) }
-    ensures ok { OnOk result (entries_of series.new.items ≡ applied plan.now feeds.now attrs.now value (entries_of series.old.items)) }
-    ensures fits { OnOk result (first_out plan.now attrs.now value (entries_of series.old.items) feeds.now ≡ None) }
+    ensures value { OnOk result (entries_of series.new.items ≡ applied plan.now feeds.now attrs.now value (entries_of series.old.items)) }
+    ensures ok { OnOk result (first_out plan.now attrs.now value (entries_of series.old.items) feeds.now ≡ None) }
     ensures unchanged { OnErr result (entries_of series.new.items ≡ entries_of series.old.items) }
     ensures err { IfErr result (λ f. f ≢ MeasureFault.NoMemory → first_out plan.now attrs.now value (entries_of series.old.items) feeds.now ≡ Some f) }
     ensures no_memory { IfErr result (λ f. f ≡ MeasureFault.NoMemory → first_out plan.now attrs.now value (entries_of series.old.items) (whole_first feeds.now) ≡ None) }
@@ -345,8 +324,8 @@ fn record_each(
     requires overflow { overflow.now ≡ overflow_set }
     requires feeds { AreFeeds (length series.old.items) feeds.now }
     requires sound { AllSound plan.now.streams (entries_of series.old.items) }
-    ensures ok { OnOk result (entries_of series.new.items ≡ applied plan.now feeds.now attrs.now value (entries_of series.old.items)) }
-    ensures fits { OnOk result (first_out plan.now attrs.now value (entries_of series.old.items) feeds.now ≡ None) }
+    ensures value { OnOk result (entries_of series.new.items ≡ applied plan.now feeds.now attrs.now value (entries_of series.old.items)) }
+    ensures ok { OnOk result (first_out plan.now attrs.now value (entries_of series.old.items) feeds.now ≡ None) }
     ensures had { OnOk result (short ≡ false) }
     ensures unchanged { OnErr result (entries_of series.new.items ≡ entries_of series.old.items) }
     ensures err { IfErr result (λ f. f ≢ MeasureFault.NoMemory → first_out plan.now attrs.now value (entries_of series.old.items) feeds.now ≡ Some f) }

@@ -6,13 +6,24 @@ use Rattle.agg_kit.specs.Rounds.{StandsFor, round}
 use Rattle.plan_kit.specs.Plans.{Planned}
 use Rattle.point_kit.specs.declared.export.Export.{Export}
 use Rattle.round_kit.specs.Rounds.{points_of}
+use Rattle.round_kit.specs.Rounds as rounds
 use Rattle.turn_kit.specs.Places.{ClosedWith}
+use Rattle.writer_kit.specs.Recording.{round_now}
 use Rattle.writer_kit.specs.Shared.{History, Serves, told, entries_of}
 use Rattle.writer_kit.specs.Written.{Written}
 use Rattle.writer_kit.specs.declared.shared.change.WriterChange.{WriterChange}
 use Rattle.fleet_kit.specs.Closing.{Weighs}
 use Rattle.fleet_kit.specs.Collected.{IsCopyOf, IsRoundOfMixed}
 use Rattle.fleet_kit.proofs.Closed.{closed_weighed}
+
+-- an export that a writer's round was copied to
+pub copies : (w : Written) (time : ℕ) (r : rounds.Collected) (e : Export) → r ≡ round_now w time → e.writer ≡ w.id → e.start ≡ r.start → e.time ≡ r.time → e.points ≡ r.points → IsCopyOf w time e
+copies w time r e is writer start taken_at points = record {
+  writer = writer;
+  start = start ∙ ap (λ (x : rounds.Collected). x.start) is;
+  taken_at = taken_at ∙ ap (λ (x : rounds.Collected). x.time) is;
+  points = points ∙ ap (λ (x : rounds.Collected). x.points) is;
+}
 
 pub exports_mixed : (first : Written) (seen : History) (family : List (ℕ × List WriterChange)) (known : ℕ) (w : Written) → (c : ClosedWith (λ w. w) told first seen family known w) → Serves first c.history w
     → StandsFor first.tally [] → (time : ℕ) (e : Export) → IsCopyOf w time e → (es : List Entry) → Weighs family es → IsRoundOfMixed first time es e

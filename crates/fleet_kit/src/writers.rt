@@ -29,6 +29,7 @@ use writer_kit::{SharedWriter, Writer};
 const MOST_CHANGES: u64 = 1 << 62;
 
 // Copies out what the writer has as of a time.
+#[tactic(auto, using(crate::proofs::Exported::copies))]
 fn collected(alloc: Global, writer: &Writer, time: u64) -> Result<Export, Halt>
     ensures ok { IfOk result (λ e. IsCopyOf writer.now time e) }
     ensures err { IfErr result (λ h. h ≡ halts.NoMemory) }

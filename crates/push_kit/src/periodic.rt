@@ -1,21 +1,14 @@
 //! A reader that pushes what it collects.
-ghost use Rattle.std.specs.Prelude.{◌≡◌, ◌≢◌, ◌+◌, ◌<◌, ◌≤◌, ◌↔◌, ◌∷◌, ◌++◌, [], ℕ, List, IfOk, IfErr, OnOk, OnErr, Ok, Some, None, false, length};
-ghost use Rattle.agg_kit.specs.Entries.{Entry, entry_of};
-ghost use Rattle.agg_kit.specs.Feeds.{AllHeld, AllWhole};
-ghost use Rattle.agg_kit.specs.Rounds.{StandsFor};
-ghost use Rattle.plan_kit.specs.Plans.{feeds_of};
-ghost use Rattle.point_kit.specs.declared.export.Export.{Export};
+ghost use Rattle.std.specs.Prelude.{◌≡◌, ◌≢◌, ◌+◌, ◌<◌, ◌↔◌, ℕ, IfOk, IfErr, OnOk, OnErr, Ok, Some, None, false, length};
+ghost use Rattle.agg_kit.specs.Entries.{entry_of};
+ghost use Rattle.agg_kit.specs.Feeds.{IsHeld};
 ghost use Rattle.push_kit.specs.Faults.{push_fault};
-ghost use Rattle.push_kit.specs.Pushing.{IsCollection, OnPush, OnFlush};
-ghost use Rattle.round_kit.specs.Rounds.{points_of};
-ghost use Rattle.schedule_kit.specs.Schedule.Act.{Measured, Collected};
-ghost use Rattle.writer_kit.specs.Following.{Follows};
-ghost use Rattle.writer_kit.specs.Pacing.{next_after};
-ghost use Rattle.writer_kit.specs.Refusals.{measure_fault, early_fault, collect_fault};
-ghost use Rattle.writer_kit.specs.Schedules.{Act};
+ghost use Rattle.push_kit.specs.Pushing.{IsCollection, Hands, OnPush, OnFlush, OnRefused, OnRest};
+ghost use Rattle.writer_kit.specs.Pacing.{pace_after};
+ghost use Rattle.writer_kit.specs.Recording.{after_collect, recorded, round_now};
+ghost use Rattle.writer_kit.specs.Refusals.{collect_fault, early_fault, fault_now, no_memory};
 
 use crate::{ExportRefused, Exporter, TickFault};
-use agg_kit::MeasureFault as TallyFault;
 use attr_kit::AttrSet;
 use bumpalo::Bump;
 use point_kit::Export;
@@ -85,17 +78,12 @@ impl<E: Exporter> Periodic<E> {
         attrs: &AttrSet,
         value: i64,
     ) -> Result<(), MeasureFault>
-        ensures ok { OnOk result ((h : List Entry) → StandsFor self.old.writer.tally h → measure_fault self.old.writer h (entry_of instrument attrs.now value) ≡ None) }
-        ensures value { OnOk result ((h : List Entry) → StandsFor self.old.writer.tally h → StandsFor self.new.writer.tally (h ++ entry_of instrument attrs.now value ∷ [])) }
-        ensures plan { OnOk result (self.new.writer.tally.plan ≡ self.old.writer.tally.plan) }
-        ensures rest { OnOk result (self.new.writer ≡ record self.old.writer { tally = self.new.writer.tally }) }
-        ensures follows { OnOk result ((first : ℕ) (acts : List (Act Entry)) → Follows first acts self.old.writer → Follows first (Measured (entry_of instrument attrs.now value) ∷ acts) self.new.writer) }
-        ensures err { IfErr result (λ f. f ≢ MeasureFault.Refused TallyFault.NoMemory → (h : List Entry) → StandsFor self.old.writer.tally h → measure_fault self.old.writer h (entry_of instrument attrs.now value) ≡ Some f) }
-        ensures held { AllHeld self.old.writer.tally.plan (feeds_of self.old.writer.tally.plan instrument) attrs.now self.old.writer.tally.series → IfErr result (λ f. f ≢ MeasureFault.Refused TallyFault.NoMemory) }
-        ensures no_memory { AllWhole (feeds_of self.old.writer.tally.plan instrument) → IfErr result (λ f. f ≡ MeasureFault.Refused TallyFault.NoMemory → (h : List Entry) → StandsFor self.old.writer.tally h → measure_fault self.old.writer h (entry_of instrument attrs.now value) ≡ None) }
-        ensures short { IfErr result (λ f. f ≡ MeasureFault.Refused TallyFault.NoMemory → early_fault self.old.writer (entry_of instrument attrs.now value) ≡ None) }
-        ensures exporter { self.new.exporter ≡ self.old.exporter }
-        ensures pace { self.new.pace ≡ self.old.pace }
+        ensures ok { OnOk result (fault_now self.old.writer (entry_of instrument attrs.now value) ≡ None) }
+        ensures value { OnOk result
+            (self.new ≡ record self.old { writer = recorded self.old.writer (entry_of instrument attrs.now value) }) }
+        ensures err { IfErr result (λ f. f ≢ no_memory → fault_now self.old.writer (entry_of instrument attrs.now value) ≡ Some f) }
+        ensures no_memory { IfErr result (λ f. f ≡ no_memory → early_fault self.old.writer (entry_of instrument attrs.now value) ≡ None) }
+        ensures held { IsHeld self.old.writer.tally (entry_of instrument attrs.now value) → IfErr result (λ f. f ≢ no_memory) }
         ensures unchanged { OnErr result (self.new ≡ self.old) }
     {
         self.writer.measure(instrument, attrs, value)
@@ -108,25 +96,21 @@ impl<E: Exporter> Periodic<E> {
     /// exporter is called; `ExportRefused` where the exporter refused. Only the last changes something: as after an export
     /// that was taken, the writer is collected and the pace has moved, so the next collection covers the lost one. O(size
     /// of the points), and what the exporter takes. The arena is not reset.
-    #[tactic(auto, using(writer_kit::proofs::Refusals::collect_open, writer_kit::proofs::Refusals::collect_later, writer_kit::proofs::Refusals::stays_open))]
+    #[tactic(auto, using(writer_kit::proofs::Refusals::collect_open, writer_kit::proofs::Refusals::collect_later))]
     pub fn tick(&mut self, arena: &Bump, now: u64) -> Result<Tick, TickFault>
         requires room { E.refusals self.old.exporter < 18446744073709551615 }
-        ensures not_due { now < self.old.pace.next → result ≡ Ok Tick.NotDue }
-        ensures waits { now < self.old.pace.next → self.new ≡ self.old }
-        ensures due { self.old.pace.next ≤ now → result ≢ Ok Tick.NotDue }
-        ensures points { IfOk result (λ t. (n : ℕ) → t ≡ Tick.Exported n → n ≡ length (points_of self.old.writer.tally.plan.streams self.old.writer.tally.series)) }
-        ensures taken { IfOk result (λ t. t ≢ Tick.NotDue → ((e : Export) × IsCollection self.old.writer now e × E.takes self.old.exporter e self.new.exporter)) }
-        ensures refused { IfErr result (λ f. f ≡ TickFault.ExportRefused → ((e : Export) × IsCollection self.old.writer now e × E.refuses self.old.exporter e self.new.exporter)) }
+        ensures due { (result ≡ Ok Tick.NotDue) ↔ (now < self.old.pace.next) }
+        ensures points { IfOk result (λ t. (n : ℕ) → t ≡ Tick.Exported n → n ≡ length (round_now self.old.writer now).points) }
+        ensures taken { IfOk result (λ t. t ≢ Tick.NotDue → Hands E.takes self.old.writer now self.old.exporter self.new.exporter) }
+        ensures refused { OnRefused result (Hands E.refuses self.old.writer now self.old.exporter self.new.exporter) }
         ensures failures { OnOk result (E.refusals self.new.exporter ≡ E.refusals self.old.exporter) }
-        ensures failed { IfErr result (λ f. f ≡ TickFault.ExportRefused → E.refusals self.new.exporter ≡ E.refusals self.old.exporter + 1) }
+        ensures failed { OnRefused result (E.refusals self.new.exporter ≡ E.refusals self.old.exporter + 1) }
         ensures ok { OnPush result (collect_fault self.old.writer now ≡ None) }
-        ensures collected { OnPush result (self.new.writer ≡ record self.old.writer { last = now }) }
-        ensures follows { OnPush result ((first : ℕ) (acts : List (Act Entry)) → Follows first acts self.old.writer → Follows first (Collected now false ∷ acts) self.new.writer) }
-        ensures interval { OnPush result (self.new.pace.interval ≡ self.old.pace.interval) }
-        ensures next { OnPush result (self.new.pace.next ≡ next_after now self.old.pace.interval) }
+        ensures value { OnPush result (self.new.writer ≡ after_collect self.old.writer now false) }
+        ensures pace { OnPush result (self.new.pace ≡ pace_after self.old.pace now) }
         ensures err { IfErr result (λ f. f ≢ TickFault.ExportRefused → f ≢ TickFault.NoMemory → push_fault self.old.writer now ≡ Some f) }
         ensures no_memory { IfErr result (λ f. f ≡ TickFault.NoMemory → push_fault self.old.writer now ≡ None) }
-        ensures unchanged { IfErr result (λ f. f ≢ TickFault.ExportRefused → self.new ≡ self.old) }
+        ensures unchanged { OnRest result (self.new ≡ self.old) }
     {
         if !self.pace.due(now) {
             return Ok(Tick::NotDue);
@@ -148,14 +132,13 @@ impl<E: Exporter> Periodic<E> {
     #[tactic(auto, using(writer_kit::proofs::Refusals::collect_open, writer_kit::proofs::Refusals::collect_later))]
     pub fn flush(&mut self, arena: &Bump, now: u64, closing: bool) -> Result<usize, TickFault>
         requires room { E.refusals self.old.exporter < 18446744073709551615 }
-        ensures points { IfOk result (λ n. n ≡ length (points_of self.old.writer.tally.plan.streams self.old.writer.tally.series)) }
-        ensures taken { OnOk result ((e : Export) × IsCollection self.old.writer now e × E.takes self.old.exporter e self.new.exporter) }
-        ensures refused { IfErr result (λ f. f ≡ TickFault.ExportRefused → ((e : Export) × IsCollection self.old.writer now e × E.refuses self.old.exporter e self.new.exporter)) }
+        ensures points { IfOk result (λ n. n ≡ length (round_now self.old.writer now).points) }
+        ensures taken { OnOk result (Hands E.takes self.old.writer now self.old.exporter self.new.exporter) }
+        ensures refused { OnRefused result (Hands E.refuses self.old.writer now self.old.exporter self.new.exporter) }
         ensures failures { OnOk result (E.refusals self.new.exporter ≡ E.refusals self.old.exporter) }
-        ensures failed { IfErr result (λ f. f ≡ TickFault.ExportRefused → E.refusals self.new.exporter ≡ E.refusals self.old.exporter + 1) }
+        ensures failed { OnRefused result (E.refusals self.new.exporter ≡ E.refusals self.old.exporter + 1) }
         ensures ok { OnFlush result (collect_fault self.old.writer now ≡ None) }
-        ensures marked { OnFlush result (self.new.writer ≡ record self.old.writer { last = now; closed = closing }) }
-        ensures follows { OnFlush result ((first : ℕ) (acts : List (Act Entry)) → Follows first acts self.old.writer → Follows first (Collected now closing ∷ acts) self.new.writer) }
+        ensures value { OnFlush result (self.new.writer ≡ after_collect self.old.writer now closing) }
         ensures pace { self.new.pace ≡ self.old.pace }
         ensures err { IfErr result (λ f. f ≢ TickFault.ExportRefused → f ≢ TickFault.NoMemory → push_fault self.old.writer now ≡ Some f) }
         ensures no_memory { IfErr result (λ f. f ≡ TickFault.NoMemory → push_fault self.old.writer now ≡ None) }
@@ -169,6 +152,7 @@ impl<E: Exporter> Periodic<E> {
     }
 
     // The collection at a time, for the exporter. All that is refused but for the exporter is refused here.
+    #[tactic(auto, using(crate::proofs::Faults::collects))]
     fn gather(&self, arena: &Bump, now: u64) -> Result<Export, TickFault>
         ensures ok { OnOk result (collect_fault self.now.writer now ≡ None) }
         ensures collection { IfOk result (λ e. IsCollection self.now.writer now e) }
@@ -189,8 +173,7 @@ impl<E: Exporter> Periodic<E> {
         ensures ok { OnOk result (E.refusals self.new.exporter ≡ E.refusals self.old.exporter) }
         ensures refused { OnErr result (E.refuses self.old.exporter export.now self.new.exporter) }
         ensures err { OnErr result (E.refusals self.new.exporter ≡ E.refusals self.old.exporter + 1) }
-        ensures marked { self.new.writer ≡ record self.old.writer { last = now; closed = closing } }
-        ensures follows { (first : ℕ) (acts : List (Act Entry)) → Follows first acts self.old.writer → Follows first (Collected now closing ∷ acts) self.new.writer }
+        ensures value { self.new.writer ≡ after_collect self.old.writer now closing }
         ensures pace { self.new.pace ≡ self.old.pace }
     {
         self.writer.mark(now, closing);

@@ -8,7 +8,7 @@ use Rattle.std.proofs.lemmas.List.{map-append}
 use Rattle.attr_kit.specs.Exact.{IsExact, exact_pairs}
 use Rattle.attr_kit.specs.declared.attr_set.AttrSet.{AttrSet}
 use Rattle.agg_kit.proofs.Distinct.{same, itself, has-distinct, once-distinct}
-use Rattle.agg_kit.proofs.Laws.{fed_grows}
+use Rattle.agg_kit.proofs.RoundLaws.{fed_grows}
 use Rattle.agg_kit.specs.Entries.{Entry, Arrivals}
 use Rattle.agg_kit.specs.Feeding.{set_eq, has_set, distinct, sets_of, fed}
 use Rattle.agg_kit.specs.Sound.{AreOnce}

@@ -1,6 +1,7 @@
 pub mod Places
 pub mod Frames
 pub mod Claims
+pub mod Copies
 pub mod StateSteps
 pub mod Replies
 pub mod GatewayEvents

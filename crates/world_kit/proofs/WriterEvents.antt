@@ -10,10 +10,12 @@ use mathlib.Core.Bool.{true≢false}
 use Rattle.agg_kit.specs.declared.fault.MeasureFault.{MeasureFault as TallyFault}
 use Rattle.agg_kit.specs.Entries.{Entry}
 use Rattle.agg_kit.specs.declared.fault.MeasureFault.TheVariants as tally
-use Rattle.agg_kit.specs.Feeds.{AllWhole, first_out, whole_first}
-use Rattle.agg_kit.specs.Refusals.{is_negative_for, overflows, refused, refused_in}
+use Rattle.agg_kit.proofs.Rounds.{stands-push}
+use Rattle.agg_kit.specs.Feeds.{AllWhole, whole_first}
+use Rattle.agg_kit.specs.Measuring.{after_measure, early_fault_of, is_over}
+use Rattle.agg_kit.specs.Refusals.{is_negative_for, overflows, refused}
 use Rattle.agg_kit.specs.Rounds.{StandsFor, round}
-use Rattle.agg_kit.specs.Tallies.{Points, Tallied}
+use Rattle.agg_kit.specs.Tallies.{Tallied}
 use Rattle.plan_kit.specs.declared.feed.Feed.{Feed}
 use Rattle.plan_kit.specs.Plans.{Planned, feeds_of, kind_of}
 use Rattle.attr_kit.specs.declared.attr_set.AttrSet.{AttrSet}
@@ -49,7 +51,9 @@ use Rattle.writer_kit.specs.declared.fault.MeasureFault.{MeasureFault}
 use Rattle.writer_kit.specs.declared.fault.MeasureFault.TheVariants as measure
 use Rattle.writer_kit.specs.declared.fault.RestartFault.{RestartFault}
 use Rattle.writer_kit.specs.declared.fault.RestartFault.TheVariants as restart
-use Rattle.writer_kit.specs.Refusals.{early_fault, measure_fault, collect_fault, restart_fault}
+use Rattle.writer_kit.proofs.Refusals.{now_is, early_is}
+use Rattle.writer_kit.specs.Recording.{recorded, after_restart}
+use Rattle.writer_kit.specs.Refusals.{early_fault, fault_now, measure_fault, collect_fault, restart_fault}
 use Rattle.writer_kit.specs.Written.{Written}
 
 -- a world with other writers
@@ -165,10 +169,11 @@ out_alone false true o other f none some = cc
 out_alone false false None other f none some = cc
 out_alone false false (Some g) other f none some = (g.stream, let same : tally.Overflow g.stream ≡ f = cc some in sym same)
 
-overflow_alone : (p : Planned) (h : List Entry) (ss : List Points) (e : Entry) (fs : List Feed) (f : TallyFault) → refused_in p ss e fs ≡ None → refused p h e ≡ Some f → (m : ℕ) × (f ≡ tally.Overflow m)
-unfolding refused
-overflow_alone p h ss e fs f none some =
-    out_alone (is_none (kind_of p e.instrument)) (is_negative_for (kind_of p e.instrument) e.value) (find (overflows p (h ++ e ∷ []) e.attrs) (feeds_of p e.instrument)) (first_out p e.attrs e.value ss fs) f none some
+overflow_alone : (t : Tallied) (h : List Entry) (e : Entry) (f : TallyFault) → early_fault_of t e ≡ None → refused t.plan h e ≡ Some f → (m : ℕ) × (f ≡ tally.Overflow m)
+unfolding refused early_fault_of
+overflow_alone t h e f none some =
+    out_alone (is_none (kind_of t.plan e.instrument)) (is_negative_for (kind_of t.plan e.instrument) e.value) (find (overflows t.plan (h ++ e ∷ []) e.attrs) (feeds_of t.plan e.instrument))
+    (option_map (λ g. tally.Overflow g.stream) (find (is_over (after_measure t e) e.attrs) (whole_first (feeds_of t.plan e.instrument)))) f none some
 
 none_some : {A : Type 0} (o : Option A) (a : A) → o ≡ None → o ≡ Some a → ⊥
 none_some o a none some = cc
@@ -192,7 +197,7 @@ module _ (w : Held) (v : ℕ) (x : Written) (at_v : slice_get w.writers v ≡ So
   its s ds st = st.writers.each v x at_v
 
   -- a writer refuses a recording
-  pub measure_refused : (i : ℕ) (a : AttrSet) (val : ℤ) (f : MeasureFault) (r : Refusal) → ((h : List Entry) → StandsFor x.tally h → measure_fault x h (record { instrument = i; attrs = a; value = val }) ≡ Some f) → measure_refusal f ≡ Some r
+  pub measure_refused : (i : ℕ) (a : AttrSet) (val : ℤ) (f : MeasureFault) (r : Refusal) → fault_now x (record { instrument = i; attrs = a; value = val }) ≡ Some f → measure_refusal f ≡ Some r
       → Acts (event.Measure v i a val) w (reply.Refused r) w
   unfolding measure_fault
   measure_refused i a val f r refuses told = refused_acts _ w r (λ s ds st.
@@ -205,17 +210,15 @@ module _ (w : Held) (v : ℕ) (x : Written) (at_v : slice_get w.writers v ≡ So
       written_there s v _ (omega arith)
       ∙ ap (λ b. guard b refusal.Closed (unless (refusal_at s v h e) (Ok (Wrote v (Measured e))))) (sym closed)
       ∙ ap (λ (p : Planned). guard (not x.closed) refusal.Closed (unless (option_and_then refusal_of (refused p h e)) (Ok (Wrote v (Measured e))))) (sym stands.plan)
-      ∙ measure_some x.closed (refused x.tally.plan h e) f r (Ok (Wrote v (Measured e))) (refuses h stands.tally) told)
+      ∙ measure_some x.closed (refused x.tally.plan h e) f r (Ok (Wrote v (Measured e))) (sym (now_is x h e stands.tally) ∙ refuses) told)
 
   -- a recording wants memory where the writer is open, and nothing is refused that is found without memory
-  pub measure_wants : (i : ℕ) (a : AttrSet) (val : ℤ) → early_fault x (record { instrument = i; attrs = a; value = val }) ≡ None
-      → (AllWhole (feeds_of x.tally.plan i) → (h : List Entry) → StandsFor x.tally h → measure_fault x h (record { instrument = i; attrs = a; value = val }) ≡ None)
-      → Wants (event.Measure v i a val) w
+  pub measure_wants : (i : ℕ) (a : AttrSet) (val : ℤ) → early_fault x (record { instrument = i; attrs = a; value = val }) ≡ None → Wants (event.Measure v i a val) w
   unfolding early_fault measure_fault
-  measure_wants i a val early whole = record {
+  measure_wants i a val early = record {
     accepted = λ s ds st.
         let stands = its s ds st in
-        let short = measure_none x.closed (refused_in x.tally.plan x.tally.series (record { instrument = i; attrs = a; value = val }) (whole_first (feeds_of x.tally.plan i))) early in
+        let short = measure_none x.closed (early_fault_of x.tally (record { instrument = i; attrs = a; value = val })) early in
         let h = running (writer_at s v).start (acts_of v ds) in
         let e : Entry = record { instrument = i; attrs = a; value = val } in
         let d : Deed Entry = Wrote v (Measured e) in
@@ -225,30 +228,29 @@ module _ (w : Held) (v : ℕ) (x : Written) (at_v : slice_get w.writers v ≡ So
         let comes : judged s ds (event.Measure v i a val) ≡ unless (option_and_then refusal_of (refused x.tally.plan h e)) (Ok d) =
         written_there s v _ (omega arith) ∙ guard_true _ refusal.Closed _ is ∙ ap (λ (p : Planned). unless (option_and_then refusal_of (refused p h e)) (Ok d)) (sym stands.plan) in
         let takes : (m : ℕ) → refused x.tally.plan h e ≡ Some (tally.Overflow m) → AllWhole (feeds_of (writer_at s v).plan i) → ⊥ = λ m out all.
-        let none = (measure_none x.closed (refused x.tally.plan h e) (whole (subst (λ (p : Planned). AllWhole (feeds_of p i)) (sym stands.plan) all) h stands.tally)).1 in
+        let whole : AllWhole (feeds_of x.tally.plan i) = subst (λ (p : Planned). AllWhole (feeds_of p i)) (sym stands.plan) all in
+        let none = (measure_none x.closed (refused x.tally.plan h e) (sym (now_is x h e stands.tally) ∙ sym (early_is x e whole) ∙ early)).1 in
         none_some (refused x.tally.plan h e) (tally.Overflow m) none out in
         subst (λ (j : Result (Deed Entry) Refusal). IfErr j (TakesMemory s (event.Measure v i a val))) (sym comes)
         (elim (refused x.tally.plan h e) as (λ o. refused x.tally.plan h e ≡ o → IfErr (unless (option_and_then refusal_of o) (Ok d)) (TakesMemory s (event.Measure v i a val))) [
           | None ↦ λ _. tt
-          | Some f ↦ λ out. let m = overflow_alone x.tally.plan h x.tally.series e (whole_first (feeds_of x.tally.plan i)) f short.1 out in
+          | Some f ↦ λ out. let m = overflow_alone x.tally h e f short.1 out in
               subst (λ (g : TallyFault). IfErr (unless (option_and_then refusal_of (Some g)) (Ok d)) (TakesMemory s (event.Measure v i a val))) (sym m.1) (takes m.0 (out ∙ ap Some m.1))
         ] refl);
   }
 
   -- a writer takes a recording
   pub measures : (y : Written) (i : ℕ) (a : AttrSet) (val : ℤ)
-      → ((h : List Entry) → StandsFor x.tally h → measure_fault x h (record { instrument = i; attrs = a; value = val }) ≡ None)
-      → ((h : List Entry) → StandsFor x.tally h → StandsFor y.tally (h ++ record { instrument = i; attrs = a; value = val } ∷ []))
-      → y.tally.plan ≡ x.tally.plan → y ≡ record { id = x.id; tally = y.tally; start = x.start; last = x.last; closed = x.closed }
+      → fault_now x (record { instrument = i; attrs = a; value = val }) ≡ None → y ≡ recorded x (record { instrument = i; attrs = a; value = val })
       → Acts (event.Measure v i a val) w reply.Done (with_writers w (set w.writers v y))
   unfolding measure_fault
-  measures y i a val accepts grows same_plan same = accepted_acts _ w (with_writers w (set w.writers v y)) _ (Wrote v (Measured (record { instrument = i; attrs = a; value = val }))) (λ s ds st.
+  measures y i a val accepts same = accepted_acts _ w (with_writers w (set w.writers v y)) _ (Wrote v (Measured (record { instrument = i; attrs = a; value = val }))) (λ s ds st.
       let stands = its s ds st in
       let first_start = (writer_at s v).start in
       let acts = acts_of v ds in
       let h = running first_start acts in
       let e : Entry = record { instrument = i; attrs = a; value = val } in
-      let opened = measure_none x.closed (refused x.tally.plan h e) (accepts h stands.tally) in
+      let opened = measure_none x.closed (refused x.tally.plan h e) (sym (now_is x h e stands.tally) ∙ accepts) in
       let is : is_open acts ≡ true = open_or (is_open acts) (sym stands.closed ∙ opened.0) in
       let fits : refusal_at s v h e ≡ None = ap (λ (p : Planned). option_and_then refusal_of (refused p h e)) (sym stands.plan) ∙ ap (option_and_then refusal_of) opened.1 in
       let starts : slice_index (starts_of s) v ≡ first_start = start_in s.writers v in
@@ -256,8 +258,8 @@ module _ (w : Held) (v : ℕ) (x : Written) (at_v : slice_get w.writers v ≡ So
       let there = here in
       let stays : WriterStands (writer_at s v) (Measured e ∷ acts) y = record {
         id = ap (λ (z : Written). z.id) same ∙ stands.id;
-        plan = same_plan ∙ stands.plan;
-        tally = subst (StandsFor y.tally) (sym (more first_start acts e)) (grows h stands.tally);
+        plan = ap (λ (z : Written). z.tally.plan) same ∙ stands.plan;
+        tally = subst (StandsFor y.tally) (sym (more first_start acts e)) (subst (λ (z : Written). StandsFor z.tally (h ++ e ∷ [])) (sym same) (stands-push x.tally h e stands.tally));
         start = ap (λ (z : Written). z.start) same ∙ stands.start;
         last = ap (λ (z : Written). z.last) same ∙ stands.last;
         closed = ap (λ (z : Written). z.closed) same ∙ stands.closed;
@@ -398,10 +400,10 @@ module _ (w : Held) (v : ℕ) (x : Written) (at_v : slice_get w.writers v ≡ So
   restart_wants start accepts = accepted_wants _ w (Wrote v (Restarted start)) (restart_is start accepts)
 
   -- a writer begins anew
-  pub restarts : (start : ℕ) (y : Written) → restart_fault x start ≡ None → StandsFor y.tally [] → y.tally.plan ≡ x.tally.plan → y ≡ record { id = x.id; tally = y.tally; start = start; last = start; closed = false }
+  pub restarts : (start : ℕ) (y : Written) → restart_fault x start ≡ None → y ≡ after_restart x start
       → Acts (event.Restart v start) w reply.Done (with_writers w (set w.writers v y))
   unfolding restart_fault
-  restarts start y accepts empty same_plan same = accepted_acts _ w (with_writers w (set w.writers v y)) _ (Wrote v (Restarted start)) (λ s ds st.
+  restarts start y accepts same = accepted_acts _ w (with_writers w (set w.writers v y)) _ (Wrote v (Restarted start)) (λ s ds st.
       let stands = its s ds st in
       let first_start = (writer_at s v).start in
       let acts = acts_of v ds in
@@ -414,8 +416,8 @@ module _ (w : Held) (v : ℕ) (x : Written) (at_v : slice_get w.writers v ≡ So
       let none : running first_start (Restarted start ∷ acts) ≡ [] = none_yet first_start (fits_at s v) acts (subst (λ (f : ℕ). AreAccepted (fits_at s v) f acts) starts (acts_accepted (starts_of s) (fits_at s) (gateways_of s) ds st.lawful v)) start rises in
       let stays : WriterStands (writer_at s v) (Restarted start ∷ acts) y = record {
         id = ap (λ (z : Written). z.id) same ∙ stands.id;
-        plan = same_plan ∙ stands.plan;
-        tally = subst (StandsFor y.tally) (sym none) empty;
+        plan = ap (λ (z : Written). z.tally.plan) same ∙ stands.plan;
+        tally = subst (StandsFor y.tally) (sym none) (subst (λ (z : Written). StandsFor z.tally []) (sym same) refl);
         start = ap (λ (z : Written). z.start) same;
         last = ap (λ (z : Written). z.last) same;
         closed = ap (λ (z : Written). z.closed) same;

@@ -105,6 +105,7 @@ fn told_restart(fault: RestartFault) -> Result<Refusal, NoMemory>
 }
 
 // An export of what a writer holds at a time, or its refusal. The round lies in an arena that is given up here.
+#[tactic(auto, using(crate::proofs::Copies::copies))]
 fn copied(alloc: Global, writer: &Writer, time: u64) -> Result<Result<Export, Refusal>, NoMemory>
     ensures ok { IfOk result (λ copy. IsCopy writer.now time copy) }
     ensures no_memory { OnErr result (collect_fault writer.now time ≡ None) }

@@ -1,8 +1,12 @@
 -- A writer that follows accepted events still does after one more.
 use Rattle.std.proofs.Common.{◌≡◌, ◌∙◌, ℕ, ◌<◌, Bool, true, false, not, is_none, List, [], ◌∷◌, ◌++◌, None, refl, sym, ap, subst, arith}
 use Rattle.std.proofs.lemmas.Bool.{eq-eqb}
+use Rattle.agg_kit.proofs.Refusals.{refused-is}
+use Rattle.agg_kit.proofs.Rounds.{stands-push}
 use Rattle.agg_kit.specs.Entries.{Entry}
+use Rattle.agg_kit.specs.Measuring.{empty_tally}
 use Rattle.agg_kit.specs.Refusals.{refused}
+use Rattle.agg_kit.specs.Tallies.{Tallied}
 use Rattle.agg_kit.specs.Rounds.{StandsFor, round}
 use Rattle.plan_kit.specs.Plans.{Planned}
 use Rattle.round_kit.specs.Rounds.{points_of}
@@ -10,7 +14,11 @@ use Rattle.round_kit.specs.Rounds as rounds
 use Rattle.schedule_kit.proofs.History.{none_yet}
 use Rattle.schedule_kit.specs.Schedule.{Act, start_of, last_of, is_open, running, collected, AreAccepted}
 use Rattle.schedule_kit.specs.Schedule.Act.{Measured, Collected, Restarted}
+use Rattle.point_kit.specs.declared.writer_id.WriterId.{WriterId}
+use Rattle.writer_kit.proofs.Refusals.{now_open, collect_open, collect_later, restart_later}
 use Rattle.writer_kit.specs.Following.{Follows, fits, round_of}
+use Rattle.writer_kit.specs.Recording.{new_writer, recorded, after_collect, after_restart, round_now}
+use Rattle.writer_kit.specs.Refusals.{fault_now, collect_fault, restart_fault}
 use Rattle.writer_kit.specs.Written.{Written}
 
 is_still_open : (acts : List (Act Entry)) (closed : Bool) → closed ≡ false → not closed ≡ is_open acts → is_open acts ≡ true
@@ -19,6 +27,13 @@ is_still_open acts closed e o = sym o ∙ ap not e
 -- the entries of the running incarnation, and one more
 runs : (first : ℕ) (acts : List (Act Entry)) (e : Entry) → running first (Measured e ∷ acts) ≡ running first acts ++ e ∷ []
 runs first acts e = rw (eq-eqb (start_of first acts) (start_of first acts) refl) refl
+
+-- a tally without points
+pub plan_of_empty : (t : Tallied) (p : Planned) → t ≡ empty_tally p → t.plan ≡ p
+plan_of_empty t p is = ap (λ (t : Tallied). t.plan) is
+
+pub empty_stands : (t : Tallied) (p : Planned) → t ≡ empty_tally p → StandsFor t []
+empty_stands t p is = subst (λ (t : Tallied). StandsFor t []) (sym is) refl
 
 pub started : (start : ℕ) (w : Written) → w.start ≡ start → w.last ≡ start → w.closed ≡ false → StandsFor w.tally [] → Follows start [] w
 started start w s l c t = record { accepted = tt; start = s; last = l; opened = ap not c; points = t }
@@ -75,3 +90,25 @@ collects first acts time w r s t p f =
     let starts : r.start ≡ start_of first acts = s ∙ f.start in
     let points : r.points ≡ points_of w.tally.plan.streams (round w.tally.plan (running first acts)) = p ∙ ap (points_of w.tally.plan.streams) f.points in
     λ i. record { start = starts i; time = t i; points = points i }
+
+-- ---- the same by a writer's own steps
+
+pub starts : (id : WriterId) (plan : Planned) (start : ℕ) → Follows start [] (new_writer id plan start)
+starts id plan start = started start (new_writer id plan start) refl refl refl refl
+
+pub measures : (first : ℕ) (acts : List (Act Entry)) (w : Written) (e : Entry) → Follows first acts w → fault_now w e ≡ None → Follows first (Measured e ∷ acts) (recorded w e)
+measures first acts w e f none =
+    let fits = now_open w e none in
+    measured first acts e w (recorded w e) fits.0 (λ h s. sym (refused-is w.tally h e s) ∙ fits.1) (λ h s. stands-push w.tally h e s) refl refl f
+
+pub marks : (first : ℕ) (acts : List (Act Entry)) (w : Written) (time : ℕ) (closing : Bool) → Follows first acts w → collect_fault w time ≡ None → Follows first (Collected time closing ∷ acts) (after_collect w time closing)
+marks first acts w time closing f none = marked first acts time closing w (after_collect w time closing) (collect_open w time none) (collect_later w time none) refl f
+
+pub restarts : (first : ℕ) (acts : List (Act Entry)) (w : Written) (start : ℕ) → Follows first acts w → restart_fault w start ≡ None → Follows first (Restarted start ∷ acts) (after_restart w start)
+restarts first acts w start f none = restarted first acts start w (after_restart w start) (restart_later w start none) refl refl refl f
+
+pub rounds_of : (first : ℕ) (acts : List (Act Entry)) (w : Written) (time : ℕ) → Follows first acts w → round_now w time ≡ round_of w.tally.plan (collected first acts time)
+rounds_of first acts w time f = collects first acts time w (round_now w time) refl refl refl f
+
+pub is_round : (w : Written) (time : ℕ) (r : rounds.Collected) → r.start ≡ w.start → r.time ≡ time → r.points ≡ points_of w.tally.plan.streams w.tally.series → r ≡ round_now w time
+is_round w time r s t p = λ i. record { start = s i; time = t i; points = p i }

@@ -5,11 +5,14 @@ use Rattle.std.specs.Option.{option_map}
 use Rattle.std.proofs.lemmas.Bool.{le-leb, lt-leb, leb-false}
 use Rattle.attr_kit.specs.Refusing.{first, when}
 use Rattle.agg_kit.specs.Entries.{Entry}
-use Rattle.agg_kit.specs.Feeds.{whole_first}
-use Rattle.agg_kit.specs.Refusals.{refused, refused_by, refused_in}
+use Rattle.agg_kit.proofs.Refusals.{early-is, refused-is}
+use Rattle.agg_kit.specs.Feeds.{AllWhole}
+use Rattle.agg_kit.specs.Measuring.{fault_of, early_fault_of}
+use Rattle.agg_kit.specs.Refusals.{refused}
+use Rattle.agg_kit.specs.Rounds.{StandsFor}
 use Rattle.agg_kit.specs.declared.fault.MeasureFault.{MeasureFault}
 use Rattle.plan_kit.specs.Plans.{feeds_of}
-use Rattle.writer_kit.specs.Refusals.{measure_fault, fault_now, early_fault, collect_fault, restart_fault}
+use Rattle.writer_kit.specs.Refusals.{no_memory, measure_fault, fault_now, early_fault, collect_fault, restart_fault}
 use Rattle.writer_kit.specs.Written.{Written}
 use Rattle.writer_kit.specs.declared.fault.CollectFault.TheVariants as collect
 use Rattle.writer_kit.specs.declared.fault.MeasureFault as measures
@@ -17,56 +20,54 @@ use Rattle.writer_kit.specs.declared.fault.MeasureFault.TheVariants as measure
 use Rattle.agg_kit.specs.declared.fault.MeasureFault.TheVariants as tallies
 use Rattle.writer_kit.specs.declared.fault.RestartFault.TheVariants as restart
 
-pub measure_closed : (w : Written) (h : List Entry) (e : Entry) → w.closed ≡ true → measure_fault w h e ≡ Some measure.Closed
-unfolding measure_fault
-measure_closed w h e c = rw c refl
-
-pub measure_refused : (w : Written) (h : List Entry) (e : Entry) (f : MeasureFault) → w.closed ≡ false → refused w.tally.plan h e ≡ Some f → measure_fault w h e ≡ Some (measure.Refused f)
-unfolding measure_fault
-measure_refused w h e f c r = rw (c, r) refl
-
-pub measure_accepted : (w : Written) (h : List Entry) (e : Entry) → w.closed ≡ false → refused w.tally.plan h e ≡ None → measure_fault w h e ≡ None
-unfolding measure_fault
-measure_accepted w h e c r = rw (c, r) refl
-
--- the same by the points
+-- a recording, by the points
 pub now_closed : (w : Written) (e : Entry) → w.closed ≡ true → fault_now w e ≡ Some measure.Closed
 unfolding fault_now
 now_closed w e c = rw c refl
 
-pub now_refused : (w : Written) (e : Entry) (f : MeasureFault) → w.closed ≡ false → refused_by w.tally.plan w.tally.series e ≡ Some f → fault_now w e ≡ Some (measure.Refused f)
+pub now_refused : (w : Written) (e : Entry) (f : MeasureFault) → w.closed ≡ false → fault_of w.tally e ≡ Some f → fault_now w e ≡ Some (measure.Refused f)
 unfolding fault_now
 now_refused w e f c r = rw (c, r) refl
 
-pub now_accepted : (w : Written) (e : Entry) → w.closed ≡ false → refused_by w.tally.plan w.tally.series e ≡ None → fault_now w e ≡ None
+pub now_accepted : (w : Written) (e : Entry) → w.closed ≡ false → fault_of w.tally e ≡ None → fault_now w e ≡ None
 unfolding fault_now
 now_accepted w e c r = rw (c, r) refl
 
-pub all_told : {R : Type 0} (w : Written) (e : Entry) (r : Result R measures.MeasureFault) (f : MeasureFault) → r ≡ Err (measure.Refused f) → w.closed ≡ false → (f ≢ tallies.NoMemory → refused_by w.tally.plan w.tally.series e ≡ Some f)
-    → IfErr r (λ g. g ≢ measure.Refused tallies.NoMemory → fault_now w e ≡ Some g)
+pub all_told : {R : Type 0} (w : Written) (e : Entry) (r : Result R measures.MeasureFault) (f : MeasureFault) → r ≡ Err (measure.Refused f) → w.closed ≡ false → (f ≢ tallies.NoMemory → fault_of w.tally e ≡ Some f)
+    → IfErr r (λ g. g ≢ no_memory → fault_now w e ≡ Some g)
 all_told w e r f is open_ told =
-    subst (λ x. IfErr x (λ g. g ≢ measure.Refused tallies.NoMemory → fault_now w e ≡ Some g)) (sym is) (λ other. now_refused w e f open_ (told (λ same. other (ap measure.Refused same))))
+    subst (λ x. IfErr x (λ g. g ≢ no_memory → fault_now w e ≡ Some g)) (sym is) (λ other. now_refused w e f open_ (told (λ same. other (ap measure.Refused same))))
 
 -- want of memory, which comes only where nothing is refused before memory is wanted
-pub early_accepted : (w : Written) (e : Entry) → w.closed ≡ false → refused_in w.tally.plan w.tally.series e (whole_first (feeds_of w.tally.plan e.instrument)) ≡ None → early_fault w e ≡ None
+pub early_accepted : (w : Written) (e : Entry) → w.closed ≡ false → early_fault_of w.tally e ≡ None → early_fault w e ≡ None
 unfolding early_fault
 early_accepted w e c r = rw (c, r) refl
 
 pub all_short : {R : Type 0} (w : Written) (e : Entry) (r : Result R measures.MeasureFault) (f : MeasureFault) → r ≡ Err (measure.Refused f) → w.closed ≡ false
-    → (f ≡ tallies.NoMemory → refused_in w.tally.plan w.tally.series e (whole_first (feeds_of w.tally.plan e.instrument)) ≡ None) → IfErr r (λ g. g ≡ measure.Refused tallies.NoMemory → early_fault w e ≡ None)
+    → (f ≡ tallies.NoMemory → early_fault_of w.tally e ≡ None) → IfErr r (λ g. g ≡ no_memory → early_fault w e ≡ None)
 all_short w e r f is open_ short =
-    subst (λ x. IfErr x (λ g. g ≡ measure.Refused tallies.NoMemory → early_fault w e ≡ None)) (sym is) (λ same. early_accepted w e open_ (short (inner same)))
+    subst (λ x. IfErr x (λ g. g ≡ no_memory → early_fault w e ≡ None)) (sym is) (λ same. early_accepted w e open_ (short (inner same)))
   where
-    inner : measure.Refused f ≡ measure.Refused tallies.NoMemory → f ≡ tallies.NoMemory
+    inner : measure.Refused f ≡ no_memory → f ≡ tallies.NoMemory
     inner same = cc
 
 pub none_told : {R F : Type 0} (r : Result R F) (x : R) (P : F → Type 0) → r ≡ Ok x → IfErr r P
 none_told r x P is = subst (λ y. IfErr y P) (sym is) tt
 
+-- by the points it is refused as by the recordings for which they stand
+pub now_is : (w : Written) (h : List Entry) (e : Entry) → StandsFor w.tally h → fault_now w e ≡ measure_fault w h e
+unfolding fault_now measure_fault
+now_is w h e s = ap (λ o. first (when w.closed measure.Closed ∷ option_map (λ f. measure.Refused f) o ∷ [])) (refused-is w.tally h e s)
+
+-- where every feed keeps all keys, nothing is looked for after memory is wanted
+pub early_is : (w : Written) (e : Entry) → AllWhole (feeds_of w.tally.plan e.instrument) → early_fault w e ≡ fault_now w e
+unfolding fault_now early_fault
+early_is w e whole = ap (λ o. first (when w.closed measure.Closed ∷ option_map (λ f. measure.Refused f) o ∷ [])) (early-is w.tally e whole)
+
 -- where a recording is accepted, the writer is open, and nothing of the points refuses it
-pub now_open : (w : Written) (e : Entry) → fault_now w e ≡ None → (w.closed ≡ false) × (refused_by w.tally.plan w.tally.series e ≡ None)
+pub now_open : (w : Written) (e : Entry) → fault_now w e ≡ None → (w.closed ≡ false) × (fault_of w.tally e ≡ None)
 unfolding fault_now
-now_open w e none = by w.closed (refused_by w.tally.plan w.tally.series e) none
+now_open w e none = by w.closed (fault_of w.tally e) none
   where
     by : (b : Bool) (o : Option MeasureFault) → first (when b measure.Closed ∷ option_map (λ f. measure.Refused f) o ∷ []) ≡ None → (b ≡ false) × (o ≡ None)
     by true o e = cc
@@ -110,3 +111,11 @@ restart_late w start late = rw (le-leb start w.start late) refl
 pub restart_accepted : (w : Written) (start : ℕ) → w.start < start → restart_fault w start ≡ None
 unfolding restart_fault
 restart_accepted w start later = rw (lt-leb start w.start later) refl
+
+pub restart_later : (w : Written) (start : ℕ) → restart_fault w start ≡ None → w.start < start
+unfolding restart_fault
+restart_later w start e = leb-false start w.start (lone (nat_le start w.start) (restart.StartNotAfter w.start) e)
+  where
+    lone : {F : Type 0} (b : Bool) (f : F) → first (when b f ∷ []) ≡ None → b ≡ false
+    lone true f e = cc
+    lone false f e = refl

@@ -17,7 +17,7 @@ use Rattle.turn_kit.specs.Public.{Closes, seen, number}
 use Rattle.schedule_kit.specs.Schedule.{Act, collected, collections}
 use Rattle.writer_kit.specs.Following.{Follows, round_of}
 use Rattle.writer_kit.specs.PlanFeeds.{AllFeeds}
-use Rattle.writer_kit.specs.Recording.{recorded}
+use Rattle.writer_kit.specs.Recording.{recorded, round_now}
 use Rattle.writer_kit.specs.Refusals.{fault_now, early_fault, collect_fault}
 use Rattle.writer_kit.specs.Written.{Written}
 use Rattle.writer_kit.specs.declared.fault.CollectFault as collects
@@ -29,7 +29,7 @@ use Rattle.writer_kit.specs.declared.shared.change.WriterChange.{WriterChange}
 use Rattle.writer_kit.specs.declared.shared.change.WriterChange.TheVariants.{Measured, Collected}
 use Rattle.writer_kit.specs.Shared.{History, told, also_measured, entries_of, act_of, acts_after, Serves, MayRefuse, MayRefuseRound, first_of, IsRound, Accepts, Adds, HasAllMeasured, IsNewest, LooksAt, Sees}
 use Rattle.writer_kit.proofs.Following as following
-use Rattle.writer_kit.proofs.Refusals.{now_open, collect_open, collect_later}
+use Rattle.writer_kit.proofs.Refusals.{now_open, collect_open, collect_later, stays_open}
 
 some_is : (x y : Written) → Some x ≡ Some y → x ≡ y
 some_is x y e = ap (λ (z : Option Written). either_of z) e
@@ -50,8 +50,8 @@ none_is y e = subst is_nothing e tt
 pub told_measured : (w v : Written) (i : ℕ) (a : AttrSet) (x : ℤ) → fault_now w (entry_of i a x) ≡ None → v ≡ recorded w (entry_of i a x) → told w (Measured i a x) ≡ Some v
 told_measured w v i a x fits is = ap (λ o. cond (is_none o) (Some (recorded w (entry_of i a x))) None) fits ∙ ap Some (sym is)
 
-pub told_collected : (w v : Written) (time : ℕ) → collect_fault w time ≡ None → v ≡ record w { last = time } → told w (Collected time) ≡ Some v
-told_collected w v time fits is = ap (λ o. cond (is_none o) (Some (record w { last = time })) None) fits ∙ ap Some (sym is)
+pub told_collected : (w v : Written) (time : ℕ) → collect_fault w time ≡ None → v ≡ record w { last = time; closed = false } → told w (Collected time) ≡ Some v
+told_collected w v time fits is = ap (λ o. cond (is_none o) (Some (record w { last = time })) None) fits ∙ ap Some (sym (stays_open w v time (collect_open w time fits) is))
 
 -- what is accepted was refused for no cause, and is what it was said to be
 chosen : {F : Type 0} (o : Option F) (next v : Written) → cond (is_none o) (Some next) None ≡ Some v → (o ≡ None) × (v ≡ next)
@@ -68,10 +68,9 @@ record Steps (w : Written) (c : WriterChange) (v : Written) : Type 0 where
 one : (w v : Written) (c : WriterChange) → AllFeeds w.tally.plan → told w c ≡ Some v → Steps w c v
 one w v (Measured i a x) feeds is =
     let e = entry_of i a x in
-    let fed : AreFeeds (length w.tally.plan.streams) (feeds_of w.tally.plan i) = feeds i in
     let d = chosen (fault_now w e) (recorded w e) v is in
     let open_ = now_open w e d.0 in
-    let standing : (es : List Entry) → StandsFor w.tally es → StandsFor v.tally (es ++ e ∷ []) = λ es s. subst (λ (u : Written). StandsFor u.tally (es ++ e ∷ [])) (sym d.1) (stands-push w.tally es e fed s) in
+    let standing : (es : List Entry) → StandsFor w.tally es → StandsFor v.tally (es ++ e ∷ []) = λ es s. subst (λ (u : Written). StandsFor u.tally (es ++ e ∷ [])) (sym d.1) (stands-push w.tally es e s) in
     let plan : v.tally.plan ≡ w.tally.plan = ap (λ (u : Written). u.tally.plan) d.1 in
     record {
       same_id = ap (λ (u : Written). u.id) d.1;
@@ -79,7 +78,7 @@ one w v (Measured i a x) feeds is =
       same_start = ap (λ (u : Written). u.start) d.1;
       stands = standing;
       follows = λ start earlier f.
-          following.measured start earlier e w v open_.0 (λ h s. refused-is w.tally h e s fed ∙ open_.1) standing plan (d.1 ∙ ap (λ (u : Written). record w { tally = u.tally }) (sym d.1)) f;
+          following.measured start earlier e w v open_.0 (λ h s. sym (refused-is w.tally h e s) ∙ open_.1) standing plan (d.1 ∙ ap (λ (u : Written). record w { tally = u.tally }) (sym d.1)) f;
     }
 one w v (Collected time) feeds is =
     let d = chosen (collect_fault w time) (record w { last = time }) v is in
@@ -98,6 +97,9 @@ pub may_refuse : {R : Type 0} (w : Written) (e : Entry) (r : Result R measures.M
     → (AllHeld w.tally.plan (feeds_of w.tally.plan e.instrument) e.attrs w.tally.series → IfErr r (λ f. f ≢ measure.Refused tallies.NoMemory)) → IfErr r (λ f. MayRefuse w e f)
 may_refuse w e (Ok x) told short held = tt
 may_refuse w e (Err f) told short held = record { told = told; short = short; held = held }
+
+pub is_round : (w : Written) (time : ℕ) (r : rounds.Collected) → r ≡ round_now w time → IsRound w time r
+is_round w time r is = record { starts = ap (λ (x : rounds.Collected). x.start) is; taken_at = ap (λ (x : rounds.Collected). x.time) is; points = ap (λ (x : rounds.Collected). x.points) is }
 
 pub may_refuse_round : {R : Type 0} (w : Written) (time : ℕ) (r : Result R collects.CollectFault) → IfErr r (λ f. f ≢ collect.NoMemory → collect_fault w time ≡ Some f)
     → IfErr r (λ f. f ≡ collect.NoMemory → collect_fault w time ≡ None) → IfErr r (λ f. MayRefuseRound w time f)

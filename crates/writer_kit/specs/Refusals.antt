@@ -3,9 +3,9 @@ use Rattle.std.specs.Prelude.{ℕ, List, [], ◌∷◌, nat_le, Option}
 use Rattle.std.specs.Option.{option_map}
 use Rattle.attr_kit.specs.Refusing.{first, when}
 use Rattle.agg_kit.specs.Entries.{Entry}
-use Rattle.agg_kit.specs.Feeds.{whole_first}
-use Rattle.agg_kit.specs.Refusals.{refused, refused_by, refused_in}
-use Rattle.plan_kit.specs.Plans.{feeds_of}
+use Rattle.agg_kit.specs.Measuring.{fault_of, early_fault_of}
+use Rattle.agg_kit.specs.Refusals.{refused}
+use Rattle.agg_kit.specs.declared.fault.MeasureFault.TheVariants as tallies
 use Rattle.writer_kit.specs.Written.{Written}
 use Rattle.writer_kit.specs.declared.fault.CollectFault.{CollectFault}
 use Rattle.writer_kit.specs.declared.fault.CollectFault.TheVariants as collect
@@ -14,18 +14,21 @@ use Rattle.writer_kit.specs.declared.fault.MeasureFault.TheVariants as measure
 use Rattle.writer_kit.specs.declared.fault.RestartFault.{RestartFault}
 use Rattle.writer_kit.specs.declared.fault.RestartFault.TheVariants as restart
 
+-- want of memory for a recording
+abbrev pub no_memory : MeasureFault
+no_memory = measure.Refused tallies.NoMemory
+
 -- why a recording is refused where the writer's points stand for the recordings h: it is closed, or else what its tally refuses
 unfoldable pub measure_fault : Written → List Entry → Entry → Option MeasureFault
 measure_fault w h e = first (when w.closed measure.Closed ∷ option_map (λ f. measure.Refused f) (refused w.tally.plan h e) ∷ [])
 
 -- the same by the points of the writer
 unfoldable pub fault_now : Written → Entry → Option MeasureFault
-fault_now w e = first (when w.closed measure.Closed ∷ option_map (λ f. measure.Refused f) (refused_by w.tally.plan w.tally.series e) ∷ [])
+fault_now w e = first (when w.closed measure.Closed ∷ option_map (λ f. measure.Refused f) (fault_of w.tally e) ∷ [])
 
--- the same of the feeds before the first that keeps a list of keys: what is refused before memory is wanted
+-- the same of the feeds before the first that keeps a list of keys: what is looked for before memory is wanted
 unfoldable pub early_fault : Written → Entry → Option MeasureFault
-early_fault w e =
-    first (when w.closed measure.Closed ∷ option_map (λ f. measure.Refused f) (refused_in w.tally.plan w.tally.series e (whole_first (feeds_of w.tally.plan e.instrument))) ∷ [])
+early_fault w e = first (when w.closed measure.Closed ∷ option_map (λ f. measure.Refused f) (early_fault_of w.tally e) ∷ [])
 
 -- why a collection is refused: the writer is closed, or else the time is not after the last
 unfoldable pub collect_fault : Written → ℕ → Option CollectFault

@@ -10,16 +10,18 @@
 //! once, there is one history, and each round is that of all that the history has before it.
 //!
 //! Times are nanoseconds since the Unix epoch. What contracts cite stands in `specs/`: `Written` (what contracts see of a
-//! writer), `Refusals`, `Recording`, `Schedules` (the events that a writer accepts, and what is read off them), `Following`
+//! writer), `Refusals`, `Recording` (what accepted calls make of it), `Schedules` (the events that a writer accepts, and what is read off them), `Following`
 //! (what a writer is after them), `Shared` (the history of a shared writer), `Pacing`.
 #![tactic(auto)]
 
 mod fault;
+mod laws;
 mod pace;
 mod shared;
 mod writer;
 
 pub use fault::{CollectFault, MeasureFault, RestartFault};
+pub use laws::{refusals_are_of_recordings, steps_are_events};
 pub use pace::{DEFAULT_INTERVAL, Pace};
 pub use shared::{SeatsOut, SharedWriter, WriterChange};
 pub use writer::Writer;

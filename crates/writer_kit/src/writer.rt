@@ -1,18 +1,14 @@
 //! Writers.
-ghost use Rattle.std.specs.Prelude.{◌≡◌, ◌≢◌, ◌<◌, ◌≤◌, ℕ, List, [], ◌∷◌, ◌++◌, Some, None, false, true, IfOk, IfErr, OnOk, OnErr};
-ghost use Rattle.agg_kit.specs.Entries.{Entry, entry_of};
-ghost use Rattle.agg_kit.specs.Feeds.{AllHeld, AllWhole};
+ghost use Rattle.std.specs.Prelude.{◌≡◌, ◌≢◌, ◌<◌, ◌≤◌, [], Some, None, false, true, IfOk, IfErr, OnOk, OnErr};
+ghost use Rattle.agg_kit.specs.Entries.{entry_of};
+ghost use Rattle.agg_kit.specs.Feeds.{IsHeld};
 ghost use Rattle.agg_kit.specs.Rounds.{StandsFor};
-ghost use Rattle.plan_kit.specs.Plans.{feeds_of};
-ghost use Rattle.round_kit.specs.Rounds.{points_of};
-ghost use Rattle.writer_kit.specs.Following.{Follows, round_of};
-ghost use Rattle.writer_kit.specs.Refusals.{measure_fault, fault_now, early_fault, collect_fault, restart_fault};
-ghost use Rattle.writer_kit.specs.Recording.{recorded};
-ghost use Rattle.writer_kit.specs.Schedules.{Act, collected};
-ghost use Rattle.schedule_kit.specs.Schedule.Act.{Measured, Collected, Restarted};
+ghost use Rattle.writer_kit.specs.Following.{Follows};
+ghost use Rattle.writer_kit.specs.Recording.{recorded, after_collect, after_restart, round_now};
+ghost use Rattle.writer_kit.specs.Refusals.{no_memory, fault_now, early_fault, collect_fault, restart_fault};
 
 use crate::{CollectFault, MeasureFault, RestartFault};
-use agg_kit::{MeasureFault as TallyFault, Tally};
+use agg_kit::Tally;
 use attr_kit::{AttrSet, NoMemory};
 use bumpalo::Bump;
 use plan_kit::Plan;
@@ -47,6 +43,7 @@ impl Writer {
     /// A writer that counts from a start on, itself excluded, under a plan; it is open and has recorded nothing.
     ///
     /// Refuses with `NoMemory` alone. The writer keeps the allocator. O(streams of the plan).
+    #[tactic(auto, using(crate::proofs::Following::plan_of_empty, crate::proofs::Following::empty_stands, crate::proofs::Following::started))]
     pub fn start(alloc: Global, id: WriterId, plan: Plan, start: u64) -> Result<Writer, NoMemory>
         ensures id { IfOk result (λ w. w.id ≡ id) }
         ensures plan { IfOk result (λ w. w.tally.plan ≡ plan) }
@@ -106,29 +103,20 @@ impl Writer {
     /// Refuses, in this order: `Closed`; `Refused` with what the tally refuses, `NoMemory` last, but that a feed which keeps a
     /// list of keys may want memory before it and the feeds behind it are looked at. A refusal changes nothing. O(feeds of the
     /// instrument times the size of the attributes and the bounds).
-    #[tactic(auto, using(crate::proofs::Refusals::measure_closed, crate::proofs::Refusals::measure_refused, crate::proofs::Refusals::measure_accepted, crate::proofs::Refusals::now_closed, crate::proofs::Refusals::now_refused, crate::proofs::Refusals::now_accepted))]
+    #[tactic(auto, using(crate::proofs::Refusals::now_closed, crate::proofs::Refusals::now_refused, crate::proofs::Refusals::now_accepted))]
     pub fn measure(
         &mut self,
         instrument: usize,
         attrs: &AttrSet,
         value: i64,
     ) -> Result<(), MeasureFault>
-        ensures ok { OnOk result ((h : List Entry) → StandsFor self.old.tally h → measure_fault self.old h (entry_of instrument attrs.now value) ≡ None) }
-        ensures value { OnOk result ((h : List Entry) → StandsFor self.old.tally h → StandsFor self.new.tally (h ++ entry_of instrument attrs.now value ∷ [])) }
-        ensures plan { OnOk result (self.new.tally.plan ≡ self.old.tally.plan) }
-        ensures rest { OnOk result (self.new ≡ record self.old { tally = self.new.tally }) }
-        ensures follows { OnOk result ((first : ℕ) (acts : List (Act Entry)) → Follows first acts self.old → Follows first (Measured (entry_of instrument attrs.now value) ∷ acts) self.new) }
-        // The same by the points alone, whatever they stand for.
-        ensures fits { OnOk result (fault_now self.old (entry_of instrument attrs.now value) ≡ None) }
-        ensures recorded { OnOk result (self.new ≡ recorded self.old (entry_of instrument attrs.now value)) }
-        ensures told { IfErr result (λ f. f ≢ MeasureFault.Refused TallyFault.NoMemory → fault_now self.old (entry_of instrument attrs.now value) ≡ Some f) }
-        ensures err { IfErr result (λ f. f ≢ MeasureFault.Refused TallyFault.NoMemory → (h : List Entry) → StandsFor self.old.tally h → measure_fault self.old h (entry_of instrument attrs.now value) ≡ Some f) }
+        ensures ok { OnOk result (fault_now self.old (entry_of instrument attrs.now value) ≡ None) }
+        ensures value { OnOk result (self.new ≡ recorded self.old (entry_of instrument attrs.now value)) }
+        ensures err { IfErr result (λ f. f ≢ no_memory → fault_now self.old (entry_of instrument attrs.now value) ≡ Some f) }
+        // Where a feed keeps a list of keys, what it keeps takes memory; the feeds before the first such feed are in range.
+        ensures no_memory { IfErr result (λ f. f ≡ no_memory → early_fault self.old (entry_of instrument attrs.now value) ≡ None) }
         // Points that are there take no memory where every feed keeps all keys.
-        ensures held { AllHeld self.old.tally.plan (feeds_of self.old.tally.plan instrument) attrs.now self.old.tally.series → IfErr result (λ f. f ≢ MeasureFault.Refused TallyFault.NoMemory) }
-        // Where every feed keeps all keys, `NoMemory` comes only where nothing else is refused.
-        ensures no_memory { AllWhole (feeds_of self.old.tally.plan instrument) → IfErr result (λ f. f ≡ MeasureFault.Refused TallyFault.NoMemory → (h : List Entry) → StandsFor self.old.tally h → measure_fault self.old h (entry_of instrument attrs.now value) ≡ None) }
-        // Where a feed keeps a list of keys, it comes only where nothing is refused that is looked for before memory is wanted.
-        ensures short { IfErr result (λ f. f ≡ MeasureFault.Refused TallyFault.NoMemory → early_fault self.old (entry_of instrument attrs.now value) ≡ None) }
+        ensures held { IsHeld self.old.tally (entry_of instrument attrs.now value) → IfErr result (λ f. f ≢ no_memory) }
         ensures unchanged { OnErr result (self.new ≡ self.old) }
     {
         if self.closed {
@@ -144,13 +132,10 @@ impl Writer {
     ///
     /// Refuses, in this order: `Closed`; `TimeNotAfter` where the time is at most `last`; `NoMemory`. O(size of the
     /// points), all of it in the arena.
-    #[tactic(auto, using(crate::proofs::Refusals::collect_closed, crate::proofs::Refusals::collect_late, crate::proofs::Refusals::collect_accepted))]
+    #[tactic(auto, using(crate::proofs::Refusals::collect_closed, crate::proofs::Refusals::collect_late, crate::proofs::Refusals::collect_accepted, crate::proofs::Following::is_round))]
     pub fn look_round<'b>(&self, arena: &'b Bump, time: u64) -> Result<Round<'b>, CollectFault>
         ensures ok { OnOk result (collect_fault self.now time ≡ None) }
-        ensures start { IfOk result (λ r. r.start ≡ self.now.start) }
-        ensures time { IfOk result (λ r. r.time ≡ time) }
-        ensures points { IfOk result (λ r. r.points ≡ points_of self.now.tally.plan.streams self.now.tally.series) }
-        ensures collected { IfOk result (λ r. (first : ℕ) (acts : List (Act Entry)) → Follows first acts self.now → r ≡ round_of self.now.tally.plan (collected first acts time)) }
+        ensures round { IfOk result (λ r. r ≡ round_now self.now time) }
         ensures err { IfErr result (λ f. f ≢ CollectFault.NoMemory → collect_fault self.now time ≡ Some f) }
         ensures no_memory { IfErr result (λ f. f ≡ CollectFault.NoMemory → collect_fault self.now time ≡ None) }
     {
@@ -167,8 +152,7 @@ impl Writer {
     pub fn mark(&mut self, time: u64, closing: bool)
         requires open { self.old.closed ≡ false }
         requires rises { self.old.last < time }
-        ensures value { self.new ≡ record self.old { last = time; closed = closing } }
-        ensures follows { (first : ℕ) (acts : List (Act Entry)) → Follows first acts self.old → Follows first (Collected time closing ∷ acts) self.new }
+        ensures value { self.new ≡ after_collect self.old time closing }
     {
         self.last = time;
         self.closed = closing;
@@ -178,42 +162,48 @@ impl Writer {
     /// collections are cumulative.
     ///
     /// Refuses as `look_round` does, and then changes nothing. O(size of the points), all of it in the arena.
-    #[tactic(auto, using(crate::proofs::Refusals::collect_open, crate::proofs::Refusals::collect_later, crate::proofs::Refusals::stays_open))]
     pub fn collect<'b>(&mut self, arena: &'b Bump, time: u64) -> Result<Round<'b>, CollectFault>
         ensures ok { OnOk result (collect_fault self.old time ≡ None) }
-        ensures start { IfOk result (λ r. r.start ≡ self.old.start) }
-        ensures time { IfOk result (λ r. r.time ≡ time) }
-        ensures points { IfOk result (λ r. r.points ≡ points_of self.old.tally.plan.streams self.old.tally.series) }
-        ensures collected { IfOk result (λ r. (first : ℕ) (acts : List (Act Entry)) → Follows first acts self.old → r ≡ round_of self.old.tally.plan (collected first acts time)) }
-        ensures marked { OnOk result (self.new ≡ record self.old { last = time }) }
-        ensures follows { OnOk result ((first : ℕ) (acts : List (Act Entry)) → Follows first acts self.old → Follows first (Collected time false ∷ acts) self.new) }
+        ensures value { OnOk result (self.new ≡ after_collect self.old time false) }
+        ensures round { IfOk result (λ r. r ≡ round_now self.old time) }
         ensures err { IfErr result (λ f. f ≢ CollectFault.NoMemory → collect_fault self.old time ≡ Some f) }
         ensures no_memory { IfErr result (λ f. f ≡ CollectFault.NoMemory → collect_fault self.old time ≡ None) }
         ensures unchanged { OnErr result (self.new ≡ self.old) }
     {
-        let round = self.look_round(arena, time)?;
-        self.mark(time, false);
-        Ok(round)
+        self.collect_closing(arena, time, false)
     }
 
     /// Collects for the last time, and closes the writer (OpenTelemetry Metrics SDK, "MetricReader", Shutdown).
     ///
     /// Refuses as `look_round` does, and then changes nothing. O(size of the points), all of it in the arena.
-    #[tactic(auto, using(crate::proofs::Refusals::collect_open, crate::proofs::Refusals::collect_later))]
     pub fn shutdown<'b>(&mut self, arena: &'b Bump, time: u64) -> Result<Round<'b>, CollectFault>
         ensures ok { OnOk result (collect_fault self.old time ≡ None) }
-        ensures start { IfOk result (λ r. r.start ≡ self.old.start) }
-        ensures time { IfOk result (λ r. r.time ≡ time) }
-        ensures points { IfOk result (λ r. r.points ≡ points_of self.old.tally.plan.streams self.old.tally.series) }
-        ensures collected { IfOk result (λ r. (first : ℕ) (acts : List (Act Entry)) → Follows first acts self.old → r ≡ round_of self.old.tally.plan (collected first acts time)) }
-        ensures marked { OnOk result (self.new ≡ record self.old { last = time; closed = true }) }
-        ensures follows { OnOk result ((first : ℕ) (acts : List (Act Entry)) → Follows first acts self.old → Follows first (Collected time true ∷ acts) self.new) }
+        ensures value { OnOk result (self.new ≡ after_collect self.old time true) }
+        ensures round { IfOk result (λ r. r ≡ round_now self.old time) }
+        ensures err { IfErr result (λ f. f ≢ CollectFault.NoMemory → collect_fault self.old time ≡ Some f) }
+        ensures no_memory { IfErr result (λ f. f ≡ CollectFault.NoMemory → collect_fault self.old time ≡ None) }
+        ensures unchanged { OnErr result (self.new ≡ self.old) }
+    {
+        self.collect_closing(arena, time, true)
+    }
+
+    // Collects, and closes the writer where asked.
+    #[tactic(auto, using(crate::proofs::Refusals::collect_open, crate::proofs::Refusals::collect_later))]
+    fn collect_closing<'b>(
+        &mut self,
+        arena: &'b Bump,
+        time: u64,
+        closing: bool,
+    ) -> Result<Round<'b>, CollectFault>
+        ensures ok { OnOk result (collect_fault self.old time ≡ None) }
+        ensures value { OnOk result (self.new ≡ after_collect self.old time closing) }
+        ensures round { IfOk result (λ r. r ≡ round_now self.old time) }
         ensures err { IfErr result (λ f. f ≢ CollectFault.NoMemory → collect_fault self.old time ≡ Some f) }
         ensures no_memory { IfErr result (λ f. f ≡ CollectFault.NoMemory → collect_fault self.old time ≡ None) }
         ensures unchanged { OnErr result (self.new ≡ self.old) }
     {
         let round = self.look_round(arena, time)?;
-        self.mark(time, true);
+        self.mark(time, closing);
         Ok(round)
     }
 
@@ -225,10 +215,7 @@ impl Writer {
     #[tactic(auto, using(crate::proofs::Refusals::restart_late, crate::proofs::Refusals::restart_accepted))]
     pub fn restart(&mut self, start: u64) -> Result<(), RestartFault>
         ensures ok { OnOk result (restart_fault self.old start ≡ None) }
-        ensures value { OnOk result (StandsFor self.new.tally []) }
-        ensures plan { OnOk result (self.new.tally.plan ≡ self.old.tally.plan) }
-        ensures rest { OnOk result (self.new ≡ record self.old { tally = self.new.tally; start = start; last = start; closed = false }) }
-        ensures follows { OnOk result ((first : ℕ) (acts : List (Act Entry)) → Follows first acts self.old → Follows first (Restarted start ∷ acts) self.new) }
+        ensures value { OnOk result (self.new ≡ after_restart self.old start) }
         ensures err { IfErr result (λ f. f ≢ RestartFault.NoMemory → restart_fault self.old start ≡ Some f) }
         ensures no_memory { IfErr result (λ f. f ≡ RestartFault.NoMemory → restart_fault self.old start ≡ None) }
         ensures unchanged { OnErr result (self.new ≡ self.old) }

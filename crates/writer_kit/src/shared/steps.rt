@@ -52,7 +52,7 @@ impl<'b> Step<Writer> for Collect<'b> {
 
     ghost refuses = { λ c w f. MayRefuseRound w c.time f };
 
-    #[tactic(auto, using(crate::proofs::Sharing::told_collected, crate::proofs::Sharing::may_refuse_round))]
+    #[tactic(auto, using(crate::proofs::Sharing::told_collected, crate::proofs::Sharing::is_round, crate::proofs::Sharing::may_refuse_round))]
     fn step(self, machine: &mut Writer) -> Result<Round<'b>, CollectFault> {
         machine.collect(self.arena, self.time)
     }

@@ -274,8 +274,8 @@ insert-requires t c =
     let here = unmoved p feed rest a v ss c.record_each-in_default-find.new.series.items old q c.index_mut.result.now old (λ es. es) stays c.fresh.ensures.entries c.index_mut.ensures.value in
     record { ready = subst (λ (s : Stored). CanInsert c.in-Ok.fresh s) (sym here) c.in-Ok.ensures.ready }
 
-pub returns-in_default-find-clause-ok : goal.returns-in_default-find-clause-ok
-returns-in_default-find-clause-ok t c =
+pub returns-in_default-find-clause-value : goal.returns-in_default-find-clause-value
+returns-in_default-find-clause-value t c =
     let p = c.args.plan.now in
     let a = c.args.attrs.now in
     let v = c.args.value in
@@ -299,11 +299,11 @@ returns-in_default-find-clause-ok t c =
     let point = simp to_z-of_z at c.in-Ok.ensures.point in
     let steps : inserted c.in-Ok.fresh old.entries ≡ step shape p.limit old.entries (kept feed.keep a) v = step-along old.entries (inserted c.in-Ok.fresh old.entries) v _ _ _ _ _ _ c.shape_of-shape.ensures.value c.limit-limit.ensures.value (c.chosen-set.ensures ∙ c.in_ok-only.ensures.value) point in
     recorded-here p feed rest a v ss c.record_each-in_default-find.new.series.items old q c.index_mut.result.now c.insert.new.self (inserted c.in-Ok.fresh) stays same c.index_mut.ensures.value
-    ((simp to_z-of_z at c.in_ok-record_each.ensures.ok) ∙ ap (applied p rest a v) e) steps c.insert.ensures
+    ((simp to_z-of_z at c.in_ok-record_each.ensures.value) ∙ ap (applied p rest a v) e) steps c.insert.ensures
     ∙ ap (λ (fs : List Feed). applied p fs a v (entries_of ss)) (sym c.in-Some.ensures.cases.0)
 
-pub returns-in_default-find-clause-fits : goal.returns-in_default-find-clause-fits
-returns-in_default-find-clause-fits t c =
+pub returns-in_default-find-clause-ok : goal.returns-in_default-find-clause-ok
+returns-in_default-find-clause-ok t c =
     let p = c.args.plan.now in
     let a = c.args.attrs.now in
     let v = c.args.value in
@@ -323,7 +323,7 @@ returns-in_default-find-clause-fits t c =
     let e = same_entries ss feed.stream q old was same in
     let ok = new-fits shape old.entries b v fit gone in
     let first = first-rest p a v ss old q feed rest c.args.feeds.now c.in-Some.ensures.cases.0 fits.0 was same ok in
-    first ∙ (simp to_z-of_z at c.in_ok-record_each.ensures.fits)
+    first ∙ (simp to_z-of_z at c.in_ok-record_each.ensures.ok)
 
 pub returns-in_default-find-clause-others : goal.returns-in_default-find-clause-others
 returns-in_default-find-clause-others t c = λ m l.
@@ -472,8 +472,8 @@ add-requires-clause-in_range t c =
     (subst (λ (s : Stored). is_out_of_range (recorded (bounds_of c.shape_of-shape.result.now) (payload_in c.shape_of-shape.result.now s.entries i) v) ≡ false) (sym here)
     (told c.shape_of-shape.result.now ∙ ap not c.if-not-takes.false))
 
-pub returns-clause-ok : goal.returns-clause-ok
-returns-clause-ok t c =
+pub returns-clause-value : goal.returns-clause-value
+returns-clause-value t c =
     let p = c.args.plan.now in
     let a = c.args.attrs.now in
     let v = c.args.value in
@@ -496,12 +496,12 @@ returns-clause-ok t c =
     let here = unmoved p feed rest a v ss c.record_each-2.new.series.items old old now old (λ es. es) stays refl c.index_mut-2.ensures.value in
     let done : Points → Points = λ es. set_value_at es i (recorded (bounds_of shape) (payload_in shape es i) v) in
     recorded-here p feed rest a v ss c.record_each-2.new.series.items old old now c.add.new.self done stays refl c.index_mut-2.ensures.value
-    ((simp to_z-of_z at c.in_ok-record_each-2.ensures.ok) ∙ ap (applied p rest a v) (same_entries ss feed.stream old old was refl)) (add_under-held shape old.entries b v i at)
+    ((simp to_z-of_z at c.in_ok-record_each-2.ensures.value) ∙ ap (applied p rest a v) (same_entries ss feed.stream old old was refl)) (add_under-held shape old.entries b v i at)
     ((simp to_z-of_z at c.add.ensures) ∙ ap (λ (s : Shape). set_value_at now.entries i (recorded (bounds_of s) (payload_in s now.entries i) v)) c.shape_of-shape.ensures.value)
     ∙ ap (λ (fs : List Feed). applied p fs a v (entries_of ss)) (sym c.in-Some.ensures.cases.0)
 
-pub returns-clause-fits : goal.returns-clause-fits
-returns-clause-fits t c =
+pub returns-clause-ok : goal.returns-clause-ok
+returns-clause-ok t c =
     let p = c.args.plan.now in
     let a = c.args.attrs.now in
     let v = c.args.value in
@@ -519,7 +519,7 @@ returns-clause-fits t c =
     let told = simp to_z-of_z at c.takes.ensures in
     let ok = range-there shape old.entries b v i false at (told shape ∙ ap not c.if-not-takes.false) in
     let first = first-rest p a v ss old old feed rest c.args.feeds.now c.in-Some.ensures.cases.0 fits.0 was refl ok in
-    first ∙ (simp to_z-of_z at c.in_ok-record_each-2.ensures.fits)
+    first ∙ (simp to_z-of_z at c.in_ok-record_each-2.ensures.ok)
 
 pub returns-clause-others : goal.returns-clause-others
 returns-clause-others t c = λ m l.

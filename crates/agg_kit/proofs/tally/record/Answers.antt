@@ -103,8 +103,8 @@ pub returns-then-not-try_add-clause-unchanged : goal.returns-then-not-try_add-cl
 returns-then-not-try_add-clause-unchanged c =
     same_entries c.args.series.now.items c.in-Some.stream c.try_add.new.self c.index_mut-points.result.now c.index_mut-points.ensures.value (c.try_add.ensures.kept c.if-not-try_add.true)
 
-pub returns-clause-ok : goal.returns-clause-ok
-returns-clause-ok c =
+pub returns-clause-value : goal.returns-clause-value
+returns-clause-value c =
     let p = c.args.plan.now in
     let a = c.args.attrs.now in
     let v = c.args.value in
@@ -128,8 +128,8 @@ returns-clause-ok c =
     ((simp to_z-of_z at c.try_add.ensures.added) c.if-not-try_add.false ∙ ap (λ (s : Shape). set_value_at points.entries i (recorded (bounds_of s) (payload_in s points.entries i) v)) c.shape_of-shape.ensures.value)
     ∙ ap (λ (fs : List Feed). applied p fs a v (entries_of ss)) (sym is)
 
-pub returns-clause-fits : goal.returns-clause-fits
-returns-clause-fits c =
+pub returns-clause-ok : goal.returns-clause-ok
+returns-clause-ok c =
     let p = c.args.plan.now in
     let a = c.args.attrs.now in
     let v = c.args.value in

@@ -1,8 +1,8 @@
 use Rattle.std.proofs.Common.{◌∙◌, [], ap, sym, subst, replicate}
+use Rattle.agg_kit.specs.Feeds.{entries_of}
 use Rattle.agg_kit.specs.Sound.{AllSound}
-use Rattle.agg_kit.proofs.Laws.{rounds_have_fed}
 use Rattle.agg_kit.proofs.Records.{sound-nothing}
-use Rattle.agg_kit.proofs.Rounds.{round-none}
+use Rattle.agg_kit.proofs.Rounds.{begins}
 use Rattle.agg_kit.proofs.tally.Tally.new.Goals as goal
 
 pub invariant_of-result : goal.invariant_of-result
@@ -12,17 +12,5 @@ invariant_of-result c = record {
   lone_is = c.in_ok-lone.ensures;
 }
 
-pub returns-clause-stands : goal.returns-clause-stands
-returns-clause-stands c = c.in_ok-series.ensures ∙ ap (λ n. replicate n []) c.streams_len.ensures.len ∙ sym (round-none c.args.plan)
-
-pub returns-in_err-overflow-clause-fed : goal.returns-in_err-overflow-clause-fed
-returns-in_err-overflow-clause-fed c = rounds_have_fed
-
-pub returns-in_err-lone-clause-fed : goal.returns-in_err-lone-clause-fed
-returns-in_err-lone-clause-fed c = rounds_have_fed
-
-pub returns-in_err-series-clause-fed : goal.returns-in_err-series-clause-fed
-returns-in_err-series-clause-fed c = rounds_have_fed
-
-pub returns-clause-fed : goal.returns-clause-fed
-returns-clause-fed c = rounds_have_fed
+pub returns : goal.returns
+returns c = record { value = begins c.args.plan (entries_of c.in_ok-series.series.items) c.streams_len.result c.in_ok-series.ensures c.streams_len.ensures.len }

@@ -1,7 +1,10 @@
 use Rattle.std.proofs.Common.{◌∙◌, [], ap, sym, subst, replicate}
+use Rattle.agg_kit.specs.Feeds.{entries_of}
+use Rattle.agg_kit.specs.Measuring.{empty_tally}
 use Rattle.agg_kit.specs.Sound.{AllSound}
+use Rattle.agg_kit.specs.Tallies.{Tallied}
 use Rattle.agg_kit.proofs.Records.{sound-nothing}
-use Rattle.agg_kit.proofs.Rounds.{round-none}
+use Rattle.agg_kit.proofs.Rounds.{begins}
 use Rattle.agg_kit.proofs.tally.Tally.restart.Goals as goal
 
 pub invariant_of-self : goal.invariant_of-self
@@ -11,5 +14,7 @@ invariant_of-self c = record {
   lone_is = c.self.invariant.lone_is;
 }
 
-pub returns-clause-stands : goal.returns-clause-stands
-returns-clause-stands c = c.in_ok-series.ensures ∙ ap (λ n. replicate n []) c.streams_len.ensures.len ∙ sym (round-none c.self.inside.plan)
+pub returns-clause-value : goal.returns-clause-value
+returns-clause-value c =
+    begins c.self.inside.plan (entries_of c.in_ok-series.series.items) c.streams_len.result c.in_ok-series.ensures c.streams_len.ensures.len
+    ∙ ap (λ (t : Tallied). empty_tally t.plan) c.self.view_is

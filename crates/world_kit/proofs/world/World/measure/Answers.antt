@@ -48,8 +48,8 @@ returns-clause-ok c =
     let its = c.in_default.ensures in
     let fits : FitsSigned w64 c.args.value = search rules in
     let accepts = simp to_z-of_z at its.ok in
-    let grows = simp to_z-of_z at its.value in
-    seen_as _ _ _ _ _ c.self.view_is (measures w c.args.writer x at_v c.measure.new.self c.args.instrument c.args.attrs.now c.args.value accepts grows its.plan its.rest)
+    let same = simp to_z-of_z at its.value in
+    seen_as _ _ _ _ _ c.self.view_is (measures w c.args.writer x at_v c.measure.new.self c.args.instrument c.args.attrs.now c.args.value accepts same)
 
 -- what is no refusal is want of memory
 memory_of : (f : MeasureFault) → measure_refusal f ≡ None → f ≡ Refused NoMemory
@@ -68,6 +68,5 @@ returns-in_err-told_measure-clause-no_memory c =
     let its = c.in-Err.ensures in
     let memory = memory_of c.in-Err.fault c.in_err-told_measure.ensures.no_memory in
     let fits : FitsSigned w64 c.args.value = search rules in
-    let early = simp to_z-of_z at (its.short memory) in
-    let whole = simp to_z-of_z at its.no_memory in
-    wants_as _ _ _ _ c.self.view_is (measure_wants (world.the_view c.self.inside) c.args.writer x at_v c.args.instrument c.args.attrs.now c.args.value early (λ all. whole all memory))
+    let early = simp to_z-of_z at (its.no_memory memory) in
+    wants_as _ _ _ _ c.self.view_is (measure_wants (world.the_view c.self.inside) c.args.writer x at_v c.args.instrument c.args.attrs.now c.args.value early)

@@ -40,7 +40,7 @@ returns-clause-ok c =
     let x = c.index_mut.result.now in
     let at_v = slice_get_read writers (length writers) c.args.writer x refl there c.index_mut.ensures.value in
     let its = c.in_default.ensures in
-    seen_as _ _ _ _ _ c.self.view_is (restarts w c.args.writer x at_v c.args.start c.restart.new.self its.ok its.value its.plan its.rest)
+    seen_as _ _ _ _ _ c.self.view_is (restarts w c.args.writer x at_v c.args.start c.restart.new.self its.ok its.value)
 
 -- what is no refusal is want of memory
 memory_of : (f : RestartFault) → restart_refusal f ≡ None → f ≡ NoMemory

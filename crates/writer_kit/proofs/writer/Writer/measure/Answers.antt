@@ -1,16 +1,14 @@
 use Rattle.std.proofs.Common.{◌≡◌, ◌≢◌, Some, None, IfErr, subst, FitsSigned, w64}
 use Rattle.std.proofs.lemmas.Int.{to_z-of_z}
 use Rattle.agg_kit.specs.Entries.{Entry, entry_of}
-use Rattle.agg_kit.specs.declared.fault.MeasureFault.TheVariants as tallies
-use Rattle.writer_kit.specs.Refusals.{fault_now, early_fault}
+use Rattle.writer_kit.specs.Refusals.{no_memory, fault_now, early_fault}
 use Rattle.writer_kit.specs.Written.{Written}
-use Rattle.writer_kit.specs.declared.fault.MeasureFault.TheVariants as measure
 use Rattle.writer_kit.proofs.Refusals.{all_told, all_short, none_told}
 use Rattle.writer_kit.proofs.writer.Writer.measure.Goals as goal
 use Rattle.writer_kit.proofs.writer.Writer.measure.Goals.{in-Ok, in-Err}
 
-pub returns-clause-told : goal.returns-clause-told
-returns-clause-told c =
+pub returns-clause-err : goal.returns-clause-err
+returns-clause-err c =
     let e : Entry = entry_of c.args.instrument c.args.attrs.now c.args.value in
     let r = c.match-measure.result in
     elim c.match-measure.branch [
@@ -18,13 +16,13 @@ returns-clause-told c =
       | in-Err w ↦
           let seen : Written = record { id = c.self.inside.id; tally = c.self.inside.tally; start = c.self.inside.start; last = c.self.inside.last; closed = c.self.inside.closed } in
           let small : FitsSigned w64 c.args.value = c.ranges.value in
-          let told = simp to_z-of_z at w.in-Err.ensures.told in
-          subst (λ (x : Written). IfErr r (λ f. f ≢ measure.Refused tallies.NoMemory → fault_now x e ≡ Some f)) c.self.view_is
+          let told = simp to_z-of_z at w.in-Err.ensures.err in
+          subst (λ (x : Written). IfErr r (λ f. f ≢ no_memory → fault_now x e ≡ Some f)) c.self.view_is
           (all_told seen e r w.in-Err.fault w.result-is c.if-self.false told)
     ]
 
-pub returns-clause-short : goal.returns-clause-short
-returns-clause-short c =
+pub returns-clause-no_memory : goal.returns-clause-no_memory
+returns-clause-no_memory c =
     let e : Entry = entry_of c.args.instrument c.args.attrs.now c.args.value in
     let r = c.match-measure.result in
     elim c.match-measure.branch [
@@ -32,7 +30,7 @@ returns-clause-short c =
       | in-Err w ↦
           let seen : Written = record { id = c.self.inside.id; tally = c.self.inside.tally; start = c.self.inside.start; last = c.self.inside.last; closed = c.self.inside.closed } in
           let small : FitsSigned w64 c.args.value = c.ranges.value in
-          let short = simp to_z-of_z at w.in-Err.ensures.short in
-          subst (λ (x : Written). IfErr r (λ f. f ≡ measure.Refused tallies.NoMemory → early_fault x e ≡ None)) c.self.view_is
+          let short = simp to_z-of_z at w.in-Err.ensures.no_memory in
+          subst (λ (x : Written). IfErr r (λ f. f ≡ no_memory → early_fault x e ≡ None)) c.self.view_is
           (all_short seen e r w.in-Err.fault w.result-is c.if-self.false short)
     ]

@@ -1,0 +1,36 @@
+//! What a writer's steps mean for its schedule.
+ghost use Rattle.std.specs.Prelude.{◌≡◌, ℕ, Bool, None, List, [], ◌∷◌};
+ghost use Rattle.agg_kit.specs.Entries.{Entry};
+ghost use Rattle.agg_kit.specs.Feeds.{AllWhole};
+ghost use Rattle.agg_kit.specs.Rounds.{StandsFor};
+ghost use Rattle.plan_kit.specs.Plans.{Planned, feeds_of};
+ghost use Rattle.point_kit.specs.declared.writer_id.WriterId.{WriterId};
+ghost use Rattle.schedule_kit.specs.Schedule.Act.{Measured, Collected, Restarted};
+ghost use Rattle.writer_kit.specs.Following.{Follows, round_of};
+ghost use Rattle.writer_kit.specs.Recording.{new_writer, recorded, after_collect, after_restart, round_now};
+ghost use Rattle.writer_kit.specs.Refusals.{measure_fault, fault_now, early_fault, collect_fault, restart_fault};
+ghost use Rattle.writer_kit.specs.Schedules.{Act, collected};
+ghost use Rattle.writer_kit.specs.Written.{Written};
+
+/// The steps of a writer are events of its schedule: a new writer follows none, one that follows events follows after a
+/// step these events and one more, and its round is that of the collection which is read off them.
+#[tactic(auto, using(crate::proofs::Following::starts, crate::proofs::Following::rounds_of))]
+pub fn steps_are_events()
+    ensures starts { (id : WriterId) (plan : Planned) (start : ℕ) → Follows start [] (new_writer id plan start) }
+    ensures measured { (first : ℕ) (acts : List (Act Entry)) (w : Written) (e : Entry) → Follows first acts w
+        → fault_now w e ≡ None → Follows first (Measured e ∷ acts) (recorded w e) }
+    ensures collected { (first : ℕ) (acts : List (Act Entry)) (w : Written) (time : ℕ) (closing : Bool) → Follows first acts w
+        → collect_fault w time ≡ None → Follows first (Collected time closing ∷ acts) (after_collect w time closing) }
+    ensures restarted { (first : ℕ) (acts : List (Act Entry)) (w : Written) (start : ℕ) → Follows first acts w
+        → restart_fault w start ≡ None → Follows first (Restarted start ∷ acts) (after_restart w start) }
+    ensures round { (first : ℕ) (acts : List (Act Entry)) (w : Written) (time : ℕ) → Follows first acts w
+        → round_now w time ≡ round_of w.tally.plan (collected first acts time) }
+{}
+
+/// Whatever recordings a writer's points stand for, it refuses one more as the definition says of these. Where every feed
+/// keeps all keys, nothing is looked for after memory is wanted.
+#[tactic(auto, using(crate::proofs::Refusals::now_is, crate::proofs::Refusals::early_is))]
+pub fn refusals_are_of_recordings()
+    ensures refused { (w : Written) (h : List Entry) (e : Entry) → StandsFor w.tally h → fault_now w e ≡ measure_fault w h e }
+    ensures whole { (w : Written) (e : Entry) → AllWhole (feeds_of w.tally.plan e.instrument) → early_fault w e ≡ fault_now w e }
+{}
