@@ -1,20 +1,23 @@
 #!/usr/bin/env python3
-"""The scripts of examples/, and what each prints; and how the program ends otherwise.
+"""The scripts of examples/ and of the docs, and what each prints; how the program ends otherwise; and what the docs quote.
 
 The proved program `otm run` is given each examples/NAME.otm, and must write examples/NAME.out, byte for byte, and end with
-status 0. Then it is given what it does not do to the end: a bad line, a script that is too long, words that it refuses, an
+status 0. So it must of each script in PAGES, fenced as `otm`, of which the next block, fenced as `table`, has what it writes. Then it is given what it does not do to the end: a bad line, a script that is too long, words that it refuses, an
 input that cannot be read, an output that cannot be written. There its status and both its streams are told
 below. `rt ci` leaves the program in crates/otm/out, as each of two compilers builds it, and `rt run` as the first does: every
-build that lies there does all of it. This ends with a status other than 0 where one differs, or where there is no program or
-no script."""
+build that lies there does all of it. What PAGES quote of crates/uses must stand there: a comment `<!-- FILE: fn NAME -->` names
+what the next block, fenced as `rust`, has whole, and `, body` after it asks for the lines between its braces. This ends with
+a status other than 0 where one differs, or where there is no program or no script."""
 import os
 import pathlib
+import re
 import subprocess
 import sys
 
 TOP = pathlib.Path(__file__).resolve().parents[2]
 BUILDS = ("otm", "otm.by-rattle")
 SECONDS = 60
+PAGES = ("README.md", "docs/GUIDE.md", "docs/SCRIPTS.md")
 
 NO_COMMAND = b"""error: 'otm' requires a subcommand but one was not provided
   [subcommands: run, fleet, help]
@@ -82,8 +85,42 @@ def unwritten(program):
         return ended(program, ["run"], (4, None, b"write failed\n"), input=LARGE, stdout=full)
 
 
+def told_scripts():
+    """Each script that a page tells, by the page and its place there, and what the page says that it writes."""
+    for page in PAGES:
+        blocks = re.findall(r"^```otm\n(.*?)^```$(.*?)^```table\n(.*?)^```$", (TOP / page).read_text(), re.S | re.M)
+        for place, (script, between, table) in enumerate(blocks, 1):
+            assert "```" not in between, f"{page}: a script without a table behind it"
+            yield f"{page}, script {place}", script.encode(), table.encode()
+
+
+def function_of(text, name, body):
+    """The lines of what stands under this name, its comment and attributes left out; or of its body alone, moved to the left."""
+    whole = re.search(rf"^((?:pub )?{name}\b.*?^)}}$", text, re.S | re.M)
+    if whole is None:
+        return None
+    if not body:
+        return whole.group(1) + "}\n"
+    lines = whole.group(1).split("\n{\n", 1)[1].splitlines()
+    return "".join(line.removeprefix("    ") + "\n" for line in lines)
+
+
+def quotes():
+    """Each quotation of a page, and what is wrong with it, or an empty text."""
+    for page in PAGES:
+        text = (TOP / page).read_text()
+        marks = re.findall(r"^<!-- (\S+): ([\w ]+)(, body)? -->\n\n?```rust\n(.*?)^```$", text, re.S | re.M)
+        if len(marks) != text.count("```rust"):
+            yield page, "a quotation that names no function"
+        for file, name, body, quoted in marks:
+            stands = function_of((TOP / file).read_text(), name, bool(body))
+            yield f"{page}: {name}", "" if stands == quoted else f"{file} has {stands!r}"
+
+
 def cases(program):
     """Each case's name, and what the program does otherwise."""
+    for name, script, table in told_scripts():
+        yield name, ended(program, ["run"], (0, table, b""), input=script)
     for script in sorted((TOP / "examples").glob("*.otm")):
         wanted = (0, script.with_suffix(".out").read_bytes(), b"")
         yield f"examples/{script.name}", ended(program, ["run"], wanted, input=script.read_bytes())
@@ -98,6 +135,9 @@ def main():
     failed = not list((TOP / "examples").glob("*.otm")) or not any(path.name == BUILDS[0] for path in programs)
     if failed:
         print("NO PROGRAM OR NO SCRIPT: rt ci, or rt run in crates/otm, makes the program")
+    for name, told in quotes():
+        failed = failed or bool(told)
+        print(f"{name}: {'NOT AS TOLD: ' + told if told else 'as told'}")
     for program in programs:
         for name, told in cases(program):
             failed = failed or bool(told)
