@@ -2,12 +2,15 @@
 """The scripts of examples/ and of the docs, and what each prints; how the program ends otherwise; and what the docs quote.
 
 The proved program `otm run` is given each examples/NAME.otm, and must write examples/NAME.out, byte for byte, and end with
-status 0. So it must of each script in PAGES, fenced as `otm`, of which the next block, fenced as `table`, has what it writes. Then it is given what it does not do to the end: a bad line, a script that is too long, words that it refuses, an
-input that cannot be read, an output that cannot be written. There its status and both its streams are told
-below. `rt ci` leaves the program in crates/otm/out, as each of two compilers builds it, and `rt run` as the first does: every
-build that lies there does all of it. What PAGES quote of crates/uses must stand there: a comment `<!-- FILE: fn NAME -->` names
-what the next block, fenced as `rust`, has whole, and `, body` after it asks for the lines between its braces. This ends with
-a status other than 0 where one differs, or where there is no program or no script."""
+status 0. So it must of each script in PAGES, fenced as `otm`: the next block, fenced as `table`, has what it writes. Then it is
+given what it does not do to the end: a bad line, a script that is too long, words that it refuses, an input that cannot be
+read, an output that cannot be written. There its status and both its streams are told below. `rt ci` leaves the program in
+crates/otm/out, as each of two compilers builds it, and `rt run` as the first does: every build that lies there does all of it.
+
+What PAGES quote of crates/uses must stand there: a comment `<!-- FILE: fn NAME -->` names what the next block, fenced as
+`rust`, has whole, and `, body` after it asks for the lines between its braces.
+
+This ends with a status other than 0 where one differs, or where there is no program or no script."""
 import os
 import pathlib
 import re
