@@ -2,10 +2,12 @@
 """The scripts of examples/ and of the docs, and what each prints; how the program ends otherwise; and what the docs quote.
 
 The proved program `otm run` is given each examples/NAME.otm, and must write examples/NAME.out, byte for byte, and end with
-status 0. So it must of each script in PAGES, fenced as `otm`: the next block, fenced as `table`, has what it writes. Then it is
-given what it does not do to the end: a bad line, a script that is too long, words that it refuses, an input that cannot be
-read, an output that cannot be written. There its status and both its streams are told below. `rt ci` leaves the program in
-crates/otm/out, as each of two compilers builds it, and `rt run` as the first does: every build that lies there does all of it.
+status 0. So it must with each NAME.otm of tests/examples/rows, of which those that have a bad line end with status 1: the last
+line of their NAME.out says which. So it must with each script in PAGES, fenced as `otm`: the next block, fenced as `table`, has
+what it writes. Then it is given what it does not do to the end: a bad line, a script that is too long, words that it refuses,
+an input that cannot be read, an output that cannot be written. There its status and both its streams are told below. `rt ci`
+leaves the program in crates/otm/out, as each of two compilers builds it, and `rt run` as the first does: every build that lies
+there does all of it.
 
 What PAGES quote of crates/uses must stand there: a comment `<!-- FILE: fn NAME -->` names what the next block, fenced as
 `rust`, has whole, and `, body` after it asks for the lines between its braces.
@@ -18,6 +20,8 @@ import subprocess
 import sys
 
 TOP = pathlib.Path(__file__).resolve().parents[2]
+ROWS = pathlib.Path(__file__).resolve().parent / "rows"
+BAD_END = re.compile(rb"(?:.*\n)?line [0-9]+\n", re.S)
 BUILDS = ("otm", "otm.by-rattle")
 SECONDS = 60
 PAGES = ("README.md", "docs/GUIDE.md", "docs/SCRIPTS.md")
@@ -33,6 +37,13 @@ For more information, try '--help'.
 WRONG_COMMAND = b"""error: unrecognized subcommand 'garbage'
 
 Usage: otm <COMMAND>
+
+For more information, try '--help'.
+
+"""
+WORD_BEHIND = b"""error: unexpected argument 'extra' found
+
+Usage: otm run
 
 For more information, try '--help'.
 
@@ -56,7 +67,9 @@ ENDS = {
     "a script of a byte more": (["run"], b"#" * 1_048_576 + b"\n", 1, b"too long\n", b""),
     "no command": ([], b"", 2, b"", NO_COMMAND),
     "a wrong command": (["garbage", "run"], b"", 2, b"", WRONG_COMMAND),
+    "a word behind": (["run", "extra"], b"", 2, b"", WORD_BEHIND),
     "help": (["--help"], b"", 2, b"", HELP),
+    "help by its word": (["help"], b"", 2, b"", HELP),
     "a word that is no text": ([b"\xff"], b"", 2, b"", b"the words are no text\n"),
 }
 
@@ -124,9 +137,10 @@ def cases(program):
     """Each case's name, and what the program does otherwise."""
     for name, script, table in told_scripts():
         yield name, ended(program, ["run"], (0, table, b""), input=script)
-    for script in sorted((TOP / "examples").glob("*.otm")):
-        wanted = (0, script.with_suffix(".out").read_bytes(), b"")
-        yield f"examples/{script.name}", ended(program, ["run"], wanted, input=script.read_bytes())
+    for script in [*sorted((TOP / "examples").glob("*.otm")), *sorted(ROWS.glob("*.otm"))]:
+        text = script.with_suffix(".out").read_bytes()
+        wanted = (1 if script.parent == ROWS and BAD_END.fullmatch(text) else 0, text, b"")
+        yield str(script.relative_to(TOP)), ended(program, ["run"], wanted, input=script.read_bytes())
     for name, (words, given, *wanted) in ENDS.items():
         yield name, ended(program, words, tuple(wanted), input=given)
     yield "an input that cannot be read", unread(program)
@@ -135,7 +149,7 @@ def cases(program):
 
 def main():
     programs = [path for path in (TOP / "crates" / "otm" / "out" / name for name in BUILDS) if path.is_file()]
-    failed = not list((TOP / "examples").glob("*.otm")) or not any(path.name == BUILDS[0] for path in programs)
+    failed = not list((TOP / "examples").glob("*.otm")) or not list(ROWS.glob("*.otm")) or not any(path.name == BUILDS[0] for path in programs)
     if failed:
         print("NO PROGRAM OR NO SCRIPT: rt ci, or rt run in crates/otm, makes the program")
     for name, told in quotes():

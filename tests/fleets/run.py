@@ -20,6 +20,8 @@ TOTALS = [
     ([], 2, 4_000),
     (["--writers", "2", "--recorders", "3", "--each", "1000", "--gateways", "2"], 2, 6_000),
     (["--each", "0"], 2, 0),
+    (["--writers", "1", "--recorders", "2", "--each", "0"], 2, 0),
+    (["--writers", "8", "--recorders=3", "--each", "0", "--gateways", "1"], 1, 0),
     (["--each=1", "--writers=8", "--recorders=8", "--gateways=8"], 8, 64),
 ]
 
@@ -36,6 +38,7 @@ REFUSED = [
     ["--each"],
     ["--writer", "1"],
     ["run"],
+    ["writers", "2"],
 ]
 
 

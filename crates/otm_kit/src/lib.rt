@@ -23,8 +23,6 @@ mod labels;
 mod refusals;
 mod running;
 mod script;
-#[cfg(test)]
-mod tests;
 mod words;
 
 pub use fleet::fleet_report;
