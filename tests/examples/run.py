@@ -73,6 +73,41 @@ ENDS = {
     "a word that is no text": ([b"\xff"], b"", 2, b"", b"the words are no text\n"),
 }
 
+UUID = b"00000000-0000-0000-0000-000000000001"
+COUNTER = b"instrument c counter app requests 1\nwriter a shop " + UUID + b" 100\ngateway 1\n"
+HEADER = b"attributes  points  conflicts  total\n"
+MANY = 10_000
+
+# Lines that are none of the grammar: as the first line, and behind `begin`.
+BAD_LINES = [
+    b" ", b"begin ", b" begin", b"begin\r", b"gateway\t1", b"gateway  1", b"gateway 01", b"gateway 4294967296", b"gateway -0", b"gateway +1",
+    b"limit 18446744073709551616", b"writer A shop " + UUID + b" 100", b"writer abcdefghijklmnopq shop " + UUID + b" 100",
+    b"writer a shop " + UUID[:-1] + b" 100", b"instrument c counter app x", b"instrument c summary app x 1", b"view * * * - a,,b default",
+    b"view * * * - * buckets:1,", b"view * * * - * buckets", b"unknown",
+]
+BAD_COMMANDS = [
+    b"measure a c 9223372036854775808 -", b"measure a c -0 -", b"measure a c 05 -", b"measure a c 5 route", b"measure a c 5 =x",
+    b"measure a c 5 a=1,", b"report 1 app requests 1 sum- * - *", b"unknown",
+]
+
+
+def many_streams():
+    """Many counters, each under a view of its own, and the total of the last. A walk over all pairs would be seen here."""
+    lines = [b"instrument i%d counter app name_%d 1\nview name_%d * * - * sum\n" % (number, number, number) for number in range(MANY)]
+    ends = b"writer a shop " + UUID + b" 100\ngateway 1\nbegin\nmeasure a i%d 7 -\ncollect a 200\ndeliver 1 1\n" % (MANY - 1)
+    script = b"".join(lines) + ends + b"report 1 app name_%d 1 sum+ * - *\n" % (MANY - 1)
+    return script, HEADER + b"{}               1          0  7\n"
+
+
+def many_points():
+    """Many points of one stream, in one row and each in a row of its own."""
+    lines = [b"measure a c %d n=%d\n" % (number, number) for number in range(MANY)]
+    ends = b"collect a 200\ndeliver 1 1\nreport 1 app requests 1 sum+ * - -\nreport 1 app requests 1 sum+ * - *\n"
+    script = COUNTER + b"limit %d\nbegin\n" % MANY + b"".join(lines) + ends
+    rows = [b"%-10s       1          0  %d\n" % (b"{n=%d}" % number, number) for number in range(MANY)]
+    return script, HEADER + b"{}           10000          0  49995000\n" + HEADER + b"".join(rows)
+
+
 # A script of some length, that prints a line.
 LARGE = b"gateway 1\nbegin\n" + b"#" * 1_000_000 + b"\nconflicts 1\n"
 
@@ -141,6 +176,13 @@ def cases(program):
         text = script.with_suffix(".out").read_bytes()
         wanted = (1 if script.parent == ROWS and BAD_END.fullmatch(text) else 0, text, b"")
         yield str(script.relative_to(TOP)), ended(program, ["run"], wanted, input=script.read_bytes())
+    for line in BAD_LINES:
+        yield f"{line}", ended(program, ["run"], (1, b"line 1\n", b""), input=line + b"\n")
+    for line in BAD_COMMANDS:
+        yield f"{line}, after begin", ended(program, ["run"], (1, b"line 5\n", b""), input=COUNTER + b"begin\n" + line + b"\n")
+    for made in (many_streams, many_points):
+        script, text = made()
+        yield made.__name__, ended(program, ["run"], (0, text, b""), input=script)
     for name, (words, given, *wanted) in ENDS.items():
         yield name, ended(program, words, tuple(wanted), input=given)
     yield "an input that cannot be read", unread(program)
