@@ -13,8 +13,6 @@ mod pieces;
 mod queries;
 mod shapes;
 mod streams;
-#[cfg(test)]
-mod tests;
 mod words;
 
 pub use fault::ScriptFault;
