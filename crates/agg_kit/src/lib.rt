@@ -6,8 +6,6 @@ mod laws;
 mod payload;
 mod series;
 mod tally;
-#[cfg(test)]
-mod tests;
 
 pub use fault::MeasureFault;
 pub use laws::{rounds_have_what_was_fed, steps_are_recordings};
