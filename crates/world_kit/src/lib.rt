@@ -16,8 +16,6 @@ mod gather;
 mod laws;
 mod replaying;
 mod setup;
-#[cfg(test)]
-mod tests;
 mod world;
 mod write;
 
