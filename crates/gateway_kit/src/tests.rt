@@ -1,6 +1,3 @@
-//! What no clause says: worked deliveries and merges, and a plain slow gateway beside the real one.
-mod beside;
+//! What no clause says: an incarnation among others, and what threads do at once.
 pub mod builders;
 mod deliveries;
-mod merges;
-mod plain;

@@ -1,10 +1,10 @@
-//! Shared gateways: takes and merges in several orders, limits, seats, and two threads at once.
+//! Shared gateways: seats, a turn that is held, and two threads at once.
 ghost use Rattle.std.specs.Prelude.{◌≡◌, IfOk};
 ghost use Rattle.gateway_kit.specs.Shared.{IsAt};
 ghost use denote.Param.Send.{IsSync};
 
 use super::*;
-use crate::tests::builders::{holds, single, told};
+use crate::tests::builders::{single, told};
 use attr_kit::NoMemory;
 use point_kit::Export;
 use std::sync::Wait;
@@ -42,102 +42,6 @@ impl Served {
             Err(_) => Err("not shared".into()),
         }
     }
-
-    fn takes(&mut self, export: &Export) -> Result<u64, ChangeFault<NoMemory>> {
-        self.shared.try_take(&mut self.seat, export)
-    }
-
-    fn merges(&mut self, other: &Gateway) -> Result<u64, ChangeFault<NoMemory>> {
-        self.shared.try_merge(&mut self.seat, other)
-    }
-
-    // A copy of what is held.
-    fn held(&mut self) -> Result<Gateway, Fail> {
-        match self.shared.try_look(&mut self.seat, Copied) {
-            Ok(copy) => Ok(copy?),
-            Err(_) => Err("no look".into()),
-        }
-    }
-
-    // Whether a look finds this time and total of the first writer since 100.
-    fn has(&mut self, alloc: Global, time: u64, total: i64) -> Result<bool, Fail> {
-        holds(alloc, &self.held()?, 1, 100, time, Some(total))
-    }
-}
-
-#[test]
-fn a_limit_of_none_is_refused(rt: HostRuntime) -> Result<(), Fail> {
-    let alloc = rt.alloc();
-    let Err((gateway, fault)) = SharedGateway::new(alloc, Gateway::new(alloc, 7), 0) else {
-        return Err("shared".into());
-    };
-    assert!(rt; fault == TurnFault::BadLimit && gateway.id() == 7);
-    Ok(())
-}
-
-#[test]
-fn the_third_take_is_exhausted(rt: HostRuntime) -> Result<(), Fail> {
-    let early = single(rt.alloc(), 1, 100, 200, 7)?;
-    let late = single(rt.alloc(), 1, 100, 300, 12)?;
-    let mut served = Served::open(rt.alloc(), 2)?;
-    assert!(rt; served.takes(&early) == Ok(1));
-    assert!(rt; served.takes(&early) == Ok(0));
-    assert!(rt; served.takes(&late) == Err(ChangeFault::Exhausted));
-    assert!(rt; served.has(rt.alloc(), 200, 7)?);
-    Ok(())
-}
-
-#[test]
-fn a_late_export_changes_nothing(rt: HostRuntime) -> Result<(), Fail> {
-    let early = single(rt.alloc(), 1, 100, 200, 7)?;
-    let late = single(rt.alloc(), 1, 100, 300, 12)?;
-    let mut served = Served::open(rt.alloc(), 8)?;
-    assert!(rt; served.takes(&late) == Ok(1));
-    assert!(rt; served.takes(&early) == Ok(0));
-    assert!(rt; served.has(rt.alloc(), 300, 12)?);
-    Ok(())
-}
-
-// What a shared gateway holds that took these exports, the first first.
-fn after_takes(alloc: Global, first: &Export, second: &Export) -> Result<Gateway, Fail> {
-    let mut served = Served::open(alloc, 2)?;
-    if served.takes(first) != Ok(1) || served.takes(second) != Ok(1) {
-        return Err("not taken".into());
-    }
-    served.held()
-}
-
-// What a shared gateway holds that merged these in, the first first.
-fn after_merges(alloc: Global, first: &Gateway, second: &Gateway) -> Result<Gateway, Fail> {
-    let mut served = Served::open(alloc, 2)?;
-    if served.merges(first) != Ok(1) || served.merges(second) != Ok(1) {
-        return Err("not merged".into());
-    }
-    served.held()
-}
-
-// Whether takes of the two leave the same in both orders.
-fn takes_agree(alloc: Global, a: &Export, b: &Export) -> Result<bool, Fail> {
-    let both = after_takes(alloc, a, b)?;
-    Ok(both.same(&after_takes(alloc, b, a)?))
-}
-
-// Whether merges of what took one each leave what takes of the two leave.
-fn merges_agree(alloc: Global, a: &Export, b: &Export) -> Result<bool, Fail> {
-    let of_a = told(alloc, 2, &[a])?;
-    let of_b = told(alloc, 3, &[b])?;
-    let both = after_takes(alloc, a, b)?;
-    Ok(both.same(&after_merges(alloc, &of_a, &of_b)?))
-}
-
-#[test]
-fn takes_and_merges_agree_in_each_order(rt: HostRuntime) -> Result<(), Fail> {
-    let a = single(rt.alloc(), 1, 100, 200, 7)?;
-    let b = single(rt.alloc(), 2, 100, 200, 5)?;
-    assert!(rt; takes_agree(rt.alloc(), &a, &b)?);
-    assert!(rt; merges_agree(rt.alloc(), &a, &b)?);
-    assert!(rt; merges_agree(rt.alloc(), &b, &a)?);
-    Ok(())
 }
 
 /// Asks for the turn that is held, by another seat, and gives that seat back.

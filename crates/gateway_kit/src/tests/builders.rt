@@ -1,9 +1,7 @@
-//! Keys, cells and exports for the tests.
+//! Exports for the tests.
 use crate::Gateway;
 use attr_kit::{AttrSet, AttrValue, NoMemory, Seq, Txt};
-use point_kit::{
-    Cell, Export, ExportPoint, Held, Key, Payload, Shape, SharedStream, Stream, WriterId,
-};
+use point_kit::{Export, ExportPoint, Payload, Shape, SharedStream, Stream, WriterId};
 use std::alloc::Global;
 use std::test::Fail;
 use uuid::Uuid;
@@ -34,14 +32,6 @@ fn numbered(alloc: Global, number: i64) -> Result<AttrSet, NoMemory> {
     AttrSet::single(alloc, Txt::from_str(alloc, "k")?, AttrValue::Whole(number))
 }
 
-/// The number of such attributes, -1 of others.
-pub fn number(attrs: &AttrSet) -> i64 {
-    match attrs.get("k") {
-        Some(AttrValue::Whole(number)) => *number,
-        _ => -1,
-    }
-}
-
 /// A total under the attributes k = number.
 pub fn point(alloc: Global, number: i64, total: i64) -> Result<ExportPoint, NoMemory> {
     Ok(ExportPoint {
@@ -49,30 +39,6 @@ pub fn point(alloc: Global, number: i64, total: i64) -> Result<ExportPoint, NoMe
         attrs: numbered(alloc, number)?,
         payload: Payload::Sum(total),
     })
-}
-
-pub fn key(alloc: Global, number: u128, start: u64, set: i64) -> Result<Key, NoMemory> {
-    Ok(Key {
-        writer: writer(alloc, number)?,
-        start,
-        stream: requests(alloc)?,
-        attrs: numbered(alloc, set)?,
-    })
-}
-
-pub fn cell(time: u64, total: i64) -> Cell {
-    Cell {
-        time,
-        held: Held::One(Payload::Sum(total)),
-    }
-}
-
-/// The total of a cell; none of a conflict.
-pub fn total(cell: &Cell) -> Option<i64> {
-    match &cell.held {
-        Held::One(Payload::Sum(total)) => Some(*total),
-        _ => None,
-    }
 }
 
 pub fn export(
@@ -106,28 +72,6 @@ pub fn told(alloc: Global, id: u32, exports: &[&Export]) -> Result<Gateway, Fail
         gateway.take(export)?;
     }
     Ok(gateway)
-}
-
-/// Whether the gateway takes an export and answers so many changed keys.
-pub fn takes(gateway: &mut Gateway, export: &Export, changed: u64) -> Result<bool, Fail> {
-    Ok(gateway.take(export)? == changed)
-}
-
-/// Whether this is held under the key of a writer's incarnation that `single` tells of: a time and a total, no total of a
-/// conflict.
-pub fn holds(
-    alloc: Global,
-    gateway: &Gateway,
-    number: u128,
-    start: u64,
-    time: u64,
-    wanted: Option<i64>,
-) -> Result<bool, Fail> {
-    let key = key(alloc, number, start, 0)?;
-    Ok(match gateway.find(&key) {
-        Some(cell) => cell.time == time && total(cell) == wanted,
-        None => false,
-    })
 }
 
 /// The time of the newest point of a writer's incarnation.
