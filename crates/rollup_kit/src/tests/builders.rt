@@ -26,14 +26,6 @@ pub fn worded(alloc: Global, key: &str, value: &str) -> Result<(Txt, AttrValue),
     Ok((key, AttrValue::Text(Txt::from_str(alloc, value)?)))
 }
 
-pub fn truth(alloc: Global, key: &str, value: bool) -> Result<(Txt, AttrValue), NoMemory> {
-    Ok((Txt::from_str(alloc, key)?, AttrValue::Truth(value)))
-}
-
-pub fn whole(alloc: Global, key: &str, value: i64) -> Result<(Txt, AttrValue), NoMemory> {
-    Ok((Txt::from_str(alloc, key)?, AttrValue::Whole(value)))
-}
-
 /// The set of one pair.
 pub fn single(alloc: Global, pair: (Txt, AttrValue)) -> Result<AttrSet, Fail> {
     Ok(AttrSet::from_pairs(one(alloc, pair)?)?)

@@ -1,5 +1,5 @@
-//! The printed tables of rows.
-use super::builders::{one, parts_of_row, row, single, truth, two, whole, worded};
+//! Printed tables of rows that no script has.
+use super::builders::{one, parts_of_row, row, single, two, worded};
 use crate::{Row, Total, table};
 use attr_kit::{AttrSet, NoMemory};
 use std::alloc::Global;
@@ -9,23 +9,6 @@ use std::test::Fail;
 fn prints(alloc: Global, rows: Vec<Row>, wanted: &str) -> Result<bool, NoMemory> {
     let printed = table(alloc, rows.as_slice())?;
     Ok(printed.as_str() == wanted)
-}
-
-#[test]
-fn no_rows_print_the_header(rt: HostRuntime) -> Result<(), Fail> {
-    let alloc = rt.alloc();
-    let wanted = "attributes  points  conflicts  total\n";
-    assert!(rt; prints(alloc, Vec::new(alloc), wanted)?);
-    Ok(())
-}
-
-#[test]
-fn an_empty_set_is_two_braces(rt: HostRuntime) -> Result<(), Fail> {
-    let alloc = rt.alloc();
-    let rows = one(alloc, row(AttrSet::empty(alloc), Total::Sum(7), 1, 0))?;
-    let wanted = "attributes  points  conflicts  total\n{}               1          0  7\n";
-    assert!(rt; prints(alloc, rows, wanted)?);
-    Ok(())
 }
 
 #[test]
@@ -51,30 +34,6 @@ fn prints_set(alloc: Global, attrs: AttrSet, wanted: &str) -> Result<bool, NoMem
         one(alloc, row(attrs, Total::Gauge(None), 0, 1))?,
         wanted,
     )
-}
-
-#[test]
-fn truths_and_plain_keys(rt: HostRuntime) -> Result<(), Fail> {
-    let alloc = rt.alloc();
-    let pairs = two(
-        alloc,
-        truth(alloc, "a.b_c-d/E9", true)?,
-        truth(alloc, "b c", false)?,
-    )?;
-    let wanted = "attributes                     points  conflicts  total\n\
-                  {a.b_c-d/E9=true,\"b c\"=false}       0          1  -\n";
-    assert!(rt; prints_set(alloc, AttrSet::from_pairs(pairs)?, wanted)?);
-    Ok(())
-}
-
-#[test]
-fn numbers_and_empty_texts(rt: HostRuntime) -> Result<(), Fail> {
-    let alloc = rt.alloc();
-    let pairs = two(alloc, whole(alloc, "n", i64::MIN)?, worded(alloc, "t", "")?)?;
-    let wanted = "attributes                     points  conflicts  total\n\
-                  {n=-9223372036854775808,t=\"\"}       0          1  -\n";
-    assert!(rt; prints_set(alloc, AttrSet::from_pairs(pairs)?, wanted)?);
-    Ok(())
 }
 
 #[test]
