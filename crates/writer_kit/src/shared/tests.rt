@@ -1,4 +1,4 @@
-//! Shared writers: limits, seats and notes, and three threads that record while a fourth collects.
+//! Shared writers: seats and notes, and three threads that record while a fourth collects.
 ghost use Rattle.std.specs.Prelude.{IfOk};
 ghost use Rattle.writer_kit.specs.Shared.{IsAt};
 ghost use denote.Param.Send.{IsSync};
@@ -6,7 +6,6 @@ ghost use denote.Param.Send.{IsSync};
 use super::*;
 use crate::tests::{counting_from, held};
 use crate::{CollectFault, MeasureFault};
-use agg_kit::MeasureFault as TallyFault;
 use attr_kit::AttrSet;
 use bumpalo::Bump;
 use round_kit::{Round, RoundPayload};
@@ -98,37 +97,6 @@ fn collects(
         Ok(round) => Ok(total(&round)),
         Err(fault) => Err(fault),
     }
-}
-
-#[test]
-fn a_limit_of_none_is_refused(rt: HostRuntime) -> Result<(), Fail> {
-    let writer = counting_from(rt.alloc(), 100)?;
-    let Err((writer, fault)) = SharedWriter::new(rt.alloc(), writer, 0) else {
-        return Err("shared".into());
-    };
-    assert!(rt; fault == TurnFault::BadLimit && writer.start_time() == 100);
-    Ok(())
-}
-
-#[test]
-fn a_refused_recording_counts_for_nothing(rt: HostRuntime) -> Result<(), Fail> {
-    let alloc = rt.alloc();
-    let Served { shared, mut seat } = open(alloc, 100, 1)?;
-    let negative = ChangeFault::Refused(MeasureFault::Refused(TallyFault::Negative));
-    assert!(rt; measures(alloc, &shared, &mut seat, -1) == Err(negative));
-    assert!(rt; measures(alloc, &shared, &mut seat, 5) == Ok(()));
-    assert!(rt; measures(alloc, &shared, &mut seat, -1) == Err(ChangeFault::Exhausted));
-    Ok(())
-}
-
-#[test]
-fn a_second_collection_at_a_time_is_late(rt: HostRuntime) -> Result<(), Fail> {
-    let alloc = rt.alloc();
-    let Served { shared, mut seat } = open(alloc, 100, 8)?;
-    let late = ChangeFault::Refused(CollectFault::TimeNotAfter(200));
-    assert!(rt; collects(alloc, &shared, &mut seat, 200) == Ok(Some(0)));
-    assert!(rt; collects(alloc, &shared, &mut seat, 200) == Err(late));
-    Ok(())
 }
 
 #[test]
