@@ -18,6 +18,8 @@ mod names;
 mod owners;
 mod plan;
 mod refusals;
+#[cfg(test)]
+mod tests;
 mod try_copy;
 mod view;
 mod view_index;
