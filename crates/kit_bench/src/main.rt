@@ -7,6 +7,7 @@
 mod changes;
 mod clock;
 mod counter;
+mod fleets;
 mod gateways;
 mod gossip;
 mod measures;
@@ -43,12 +44,14 @@ fn main(rt: HostRuntime) -> anyhow::Result<()> {
         changes::run(&rt, 7, 400_000)?;
         measures::run(&rt, 2_000_000, 2_000)?;
         recordings::run(&rt, 7, 400_000)?;
+        fleets::run(&rt, 9, 1_000, 250)?;
         takes_and_merges(&rt, &[1_000, 10_000, 100_000])?;
         all_rounds(&rt, &[1_000, 100_000])
     } else {
         changes::run(&rt, 1, 1_000)?;
         measures::run(&rt, 20, 5)?;
         recordings::run(&rt, 1, 100)?;
+        fleets::run(&rt, 3, 20, 2)?;
         takes_and_merges(&rt, &[10, 40])?;
         all_rounds(&rt, &[10, 40])
     }
