@@ -14,7 +14,7 @@ use Rattle.gateway_kit.specs.Amending.{amend}
 use Rattle.gateway_kit.specs.Changing.{Entry, replaced}
 use Rattle.gateway_kit.specs.Keys.{entry_of, item_cmp, whole_key}
 use Rattle.gateway_kit.specs.Part.{Part}
-use Rattle.gateway_kit.specs.Parts.{IsWhole, listed, part_of}
+use Rattle.gateway_kit.specs.Parts.{IsWhole, listed}
 use Rattle.gateway_kit.specs.Queries.{has_conflict}
 use Rattle.gateway_kit.specs.Tallies.{Tells, conflict, conflicts_in, conflicts_of, part_conflicts}
 use Rattle.gateway_kit.specs.declared.taking.Growth.{Growth}

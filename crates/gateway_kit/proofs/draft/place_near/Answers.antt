@@ -1,6 +1,6 @@
-use Rattle.std.proofs.Common.{◌≡◌, ◌<◌, Some, List, map, length, sym, ap, ◌∙◌, rules}
+use Rattle.std.proofs.Common.{◌≡◌, ◌<◌, Some, List, length, sym, ap, ◌∙◌, rules}
 use Rattle.std.specs.Prelude.{slice_get}
-use Rattle.gateway_kit.specs.Keys.{ItemKey, entry_of, item_cmp}
+use Rattle.gateway_kit.specs.Keys.{ItemKey, entry_of}
 use Rattle.gateway_kit.specs.declared.part_item.PartItem.{PartItem}
 use Rattle.gateway_kit.proofs.Entries.{map_map}
 use Rattle.gateway_kit.proofs.KeyOrders.{item_exact}

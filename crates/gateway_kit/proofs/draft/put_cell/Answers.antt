@@ -1,4 +1,4 @@
-use Rattle.std.proofs.Common.{◌≡◌, ◌+◌, ◌<◌, cond, length, map, ap, rules, arith}
+use Rattle.std.proofs.Common.{◌<◌, cond, length, ap, rules}
 use Rattle.gateway_kit.specs.Changing.{replaced}
 use Rattle.gateway_kit.specs.Keys.{entry_of}
 use Rattle.gateway_kit.proofs.Moved.{kept_amend, past_amend}

@@ -1,9 +1,7 @@
-use Rattle.std.proofs.Common.{◌≡◌, ◌+◌, ◌<◌, ◌≤◌, List, ◌++◌, ◌∷◌, [], length, take, sym, ap, ◌∙◌, arith}
+use Rattle.std.proofs.Common.{◌+◌, ◌<◌, length, arith}
 use Rattle.std.proofs.lemmas.Grind.{common_steps}
-use Rattle.std.proofs.lemmas.List.{take_more}
 use Rattle.std.proofs.lemmas.List.Sums.{sum_by-take-le}
-use Rattle.gateway_kit.specs.Part.{Part}
-use Rattle.gateway_kit.specs.Tallies.{conflicts_of, part_conflicts}
+use Rattle.gateway_kit.specs.Tallies.{part_conflicts}
 use Rattle.gateway_kit.proofs.Tallies.{parts_more}
 use Rattle.gateway_kit.proofs.tally.all_conflicts.Goals as goal
 

@@ -1,10 +1,9 @@
-use Rattle.std.proofs.Common.{◌≡◌, ◌+◌, ◌<◌, ◌≤◌, ◌^◌, ℕ, List, max, length, map, take, sym, ap, subst, ◌∙◌, arith}
+use Rattle.std.proofs.Common.{◌+◌, ◌<◌, ◌^◌, ℕ, List, max, length, map, take, sym, ap, subst, ◌∙◌, arith}
 use Rattle.std.proofs.lemmas.Grind.{common_steps}
 use Rattle.std.proofs.lemmas.List.{length-take}
 use Rattle.gateway_kit.specs.Changing.{Entry}
 use Rattle.gateway_kit.specs.Keys.{entry_of}
 use Rattle.gateway_kit.specs.Tallies.{IsTally, conflict}
-use Rattle.gateway_kit.specs.Times.{latest}
 use Rattle.gateway_kit.proofs.ExportEntries.{mapped_more}
 use Rattle.gateway_kit.proofs.Tallies.{conflicts_few, conflicts_more}
 use Rattle.gateway_kit.proofs.Times.{latest_more}
