@@ -1,0 +1,4 @@
+pub mod Covered
+pub mod Gossiped
+pub mod Limited
+pub mod Weighed

@@ -1,0 +1,4 @@
+pub mod Exporting
+pub mod Plans
+pub mod Pushing
+pub mod Sharing

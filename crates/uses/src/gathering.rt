@@ -1,0 +1,73 @@
+//! Gateways that take exports and merge, and what they are asked.
+ghost use Rattle.std.specs.Prelude.{◌≡◌, ◌∷◌, [], ℕ, true, None, Some, IfOk, IfSome, codes};
+ghost use Rattle.std.specs.FinMap as finite;
+ghost use Rattle.attr_kit.specs.declared.keep.Keep.TheVariants as keeps;
+ghost use Rattle.point_kit.specs.Exports.{join_points, state};
+ghost use Rattle.point_kit.specs.declared.cell.Held.TheVariants.{One};
+ghost use Rattle.point_kit.specs.declared.payload.Payload.TheVariants as payloads;
+ghost use Rattle.point_kit.specs.declared.shape.Shape.TheVariants as shapes;
+ghost use Rattle.rollup_kit.specs.Rollups.{rollup_rows};
+ghost use Rattle.rollup_kit.specs.TableText.{table_text};
+
+use attr_kit::{Keep, Seq, Txt};
+use gateway_kit::Gateway;
+use point_kit::{Cell, Export, Held, Key, Payload, Shape, Stream};
+use rollup_kit::{Ask, rollup, table};
+use std::alloc::Global;
+
+/// All rows of the counter `requests` of the scope `app`, of every service.
+pub fn ask_requests(alloc: Global) -> anyhow::Result<Ask> {
+    Ok(Ask {
+        stream: Stream {
+            scope: Txt::from_str(alloc, "app")?,
+            name: Txt::from_str(alloc, "requests")?,
+            unit: Txt::from_str(alloc, "1")?,
+            shape: Shape::Sum { monotonic: true },
+        },
+        service: None,
+        only: Seq::new(alloc),
+        keep: Keep::All,
+    })
+}
+
+/// Whether two gateways hold the same that took two exports in either order, and one of them twice: they always do.
+pub fn agree(alloc: Global, here: &Export, there: &Export) -> anyhow::Result<bool>
+    ensures { IfOk result (λ same. same ≡ true) }
+{
+    let mut one = Gateway::new(alloc, 1);
+    one.take(here)?;
+    one.take(there)?;
+    let mut other = Gateway::new(alloc, 2);
+    other.take(there)?;
+    other.take(here)?;
+    other.take(there)?;
+    Ok(one.same(&other))
+}
+
+/// The table of what two gateways hold together, each point once. The first then holds all of it.
+pub fn merged_table(
+    alloc: Global,
+    one: &mut Gateway,
+    other: &Gateway,
+    ask: &Ask,
+) -> anyhow::Result<Txt>
+    ensures table { IfOk result (λ text. text ≡ table_text (rollup_rows ask.now (join_points one.old.points other.now.points))) }
+    ensures merged { IfOk result (λ _. one.new.points ≡ join_points one.old.points other.now.points) }
+{
+    one.merge(other)?;
+    let rows = rollup(alloc, one, ask)?;
+    Ok(table(alloc, rows.as_slice())?)
+}
+
+/// The sum that a gateway holds under a key, with its time; none where the key has no point, a conflict or no sum.
+pub fn sum_under(gateway: &Gateway, key: &Key) -> Option<(u64, i64)>
+    ensures { IfSome result (λ s. finite.get gateway.now.points key.now ≡ Some (record { time = s.0; held = One (payloads.Sum s.1) })) }
+{
+    match gateway.find(key)? {
+        Cell {
+            time,
+            held: Held::One(Payload::Sum(sum)),
+        } => Some((*time, *sum)),
+        _ => None,
+    }
+}

@@ -1,0 +1,105 @@
+//! Two threads that record with one writer.
+ghost use Rattle.std.specs.Prelude.{◌≡◌, ◌++◌, [], ℕ, IfSome};
+ghost use Rattle.turn_kit.specs.History.{weigh, weigh_all};
+ghost use Rattle.turn_kit.specs.Public.{family, mine, joined};
+ghost use Rattle.writer_kit.specs.Shared.{IsAt};
+ghost use Rattle.writer_kit.specs.declared.shared.change.WriterChange.{WriterChange};
+ghost use Rattle.uses.specs.Sharing.{HasRecorded, changes};
+ghost use denote.Param.Send.{IsSync};
+
+use attr_kit::AttrSet;
+use std::alloc::Global;
+use std::sync::Wait;
+use std::thread::{Threads, join};
+use turn_kit::Seat;
+use writer_kit::{SharedWriter, Writer};
+
+/// More changes than a run makes.
+const MOST_CHANGES: u64 = 1 << 62;
+
+/// What a thread records: values of one instrument, under these attributes.
+#[derive(Drop)]
+pub struct Work {
+    pub instrument: usize,
+    pub attrs: AttrSet,
+    pub values: Vec<i64>,
+}
+
+// Records all values by a seat, and gives it back; none where one is refused.
+fn record_all<R: Wait>(
+    rt: &R,
+    shared: &SharedWriter,
+    seat: Seat<Writer>,
+    work: &Work,
+) -> Option<Seat<Writer>>
+    requires at { IsAt shared.now seat }
+    requires fresh { (mine seat ≡ []) × (joined seat ≡ []) }
+    ensures at { IfSome result (λ s. IsAt shared.now s × (joined s ≡ [])) }
+    ensures all { IfSome result (λ s. mine s ≡ changes work.now) }
+{
+    let mut seat = seat;
+    for value in &work.values {
+        if shared
+            .measure(rt, &mut seat, work.instrument, &work.attrs, *value)
+            .is_err()
+        {
+            return None;
+        }
+    }
+    Some(seat)
+}
+
+// Both works, each by a seat in a thread of its own. One seat remains, which has taken in the other.
+#[tactic(auto, using(crate::proofs::Weighed::both_weigh))]
+fn record_both<R: Threads + Wait + Sync>(
+    rt: &R,
+    shared: &SharedWriter,
+    first: Seat<Writer>,
+    second: Seat<Writer>,
+    here: &Work,
+    there: &Work,
+) -> Option<Seat<Writer>>
+    requires first { IsAt shared.now first × (mine first ≡ []) × (joined first ≡ []) }
+    requires second { IsAt shared.now second × (mine second ≡ []) × (joined second ≡ []) }
+    ensures at { IfSome result (λ s. IsAt shared.now s) }
+    ensures all { IfSome result (λ s. (f : WriterChange → ℕ) → weigh_all f (family s) ≡ weigh f (changes here.now ++ changes there.now)) }
+{
+    let (first, second) = join(
+        rt,
+        || -> Option<Seat<Writer>>
+            requires { IsSync R.row × IsAt shared.now first × (mine first ≡ []) × (joined first ≡ []) }
+            ensures { IfSome result (λ s. IsAt shared.entry.now s × (joined s ≡ []) × (mine s ≡ changes here.entry.now)) }
+        { record_all(rt, shared, first, here) },
+        || -> Option<Seat<Writer>>
+            requires { IsSync R.row × IsAt shared.now second × (mine second ≡ []) × (joined second ≡ []) }
+            ensures { IfSome result (λ s. IsAt shared.entry.now s × (joined s ≡ []) × (mine s ≡ changes there.entry.now)) }
+        { record_all(rt, shared, second, there) },
+    );
+    let mut seat = first?;
+    shared.join(&mut seat, second?);
+    Some(seat)
+}
+
+/// Shares a writer between two threads, of which each records its work, and closes it again: it has recorded all of both, each
+/// recording once, whatever the threads did at once. None where a recording, a seat or memory is refused.
+pub fn record_in_two_threads<R: Threads + Wait + Sync>(
+    rt: &R,
+    alloc: Global,
+    writer: Writer,
+    here: &Work,
+    there: &Work,
+) -> Option<Writer>
+    ensures { IfSome result (λ w. HasRecorded writer (changes here.now ++ changes there.now) w) }
+{
+    let Ok((shared, mut first)) = SharedWriter::new(alloc, writer, MOST_CHANGES) else {
+        return None;
+    };
+    let Ok(second) = shared.split(rt, &mut first) else {
+        return None;
+    };
+    let seat = record_both(rt, &shared, first, second, here, there)?;
+    match shared.close(seat) {
+        Ok(writer) => Some(writer),
+        Err(_out) => None,
+    }
+}
