@@ -1,5 +1,5 @@
 -- What a collection after two recordings covers.
-use Rattle.std.proofs.Common.{◌≡◌, ◌∙◌, ℕ, pos, List, [], ◌∷◌, ap}
+use Rattle.std.proofs.Common.{◌≡◌, ◌∙◌, ℕ, pos, List, [], ◌∷◌, None, ap, subst, sym}
 use Rattle.agg_kit.specs.Entries.{Entry, entry_of}
 use Rattle.agg_kit.specs.Rounds.{round}
 use Rattle.attr_kit.specs.declared.attr_set.AttrSet.{AttrSet}
@@ -8,9 +8,12 @@ use Rattle.point_kit.specs.declared.export.Export.{Export}
 use Rattle.point_kit.specs.declared.writer_id.WriterId.{WriterId}
 use Rattle.round_kit.specs.Rounds.{points_of}
 use Rattle.round_kit.specs.Rounds as rounds
-use Rattle.schedule_kit.specs.Schedule.{Act, collected}
+use Rattle.schedule_kit.specs.Schedule.{Act}
 use Rattle.schedule_kit.specs.Schedule.Act.{Measured}
 use Rattle.writer_kit.specs.Following.{Follows, round_of}
+use Rattle.writer_kit.proofs.Following.{measures, rounds_of}
+use Rattle.writer_kit.specs.Recording.{recorded, round_now}
+use Rattle.writer_kit.specs.Refusals.{fault_now}
 use Rattle.writer_kit.specs.Written.{Written}
 use Rattle.uses.specs.Exporting.{Covers, three_and_four}
 
@@ -18,17 +21,29 @@ use Rattle.uses.specs.Exporting.{Covers, three_and_four}
 abbrev pub both_measured : AttrSet → List (Act Entry)
 both_measured attrs = Measured (entry_of 0 attrs (pos 4)) ∷ Measured (entry_of 0 attrs (pos 3)) ∷ []
 
-pub covered : (id : WriterId) (plan : Planned) (attrs : AttrSet) (w : Written) (r : rounds.Collected) (e : Export)
-    → attrs ≡ [] → w.tally.plan ≡ plan → Follows 100 (both_measured attrs) w
-    → ((first : ℕ) (acts : List (Act Entry)) → Follows first acts w → r ≡ round_of w.tally.plan (collected first acts 200))
-    → e.writer ≡ id → e.start ≡ r.start → e.time ≡ r.time → e.points ≡ r.points → Covers id plan 100 200 (three_and_four []) e
-covered id plan attrs w r e none planned follows collects writer start time points =
-    let is : r ≡ round_of w.tally.plan (record { start = 100; time = 200; entries = three_and_four attrs }) = collects 100 (both_measured attrs) follows in
+-- a recording leaves the plan
+recorded_plan : (w v : Written) (e : Entry) → v ≡ recorded w e → v.tally.plan ≡ w.tally.plan
+recorded_plan w v e is = ap (λ (x : Written). x.tally.plan) is
+
+-- a writer that follows events follows after an accepted recording these and one more
+also_follows : (acts : List (Act Entry)) (w v : Written) (e : Entry) → Follows 100 acts w → fault_now w e ≡ None → v ≡ recorded w e → Follows 100 (Measured e ∷ acts) v
+also_follows acts w v e follows fits is = subst (Follows 100 (Measured e ∷ acts)) (sym is) (measures 100 acts w e follows fits)
+
+pub covered : (id : WriterId) (plan : Planned) (attrs : AttrSet) (w one both : Written) (r : rounds.Collected) (e : Export)
+    → attrs ≡ [] → w.tally.plan ≡ plan → Follows 100 [] w
+    → fault_now w (entry_of 0 attrs (pos 3)) ≡ None → one ≡ recorded w (entry_of 0 attrs (pos 3))
+    → fault_now one (entry_of 0 attrs (pos 4)) ≡ None → both ≡ recorded one (entry_of 0 attrs (pos 4))
+    → r ≡ round_now both 200 → e.writer ≡ id → e.start ≡ r.start → e.time ≡ r.time → e.points ≡ r.points → Covers id plan 100 200 (three_and_four []) e
+covered id plan attrs w one both r e none planned follows three first four second collects writer start time points =
+    let once = also_follows [] w one (entry_of 0 attrs (pos 3)) follows three first in
+    let twice = also_follows (Measured (entry_of 0 attrs (pos 3)) ∷ []) one both (entry_of 0 attrs (pos 4)) once four second in
+    let same : both.tally.plan ≡ plan = recorded_plan one both (entry_of 0 attrs (pos 4)) second ∙ recorded_plan w one (entry_of 0 attrs (pos 3)) first ∙ planned in
+    let is : r ≡ round_of both.tally.plan (record { start = 100; time = 200; entries = three_and_four attrs }) = collects ∙ rounds_of 100 (both_measured attrs) both 200 twice in
     record {
       same_writer = writer;
       starts = start ∙ ap (λ (c : rounds.Collected). c.start) is;
       taken_at = time ∙ ap (λ (c : rounds.Collected). c.time) is;
       points =
-          points ∙ ap (λ (c : rounds.Collected). c.points) is ∙ ap (λ (p : Planned). points_of p.streams (round p (three_and_four attrs))) planned
+          points ∙ ap (λ (c : rounds.Collected). c.points) is ∙ ap (λ (p : Planned). points_of p.streams (round p (three_and_four attrs))) same
           ∙ ap (λ s. points_of plan.streams (round plan (three_and_four s))) none;
     }

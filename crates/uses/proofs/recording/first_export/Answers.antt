@@ -1,4 +1,4 @@
-use Rattle.std.proofs.Common.{rules, ◌∙◌, []}
+use Rattle.std.proofs.Common.{rules}
 use Rattle.uses.proofs.Covered.{covered}
 use Rattle.uses.proofs.recording.first_export.Goals as goal
 
@@ -8,5 +8,5 @@ returns c =
     let three = c.in_ok-measure.ensures in
     let four = c.in_ok-measure-2.ensures in
     let copy = c.in_ok-copy_out.ensures in
-    covered c.args.id c.args.plan c.empty-none.result c.measure-2.new.self _ _ c.empty-none.ensures (four.plan ∙ three.plan ∙ its.plan)
-    (four.follows 100 _ (three.follows 100 [] its.follows)) c.in_ok-round.ensures.collected (search rules) copy.start copy.taken_at copy.points
+    covered c.args.id c.args.plan c.empty-none.result _ _ _ _ _ c.empty-none.ensures its.plan its.follows three.ok three.value four.ok four.value
+    c.in_ok-round.ensures.round (search rules) copy.start copy.taken_at copy.points

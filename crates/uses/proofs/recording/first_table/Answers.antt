@@ -15,8 +15,8 @@ returns c =
     let came = state (c.in_ok-export.export ∷ []) in
     record {
       export = c.in_ok-export.export;
-      covers = covered c.args.id c.args.plan c.empty-none.result c.measure-2.new.self _ _ c.empty-none.ensures (four.plan ∙ three.plan ∙ its.plan)
-          (four.follows 100 _ (three.follows 100 [] its.follows)) c.in_ok-round.ensures.collected (search rules) copy.start copy.taken_at copy.points;
+      covers = covered c.args.id c.args.plan c.empty-none.result _ _ _ _ _ c.empty-none.ensures its.plan its.follows three.ok three.value four.ok four.value
+          c.in_ok-round.ensures.round (search rules) copy.start copy.taken_at copy.points;
       told = c.in_ok-table.ensures.value ∙ ap table_text (c.as_slice.ensures ∙ c.in_ok-rows.ensures.value
           ∙ ap (rollup_rows c.args.ask.now) (c.in_ok-take.ensures.ok ∙ ap (λ p. join_points p came) c.new-gateway.ensures.value ∙ alone came));
     }

@@ -1,5 +1,5 @@
 use Rattle.std.proofs.Common.{◌≤◌, ◌+◌, length, subst, sym}
-use Rattle.agg_kit.proofs.Laws.{is_limited}
+use Rattle.agg_kit.proofs.RoundLaws.{is_limited}
 use Rattle.agg_kit.specs.Feeds.{series_at}
 use Rattle.uses.proofs.Limited.{few_points}
 use Rattle.uses.proofs.viewing.points_of_stream.Goals as goal
