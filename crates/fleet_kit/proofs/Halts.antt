@@ -21,8 +21,8 @@ tells p q e =
     let parts = or_parts (nat_lt p.0 q.0) (p.0 == q.0 && nat_lt p.1 q.1) e in
     let least : q.0 ≤ p.0 = ltb-false p.0 q.0 parts.0 in
     dite (ℕ_discrete p.0 q.0)
-        (λ (same : p.0 ≡ q.0). inr (same, elim (and_cases (p.0 == q.0) (nat_lt p.1 q.1) parts.1) [ inl other ↦ absurd (eqb-false p.0 q.0 other same) | inr less ↦ ltb-false p.1 q.1 less ]))
-        (λ other. inl (omega (arith, least, other)))
+    (λ (same : p.0 ≡ q.0). inr (same, elim (and_cases (p.0 == q.0) (nat_lt p.1 q.1) parts.1) [ inl other ↦ absurd (eqb-false p.0 q.0 other same) | inr less ↦ ltb-false p.1 q.1 less ]))
+    (λ other. inl (omega (arith, least, other)))
 
 -- and how it is shown
 shown : (p q : ℕ × ℕ) → (q.0 < p.0) ⊎ ((p.0 ≡ q.0) × (q.1 ≤ p.1)) → before p q ≡ false

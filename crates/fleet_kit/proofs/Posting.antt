@@ -36,7 +36,7 @@ sends n port v x items views room h at = let w = told (v.sent ++ x ∷ []) v.got
   (
     v.got,
     (seen (told (h.0 ++ items) h.0) v w views port h.1 at).1
-    ∙ ap (λ l. told l v.got ∷ []) (ap (λ l. l ++ x ∷ []) (learns port v items views h at) ∙ append_assoc v.got items (x ∷ [])),
+        ∙ ap (λ l. told l v.got ∷ []) (ap (λ l. l ++ x ∷ []) (learns port v items views h at) ∙ append_assoc v.got items (x ∷ [])),
   ),
   refl,
 )
@@ -47,7 +47,7 @@ gets port v x items views h at = let w = told v.sent (v.got ++ x ∷ []) in (
   (
     v.got ++ x ∷ [],
     (seen (told (h.0 ++ x ∷ items) h.0) v w views port h.1 at).1
-    ∙ ap (λ l. told l (v.got ++ x ∷ []) ∷ []) (learns port v (x ∷ items) views h at ∙ sym (append_assoc v.got (x ∷ []) items)),
+        ∙ ap (λ l. told l (v.got ++ x ∷ []) ∷ []) (learns port v (x ∷ items) views h at ∙ sym (append_assoc v.got (x ∷ []) items)),
   ),
   refl,
 )

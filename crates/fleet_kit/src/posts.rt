@@ -98,8 +98,10 @@ fn posted<R: Wait>(
     ensures of { IfOk result (λ p. (p.gateway ≡ gateway) × (p.id ≡ id)) }
     ensures told { IfOk result (λ p. IsPosted exports.now (view p.pass) p.unsent) }
 {
-    let (sender, places, mut pass) =
-        bounded_with::<usize, Told, InOrder, Global>(alloc, exports.len().max(1))?;
+    let (sender, places, mut pass) = bounded_with::<usize, Told, InOrder, Global>(
+        alloc,
+        exports.len().max(1),
+    )?;
     let mut unsent = None;
     for (place, export) in exports.iter().enumerate() {
         let sent = is_sent(rt, &sender, &mut pass, place);

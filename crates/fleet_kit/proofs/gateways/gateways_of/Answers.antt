@@ -35,5 +35,5 @@ returns g c =
           let less = subst (λ p. p.gateway < length c.args.ids.now) (k.job_is k.job) (c.in_ok-posts.ensures.gateways i k.job (omega (arith, l, count, long))) in
           let posted = subst (λ p. IsPosted c.args.exports.now (view p.pass) p.unsent) (k.job_is k.job) (c.in_ok-posts.ensures.told i k.job (omega (arith, l, count, long))) in
           err_then (slice_index_or c.in_ok-results.results.items i d) (IsLacking k.job.gateway k.job.unsent) (StopsServing c.args.exports.now (length c.args.ids.now))
-              (λ e lacks. lacking_stops exports (length ids) k.job.gateway (view k.job.pass).sent k.job.unsent e less posted.1 lacks) k.call.met.1) tt h is) c.gathered.ensures.err;
+          (λ e lacks. lacking_stops exports (length ids) k.job.gateway (view k.job.pass).sent k.job.unsent e less posted.1 lacks) k.call.met.1) tt h is) c.gathered.ensures.err;
     }

@@ -20,11 +20,11 @@ loop-place-preserved g c =
     let told = c.is_sent-sent.ensures.told in
     elim c.if-not-sent.branch [
       | then-not-sent+then-not-is_empty w ↦
-      let r = looked_lost n exports v w' o p e at (λ none. some_long w.points.result.now (sym w.is_empty.ensures ∙ w.if-not-is_empty.true) (w.points.ensures.value ∙ none)) (MatchBool-at_false _ _ w.if-not-sent.true told)
+          let r = looked_lost n exports v w' o p e at (λ none. some_long w.points.result.now (sym w.is_empty.ensures ∙ w.if-not-is_empty.true) (w.points.ensures.value ∙ none)) (MatchBool-at_false _ _ w.if-not-sent.true told)
           (w.unsent-is ∙ w.or-unsent.ensures) (kept.1, kept.2, kept.3) in (search rules, r.0, r.1, r.2)
       | else-not-sent w ↦ elim w.else-not-sent.branch [
         | else-not-sent-via-then-not-sent+else-not-is_empty u ↦
-        let r = looked_empty n exports v w' o p e at (sym u.points.ensures.value ∙ none_long u.points.result.now (sym u.is_empty.ensures ∙ u.if-not-is_empty.false)) (MatchBool-at_false _ _ u.if-not-sent.true told) w.unsent-is
+            let r = looked_empty n exports v w' o p e at (sym u.points.ensures.value ∙ none_long u.points.result.now (sym u.is_empty.ensures ∙ u.if-not-is_empty.false)) (MatchBool-at_false _ _ u.if-not-sent.true told) w.unsent-is
             (kept.1, kept.2, kept.3) in (search rules, r.0, r.1, r.2)
         | else-not-sent-via-else-not-sent u ↦ let r = looked_sent n exports v w' o p e at (MatchBool-at_true _ _ u.if-not-sent.false told) w.unsent-is (kept.1, kept.2, kept.3) in (search rules, r.0, r.1, r.2)
       ]
