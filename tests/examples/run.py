@@ -3,9 +3,10 @@
 
 The proved program `otm run` is given each examples/NAME.otm, and must write examples/NAME.out, byte for byte, and end with
 status 0. So it must with each NAME.otm of tests/examples/rows, of which those that have a bad line end with status 1: the last
-line of their NAME.out says which. So it must with each script in PAGES, fenced as `otm`: the next block, fenced as `table`, has
-what it writes. Then it is given what it does not do to the end: a bad line, a script that is too long, words that it refuses,
-an input that cannot be read, an output that cannot be written. There its status and both its streams are told below. `rt ci`
+line of their NAME.out says which, and ROW_SENTENCES what the standard error says of it. So it must with each script in PAGES,
+fenced as `otm`: the next block, fenced as `table`, has what it writes. Then it is given what it does not do to the end: each
+kind of bad line, a script that is too long, words that it refuses, an input that cannot be read, an output that cannot be
+written. There its status and both its streams are told below. `rt ci`
 leaves the program in crates/otm/out, as each of two compilers builds it, and `rt run` as the first does: every build that lies
 there does all of it.
 
@@ -62,7 +63,7 @@ Options:
 
 # By its name what the program is given, words and input, and what it must do: its status, its standard output, its standard error.
 ENDS = {
-    "a bad line": (["run"], b"gateway 1\nbegin\nconflicts 1\nconfl", 1, b"conflicts 0\nline 4\n", b""),
+    "a bad line": (["run"], b"gateway 1\nbegin\nconflicts 1\nconfl", 1, b"conflicts 0\nline 4\n", b"line 4: no line feed ends it\n"),
     "a script of the greatest length": (["run"], b"#" * 1_048_575 + b"\n", 0, b"", b""),
     "a script of a byte more": (["run"], b"#" * 1_048_576 + b"\n", 1, b"too long\n", b""),
     "no command": ([], b"", 2, b"", NO_COMMAND),
@@ -78,17 +79,119 @@ COUNTER = b"instrument c counter app requests 1\nwriter a shop " + UUID + b" 100
 HEADER = b"attributes  points  conflicts  total\n"
 MANY = 10_000
 
-# Lines that are none of the grammar: as the first line, and behind `begin`.
+BYTES = "a byte is neither a space nor a visible ASCII character"
+SPACES = "words have one space between two, and none stands at either end"
+LABEL = "is no label: 1 to 16 of a to z and 0 to 9"
+NO_NUMBER = "is no number: digits with no sign and no leading zero"
+NO_VALUE = "is no value: a whole number of 64 bits, with no plus sign and no leading zero"
+NO_UUID = "is no UUID: 32 hexadecimal digits, with hyphens or without"
+NO_KIND = "is no kind: counter, updown, gauge or histogram"
+NO_KIND_ASKED = "is no kind: counter, updown, gauge, histogram, or * for any"
+NO_KEYS = "lists no keys: *, -, or keys with commas between"
+NO_ATTRIBUTES = "lists no attributes: -, or pairs of a key, = and a value, with commas between"
+NO_AGGREGATION = "is no aggregation: default, sum, last, drop, or buckets: and values with commas between"
+NO_SHAPE = "is no shape: sum+, sum, gauge, hist, or hist: and values with commas between"
+NO_TIME = "'18446744073709551616' is too great for a time"
+
+# Lines that are bad wherever they stand, and what is said of each.
 BAD_LINES = [
-    b" ", b"begin ", b" begin", b"begin\r", b"gateway\t1", b"gateway  1", b"gateway 01", b"gateway 4294967296", b"gateway -0", b"gateway +1",
-    b"limit 18446744073709551616", b"writer A shop " + UUID + b" 100", b"writer abcdefghijklmnopq shop " + UUID + b" 100",
-    b"writer a shop " + UUID[:-1] + b" 100", b"instrument c counter app x", b"instrument c summary app x 1", b"view * * * - a,,b default",
-    b"view * * * - * buckets:1,", b"view * * * - * buckets", b"unknown",
+    (b" ", SPACES),
+    (b"begin ", SPACES),
+    (b" begin", SPACES),
+    (b"gateway  1", SPACES),
+    (b"begin\r", BYTES),
+    (b"gateway\t1", BYTES),
+    (b"gateway \xc3\xa9", BYTES),
+    (b"unknown", "'unknown' begins no line"),
+    (b"x" * 41 + b" 1", "'" + "x" * 40 + "..' begins no line"),
+    (b"x" * 40, "'" + "x" * 40 + "' begins no line"),
+    (b"instrument c counter", "'instrument' wants a label, a kind, a scope, a name and a unit"),
+    (b"view * * * -", "'view' wants a name, a kind, a scope, a new name, keys to keep and an aggregation"),
+    (b"writer a shop", "'writer' wants a label, a service, a UUID and a start"),
+    (b"gateway", "'gateway' wants an id"),
+    (b"limit 1 2", "'limit' wants a number"),
+    (b"begin now", "'begin' wants no other word"),
+    (b"measure a c 1", "'measure' wants a writer, an instrument, a value and attributes"),
+    (b"collect a", "'collect' wants a writer and a time"),
+    (b"shutdown a", "'shutdown' wants a writer and a time"),
+    (b"restart a 1 2", "'restart' wants a writer and a start"),
+    (b"deliver 1", "'deliver' wants an export and a gateway"),
+    (b"merge 1", "'merge' wants two gateways"),
+    (b"send 1", "'send' wants two gateways"),
+    (b"hand 1", "'hand' wants a mail and a gateway"),
+    (b"report 1", "'report' wants a gateway, a scope, a name, a unit, a shape, a service, attributes and keys to keep"),
+    (b"same 1", "'same' wants two gateways"),
+    (b"conflicts", "'conflicts' wants a gateway"),
+    (b"newest 1 a", "'newest' wants a gateway, a writer and a start"),
+    (b"gateway 01", f"'01' {NO_NUMBER}"),
+    (b"gateway -0", f"'-0' {NO_NUMBER}"),
+    (b"gateway +1", f"'+1' {NO_NUMBER}"),
+    (b"gateway 4294967296", "'4294967296' is too great for the id of a gateway"),
+    (b"limit 18446744073709551616", "'18446744073709551616' is too great for a limit"),
+    (b"writer A shop " + UUID + b" 100", f"'A' {LABEL}"),
+    (b"writer abcdefghijklmnopq shop " + UUID + b" 100", f"'abcdefghijklmnopq' {LABEL}"),
+    (b"writer A shop " + UUID + b" x", f"'A' {LABEL}"),
+    (b"writer a shop " + UUID[:-1] + b" 100", f"'{UUID[:-1].decode()}' {NO_UUID}"),
+    (b"writer a shop " + UUID + b" 18446744073709551616", NO_TIME),
+    (b"instrument c summary app x 1", f"'summary' {NO_KIND}"),
+    (b"view * summary * - * default", f"'summary' {NO_KIND_ASKED}"),
+    (b"view * * * - a,,b default", f"'a,,b' {NO_KEYS}"),
+    (b"view * * * - * buckets:1,", f"'buckets:1,' {NO_AGGREGATION}"),
+    (b"view * * * - * buckets", f"'buckets' {NO_AGGREGATION}"),
+    (b"measure a c 9223372036854775808 -", f"'9223372036854775808' {NO_VALUE}"),
+    (b"measure a c -0 -", f"'-0' {NO_VALUE}"),
+    (b"measure a c 05 -", f"'05' {NO_VALUE}"),
+    (b"measure a C 5 -", f"'C' {LABEL}"),
+    (b"measure a c 5 route", f"'route' {NO_ATTRIBUTES}"),
+    (b"measure a c 5 =x", f"'=x' {NO_ATTRIBUTES}"),
+    (b"measure a c 5 a=1,", f"'a=1,' {NO_ATTRIBUTES}"),
+    (b"collect a 18446744073709551616", NO_TIME),
+    (b"restart a x", f"'x' {NO_NUMBER}"),
+    (b"deliver 18446744073709551616 1", "'18446744073709551616' is too great for the number of an export"),
+    (b"hand 18446744073709551616 1", "'18446744073709551616' is too great for the number of a mail"),
+    (b"report 1 app requests 1 sum- * - *", f"'sum-' {NO_SHAPE}"),
+    (b"report 1 app requests 1 sum * x *", f"'x' {NO_ATTRIBUTES}"),
+    (b"report 1 app requests 1 sum * - ,", f"',' {NO_KEYS}"),
 ]
-BAD_COMMANDS = [
-    b"measure a c 9223372036854775808 -", b"measure a c -0 -", b"measure a c 05 -", b"measure a c 5 route", b"measure a c 5 =x",
-    b"measure a c 5 a=1,", b"report 1 app requests 1 sum- * - *", b"unknown",
+
+# Lines of the grammar that are bad where they stand: as the first line, behind three declarations, and behind `begin`.
+EARLY = [b"measure a c 1 -", b"collect a 200", b"merge 1 1", b"report 1 app requests 1 sum+ * - *", b"same 1 1"]
+TWICE = [
+    (b"instrument c gauge app other 1", "'c' was declared before"),
+    (b"writer a other " + UUID + b" 100", "'a' was declared before"),
+    (b"limit 5\nlimit 5", "'limit' was declared before"),
 ]
+LATE = [
+    (b"begin", "'begin' stands after 'begin'"),
+    (b"gateway 2", "'gateway' stands after 'begin'"),
+    (b"instrument d counter app other 1", "'instrument' stands after 'begin'"),
+    (b"measure b c 1 -", "'b' names no writer"),
+    (b"measure a d 1 -", "'d' names no instrument"),
+    (b"measure b d 1 -", "'b' names no writer"),
+    (b"collect b 200", "'b' names no writer"),
+    (b"deliver 1 2", "'2' names no gateway"),
+    (b"merge 2 3", "'2' names no gateway"),
+    (b"merge 1 3", "'3' names no gateway"),
+    (b"send 1 3", "'3' names no gateway"),
+    (b"hand 1 3", "'3' names no gateway"),
+    (b"report 3 app requests 1 sum+ * - *", "'3' names no gateway"),
+    (b"same 1 3", "'3' names no gateway"),
+    (b"conflicts 3", "'3' names no gateway"),
+    (b"newest 3 a 100", "'3' names no gateway"),
+    (b"newest 1 b 100", "'b' names no writer"),
+]
+
+# What is said of the bad lines of rows; of those that are not here, that `begin` is refused.
+ROW_SENTENCES = {
+    "bad-double-space": SPACES,
+    "bad-id-range": "'4294967296' is too great for the id of a gateway",
+    "bad-label": f"'A' {LABEL}",
+    "bad-leading-zero": f"'01' {NO_NUMBER}",
+    "bad-minus-zero": f"'-0' {NO_NUMBER}",
+    "bad-word-count": "'instrument' wants a label, a kind, a scope, a name and a unit",
+    "cut-line": "no line feed ends it",
+    "refusals-and-cut-word": "no line feed ends it",
+}
 
 
 def many_streams():
@@ -168,18 +271,31 @@ def quotes():
             yield f"{page}: {name}", "" if stands == quoted else f"{file} has {stands!r}"
 
 
+def said(text, sentence):
+    """What the standard error says of the bad line that the last line of this text tells."""
+    return text.splitlines()[-1] + b": " + sentence.encode() + b"\n"
+
+
+def bad_lines():
+    """The lines that are bad, with what is said of each, behind what goes before them."""
+    early = [(line, f"'{line.split()[0].decode()}' stands before 'begin'") for line in EARLY]
+    return [(b"", BAD_LINES + early), (COUNTER, TWICE + early), (COUNTER + b"begin\n", BAD_LINES + LATE)]
+
+
 def cases(program):
     """Each case's name, and what the program does otherwise."""
     for name, script, table in told_scripts():
         yield name, ended(program, ["run"], (0, table, b""), input=script)
-    for script in [*sorted((TOP / "examples").glob("*.otm")), *sorted(ROWS.glob("*.otm"))]:
+    for script in sorted((TOP / "examples").glob("*.otm")):
+        yield script.name, ended(program, ["run"], (0, script.with_suffix(".out").read_bytes(), b""), input=script.read_bytes())
+    for script in sorted(ROWS.glob("*.otm")):
         text = script.with_suffix(".out").read_bytes()
-        wanted = (1 if script.parent == ROWS and BAD_END.fullmatch(text) else 0, text, b"")
-        yield str(script.relative_to(TOP)), ended(program, ["run"], wanted, input=script.read_bytes())
-    for line in BAD_LINES:
-        yield f"{line}", ended(program, ["run"], (1, b"line 1\n", b""), input=line + b"\n")
-    for line in BAD_COMMANDS:
-        yield f"{line}, after begin", ended(program, ["run"], (1, b"line 5\n", b""), input=COUNTER + b"begin\n" + line + b"\n")
+        wanted = (1, text, said(text, ROW_SENTENCES.get(script.stem, "'begin' is refused"))) if BAD_END.fullmatch(text) else (0, text, b"")
+        yield script.stem, ended(program, ["run"], wanted, input=script.read_bytes())
+    for before, lines in bad_lines():
+        for line, sentence in lines:
+            text = b"line %d\n" % ((before + line).count(b"\n") + 1)
+            yield f"{before[-6:]}{line}", ended(program, ["run"], (1, text, said(text, sentence)), input=before + line + b"\n")
     for made in (many_streams, many_points):
         script, text = made()
         yield made.__name__, ended(program, ["run"], (0, text, b""), input=script)

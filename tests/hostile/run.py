@@ -1,8 +1,8 @@
 #!/usr/bin/env python3
 """Malformed scripts and failing streams, and a soak of scripts made from a seed.
 
-`otm run` must answer each with a bad line or as the script says: statuses 0 and 1, and 4 for a stream that failed, never by a
-signal. What the scripts of the soak must print is told by a plain reading of them (plain.py). This ends with a status other
+`otm run` must answer each with a bad line, of which its standard error says what is wrong, or as the script says: statuses 0 and
+1, and 4 for a stream that failed, never by a signal. What the scripts of the soak must print is told by a plain reading of them (plain.py). This ends with a status other
 than 0 where something is not as told.
 
     tests/hostile/run.py [--scripts N] [--seed S]     N scripts in the soak, made from this seed; it is printed"""
@@ -11,6 +11,7 @@ import concurrent.futures
 import os
 import pathlib
 import random
+import re
 import subprocess
 import sys
 import tempfile
@@ -25,6 +26,7 @@ WORKERS = 2
 SCRIPTS = 4_000
 CHUNK = 1_000
 LONGEST = 1_048_576
+BAD_END = re.compile(rb"(?:\A|\n)(line [0-9]+)\n\Z")
 SHARES = {"otm": 1, "otm.by-rattle": 10}
 
 FIRST = (faults.TOP / "examples" / "first.otm").read_bytes()
@@ -73,6 +75,13 @@ def done(program, script):
     return ran.returncode, ran.stdout, ran.stderr
 
 
+def is_told(ran, status, text):
+    """Whether a run wrote this and ended so, and said of a bad line, and of nothing else, what is wrong with it."""
+    mark = BAD_END.search(text) if status == 1 else None
+    says = re.fullmatch(re.escape(mark.group(1)) + rb": [ -~]{1,300}\n", ran[2]) if mark else not ran[2]
+    return ran[:2] == (status, text) and bool(says)
+
+
 def shown(script):
     return repr(script if len(script) < 400 else script[:200] + b" .. " + script[-100:])
 
@@ -90,7 +99,7 @@ def malformed(program, pool):
     rows = [*cut_scripts(), *((line + b"\n", b"line 1\n", 1) for line in BAD_FIRST_LINES), *SCRIPTS_TOLD]
     wrong = []
     for (script, text, status), told in zip(rows, pool.map(lambda row: done(program, row[0]), rows)):
-        if told != (status, text, b""):
+        if not is_told(told, status, text):
             wrong.append(f"{shown(script)}: status {told[0]}, {shown(told[1])}, {shown(told[2])}")
     return len(rows), wrong
 
@@ -151,8 +160,10 @@ def soak(programs, count, seed, pool):
         number, script = work
         text, status = plain.told(script, answers)
         for program in programs:
-            told = done(program, script) if number % SHARES[program.name] == 0 else (status, text, b"")
-            if told != (status, text, b""):
+            if number % SHARES[program.name]:
+                continue
+            told = done(program, script)
+            if not is_told(told, status, text):
                 return script, told[0], f"{program.name}: status {told[0]}, {shown(told[1])}, {shown(told[2])}, not {shown(text)}"
         return script, status, ""
 

@@ -88,6 +88,7 @@ CALLS = [
     ("SharedGateway::new", '"Ok" | changed', HANDED_BACK),
     ("SharedGateway::try_take", "Ok(3) | changed | Err(Exhausted)", REFUSED),
     ("SharedGateway::take", "Ok(3) | changed | Err(Exhausted)", REFUSED),
+    ("SharedGateway::try_take, the last of two", "Ok(3) | changed | Err(Exhausted)", REFUSED),
     ("SharedGateway::try_merge", "Ok(3) | changed | Err(Exhausted)", REFUSED),
     ("SharedGateway::merge", "Ok(3) | changed | Err(Exhausted)", REFUSED),
     ("Node::take", "Ok(3) | changed | Ok(0)", KEPT),

@@ -2,6 +2,7 @@ pub mod Alike
 pub mod Bounds
 pub mod Copies
 pub mod Distinct
+pub mod Here
 pub mod Limits
 pub mod Parts
 pub mod Payloads

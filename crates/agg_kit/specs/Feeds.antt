@@ -68,3 +68,17 @@ AllHeld p (f ∷ fs) a ss =
 -- no recording like this one takes memory: each feed of its instrument keeps all keys, and its stream has the point
 abbrev pub IsHeld : Tallied → Entry → Type 0
 IsHeld t e = AllHeld t.plan (feeds_of t.plan e.instrument) e.attrs t.series
+
+-- ---- of series in memory
+
+abbrev pub points_with : Planned → List Feed → AttrSet → ℤ → List Stored → List Points
+points_with p fs a v ss = applied p fs a v (entries_of ss)
+
+abbrev pub out_at : Planned → AttrSet → ℤ → List Stored → List Feed → Option MeasureFault
+out_at p a v ss fs = first_out p a v (entries_of ss) fs
+
+abbrev pub early_out_at : Planned → AttrSet → ℤ → List Stored → List Feed → Option MeasureFault
+early_out_at p a v ss fs = out_at p a v ss (whole_first fs)
+
+abbrev pub AreHeld : Planned → List Feed → AttrSet → List Stored → Type 0
+AreHeld p fs a ss = AllHeld p fs a (entries_of ss)

@@ -1,5 +1,5 @@
 -- What a recording makes of a tally, and why it is refused: by the points of the tally alone.
-use Rattle.std.specs.Prelude.{◌∷◌, [], ℕ, Bool, false, List, Option, None, find, fold, map, is_none, if◌then◌else◌}
+use Rattle.std.specs.Prelude.{◌∷◌, [], ℕ, Bool, false, List, Option, find, fold, map, is_none, if◌then◌else◌}
 use Rattle.std.specs.List.{enumerate_from}
 use Rattle.std.specs.Option.{option_map, option_map_or}
 use Rattle.attr_kit.specs.declared.attr_set.AttrSet.{AttrSet}

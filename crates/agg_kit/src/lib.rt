@@ -4,6 +4,7 @@
 mod fault;
 mod laws;
 mod payload;
+mod recording;
 mod series;
 mod tally;
 

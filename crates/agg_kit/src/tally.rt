@@ -1,25 +1,22 @@
 //! The points of all streams of a plan, as recordings come in.
-ghost use Rattle.std.specs.Prelude.{◌≡◌, ◌≢◌, ◌↔◌, ◌<◌, ◌++◌, ◌∷◌, [], ℕ, List, length, map, position, replicate, slice_get, slice_index_or, Some, None, true, false, IfOk, IfErr, IfSome, OnOk, OnErr, IsSome, IsTrue};
-ghost use Rattle.std.specs.Map.{keys_of};
-ghost use Rattle.std.specs.Option.{option_map, unwrap_or};
-ghost use Rattle.plan_kit.specs.Plans.{feeds_of, is_proper, AreFeeds, lacks};
-ghost use Rattle.attr_kit.specs.Keeping.{kept};
-ghost use Rattle.attr_kit.specs.declared.keep.Keep.TheVariants as keeps;
+ghost use Rattle.std.specs.Prelude.{◌≡◌, ◌≢◌, ◌↔◌, ◌<◌, ◌∷◌, [], length, replicate, slice_get, Some, None, true, false, IfOk, IfErr, IfSome, OnOk, OnErr, IsTrue};
+ghost use Rattle.std.specs.Option.{option_map};
 ghost use Rattle.agg_kit.specs.Alike.{ShareKeys};
 ghost use Rattle.agg_kit.specs.Entries.{entry_of};
-ghost use Rattle.agg_kit.specs.Feeding.{overflow_set, set_eq};
-ghost use Rattle.agg_kit.specs.Feeds.{entries_of, series_at, shape_at, first_out, applied, whole_first, AllHeld, IsHeld};
+ghost use Rattle.agg_kit.specs.Feeding.{overflow_set};
+ghost use Rattle.agg_kit.specs.Feeds.{entries_of, series_at, IsHeld};
 ghost use Rattle.agg_kit.specs.Kept.{whole_feed, AreLone};
 ghost use Rattle.agg_kit.specs.Measuring.{after_measure, early_fault_of, empty_tally, fault_of};
 ghost use Rattle.agg_kit.specs.Refusals.{is_negative_for};
+ghost use Rattle.agg_kit.specs.declared.fault.MeasureFault.TheVariants as faults;
 ghost use Rattle.agg_kit.specs.Sound.{AllSound};
-ghost use Rattle.agg_kit.specs.Steps.{held, place, payload_after, step};
 
 use crate::MeasureFault;
+use crate::recording::record;
 use crate::series::Series;
 use attr_kit::{AttrSet, AttrValue, Keep, NoMemory, Txt};
 use plan_kit::{Feed, Kind, Plan};
-use point_kit::{Payload, Shape};
+use point_kit::Payload;
 use std::alloc::Global;
 use std::marker::Model;
 
@@ -72,7 +69,7 @@ impl Tally {
         ensures value { OnOk result (self.new ≡ after_measure self.old (entry_of instrument attrs.now value)) }
         ensures err { IfErr result (λ f. f ≢ MeasureFault.NoMemory → fault_of self.old (entry_of instrument attrs.now value) ≡ Some f) }
         // Where a feed keeps a list of keys, what it keeps takes memory; the feeds before the first such feed are in range.
-        ensures no_memory { IfErr result (λ f. f ≡ MeasureFault.NoMemory → early_fault_of self.old (entry_of instrument attrs.now value) ≡ None) }
+        ensures no_memory { IfErr result (λ f. f ≡ faults.NoMemory → early_fault_of self.old (entry_of instrument attrs.now value) ≡ None) }
         // Points that are there take no memory where every feed keeps all keys.
         ensures held { IsHeld self.old (entry_of instrument attrs.now value) → IfErr result (λ f. f ≢ MeasureFault.NoMemory) }
         ensures unchanged { OnErr result (self.new ≡ self.old) }
@@ -202,37 +199,6 @@ fn is_negative(kind: Option<Kind>, value: i64) -> bool
     }
 }
 
-// The shape of a stream.
-#[inline(always)]
-fn shape_of(plan: &Plan, stream: usize) -> &Shape
-    requires { stream < length plan.now.streams }
-    ensures value { result.now ≡ shape_at plan.now stream }
-    ensures proper { IsTrue (is_proper result.now) }
-{
-    &plan.stream(stream).unwrap().shape
-}
-
-// The set that a feed keeps of the attributes, or none where it keeps them all: they are not copied.
-fn restricted(attrs: &AttrSet, keep: &Keep) -> Result<Option<AttrSet>, NoMemory>
-    ensures value { IfOk result (λ set. unwrap_or set attrs.now ≡ kept keep.now attrs.now) }
-    ensures no_memory { OnErr result (keep.now ≢ keeps.All) }
-{
-    match keep {
-        Keep::All => Ok(None),
-        Keep::Only(_) => Ok(Some(attrs.kept(keep)?)),
-    }
-}
-
-// That set, or the attributes where there is none.
-fn chosen<'a>(only: &'a Option<AttrSet>, attrs: &'a AttrSet) -> &'a AttrSet
-    ensures { result.now ≡ unwrap_or only.now attrs.now }
-{
-    match only {
-        Some(set) => set,
-        None => attrs,
-    }
-}
-
 // The stream of a feed that has no other beside it and keeps all keys.
 fn lone_stream(feeds: &[Feed]) -> Option<usize>
     ensures { IfSome result (λ m. feeds.now ≡ whole_feed m ∷ []) }
@@ -273,92 +239,4 @@ fn lone_at(lone: &Vec<Option<usize>>, instrument: usize) -> Option<usize>
         Some(stream) => *stream,
         None => None,
     }
-}
-
-// Records a value in every feed's stream, or in none. Where the stream of a lone feed is given and the point is there, the
-// point's place alone is needed.
-#[inline(always)]
-fn record(
-    plan: &Plan,
-    overflow: &AttrSet,
-    series: &mut Vec<Series>,
-    lone: Option<usize>,
-    feeds: &[Feed],
-    attrs: &AttrSet,
-    value: i64,
-) -> Result<(), MeasureFault>
-    requires overflow { overflow.now ≡ overflow_set }
-    requires lone { IfSome lone (λ m. feeds.now ≡ whole_feed m ∷ []) }
-    requires feeds { AreFeeds (length series.old.items) feeds.now }
-    requires sound { AllSound plan.now.streams (entries_of series.old.items) }
-    ensures value { OnOk result (entries_of series.new.items ≡ applied plan.now feeds.now attrs.now value (entries_of series.old.items)) }
-    ensures ok { OnOk result (first_out plan.now attrs.now value (entries_of series.old.items) feeds.now ≡ None) }
-    ensures unchanged { OnErr result (entries_of series.new.items ≡ entries_of series.old.items) }
-    ensures err { IfErr result (λ f. f ≢ MeasureFault.NoMemory → first_out plan.now attrs.now value (entries_of series.old.items) feeds.now ≡ Some f) }
-    ensures no_memory { IfErr result (λ f. f ≡ MeasureFault.NoMemory → first_out plan.now attrs.now value (entries_of series.old.items) (whole_first feeds.now) ≡ None) }
-    ensures held { AllHeld plan.now feeds.now attrs.now (entries_of series.old.items) → IfErr result (λ f. f ≢ MeasureFault.NoMemory) }
-{
-    if let Some(stream) = lone
-        && let Some(place) = series[stream].find(plan.limit(), overflow, attrs)
-    {
-        let shape = shape_of(plan, stream);
-        let points = &mut series[stream];
-        if !points.try_add(place, shape, value) {
-            return Err(MeasureFault::Overflow(stream));
-        }
-        return Ok(());
-    }
-    record_each(plan, overflow, series, feeds, attrs, value, false)
-}
-
-// Records a value in every feed's stream, or in none. `short` says that an earlier feed found no memory.
-fn record_each(
-    plan: &Plan,
-    overflow: &AttrSet,
-    series: &mut Vec<Series>,
-    feeds: &[Feed],
-    attrs: &AttrSet,
-    value: i64,
-    short: bool,
-) -> Result<(), MeasureFault>
-    requires overflow { overflow.now ≡ overflow_set }
-    requires feeds { AreFeeds (length series.old.items) feeds.now }
-    requires sound { AllSound plan.now.streams (entries_of series.old.items) }
-    ensures value { OnOk result (entries_of series.new.items ≡ applied plan.now feeds.now attrs.now value (entries_of series.old.items)) }
-    ensures ok { OnOk result (first_out plan.now attrs.now value (entries_of series.old.items) feeds.now ≡ None) }
-    ensures had { OnOk result (short ≡ false) }
-    ensures unchanged { OnErr result (entries_of series.new.items ≡ entries_of series.old.items) }
-    ensures err { IfErr result (λ f. f ≢ MeasureFault.NoMemory → first_out plan.now attrs.now value (entries_of series.old.items) feeds.now ≡ Some f) }
-    ensures no_memory { IfErr result (λ f. f ≡ MeasureFault.NoMemory → first_out plan.now attrs.now value (entries_of series.old.items) (whole_first feeds.now) ≡ None) }
-    ensures held { short ≡ false → AllHeld plan.now feeds.now attrs.now (entries_of series.old.items) → IfErr result (λ f. f ≢ MeasureFault.NoMemory) }
-    ensures len { length series.new.items ≡ length series.old.items }
-    ensures others { (m : ℕ) → lacks m feeds.now → slice_get series.new.items m ≡ slice_get series.old.items m }
-{
-    let Some((feed, rest)) = feeds.split_first() else {
-        return if short {
-            Err(MeasureFault::NoMemory)
-        } else {
-            Ok(())
-        };
-    };
-    let only = restricted(attrs, &feed.keep)?;
-    let set = chosen(&only, attrs);
-    let limit = plan.limit();
-    let shape = shape_of(plan, feed.stream);
-    let points = &mut series[feed.stream];
-    let Some(place) = points.find(limit, overflow, set) else {
-        let Ok(fresh) = points.fresh(limit, overflow, set, shape, value) else {
-            // It is refused, and the feeds that follow say why.
-            return record_each(plan, overflow, series, rest, attrs, value, true);
-        };
-        record_each(plan, overflow, series, rest, attrs, value, short)?;
-        series[feed.stream].insert(fresh);
-        return Ok(());
-    };
-    if !points.takes(place, value) {
-        return Err(MeasureFault::Overflow(feed.stream));
-    }
-    record_each(plan, overflow, series, rest, attrs, value, short)?;
-    series[feed.stream].add(place, shape, value);
-    Ok(())
 }

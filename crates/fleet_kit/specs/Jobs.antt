@@ -1,10 +1,10 @@
 -- The jobs of a fleet.
-use Rattle.std.specs.Prelude.{ℕ, ℤ, ◌+◌, List, [], ◌∷◌, map}
+use Rattle.std.specs.Prelude.{◌≡◌, ℕ, ℤ, ◌+◌, List, [], ◌∷◌, map}
 use Rattle.std.specs.List.{flat_map}
 use Rattle.agg_kit.specs.Entries.{Entry, entry_of}
 use Rattle.attr_kit.specs.declared.attr_set.AttrSet.{AttrSet}
 use Rattle.rollup_kit.specs.Fleets.{Task}
-use Rattle.turn_kit.specs.History.{weigh}
+use Rattle.turn_kit.specs.History.{weigh, weigh_all}
 use Rattle.writer_kit.specs.declared.shared.change.WriterChange.{WriterChange}
 use Rattle.fleet_kit.specs.Closing.{change_of}
 use Rattle.fleet_kit.specs.declared.setup.Job.{Job}
@@ -35,3 +35,7 @@ job_entries js = flat_map entries js
 abbrev pub work_of : (WriterChange → ℕ) → List Job → ℕ
 work_of f [] = 0
 work_of f (j ∷ js) = weigh f (changes j) + work_of f js
+
+-- the family weighs what it did and these jobs, however changes are weighed
+abbrev pub AddsWork : List Job → List (ℕ × List WriterChange) → List (ℕ × List WriterChange) → Type 0
+AddsWork js old new = (f : WriterChange → ℕ) → weigh_all f new ≡ weigh_all f old + work_of f js

@@ -10,7 +10,7 @@ ghost use Rattle.writer_kit.specs.declared.shared.change.WriterChange.{WriterCha
 ghost use Rattle.fleet_kit.specs.Closing.{Weighs};
 ghost use Rattle.fleet_kit.specs.Halts.{unrecorded, IsFirst, StopsAt, StopsRecording};
 ghost use Rattle.fleet_kit.specs.declared.halt.Halt.TheVariants as halts;
-ghost use Rattle.fleet_kit.specs.Jobs.{changes, job_entries, task_of, work_of};
+ghost use Rattle.fleet_kit.specs.Jobs.{changes, job_entries, task_of, work_of, AddsWork};
 
 use crate::halt::Halt;
 use crate::{Gate, Job};
@@ -171,7 +171,7 @@ fn join_all(shared: &SharedWriter, main: &mut Seat<Writer>, dones: Vec<Done<'_>>
     requires dones { All (λ d. IsAt shared.now d.seat) dones.items }
     ensures main { IsAt shared.now main.new × (mine main.new ≡ mine main.old) }
     ensures first { IsFirst (λ h. In (Some h) (map (λ d. d.fault) dones.entry.items)) result }
-    ensures all { IfNone result ((f : WriterChange → ℕ) → weigh_all f (joined main.new) ≡ weigh_all f (joined main.old) + work_of f (map (λ d. d.job.now) dones.entry.items)) }
+    ensures all { IfNone result (AddsWork (map (λ d. d.job.now) dones.entry.items) (joined main.old) (joined main.new)) }
 {
     let mut dones = dones;
     let mut told = None;

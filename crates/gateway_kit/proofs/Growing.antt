@@ -43,12 +43,12 @@ pub second_true : (a b : Bool) → (a && b) ≡ true → b ≡ true
 second_true true b e = e
 second_true false b e = absurd (true≢false (sym e))
 
-all_set : {A : Type 0} (p : A → Bool) (xs : List A) (i : ℕ) (y : A) → list_all p xs ≡ true → p y ≡ true → list_all p (slice_set xs i y) ≡ true
+pub all_set : {A : Type 0} (p : A → Bool) (xs : List A) (i : ℕ) (y : A) → list_all p xs ≡ true → p y ≡ true → list_all p (slice_set xs i y) ≡ true
 all_set p [] i y h t = refl
 all_set p (x ∷ xs) zero y h t = both_true (p y) (list_all p xs) t (second_true (p x) (list_all p xs) h)
 all_set p (x ∷ xs) (suc i) y h t = both_true (p x) (list_all p (slice_set xs i y)) (first_true (p x) (list_all p xs) h) (all_set p xs i y (second_true (p x) (list_all p xs) h) t)
 
-all_insert : {A : Type 0} (p : A → Bool) (xs : List A) (i : ℕ) (y : A) → list_all p xs ≡ true → p y ≡ true → list_all p (insert xs i y) ≡ true
+pub all_insert : {A : Type 0} (p : A → Bool) (xs : List A) (i : ℕ) (y : A) → list_all p xs ≡ true → p y ≡ true → list_all p (insert xs i y) ≡ true
 all_insert p [] zero y h t = both_true (p y) true t refl
 all_insert p [] (suc i) y h t = both_true (p y) true t refl
 all_insert p (x ∷ xs) zero y h t = both_true (p y) (list_all p (x ∷ xs)) t h
@@ -107,14 +107,14 @@ installed_cells e some old c prepared =
 
 -- one part changed in its place, or put in where it belongs
 module _ (olds : List Part) (len : ℕ) (whole : IsWhole olds len) (a : PartKey) (came : List Entry) (more changed : ℕ) where
-  pub grows_at : (place : ℕ) (part new : Part) (cells : Cells) → IsAt part_cmp (map part_of olds) a place → part ≡ get_or olds place part → new ≡ record part { cells = cells } → has_some (entries cells) ≡ true → ((b : ItemKey) → find item_cmp b (entries cells) ≡ join_options (join_cells payload_eq) (find item_cmp b (entries part.cells)) (find item_cmp b came)) → more ≡ count_by (is_new item_cmp (entries part.cells)) came → changed ≡ count_by (is_change item_cmp (join_cells payload_eq) cell_eq (entries part.cells)) came → Grows olds (slice_set olds place new) a came more changed
+  pub grows_at : (place : ℕ) (part new : Part) (cells : Cells) → IsAt part_cmp (map part_of olds) a place → part ≡ get_or olds place part → part_of new ≡ ((part.writer, part.start), cells) → has_some (entries cells) ≡ true → ((b : ItemKey) → find item_cmp b (entries cells) ≡ join_options (join_cells payload_eq) (find item_cmp b (entries part.cells)) (find item_cmp b came)) → more ≡ count_by (is_new item_cmp (entries part.cells)) came → changed ≡ count_by (is_change item_cmp (join_cells payload_eq) cell_eq (entries part.cells)) came → Grows olds (slice_set olds place new) a came more changed
   grows_at place part new cells at is new_is some joined m n =
       let there : find part_cmp a (map part_of olds) ≡ Some part.cells = found_place part_of part_total olds place part a (as_T whole.sorted) at is in
       let here : part_at a olds ≡ entries part.cells = ap entries_at there in
-      let moved : map part_of (slice_set olds place new) ≡ amend (λ old cs. cs) (map part_of olds) place cells = set_amend part_of (λ old cs. cs) olds place part new cells (within_at part_of olds place a at) is (ap part_of new_is) in
+      let moved : map part_of (slice_set olds place new) ≡ amend (λ old cs. cs) (map part_of olds) place cells = set_amend part_of (λ old cs. cs) olds place part new cells (within_at part_of olds place a at) is new_is in
       record {
         sorted = ap (is_sorted part_cmp) moved ∙ is_sorted-amend part_total (λ (old : Cells) cs. cs) (map part_of olds) place cells ∙ whole.sorted;
-        filled = all_set has_cells olds place new whole.filled (ap (λ (p : Part). has_cells p) new_is ∙ some);
+        filled = all_set has_cells olds place new whole.filled (ap (λ (e : PartKey × Cells). has_some (entries e.1)) new_is ∙ some);
         cells = cells;
         found = λ k. ap (find part_cmp k) moved ∙ find-amend part_total (λ (old : Cells) cs. cs) k a (map part_of olds) place cells (as_T whole.sorted) at ∙ ap (λ x. cond (eq_by_cmp part_cmp k a) (option_map (λ v. cells) x) (find part_cmp k (map part_of olds))) there;
         joined = λ b. joined b ∙ ap (λ es. join_options (join_cells payload_eq) (find item_cmp b es) (find item_cmp b came)) (sym here);
@@ -122,13 +122,13 @@ module _ (olds : List Part) (len : ℕ) (whole : IsWhole olds len) (a : PartKey)
         changes = n ∙ ap (λ es. count_by (is_change item_cmp (join_cells payload_eq) cell_eq es) came) (sym here);
       }
 
-  pub grows_gap : (place : ℕ) (new : Part) (cells : Cells) → IsGap part_cmp (map part_of olds) a place → new ≡ record { writer = a.0; start = a.1; cells = cells } → has_some (entries cells) ≡ true → ((b : ItemKey) → find item_cmp b (entries cells) ≡ join_options (join_cells payload_eq) (find item_cmp b (entries no_cells)) (find item_cmp b came)) → more ≡ count_by (is_new item_cmp (entries no_cells)) came → changed ≡ count_by (is_change item_cmp (join_cells payload_eq) cell_eq (entries no_cells)) came → Grows olds (insert olds place new) a came more changed
+  pub grows_gap : (place : ℕ) (new : Part) (cells : Cells) → IsGap part_cmp (map part_of olds) a place → part_of new ≡ (a, cells) → has_some (entries cells) ≡ true → ((b : ItemKey) → find item_cmp b (entries cells) ≡ join_options (join_cells payload_eq) (find item_cmp b (entries no_cells)) (find item_cmp b came)) → more ≡ count_by (is_new item_cmp (entries no_cells)) came → changed ≡ count_by (is_change item_cmp (join_cells payload_eq) cell_eq (entries no_cells)) came → Grows olds (insert olds place new) a came more changed
   grows_gap place new cells gap new_is some joined m n =
       let here : part_at a olds ≡ entries no_cells = ap entries_at gap.none ∙ sym entries-empty in
-      let moved : map part_of (insert olds place new) ≡ put part_cmp a cells (map part_of olds) = map-insert part_of olds place new ∙ ap (λ (p : Part). insert (map part_of olds) place (part_of p)) new_is ∙ gap.fits cells in
+      let moved : map part_of (insert olds place new) ≡ put part_cmp a cells (map part_of olds) = map-insert part_of olds place new ∙ ap (insert (map part_of olds) place) new_is ∙ gap.fits cells in
       record {
         sorted = ap (is_sorted part_cmp) moved ∙ as_true _ (is_sorted-put part_cmp part_total a cells (map part_of olds) (as_T whole.sorted));
-        filled = all_insert has_cells olds place new whole.filled (ap (λ (p : Part). has_cells p) new_is ∙ some);
+        filled = all_insert has_cells olds place new whole.filled (ap (λ (e : PartKey × Cells). has_some (entries e.1)) new_is ∙ some);
         cells = cells;
         found = λ k. ap (find part_cmp k) moved ∙ find-put part_cmp part_total k a cells (map part_of olds);
         joined = λ b. joined b ∙ ap (λ es. join_options (join_cells payload_eq) (find item_cmp b es) (find item_cmp b came)) (sym here);
@@ -137,13 +137,13 @@ module _ (olds : List Part) (len : ℕ) (whole : IsWhole olds len) (a : PartKey)
       }
 
 module _ (olds : List Part) (len : ℕ) (whole : IsWhole olds len) (e : Export) (some : e.points ≢ []) (c : Changes) (more changed : ℕ) where
-  pub grows_held : (place : ℕ) (part new : Part) → IsAt part_cmp (map part_of olds) (e.writer, e.start) place → part ≡ get_or olds place part → Prepares (entries part.cells) (entries_of e) c → new ≡ record part { cells = from_sorted (grown (entries part.cells) c) } → more ≡ length c.fresh.items → changed ≡ length c.updates.items + length c.fresh.items → Grows olds (slice_set olds place new) (e.writer, e.start) (entries_of e) more changed
+  pub grows_held : (place : ℕ) (part new : Part) → IsAt part_cmp (map part_of olds) (e.writer, e.start) place → part ≡ get_or olds place part → Prepares (entries part.cells) (entries_of e) c → part_of new ≡ ((part.writer, part.start), from_sorted (grown (entries part.cells) c)) → more ≡ length c.fresh.items → changed ≡ length c.updates.items + length c.fresh.items → Grows olds (slice_set olds place new) (e.writer, e.start) (entries_of e) more changed
   grows_held place part new at is prepared new_is m n =
       let cells : Cells = from_sorted (grown (entries part.cells) c) in
       let inside : Installed e part.cells cells = installed_cells e some part.cells c prepared in
       grows_at olds len whole (e.writer, e.start) (entries_of e) more changed place part new cells at is new_is inside.filled inside.joined (m ∙ sym prepared.new) (n ∙ sym prepared.changed)
 
-  pub grows_new : (place : ℕ) (new : Part) → IsGap part_cmp (map part_of olds) (e.writer, e.start) place → Prepares (entries no_cells) (entries_of e) c → new ≡ record { writer = e.writer; start = e.start; cells = from_sorted (grown (entries no_cells) c) } → more ≡ length c.fresh.items → changed ≡ length c.updates.items + length c.fresh.items → Grows olds (insert olds place new) (e.writer, e.start) (entries_of e) more changed
+  pub grows_new : (place : ℕ) (new : Part) → IsGap part_cmp (map part_of olds) (e.writer, e.start) place → Prepares (entries no_cells) (entries_of e) c → part_of new ≡ ((e.writer, e.start), from_sorted (grown (entries no_cells) c)) → more ≡ length c.fresh.items → changed ≡ length c.updates.items + length c.fresh.items → Grows olds (insert olds place new) (e.writer, e.start) (entries_of e) more changed
   grows_new place new gap prepared new_is m n =
       let cells : Cells = from_sorted (grown (entries no_cells) c) in
       let inside : Installed e no_cells cells = installed_cells e some no_cells c prepared in

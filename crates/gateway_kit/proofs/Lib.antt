@@ -9,6 +9,7 @@ pub mod KeyOrders
 pub mod MergeParts
 pub mod Merged
 pub mod Moved
+pub mod Movement
 pub mod Nested
 pub mod OneCell
 pub mod Places
@@ -22,3 +23,5 @@ pub mod Tallies
 pub mod Times
 pub mod Ahead
 pub mod SharedPoints
+pub mod ItemMoves
+pub mod AllMoves

@@ -25,6 +25,12 @@ module _ {A K V C : Type 0} (f : A → K × V) (made : V → C → V) where
   past_amend (z ∷ xs) zero c h = absurd (omega arith)
   past_amend (z ∷ xs) (suc i) c h = ap (λ l. f z ∷ l) (past_amend xs i c (omega arith))
 
+-- a value put at a place of which nothing else is seen
+pub set_same : {A B : Type 0} (f : A → B) (xs : List A) (i : ℕ) (x y : A) → x ≡ get_or xs i x → f y ≡ f x → map f (slice_set xs i y) ≡ map f xs
+set_same f [] i x y is e = refl
+set_same f (z ∷ xs) zero x y is e = ap (λ b. b ∷ map f xs) (e ∙ ap f is)
+set_same f (z ∷ xs) (suc i) x y is e = ap (λ l. f z ∷ l) (set_same f xs i x y is e)
+
 -- what stands at a place
 pub got_map : {A B : Type 0} (f : A → B) (xs : List A) (i : ℕ) (x : A) → i < length xs → x ≡ get_or xs i x → slice_get (map f xs) i ≡ Some (f x)
 got_map f [] i x h is = absurd (omega arith)

@@ -14,7 +14,7 @@ use Rattle.point_kit.specs.declared.writer_id.WriterId.{WriterId}
 use Rattle.gateway_kit.specs.Amending.{amend}
 use Rattle.gateway_kit.specs.Changing.{Entry, Drafts, replaced}
 use Rattle.gateway_kit.specs.Growth.{Grows}
-use Rattle.gateway_kit.specs.Keys.{PartKey, ItemKey, part_cmp, item_cmp, entry_of}
+use Rattle.gateway_kit.specs.Keys.{PartKey, ItemKey, part_cmp, item_cmp, entry_of, numbered}
 use Rattle.gateway_kit.specs.OneCell.{JoinsEntry}
 use Rattle.gateway_kit.specs.Part.{Part}
 use Rattle.gateway_kit.specs.Parts.{IsWhole, part_of, has_some}
@@ -114,11 +114,15 @@ pub joins_alike : (olds others news now : List Entry) (came : Entry) (more chang
 joins_alike olds others news now came more changed p q joins =
     subst (λ (es : List Entry). JoinsEntry es now came more changed) p (subst (λ (es : List Entry). JoinsEntry olds es came more changed) q joins)
 
--- the entries that an incarnation shows
-pub cells_of : (p : Part) (writer : WriterId) (start : ℕ) (items : List PartItem) → is_sorted item_cmp (map entry_of items) ≡ true → ◌≡◌ {A = Part} (record { writer = writer; start = start; cells = from_sorted {R = item_cmp} (map entry_of items) }) p → entries p.cells ≡ map entry_of items
+-- an incarnation as it is seen
+abbrev pub shows : WriterId → ℕ → List PartItem → Part
+shows writer start items = record { writer = writer; start = start; cells = from_sorted {R = item_cmp} (map entry_of items); numbers = from_sorted {R = item_cmp} (map numbered items) }
+
+-- the entries that it shows
+pub cells_of : (p : Part) (writer : WriterId) (start : ℕ) (items : List PartItem) → is_sorted item_cmp (map entry_of items) ≡ true → shows writer start items ≡ p → entries p.cells ≡ map entry_of items
 cells_of p writer start items sorted is = ap (λ (q : Part). entries q.cells) (sym is) ∙ entries-from_sorted item_cmp (map entry_of items) (as_T sorted)
 
 -- a part into which a cell was joined
-pub held_grows : {E : Type 0} (olds : List Part) (len : ℕ) → IsWhole olds len → (a : PartKey) (k : ItemKey) (w : Cell Payload) (place : ℕ) (part new : Part) → IsAt part_cmp (map part_of olds) a place → part ≡ get_or olds place part → (r : Result Growth E) → IfOk r (λ g. JoinsEntry (entries part.cells) (entries new.cells) (k, w) g.more g.changed) → OnOk r (new ≡ record part { cells = new.cells }) → IfOk r (λ g. Grows olds (slice_set olds place new) a ((k, w) ∷ []) g.more g.changed)
+pub held_grows : {E : Type 0} (olds : List Part) (len : ℕ) → IsWhole olds len → (a : PartKey) (k : ItemKey) (w : Cell Payload) (place : ℕ) (part new : Part) → IsAt part_cmp (map part_of olds) a place → part ≡ get_or olds place part → (r : Result Growth E) → IfOk r (λ g. JoinsEntry (entries part.cells) (entries new.cells) (k, w) g.more g.changed) → OnOk r ((part_of new).0 ≡ (part_of part).0) → IfOk r (λ g. Grows olds (slice_set olds place new) a ((k, w) ∷ []) g.more g.changed)
 held_grows olds len whole a k w place part new at is (Err e) joins same = tt
-held_grows olds len whole a k w place part new at is (Ok g) joins same = grows_at olds len whole a ((k, w) ∷ []) g.more g.changed place part new new.cells at is same (joins_some (entries part.cells) (entries new.cells) k w g.more g.changed joins) joins.joined joins.more_keys joins.changes
+held_grows olds len whole a k w place part new at is (Ok g) joins same = grows_at olds len whole a ((k, w) ∷ []) g.more g.changed place part new new.cells at is (λ i. (same i, new.cells)) (joins_some (entries part.cells) (entries new.cells) k w g.more g.changed joins) joins.joined joins.more_keys joins.changes

@@ -11,11 +11,10 @@ use Rattle.point_kit.specs.declared.key.Key.{Key}
 use Rattle.point_kit.specs.declared.payload.Payload.{Payload}
 use Rattle.gateway_kit.specs.Changing.{Entry}
 use Rattle.gateway_kit.specs.Growth.{part_at}
-use Rattle.gateway_kit.specs.Keys.{PartKey, part_cmp, entry_of, whole_key}
+use Rattle.gateway_kit.specs.Keys.{PartKey, part_cmp, whole_key}
 use Rattle.gateway_kit.specs.Part.{Part, Cells}
 use Rattle.gateway_kit.specs.Parts.{listed, part_of, entries_at, has_some}
-use Rattle.gateway_kit.specs.Queries.{is_part, part_points, part_items}
-use Rattle.gateway_kit.specs.declared.part_item.PartItem.{PartItem}
+use Rattle.gateway_kit.specs.Queries.{is_part, part_points}
 use Rattle.gateway_kit.specs.Times.{greatest, latest}
 use Rattle.gateway_kit.proofs.Entries.{as_T, first, second, less, below_tied, map_map}
 use Rattle.gateway_kit.proofs.Joining.{under, entries_points}
@@ -48,10 +47,6 @@ module _ (a : PartKey) where
 -- the points of an incarnation of a gateway
 pub points_under : (a : PartKey) (ps : List Part) → is_sorted part_cmp (map part_of ps) ≡ true → part_points a.0 a.1 (from_sorted {R = key_cmp} (listed ps)) ≡ under a (part_at a ps)
 points_under a ps sorted = ap (filter (λ e. is_part a.0 a.1 e.0)) (entries_points ps sorted) ∙ listed_part a ps (as_T sorted)
-
--- and its items, where it is held
-pub items_under : (a : PartKey) (items : List PartItem) (cells : Cells) → map entry_of items ≡ entries cells → part_items a.0 a.1 items ≡ under a (entries cells)
-items_under a items cells is = sym (map_map (λ (e : Entry). (whole_key a e.0, e.1)) entry_of items) ∙ ap (under a) is
 
 -- the greatest time of an incarnation that has cells
 pub newest_under : (a : PartKey) (es : List Entry) → has_some es ≡ true → greatest (map (λ e. e.1.time) (under a es)) ≡ Some (latest es)

@@ -63,7 +63,7 @@ replay_one : (s : Option View) (xs : History) (x : ℕ × GatewayChange) → rep
 replay_one s [] x = refl
 replay_one s (y ∷ ys) x = replay_one (then_next told s y.1) ys x
 
-module _ {g : _} (shared : SharedGateway) (s t : Seat View GatewayChange g) where
+module _ {G : Type 0} {g : _} (shared : SharedGateway G) (s t : Seat View GatewayChange g) where
   adding : (c : GatewayChange) (n : ℕ) → Accepts shared c n s t → Adds shared c n s t
   adding c n h =
       let first = first_of shared in
@@ -89,7 +89,7 @@ module _ {g : _} (shared : SharedGateway) (s t : Seat View GatewayChange g) wher
   answers answered (Ok a) h = sees (answered a) h
   answers answered (Err f) h = tt
 
-pub closes : {g : _} (shared : SharedGateway) (s : Seat View GatewayChange g) (m : View) → Closes (λ v. v) told (first_of shared) s m → (c : Closes (λ v. v) told (first_of shared) s m) × Keeps (first_of shared) c.history m
+pub closes : {G : Type 0} {g : _} (shared : SharedGateway G) (s : Seat View GatewayChange g) (m : View) → Closes (λ v. v) told (first_of shared) s m → (c : Closes (λ v. v) told (first_of shared) s m) × Keeps (first_of shared) c.history m
 closes shared s m c = (c, keeps (first_of shared) c.history m c.replays)
 
 -- ---- the same changes bring the same

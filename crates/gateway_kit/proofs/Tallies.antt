@@ -1,5 +1,5 @@
 -- How many conflicts there are, as items and parts change.
-use Rattle.std.proofs.Common.{◌≡◌, ℕ, zero, suc, ◌+◌, ◌-◌, ◌<◌, ◌≤◌, ◌^◌, true, cond, Result, Ok, Err, IfOk, List, [], ◌∷◌, ◌++◌, map, take, length, get_or, refl, sym, ap, ◌∙◌, arith, count_by}
+use Rattle.std.proofs.Common.{◌≡◌, ℕ, zero, suc, ◌+◌, ◌-◌, ◌<◌, ◌≤◌, ◌^◌, true, cond, Result, Ok, Err, IfOk, List, [], ◌∷◌, ◌++◌, map, take, length, get_or, refl, sym, ap, subst, ◌∙◌, arith, count_by}
 use Rattle.std.specs.Prelude.{slice_set}
 use Rattle.std.specs.List.{insert, sum_by}
 use Rattle.std.specs.FinMap.{entries, from_sorted}
@@ -16,22 +16,21 @@ use Rattle.gateway_kit.specs.Keys.{entry_of, item_cmp, whole_key}
 use Rattle.gateway_kit.specs.Part.{Part}
 use Rattle.gateway_kit.specs.Parts.{IsWhole, listed}
 use Rattle.gateway_kit.specs.Queries.{has_conflict}
-use Rattle.gateway_kit.specs.Tallies.{Tells, conflict, conflicts_in, conflicts_of, part_conflicts}
+use Rattle.gateway_kit.specs.Tallies.{Tells, conflict, rank, conflicts_in, conflicts_of, part_conflicts}
 use Rattle.gateway_kit.specs.declared.taking.Growth.{Growth}
 use Rattle.gateway_kit.specs.declared.part_item.PartItem.{PartItem}
 use Rattle.gateway_kit.proofs.Counting.{count_cons, count_map}
-use Rattle.gateway_kit.proofs.OneCell.{cells_of}
-use Rattle.gateway_kit.proofs.Times.{not_below, written}
+use Rattle.gateway_kit.proofs.OneCell.{cells_of, shows}
+use Rattle.gateway_kit.proofs.Times.{below, written}
 
 counted : (e : Entry) (es : List Entry) → conflicts_in (e ∷ es) ≡ conflict e.1 + conflicts_in es
 counted e es = count_cons (λ (d : Entry). has_conflict d.1) e es
 
 -- a later cell put at a place
-pub conflicts_put : (xs : List PartItem) (i : ℕ) (x : PartItem) (c : Cell Payload) → i < length xs → x ≡ get_or xs i x → x.cell.time ≤ c.time → conflicts_in (amend replaced (map entry_of xs) i c) + conflict x.cell ≡ conflicts_in (map entry_of xs) + conflict c
+pub conflicts_put : (xs : List PartItem) (i : ℕ) (x : PartItem) (c : Cell Payload) → i < length xs → x ≡ get_or xs i x → rank x.cell < rank c → conflicts_in (amend replaced (map entry_of xs) i c) + conflict x.cell ≡ conflicts_in (map entry_of xs) + conflict c
 conflicts_put [] i x c h is up = absurd (omega arith)
 conflicts_put (z ∷ xs) zero x c h is up =
-    let same : x.cell.time ≡ z.cell.time = ap (λ (y : PartItem). y.cell.time) is in
-    let comes : replaced z.cell c ≡ c = ap (λ b. cond b z.cell c) (not_below c.time z.cell.time (omega arith)) in
+    let comes : replaced z.cell c ≡ c = ap (λ b. cond b c z.cell) (below (rank z.cell) (rank c) (subst (λ (y : PartItem). rank y.cell < rank c) is up)) in
     let now : conflicts_in (((entry_of z).0, replaced z.cell c) ∷ map entry_of xs) ≡ conflict c + conflicts_in (map entry_of xs) = counted ((entry_of z).0, replaced z.cell c) (map entry_of xs) ∙ ap (λ (d : Cell Payload). conflict d + conflicts_in (map entry_of xs)) comes in
     let was : conflicts_in (entry_of z ∷ map entry_of xs) ≡ conflict x.cell + conflicts_in (map entry_of xs) = counted (entry_of z) (map entry_of xs) ∙ ap (λ (y : PartItem). conflict y.cell + conflicts_in (map entry_of xs)) (sym is) in
     summed (conflict x.cell) (conflict c) (conflicts_in (map entry_of xs)) _ _ now was
@@ -49,15 +48,15 @@ pub conflicts_few : (es : List Entry) → conflicts_in es ≤ length es
 conflicts_few es = count_by-le-length (λ (d : Entry). has_conflict d.1) es
 
 -- a cell that is not earlier, in place of another: what is taken off is there
-module _ (xs : List PartItem) (i : ℕ) (x : PartItem) (c : Cell Payload) (within : i < length xs) (is : x ≡ get_or xs i x) (up : x.cell.time ≤ c.time) (before now was : ℕ) (told : before ≡ conflicts_in (map entry_of xs)) (n : now ≡ conflict c) (w : was ≡ conflict x.cell) where
+module _ (xs : List PartItem) (i : ℕ) (x : PartItem) (c : Cell Payload) (within : i < length xs) (is : x ≡ get_or xs i x) (up : rank x.cell < rank c) (before now was : ℕ) (told : before ≡ conflicts_in (map entry_of xs)) (n : now ≡ conflict c) (w : was ≡ conflict x.cell) where
   pub put_under : was ≤ before + now
   put_under = let put = conflicts_put xs i x c within is up in omega (arith, put, told, n, w)
 
   put_counts : before + now - was ≡ conflicts_in (amend replaced (map entry_of xs) i c)
   put_counts = let put = conflicts_put xs i x c within is up in omega (arith, put, told, n, w)
 
-pub written_conflicts : (xs : List PartItem) (i : ℕ) (x y : PartItem) (c : Cell Payload) (within : i < length xs) (is : x ≡ get_or xs i x) (lent : y ≡ get_or xs i y) (up : x.cell.time ≤ c.time) (before now was : ℕ) → before ≡ conflicts_in (map entry_of xs) → now ≡ conflict c → was ≡ conflict x.cell → before + now - was ≡ conflicts_in (map entry_of (slice_set xs i (record { stream = y.stream; attrs = y.attrs; cell = c })))
-written_conflicts xs i x y c within is lent up before now was told n w = put_counts xs i x c within is up before now was told n w ∙ ap (λ (es : List Entry). conflicts_in es) (sym (written xs i x y c within is lent up))
+pub written_conflicts : (xs : List PartItem) (i : ℕ) (x y : PartItem) (c : Cell Payload) (within : i < length xs) (is : x ≡ get_or xs i x) (lent : y ≡ get_or xs i y) (up : rank x.cell < rank c) (number before now was : ℕ) → before ≡ conflicts_in (map entry_of xs) → now ≡ conflict c → was ≡ conflict x.cell → before + now - was ≡ conflicts_in (map entry_of (slice_set xs i (record { stream = y.stream; attrs = y.attrs; cell = c; number = number })))
+written_conflicts xs i x y c within is lent up number before now was told n w = put_counts xs i x c within is up before now was told n w ∙ ap (λ (es : List Entry). conflicts_in es) (sym (written xs i x y c within is lent up number))
 
 -- one more entry
 pub conflicts_more : (es : List Entry) (e : Entry) → conflicts_in (es ++ e ∷ []) ≡ conflicts_in es + conflict e.1
@@ -146,7 +145,7 @@ module _ (olds news : List Part) (before after total : ℕ) (was : total ≡ con
       omega (arith, few, long, short, is)
 
 -- the conflicts of a part as its items show them
-pub shown : (p : Part) (writer : WriterId) (start : ℕ) (items : List PartItem) (n : ℕ) → is_sorted item_cmp (map entry_of items) ≡ true → ◌≡◌ {A = Part} (record { writer = writer; start = start; cells = from_sorted {R = item_cmp} (map entry_of items) }) p → n ≡ conflicts_in (map entry_of items) → n ≡ part_conflicts p
+pub shown : (p : Part) (writer : WriterId) (start : ℕ) (items : List PartItem) (n : ℕ) → is_sorted item_cmp (map entry_of items) ≡ true → shows writer start items ≡ p → n ≡ conflicts_in (map entry_of items) → n ≡ part_conflicts p
 shown p writer start items n sorted is told = told ∙ ap (λ (es : List Entry). conflicts_in es) (sym (cells_of p writer start items sorted is))
 
 pub whole_few : (parts : List Part) (len : ℕ) → IsWhole parts len → conflicts_of parts ≤ 2 ^ 62

@@ -13,6 +13,7 @@ use Rattle.gateway_kit.specs.Amending.{amended}
 use Rattle.gateway_kit.specs.Bringing.{Brings, is_new, is_change}
 use Rattle.gateway_kit.specs.Keys.{ItemKey, item_cmp, entry_of}
 use Rattle.point_kit.specs.Equality.{cell_eq}
+use Rattle.gateway_kit.specs.Tallies.{rank}
 use Rattle.gateway_kit.specs.Weave.{weave}
 use Rattle.gateway_kit.specs.declared.changes.Changes.{Changes}
 use Rattle.gateway_kit.specs.declared.part_item.PartItem.{PartItem}
@@ -34,9 +35,9 @@ IsUpdate mine theirs (Some cell) = (cell ≡ join_cells payload_eq mine theirs) 
 abbrev pub entries_of : Export → List Entry
 entries_of e = map (λ p. ((p.stream, p.attrs), record { time = e.time; held = One p.payload })) e.points
 
--- an update comes in place of another cell, where that is not later
+-- an update comes in place of another cell, where that is below it
 abbrev pub replaced : Cell Payload → Cell Payload → Cell Payload
-replaced old new = cond (nat_lt new.time old.time) old new
+replaced old new = cond (nat_lt (rank old) (rank new)) new old
 
 -- the entries with their cells updated, and the new ones woven in where there is room for them
 abbrev pub grown : List Entry → Changes → List Entry

@@ -33,6 +33,10 @@ item_cmp a b = ordering_then ((streams.ghosts).cmp a.0 b.0) ((sets.ghosts).cmp a
 abbrev pub whole_key : PartKey → ItemKey → Key
 whole_key a b = record { writer = a.0; start = a.1; stream = b.0; attrs = b.1 }
 
--- an item's key within its incarnation, with its cell
+-- an item's key within its incarnation, with its number
+abbrev pub numbered : PartItem → ItemKey × ℕ
+numbered item = ((item.stream, item.attrs), item.number)
+
+-- and with its cell
 abbrev pub entry_of : PartItem → ItemKey × Cell Payload
 entry_of item = ((item.stream, item.attrs), item.cell)

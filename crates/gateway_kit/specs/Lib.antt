@@ -8,6 +8,8 @@ pub mod Growth
 pub mod Keys
 pub mod Part
 pub mod Merging
+pub mod Numbering
+pub mod Numbers
 pub mod OneCell
 pub mod Parts
 pub mod Places

@@ -10,8 +10,13 @@ use Rattle.gateway_kit.specs.Keys.{item_cmp}
 abbrev pub Cells : Type 0
 Cells = FinMap item_cmp (Cell Payload)
 
--- whose it is, since when it runs, and its cells
+-- the numbers of its keys
+abbrev pub Numbers : Type 0
+Numbers = FinMap item_cmp ℕ
+
+-- whose it is, since when it runs, its cells, and their numbers
 pub record Part : Type 0 where
   pub writer : WriterId
   pub start : ℕ
   pub cells : Cells
+  pub numbers : Numbers

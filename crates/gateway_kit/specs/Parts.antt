@@ -1,5 +1,5 @@
 -- The parts of a gateway: how its incarnations make its points.
-use Rattle.std.specs.Prelude.{◌≡◌, ◌≤◌, ◌^◌, ℕ, Bool, true, false, IsTrue, Option, Some, None, List, [], ◌∷◌, ◌++◌, map, length}
+use Rattle.std.specs.Prelude.{◌≡◌, ◌≤◌, ◌^◌, ℕ, Bool, true, false, IsTrue, Option, Some, None, List, [], ◌∷◌, ◌++◌, map, filter, nat_lt, length}
 use Rattle.std.specs.FinMap.Entries.{is_sorted}
 use Rattle.std.specs.List.{list_all}
 use Rattle.std.specs.declared.cmp.Ordering.{Ordering}
@@ -8,7 +8,7 @@ use Rattle.point_kit.specs.declared.cell.Cell.{Cell}
 use Rattle.point_kit.specs.declared.key.Key.{Key}
 use Rattle.point_kit.specs.declared.payload.Payload.{Payload}
 use Rattle.gateway_kit.specs.Keys.{PartKey, part_cmp, whole_key}
-use Rattle.gateway_kit.specs.Part.{Part, Cells}
+use Rattle.gateway_kit.specs.Part.{Part, Cells, Numbers}
 
 -- the entries of a map, none where there is no map
 abbrev pub entries_at : {B V : Type 0} {S : B → B → Ordering} → Option (FinMap S V) → List (B × V)
@@ -24,9 +24,17 @@ flatten key (part ∷ parts) = map (λ e. (key part.0 e.0, e.1)) (entries part.1
 abbrev pub part_of : Part → PartKey × Cells
 part_of p = ((p.writer, p.start), p.cells)
 
+-- and with its numbers
+abbrev pub numbers_of : Part → PartKey × Numbers
+numbers_of p = ((p.writer, p.start), p.numbers)
+
 -- the points of all parts, in the order of their keys where the parts are in order
 abbrev pub listed : List Part → List (Key × Cell Payload)
 listed parts = flatten whole_key (map part_of parts)
+
+-- the numbers of all parts that are above 0, in that order
+abbrev pub listed_numbers : List Part → List (Key × ℕ)
+listed_numbers parts = filter (λ e. nat_lt 0 e.1) (flatten whole_key (map numbers_of parts))
 
 -- whether a list has an element
 abbrev pub has_some : {A : Type 0} → List A → Bool

@@ -5,9 +5,8 @@ use mathlib.Core.Option.{some}
 use lib.ListN.{get_elem?}
 use Rattle.point_kit.specs.declared.export.Export.{Export}
 use Rattle.point_kit.specs.Exports.{Points, join_points, changed_points, state}
-use Rattle.turn_kit.specs.declared.note.Note.{Note}
 use Rattle.turn_kit.specs.declared.seat.Seat.{Seat}
-use Rattle.turn_kit.specs.Public.{IsOf, IsNoteOf, Enters, Looks, Exhausts, Refuses, opening, limit_of, seen, number}
+use Rattle.turn_kit.specs.Public.{IsOf, IsSameTurn, Enters, Looks, Exhausts, Refuses, opening, limit_of, seen, number}
 use Rattle.gateway_kit.specs.View.{View}
 use Rattle.gateway_kit.specs.declared.shared.SharedGateway.{SharedGateway}
 use Rattle.gateway_kit.specs.declared.shared.change.GatewayChange.{GatewayChange}
@@ -71,22 +70,23 @@ HasChange h c = (place : ℕ) × (n : ℕ) × (get_elem? h place ≡ some (n, c)
 abbrev pub DependsOnChanges : Type 0
 DependsOnChanges = (g h : History) → ((c : GatewayChange) → HasChange g c ↔ HasChange h c) → brought g ≡ brought h
 
--- the seat is at this shared gateway, and so is the note
-abbrev pub IsAt : {g : _} → SharedGateway → Seat View GatewayChange g → Type 0
+-- the seat is at this shared gateway
+abbrev pub IsAt : {G : Type 0} {g : _} → SharedGateway G → Seat View GatewayChange g → Type 0
 IsAt shared s = IsOf shared.turn s
 
-abbrev pub IsNoteAt : {g : _} → SharedGateway → Note View GatewayChange g → Type 0
-IsNoteAt shared n = IsNoteOf shared.turn n
+-- the shared gateways are one, however the turn of each is given back: the seats and notes of one are the other's
+abbrev pub IsSameShared : {G H : Type 0} → SharedGateway G → SharedGateway H → Type 0
+IsSameShared shared other = IsSameTurn shared.turn other.turn
 
 -- the gateway that was shared
-abbrev pub first_of : SharedGateway → View
+abbrev pub first_of : {G : Type 0} → SharedGateway G → View
 first_of shared = opening shared.turn
 
 -- the most changes that are accepted
-abbrev pub most_of : SharedGateway → ℕ
+abbrev pub most_of : {G : Type 0} → SharedGateway G → ℕ
 most_of shared = limit_of shared.turn
 
-module _ {g : _} (shared : SharedGateway) where
+module _ {G : Type 0} {g : _} (shared : SharedGateway G) where
   -- the seat's change was accepted, and changed so many keys
   abbrev pub Accepts : GatewayChange → ℕ → Seat View GatewayChange g → Seat View GatewayChange g → Type 0
   Accepts c n s t = Enters (λ v. v) told (first_of shared) (most_of shared) c (λ v. n ≡ changed_by v c) s t

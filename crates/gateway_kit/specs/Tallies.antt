@@ -1,6 +1,6 @@
 -- What is kept beside items and beside parts: the greatest time, and how many cells are conflicts.
-use Rattle.std.specs.Prelude.{◌≡◌, ℕ, ◌+◌, ◌≤◌, cond, IsTrue, List, map, count_by}
-use Rattle.std.specs.List.{sum_by}
+use Rattle.std.specs.Prelude.{◌≡◌, ℕ, ◌+◌, ◌≤◌, Bool, cond, nat_le, IsTrue, List, map, count_by}
+use Rattle.std.specs.List.{list_all, sum_by}
 use Rattle.std.specs.FinMap.{entries}
 use Rattle.std.specs.FinMap.Entries.{is_sorted}
 use Rattle.point_kit.specs.declared.cell.Cell.{Cell}
@@ -16,6 +16,10 @@ use Rattle.gateway_kit.specs.declared.tally.Tally.{Tally}
 abbrev pub conflict : Cell Payload → ℕ
 conflict cell = cond (has_conflict cell) 1 0
 
+-- how far a cell has come: a later one is further, and of one time a conflict
+abbrev pub rank : Cell Payload → ℕ
+rank c = c.time + c.time + conflict c
+
 -- how many entries are conflicts
 abbrev pub conflicts_in : {K : Type 0} → List (K × Cell Payload) → ℕ
 conflicts_in es = count_by (λ e. has_conflict e.1) es
@@ -25,10 +29,15 @@ pub record IsTally (es : List (ItemKey × Cell Payload)) (tally : Tally) : Type 
   pub newest : tally.newest ≡ latest es
   pub conflicts : tally.conflicts ≡ conflicts_in es
 
--- items in the order of their keys, and their tally
-pub record IsKept (items : List PartItem) (tally : Tally) : Type 0 where
+-- whether no item has a greater number
+abbrev pub are_up_to : ℕ → List PartItem → Bool
+are_up_to number items = list_all (λ i. nat_le i.number number) items
+
+-- items in the order of their keys, their tally, and a number that none exceeds
+pub record IsKept (items : List PartItem) (tally : Tally) (number : ℕ) : Type 0 where
   pub sorted : IsTrue (is_sorted item_cmp (map entry_of items))
   pub tallied : IsTally (map entry_of items) tally
+  pub up_to : IsTrue (are_up_to number items)
 
 -- how many cells of a part are conflicts
 abbrev pub part_conflicts : Part → ℕ

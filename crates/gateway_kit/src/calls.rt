@@ -1,9 +1,10 @@
 //! What a gateway is made of and told.
-ghost use Rattle.std.specs.Prelude.{IsOk, IsSome, nat_lt, ◌≡◌, ◌≤◌, ◌^◌, IfOk, OnOk, OnErr, Ok, [], ◌∷◌};
+ghost use Rattle.std.specs.Prelude.{IsOk, IsSome, nat_lt, ◌≡◌, ◌<◌, ◌≤◌, ◌^◌, IfOk, OnOk, OnErr, Ok, [], ◌∷◌};
 ghost use Rattle.std.specs.FinMap as finite;
 ghost use Rattle.point_kit.specs.Exports.{state, JoinsExports};
 ghost use Rattle.point_kit.specs.Join.{IsCommutative, IsAssociative, IsIdempotent, JoinsAbove, JoinsLeast};
 ghost use Rattle.point_kit.specs.Exports.{join_points, changed_points};
+ghost use Rattle.gateway_kit.specs.Numbering.{IsNumberedBy, ViewMoves};
 
 use crate::cell_joins::joined;
 use crate::gateway::Gateway;
@@ -18,6 +19,7 @@ impl Gateway {
     pub fn new(alloc: Global, id: u32) -> Gateway
         ensures id { result.id ≡ id }
         ensures value { result.points ≡ finite.empty }
+        ensures numbers { result.numbers ≡ finite.empty }
     {
         Gateway {
             id,
@@ -52,13 +54,40 @@ impl Gateway {
         ensures id { self.new.id ≡ self.old.id }
         ensures ok { OnOk result (self.new.points ≡ join_points self.old.points (state (export.now ∷ []))) }
         ensures value { IfOk result (λ n. n ≡ changed_points self.old.points self.new.points) }
+        ensures numbers { self.new.numbers ≡ self.old.numbers }
+        ensures unchanged { OnErr result (self.new ≡ self.old) }
+        ensures no_points { export.now.points ≡ [] → result ≡ Ok 0 }
+    {
+        self.take_under(0, export)
+    }
+
+    /// Joins the points of an export as `take` does, at its cost, and gives each key whose cell changed this number.
+    pub fn take_numbered(&mut self, export: &Export, number: u64) -> Result<u64, NoMemory>
+        requires { 0 < number }
+        ensures id { self.new.id ≡ self.old.id }
+        ensures ok { OnOk result (self.new.points ≡ join_points self.old.points (state (export.now ∷ []))) }
+        ensures value { IfOk result (λ n. n ≡ changed_points self.old.points self.new.points) }
+        ensures numbers { OnOk result (IsNumberedBy number self.old self.new) }
+        ensures unchanged { OnErr result (self.new ≡ self.old) }
+        ensures no_points { export.now.points ≡ [] → result ≡ Ok 0 }
+    {
+        self.take_under(number, export)
+    }
+
+    // Joins the points of an export. The keys that change get the number, of 0 they keep their own.
+    fn take_under(&mut self, number: u64, export: &Export) -> Result<u64, NoMemory>
+        ensures id { self.new.id ≡ self.old.id }
+        ensures ok { OnOk result (self.new.points ≡ join_points self.old.points (state (export.now ∷ []))) }
+        ensures value { IfOk result (λ n. n ≡ changed_points self.old.points self.new.points) }
+        ensures moves { OnOk result (ViewMoves number self.old self.new) }
+        ensures kept { OnOk result (number ≡ 0 → self.new.numbers ≡ self.old.numbers) }
         ensures unchanged { OnErr result (self.new ≡ self.old) }
         ensures no_points { export.now.points ≡ [] → result ≡ Ok 0 }
     {
         if export.points().is_empty() {
             return Ok(0);
         }
-        let growth = taken(&mut self.incarnations, self.len, export)?;
+        let growth = taken(&mut self.incarnations, self.len, number, export)?;
         self.len += growth.more;
         self.conflicts = self.conflicts - growth.before + growth.after;
         Ok(growth.changed)
@@ -72,6 +101,7 @@ impl Gateway {
         ensures id { self.new.id ≡ self.old.id }
         ensures ok { OnOk result (self.new.points ≡ join_points self.old.points (finite.from_entries ((key, cell) ∷ []))) }
         ensures value { IfOk result (λ changed. changed ≡ nat_lt 0 (changed_points self.old.points self.new.points)) }
+        ensures numbers { self.new.numbers ≡ self.old.numbers }
         ensures unchanged { OnErr result (self.new ≡ self.old) }
         ensures held { IsSome (finite.get self.old.points key) → IsOk result }
     {
@@ -92,6 +122,7 @@ impl Gateway {
         ensures id { self.new.id ≡ self.old.id }
         ensures ok { OnOk result (self.new.points ≡ join_points self.old.points other.now.points) }
         ensures value { IfOk result (λ n. n ≡ changed_points self.old.points self.new.points) }
+        ensures numbers { self.new.numbers ≡ self.old.numbers }
         ensures unchanged { OnErr result (self.new ≡ self.old) }
         ensures no_points { other.now.points ≡ finite.empty → result ≡ Ok 0 }
 
@@ -107,12 +138,39 @@ impl Gateway {
         // What comes of two lists of exports is the join of what comes of each.
         ensures states { JoinsExports }
     {
+        self.merge_under(0, other)
+    }
+
+    /// Joins what another gateway holds as `merge` does, at its cost, and gives each key whose cell changed this number.
+    pub fn merge_numbered(&mut self, other: &Gateway, number: u64) -> Result<u64, NoMemory>
+        requires { 0 < number }
+        ensures id { self.new.id ≡ self.old.id }
+        ensures ok { OnOk result (self.new.points ≡ join_points self.old.points other.now.points) }
+        ensures value { IfOk result (λ n. n ≡ changed_points self.old.points self.new.points) }
+        ensures numbers { OnOk result (IsNumberedBy number self.old self.new) }
+        ensures unchanged { OnErr result (self.new ≡ self.old) }
+        ensures no_points { other.now.points ≡ finite.empty → result ≡ Ok 0 }
+    {
+        self.merge_under(number, other)
+    }
+
+    // Joins what another gateway holds. The keys that change get the number, of 0 they keep their own.
+    fn merge_under(&mut self, number: u64, other: &Gateway) -> Result<u64, NoMemory>
+        ensures id { self.new.id ≡ self.old.id }
+        ensures ok { OnOk result (self.new.points ≡ join_points self.old.points other.now.points) }
+        ensures value { IfOk result (λ n. n ≡ changed_points self.old.points self.new.points) }
+        ensures moves { OnOk result (ViewMoves number self.old self.new) }
+        ensures kept { OnOk result (number ≡ 0 → self.new.numbers ≡ self.old.numbers) }
+        ensures unchanged { OnErr result (self.new ≡ self.old) }
+        ensures no_points { other.now.points ≡ finite.empty → result ≡ Ok 0 }
+    {
         if other.incarnations.is_empty() {
             return Ok(0);
         }
         let growth = merged(
             &mut self.incarnations,
             self.len,
+            number,
             other.incarnations.as_slice(),
         )?;
         self.len += growth.more;
@@ -120,7 +178,7 @@ impl Gateway {
         Ok(growth.changed)
     }
 
-    /// An equal gateway, with the same id: O(n).
+    /// An equal gateway, with the same id and numbers: O(n).
     pub fn try_copy(&self) -> Result<Gateway, NoMemory>
         ensures value { IfOk result (λ copy. copy ≡ self.now) }
     {

@@ -6,6 +6,7 @@ ghost use Rattle.std.specs.FinMap.Entries.{find, is_sorted};
 ghost use Rattle.gateway_kit.specs.Changing.{IsUpdate};
 ghost use Rattle.gateway_kit.specs.Growth.{Grows, part_at};
 ghost use Rattle.gateway_kit.specs.Keys.{ItemKey, entry_of, item_cmp, part_cmp};
+ghost use Rattle.gateway_kit.specs.Numbers.{PartMoves, PartsMove};
 ghost use Rattle.gateway_kit.specs.OneCell.{JoinsEntry};
 ghost use Rattle.gateway_kit.specs.Parts.{IsWhole, part_of};
 ghost use Rattle.gateway_kit.specs.Places.{IsAt, IsGap};
@@ -43,7 +44,8 @@ impl Incarnation {
     fn join_at(&mut self, place: usize, cell: Cell) -> Growth
         requires { place < length (entries self.old.cells) }
         ensures joins { (key : ItemKey) → IsAt item_cmp (entries self.old.cells) key place → JoinsEntry (entries self.old.cells) (entries self.new.cells) (key, cell) result.more result.changed }
-        ensures same { self.new ≡ record self.old { cells = self.new.cells } }
+        ensures same { (part_of self.new).0 ≡ (part_of self.old).0 }
+        ensures moves { PartMoves 0 self.old self.new }
         ensures none_new { result.more ≡ 0 }
         ensures before { result.before ≡ part_conflicts self.old }
         ensures after { result.after ≡ part_conflicts self.new }
@@ -57,7 +59,7 @@ impl Incarnation {
                 after: before,
             };
         };
-        self.tally = put_cell(&mut self.items, self.tally, place, cell);
+        self.tally = put_cell(&mut self.items, self.tally, 0, place, cell);
         Growth {
             more: 0,
             changed: 1,
@@ -68,9 +70,11 @@ impl Incarnation {
 
     // Puts a new item in where it belongs.
     fn join_new(&mut self, place: usize, item: PartItem) -> Result<(), NoMemory>
-        requires { IsGap item_cmp (entries self.old.cells) (item.stream, item.attrs) place }
+        requires gap { IsGap item_cmp (entries self.old.cells) (item.stream, item.attrs) place }
+        requires no_number { item.number ≡ 0 }
         ensures joins { OnOk result (JoinsEntry (entries self.old.cells) (entries self.new.cells) (entry_of item) 1 1) }
-        ensures same { OnOk result (self.new ≡ record self.old { cells = self.new.cells }) }
+        ensures same { OnOk result ((part_of self.new).0 ≡ (part_of self.old).0) }
+        ensures moves { OnOk result (PartMoves 0 self.old self.new) }
         ensures unchanged { OnErr result (self.new ≡ self.old) }
     {
         let tally = self.tally.and(&item.cell);
@@ -90,7 +94,8 @@ impl Incarnation {
     ) -> Result<Growth, NoMemory>
         requires { len ≤ 2 ^ 62 }
         ensures joins { IfOk result (λ g. JoinsEntry (entries self.old.cells) (entries self.new.cells) ((stream, attrs), cell) g.more g.changed) }
-        ensures same { OnOk result (self.new ≡ record self.old { cells = self.new.cells }) }
+        ensures same { OnOk result ((part_of self.new).0 ≡ (part_of self.old).0) }
+        ensures moves { OnOk result (PartMoves 0 self.old self.new) }
         ensures bounded { IfOk result (λ g. len + g.more ≤ 2 ^ 62) }
         ensures before { IfOk result (λ g. g.before ≡ part_conflicts self.old) }
         ensures after { IfOk result (λ g. g.after ≡ part_conflicts self.new) }
@@ -109,6 +114,7 @@ impl Incarnation {
                     stream,
                     attrs,
                     cell,
+                    number: 0,
                 };
                 let before = self.conflicts();
                 self.join_new(place, item)?;
@@ -137,6 +143,7 @@ fn join_held(
     ensures bounded { IfOk result (λ g. len + g.more ≤ 2 ^ 62) }
     ensures tells { IfOk result (λ g. Tells incarnations.old.items incarnations.new.items g.before g.after) }
     ensures held { IsSome (find item_cmp (key.stream, key.attrs) (part_at (key.writer, key.start) incarnations.old.items)) → IsOk result }
+    ensures moves { OnOk result (PartsMove 0 incarnations.old.items incarnations.new.items) }
     ensures unchanged { OnErr result (incarnations.new.items ≡ incarnations.old.items) }
 {
     let Key { stream, attrs, .. } = key;
@@ -156,6 +163,7 @@ fn join_gap(
     ensures grows { IfOk result (λ g. Grows incarnations.old.items incarnations.new.items (key.writer, key.start) (((key.stream, key.attrs), cell) ∷ []) g.more g.changed) }
     ensures bounded { IfOk result (λ g. len + g.more ≤ 2 ^ 62) }
     ensures tells { IfOk result (λ g. Tells incarnations.old.items incarnations.new.items g.before g.after) }
+    ensures moves { OnOk result (PartsMove 0 incarnations.old.items incarnations.new.items) }
     ensures unchanged { OnErr result (incarnations.new.items ≡ incarnations.old.items) }
 {
     let Key {
@@ -183,6 +191,7 @@ pub(crate) fn joined(
     ensures bounded { IfOk result (λ g. len + g.more ≤ 2 ^ 62) }
     ensures tells { IfOk result (λ g. Tells incarnations.old.items incarnations.new.items g.before g.after) }
     ensures held { IsSome (find item_cmp (key.stream, key.attrs) (part_at (key.writer, key.start) incarnations.old.items)) → IsOk result }
+    ensures moves { OnOk result (PartsMove 0 incarnations.old.items incarnations.new.items) }
     ensures unchanged { OnErr result (incarnations.new.items ≡ incarnations.old.items) }
 {
     match part_place(incarnations.as_slice(), &key.writer, key.start) {

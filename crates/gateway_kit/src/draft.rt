@@ -1,5 +1,5 @@
 //! Changes in the making.
-ghost use Rattle.std.specs.Prelude.{◌≡◌, List, OnOk, IfOk, Some, IsTrue, ◌↔◌, ◌≢◌, map, ◌++◌, ◌∷◌, [], None, length, option_copied, vec_len};
+ghost use Rattle.std.specs.Prelude.{◌≡◌, ◌≤◌, ℕ, List, OnOk, IfOk, Some, IsTrue, ◌↔◌, ◌≢◌, map, ◌++◌, ◌∷◌, [], None, length, option_copied, vec_len};
 ghost use Rattle.std.specs.FinMap.Entries.{find, is_sorted};
 ghost use Rattle.point_kit.specs.Join.{join_held};
 ghost use Rattle.point_kit.specs.Equality.{payload_eq};
@@ -9,12 +9,13 @@ ghost use Rattle.std.specs.List.{IsDistinct};
 ghost use Rattle.std.specs.Ordering.{eq_by_cmp};
 ghost use Rattle.gateway_kit.specs.Keys.{ItemKey, entry_of, item_cmp};
 ghost use Rattle.gateway_kit.specs.Places.{IsPlace};
-ghost use Rattle.gateway_kit.specs.Tallies.{IsTally};
+ghost use Rattle.gateway_kit.specs.Numbers.{ItemsMove};
+ghost use Rattle.gateway_kit.specs.Tallies.{IsTally, are_up_to};
 
 use crate::changes::Changes;
 use crate::part_item::PartItem;
 use crate::seek::rises;
-use crate::tally::{Tally, conflict_of};
+use crate::tally::{Tally, conflict_of, is_further};
 use crate::weave::Keyed;
 use attr_kit::{AttrSet, NoMemory, TryCopy};
 use point_kit::{Cell, Export, Held, Payload, SharedStream, Stream};
@@ -63,41 +64,52 @@ fn update_of(mine: &Cell, time: u64, payload: Option<&Payload>) -> Result<Option
     Ok(None)
 }
 
-// Puts a new cell at a place, where none that is later stands there; past the end nothing. Of the tally before it makes
-// the one after.
-pub(crate) fn put_cell(items: &mut Vec<PartItem>, tally: Tally, place: usize, cell: Cell) -> Tally
+// Puts a new cell at a place, where it is further than the one that stands there; past the end nothing. Its key gets the
+// number. Of the tally before it makes the one after.
+pub(crate) fn put_cell(
+    items: &mut Vec<PartItem>,
+    tally: Tally,
+    number: u64,
+    place: usize,
+    cell: Cell,
+) -> Tally
     requires { IsTally (map entry_of items.old.items) tally }
     ensures put { map entry_of items.new.items ≡ amend replaced (map entry_of items.old.items) place cell }
     ensures tally { IsTally (map entry_of items.new.items) result }
+    ensures moves { ItemsMove number items.old.items items.new.items }
+    ensures up_to { (n : ℕ) → number ≤ n → IsTrue (are_up_to n items.old.items) → IsTrue (are_up_to n items.new.items) }
 {
     if place >= items.len() {
         return tally;
     }
     let held = &items[place].cell;
-    if cell.time < held.time {
+    if !is_further(&cell, held) {
         return tally;
     }
     let tally = Tally {
         newest: tally.newest.max(cell.time),
         conflicts: tally.conflicts + conflict_of(&cell) - conflict_of(held),
     };
-    items[place].cell = cell;
+    items[place].put(number, cell);
     tally
 }
 
-// Puts the new cells at their places. Of the tally before it makes the one after.
+// Puts the new cells at their places, and numbers their keys. Of the tally before it makes the one after.
 pub(crate) fn put_cells(
     items: &mut Vec<PartItem>,
     tally: Tally,
+    number: u64,
     updates: Vec<(usize, Cell)>,
 ) -> Tally
     requires { IsTally (map entry_of items.old.items) tally }
     ensures put { map entry_of items.new.items ≡ amended replaced (map entry_of items.old.items) updates.items }
     ensures tally { IsTally (map entry_of items.new.items) result }
+    ensures moves { ItemsMove number items.old.items items.new.items }
+    ensures up_to { (n : ℕ) → number ≤ n → IsTrue (are_up_to n items.old.items) → IsTrue (are_up_to n items.new.items) }
 {
     let mut tally = tally;
     for (place, cell) in updates {
-        tally = put_cell(items, tally, place, cell);
+        tally = put_cell(items, tally, number, place, cell);
     }
     tally
 }
@@ -174,6 +186,7 @@ impl Draft {
                         time,
                         held: copied(payload)?,
                     },
+                    number: 0,
                 };
                 self.fresh.push(item)?;
             }

@@ -1,16 +1,18 @@
 //! How an incarnation grows.
-ghost use Rattle.std.specs.Prelude.{◌≡◌, IsTrue, IfOk, map, if◌then◌else◌, nat_le, [], ◌≤◌, ◌+◌, length, option_copied, vec_capacity};
+ghost use Rattle.std.specs.Prelude.{◌≡◌, ℕ, IsTrue, IfOk, map, if◌then◌else◌, nat_le, [], ◌≤◌, ◌+◌, length, option_copied, vec_len, vec_capacity};
 ghost use Rattle.std.specs.FinMap as finite;
 ghost use Rattle.std.specs.FinMap.{entries, from_sorted};
 ghost use Rattle.std.specs.FinMap.Entries.{is_sorted};
 ghost use Rattle.gateway_kit.specs.Changing.{Prepares, entries_of, grown, held_as};
 ghost use Rattle.gateway_kit.specs.Keys.{entry_of, item_cmp, part_cmp};
+ghost use Rattle.gateway_kit.specs.Numbers.{AllAre, IsNumbered, ItemsMove, PartMoves};
 ghost use Rattle.gateway_kit.specs.Parts.{part_of};
 ghost use Rattle.gateway_kit.specs.Places.{IsPlace};
-ghost use Rattle.gateway_kit.specs.Tallies.{IsTally, part_conflicts};
+ghost use Rattle.gateway_kit.specs.Tallies.{IsTally, are_up_to, part_conflicts};
 ghost use Rattle.gateway_kit.specs.Times.{latest};
 ghost use Rattle.std.specs.declared.cmp.Ordering.{Ordering};
 ghost use Rattle.gateway_kit.specs.Weave.{weave};
+ghost use Rattle.gateway_kit.specs.declared.part_item.PartItem.{PartItem};
 
 use crate::changes::Changes;
 use crate::draft::{Draft, place_near, place_of, put_cells};
@@ -25,19 +27,36 @@ use std::alloc::Global;
 use std::cmp::Ordering;
 use std::mem;
 
-// Weaves new items in where there is room for them. Of the tally before it makes the one after.
+// Gives all items one number.
+pub(crate) fn number_all(items: &mut Vec<PartItem>, number: u64)
+    ensures entries { map entry_of items.new.items ≡ map entry_of items.old.items }
+    ensures len { vec_len items.new ≡ vec_len items.old }
+    ensures numbers { AllAre (λ (i : PartItem). i.number ≡ number) items.new.items }
+{
+    for place in 0..items.len() {
+        items[place].number = number;
+    }
+}
+
+// Weaves new items in where there is room for them, all under one number. Of the tally before it makes the one after.
 fn put_items(
     items: &mut Vec<PartItem>,
     tally: Tally,
-    fresh: Vec<PartItem>,
+    number: u64,
+    mut fresh: Vec<PartItem>,
     room: Vec<PartItem>,
 ) -> Tally
     requires empty { room.items ≡ [] }
     requires tallied { IsTally (map entry_of items.old.items) tally }
+    requires sorted { IsTrue (is_sorted item_cmp (map entry_of items.old.items)) }
+    requires fresh_sorted { IsTrue (is_sorted item_cmp (map entry_of fresh.items)) }
     ensures tally { IsTally (map entry_of items.new.items) result }
+    ensures moves { ItemsMove number items.old.items items.new.items }
+    ensures up_to { (n : ℕ) → number ≤ n → IsTrue (are_up_to n items.old.items) → IsTrue (are_up_to n items.new.items) }
     ensures woven { map entry_of items.new.items ≡ (if nat_le (length items.old.items + length fresh.items) (vec_capacity room) then weave (λ x y. item_cmp x.0 y.0) (map entry_of items.old.items) (map entry_of fresh.items) else map entry_of items.old.items) }
 {
     if !fresh.is_empty() && fresh.len() <= room.capacity().saturating_sub(items.len()) {
+        number_all(&mut fresh, number);
         let alloc = *items.allocator();
         let mine = mem::replace(items, Vec::new(alloc));
         *items = woven(mine, fresh, room);
@@ -52,12 +71,14 @@ impl Incarnation {
         ensures writer { result.writer ≡ writer }
         ensures start { result.start ≡ start }
         ensures cells { result.cells ≡ finite.empty }
+        ensures numbers { result.numbers ≡ finite.empty }
     {
         Incarnation {
             writer,
             start,
             items: Vec::new(alloc),
             tally: Tally::NONE,
+            number: 0,
         }
     }
 
@@ -142,17 +163,31 @@ impl Incarnation {
         draft.finished(alloc, items)
     }
 
-    /// Makes the changes. Those that were prepared for more items, for which they have no room, add nothing new.
-    pub(crate) fn install(&mut self, changes: Changes)
-        ensures { self.new ≡ record self.old { cells = from_sorted (grown (entries self.old.cells) changes) } }
+    /// Makes the changes, and numbers the keys that change. Those that were prepared for more items, for which they have no
+    /// room, add nothing new.
+    pub(crate) fn install(&mut self, number: u64, changes: Changes)
+        ensures cells { part_of self.new ≡ ((self.old.writer, self.old.start), from_sorted (grown (entries self.old.cells) changes)) }
+        ensures moves { PartMoves number self.old self.new }
     {
         let Changes {
             updates,
             fresh,
             room,
         } = changes;
-        let tally = put_cells(&mut self.items, self.tally, updates);
-        self.tally = put_items(&mut self.items, tally, fresh, room);
+        let tally = put_cells(&mut self.items, self.tally, number, updates);
+        self.tally = put_items(&mut self.items, tally, number, fresh, room);
+        self.number = self.number.max(number);
+    }
+}
+
+impl Incarnation {
+    /// Gives all keys one number.
+    pub(crate) fn renumber(&mut self, number: u64)
+        ensures cells { part_of self.new ≡ part_of self.old }
+        ensures numbers { IsNumbered number self.new }
+    {
+        number_all(&mut self.items, number);
+        self.number = number;
     }
 }
 
@@ -189,6 +224,7 @@ impl TryCopy for Incarnation {
             start: self.start,
             items: copy_all(&self.items)?,
             tally: self.tally,
+            number: self.number,
         })
     }
 }

@@ -11,13 +11,15 @@ pub(crate) struct Incarnation {
     pub(crate) start: u64,
     pub(crate) items: Vec<PartItem>,
     pub(crate) tally: Tally,
+    /// No key has a greater number.
+    pub(crate) number: u64,
 }
 
 impl Model for Incarnation {
     ghost use Rattle.std.specs.Prelude.{map};
     ghost use Rattle.std.specs.FinMap.{from_sorted, code};
     ghost use Rattle.std.specs.Coded.{codes};
-    ghost use Rattle.gateway_kit.specs.Keys.{entry_of, item_cmp};
+    ghost use Rattle.gateway_kit.specs.Keys.{entry_of, item_cmp, numbered};
     ghost use Rattle.gateway_kit.specs.Part.{Part};
     ghost use Rattle.gateway_kit.specs.Tallies.{IsKept};
 
@@ -25,7 +27,7 @@ impl Model for Incarnation {
 
     ghost coded = { Prim.hlevel (codes, code) };
 
-    ghost view = { λ i. record { writer = i.writer; start = i.start; cells = from_sorted {R = item_cmp} (map entry_of i.items.items) } };
+    ghost view = { λ i. record { writer = i.writer; start = i.start; cells = from_sorted {R = item_cmp} (map entry_of i.items.items); numbers = from_sorted {R = item_cmp} (map numbered i.items.items) } };
 
-    ghost invariant = { λ i. IsKept i.items.items i.tally };
+    ghost invariant = { λ i. IsKept i.items.items i.tally i.number };
 }

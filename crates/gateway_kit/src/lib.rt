@@ -24,6 +24,5 @@ mod walk;
 mod weave;
 
 pub use gateway::Gateway;
-pub use part_item::PartItem;
 pub use points::{PointRef, Points};
 pub use shared::{GatewayChange, SeatsOut, SharedGateway};

@@ -1,18 +1,21 @@
 //! One point of an incarnation.
 ghost use Rattle.std.specs.Prelude.{◌≡◌, IfOk};
 ghost use Rattle.gateway_kit.specs.Keys.{entry_of, item_cmp};
+ghost use Rattle.gateway_kit.specs.Numbers.{given};
 
 use crate::weave::Keyed;
 use attr_kit::{AttrSet, NoMemory, TryCopy};
 use point_kit::{Cell, SharedStream, Stream};
 use std::cmp::Ordering;
 
-/// One point of an incarnation, beside its writer and start: what `Gateway::part` lends.
-#[derive(Debug, PartialEq, Eq, Drop)]
-pub struct PartItem {
-    pub stream: SharedStream,
-    pub attrs: AttrSet,
-    pub cell: Cell,
+/// One point of an incarnation, beside its writer and start.
+#[derive(Debug, Drop)]
+pub(crate) struct PartItem {
+    pub(crate) stream: SharedStream,
+    pub(crate) attrs: AttrSet,
+    pub(crate) cell: Cell,
+    /// The number that the key was given when its cell last changed, 0 where it was given none.
+    pub(crate) number: u64,
 }
 
 impl PartItem {
@@ -24,6 +27,16 @@ impl PartItem {
             .get()
             .cmp(stream)
             .then_with(|| self.attrs.cmp(attrs))
+    }
+
+    /// Puts another cell in, of a change of this number: of 0 the key keeps the number that it has.
+    pub(crate) fn put(&mut self, number: u64, cell: Cell)
+        ensures { self.new ≡ record self.old { cell = cell; number = given number self.old.number } }
+    {
+        self.cell = cell;
+        if number > 0 {
+            self.number = number;
+        }
     }
 }
 
@@ -41,6 +54,7 @@ impl TryCopy for PartItem {
             stream: self.stream.try_copy()?,
             attrs: self.attrs.try_copy()?,
             cell: self.cell.try_copy()?,
+            number: self.number,
         })
     }
 }

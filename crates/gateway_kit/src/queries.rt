@@ -2,12 +2,11 @@
 ghost use Rattle.std.specs.Prelude.{◌≡◌, ◌↔◌, IsTrue, count_by, filter, option_copied};
 ghost use Rattle.std.specs.FinMap as finite;
 ghost use Rattle.std.specs.FinMap.{entries};
-ghost use Rattle.gateway_kit.specs.Queries.{has_conflict, newest_time, part_items, part_points};
+ghost use Rattle.gateway_kit.specs.Queries.{has_conflict, newest_time};
 ghost use Rattle.gateway_kit.specs.Walks.{is_of, points_left};
 
 use crate::equality::all_same;
 use crate::gateway::Gateway;
-use crate::part_item::PartItem;
 use crate::points::Points;
 use crate::taking::part_place;
 use point_kit::{Cell, Key, WriterId};
@@ -56,17 +55,6 @@ impl Gateway {
         match part_place(self.incarnations.as_slice(), writer, start) {
             Ok(place) => Some(self.incarnations[place].newest()),
             Err(_) => None,
-        }
-    }
-
-    /// The points of one incarnation of a writer, in the order of their keys; none where it is not held: O(log n). Takes
-    /// no memory.
-    pub fn part(&self, writer: &WriterId, start: u64) -> &[PartItem]
-        ensures value { part_items writer.now start result.now ≡ part_points writer.now start self.now.points }
-    {
-        match part_place(self.incarnations.as_slice(), writer, start) {
-            Ok(place) => self.incarnations[place].items(),
-            Err(_) => &[],
         }
     }
 }

@@ -1,8 +1,8 @@
 //! A gateway that threads share: a turn over a gateway, whose every answer is tied to one history of what was taken and
 //! merged.
-ghost use Rattle.std.specs.Prelude.{◌≡◌, ◌↔◌, ◌<◌, ◌≤◌, ◌^◌, ℕ, IfOk, IfErr};
-ghost use Rattle.gateway_kit.specs.Shared.{IsAt, IsNoteAt, first_of, most_of, told, Keeps, DependsOnChanges};
-ghost use Rattle.turn_kit.specs.Public.{IsFirst, IsBadLimit, IsUnchanged, HasAsked, Closes, AreOut, told_out, Hears, Joins, seen, made, told as told_to, told_made};
+ghost use Rattle.std.specs.Prelude.{◌≡◌, ◌↔◌, ◌<◌, ◌≤◌, ◌^◌, IfOk, IfErr};
+ghost use Rattle.gateway_kit.specs.Shared.{IsAt, IsSameShared, first_of, most_of, told, Keeps, DependsOnChanges};
+ghost use Rattle.turn_kit.specs.Public.{IsFirst, IsBadLimit, HasAsked, Closes, AreOut, told_out};
 ghost use Rattle.turn_kit.specs.declared.fault.TurnFault.TheVariants.{BadLimit};
 
 mod change;
@@ -15,21 +15,35 @@ mod waits;
 use crate::gateway::Gateway;
 pub use change::GatewayChange;
 use std::alloc::Global;
-use turn_kit::{Note, Seat, Turn, TurnFault};
+use std::ops::Deref;
+use turn_kit::{Quiet, Seat, Turn, TurnFault, Waking};
 
 /// A gateway that threads take exports into, merge into and look at, each by a seat of its own.
 ///
 /// What is accepted stands in one history, a list of (seat number, [`GatewayChange`]), and the points are the opening
 /// gateway's joined with all that the history brought. So its order is irrelevant to them, and what came twice counts once.
+///
+/// It is a [`Turn`] over a gateway, whose calls on seats are its own: `note`, `hear`, `join`, `try_split` and `split`. `G`
+/// says how its turn is given back, as there.
 #[derive(Drop)]
-pub struct SharedGateway {
-    pub(crate) turn: Turn<Gateway>,
+pub struct SharedGateway<G = Waking> {
+    pub(crate) turn: Turn<Gateway, G>,
+}
+
+impl<G> Deref for SharedGateway<G> {
+    type Target = Turn<Gateway, G>;
+
+    ghost deref_gives = { λ shared turn. turn ≡ shared.turn };
+
+    fn deref(&self) -> &Turn<Gateway, G> {
+        &self.turn
+    }
 }
 
 /// The shared gateway was not closed, since other seats are out: they were split off and not joined.
 #[derive(Drop)]
-pub struct SeatsOut {
-    pub gateway: SharedGateway,
+pub struct SeatsOut<G = Waking> {
+    pub gateway: SharedGateway<G>,
     pub seat: Seat<Gateway>,
     /// How many, at least 1: what the turn's own count said at one step of `close`.
     pub out: u64,
@@ -58,44 +72,25 @@ impl SharedGateway {
         Ok((SharedGateway { turn }, seat))
     }
 
-    /// What the seat has seen, for another seat to hear. Takes no memory.
-    pub fn note(&self, seat: &mut Seat<Gateway>) -> Note<Gateway>
-        requires { IsAt self.now seat.old }
-        ensures seat { IsAt self.now seat.new }
-        ensures unchanged { IsUnchanged seat.old seat.new }
-        ensures note { IsNoteAt self.now result }
-        ensures value { (told_to result ≡ seen seat.old) × (told_made result ≡ made seat.old) }
+    /// The same shared gateway, whose turn's giving back wakes nobody from now on, as a static library wants it. It has no
+    /// calls that wait.
+    pub fn into_quiet(self) -> SharedGateway<Quiet>
+        ensures { IsSameShared self result }
     {
-        self.turn.note(seat)
+        let SharedGateway { turn } = self;
+        SharedGateway {
+            turn: turn.into_quiet(),
+        }
     }
+}
 
-    /// From now on the seat has seen what the note says, too. Takes no memory.
-    pub fn hear(&self, seat: &mut Seat<Gateway>, note: Note<Gateway>)
-        requires seat { IsAt self.now seat.old }
-        requires note { IsNoteAt self.now note }
-        ensures seat { IsAt self.now seat.new }
-        ensures value { Hears seat.old seat.new note }
-    {
-        self.turn.hear(seat, note);
-    }
-
-    /// Takes in another seat, which is then no longer out. From now on this one has seen what the other had, and answers
-    /// for the changes of both. Takes no memory.
-    pub fn join(&self, seat: &mut Seat<Gateway>, other: Seat<Gateway>)
-        requires seat { IsAt self.now seat.old }
-        requires other { IsAt self.now other }
-        ensures seat { IsAt self.now seat.new }
-        ensures value { Joins seat.old seat.new other }
-    {
-        self.turn.join(seat, other);
-    }
-
+impl<G> SharedGateway<G> {
     /// The gateway, where no other seat is out. It is what the whole history makes of the opening one, and each change in
     /// the history is the closing seat's or one of a seat that was joined into it.
     ///
     /// Refused, with the shared gateway and the seat handed back, where other seats were split off and not joined. Takes
     /// no memory.
-    pub fn close(self, seat: Seat<Gateway>) -> Result<Gateway, SeatsOut>
+    pub fn close(self, seat: Seat<Gateway>) -> Result<Gateway, SeatsOut<G>>
         requires { IsAt self seat }
         ensures ok { IfOk result (Closes (λ g. g) told (first_of self) seat) }
         ensures points { IfOk result (λ g. (c : Closes (λ g. g) told (first_of self) seat g) × Keeps (first_of self) c.history g) }

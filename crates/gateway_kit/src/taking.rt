@@ -1,9 +1,10 @@
 //! How a gateway's incarnations take an export.
-ghost use Rattle.std.specs.Prelude.{◌≡◌, ◌≢◌, ◌<◌, ◌≤◌, ◌+◌, ◌^◌, IsTrue, IfOk, OnErr, map, [], length, vec_len};
+ghost use Rattle.std.specs.Prelude.{◌≡◌, ◌≢◌, ◌<◌, ◌≤◌, ◌+◌, ◌^◌, IsTrue, IfOk, OnOk, OnErr, map, [], length, vec_len};
 ghost use Rattle.std.specs.FinMap.Entries.{is_sorted};
 ghost use Rattle.gateway_kit.specs.Changing.{entries_of};
 ghost use Rattle.gateway_kit.specs.Growth.{Grows};
 ghost use Rattle.gateway_kit.specs.Keys.{part_cmp};
+ghost use Rattle.gateway_kit.specs.Numbers.{PartsMove};
 ghost use Rattle.gateway_kit.specs.Parts.{IsWhole, part_of};
 ghost use Rattle.gateway_kit.specs.Places.{IsPlace, IsAt, IsGap};
 ghost use Rattle.gateway_kit.specs.Tallies.{Tells};
@@ -49,11 +50,12 @@ pub(crate) fn part_place(
     incarnations.binary_search_by(|incarnation| incarnation.order(writer, start))
 }
 
-// Joins an export into its incarnation, which stands at this place.
+// Joins an export into its incarnation, which stands at this place, and numbers the keys that change.
 fn take_held(
     incarnations: &mut Vec<Incarnation>,
     len: usize,
     place: usize,
+    number: u64,
     export: &Export,
 ) -> Result<Growth, NoMemory>
     requires whole { IsWhole incarnations.old.items len }
@@ -62,6 +64,7 @@ fn take_held(
     ensures grows { IfOk result (λ g. Grows incarnations.old.items incarnations.new.items (export.now.writer, export.now.start) (entries_of export.now) g.more g.changed) }
     ensures bounded { IfOk result (λ g. len + g.more ≤ 2 ^ 62) }
     ensures tells { IfOk result (λ g. Tells incarnations.old.items incarnations.new.items g.before g.after) }
+    ensures moves { OnOk result (PartsMove number incarnations.old.items incarnations.new.items) }
     ensures unchanged { OnErr result (incarnations.new.items ≡ incarnations.old.items) }
 {
     let alloc = *incarnations.allocator();
@@ -73,7 +76,7 @@ fn take_held(
     }
     let incarnation = &mut incarnations[place];
     let before = incarnation.conflicts();
-    incarnation.install(changes);
+    incarnation.install(number, changes);
     let after = incarnation.conflicts();
     Ok(Growth {
         more,
@@ -88,6 +91,7 @@ fn take_new(
     incarnations: &mut Vec<Incarnation>,
     len: usize,
     place: usize,
+    number: u64,
     export: &Export,
 ) -> Result<Growth, NoMemory>
     requires whole { IsWhole incarnations.old.items len }
@@ -96,6 +100,7 @@ fn take_new(
     ensures grows { IfOk result (λ g. Grows incarnations.old.items incarnations.new.items (export.now.writer, export.now.start) (entries_of export.now) g.more g.changed) }
     ensures bounded { IfOk result (λ g. len + g.more ≤ 2 ^ 62) }
     ensures tells { IfOk result (λ g. Tells incarnations.old.items incarnations.new.items g.before g.after) }
+    ensures moves { OnOk result (PartsMove number incarnations.old.items incarnations.new.items) }
     ensures unchanged { OnErr result (incarnations.new.items ≡ incarnations.old.items) }
 {
     let alloc = *incarnations.allocator();
@@ -106,7 +111,7 @@ fn take_new(
     if more > MOST_POINTS - len {
         return Err(NoMemory);
     }
-    incarnation.install(changes);
+    incarnation.install(number, changes);
     let after = incarnation.conflicts();
     incarnations.insert(place, incarnation)?;
     Ok(Growth {
@@ -117,10 +122,11 @@ fn take_new(
     })
 }
 
-/// Joins an export, which has points, into its incarnation.
+/// Joins an export, which has points, into its incarnation, and numbers the keys that change.
 pub(crate) fn taken(
     incarnations: &mut Vec<Incarnation>,
     len: usize,
+    number: u64,
     export: &Export,
 ) -> Result<Growth, NoMemory>
     requires whole { IsWhole incarnations.old.items len }
@@ -128,10 +134,11 @@ pub(crate) fn taken(
     ensures grows { IfOk result (λ g. Grows incarnations.old.items incarnations.new.items (export.now.writer, export.now.start) (entries_of export.now) g.more g.changed) }
     ensures bounded { IfOk result (λ g. len + g.more ≤ 2 ^ 62) }
     ensures tells { IfOk result (λ g. Tells incarnations.old.items incarnations.new.items g.before g.after) }
+    ensures moves { OnOk result (PartsMove number incarnations.old.items incarnations.new.items) }
     ensures unchanged { OnErr result (incarnations.new.items ≡ incarnations.old.items) }
 {
     match part_place(incarnations.as_slice(), export.writer(), export.start()) {
-        Ok(place) => take_held(incarnations, len, place, export),
-        Err(place) => take_new(incarnations, len, place, export),
+        Ok(place) => take_held(incarnations, len, place, number, export),
+        Err(place) => take_new(incarnations, len, place, number, export),
     }
 }

@@ -1,7 +1,7 @@
 //! What is kept of items beside them.
-ghost use Rattle.std.specs.Prelude.{◌≡◌, ◌+◌, ◌<◌, ◌≤◌, ◌^◌, max, map};
+ghost use Rattle.std.specs.Prelude.{◌≡◌, ◌+◌, ◌<◌, ◌≤◌, ◌^◌, max, map, nat_lt};
 ghost use Rattle.gateway_kit.specs.Keys.{entry_of};
-ghost use Rattle.gateway_kit.specs.Tallies.{IsTally, conflict, conflicts_of};
+ghost use Rattle.gateway_kit.specs.Tallies.{IsTally, conflict, conflicts_of, rank};
 
 use crate::incarnation::Incarnation;
 use crate::part_item::PartItem;
@@ -23,6 +23,17 @@ pub(crate) fn conflict_of(cell: &Cell) -> u64
     match &cell.held {
         Held::One(_) => 0,
         Held::Conflict => 1,
+    }
+}
+
+/// Whether a cell is further than one that is held: later, or a conflict of its time where none is held.
+pub(crate) fn is_further(cell: &Cell, held: &Cell) -> bool
+    ensures { result ≡ nat_lt (rank held.now) (rank cell.now) }
+{
+    if held.time == cell.time {
+        conflict_of(held) < conflict_of(cell)
+    } else {
+        held.time < cell.time
     }
 }
 

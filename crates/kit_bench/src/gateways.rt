@@ -5,7 +5,8 @@ use point_kit::{Export, ExportPoint, Payload, Shape, SharedStream, Stream, Write
 use std::alloc::Global;
 use uuid::Uuid;
 
-fn requests(alloc: Global) -> anyhow::Result<SharedStream> {
+/// The stream of requests.
+pub fn requests(alloc: Global) -> anyhow::Result<SharedStream> {
     let stream = Stream {
         scope: Txt::from_str(alloc, "app")?,
         name: Txt::from_str(alloc, "requests")?,
@@ -56,6 +57,39 @@ pub fn export_of(
         points.push(point(alloc, &stream, number)?)?;
     }
     Ok(Export::build(alloc, writer(alloc)?, begin, time, Seq::from_vec(points))?)
+}
+
+// A key and its text, the text being a letter and a number.
+fn pair(alloc: Global, key: &str, letter: char, number: u32) -> anyhow::Result<(Txt, AttrValue)> {
+    let text = format!(in alloc; "{letter}{number}")?;
+    Ok((
+        Txt::from_str(alloc, key)?,
+        AttrValue::Text(Txt::from_string(text)),
+    ))
+}
+
+// A set of 4 pairs. Sets of numbers that rise have no order: an odd factor scatters them over all numbers of 32 bits.
+fn scattered_set(alloc: Global, number: u32) -> anyhow::Result<AttrSet> {
+    let mut pairs = Vec::new(alloc);
+    pairs.push(pair(alloc, "host", 'h', number.wrapping_mul(2_654_435_761))?)?;
+    pairs.push(pair(alloc, "method", 'm', number % 4)?)?;
+    pairs.push(pair(alloc, "route", 'r', number % 100)?)?;
+    pairs.push(pair(alloc, "zone", 'z', number % 3)?)?;
+    Ok(AttrSet::from_pairs(pairs)?)
+}
+
+/// An export of one writer with so many keys of 4 pairs, in no order.
+pub fn scattered_export(alloc: Global, time: u64, keys: u32) -> anyhow::Result<Export> {
+    let stream = requests(alloc)?;
+    let mut points = Vec::new(alloc);
+    for number in 0..keys {
+        points.push(ExportPoint {
+            stream: stream.try_copy()?,
+            attrs: scattered_set(alloc, number)?,
+            payload: Payload::Sum(i64::from(number)),
+        })?;
+    }
+    Ok(Export::build(alloc, writer(alloc)?, 100, time, Seq::from_vec(points))?)
 }
 
 /// A gateway that took one export.

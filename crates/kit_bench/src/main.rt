@@ -14,6 +14,7 @@ mod measures;
 mod merges;
 mod mutexes;
 mod recordings;
+mod rollups;
 mod rounds;
 mod shared_writers;
 mod takes;
@@ -25,6 +26,7 @@ use std::env;
 fn takes_and_merges(rt: &HostRuntime, sizes: &[u32]) -> anyhow::Result<()> {
     for keys in sizes {
         takes::run(rt, *keys)?;
+        takes::run_scattered(rt, *keys)?;
         merges::run(rt, *keys)?;
         gossip::run(rt, *keys)?;
     }
@@ -38,6 +40,13 @@ fn all_rounds(rt: &HostRuntime, sizes: &[u32]) -> anyhow::Result<()> {
     Ok(())
 }
 
+fn all_rollups(rt: &HostRuntime, keys: u32, sizes: &[u32]) -> anyhow::Result<()> {
+    for groups in sizes {
+        rollups::run(rt, keys, *groups)?;
+    }
+    Ok(())
+}
+
 fn main(rt: HostRuntime) -> anyhow::Result<()> {
     let full = env::args(&rt)?.any(|word| word.as_str() == "full");
     if full {
@@ -46,13 +55,15 @@ fn main(rt: HostRuntime) -> anyhow::Result<()> {
         recordings::run(&rt, 7, 400_000)?;
         fleets::run(&rt, 9, 1_000, 250)?;
         takes_and_merges(&rt, &[1_000, 10_000, 100_000])?;
-        all_rounds(&rt, &[1_000, 100_000])
+        all_rounds(&rt, &[1_000, 100_000])?;
+        all_rollups(&rt, 100_000, &[1, 10, 10_000])
     } else {
         changes::run(&rt, 1, 1_000)?;
         measures::run(&rt, 20, 5)?;
         recordings::run(&rt, 1, 100)?;
         fleets::run(&rt, 3, 20, 2)?;
         takes_and_merges(&rt, &[10, 40])?;
-        all_rounds(&rt, &[10, 40])
+        all_rounds(&rt, &[10, 40])?;
+        all_rollups(&rt, 40, &[4])
     }
 }

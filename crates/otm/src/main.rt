@@ -1,8 +1,8 @@
 //! `otm run` does the script of the standard input and writes what its lines say to the standard output. `otm fleet` runs a
 //! fleet of threads and writes the total of each gateway.
 //!
-//! Exit statuses: 0 where all of it was done; 1 for a bad line, of which `line N` is printed, a script that is too long (`too long`), or a
-//! fleet without an answer (`missing gateway G writer W`, or `fleet failed`); 2 for words that are refused, whose text goes to the standard
+//! Exit statuses: 0 where all of it was done; 1 for a bad line, of which `line N` is printed, and on the standard error what is wrong with
+//! it, a script that is too long (`too long`), or a fleet without an answer (`missing gateway G writer W`, or `fleet failed`); 2 for words that are refused, whose text goes to the standard
 //! error; 3 for want of memory (`no memory`); 4 where a read or a write failed (`read failed` or `write failed`, on the standard error).
 #![tactic(auto)]
 
@@ -10,7 +10,7 @@ ghost use Rattle.std.specs.Prelude.{IfOk};
 ghost use Rattle.otm_kit.specs.Asked.{IsRanged};
 
 use otm_kit::command_line::asked;
-use otm_kit::{Asked, FleetEnd, LineFault, fleet_report, run_script};
+use otm_kit::{Asked, Ended, FleetEnd, LineFault, fleet_report, run_script_told};
 use script_kit::ScriptFault;
 use std::alloc::Global;
 use std::io::ErrorKind;
@@ -75,9 +75,21 @@ fn unread(alloc: Global, error: &io::Error) -> LineFault {
 fn run(rt: &(impl Input + Print + Eprint + AllocGlobal)) -> ExitCode {
     let mut reader = rt.reader();
     let mut writer = io::writer(rt);
-    match run_script(rt.alloc(), &mut reader, &mut writer) {
+    match run_script_told(rt.alloc(), &mut reader, &mut writer) {
         Ok(()) => ExitCode::SUCCESS,
-        Err(fault) => report(rt, fault),
+        Err(end) => {
+            let status = report(rt, end.fault);
+            explain(rt, &end);
+            status
+        }
+    }
+}
+
+// Prints what is wrong with a bad line, where there was memory for the words.
+fn explain(rt: &impl Eprint, end: &Ended) {
+    if let Some(sentence) = &end.sentence {
+        let fault = end.fault;
+        let _ = eprintln!(rt; "{fault}: {sentence}");
     }
 }
 

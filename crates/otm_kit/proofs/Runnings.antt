@@ -1,6 +1,6 @@
 -- What a desk stands for after one line more.
 use mathlib.Core.Bool.{true≢false}
-use Rattle.std.proofs.Common.{◌≡◌, ℕ, ◌<◌, ◌≤◌, Bool, true, false, not, List, [], ◌∷◌, ◌++◌, length, Option, Some, None, refl, sym, ap, ◌∙◌, subst, arith, slice_get, get_or, inl, inr}
+use Rattle.std.proofs.Common.{◌≡◌, ℕ, ◌<◌, ◌≤◌, Bool, true, false, not, List, [], ◌∷◌, ◌++◌, length, Option, Some, None, Result, Ok, Err, refl, sym, ap, ◌∙◌, subst, arith, slice_get, get_or, inl, inr}
 use Rattle.std.specs.Prelude.{if◌then◌else◌, IfSome, codes, IsTrue, ◌↔◌, ◌==◌}
 use Rattle.std.specs.Option.{is_some, option_map, option_map_or, unwrap_or}
 use Rattle.std.proofs.lemmas.List.Elements.{filter_map-append}
@@ -15,6 +15,8 @@ use Rattle.script_kit.specs.declared.line.Line.TheVariants as line
 use Rattle.script_kit.specs.declared.line.Query.{Query}
 use Rattle.script_kit.specs.declared.line.Query.TheVariants as query
 use Rattle.script_kit.specs.declared.line.Report.{Report}
+use Rattle.script_kit.specs.declared.reason.Reason.{Reason}
+use Rattle.script_kit.specs.declared.reason.Reason.TheVariants as reason
 use Rattle.rollup_kit.specs.Rollups.{rollup_rows}
 use Rattle.rollup_kit.specs.TableText.{table_text}
 use Rattle.gateway_kit.specs.Queries.{newest_time}
@@ -30,7 +32,7 @@ use Rattle.world_kit.specs.Stands.{Acts, Stands}
 use Rattle.world_kit.specs.declared.event.Event.{Event}
 use Rattle.world_kit.specs.declared.event.Reply.{Reply}
 use Rattle.otm_kit.specs.Begin.{begin_fault, limit_of, setup_of, with_plan}
-use Rattle.otm_kit.specs.Declarations.{Declared, declared_by, gateway_place, is_taken, label_place, with_declaration}
+use Rattle.otm_kit.specs.Declarations.{Declared, declared_by, gateway_place, is_taken, label_place, named_at, with_declaration}
 use Rattle.otm_kit.specs.Effects.{done, bad, effect_of, has_begun, once_begun, told_of}
 use Rattle.otm_kit.specs.Events.{commands, event_of, happened}
 use Rattle.otm_kit.specs.Answers.{answer_of, ask_of, conflicts_text, identity_of, newest_text, same_text}
@@ -47,11 +49,11 @@ use Rattle.otm_kit.specs.declared.running.Running.{Running}
 use Rattle.otm_kit.proofs.Lines.{no_line, a_begin, a_command, a_query, declares_more, declares_none, begun_more, begun_now, commands_more, commands_nothing, commands_declare, commands_begin, commands_ask}
 
 -- what happened by one command more
-pub happened_more : (d : Declared) (cs : List Command) (c : Command) (e : Event) → event_of d c ≡ Some e → happened d (cs ++ c ∷ []) ≡ after (setup_of d) (happened d cs) e
+pub happened_more : (d : Declared) (cs : List Command) (c : Command) (e : Event) → event_of d c ≡ Ok e → happened d (cs ++ c ∷ []) ≡ after (setup_of d) (happened d cs) e
 unfolding happened
 happened_more d cs c e is = rw (filter_map-append, is, fold_push) refl
 
-pub runs_more : (d : Declared) (cs : List Command) (c : Command) (e : Event) (reply : Reply) (old new : Running) → event_of d c ≡ Some e → Runs d cs old → Acts e old.world reply new.world
+pub runs_more : (d : Declared) (cs : List Command) (c : Command) (e : Event) (reply : Reply) (old new : Running) → event_of d c ≡ Ok e → Runs d cs old → Acts e old.world reply new.world
     → new.instruments ≡ old.instruments → new.writers ≡ old.writers → new.gateways ≡ old.gateways → Runs d (cs ++ c ∷ []) new
 runs_more d cs c e reply old new is r acts i w g = record {
   instruments = i ∙ r.instruments;
@@ -60,9 +62,9 @@ runs_more d cs c e reply old new is r acts i w g = record {
   world = subst (λ (ds : Deeds). Stands (setup_of d) ds new.world) (sym (happened_more d cs c e is)) (acts.stands (setup_of d) (happened d cs) r.world);
 }
 
-pub told_event : (d : Declared) (cs : List Command) (c : Command) (e : Event) (reply : Reply) (old new : Held) → event_of d c ≡ Some e → Stands (setup_of d) (happened d cs) old → Acts e old reply new
-    → Some (reply_text reply) ≡ told_of d cs c
-told_event d cs c e reply old new is stands acts = rw is (ap (λ r. Some (reply_text r)) (acts.reply (setup_of d) (happened d cs) stands))
+pub told_event : (d : Declared) (cs : List Command) (c : Command) (e : Event) (reply : Reply) (old new : Held) → event_of d c ≡ Ok e → Stands (setup_of d) (happened d cs) old → Acts e old reply new
+    → told_of d cs c ≡ Ok (reply_text reply)
+told_event d cs c e reply old new is stands acts = rw is (sym (ap (λ r. Ok (reply_text r)) (acts.reply (setup_of d) (happened d cs) stands)))
 
 as_lines : (d d' : Declared) (cs cs' : List Command) (r : Running) → d' ≡ d → cs' ≡ cs → Runs d cs r → Runs d' cs' r
 as_lines d d' cs cs' r a b runs = subst (λ (x : Declared). Runs x cs' r) (sym a) (subst (λ (x : List Command). Runs d x r) (sym b) runs)
@@ -100,11 +102,11 @@ was_false true e = absurd (true≢false e)
 was_false false e = refl
 
 -- a declaration
-pub declare_late : (lines : List Line) (x : Declaration) (text : List ℕ) → text ≡ [] → has_begun lines ≡ true → bad text ≡ effect_of lines (line.Declare x)
+pub declare_late : (lines : List Line) (x : Declaration) (text : List ℕ) → text ≡ [] → has_begun lines ≡ true → bad text reason.Late ≡ effect_of lines (line.Declare x)
 unfolding effect_of
 declare_late lines x text none begun = rw (none, begun) refl
 
-pub declare_bad : (lines : List Line) (x : Declaration) (draft : Declared) (text : List ℕ) → text ≡ [] → Waits lines draft → false ≡ not (is_taken draft x) → bad text ≡ effect_of lines (line.Declare x)
+pub declare_bad : (lines : List Line) (x : Declaration) (draft : Declared) (text : List ℕ) → text ≡ [] → Waits lines draft → false ≡ not (is_taken draft x) → bad text (reason.Taken (named_at x)) ≡ effect_of lines (line.Declare x)
 unfolding effect_of
 declare_bad lines x draft text none w e =
     let taken : is_taken (declared_by lines) x ≡ true = ap (λ d. is_taken d x) (sym w.is) ∙ was_true (is_taken draft x) e in
@@ -124,7 +126,7 @@ waits_more lines x draft new w e = record {
 }
 
 -- a beginning
-pub begin_late : (lines : List Line) (text : List ℕ) → text ≡ [] → has_begun lines ≡ true → bad text ≡ effect_of lines line.Begin
+pub begin_late : (lines : List Line) (text : List ℕ) → text ≡ [] → has_begun lines ≡ true → bad text reason.Late ≡ effect_of lines line.Begin
 unfolding effect_of
 begin_late lines text none begun = rw (none, begun) refl
 
@@ -134,7 +136,7 @@ begin_done lines draft text none w e =
     let sound : begin_fault (declared_by lines) ≡ None = ap begin_fault (sym w.is) ∙ e in
     rw (none, w.begun, sound) refl
 
-pub begin_bad : (lines : List Line) (draft : Declared) (fault : BeginFault) (text : List ℕ) → text ≡ refused (begin_text fault) → Waits lines draft → begin_fault draft ≡ Some fault → bad text ≡ effect_of lines line.Begin
+pub begin_bad : (lines : List Line) (draft : Declared) (fault : BeginFault) (text : List ℕ) → text ≡ refused (begin_text fault) → Waits lines draft → begin_fault draft ≡ Some fault → bad text reason.Refused ≡ effect_of lines line.Begin
 unfolding effect_of
 begin_bad lines draft fault text said w e =
     let unsound : begin_fault (declared_by lines) ≡ Some fault = ap begin_fault (sym w.is) ∙ e in
@@ -147,14 +149,14 @@ goes_first lines draft r w runs = record {
 }
 
 -- a command or a query
-pub once_bad : (lines : List Line) (text : List ℕ) (told : Option (List ℕ)) → text ≡ [] → has_begun lines ≡ false → bad text ≡ once_begun lines told
-once_bad lines text told none e = rw (none, e) refl
+pub once_early : (lines : List Line) (text : List ℕ) (told : Result (List ℕ) Reason) → text ≡ [] → has_begun lines ≡ false → bad text reason.Early ≡ once_begun lines told
+once_early lines text told none e = rw (none, e) refl
 
-pub once_done : (lines : List Line) (text : List ℕ) (told : Option (List ℕ)) → has_begun lines ≡ true → Some text ≡ told → done text ≡ once_begun lines told
-once_done lines text told e is = rw (e, ← is) refl
+pub once_done : (lines : List Line) (text : List ℕ) (told : Result (List ℕ) Reason) → has_begun lines ≡ true → told ≡ Ok text → done text ≡ once_begun lines told
+once_done lines text told e is = rw (e, is) refl
 
-pub once_none : (lines : List Line) (text : List ℕ) (told : Option (List ℕ)) → text ≡ [] → None ≡ told → bad text ≡ once_begun lines told
-once_none lines text told none is = elim (has_begun lines) as (λ b. bad text ≡ (if b then option_map_or done told (bad []) else bad [])) [ true ↦ rw (none, ← is) refl | false ↦ ap bad none ]
+pub once_bad : (lines : List Line) (text : List ℕ) (why : Reason) (told : Result (List ℕ) Reason) → has_begun lines ≡ true → text ≡ [] → told ≡ Err why → bad text why ≡ once_begun lines told
+once_bad lines text why told e none is = rw (none, e, is) refl
 
 pub goes_more : (lines : List Line) (c : Command) (old new : Running) → Goes lines old → Runs (declared_by lines) (commands lines ++ c ∷ []) new → Goes (lines ++ line.Do c ∷ []) new
 goes_more lines c old new g runs = record {
@@ -179,7 +181,7 @@ same_no b p q text h e is =
     ] refl)
 
 no_node : NodeView
-no_node = record { gateway = record { id = 0; points = empty }; change = 0; numbers = empty; acked = empty }
+no_node = record { gateway = record { id = 0; points = empty; numbers = empty }; change = 0; numbers = empty; acked = empty }
 
 -- the place of a gateway is one
 pub gateway_there : (d : Declared) (cs : List Command) (r : Running) (id place : ℕ) → Runs d cs r → gateway_place d.gateways id ≡ Some place → slice_get r.world.nodes place ≡ None → ⊥
@@ -194,35 +196,35 @@ pub gateway_here : (d : Declared) (cs : List Command) (r : Running) (id place : 
 gateway_here d cs r id place node runs is got = record { place = place; is = is; points_are = runs.world.nodes.points place node got }
 
 -- answers of queries about one gateway
-pub conflicts_none : (d : Declared) (cs : List Command) (id : ℕ) → gateway_place d.gateways id ≡ None → None ≡ answer_of d cs (query.Conflicts id)
+pub conflicts_none : (d : Declared) (cs : List Command) (id : ℕ) → gateway_place d.gateways id ≡ None → answer_of d cs (query.Conflicts id) ≡ Err (reason.NoGateway 1)
 unfolding answer_of
 conflicts_none d cs id e = rw e refl
 
-pub conflicts_some : (d : Declared) (cs : List Command) (id : ℕ) (points : Points) (text : List ℕ) → IsGatewayOf d cs id points → text ≡ conflicts_text points → Some text ≡ answer_of d cs (query.Conflicts id)
+pub conflicts_some : (d : Declared) (cs : List Command) (id : ℕ) (points : Points) (text : List ℕ) → IsGatewayOf d cs id points → text ≡ conflicts_text points → answer_of d cs (query.Conflicts id) ≡ Ok text
 unfolding answer_of
-conflicts_some d cs id points text g e = rw g.is (ap (λ t. Some t) (e ∙ ap conflicts_text g.points_are))
+conflicts_some d cs id points text g e = rw g.is (sym (ap (λ t. Ok t) (e ∙ ap conflicts_text g.points_are)))
 
-pub report_none : (d : Declared) (cs : List Command) (id : ℕ) (r : Report) → gateway_place d.gateways id ≡ None → None ≡ answer_of d cs (query.Report id r)
+pub report_none : (d : Declared) (cs : List Command) (id : ℕ) (r : Report) → gateway_place d.gateways id ≡ None → answer_of d cs (query.Report id r) ≡ Err (reason.NoGateway 1)
 unfolding answer_of
 report_none d cs id r e = rw e refl
 
-pub report_some : (d : Declared) (cs : List Command) (id : ℕ) (r : Report) (points : Points) (text : List ℕ) → IsGatewayOf d cs id points → text ≡ table_text (rollup_rows (ask_of r) points) → Some text ≡ answer_of d cs (query.Report id r)
+pub report_some : (d : Declared) (cs : List Command) (id : ℕ) (r : Report) (points : Points) (text : List ℕ) → IsGatewayOf d cs id points → text ≡ table_text (rollup_rows (ask_of r) points) → answer_of d cs (query.Report id r) ≡ Ok text
 unfolding answer_of
-report_some d cs id r points text g e = rw g.is (ap (λ t. Some t) (e ∙ ap (λ p. table_text (rollup_rows (ask_of r) p)) g.points_are))
+report_some d cs id r points text g e = rw g.is (sym (ap (λ t. Ok t) (e ∙ ap (λ p. table_text (rollup_rows (ask_of r) p)) g.points_are)))
 
-pub same_first : (d : Declared) (cs : List Command) (one other : ℕ) → gateway_place d.gateways one ≡ None → None ≡ answer_of d cs (query.Same one other)
+pub same_first : (d : Declared) (cs : List Command) (one other : ℕ) → gateway_place d.gateways one ≡ None → answer_of d cs (query.Same one other) ≡ Err (reason.NoGateway 1)
 unfolding answer_of
 same_first d cs one other e = rw e refl
 
-pub same_second : (d : Declared) (cs : List Command) (one other : ℕ) (points : Points) → IsGatewayOf d cs one points → gateway_place d.gateways other ≡ None → None ≡ answer_of d cs (query.Same one other)
+pub same_second : (d : Declared) (cs : List Command) (one other : ℕ) (points : Points) → IsGatewayOf d cs one points → gateway_place d.gateways other ≡ None → answer_of d cs (query.Same one other) ≡ Err (reason.NoGateway 2)
 unfolding answer_of
 same_second d cs one other points g e = rw (g.is, e) refl
 
-pub same_some : (d : Declared) (cs : List Command) (one other : ℕ) (p q : Points) (text : List ℕ) → IsGatewayOf d cs one p → IsGatewayOf d cs other q → text ≡ same_text p q → Some text ≡ answer_of d cs (query.Same one other)
+pub same_some : (d : Declared) (cs : List Command) (one other : ℕ) (p q : Points) (text : List ℕ) → IsGatewayOf d cs one p → IsGatewayOf d cs other q → text ≡ same_text p q → answer_of d cs (query.Same one other) ≡ Ok text
 unfolding answer_of
-same_some d cs one other p q text g h e = rw (g.is, h.is) (ap (λ t. Some t) (e ∙ (λ i. same_text (g.points_are i) (h.points_are i))))
+same_some d cs one other p q text g h e = rw (g.is, h.is) (sym (ap (λ t. Ok t) (e ∙ (λ i. same_text (g.points_are i) (h.points_are i)))))
 
-pub newest_first : (d : Declared) (cs : List Command) (id : ℕ) (label : List ℕ) (start : ℕ) → gateway_place d.gateways id ≡ None → None ≡ answer_of d cs (query.Newest id label start)
+pub newest_first : (d : Declared) (cs : List Command) (id : ℕ) (label : List ℕ) (start : ℕ) → gateway_place d.gateways id ≡ None → answer_of d cs (query.Newest id label start) ≡ Err (reason.NoGateway 1)
 unfolding answer_of
 newest_first d cs id label start e = rw e refl
 
@@ -255,13 +257,13 @@ none_past xs i e = elim (slice_get_cases xs i).1 [
   | (inr past) ↦ past.0
 ]
 
-pub newest_second : (d : Declared) (cs : List Command) (r : Running) (id : ℕ) (label : List ℕ) (start : ℕ) (points : Points) → Runs d cs r → IsGatewayOf d cs id points → label_place r.writers label ≡ None → None ≡ answer_of d cs (query.Newest id label start)
+pub newest_second : (d : Declared) (cs : List Command) (r : Running) (id : ℕ) (label : List ℕ) (start : ℕ) (points : Points) → Runs d cs r → IsGatewayOf d cs id points → label_place r.writers label ≡ None → answer_of d cs (query.Newest id label start) ≡ Err (reason.NoWriter 2)
 unfolding answer_of
 newest_second d cs r id label start points runs g e =
     let none : identity_of d label ≡ None = no_identity d label (ap (λ ls. label_place ls label) (sym runs.writers) ∙ e) in
     rw (g.is, none) refl
 
-pub newest_third : (d : Declared) (cs : List Command) (r : Running) (id : ℕ) (label : List ℕ) (start place : ℕ) (points : Points) → Runs d cs r → IsGatewayOf d cs id points → label_place r.writers label ≡ Some place → slice_get r.world.writers place ≡ None → None ≡ answer_of d cs (query.Newest id label start)
+pub newest_third : (d : Declared) (cs : List Command) (r : Running) (id : ℕ) (label : List ℕ) (start place : ℕ) (points : Points) → Runs d cs r → IsGatewayOf d cs id points → label_place r.writers label ≡ Some place → slice_get r.world.writers place ≡ None → answer_of d cs (query.Newest id label start) ≡ Err (reason.NoWriter 2)
 unfolding answer_of
 newest_third d cs r id label start place points runs g is e =
     let past = none_past r.world.writers place e in
@@ -277,7 +279,7 @@ identity_at d place w h is =
     ap (λ (s : WriterSetup). s.id) (get_or-map f d.writers place w no_writer h) ∙ ap (λ (x : WriterId × ℕ). x.0) (sym at)
 
 pub newest_some : (d : Declared) (cs : List Command) (r : Running) (id : ℕ) (label : List ℕ) (start place : ℕ) (writer : Written) (points : Points) (text : List ℕ) → Runs d cs r → IsGatewayOf d cs id points → label_place r.writers label ≡ Some place
-    → slice_get r.world.writers place ≡ Some writer → text ≡ newest_text (newest_time writer.id start points) → Some text ≡ answer_of d cs (query.Newest id label start)
+    → slice_get r.world.writers place ≡ Some writer → text ≡ newest_text (newest_time writer.id start points) → answer_of d cs (query.Newest id label start) ≡ Ok text
 unfolding answer_of
 newest_some d cs r id label start place writer points text runs g is got e =
     let within = slice_get_within r.world.writers place writer got in
@@ -287,44 +289,33 @@ newest_some d cs r id label start place writer points text runs g is got e =
     let there : slice_get d.writers place ≡ Some w = slice_get-get_or d.writers place _ inside in
     let who : writer.id ≡ w.0 = (runs.world.writers.each place writer got).id ∙ identity_at d place w inside there in
     let here : identity_of d label ≡ Some w.0 = some_identity d label place w (ap (λ ls. label_place ls label) (sym runs.writers) ∙ is) there in
-    rw (g.is, here) (ap (λ t. Some t) (e ∙ (λ i. newest_text (newest_time (who i) start (g.points_are i)))))
+    rw (g.is, here) (sym (ap (λ t. Ok t) (e ∙ (λ i. newest_text (newest_time (who i) start (g.points_are i))))))
 
 -- lines that come too early, and those that are done
 pub nothing_done : (lines : List Line) (text : List ℕ) → text ≡ [] → done text ≡ effect_of lines line.Nothing
 unfolding effect_of
 nothing_done lines text e = ap done e
 
-pub do_early : (lines : List Line) (c : Command) (text : List ℕ) → text ≡ [] → has_begun lines ≡ false → bad text ≡ effect_of lines (line.Do c)
+pub do_early : (lines : List Line) (c : Command) (text : List ℕ) → text ≡ [] → has_begun lines ≡ false → bad text reason.Early ≡ effect_of lines (line.Do c)
 unfolding effect_of
-do_early lines c text none e = once_bad lines text _ none e
+do_early lines c text none e = once_early lines text _ none e
 
-pub do_done : (lines : List Line) (c : Command) (text : List ℕ) → has_begun lines ≡ true → Some text ≡ told_of (declared_by lines) (commands lines) c → done text ≡ effect_of lines (line.Do c)
+pub do_done : (lines : List Line) (c : Command) (text : List ℕ) → has_begun lines ≡ true → told_of (declared_by lines) (commands lines) c ≡ Ok text → done text ≡ effect_of lines (line.Do c)
 unfolding effect_of
 do_done lines c text e told = once_done lines text _ e told
 
-pub do_none : (lines : List Line) (c : Command) (text : List ℕ) → text ≡ [] → None ≡ told_of (declared_by lines) (commands lines) c → bad text ≡ effect_of lines (line.Do c)
+pub do_bad : (lines : List Line) (c : Command) (text : List ℕ) (why : Reason) → has_begun lines ≡ true → text ≡ [] → told_of (declared_by lines) (commands lines) c ≡ Err why → bad text why ≡ effect_of lines (line.Do c)
 unfolding effect_of
-do_none lines c text none told = once_none lines text _ none told
+do_bad lines c text why e none told = once_bad lines text why _ e none told
 
-pub ask_early : (lines : List Line) (q : Query) (text : List ℕ) → text ≡ [] → has_begun lines ≡ false → bad text ≡ effect_of lines (line.Ask q)
+pub ask_early : (lines : List Line) (q : Query) (text : List ℕ) → text ≡ [] → has_begun lines ≡ false → bad text reason.Early ≡ effect_of lines (line.Ask q)
 unfolding effect_of
-ask_early lines q text none e = once_bad lines text _ none e
+ask_early lines q text none e = once_early lines text _ none e
 
-pub ask_done : (lines : List Line) (q : Query) (text : List ℕ) → has_begun lines ≡ true → Some text ≡ answer_of (declared_by lines) (commands lines) q → done text ≡ effect_of lines (line.Ask q)
+pub ask_done : (lines : List Line) (q : Query) (text : List ℕ) → has_begun lines ≡ true → answer_of (declared_by lines) (commands lines) q ≡ Ok text → done text ≡ effect_of lines (line.Ask q)
 unfolding effect_of
 ask_done lines q text e told = once_done lines text _ e told
 
-pub ask_none : (lines : List Line) (q : Query) (text : List ℕ) → text ≡ [] → None ≡ answer_of (declared_by lines) (commands lines) q → bad text ≡ effect_of lines (line.Ask q)
+pub ask_bad : (lines : List Line) (q : Query) (text : List ℕ) (why : Reason) → has_begun lines ≡ true → text ≡ [] → answer_of (declared_by lines) (commands lines) q ≡ Err why → bad text why ≡ effect_of lines (line.Ask q)
 unfolding effect_of
-ask_none lines q text none told = once_none lines text _ none told
-
--- what is said of an option, where it is known
-pub if_some : {A : Type 0} (o : Option A) (x : A) (P : Type 0) → o ≡ Some x → IfSome o (λ _. P) → P
-if_some None x P e h = cc
-if_some (Some y) x P e h = h
-
-pub mapped_some : {A B : Type 0} (f : A → B) (o : Option A) (x : A) (t : Option B) → o ≡ Some x → option_map f o ≡ t → Some (f x) ≡ t
-mapped_some f o x t e h = ap (option_map f) (sym e) ∙ h
-
-pub mapped_none : {A B : Type 0} (f : A → B) (o : Option A) (t : Option B) → o ≡ None → option_map f o ≡ t → None ≡ t
-mapped_none f o t e h = ap (option_map f) (sym e) ∙ h
+ask_bad lines q text why e none told = once_bad lines text why _ e none told

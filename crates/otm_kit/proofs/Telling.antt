@@ -1,18 +1,22 @@
 -- What is said so far, and one line more.
-use Rattle.std.proofs.Common.{◌≡◌, ◌+◌, ℕ, List, [], ◌∷◌, ◌++◌, ◌∙◌, ap, sym, append_assoc, append-nil, length-append, refl, length, Option, Some, None, Bool, true, false, arith, cond, ◌==◌, subst}
-use Rattle.std.specs.Prelude.{if◌then◌else◌}
+use Rattle.std.proofs.Common.{◌≡◌, ◌+◌, ℕ, List, [], ◌∷◌, ◌++◌, ◌∙◌, ap, sym, append_assoc, append-nil, length-append, refl, length, Option, Some, None, Ok, Bool, true, false, arith, cond, ◌==◌, subst}
+use Rattle.std.specs.Prelude.{if◌then◌else◌, IfSome, String, string_bytes}
+use Rattle.std.specs.Option.{option_map}
 use Rattle.std.specs.List.{slice_split, onto_first}
 use Rattle.std.proofs.lemmas.List.Elements.{filter_map-append}
 use Rattle.std.specs.Io.KnownBytes.{Appends}
 use Rattle.std.proofs.KnownBytes.{Appends-trans, Appends-nil}
 use Rattle.script_kit.specs.Bytes.{AppendsFront}
 use Rattle.script_kit.specs.Lines.{line_of}
+use Rattle.script_kit.specs.Reasons.{sentence_of}
 use Rattle.script_kit.specs.Words.{pieces_of, is_filled}
 use Rattle.script_kit.specs.declared.line.Line.{Line}
 use Rattle.otm_kit.specs.Effects.{Effect, done, bad}
-use Rattle.otm_kit.specs.Says.{Said, said, says, bad_line_of, behind, then_says, piece_effect, lines_of, effect_text}
-use Rattle.otm_kit.specs.Standing.{Does, Fails, IsAfter}
+use Rattle.otm_kit.specs.Says.{Said, Wrong, said, says, wrong_of, bad_line_of, reason_of, sentence_for, behind, then_says, piece_effect, lines_of, effect_text}
+use Rattle.otm_kit.specs.Standing.{Does, Fails, IsAfter, Tells, TellsOf}
 use Rattle.otm_kit.specs.declared.desk.Desk.{Desk}
+use Rattle.otm_kit.specs.declared.ended.Ended.{Ended}
+use Rattle.script_kit.specs.declared.reason.Reason.TheVariants as reason
 
 -- The desk, the bytes and the number where the lines before are done, and this is left of the script.
 pub record Told (script : List ℕ) (old now : Option (List ℕ)) (desk : Desk) (number : ℕ) (rest : List ℕ) : Type 0 where
@@ -38,7 +42,7 @@ some_piece : (script : List ℕ) → (p : List ℕ) × ((ps : List (List ℕ)) �
 some_piece script = split_some (λ b. b == 10) script
 
 said_more : (piece after : List ℕ) (before : List (List ℕ)) → said (piece ∷ pieces_of after) before
-    ≡ then_says (length before + 1) (piece_effect (lines_of before) piece) (said (pieces_of after) (before ++ piece ∷ []))
+    ≡ then_says (length before + 1) piece (piece_effect (lines_of before) piece) (said (pieces_of after) (before ++ piece ∷ []))
 unfolding said
 said_more piece after before = let p = some_piece after in rw p.1.1 refl
 
@@ -58,15 +62,15 @@ front_after old mid new written text rest p q = (
 behind_behind : (a b : List ℕ) (s : Said) → behind a (behind b s) ≡ behind (a ++ b) s
 behind_behind a b s = rw append_assoc refl
 
-lines_push : (pieces : List (List ℕ)) (piece : List ℕ) (line : Line) → line_of piece ≡ Some line → lines_of (pieces ++ piece ∷ []) ≡ lines_of pieces ++ line ∷ []
+lines_push : (pieces : List (List ℕ)) (piece : List ℕ) (line : Line) → line_of piece ≡ Ok line → lines_of (pieces ++ piece ∷ []) ≡ lines_of pieces ++ line ∷ []
 lines_push pieces piece line e = rw (filter_map-append, e) refl
 
 -- what there is to say, at the next line
 opened : (script : List ℕ) (old now : Option (List ℕ)) (desk : Desk) (number : ℕ) (rest piece after : List ℕ)
     → (t : Told script old now desk number rest) → pieces_of rest ≡ piece ∷ pieces_of after
-    → said (pieces_of script) [] ≡ behind t.written (then_says number (piece_effect (lines_of t.before) piece) (said (pieces_of after) (t.before ++ piece ∷ [])))
+    → said (pieces_of script) [] ≡ behind t.written (then_says number piece (piece_effect (lines_of t.before) piece) (said (pieces_of after) (t.before ++ piece ∷ [])))
 opened script old now desk number rest piece after t cut =
-    let here : said (pieces_of rest) t.before ≡ then_says number (piece_effect (lines_of t.before) piece) (said (pieces_of after) (t.before ++ piece ∷ [])) =
+    let here : said (pieces_of rest) t.before ≡ then_says number piece (piece_effect (lines_of t.before) piece) (said (pieces_of after) (t.before ++ piece ∷ [])) =
     ap (λ ps. said ps t.before) cut ∙ rw t.numbered (said_more piece after t.before) in
     t.to_say ∙ ap (behind t.written) here
 
@@ -80,19 +84,19 @@ told_more script old mid new desk desk' number rest piece after t cut d =
       stands = subst (λ (ls : List Line). IsAfter ls desk') (sym (lines_push t.before piece d.line d.is)) d.after;
       numbered = omega (arith, length-append t.before (piece ∷ []), t.numbered);
       appends = Appends-trans old mid new t.written d.printed t.appends d.appends;
-      to_say = opened script old mid desk number rest piece after t cut ∙ ap (λ f. behind t.written (then_says number f last)) d.effect ∙ behind_behind t.written d.printed last;
+      to_say = opened script old mid desk number rest piece after t cut ∙ ap (λ f. behind t.written (then_says number piece f last)) d.effect ∙ behind_behind t.written d.printed last;
     }
 
 pub told_bad : (script : List ℕ) (old mid new : Option (List ℕ)) (desk : Desk) (number : ℕ) (rest piece after : List ℕ)
-    → (t : Told script old mid desk number rest) → pieces_of rest ≡ piece ∷ pieces_of after → Fails (lines_of t.before) piece mid new
-    → Appends old new (says script) × (bad_line_of script ≡ Some number)
-unfolding says bad_line_of
-told_bad script old mid new desk number rest piece after t cut d =
+    → (t : Told script old mid desk number rest) → pieces_of rest ≡ piece ∷ pieces_of after → (end : Ended) → (f : Fails (lines_of t.before) piece mid new end)
+    → Appends old new (says script) × (wrong_of script ≡ Some (record { number = number; line = piece; reason = f.why }))
+unfolding says wrong_of
+told_bad script old mid new desk number rest piece after t cut end d =
     let last : Said = said (pieces_of after) (t.before ++ piece ∷ []) in
-    let whole : said (pieces_of script) [] ≡ record { text = t.written ++ d.printed; bad_line = Some number } =
-    opened script old mid desk number rest piece after t cut ∙ ap (λ f. behind t.written (then_says number f last)) d.effect in
+    let whole : said (pieces_of script) [] ≡ record { text = t.written ++ d.printed; wrong = Some (record { number = number; line = piece; reason = d.why }) } =
+    opened script old mid desk number rest piece after t cut ∙ ap (λ f. behind t.written (then_says number piece f last)) d.effect in
     let P : Said → Type 0 = λ s. Appends old new s.text in
-    (subst P (sym whole) (Appends-trans old mid new t.written d.printed t.appends d.appends), ap (λ s. s.bad_line) whole)
+    (subst P (sym whole) (Appends-trans old mid new t.written d.printed t.appends d.appends), ap (λ (s : Said). s.wrong) whole)
 
 pub told_front : (script : List ℕ) (old mid new : Option (List ℕ)) (desk : Desk) (number : ℕ) (rest piece after : List ℕ)
     → (t : Told script old mid desk number rest) → pieces_of rest ≡ piece ∷ pieces_of after → AppendsFront mid new (effect_text (piece_effect (lines_of t.before) piece))
@@ -101,41 +105,53 @@ unfolding says
 told_front script old mid new desk number rest piece after t cut p =
     let last : Said = said (pieces_of after) (t.before ++ piece ∷ []) in
     let whole = opened script old mid desk number rest piece after t cut in
-    let text : (f : Effect) → AppendsFront mid new (effect_text f) → AppendsFront old new ((behind t.written (then_says number f last)).text) =
+    let text : (f : Effect) → AppendsFront mid new (effect_text f) → AppendsFront old new ((behind t.written (then_says number piece f last)).text) =
     elim [
       | (done text) ↦ λ q. front_after old mid new t.written text last.text t.appends q
-      | (bad text) ↦ λ q. let P : List ℕ → Type 0 = λ x. AppendsFront old new (t.written ++ x) in
+      | (bad text why) ↦ λ q. let P : List ℕ → Type 0 = λ x. AppendsFront old new (t.written ++ x) in
           subst P (append-nil text) (front_after old mid new t.written text [] t.appends q)
     ] in
     let P : Said → Type 0 = λ s. AppendsFront old new s.text in
     subst P (sym whole) (text (piece_effect (lines_of t.before) piece) p)
 
+abbrev pub cut_at : ℕ → List ℕ → Wrong
+cut_at number rest = record { number = number; line = rest; reason = reason.Cut }
+
 -- what there is to say where no line feed is left
 at_last : (script : List ℕ) (old now : Option (List ℕ)) (desk : Desk) (number : ℕ) (rest : List ℕ)
     → (t : Told script old now desk number rest) → pieces_of rest ≡ rest ∷ []
-    → said (pieces_of script) [] ≡ record { text = t.written; bad_line = if is_filled rest then Some number else None }
+    → said (pieces_of script) [] ≡ record { text = t.written; wrong = if is_filled rest then Some (cut_at number rest) else None }
 unfolding said
 at_last script old now desk number rest t cut =
-    let b : Option ℕ = if is_filled rest then Some (length t.before + 1) else None in
-    let last : said (pieces_of rest) t.before ≡ record { text = []; bad_line = b } = ap (λ ps. said ps t.before) cut in
-    let near : behind t.written (record { text = []; bad_line = b }) ≡ record { text = t.written; bad_line = b } = rw append-nil refl in
-    let P : ℕ → Type 0 = λ n. said (pieces_of script) [] ≡ record { text = t.written; bad_line = if is_filled rest then Some n else None } in
+    let b : Option Wrong = if is_filled rest then Some (cut_at (length t.before + 1) rest) else None in
+    let last : said (pieces_of rest) t.before ≡ record { text = []; wrong = b } = ap (λ ps. said ps t.before) cut in
+    let near : behind t.written (record { text = []; wrong = b }) ≡ record { text = t.written; wrong = b } = rw append-nil refl in
+    let P : ℕ → Type 0 = λ n. said (pieces_of script) [] ≡ record { text = t.written; wrong = if is_filled rest then Some (cut_at n rest) else None } in
     subst P (sym t.numbered) (t.to_say ∙ ap (behind t.written) last ∙ near)
 
 pub told_end : (script : List ℕ) (old now : Option (List ℕ)) (desk : Desk) (number : ℕ) (rest : List ℕ)
     → Told script old now desk number rest → pieces_of rest ≡ rest ∷ [] → is_filled rest ≡ false
-    → Appends old now (says script) × (bad_line_of script ≡ None)
-unfolding says bad_line_of
+    → Appends old now (says script) × (wrong_of script ≡ None)
+unfolding says wrong_of
 told_end script old now desk number rest t cut e =
     let whole = at_last script old now desk number rest t cut in
     let P : Said → Type 0 = λ s. Appends old now s.text in
-    (subst P (sym whole) t.appends, ap (λ s. s.bad_line) whole ∙ ap (λ b. if b then Some number else None) e)
+    (subst P (sym whole) t.appends, ap (λ (s : Said). s.wrong) whole ∙ ap (λ b. if b then Some (cut_at number rest) else None) e)
 
 pub told_cut : (script : List ℕ) (old now : Option (List ℕ)) (desk : Desk) (number : ℕ) (rest : List ℕ)
     → Told script old now desk number rest → pieces_of rest ≡ rest ∷ [] → is_filled rest ≡ true
-    → Appends old now (says script) × (bad_line_of script ≡ Some number)
-unfolding says bad_line_of
+    → Appends old now (says script) × (wrong_of script ≡ Some (cut_at number rest))
+unfolding says wrong_of
 told_cut script old now desk number rest t cut e =
     let whole = at_last script old now desk number rest t cut in
     let P : Said → Type 0 = λ s. Appends old now s.text in
-    (subst P (sym whole) t.appends, ap (λ s. s.bad_line) whole ∙ ap (λ b. if b then Some number else None) e)
+    (subst P (sym whole) t.appends, ap (λ (s : Said). s.wrong) whole ∙ ap (λ b. if b then Some (cut_at number rest) else None) e)
+
+said_so : {Z : Type 0} (script : List ℕ) (w : Wrong) (o : Option (String Z)) → wrong_of script ≡ Some w → IfSome o (λ text. string_bytes text ≡ sentence_of w.line w.reason)
+    → IfSome o (λ text. sentence_for script ≡ Some (string_bytes text))
+said_so script w None is h = h
+said_so script w (Some text) is h = ap (option_map (λ (v : Wrong). sentence_of v.line v.reason)) is ∙ ap (λ (t : List ℕ). Some t) (sym h)
+
+-- what an end tells of a bad line it tells of the script
+pub tells_of : (script : List ℕ) (end : Ended) (w : Wrong) → wrong_of script ≡ Some w → Tells end w.line w.reason → TellsOf end script
+tells_of script end w is t = (t.reason ∙ sym (ap (option_map (λ (v : Wrong). v.reason)) is), said_so script w end.sentence is t.sentence)

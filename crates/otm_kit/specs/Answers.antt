@@ -1,5 +1,5 @@
 -- What queries print.
-use Rattle.std.specs.Prelude.{ℕ, ◌==◌, if◌then◌else◌, List, [], ◌∷◌, ◌++◌, codes, count_by, slice_get, Option, Some, None}
+use Rattle.std.specs.Prelude.{ℕ, ◌==◌, if◌then◌else◌, List, [], ◌∷◌, ◌++◌, codes, count_by, slice_get, Option, Some, None, Result, Ok, ok_or, option_and_then}
 use Rattle.std.specs.Fmt.{decimal}
 use Rattle.std.specs.FinMap.{entries}
 use Rattle.gateway_kit.specs.Queries.{has_conflict, newest_time}
@@ -8,17 +8,19 @@ use Rattle.rollup_kit.specs.Rollups.{rollup_rows}
 use Rattle.rollup_kit.specs.TableText.{table_text}
 use Rattle.rollup_kit.specs.declared.ask.Ask.{Ask}
 use Rattle.schedule_kit.specs.Deeds.Holder.{AtGateway}
-use Rattle.script_kit.specs.Forms.{◌>>=◌}
+use Rattle.script_kit.specs.Reading.{◌>>=◌}
 use Rattle.script_kit.specs.declared.line.Command.{Command}
 use Rattle.script_kit.specs.declared.line.Query.{Query}
 use Rattle.script_kit.specs.declared.line.Query.TheVariants as query
 use Rattle.script_kit.specs.declared.line.Report.{Report}
+use Rattle.script_kit.specs.declared.reason.Reason.{Reason}
+use Rattle.script_kit.specs.declared.reason.Reason.TheVariants as reason
 use Rattle.point_kit.specs.declared.writer_id.WriterId.{WriterId}
 use Rattle.std.specs.Option.{option_map}
 use Rattle.world_kit.specs.States.{state_at}
 use Rattle.otm_kit.specs.Begin.{setup_of}
 use Rattle.otm_kit.specs.Declarations.{Declared, gateway_place}
-use Rattle.otm_kit.specs.Events.{happened, writer_place}
+use Rattle.otm_kit.specs.Events.{gateway_at, happened, writer_place}
 
 -- the state of the exports that the gateway at a place took
 abbrev pub points_at : Declared → List Command → ℕ → Points
@@ -41,15 +43,15 @@ newest_text None = codes "newest none" ++ 10 ∷ []
 
 -- the identity of the writer of a label
 unfoldable pub identity_of : Declared → List ℕ → Option WriterId
-identity_of d label = writer_place d label >>= λ place. option_map (λ w. w.0) (slice_get d.writers place)
+identity_of d label = option_and_then (λ place. option_map (λ w. w.0) (slice_get d.writers place)) (writer_place d label)
 
 -- what a query prints, where its labels and ids are declared
-unfoldable pub answer_of : Declared → List Command → Query → Option (List ℕ)
+unfoldable pub answer_of : Declared → List Command → Query → Result (List ℕ) Reason
 answer_of d cs (query.Report gateway report) =
-    gateway_place d.gateways gateway >>= λ g. Some (table_text (rollup_rows (ask_of report) (points_at d cs g)))
+    gateway_at d gateway 1 >>= λ g. Ok (table_text (rollup_rows (ask_of report) (points_at d cs g)))
 answer_of d cs (query.Same one other) =
-    gateway_place d.gateways one >>= λ g. gateway_place d.gateways other >>= λ h. Some (same_text (points_at d cs g) (points_at d cs h))
+    gateway_at d one 1 >>= λ g. gateway_at d other 2 >>= λ h. Ok (same_text (points_at d cs g) (points_at d cs h))
 answer_of d cs (query.Conflicts gateway) =
-    gateway_place d.gateways gateway >>= λ g. Some (conflicts_text (points_at d cs g))
+    gateway_at d gateway 1 >>= λ g. Ok (conflicts_text (points_at d cs g))
 answer_of d cs (query.Newest gateway writer start) =
-    gateway_place d.gateways gateway >>= λ g. identity_of d writer >>= λ id. Some (newest_text (newest_time id start (points_at d cs g)))
+    gateway_at d gateway 1 >>= λ g. ok_or (identity_of d writer) (reason.NoWriter 2) >>= λ id. Ok (newest_text (newest_time id start (points_at d cs g)))

@@ -76,6 +76,11 @@ is_taken d (declaration.Writer label id start) = is_some (label_place d.writer_l
 is_taken d (declaration.Gateway id) = false
 is_taken d (declaration.Limit limit) = is_some d.limit
 
+-- the place of the word that may be taken: that of the label, or `limit`
+abbrev pub named_at : Declaration → ℕ
+named_at (declaration.Limit limit) = 0
+named_at _ = 1
+
 -- with one declaration more
 unfoldable pub with_declaration : Declared → Declaration → Declared
 with_declaration d (declaration.Instrument label instrument) = record d { instrument_labels = d.instrument_labels ++ label ∷ []; instruments = d.instruments ++ instrument ∷ [] }

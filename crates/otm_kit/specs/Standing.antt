@@ -1,7 +1,8 @@
 -- What the parts of a running script stand for.
-use Rattle.std.specs.Prelude.{◌≡◌, ℕ, List, [], ◌∷◌, ◌++◌, true, false, Option, None, Some, string_bytes}
+use Rattle.std.specs.Prelude.{◌≡◌, ℕ, List, [], ◌∷◌, ◌++◌, true, false, Option, None, Some, Result, Ok, Err, IfSome, String, string_bytes}
 use Rattle.std.specs.Io.KnownBytes.{Appends}
 use Rattle.script_kit.specs.Lines.{line_of}
+use Rattle.script_kit.specs.Reasons.{sentence_of}
 use Rattle.script_kit.specs.declared.line.Command.{Command}
 use Rattle.script_kit.specs.declared.line.Line.{Line}
 use Rattle.world_kit.specs.Stands.{Stands}
@@ -12,11 +13,15 @@ use Rattle.otm_kit.specs.Declarations.{Declared, declared_by, gateway_place}
 use Rattle.otm_kit.specs.Effects.{Effect, done, bad, effect_of, has_begun}
 use Rattle.otm_kit.specs.Events.{commands, happened}
 use Rattle.otm_kit.specs.Places.{Knows}
-use Rattle.otm_kit.specs.Says.{piece_effect}
+use Rattle.otm_kit.specs.Says.{piece_effect, reason_of, sentence_for}
 use Rattle.otm_kit.specs.declared.desk.Desk.{Desk}
 use Rattle.otm_kit.specs.declared.desk.Outcome.{Outcome}
 use Rattle.otm_kit.specs.declared.desk.Outcome.TheVariants as out
+use Rattle.otm_kit.specs.declared.ended.Ended.{Ended}
 use Rattle.otm_kit.specs.declared.running.Running.{Running}
+use Rattle.script_kit.specs.declared.reason.Reason.{Reason}
+use Rattle.script_kit.specs.declared.stop.Stop.{Stop}
+use Rattle.script_kit.specs.declared.stop.Stop.TheVariants as stop
 
 -- a script that has begun stands for what was declared and the commands that were done
 pub record Runs (d : Declared) (cs : List Command) (r : Running) : Type 0 where
@@ -51,11 +56,11 @@ IsAfter lines desk = StandsFor lines desk.draft desk.running
 
 abbrev pub effect : Outcome → Effect
 effect (out.Done text) = done (string_bytes text)
-effect (out.Bad text) = bad (string_bytes text)
+effect (out.Bad text why) = bad (string_bytes text) why
 
 abbrev pub IfDone : Outcome → Type 0 → Type 0
 IfDone (out.Done text) P = P
-IfDone (out.Bad text) P = Unit {0}
+IfDone (out.Bad text why) P = Unit {0}
 
 -- a line has its effect and, where it is done, the desk stands for it too
 abbrev pub Acts : List Line → Line → Outcome → Desk → Type 0
@@ -67,11 +72,28 @@ pub record Does (before : List Line) (piece : List ℕ) (old new : Option (List 
   pub effect : piece_effect before piece ≡ done printed
   pub appends : Appends old new printed
   pub line : Line
-  pub is : line_of piece ≡ Some line
+  pub is : line_of piece ≡ Ok line
   pub after : IsAfter (before ++ line ∷ []) desk
 
--- a piece is bad, and what it prints is written
-pub record Fails (before : List Line) (piece : List ℕ) (old new : Option (List ℕ)) : Type 0 where
+-- an end tells why a line is bad and, where there was memory for it, says so
+pub record Tells (end : Ended) (line : List ℕ) (why : Reason) : Type 0 where
+  pub reason : end.reason ≡ Some why
+  pub sentence : IfSome end.sentence (λ text. string_bytes text ≡ sentence_of line why)
+
+-- an end tells why the first bad line of a script is bad
+abbrev pub TellsOf : Ended → List ℕ → Type 0
+TellsOf end script = (end.reason ≡ reason_of script) × IfSome end.sentence (λ text. sentence_for script ≡ Some (string_bytes text))
+
+-- a piece is bad, what it prints is written, and the end tells why
+pub record Fails (before : List Line) (piece : List ℕ) (old new : Option (List ℕ)) (end : Ended) : Type 0 where
   pub printed : List ℕ
-  pub effect : piece_effect before piece ≡ bad printed
+  pub why : Reason
+  pub tells : Tells end piece why
+  pub effect : piece_effect before piece ≡ bad printed why
   pub appends : Appends old new printed
+
+-- a text is printed, or a line is bad; of want of memory nothing is said
+abbrev pub Prints : {Z : Type 0} → Result (String Z) Stop → Result (List ℕ) Reason → Type 0
+Prints (Ok text) told = told ≡ Ok (string_bytes text)
+Prints (Err (stop.Bad why)) told = told ≡ Err why
+Prints (Err stop.NoMemory) told = Unit {0}

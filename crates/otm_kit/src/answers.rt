@@ -1,21 +1,22 @@
 //! What queries print.
 ghost use Rattle.std.specs.Prelude.{◌≡◌, IfOk, string_bytes};
-ghost use Rattle.std.specs.Option.{option_map};
 ghost use Rattle.otm_kit.specs.Answers.{answer_of, ask_of, conflicts_text, newest_text, same_text};
-ghost use Rattle.otm_kit.specs.Standing.{Runs};
+ghost use Rattle.otm_kit.specs.Standing.{Prints, Runs};
 ghost use Rattle.script_kit.specs.declared.line.Query.TheVariants as query;
 
 use crate::running::Running;
 use attr_kit::{AttrSet, AttrValue, NoMemory, Seq, TryCopy, Txt};
 use gateway_kit::Gateway;
 use rollup_kit::{Ask, rollup, table};
-use script_kit::{Query, Report};
+use script_kit::{Query, Reason, Report, Stop};
 use std::alloc::Global;
 
 impl Running {
-    /// What a query prints, or `None` for a bad line.
-    pub(crate) fn answer(&self, alloc: Global, query: Query) -> Result<Option<String>, NoMemory>
-        ensures { IfOk result (λ printed. (d : _) (cs : _) → Runs d cs self.now → option_map string_bytes printed ≡ answer_of d cs query) }
+    /// What a query prints.
+    ///
+    /// Refuses: `Bad`, where a label or an id names nothing; `NoMemory`.
+    pub(crate) fn answer(&self, alloc: Global, query: Query) -> Result<String, Stop>
+        ensures { (d : _) (cs : _) → Runs d cs self.now → Prints result (answer_of d cs query) }
     {
         match query {
             Query::Report { gateway, report } => self.report(alloc, gateway, report),
@@ -29,63 +30,52 @@ impl Running {
         }
     }
 
-    fn report(
-        &self,
-        alloc: Global,
-        gateway: u32,
-        report: Report,
-    ) -> Result<Option<String>, NoMemory>
-        ensures { IfOk result (λ printed. (d : _) (cs : _) → Runs d cs self.now → option_map string_bytes printed ≡ answer_of d cs (query.Report gateway report)) }
+    fn report(&self, alloc: Global, gateway: u32, report: Report) -> Result<String, Stop>
+        ensures { (d : _) (cs : _) → Runs d cs self.now → Prints result (answer_of d cs (query.Report gateway report)) }
     {
         let Some(gateway) = self.gateway(gateway) else {
-            return Ok(None);
+            return Err(Stop::Bad(Reason::NoGateway(1)));
         };
         let ask = ask_of(alloc, report)?;
         let rows = rollup(alloc, gateway, &ask)?;
-        Ok(Some(table(alloc, rows.as_slice())?.into_string(alloc)?))
+        Ok(table(alloc, rows.as_slice())?.into_string(alloc)?)
     }
 
-    fn same(&self, alloc: Global, one: u32, other: u32) -> Result<Option<String>, NoMemory>
-        ensures { IfOk result (λ printed. (d : _) (cs : _) → Runs d cs self.now → option_map string_bytes printed ≡ answer_of d cs (query.Same one other)) }
+    fn same(&self, alloc: Global, one: u32, other: u32) -> Result<String, Stop>
+        ensures { (d : _) (cs : _) → Runs d cs self.now → Prints result (answer_of d cs (query.Same one other)) }
     {
         let Some(one) = self.gateway(one) else {
-            return Ok(None);
+            return Err(Stop::Bad(Reason::NoGateway(1)));
         };
         let Some(other) = self.gateway(other) else {
-            return Ok(None);
+            return Err(Stop::Bad(Reason::NoGateway(2)));
         };
-        Ok(Some(same_line(alloc, one, other)?))
+        Ok(same_line(alloc, one, other)?)
     }
 
-    fn conflicts(&self, alloc: Global, gateway: u32) -> Result<Option<String>, NoMemory>
-        ensures { IfOk result (λ printed. (d : _) (cs : _) → Runs d cs self.now → option_map string_bytes printed ≡ answer_of d cs (query.Conflicts gateway)) }
+    fn conflicts(&self, alloc: Global, gateway: u32) -> Result<String, Stop>
+        ensures { (d : _) (cs : _) → Runs d cs self.now → Prints result (answer_of d cs (query.Conflicts gateway)) }
     {
         let Some(gateway) = self.gateway(gateway) else {
-            return Ok(None);
+            return Err(Stop::Bad(Reason::NoGateway(1)));
         };
-        Ok(Some(conflicts_line(alloc, gateway)?))
+        Ok(conflicts_line(alloc, gateway)?)
     }
 
-    fn newest(
-        &self,
-        alloc: Global,
-        gateway: u32,
-        writer: &Txt,
-        start: u64,
-    ) -> Result<Option<String>, NoMemory>
-        ensures { IfOk result (λ printed. (d : _) (cs : _) → Runs d cs self.now → option_map string_bytes printed ≡ answer_of d cs (query.Newest gateway writer.now start)) }
+    fn newest(&self, alloc: Global, gateway: u32, writer: &Txt, start: u64) -> Result<String, Stop>
+        ensures { (d : _) (cs : _) → Runs d cs self.now → Prints result (answer_of d cs (query.Newest gateway writer.now start)) }
     {
         let Some(gateway) = self.gateway(gateway) else {
-            return Ok(None);
+            return Err(Stop::Bad(Reason::NoGateway(1)));
         };
         let Some(place) = self.writers.place(writer) else {
-            return Ok(None);
+            return Err(Stop::Bad(Reason::NoWriter(2)));
         };
         let Some(writer) = self.world.writer(place) else {
-            return Ok(None);
+            return Err(Stop::Bad(Reason::NoWriter(2)));
         };
         let time = gateway.newest(writer.id(), start);
-        Ok(Some(newest_line(alloc, time)?))
+        Ok(newest_line(alloc, time)?)
     }
 }
 

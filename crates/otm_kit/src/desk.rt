@@ -4,18 +4,18 @@ ghost use Rattle.otm_kit.specs.Standing.{Acts, IsAfter};
 ghost use Rattle.script_kit.specs.declared.line.Line.TheVariants as line;
 
 use crate::begin::{BeginFault, begin};
-use crate::draft::Draft;
+use crate::draft::{Draft, named_at};
 use crate::refusals::begin_line;
 use crate::running::Running;
 use attr_kit::NoMemory;
-use script_kit::{Command, Declaration, Line, Query};
+use script_kit::{Command, Declaration, Line, Query, Reason, Stop};
 use std::alloc::Global;
 
-/// What a line came to: it is done, or bad, and prints this.
+/// What a line came to: it is done, or bad for a reason, and prints this.
 #[derive(Drop)]
 pub(crate) enum Outcome {
     Done(String),
-    Bad(String),
+    Bad(String, Reason),
 }
 
 /// A script before and after its `begin`.
@@ -54,12 +54,14 @@ impl Desk {
         ensures { IfOk result (λ outcome. (lines : _) → IsAfter lines self.old → Acts lines (line.Declare declaration) outcome self.new) }
     {
         if self.running.is_some() {
-            return Ok(Outcome::Bad(String::new(self.alloc)));
+            return Ok(Outcome::Bad(String::new(self.alloc), Reason::Late));
         }
+        let place = named_at(&declaration);
         if self.draft.declare(declaration)? {
             Ok(Outcome::Done(String::new(self.alloc)))
         } else {
-            Ok(Outcome::Bad(String::new(self.alloc)))
+            let why = Reason::Taken(place);
+            Ok(Outcome::Bad(String::new(self.alloc), why))
         }
     }
 
@@ -67,7 +69,7 @@ impl Desk {
         ensures { IfOk result (λ outcome. (lines : _) → IsAfter lines self.old → Acts lines line.Begin outcome self.new) }
     {
         if self.running.is_some() {
-            return Ok(Outcome::Bad(String::new(self.alloc)));
+            return Ok(Outcome::Bad(String::new(self.alloc), Reason::Late));
         }
         let draft = std::mem::replace(&mut self.draft, Draft::new(self.alloc));
         match begin(self.alloc, draft) {
@@ -76,7 +78,10 @@ impl Desk {
                 Ok(Outcome::Done(String::new(self.alloc)))
             }
             Err(BeginFault::NoMemory) => Err(NoMemory),
-            Err(fault) => Ok(Outcome::Bad(begin_line(self.alloc, &fault)?)),
+            Err(fault) => {
+                let printed = begin_line(self.alloc, &fault)?;
+                Ok(Outcome::Bad(printed, Reason::Refused))
+            }
         }
     }
 
@@ -84,11 +89,12 @@ impl Desk {
         ensures { IfOk result (λ outcome. (lines : _) → IsAfter lines self.old → Acts lines (line.Do command) outcome self.new) }
     {
         let Some(running) = &mut self.running else {
-            return Ok(Outcome::Bad(String::new(self.alloc)));
+            return Ok(Outcome::Bad(String::new(self.alloc), Reason::Early));
         };
-        match running.obey(self.alloc, command)? {
-            Some(printed) => Ok(Outcome::Done(printed)),
-            None => Ok(Outcome::Bad(String::new(self.alloc))),
+        match running.obey(self.alloc, command) {
+            Ok(printed) => Ok(Outcome::Done(printed)),
+            Err(Stop::Bad(why)) => Ok(Outcome::Bad(String::new(self.alloc), why)),
+            Err(Stop::NoMemory) => Err(NoMemory),
         }
     }
 
@@ -96,11 +102,12 @@ impl Desk {
         ensures { IfOk result (λ outcome. (lines : _) → IsAfter lines self.now → Acts lines (line.Ask query) outcome self.now) }
     {
         let Some(running) = &self.running else {
-            return Ok(Outcome::Bad(String::new(self.alloc)));
+            return Ok(Outcome::Bad(String::new(self.alloc), Reason::Early));
         };
-        match running.answer(self.alloc, query)? {
-            Some(printed) => Ok(Outcome::Done(printed)),
-            None => Ok(Outcome::Bad(String::new(self.alloc))),
+        match running.answer(self.alloc, query) {
+            Ok(printed) => Ok(Outcome::Done(printed)),
+            Err(Stop::Bad(why)) => Ok(Outcome::Bad(String::new(self.alloc), why)),
+            Err(Stop::NoMemory) => Err(NoMemory),
         }
     }
 }

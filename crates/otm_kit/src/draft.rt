@@ -1,6 +1,6 @@
 //! What a script declared so far.
 ghost use Rattle.std.specs.Prelude.{◌≡◌, ◌++◌, ◌∷◌, [], IfOk, not, is_none, if◌then◌else◌};
-ghost use Rattle.otm_kit.specs.Declarations.{declared_by, is_taken, label_place, with_declaration};
+ghost use Rattle.otm_kit.specs.Declarations.{declared_by, is_taken, label_place, named_at, with_declaration};
 
 use crate::labels::Labels;
 use attr_kit::{NoMemory, Txt};
@@ -32,6 +32,19 @@ impl Model for Draft {
     ghost Value = { Declared };
 
     ghost view = { λ d. record { instrument_labels = d.instrument_labels; instruments = d.instruments.items; views = d.views.items; writer_labels = d.writer_labels; writers = d.writers.items; gateways = d.gateways.items; limit = d.limit } };
+}
+
+/// The place of the word that may be taken: that of the label, or `limit`.
+pub(crate) fn named_at(declaration: &Declaration) -> usize
+    ensures { result ≡ named_at declaration.now }
+{
+    match declaration {
+        Declaration::Limit(_) => 0,
+        Declaration::Instrument { .. }
+        | Declaration::View(_)
+        | Declaration::Writer { .. }
+        | Declaration::Gateway(_) => 1,
+    }
 }
 
 impl Draft {

@@ -15,6 +15,7 @@ mod begin;
 pub mod command_line;
 mod desk;
 mod draft;
+mod ended;
 mod fleet;
 mod fleet_end;
 mod fleet_setup;
@@ -25,7 +26,8 @@ mod running;
 mod script;
 mod words;
 
+pub use ended::Ended;
 pub use fleet::fleet_report;
 pub use fleet_end::FleetEnd;
-pub use script::run_script;
+pub use script::{run_script, run_script_told};
 pub use words::{Asked, LineFault};

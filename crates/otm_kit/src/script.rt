@@ -1,14 +1,29 @@
 //! Scripts from their first line to their last.
-ghost use Rattle.std.specs.Prelude.{◌≡◌, ◌+◌, ◌<◌, ◌≤◌, length, OnOk, OnErr, IfSome, IsErrOf, None, Some};
+ghost use Rattle.std.specs.Prelude.{◌≡◌, ◌+◌, ◌<◌, ◌≤◌, length, IfErr, OnOk, OnErr, IfSome, IsErrOf, None, Some, string_bytes};
 ghost use Rattle.std.specs.Io.KnownBytes.{Appends, Keeps};
 ghost use Rattle.script_kit.specs.Bytes.{AppendsFront, ReadsUpTo};
-ghost use Rattle.otm_kit.specs.Says.{bad_line_of, effect_text, piece_effect, says};
-ghost use Rattle.otm_kit.specs.Standing.{Does, Fails, IsAfter};
+ghost use Rattle.otm_kit.specs.Says.{bad_line_of, effect_text, piece_effect, reason_of, says, sentence_for};
+ghost use Rattle.otm_kit.specs.Standing.{Does, Fails, IsAfter, Tells, TellsOf};
 
 use crate::desk::{Desk, Outcome};
-use script_kit::{MAX_BYTES, ScriptFault, first_line, parse_line, read_script, write_text};
+use crate::ended::Ended;
+use script_kit::{
+    MAX_BYTES, Reason, ScriptFault, Stop, explain, first_line, parse_line, read_script, write_text,
+};
 use std::alloc::Global;
 use std::io::{Read, Write};
+
+// The end of a script at a bad line.
+fn bad_line(alloc: Global, number: u64, line: &[u8], reason: Reason) -> Ended
+    ensures fault { result.fault ≡ ScriptFault.BadLine number }
+    ensures tells { Tells result line.now reason }
+{
+    Ended {
+        fault: ScriptFault::BadLine(number),
+        reason: Some(reason),
+        sentence: explain(alloc, line, reason).ok(),
+    }
+}
 
 // Does one line, and writes what it prints.
 fn do_line<W: Write>(
@@ -17,39 +32,43 @@ fn do_line<W: Write>(
     number: u64,
     text: &[u8],
     writer: &mut W,
-) -> Result<(), ScriptFault>
+) -> Result<(), Ended>
     ensures ok { OnOk result ((before : _) → IsAfter before desk.old → Does before text.now (W.contents writer.old) (W.contents writer.new) desk.new) }
-    ensures number { (n : _) → IsErrOf result (ScriptFault.BadLine n) → n ≡ number }
-    ensures bad { (n : _) → IsErrOf result (ScriptFault.BadLine n) → (before : _) → IsAfter before desk.old → Fails before text.now (W.contents writer.old) (W.contents writer.new) }
+    ensures number { IfErr result (λ end. (n : _) → end.fault ≡ ScriptFault.BadLine n → n ≡ number) }
+    ensures bad { IfErr result (λ end. (n : _) → end.fault ≡ ScriptFault.BadLine n → (before : _) → IsAfter before desk.old → Fails before text.now (W.contents writer.old) (W.contents writer.new) end) }
     ensures front { OnErr result ((before : _) → IsAfter before desk.old → AppendsFront (W.contents writer.old) (W.contents writer.new) (effect_text (piece_effect before text.now))) }
-    ensures read_fault { IsErrOf result ScriptFault.ReadFault → ⊥ }
-    ensures too_long { IsErrOf result ScriptFault.TooLong → ⊥ }
+    ensures read_fault { IfErr result (λ end. end.fault ≡ ScriptFault.ReadFault → ⊥) }
+    ensures too_long { IfErr result (λ end. end.fault ≡ ScriptFault.TooLong → ⊥) }
 {
     let line = match parse_line(alloc, text) {
-        Err(_) => return Err(ScriptFault::NoMemory),
-        Ok(None) => return Err(ScriptFault::BadLine(number)),
-        Ok(Some(line)) => line,
+        Err(Stop::NoMemory) => return Err(Ended::from(ScriptFault::NoMemory)),
+        Err(Stop::Bad(why)) => return Err(bad_line(alloc, number, text, why)),
+        Ok(line) => line,
     };
     match desk.act(line) {
-        Err(_) => Err(ScriptFault::NoMemory),
-        Ok(Outcome::Bad(printed)) => match write_text(writer, printed.as_bytes()) {
-            Err(fault) => Err(fault),
-            Ok(()) => Err(ScriptFault::BadLine(number)),
+        Err(_) => Err(Ended::from(ScriptFault::NoMemory)),
+        Ok(Outcome::Bad(printed, why)) => match write_text(writer, printed.as_bytes()) {
+            Err(fault) => Err(Ended::from(fault)),
+            Ok(()) => Err(bad_line(alloc, number, text, why)),
         },
-        Ok(Outcome::Done(printed)) => write_text(writer, printed.as_bytes()),
+        Ok(Outcome::Done(printed)) => match write_text(writer, printed.as_bytes()) {
+            Err(fault) => Err(Ended::from(fault)),
+            Ok(()) => Ok(()),
+        },
     }
 }
 
 // Does the lines of a script, and writes what each prints before the next is done.
-fn run_lines<W: Write>(alloc: Global, script: &[u8], writer: &mut W) -> Result<(), ScriptFault>
+fn run_lines<W: Write>(alloc: Global, script: &[u8], writer: &mut W) -> Result<(), Ended>
     requires { length script.now ≤ MAX_BYTES }
     ensures ok { OnOk result (Appends (W.contents writer.old) (W.contents writer.new) (says script.now)) }
     ensures whole { OnOk result (bad_line_of script.now ≡ None) }
-    ensures bad { (n : _) → IsErrOf result (ScriptFault.BadLine n) → Appends (W.contents writer.old) (W.contents writer.new) (says script.now) }
-    ensures bad_line { (n : _) → IsErrOf result (ScriptFault.BadLine n) → bad_line_of script.now ≡ Some n }
+    ensures bad { IfErr result (λ end. (n : _) → end.fault ≡ ScriptFault.BadLine n → Appends (W.contents writer.old) (W.contents writer.new) (says script.now)) }
+    ensures bad_line { IfErr result (λ end. (n : _) → end.fault ≡ ScriptFault.BadLine n → bad_line_of script.now ≡ Some n) }
+    ensures tells { IfErr result (λ end. (n : _) → end.fault ≡ ScriptFault.BadLine n → TellsOf end script.now) }
     ensures front { OnErr result (AppendsFront (W.contents writer.old) (W.contents writer.new) (says script.now)) }
-    ensures read_fault { IsErrOf result ScriptFault.ReadFault → ⊥ }
-    ensures too_long { IsErrOf result ScriptFault.TooLong → ⊥ }
+    ensures read_fault { IfErr result (λ end. end.fault ≡ ScriptFault.ReadFault → ⊥) }
+    ensures too_long { IfErr result (λ end. end.fault ≡ ScriptFault.TooLong → ⊥) }
 {
     let mut desk = Desk::new(alloc);
     let mut number = 1;
@@ -63,8 +82,37 @@ fn run_lines<W: Write>(alloc: Global, script: &[u8], writer: &mut W) -> Result<(
     if rest.is_empty() {
         Ok(())
     } else {
-        Err(ScriptFault::BadLine(number))
+        Err(bad_line(alloc, number, rest, Reason::Cut))
     }
+}
+
+/// [`run_script`], which tells besides why a bad line is bad.
+///
+/// Where it ends at a bad line, `reason` says why (specs `Says`), and `sentence` says it in words. Where memory is refused for
+/// the words, they are `None`, and all else is as it is with them.
+pub fn run_script_told<R: Read, W: Write>(
+    alloc: Global,
+    reader: &mut R,
+    writer: &mut W,
+) -> Result<(), Ended>
+    ensures ok { OnOk result (IfSome (R.remaining reader.old) (λ script. Appends (W.contents writer.old) (W.contents writer.new) (says script))) }
+    ensures whole { OnOk result (IfSome (R.remaining reader.old) (λ script. bad_line_of script ≡ None)) }
+    ensures bad { IfErr result (λ end. (n : _) → end.fault ≡ ScriptFault.BadLine n → IfSome (R.remaining reader.old) (λ script. Appends (W.contents writer.old) (W.contents writer.new) (says script))) }
+    ensures bad_line { IfErr result (λ end. (n : _) → end.fault ≡ ScriptFault.BadLine n → IfSome (R.remaining reader.old) (λ script. bad_line_of script ≡ Some n)) }
+    ensures tells { IfErr result (λ end. (n : _) → end.fault ≡ ScriptFault.BadLine n → IfSome (R.remaining reader.old) (TellsOf end)) }
+    ensures front { OnErr result (IfSome (R.remaining reader.old) (λ script. AppendsFront (W.contents writer.old) (W.contents writer.new) (says script))) }
+    ensures unread { IfErr result (λ end. end.fault ≡ ScriptFault.ReadFault → Keeps (W.contents writer.old) (W.contents writer.new)) }
+    ensures long { IfErr result (λ end. end.fault ≡ ScriptFault.TooLong → Keeps (W.contents writer.old) (W.contents writer.new)) }
+    ensures too_long { IfErr result (λ end. end.fault ≡ ScriptFault.TooLong → IfSome (R.remaining reader.old) (λ script. MAX_BYTES < length script)) }
+
+    // No more is read than a byte past the greatest length, and no line of a longer script is done.
+    ensures few { ReadsUpTo (R.remaining reader.old) (R.remaining reader.new) (MAX_BYTES + 1) }
+    ensures small { OnOk result (IfSome (R.remaining reader.old) (λ script. length script ≤ MAX_BYTES)) }
+    ensures bad_small { IfErr result (λ end. (n : _) → end.fault ≡ ScriptFault.BadLine n → IfSome (R.remaining reader.old) (λ script. length script ≤ MAX_BYTES)) }
+    ensures cut_small { IfErr result (λ end. end.fault ≡ ScriptFault.WriteFault → IfSome (R.remaining reader.old) (λ script. length script ≤ MAX_BYTES)) }
+{
+    let script = read_script(alloc, reader)?;
+    run_lines(alloc, script.as_slice(), writer)
 }
 
 /// Reads a script to its end, and then does its lines in order. Each line's text is written before the next line is done.
@@ -95,6 +143,8 @@ pub fn run_script<R: Read, W: Write>(
     ensures bad_small { (n : _) → IsErrOf result (ScriptFault.BadLine n) → IfSome (R.remaining reader.old) (λ script. length script ≤ MAX_BYTES) }
     ensures cut_small { IsErrOf result ScriptFault.WriteFault → IfSome (R.remaining reader.old) (λ script. length script ≤ MAX_BYTES) }
 {
-    let script = read_script(alloc, reader)?;
-    run_lines(alloc, script.as_slice(), writer)
+    match run_script_told(alloc, reader, writer) {
+        Ok(()) => Ok(()),
+        Err(end) => Err(end.fault),
+    }
 }

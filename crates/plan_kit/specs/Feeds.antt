@@ -1,7 +1,7 @@
 -- Which feeds instruments and views give.
-use Rattle.std.specs.Prelude.{ℕ, ◌+◌, ◌==◌, if◌then◌else◌, cond, List, [], ◌∷◌, Option, Some, None, map, filter}
+use Rattle.std.specs.Prelude.{◌≡◌, ℕ, ◌+◌, ◌++◌, ◌==◌, if◌then◌else◌, cond, List, [], ◌∷◌, Option, Some, None, map, filter, slice_get, slice_index_or}
 use Rattle.std.specs.List.{filter_map, flat_map, enumerate_from}
-use Rattle.std.specs.Option.{unwrap_or}
+use Rattle.std.specs.Option.{option_and_then, unwrap_or}
 use Rattle.attr_kit.specs.declared.keep.Keep.TheVariants as keeps
 use Rattle.point_kit.specs.declared.shape.Shape.{Shape}
 use Rattle.point_kit.specs.declared.stream.Stream.{Stream}
@@ -45,6 +45,10 @@ fed_by owner i v fits.Refused = None
 abbrev pub feed_by : ℕ → Instrument → View → Option Wanted
 feed_by owner i v = fed_by owner i v (fit i.kind v.aggregation)
 
+-- the feeds by the views at these places
+abbrev pub feeds_at : ℕ → Instrument → List View → List ℕ → List Wanted
+feeds_at owner i views places = filter_map (λ n. option_and_then (feed_by owner i) (slice_get views n)) places
+
 -- the feeds of the instrument at a place: of the views that apply, in their order, without those that drop
 abbrev pub wanted_by : List View → ℕ → Instrument → List Wanted
 wanted_by views owner i = filter_map (feed_by owner i) (applied views i)
@@ -61,6 +65,11 @@ wanted_of views is = flat_map (own_feeds views is) (enumerate_from 0 is)
 abbrev pub numbered : ℕ → ℕ → List Wanted → List Feed
 numbered owner n [] = []
 numbered owner n (w ∷ ws) = cond (w.owner == owner) (record { stream = n; keep = w.keep } ∷ numbered owner (n + 1) ws) (numbered owner (n + 1) ws)
+
+-- each list stays, but the owner's, which has one feed more
+abbrev pub AddsFeed : ℕ → Feed → List (List Feed) → List (List Feed) → Type 0
+AddsFeed owner feed olds news =
+    (o : ℕ) → slice_index_or news o [] ≡ (if owner == o then slice_index_or olds o [] ++ feed ∷ [] else slice_index_or olds o [])
 
 -- the plan of lowered instruments and their feeds: the feeds of an instrument are those of the first one equal to it, and
 -- the streams are numbered in the order of the feeds

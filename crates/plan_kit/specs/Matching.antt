@@ -1,5 +1,5 @@
 -- How the views that match an instrument are found: by the places of those whose names fit.
-use Rattle.std.specs.Prelude.{◌≡◌, ℕ, Vec, ◌+◌, nat_lt, ◌&&◌, not, Bool, true, false, cond, List, [], ◌∷◌, slice_get}
+use Rattle.std.specs.Prelude.{◌≡◌, ℕ, Vec, ◌+◌, ◌++◌, nat_lt, ◌&&◌, not, Bool, true, false, cond, if◌then◌else◌, List, [], ◌∷◌, slice_get}
 use Rattle.std.specs.Option.{option_map_or}
 use Rattle.std.specs.HashMap.{HashMap, get_by}
 use Rattle.plan_kit.specs.declared.view.Aggregation.{Aggregation}
@@ -56,6 +56,10 @@ others_fit i v = kind_fits v.kind i.kind && scope_fits v.scope i.scope
 -- the places that a map lists under a name
 abbrev pub listed : {Y S : Type 0} → HashMap (List ℕ) (Vec ℕ Y) S → List ℕ → List ℕ
 listed m name = option_map_or (λ l. l.items) (get_by (text_eq name) m) []
+
+-- the map lists one place more under a name, and under others what it did
+abbrev pub ListsUnder : {Y S Z T : Type 0} → List ℕ → ℕ → HashMap (List ℕ) (Vec ℕ Y) S → HashMap (List ℕ) (Vec ℕ Z) T → Type 0
+ListsUnder name place old new = (q : List ℕ) → listed new q ≡ (if text_eq name q then listed old q ++ place ∷ [] else listed old q)
 
 -- an aggregation that gives no stream, to whatever instrument
 abbrev pub is_drop : Aggregation → Bool

@@ -1,7 +1,7 @@
 //! A plan from the feeds that are wanted.
 ghost use Rattle.std.specs.Prelude.{◌≡◌, ◌<◌, ◌==◌, ◌++◌, ◌∷◌, if◌then◌else◌, ℕ, nat_lt, true, [], map, vec_len, slice_index_or, IfOk, OnOk};
 ghost use Rattle.std.specs.List.{list_all};
-ghost use Rattle.plan_kit.specs.Feeds.{numbered};
+ghost use Rattle.plan_kit.specs.Feeds.{numbered, AddsFeed};
 ghost use Rattle.plan_kit.specs.Kept.{place_of};
 ghost use Rattle.plan_kit.specs.Owners.{owner_of};
 
@@ -47,7 +47,7 @@ fn empty_lists(alloc: Global, count: usize) -> Result<Vec<FeedList>, NoMemory>
 fn add_feed(lists: &mut Vec<FeedList>, owner: usize, feed: Feed) -> Result<(), NoMemory>
     requires { owner < vec_len lists.old }
     ensures len { OnOk result (vec_len lists.new ≡ vec_len lists.old) }
-    ensures feeds { OnOk result ((o : ℕ) → slice_index_or lists.new.items o [] ≡ (if owner == o then slice_index_or lists.old.items o [] ++ feed ∷ [] else slice_index_or lists.old.items o [])) }
+    ensures feeds { OnOk result (AddsFeed owner feed lists.old.items lists.new.items) }
 {
     lists[owner].push(feed)?;
     Ok(())

@@ -1,7 +1,7 @@
 //! The views by the names that they match.
 ghost use Rattle.std.specs.Prelude.{◌≡◌, ℕ, List, [], ◌∷◌, ◌++◌, filter, position, slice_get, IfOk, OnOk, if◌then◌else◌, ◌&&◌, true, false};
 ghost use Rattle.std.specs.List.{list_any};
-ghost use Rattle.plan_kit.specs.Matching.{places, holds_at, merge, listed, IsIndex, is_of, others_fit};
+ghost use Rattle.plan_kit.specs.Matching.{places, holds_at, merge, listed, IsIndex, ListsUnder, is_of, others_fit};
 ghost use Rattle.plan_kit.specs.Views.{text_eq, view_fits, is_bad_view};
 ghost use Rattle.plan_kit.specs.Aggregations.{is_refused};
 
@@ -27,7 +27,7 @@ fn add(
     name: Txt,
     place: usize,
 ) -> Result<(), NoMemory>
-    ensures { OnOk result ((q : List ℕ) → listed lists.new q ≡ (if text_eq name q then listed lists.old q ++ place ∷ [] else listed lists.old q)) }
+    ensures { OnOk result (ListsUnder name place lists.old lists.new) }
 {
     match lists.get_mut(&name) {
         Some(list) => {

@@ -3,7 +3,7 @@ ghost use Rattle.std.specs.Prelude.{◌≡◌, ℕ, List, [], ◌∷◌, ◌++�
 ghost use Rattle.std.specs.List.{filter_map};
 ghost use Rattle.std.specs.Option.{option_and_then};
 ghost use Rattle.plan_kit.specs.Feeds as feeds;
-ghost use Rattle.plan_kit.specs.Feeds.{feed_by, wanted_by};
+ghost use Rattle.plan_kit.specs.Feeds.{feed_by, feeds_at, wanted_by};
 ghost use Rattle.plan_kit.specs.Matching.{IsIndex};
 ghost use Rattle.plan_kit.specs.Owners.{owner_of};
 
@@ -93,7 +93,7 @@ fn add_each(
     places: &[usize],
     wanted: &mut Vec<Wanted>,
 ) -> Result<(), NoMemory>
-    ensures { OnOk result (wanted.new.items ≡ wanted.old.items ++ filter_map (λ n. option_and_then (feed_by owner instrument.now) (slice_get views.now n)) places.now) }
+    ensures { OnOk result (wanted.new.items ≡ wanted.old.items ++ feeds_at owner instrument.now views.now places.now) }
 {
     for place in places {
         if let Some(feed) = feed_at(alloc, owner, instrument, views, *place)? {

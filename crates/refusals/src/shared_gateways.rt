@@ -52,7 +52,32 @@ fn take(rt: &(impl Wait + Print + Eprint + AllocGlobal), waits: bool) -> anyhow:
     tell_twice(rt, &answer, left, &again)
 }
 
-// The same of a merge.
+// The second of the two takes that a shared gateway accepts. Once a third is refused for good, it is still looked at.
+fn last_take(rt: &(impl Print + Eprint + AllocGlobal)) -> anyhow::Result<()> {
+    let before = gateway(rt.alloc(), 1, 200)?;
+    let first = export(rt.alloc(), 1, 200)?;
+    let second = export(rt.alloc(), 2, 200)?;
+    let Ok((shared, mut seat)) = SharedGateway::new(rt.alloc(), Gateway::new(rt.alloc(), 1), 2)
+    else {
+        bail!("not shared");
+    };
+    let Ok(3) = shared.try_take(&mut seat, &first) else {
+        bail!("the first is not taken");
+    };
+    call_begins(rt);
+    let answer = shared.try_take(&mut seat, &second);
+    call_ends(rt);
+    let Ok(is_as_before) = shared.try_look(&mut seat, IsSame(&before)) else {
+        bail!("not looked at");
+    };
+    let again = shared.try_take(&mut seat, &second);
+    let Ok(false) = shared.try_look(&mut seat, IsSame(&before)) else {
+        bail!("not looked at after the last take");
+    };
+    tell_twice(rt, &answer, state(is_as_before), &again)
+}
+
+// A merge, by the call that waits for nobody or by the one that may wait.
 fn merge(rt: &(impl Wait + Print + Eprint + AllocGlobal), waits: bool) -> anyhow::Result<()> {
     let empty = Gateway::new(rt.alloc(), 1);
     let before = empty.try_copy()?;
@@ -78,6 +103,7 @@ pub fn made(rt: &(impl Wait + Print + Eprint + AllocGlobal), call: &str) -> anyh
         "SharedGateway::new" => new(rt)?,
         "SharedGateway::try_take" => take(rt, false)?,
         "SharedGateway::take" => take(rt, true)?,
+        "SharedGateway::try_take, the last of two" => last_take(rt)?,
         "SharedGateway::try_merge" => merge(rt, false)?,
         "SharedGateway::merge" => merge(rt, true)?,
         _ => return Ok(false),

@@ -1,6 +1,6 @@
 -- The groups of all cells are the rows of the roll-up.
 use Rattle.std.proofs.Common.{◌≡◌, ℕ, ℤ, Bool, true, false, cond, ◌&&◌, T, List, [], ◌∷◌, map, filter, Option, Some, None, refl, sym, ap, subst, ◌∙◌}
-use Rattle.std.specs.BTreeMap.{get, is_at, IsOrdered}
+use Rattle.std.specs.BTreeMap.{is_at}
 use Rattle.std.specs.Cmp.{IsTotalOrder, Equal-is}
 use Rattle.std.specs.List.{AllByRecursion}
 use Rattle.std.specs.List.Sorted.{IsStrictlySortedBy}
@@ -96,8 +96,8 @@ total_same (shapes.Histogram bounds) row value = refl
 map_same : {A B : Type 0} (f g : A → B) → ((x : A) → f x ≡ g x) → (xs : List A) → map f xs ≡ map g xs
 map_same f g h xs = λ i. map (λ x. h x i) xs
 
-pub answered : (ask : Ask) (state : FinMap key_cmp (Cell Payload)) (groups : Rows) → IsOrdered attributes_cmp groups → Stands ask (buckets_of ask.stream.shape) (entries state) groups
-    → map (λ e. row_read ask.stream.shape e.0 e.1) groups.entries ≡ rollup_rows ask state
+pub answered : (ask : Ask) (state : FinMap key_cmp (Cell Payload)) (groups : Rows) → IsStrictlySortedBy attributes_cmp (keys_of groups) → Stands ask (buckets_of ask.stream.shape) (entries state) groups
+    → map (λ e. row_read ask.stream.shape e.0 e.1) groups ≡ rollup_rows ask state
 unfolding rollup_rows
 answered ask state groups ordered stands =
     let n = buckets_of ask.stream.shape in
@@ -105,11 +105,11 @@ answered ask state groups ordered stands =
     let m : FinMap attributes_cmp (rows.Row Parts) = rows.rollup attributes_cmp no_parts plus_parts (asks ask) (group ask) parts_of state in
     let read : Attributes → rows.Row Parts → Grouped = λ q r. grouped n r (newest ask cells q) in
     let has : (q : Attributes) → finmap.get m q ≡ cond (is_row ask cells q) (Some (row_among ask cells q)) None = λ q. get-from_entries sets_total _ q ∙ find-tabulated sets_total sets_exact (λ g. Some (row_among ask cells g)) q (map (λ e. group ask e.0) (filter (λ e. asks ask e.0) cells)) in
-    let found : (q : Attributes) → find attributes_cmp q groups.entries ≡ option_map (read q) (finmap.get m q) = λ q.
-    find-lookup attributes_cmp q groups.entries ∙ stands q
+    let found : (q : Attributes) → find attributes_cmp q groups ≡ option_map (read q) (finmap.get m q) = λ q.
+    find-lookup attributes_cmp q groups ∙ stands q
     ∙ elim (is_row ask cells q) as (λ b. cond b (Some (grouped n (row_among ask cells q) (newest ask cells q))) None ≡ option_map (read q) (cond b (Some (row_among ask cells q)) None)) [ true ↦ refl | false ↦ refl ]
     ∙ sym (ap (option_map (read q)) (has q)) in
-    ap (map (λ e. row_read ask.stream.shape e.0 e.1)) (mapped_entries sets_total sets_exact read groups.entries m (in_order attributes_cmp groups.entries ordered) found)
+    ap (map (λ e. row_read ask.stream.shape e.0 e.1)) (mapped_entries sets_total sets_exact read groups m (in_order attributes_cmp groups ordered) found)
     ∙ map-reads sets_total sets_exact read (row_read ask.stream.shape) (entries m)
     ∙ map_same (λ e. row_read ask.stream.shape e.0 (read e.0 e.1)) (λ e. row_of ask e.0 e.1 (newest ask cells e.0))
     (λ e i. record { attrs = e.0; total = total_same ask.stream.shape e.1 (newest ask cells e.0) i; points = e.1.points; conflicts = e.1.conflicts }) (entries m)

@@ -16,12 +16,14 @@ pub mod NamesMixed
 pub mod Naming
 pub mod Newest
 pub mod PartLaws
+pub mod Placed
 pub mod Queried
 pub mod Recordings
 pub mod Regrouped
 pub mod RowLaws
 pub mod RowsMixed
 pub mod SetOrders
+pub mod Shown
 pub mod Snoc
 pub mod Steps
 pub mod ValueLaws

@@ -18,7 +18,7 @@ use Rattle.rollup_kit.specs.Asks.{Attributes}
 use Rattle.rollup_kit.specs.Groups.{Grouped, no_group, with_held}
 use Rattle.rollup_kit.specs.Rollups.{newest}
 use Rattle.rollup_kit.specs.Standing.{grouped, row_among, is_row, standing, Stands}
-use Rattle.rollup_kit.specs.Walks.{Rows, HasRoom, Adds}
+use Rattle.rollup_kit.specs.Walks.{Rows, group_at, HasRoom, Adds}
 use Rattle.rollup_kit.specs.declared.ask.Ask.{Ask}
 use Rattle.rollup_kit.proofs.Snoc.{counts, KeysBelow}
 use Rattle.rollup_kit.proofs.Steps.{standing-snoc}
@@ -76,6 +76,10 @@ module _ (ask : Ask) (q : Attributes) where
 -- a cell more can be counted
 pub has_room : (ask : Ask) (n : ℕ) (es : List (Key × Cell Payload)) (groups : Rows) → Stands ask n es groups → length es + 1 < 2 ^ 64 → HasRoom groups
 has_room ask n es groups stands few q = subst (λ (o : Option Grouped). IfSome o (λ g. (g.points + 1 < 2 ^ 64) × (g.conflicts + 1 < 2 ^ 64))) (sym (stands q)) (room_at ask q n es few)
+
+-- also in the group of one set
+pub room_of : (rows : Rows) (q : Attributes) (g : Grouped) → HasRoom rows → Some g ≡ group_at rows q → (g.points + 1 < 2 ^ 64) × (g.conflicts + 1 < 2 ^ 64)
+room_of rows q g room is = subst (λ (o : Option Grouped). IfSome o (λ g. (g.points + 1 < 2 ^ 64) × (g.conflicts + 1 < 2 ^ 64))) (sym is) (room q)
 
 -- and then stands with the others
 pub stands_more : (ask : Ask) (n : ℕ) (es : List (Key × Cell Payload)) (e : Key × Cell Payload) (old new : Rows) → KeysBelow e.0 es → Stands ask n es old → Adds ask n e old new → Stands ask n (es ++ e ∷ []) new

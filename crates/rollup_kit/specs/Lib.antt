@@ -17,6 +17,7 @@ pub mod Limits
 pub mod Naming
 pub mod Newest
 pub mod Parts
+pub mod Places
 pub mod Quote
 pub mod Recordings
 pub mod Rollups

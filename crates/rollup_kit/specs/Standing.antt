@@ -1,6 +1,5 @@
 -- What stands for each set of attributes after a walk over some cells.
 use Rattle.std.specs.Prelude.{◌≡◌, ℕ, ℤ, Bool, cond, List, map, filter, Option, Some, None}
-use Rattle.std.specs.BTreeMap.{get}
 use Rattle.std.specs.List.{list_any}
 use Rattle.std.specs.Ordering.{eq_by_cmp}
 use Rattle.point_kit.specs.declared.cell.Cell.{Cell}
@@ -12,7 +11,7 @@ use Rattle.rollup_kit.specs.Counts.{counts_from}
 use Rattle.rollup_kit.specs.Groups.{Grouped}
 use Rattle.rollup_kit.specs.Parts.{Parts, no_parts, plus_parts, parts_of}
 use Rattle.rollup_kit.specs.Rollups.{newest}
-use Rattle.rollup_kit.specs.Walks.{Rows}
+use Rattle.rollup_kit.specs.Walks.{Rows, group_at}
 use Rattle.rollup_kit.specs.declared.ask.Ask.{Ask}
 
 -- a row's totals, with so many buckets
@@ -41,4 +40,8 @@ standing ask buckets cells attrs = cond (is_row ask cells attrs) (Some (grouped 
 
 -- the groups are those after these cells
 abbrev pub Stands : Ask → ℕ → List (Key × Cell Payload) → Rows → Type 0
-Stands ask buckets cells groups = (q : Attributes) → get attributes_cmp groups q ≡ standing ask buckets cells q
+Stands ask buckets cells groups = (q : Attributes) → group_at groups q ≡ standing ask buckets cells q
+
+-- groups that are those after the one cells are those after the other
+abbrev pub StandsFor : Ask → List (Key × Cell Payload) → List (Key × Cell Payload) → Type 0
+StandsFor ask some all = (buckets : ℕ) (groups : Rows) → Stands ask buckets some groups → Stands ask buckets all groups

@@ -5,6 +5,8 @@ mod ask;
 mod buckets;
 mod group;
 mod groups;
+mod guesses;
+mod kept;
 mod laws;
 mod query;
 mod quote;

@@ -5,7 +5,7 @@ ghost use Rattle.std.specs.FinMap.{entries};
 ghost use Rattle.std.specs.FinMap.Entries.{is_sorted};
 ghost use Rattle.gateway_kit.specs.Walks.{points_left};
 ghost use Rattle.point_kit.specs.Orders.{key_cmp};
-ghost use Rattle.rollup_kit.specs.Standing.{Stands};
+ghost use Rattle.rollup_kit.specs.Standing.{StandsFor};
 ghost use Rattle.rollup_kit.specs.Walks.{Rows};
 ghost use Rattle.rollup_kit.specs.Rollups.{rollup_rows};
 
@@ -20,7 +20,7 @@ use std::alloc::Global;
 fn asked_points<'a>(gateway: &'a Gateway, ask: &'a Ask) -> Points<'a>
     ensures sorted { is_sorted key_cmp (points_left result) ≡ true }
     ensures few { length (points_left result) ≤ finite.len gateway.now.points }
-    ensures whole { (buckets : ℕ) (groups : Rows) → Stands ask.now buckets (points_left result) groups → Stands ask.now buckets (entries gateway.now.points) groups }
+    ensures whole { StandsFor ask.now (points_left result) (entries gateway.now.points) }
 {
     match &ask.service {
         Some(service) => gateway.points_of(service.as_str()),
@@ -38,9 +38,9 @@ fn asked_points<'a>(gateway: &'a Gateway, ask: &'a Ask) -> Points<'a>
 ///   has values and every such point has a range; it goes from the least to the greatest value of all.
 /// - A conflict is counted, and adds nothing.
 ///
-/// Copies no key: of attributes only those of a new row and, under an allow-list, the kept ones. Of n points and r rows
-/// O(n log r) comparisons of sets; with a service given, points of others are passed over. `NoMemory` comes only where
-/// a growth was refused.
+/// Copies no key, and of attributes only those that are kept of a new row. Of n points and r rows O(n) hashes of what is
+/// kept, each of which is then compared with one row's set, and O(r log r) comparisons of sets; with a service given, points
+/// of others are passed over. Takes memory for rows, none for a point. `NoMemory` comes only where a growth was refused.
 pub fn rollup(alloc: Global, gateway: &Gateway, ask: &Ask) -> Result<Seq<Row>, NoMemory>
     ensures value { IfOk result (λ rows. rows ≡ rollup_rows ask.now gateway.now.points) }
 {

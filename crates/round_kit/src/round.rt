@@ -3,7 +3,7 @@ ghost use Rattle.std.specs.Prelude.{◌≡◌, ◌<◌, ◌-◌, ◌^◌, ◌++�
 ghost use Rattle.point_kit.specs.ExportFaults.{export_fault};
 ghost use Rattle.plan_kit.specs.Plans.{AreApart};
 ghost use Rattle.round_kit.specs.Placed.{stream_of};
-ghost use Rattle.round_kit.specs.Rounds.{point_of, points_at, points_of};
+ghost use Rattle.round_kit.specs.Rounds.{point_of, points_at, points_of, Appends};
 
 use crate::payload::RoundPayload;
 use crate::set::{RoundSet, keys_for};
@@ -189,7 +189,7 @@ fn place_series<'b>(
 ) -> Result<(), NoMemory>
     requires { number < length tally.now.plan.streams }
     ensures apart { AreApart tally.now.plan.streams }
-    ensures points { OnOk result ((s : _) (es : _) → slice_get tally.now.plan.streams number ≡ Some s → slice_get tally.now.series number ≡ Some es → map point_of points.new.items ≡ map point_of points.old.items ++ points_at s es) }
+    ensures points { OnOk result (Appends tally.now number points.old.items points.new.items) }
 {
     let Some(stream) = tally.plan().stream(number) else {
         return Ok(());

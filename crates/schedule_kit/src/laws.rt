@@ -22,10 +22,12 @@ pub fn same_exports_give_one_state<N, K, I, X, P>()
 /// newest collection that the gateway took, or nothing.
 #[tactic(auto, using(crate::proofs::Headline::no_conflict, crate::proofs::Headline::part_is_newest))]
 pub fn parts_are_newest_collections<N, K, I, X, P>()
-    ensures no_conflict { (r : Rounding N K I X P) → IsSound r → (fits : ℕ → List N → N → Bool) (starts : List ℕ) (gateways : ℕ) → IsTold r.who starts
-        → (ds : List (Deed N)) → AreLawful fits starts gateways ds → (h : Holder) (k : K) → HasNoConflict (get (state r (taken starts ds h)) k) }
-    ensures part { (r : Rounding N K I X P) → IsSound r → (fits : ℕ → List N → N → Bool) (starts : List ℕ) (gateways : ℕ) → IsTold r.who starts
-        → (ds : List (Deed N)) → AreLawful fits starts gateways ds → (h : Holder) (w start : ℕ) → w < length starts → (x : X)
+    ensures no_conflict { (r : Rounding N K I X P) → IsSound r → (fits : ℕ → List N → N → Bool) (starts : List ℕ) (gateways : ℕ)
+        → IsTold r.who starts → (ds : List (Deed N)) → AreLawful fits starts gateways ds
+        → (h : Holder) (k : K) → HasNoConflict (get (state r (taken starts ds h)) k) }
+    ensures part { (r : Rounding N K I X P) → IsSound r → (fits : ℕ → List N → N → Bool) (starts : List ℕ) (gateways : ℕ)
+        → IsTold r.who starts → (ds : List (Deed N)) → AreLawful fits starts gateways ds
+        → (h : Holder) (w start : ℕ) → w < length starts → (x : X)
         → get (state r (taken starts ds h)) (r.key (r.who w) start x) ≡ part_at r (newest (taken starts ds h) w start) x }
 {}
 
@@ -33,12 +35,15 @@ pub fn parts_are_newest_collections<N, K, I, X, P>()
 /// incarnation up to its newest collection that the gateway took, each value added up by itself.
 #[tactic(auto, using(crate::proofs::Headline::answers_recorded))]
 pub fn roll_ups_are_recorded<N, K, I, X, P, V, G>()
-    ensures exact { (r : Rounding N K I X P) → IsSound r → (fits : ℕ → List N → N → Bool) (starts : List ℕ) (gateways : ℕ) → IsTold r.who starts
-        → (ds : List (Deed N)) → AreLawful fits starts gateways ds → (h : Holder)
-        → (zero : V) (plus : V → V → V) (reads : P → V) (fed : ℕ → List N → List (X × V)) (Rg : G → G → Ordering) → IsTotalOrder Rg → IsAntisymmetric Rg
+    ensures exact { (r : Rounding N K I X P) → IsSound r → (fits : ℕ → List N → N → Bool) (starts : List ℕ) (gateways : ℕ)
+        → IsTold r.who starts → (ds : List (Deed N)) → AreLawful fits starts gateways ds → (h : Holder)
+        → (zero : V) (plus : V → V → V) (reads : P → V) (fed : ℕ → List N → List (X × V))
+        → (Rg : G → G → Ordering) → IsTotalOrder Rg → IsAntisymmetric Rg
         → (asks : K → Bool) (group : K → G) → IsAdded r zero plus reads fed asks
         → rollup Rg zero plus asks group reads (state r (taken starts ds h))
-        ≡ recorded Rg zero plus asks group (values_fed r (recorded_up_to starts ds h) (incarnations starts ds) fed) (keys_fed r (recorded_up_to starts ds h) (incarnations starts ds)) }
+        ≡ recorded Rg zero plus asks group
+        (values_fed r (recorded_up_to starts ds h) (incarnations starts ds) fed)
+        (keys_fed r (recorded_up_to starts ds h) (incarnations starts ds)) }
 {}
 
 /// Lists with the same elements, each as often, come to the same totals, in whatever order they stand.

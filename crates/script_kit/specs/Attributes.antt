@@ -1,12 +1,12 @@
 -- The words that list attributes.
 use Rattle.std.specs.Prelude.{ℕ, List, [], ◌∷◌, Option, Some, None, true, false, ◌==◌, if◌then◌else◌, codes}
 use Rattle.std.specs.List.{slice_split}
-use Rattle.std.specs.Option.{option_map, option_map_or, is_none}
+use Rattle.std.specs.Option.{option_map, option_map_or, option_and_then, is_none}
 use Rattle.std.specs.Str.{bytes_eq}
 use Rattle.attr_kit.specs.declared.attr_value.AttrValue.{AttrValue}
 use Rattle.attr_kit.specs.declared.attr_value.AttrValue.TheVariants as values
 use Rattle.attr_kit.specs.Putting.{attributes_of, pairs_fault}
-use Rattle.script_kit.specs.Forms.{is_dash, ◌>>=◌}
+use Rattle.script_kit.specs.Forms.{is_dash}
 use Rattle.script_kit.specs.Numbers.{value_of}
 use Rattle.script_kit.specs.Pieces.{cut, all_some}
 
@@ -39,4 +39,4 @@ set_of_pairs ps = if is_none (pairs_fault ps) then Some (attributes_of ps) else 
 
 -- the attribute set that a word lists
 unfoldable pub attributes : List ℕ → Option (List (List ℕ × AttrValue))
-attributes word = pairs_of word >>= set_of_pairs
+attributes word = option_and_then set_of_pairs (pairs_of word)

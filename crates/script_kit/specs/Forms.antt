@@ -4,12 +4,6 @@ use Rattle.std.specs.List.{list_all}
 use Rattle.std.specs.Str.{bytes_eq}
 use Rattle.uuid.specs.Text.{parsed}
 
-infixl 10 ◌>>=◌
--- what f makes of a value, where there is one
-abbrev pub ◌>>=◌ : {A B : Type 0} → Option A → (A → Option B) → Option B
-None >>= f = None
-(Some x) >>= f = f x
-
 -- whether a word is `-`
 abbrev pub is_dash : List ℕ → Bool
 is_dash word = bytes_eq word (codes "-")

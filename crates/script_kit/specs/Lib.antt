@@ -7,4 +7,6 @@ pub mod Forms
 pub mod Pieces
 pub mod Attributes
 pub mod Shapes
+pub mod Reading
 pub mod Lines
+pub mod Reasons

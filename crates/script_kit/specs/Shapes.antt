@@ -1,6 +1,7 @@
 -- The words that name kinds, bounds, aggregations, shapes and kept keys.
 use Rattle.std.specs.Prelude.{ℕ, ℤ, List, [], Option, Some, None, true, false, ◌==◌, if◌then◌else◌, codes, length}
 use Rattle.std.specs.List.{slice_split, list_all}
+use Rattle.std.specs.Option.{option_map}
 use Rattle.std.specs.Str.{bytes_eq}
 use Rattle.attr_kit.specs.AllowLists.{allowed}
 use Rattle.attr_kit.specs.declared.keep.Keep.{Keep}
@@ -14,7 +15,7 @@ use Rattle.plan_kit.specs.declared.view.Aggregation.TheVariants as ways
 use Rattle.plan_kit.specs.declared.view.NameRule.{NameRule}
 use Rattle.plan_kit.specs.declared.view.NameRule.TheVariants as rules
 use Rattle.plan_kit.specs.Bounds.{default_bounds}
-use Rattle.script_kit.specs.Forms.{◌>>=◌, is_dash, is_star}
+use Rattle.script_kit.specs.Forms.{is_dash, is_star}
 use Rattle.script_kit.specs.Numbers.{value_of}
 use Rattle.script_kit.specs.Words.{is_filled}
 use Rattle.script_kit.specs.Pieces.{cut, all_some}
@@ -29,7 +30,7 @@ kind_of word =
 
 -- a criterion of a view: `*` is none
 unfoldable pub kind_asked : List ℕ → Option (Option Kind)
-kind_asked word = if is_star word then Some None else (kind_of word >>= λ kind. Some (Some kind))
+kind_asked word = if is_star word then Some None else option_map (λ kind. Some kind) (kind_of word)
 
 -- the name that a view asks for: `*` is every name
 unfoldable pub name_rule : List ℕ → NameRule
@@ -41,7 +42,7 @@ bounds_of word = if length word == 0 then Some [] else all_some value_of (slice_
 
 -- `buckets:` and bounds
 unfoldable pub buckets_of : List ℕ × List ℕ → Option Aggregation
-buckets_of parts = if bytes_eq parts.0 (codes "buckets") then (bounds_of parts.1 >>= λ bounds. Some (ways.Buckets bounds)) else None
+buckets_of parts = if bytes_eq parts.0 (codes "buckets") then option_map (λ bounds. ways.Buckets bounds) (bounds_of parts.1) else None
 
 unfoldable pub plain_aggregation : List ℕ → Option Aggregation
 plain_aggregation word =
@@ -61,7 +62,7 @@ aggregation_of word = with_colon buckets_of (plain_aggregation word) (cut 58 wor
 
 -- `hist:` and bounds
 unfoldable pub histogram_of : List ℕ × List ℕ → Option Shape
-histogram_of parts = if bytes_eq parts.0 (codes "hist") then (bounds_of parts.1 >>= λ bounds. Some (shapes.Histogram bounds)) else None
+histogram_of parts = if bytes_eq parts.0 (codes "hist") then option_map (λ bounds. shapes.Histogram bounds) (bounds_of parts.1) else None
 
 unfoldable pub plain_shape : List ℕ → Option Shape
 plain_shape word =

@@ -9,7 +9,7 @@ fn are_digits(word: &str) -> bool
     word.bytes().all(|b| b.is_ascii_digit())
 }
 
-fn is_numeral(word: &str) -> bool
+pub(crate) fn is_numeral(word: &str) -> bool
     ensures { result ≡ is_numeral word.now }
 {
     let bytes = word.as_bytes();

@@ -1,29 +1,58 @@
 //! What a line asks for.
-ghost use Rattle.std.specs.Prelude.{◌≡◌, IfOk};
-ghost use Rattle.script_kit.specs.Lines.{line_of};
+ghost use Rattle.std.specs.Prelude.{map};
+ghost use Rattle.script_kit.specs.Lines.{line_of, of_words};
+ghost use Rattle.script_kit.specs.Reading.{Reads};
 
-use crate::commands::of_words;
 use crate::line::Line;
+use crate::reading::word_at;
+use crate::reason::Reason;
+use crate::stop::Stop;
 use crate::words::words;
-use attr_kit::NoMemory;
+use crate::{commands, declarations, queries};
 use std::alloc::Global;
 
-/// What a line asks for, or `None` for a bad line. O(n) for a line of n bytes.
+/// What a line asks for. O(n) for a line of n bytes.
+///
+/// Refuses: `Bad`, with the first thing that is wrong; `NoMemory`.
 #[tactic(auto, unfolding(crate::specs::Lines::line_of))]
-pub fn parse_line(alloc: Global, text: &[u8]) -> Result<Option<Line>, NoMemory>
-    ensures value { IfOk result (λ line. line ≡ line_of text.now) }
+pub fn parse_line(alloc: Global, text: &[u8]) -> Result<Line, Stop>
+    ensures value { Reads result (line_of text.now) }
 {
     match text.first() {
-        None | Some(b'#') => return Ok(Some(Line::Nothing)),
+        None | Some(b'#') => return Ok(Line::Nothing),
         Some(_) => {}
     }
-    match words(alloc, text)? {
-        None => Ok(None),
-        Some(words) => {
-            if words.is_empty() {
-                return Ok(None);
-            }
-            of_words(alloc, &words)
-        }
+    let words = words(alloc, text)?;
+    of_words(alloc, &words)
+}
+
+// What a line of words asks for, by the first of them.
+#[tactic(auto, unfolding(crate::specs::Lines::of_words))]
+fn of_words(alloc: Global, words: &[&str]) -> Result<Line, Stop>
+    ensures { Reads result (of_words (map (λ w. w.now) words.now)) }
+{
+    if words.is_empty() {
+        return Err(Stop::Bad(Reason::Unknown));
+    }
+    match word_at(words, 0) {
+        "instrument" => declarations::instrument(alloc, words),
+        "view" => declarations::view(alloc, words),
+        "writer" => declarations::writer(alloc, words),
+        "gateway" => declarations::gateway(words),
+        "limit" => declarations::limit(words),
+        "begin" => declarations::begin(words),
+        "measure" => commands::measure(alloc, words),
+        "collect" => commands::collect(alloc, words),
+        "shutdown" => commands::shutdown(alloc, words),
+        "restart" => commands::restart(alloc, words),
+        "deliver" => commands::deliver(words),
+        "merge" => commands::merge(words),
+        "send" => commands::send(words),
+        "hand" => commands::hand(words),
+        "report" => queries::report(alloc, words),
+        "same" => queries::same(words),
+        "conflicts" => queries::conflicts(words),
+        "newest" => queries::newest(alloc, words),
+        _ => Err(Stop::Bad(Reason::Unknown)),
     }
 }

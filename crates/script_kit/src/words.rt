@@ -1,10 +1,11 @@
 //! The lines of a script, and the words of a line.
-ghost use Rattle.std.specs.Prelude.{◌≡◌, ◌==◌, ◌<◌, ◌++◌, ◌∷◌, [], IfOk, MatchOption, IfSome, IfNone, map, option_map, length, true, false, position};
+ghost use Rattle.std.specs.Prelude.{◌≡◌, ◌==◌, ◌<◌, ◌++◌, ◌∷◌, [], IfOk, MatchOption, IfSome, IfNone, IsErrOf, Ok, Err, map, length, true, false, position};
 ghost use Rattle.std.specs.List.{list_all, slice_split};
-ghost use Rattle.script_kit.specs.Lines.{word_at};
+ghost use Rattle.script_kit.specs.declared.reason.Reason.{Reason};
 ghost use Rattle.script_kit.specs.Words.{words_of, pieces_of, is_line_byte, is_filled};
 
-use attr_kit::NoMemory;
+use crate::reason::Reason;
+use crate::stop::Stop;
 use std::alloc::{AllocError, Global};
 
 const LINE_FEED: u8 = b'\n';
@@ -37,7 +38,7 @@ fn is_line(line: &[u8]) -> bool
     line.iter().all(|b| 32 <= *b && *b <= 126)
 }
 
-fn text_of(line: &[u8]) -> Option<&str>
+pub(crate) fn text_of(line: &[u8]) -> Option<&str>
     ensures { MatchOption result (list_all is_line_byte line.now ≡ false) (λ t. (list_all is_line_byte line.now ≡ true) × (t.now ≡ line.now)) }
 {
     if is_line(line) {
@@ -59,25 +60,17 @@ fn split_at_spaces(alloc: Global, text: &str) -> Result<Vec<&str>, AllocError>
     text.split(' ').collect(alloc)
 }
 
-/// The words of a line, or `None` where it is not made of words with one space between two.
-pub(crate) fn words(alloc: Global, line: &[u8]) -> Result<Option<Vec<&str>>, NoMemory>
-    ensures { IfOk result (λ found. option_map (λ v. map (λ w. w.now) v.items) found ≡ words_of line.now) }
+/// The words of a line: one or more, with one space between two.
+#[tactic(auto, unfolding(crate::specs::Words::words_of))]
+pub(crate) fn words(alloc: Global, line: &[u8]) -> Result<Vec<&str>, Stop>
+    ensures ok { IfOk result (λ v. words_of line.now ≡ Ok (map (λ w. w.now) v.items)) }
+    ensures bad { (why : Reason) → IsErrOf result (Stop.Bad why) → words_of line.now ≡ Err why }
 {
-    let Some(text) = text_of(line) else {
-        return Ok(None);
-    };
+    let text = text_of(line).ok_or(Reason::Bytes)?;
     let words = split_at_spaces(alloc, text)?;
     if are_filled(&words) {
-        Ok(Some(words))
+        Ok(words)
     } else {
-        Ok(None)
+        Err(Stop::Bad(Reason::Spaces))
     }
-}
-
-/// The word at a place.
-pub(crate) fn word_at<'a>(words: &[&'a str], place: usize) -> &'a str
-    requires { place < length words.now }
-    ensures { result.now ≡ word_at (map (λ w. w.now) words.now) place }
-{
-    words[place]
 }

@@ -149,6 +149,24 @@ module _ {M E S : Type 0} (state : M → S) (next : S → E → Option S) (start
         (λ other. (t.2.0, set_else s.views id r.holder w other ∙ t.2.1, t.2.2, t.2.3)),
   )) r.slot
 
+  -- the rule of the table where nothing but what its users know is other
+  pub with_views : (s : St) (r : Rule s) (vs : List V) → Slot state next start limit r.turn r.holder r.log s.homes vs → ((j : ℕ) (v : V) → get_elem? vs j ≡ some v → K r.turn r.made r.holder r.log j v)
+      → Books r.made r.out r.log (map who vs) → Knowing vs r.made → Rule record { words = s.words; homes = s.homes; views = vs }
+  with_views s r vs slot each books known = record {
+    turn = r.turn;
+    made = r.made;
+    out = r.out;
+    holder = r.holder;
+    log = r.log;
+    words = r.words;
+    room = r.room;
+    small = r.small;
+    slot = slot;
+    each = each;
+    books = books;
+    known = known;
+  }
+
   -- the holder looks at the number of changes
   pub counts : (slots id : ℕ) (me : Sat) (l : Log) (n : ℕ) → me.0.stage ≡ Holds l n → me.0.who.seated ≡ true
       → Allows Rule slots id me 1 (λ x. x) (counted (step slots 1 0 0 none) me)
@@ -156,21 +174,12 @@ module _ {M E S : Type 0} (state : M → S) (next : S → E → Option S) (start
     w,
     keeps,
     tt,
-    subst (λ (ws : List ℕ). Rule record { words = ws; homes = s.homes; views = set s.views id w }) (sym (set-get_or s.words 1 0)) record {
-      turn = r.turn;
-      made = r.made;
-      out = r.out;
-      holder = r.holder;
-      log = r.log;
-      words = r.words;
-      room = r.room;
-      small = r.small;
-      slot = slot_moves s r id me.0 w at refl (λ l' n' is'. (n', is'));
-      each = each_moves (K r.turn r.made r.holder r.log) s.views id w record { started = k.started; saw = ([], sym (append-nil r.log)); told = (begins_longer me.0.seen r.log me.0.ours k.saw k.told.0, begins_longer me.0.seen r.log me.0.theirs k.saw k.told.1); held = k.held; counted = k.counted }
-          (λ j u other e. r.each j u e);
-      books = subst (Books r.made r.out r.log) (sym (same_who s.views id me.0 w at refl)) r.books;
-      known = knows_still s.views id me.0 w at refl refl r.made r.known;
-    },
+    subst (λ (ws : List ℕ). Rule record { words = ws; homes = s.homes; views = set s.views id w }) (sym (set-get_or s.words 1 0)) (with_views s r (set s.views id w)
+        (slot_moves s r id me.0 w at refl (λ l' n' is'. (n', is')))
+        (each_moves (K r.turn r.made r.holder r.log) s.views id w record { started = k.started; saw = ([], sym (append-nil r.log)); told = (begins_longer me.0.seen r.log me.0.ours k.saw k.told.0, begins_longer me.0.seen r.log me.0.theirs k.saw k.told.1); held = k.held; counted = k.counted }
+        (λ j u other e. r.each j u e))
+        (subst (Books r.made r.out r.log) (sym (same_who s.views id me.0 w at refl)) r.books)
+        (knows_still s.views id me.0 w at refl refl r.made r.known)),
     (λ l' n' is'. let h' = held_is r.turn r.made r.holder r.log id me.0.stage l' n' is' k.held in (
       ap (λ (ws : List ℕ). get_or ws 1 0) r.words ∙ ap length (sym h'.0),
       subst (λ (z : Log). length z ≤ me.0.limit) (sym h'.0) (subst (λ (z : ℕ). length r.log ≤ z) (sym (k.started seated).1) r.room),

@@ -26,7 +26,7 @@ use Rattle.turn_kit.proofs.Histories.{absent, begins, begins_both, by_between}
 use Rattle.turn_kit.proofs.Stages.{elsewhere, held_is}
 use Rattle.turn_kit.proofs.Books.{total_at, seated_family, plain_family, apart_in, books_weigh, books_draw, books_tell}
 use Rattle.turn_kit.proofs.Unions.{books_cut, books_join, books_sole}
-use Rattle.turn_kit.proofs.Keeps.{slot_moves}
+use Rattle.turn_kit.proofs.Keeps.{slot_moves, with_views}
 
 module _ {M E S : Type 0} (state : M → S) (next : S → E → Option S) (start : M) (limit : ℕ) where
   abbrev V : Type 0
@@ -115,38 +115,20 @@ module _ {M E S : Type 0} (state : M → S) (next : S → E → Option S) (start
   -- a load that tells how many seats were made
   knows_made : (s : St) (id : ℕ) (v : V) → get_elem? s.views id ≡ some v → (r : Rule s) → Rule record { words = set s.words 2 (get_or s.words 2 0); homes = s.homes; views = set s.views id (record v { made = r.made }) }
   knows_made s id v at r = let k = r.each id v at in let w : V = record v { made = r.made } in
-      subst (λ (ws : List ℕ). Rule record { words = ws; homes = s.homes; views = set s.views id w }) (sym (set-get_or s.words 2 0)) record {
-        turn = r.turn;
-        made = r.made;
-        out = r.out;
-        holder = r.holder;
-        log = r.log;
-        words = r.words;
-        room = r.room;
-        small = r.small;
-        slot = slot_moves state next start limit s r id v w at refl (λ l' n' is'. (n', is'));
-        each = each_moves (K r.turn r.made r.holder r.log) s.views id w record { started = k.started; saw = k.saw; told = k.told; held = k.held; counted = omega arith } (λ j u other z. r.each j u z);
-        books = subst (Books r.made r.out r.log) (sym (map-set who s.views id w ∙ set_again (map who s.views) id v.who (at_map who s.views id v at))) r.books;
-        known = knows_set s.views id v w at (λ p t. t) k.counted r.made r.known;
-      }
+      subst (λ (ws : List ℕ). Rule record { words = ws; homes = s.homes; views = set s.views id w }) (sym (set-get_or s.words 2 0)) (with_views state next start limit s r (set s.views id w)
+      (slot_moves state next start limit s r id v w at refl (λ l' n' is'. (n', is')))
+      (each_moves (K r.turn r.made r.holder r.log) s.views id w record { started = k.started; saw = k.saw; told = k.told; held = k.held; counted = omega arith } (λ j u other z. r.each j u z))
+      (subst (Books r.made r.out r.log) (sym (map-set who s.views id w ∙ set_again (map who s.views) id v.who (at_map who s.views id v at))) r.books)
+      (knows_set s.views id v w at (λ p t. t) k.counted r.made r.known))
 
   -- a load that tells how many other seats are out
   knows_out : (s : St) (id : ℕ) (v : V) → get_elem? s.views id ≡ some v → (r : Rule s) → Rule record { words = set s.words 3 (get_or s.words 3 0); homes = s.homes; views = set s.views id (record v { told_out = get_or s.words 3 0 }) }
   knows_out s id v at r = let k = r.each id v at in let w : V = record v { told_out = get_or s.words 3 0 } in
-      subst (λ (ws : List ℕ). Rule record { words = ws; homes = s.homes; views = set s.views id w }) (sym (set-get_or s.words 3 0)) record {
-        turn = r.turn;
-        made = r.made;
-        out = r.out;
-        holder = r.holder;
-        log = r.log;
-        words = r.words;
-        room = r.room;
-        small = r.small;
-        slot = slot_moves state next start limit s r id v w at refl (λ l' n' is'. (n', is'));
-        each = each_moves (K r.turn r.made r.holder r.log) s.views id w record { started = k.started; saw = k.saw; told = k.told; held = k.held; counted = k.counted } (λ j u other z. r.each j u z);
-        books = subst (Books r.made r.out r.log) (sym (map-set who s.views id w ∙ set_again (map who s.views) id v.who (at_map who s.views id v at))) r.books;
-        known = knows_still s.views id v w at refl refl r.made r.known;
-      }
+      subst (λ (ws : List ℕ). Rule record { words = ws; homes = s.homes; views = set s.views id w }) (sym (set-get_or s.words 3 0)) (with_views state next start limit s r (set s.views id w)
+      (slot_moves state next start limit s r id v w at refl (λ l' n' is'. (n', is')))
+      (each_moves (K r.turn r.made r.holder r.log) s.views id w record { started = k.started; saw = k.saw; told = k.told; held = k.held; counted = k.counted } (λ j u other z. r.each j u z))
+      (subst (Books r.made r.out r.log) (sym (map-set who s.views id w ∙ set_again (map who s.views) id v.who (at_map who s.views id v at))) r.books)
+      (knows_still s.views id v w at refl refl r.made r.known))
 
   -- the holder looks at the number of seats made
   pub looks_made : (slots id : ℕ) (me : Sat) (l : List (ℕ × E)) (n : ℕ) → me.0.stage ≡ Holds l n → me.0.who.seated ≡ true
@@ -247,23 +229,14 @@ module _ {M E S : Type 0} (state : M → S) (next : S → E → Option S) (start
       claims_more (y ∷ ys) (suc i) x e more = let h = claims_more ys i x e more in let a : y.weight + total weight ys < (y.weight + y.credit) + total claim ys = omega arith in a
 
   pub cuts : (id : ℕ) (v : V) (n : ℕ) → v.who.seated ≡ true → v.who.drawn ≡ n ∷ [] → v.who.sole ≡ false → v.who.weight ≡ 2 → v.who.credit ≡ 0 → Splits Rule id v (stayed v) (split_off v)
-  cuts id v n seated drew_it not_sole two no_credit s r at = let k = r.each id v at in let w : V = stayed v in let o : V = split_off v in record {
-    turn = r.turn;
-    made = r.made;
-    out = r.out;
-    holder = r.holder;
-    log = r.log;
-    words = r.words;
-    room = r.room;
-    small = r.small;
-    slot = slot_longer r.turn r.holder r.log s.homes (set s.views id w) o (slot_moves state next start limit s r id v w at refl (λ l' n' is'. (n', is')));
-    each = λ j u e. ⊎_elim
-        (each_moves (K r.turn r.made r.holder r.log) s.views id w record { started = k.started; saw = k.saw; told = k.told; held = k.held; counted = k.counted } (λ j u other z. r.each j u z) j u)
-        (λ (t : o ≡ u). subst (K r.turn r.made r.holder r.log j) t record { started = λ _. k.started seated; saw = k.saw; told = ((v.seen, refl), (v.seen, refl)); held = tt; counted = k.counted }) (at_snoc (set s.views id w) o u j e);
-    books = subst (Books r.made r.out r.log) (sym (map-append who (set s.views id w) (o ∷ []) ∙ (ap (λ (l : List (Who E)). l ++ newcomer (at_first v.who.drawn) ∷ []) (map-set who s.views id w) ∙ ap (λ (ks : List ℕ). set (map who s.views) id w.who ++ newcomer (at_first ks) ∷ []) drew_it)))
-        (books_cut r.made r.out r.log (map who s.views) id v.who n (at_map who s.views id v at) seated drew_it not_sole two no_credit r.books);
-    known = let same : v.made ≤ v.made = omega arith in knows_cut s.views id v w o at (left_among v.who seated drew_it) (new_among v.who seated drew_it) same same r.made r.known;
-  }
+  cuts id v n seated drew_it not_sole two no_credit s r at = let k = r.each id v at in let w : V = stayed v in let o : V = split_off v in (with_views state next start limit s r (set s.views id w ++ o ∷ [])
+      (slot_longer r.turn r.holder r.log s.homes (set s.views id w) o (slot_moves state next start limit s r id v w at refl (λ l' n' is'. (n', is'))))
+      (λ j u e. ⊎_elim
+      (each_moves (K r.turn r.made r.holder r.log) s.views id w record { started = k.started; saw = k.saw; told = k.told; held = k.held; counted = k.counted } (λ j u other z. r.each j u z) j u)
+      (λ (t : o ≡ u). subst (K r.turn r.made r.holder r.log j) t record { started = λ _. k.started seated; saw = k.saw; told = ((v.seen, refl), (v.seen, refl)); held = tt; counted = k.counted }) (at_snoc (set s.views id w) o u j e))
+      (subst (Books r.made r.out r.log) (sym (map-append who (set s.views id w) (o ∷ []) ∙ (ap (λ (l : List (Who E)). l ++ newcomer (at_first v.who.drawn) ∷ []) (map-set who s.views id w) ∙ ap (λ (ks : List ℕ). set (map who s.views) id w.who ++ newcomer (at_first ks) ∷ []) drew_it)))
+      (books_cut r.made r.out r.log (map who s.views) id v.who n (at_map who s.views id v at) seated drew_it not_sole two no_credit r.books))
+      (let same : v.made ≤ v.made = omega arith in knows_cut s.views id v w o at (left_among v.who seated drew_it) (new_among v.who seated drew_it) same same r.made r.known))
     where
       fam_of : (x : Who E) → x.seated ≡ true → x.drawn ≡ n ∷ [] → family x ≡ ((x.number, x.mine) ∷ x.joined) ++ (n, []) ∷ []
       fam_of x is drew = seated_family x is ∙ ap (λ (ks : List ℕ). (x.number, x.mine) ∷ (x.joined ++ unmade ks)) drew
@@ -290,22 +263,13 @@ module _ {M E S : Type 0} (state : M → S) (next : S → E → Option S) (start
 
   -- a note is split off
   pub tells : (id : ℕ) (v : V) → Splits Rule id v v (note_of v.seen v.made)
-  tells id v s r at = let k = r.each id v at in let o : V = note_of v.seen v.made in subst (λ (vs : List V). Rule record { words = s.words; homes = s.homes; views = vs ++ o ∷ [] }) (sym (set_again s.views id v at)) record {
-    turn = r.turn;
-    made = r.made;
-    out = r.out;
-    holder = r.holder;
-    log = r.log;
-    words = r.words;
-    room = r.room;
-    small = r.small;
-    slot = slot_longer r.turn r.holder r.log s.homes s.views o r.slot;
-    each = λ j u e. ⊎_elim (r.each j u)
-        (λ (t : o ≡ u). subst (K r.turn r.made r.holder r.log j) t record { started = λ z. absurd (true≢false (sym z)); saw = k.saw; told = ((v.seen, refl), (v.seen, refl)); held = tt; counted = k.counted }) (at_snoc s.views o u j e);
-    books = subst (Books r.made r.out r.log) (sym (map-append who s.views (o ∷ []))) (books_tell r.made r.out r.log (map who s.views) r.books);
-    known = let same : v.made ≤ v.made = omega arith in
-        subst (λ (vs : List V). Knowing (vs ++ o ∷ []) r.made) (set_again s.views id v at) (knows_cut s.views id v v o at (λ p t. t) (λ p t. absurd (some-ne-none (p, t.1) (sym t.2))) same same r.made r.known);
-  }
+  tells id v s r at = let k = r.each id v at in let o : V = note_of v.seen v.made in subst (λ (vs : List V). Rule record { words = s.words; homes = s.homes; views = vs ++ o ∷ [] }) (sym (set_again s.views id v at)) (with_views state next start limit s r (s.views ++ o ∷ [])
+      (slot_longer r.turn r.holder r.log s.homes s.views o r.slot)
+      (λ j u e. ⊎_elim (r.each j u)
+      (λ (t : o ≡ u). subst (K r.turn r.made r.holder r.log j) t record { started = λ z. absurd (true≢false (sym z)); saw = k.saw; told = ((v.seen, refl), (v.seen, refl)); held = tt; counted = k.counted }) (at_snoc s.views o u j e))
+      (subst (Books r.made r.out r.log) (sym (map-append who s.views (o ∷ []))) (books_tell r.made r.out r.log (map who s.views) r.books))
+      (let same : v.made ≤ v.made = omega arith in
+      subst (λ (vs : List V). Knowing (vs ++ o ∷ []) r.made) (set_again s.views id v at) (knows_cut s.views id v v o at (λ p t. t) (λ p t. absurd (some-ne-none (p, t.1) (sym t.2))) same same r.made r.known)))
 
   abbrev is_rest : Stage E → Type 0
   is_rest Idle = Unit {0}
@@ -315,22 +279,13 @@ module _ {M E S : Type 0} (state : M → S) (next : S → E → Option S) (start
       → Joins Rule id v other w (both_of v w) (note_of [] 0)
   meets id v other w idle idle' seated da db kind s r at apart there0 = let v' : V = both_of v w in let o : V = note_of [] 0 in let vs1 : List V = set s.views id v' in
       let there : get_elem? s.views other ≡ some w = sym (set_else s.views id other v' apart) ∙ there0 in let k = r.each id v at in let k' = r.each other w there in
-      let both = begins_both r.log v.seen w.seen k.saw k'.saw in record {
-        turn = r.turn;
-        made = r.made;
-        out = r.out;
-        holder = r.holder;
-        log = r.log;
-        words = r.words;
-        room = r.room;
-        small = r.small;
-        slot = ⊎_elim inl (λ t. inr (t.0, t.1, (t.2.0, set_else vs1 other r.holder o (λ z. not_idle w t.2.0 other idle' there (t.2.1) z t.2.2) ∙ (set_else s.views id r.holder v' (λ z. not_idle v t.2.0 id idle at t.2.1 z t.2.2) ∙ t.2.1), t.2.2, t.2.3))) r.slot;
-        each = each_moves (K r.turn r.made r.holder r.log) vs1 other o record { started = λ z. absurd (true≢false (sym z)); saw = (r.log, refl); told = (([], refl), ([], refl)); held = tt; counted = omega arith }
-            (λ j u far z. each_moves (K r.turn r.made r.holder r.log) s.views id v' record { started = λ _. k.started seated; saw = both.2; told = (both.0, both.1); held = k.held; counted = (let x = k.counted in let y = k'.counted in omega arith) } (λ j2 u2 far2 z2. r.each j2 u2 z2) j u z);
-        books = subst (Books r.made r.out r.log) (sym (map-set who vs1 other o ∙ ap (λ (l : List (Who E)). set l other nobody) (map-set who s.views id v')))
-            (books_join r.made r.out r.log (map who s.views) id other v.who w.who (at_map who s.views id v at) (at_map who s.views other w there) apart seated da db kind r.books);
-        known = knows_meet s.views id other v w v' o at there (both_among v.who w.who seated da db kind) (λ p t. some-ne-none (p, t.1) (sym t.2)) (omega arith) (omega arith) r.made r.known;
-      }
+      let both = begins_both r.log v.seen w.seen k.saw k'.saw in (with_views state next start limit s r (set vs1 other o)
+      (⊎_elim inl (λ t. inr (t.0, t.1, (t.2.0, set_else vs1 other r.holder o (λ z. not_idle w t.2.0 other idle' there (t.2.1) z t.2.2) ∙ (set_else s.views id r.holder v' (λ z. not_idle v t.2.0 id idle at t.2.1 z t.2.2) ∙ t.2.1), t.2.2, t.2.3))) r.slot)
+      (each_moves (K r.turn r.made r.holder r.log) vs1 other o record { started = λ z. absurd (true≢false (sym z)); saw = (r.log, refl); told = (([], refl), ([], refl)); held = tt; counted = omega arith }
+      (λ j u far z. each_moves (K r.turn r.made r.holder r.log) s.views id v' record { started = λ _. k.started seated; saw = both.2; told = (both.0, both.1); held = k.held; counted = (let x = k.counted in let y = k'.counted in omega arith) } (λ j2 u2 far2 z2. r.each j2 u2 z2) j u z))
+      (subst (Books r.made r.out r.log) (sym (map-set who vs1 other o ∙ ap (λ (l : List (Who E)). set l other nobody) (map-set who s.views id v')))
+      (books_join r.made r.out r.log (map who s.views) id other v.who w.who (at_map who s.views id v at) (at_map who s.views other w there) apart seated da db kind r.books))
+      (knows_meet s.views id other v w v' o at there (both_among v.who w.who seated da db kind) (λ p t. some-ne-none (p, t.1) (sym t.2)) (omega arith) (omega arith) r.made r.known))
     where
       not_idle : (x h : V) (j : ℕ) → x.stage ≡ Idle → get_elem? s.views j ≡ some x → get_elem? s.views r.holder ≡ some h → r.holder ≡ j → (l : List (ℕ × E)) × (n : ℕ) × (h.stage ≡ Holds l n) → ⊥
       not_idle x h j rests e f same t = let eq : h ≡ x = some-injective h x (sym f ∙ (ap (get_elem? s.views) same ∙ e)) in subst is_rest (sym rests ∙ (ap (λ (z : V). z.stage) (sym eq) ∙ t.2)) tt
@@ -389,20 +344,11 @@ module _ {M E S : Type 0} (state : M → S) (next : S → E → Option S) (start
         w,
         keeps,
         tt,
-        subst (λ (ws : List ℕ). Rule record { words = ws; homes = s.homes; views = set s.views id w }) (sym (set-get_or s.words 3 0)) record {
-          turn = r.turn;
-          made = r.made;
-          out = r.out;
-          holder = r.holder;
-          log = r.log;
-          words = r.words;
-          room = r.room;
-          small = r.small;
-          slot = slot_moves state next start limit s r id v w at refl (λ l' n' is'. (n', is'));
-          each = each_moves (K r.turn r.made r.holder r.log) s.views id w record { started = k.started; saw = k.saw; told = k.told; held = k.held; counted = k.counted } (λ j u other z. r.each j u z);
-          books = subst (Books r.made r.out r.log) (sym (map-set who s.views id w)) (books_sole r.made r.out r.log (map who s.views) id v.who (at_map who s.views id v at) seated (sym count ∙ none_out) r.books);
-          known = knows_still s.views id v w at refl refl r.made r.known;
-        },
+        subst (λ (ws : List ℕ). Rule record { words = ws; homes = s.homes; views = set s.views id w }) (sym (set-get_or s.words 3 0)) (with_views state next start limit s r (set s.views id w)
+            (slot_moves state next start limit s r id v w at refl (λ l' n' is'. (n', is')))
+            (each_moves (K r.turn r.made r.holder r.log) s.views id w record { started = k.started; saw = k.saw; told = k.told; held = k.held; counted = k.counted } (λ j u other z. r.each j u z))
+            (subst (Books r.made r.out r.log) (sym (map-set who s.views id w)) (books_sole r.made r.out r.log (map who s.views) id v.who (at_map who s.views id v at) seated (sym count ∙ none_out) r.books))
+            (knows_still s.views id v w at refl refl r.made r.known)),
         ((λ _. refl), (λ some_out. absurd (some_out none_out))),
       ))
       (λ some_out. (

@@ -17,12 +17,16 @@ abbrev pub IsBadLimit : ℕ → Type 0
 IsBadLimit limit = (limit ≡ 0) ⊎ (2 ^ 62 < limit)
 
 -- the machine that the turn began with
-abbrev pub opening : {M E : Type 0} → Turn M E → M
+abbrev pub opening : {M G E : Type 0} → Turn M G E → M
 opening t = t.board.shared.key.start.value
 
 -- the most changes that the turn accepts
-abbrev pub limit_of : {M E : Type 0} → Turn M E → ℕ
+abbrev pub limit_of : {M G E : Type 0} → Turn M G E → ℕ
 limit_of t = t.board.shared.key.limit
+
+-- the turns are one, however each is given back: the seats and notes of one are the other's, and so are the machine that it began with and its limit
+abbrev pub IsSameTurn : {M G H E : Type 0} → Turn M G E → Turn M H E → Type 0
+IsSameTurn t u = u.board ≡ t.board
 
 module _ {M E : Type 0} {g : _} where
   -- the beginning of the history that the seat has seen
@@ -65,11 +69,11 @@ module _ {M E : Type 0} {g : _} where
   told_made n = n.place.me.0.made
 
   -- the seat is of this turn
-  abbrev pub IsOf : Turn M E → Seat M E g → Type 0
+  abbrev pub IsOf : {G : Type 0} → Turn M G E → Seat M E g → Type 0
   IsOf t s = IsSeatOf t.board.shared.table_id t.board.shared.key s.place
 
   -- the note is of this turn
-  abbrev pub IsNoteOf : Turn M E → Note M E g → Type 0
+  abbrev pub IsNoteOf : {G : Type 0} → Turn M G E → Note M E g → Type 0
   IsNoteOf t n = n.place.table_id ≡ t.board.shared.table_id
 
   -- a turn's first seat

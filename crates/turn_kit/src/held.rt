@@ -4,6 +4,7 @@ ghost use Rattle.turn_kit.specs.Places.{IsAt, IsIdle, Owns, IsSamePlace, HasTurn
 
 use crate::board::{MACHINE, Place, Top};
 use crate::fault::ChangeFault;
+use crate::giving::GiveBack;
 use crate::look::Look;
 use crate::machine::Machine;
 use crate::plays::Cut;
@@ -40,7 +41,7 @@ fn look_in_place<M: Machine, T: Look<M>>(top: &Top<M>, place: &mut Place<M>, loo
 }
 
 /// Makes the step, where the limit leaves room for one more, and gives the turn back.
-pub(crate) fn change_held<M: Machine, T: Step<M>>(
+pub(crate) fn change_held<G: GiveBack, M: Machine, T: Step<M>>(
     top: &Top<M>,
     place: &mut Place<M>,
     limit: u64,
@@ -55,25 +56,25 @@ pub(crate) fn change_held<M: Machine, T: Step<M>>(
         (T.entry step) (T.replies step) (T.refuses step) result }
 {
     if count(top, place) >= limit {
-        give(top, place);
+        give::<G, _>(top, place);
         return Err(ChangeFault::Exhausted);
     }
     let told = Snapshot::of(&step);
     match step_in_place(top, place, step) {
         Ok(reply) => {
             commit::<M, T, Brand>(top, place, &told);
-            give(top, place);
+            give::<G, _>(top, place);
             Ok(reply)
         }
         Err(refusal) => {
-            give(top, place);
+            give::<G, _>(top, place);
             Err(ChangeFault::Refused(refusal))
         }
     }
 }
 
 /// Looks at the machine, and gives the turn back.
-pub(crate) fn look_held<M: Machine, T: Look<M>>(
+pub(crate) fn look_held<G: GiveBack, M: Machine, T: Look<M>>(
     top: &Top<M>,
     place: &mut Place<M>,
     look: T,
@@ -86,12 +87,15 @@ pub(crate) fn look_held<M: Machine, T: Look<M>>(
 {
     count(top, place);
     let answer = look_in_place(top, place, look);
-    give(top, place);
+    give::<G, _>(top, place);
     answer
 }
 
 /// Makes a new seat, where the turn has made fewer than it may, and gives the turn back.
-pub(crate) fn split_held<M: Machine>(top: &Top<M>, place: &mut Place<M>) -> Option<Place<M>>
+pub(crate) fn split_held<G: GiveBack, M: Machine>(
+    top: &Top<M>,
+    place: &mut Place<M>,
+) -> Option<Place<M>>
     requires place { IsAt top.now.table_id place.old }
     requires turn { HasTurn M.state M.after place.old.me }
     requires own { Owns place.old.me.0 }
@@ -102,12 +106,12 @@ pub(crate) fn split_held<M: Machine>(top: &Top<M>, place: &mut Place<M>) -> Opti
     ensures split { IfSome result (λ p. (n : ℕ) × WasSplit n place.old.me.0 place.new.me.0 p.me) }
 {
     if seats_made(top, place) >= MOST_SEATS {
-        give(top, place);
+        give::<G, _>(top, place);
         return None;
     }
     draw(top, place);
     count_out(top, place);
     let new = top.split_seat::<Cut>(place);
-    give(top, place);
+    give::<G, _>(top, place);
     Some(new)
 }

@@ -8,12 +8,15 @@
 //! Calls that begin with `try_` wait for nobody, and answer `Busy` where the turn is held. `change`, `look`
 //! and `split` ask until they have the turn. Which calls may wait is no clause of theirs but their type: a
 //! function can wait only by a bound `Wait`, its own or that of a step or a look that it is given, and only those
-//! three have one. A [`Note`] tells another seat what one has seen, a seat that has
-//! done its work is joined into another, and `close` gives the machine back with the whole history known.
+//! three have one. A turn that is [`Quiet`] has none of the three, and wakes nobody when it is given back.
+//!
+//! A [`Note`] tells another seat what one has seen, a seat that has done its work is joined into another, and `close`
+//! gives the machine back with the whole history known.
 #![tactic(auto)]
 
 mod board;
 mod fault;
+mod giving;
 mod held;
 mod look;
 mod machine;
@@ -31,6 +34,7 @@ mod view;
 mod waits;
 
 pub use fault::{Busy, ChangeFault, SplitFault, TurnFault};
+pub use giving::{GiveBack, Quiet, Waking};
 pub use look::Look;
 pub use machine::Machine;
 pub use note::Note;

@@ -9,7 +9,7 @@ use crate::plays::{Compare, CountIn, Meet, Tell};
 use crate::seat::Seat;
 use crate::turn::Turn;
 
-impl<M: Machine> Turn<M> {
+impl<M: Machine, G> Turn<M, G> {
     /// What the seat has seen, for another seat to hear.
     pub fn note(&self, seat: &mut Seat<M>) -> Note<M>
         requires { IsOf self.now seat.old }

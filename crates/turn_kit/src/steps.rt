@@ -5,6 +5,7 @@ ghost use Rattle.turn_kit.specs.Places.{IsAt, IsIdle, IsSamePlace, Asked, HasTur
 ghost use Rattle.turn_kit.specs.Places.{HasRoom, Grows, IsWhole, IsMade, HasPlace, Draws, HasDrawn};
 
 use crate::board::{CHANGES, MADE, OUT, Place, TURN, Top};
+use crate::giving::GiveBack;
 use crate::machine::Machine;
 use crate::plays::{Ask, Commit, Count, CountOut, Draw, Give, LookMade, Told};
 use crate::step::Step;
@@ -66,8 +67,8 @@ pub(crate) fn commit<M: Machine, T: Step<M>, J: Told<M::Entry>>(
     top.fetch_add::<Commit<J>>(place, CHANGES, 1);
 }
 
-/// Gives back the machine and the turn, and wakes one of those that sleep.
-pub(crate) fn give<M: Machine>(top: &Top<M>, place: &mut Place<M>)
+/// Gives back the machine and the turn.
+pub(crate) fn give<G: GiveBack, M: Machine>(top: &Top<M>, place: &mut Place<M>)
     requires place { IsAt top.now.table_id place.old }
     requires seated { place.old.me.0.who.seated ≡ true }
     requires whole { IsWhole M.state M.after place.old.me }
@@ -75,7 +76,7 @@ pub(crate) fn give<M: Machine>(top: &Top<M>, place: &mut Place<M>)
     ensures told { place.new.me ≡ (record place.old.me.0 { stage = Idle }, []) }
 {
     if top.swap::<Give>(place, TURN, FREE) == AWAITED as u64 {
-        top.wake_one(TURN);
+        G::wake(top);
     }
 }
 

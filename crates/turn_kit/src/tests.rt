@@ -333,3 +333,15 @@ fn four_threads(rt: HostRuntime) -> Result<(), Fail> {
     assert!(rt; turn.close(all).map(|counter| counter.count()).ok() == Some(4000));
     Ok(())
 }
+
+#[test]
+fn seats_of_a_turn_are_the_quiet_ones(rt: HostRuntime) -> Result<(), Fail> {
+    let (turn, mut first) = open(rt.alloc(), 2)?;
+    let mut other = second(&turn, &mut first)?;
+    let quiet = turn.into_quiet();
+    assert!(rt; quiet.try_change(&mut other, Add { by: 4 }) == Ok(4));
+    assert!(rt; quiet.try_change(&mut first, Add { by: 3 }) == Ok(7));
+    quiet.join(&mut first, other);
+    assert!(rt; quiet.close(first).map(|counter| counter.count()).ok() == Some(7));
+    Ok(())
+}

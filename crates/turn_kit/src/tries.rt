@@ -5,6 +5,7 @@ ghost use Rattle.turn_kit.specs.Public.{IsOf, IsLeft, Enters, Looks, Splits, IsF
 ghost use Rattle.turn_kit.specs.Public.{AtBusy, AtExhausted, AtRefused, AtSplitBusy, AtSeatsFull};
 
 use crate::fault::{Busy, ChangeFault, SplitFault};
+use crate::giving::GiveBack;
 use crate::held::{change_held, look_held, split_held};
 use crate::look::Look;
 use crate::machine::Machine;
@@ -13,7 +14,7 @@ use crate::step::Step;
 use crate::steps::ask;
 use crate::turn::Turn;
 
-impl<M: Machine> Turn<M> {
+impl<M: Machine, G: GiveBack> Turn<M, G> {
     /// Asks for the turn once, and makes the step where it is had: four atomic steps beside the step itself.
     ///
     /// Refused: `Busy` where the turn is held, which it never is to the first seat before its first split;
@@ -37,7 +38,7 @@ impl<M: Machine> Turn<M> {
         if !ask(top, &mut seat.place) {
             return Err(ChangeFault::Busy);
         }
-        change_held(top, &mut seat.place, self.limit, step)
+        change_held::<G, _, _>(top, &mut seat.place, self.limit, step)
     }
 
     /// Asks for the turn once, and looks at the machine where it is had. A look is not counted.
@@ -54,7 +55,7 @@ impl<M: Machine> Turn<M> {
         if !ask(top, &mut seat.place) {
             return Err(Busy);
         }
-        Ok(look_held(top, &mut seat.place, look))
+        Ok(look_held::<G, _, _>(top, &mut seat.place, look))
     }
 
     /// Asks for the turn once, and splits off a new seat where it is had. The new seat has seen what this one has.
@@ -72,7 +73,7 @@ impl<M: Machine> Turn<M> {
         if !ask(top, &mut seat.place) {
             return Err(SplitFault::Busy);
         }
-        match split_held(top, &mut seat.place) {
+        match split_held::<G, _>(top, &mut seat.place) {
             Some(place) => Ok(Seat { place }),
             None => Err(SplitFault::SeatsFull),
         }

@@ -6,6 +6,7 @@ ghost use Rattle.turn_kit.specs.Public.{AtBusy, AtExhausted, AtRefused, AtSplitB
 
 use crate::board::{Place, TURN, Top};
 use crate::fault::{ChangeFault, SplitFault};
+use crate::giving::Waking;
 use crate::held::{change_held, look_held, split_held};
 use crate::look::Look;
 use crate::machine::Machine;
@@ -67,7 +68,7 @@ impl<M: Machine> Turn<M> {
     {
         let top = &self.board.shared;
         ask_until(rt, top, &mut seat.place);
-        change_held(top, &mut seat.place, self.limit, step)
+        change_held::<Waking, _, _>(top, &mut seat.place, self.limit, step)
     }
 
     /// Asks for the turn until it is had, and then looks at the machine.
@@ -78,7 +79,7 @@ impl<M: Machine> Turn<M> {
     {
         let top = &self.board.shared;
         ask_until(rt, top, &mut seat.place);
-        look_held(top, &mut seat.place, look)
+        look_held::<Waking, _, _>(top, &mut seat.place, look)
     }
 
     /// Asks for the turn until it is had, and then splits off a new seat.
@@ -94,7 +95,7 @@ impl<M: Machine> Turn<M> {
     {
         let top = &self.board.shared;
         ask_until(rt, top, &mut seat.place);
-        match split_held(top, &mut seat.place) {
+        match split_held::<Waking, _>(top, &mut seat.place) {
             Some(place) => Ok(Seat { place }),
             None => Err(SplitFault::SeatsFull),
         }

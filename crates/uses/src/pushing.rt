@@ -1,12 +1,16 @@
 //! A periodic reader over an exporter of one's own.
 ghost use Rattle.std.specs.Prelude.{◌≡◌, ◌≢◌, ◌<◌, OnOk, IfOk, Ok, length};
 ghost use Rattle.push_kit.specs.declared.periodic.Tick.TheVariants as ticks;
-ghost use Rattle.uses.specs.Pushing.{size_of};
+ghost use Rattle.uses.specs.Pushing.{size_of, Keeps};
 
 use bumpalo::Bump;
+use crossbeam_channel::Sender;
 use point_kit::Export;
-use push_kit::{ExportRefused, Exporter, Periodic, Tick, TickFault};
+use push_kit::{
+    ChannelExporter, ExportRefused, Exporter, MemoryExporter, Periodic, Tick, TickFault,
+};
 use std::alloc::Global;
+use std::sync::Wait;
 use writer_kit::{DEFAULT_INTERVAL, Pace, Writer};
 
 /// An exporter that notes the time and the size of the newest collection that it was handed. It never refuses.
@@ -57,4 +61,31 @@ pub fn push_when_due(
 {
     let arena = Bump::new(alloc);
     reader.tick(&arena, now)
+}
+
+/// Collects at once, and keeps a copy of the collection behind those that were kept before.
+pub fn keep_a_copy(
+    alloc: Global,
+    reader: &mut Periodic<MemoryExporter>,
+    now: u64,
+) -> Result<usize, TickFault>
+    requires room { reader.old.exporter.failures < 18446744073709551615 }
+    ensures kept { OnOk result (Keeps reader.old.writer now reader.old.exporter.copies.items reader.new.exporter.copies.items) }
+{
+    let arena = Bump::new(alloc);
+    reader.flush(&arena, now, false)
+}
+
+/// A reader whose collections go over a channel: whoever has the other end takes them into a gateway.
+pub fn over_a_channel<R: Wait + Drop>(
+    rt: R,
+    alloc: Global,
+    writer: Writer,
+    pace: Pace,
+    sender: Sender<Export>,
+) -> Periodic<ChannelExporter<R>>
+    ensures writer { result.writer ≡ writer }
+    ensures pace { result.pace ≡ pace }
+{
+    Periodic::new(alloc, writer, ChannelExporter::new(rt, sender), pace)
 }

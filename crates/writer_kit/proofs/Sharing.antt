@@ -152,7 +152,7 @@ acts_before earlier (y ∷ ys) x = acts_before (act_of y.1 ∷ earlier) ys x
 
 -- ---- what the calls answer
 
-module _ {g : _} (shared : SharedWriter) (s t : Seat Written WriterChange g) (feeds : AllFeeds (first_of shared).tally.plan) where
+module _ {G : Type 0} {g : _} (shared : SharedWriter G) (s t : Seat Written WriterChange g) (feeds : AllFeeds (first_of shared).tally.plan) where
   adding : (c : WriterChange) (replied : Written → Type 0) → Accepts shared c replied s t → Adds shared c s t
   adding c replied h = record {
     before = h.before;
@@ -206,5 +206,5 @@ module _ {g : _} (shared : SharedWriter) (s t : Seat Written WriterChange g) (fe
   answers answered (Ok a) h = sees (answered a) h
   answers answered (Err f) h = tt
 
-pub closes : {g : _} (shared : SharedWriter) (s : Seat Written WriterChange g) (w : Written) → AllFeeds (first_of shared).tally.plan → Closes (λ v. v) told (first_of shared) s w → (c : Closes (λ v. v) told (first_of shared) s w) × Serves (first_of shared) c.history w
+pub closes : {G : Type 0} {g : _} (shared : SharedWriter G) (s : Seat Written WriterChange g) (w : Written) → AllFeeds (first_of shared).tally.plan → Closes (λ v. v) told (first_of shared) s w → (c : Closes (λ v. v) told (first_of shared) s w) × Serves (first_of shared) c.history w
 closes shared s w feeds c = (c, serves (first_of shared) c.history w feeds c.replays)

@@ -6,9 +6,8 @@ use Rattle.agg_kit.specs.Rounds.{StandsFor}
 use Rattle.plan_kit.specs.Plans.{feeds_of}
 use Rattle.round_kit.specs.Rounds.{points_of}
 use Rattle.round_kit.specs.Rounds as rounds
-use Rattle.turn_kit.specs.declared.note.Note.{Note}
 use Rattle.turn_kit.specs.declared.seat.Seat.{Seat}
-use Rattle.turn_kit.specs.Public.{IsOf, IsNoteOf, Enters, Looks, Exhausts, Refuses, opening, limit_of, seen, number}
+use Rattle.turn_kit.specs.Public.{IsOf, IsSameTurn, Enters, Looks, Exhausts, Refuses, opening, limit_of, seen, number}
 use Rattle.schedule_kit.specs.Schedule.{Act, Collection, collections}
 use Rattle.writer_kit.specs.Following.{Follows, round_of}
 use Rattle.writer_kit.specs.Recording.{recorded}
@@ -60,19 +59,20 @@ pub record Serves (first : Written) (h : History) (w : Written) : Type 0 where
   pub stands : (es : List Entry) → StandsFor first.tally es → StandsFor w.tally (es ++ entries_of h)
   pub follows : (start : ℕ) (earlier : List (Act Entry)) → Follows start earlier first → Follows start (acts_after earlier h) w
 
--- the seat is at this shared writer, and so is the note
-abbrev pub IsAt : {g : _} → SharedWriter → Seat Written WriterChange g → Type 0
+-- the seat is at this shared writer
+abbrev pub IsAt : {G : Type 0} {g : _} → SharedWriter G → Seat Written WriterChange g → Type 0
 IsAt shared s = IsOf shared.turn s
 
-abbrev pub IsNoteAt : {g : _} → SharedWriter → Note Written WriterChange g → Type 0
-IsNoteAt shared n = IsNoteOf shared.turn n
+-- the shared writers are one, however the turn of each is given back: the seats and notes of one are the other's
+abbrev pub IsSameShared : {G H : Type 0} → SharedWriter G → SharedWriter H → Type 0
+IsSameShared shared other = IsSameTurn shared.turn other.turn
 
 -- the writer that was shared
-abbrev pub first_of : SharedWriter → Written
+abbrev pub first_of : {G : Type 0} → SharedWriter G → Written
 first_of shared = opening shared.turn
 
 -- the most changes that are accepted
-abbrev pub most_of : SharedWriter → ℕ
+abbrev pub most_of : {G : Type 0} → SharedWriter G → ℕ
 most_of shared = limit_of shared.turn
 
 -- a round has the points of the writer as of a time
@@ -93,7 +93,7 @@ pub record MayRefuseRound (w : Written) (time : ℕ) (f : CollectFault) : Type 0
   pub told : f ≢ collect.NoMemory → collect_fault w time ≡ Some f
   pub no_memory : f ≡ collect.NoMemory → collect_fault w time ≡ None
 
-module _ {g : _} (shared : SharedWriter) where
+module _ {G : Type 0} {g : _} (shared : SharedWriter G) where
   -- the seat's change was accepted, with this reply
   abbrev pub Accepts : WriterChange → (Written → Type 0) → Seat Written WriterChange g → Seat Written WriterChange g → Type 0
   Accepts c replied s t = Enters (λ w. w) told (first_of shared) (most_of shared) c replied s t

@@ -1,9 +1,9 @@
 //! A writer that threads share: a turn over a writer, whose every answer is tied to one history of recordings and
 //! collections.
 ghost use Rattle.std.specs.Prelude.{◌≡◌, ◌↔◌, ◌<◌, ◌≤◌, ◌^◌, IfOk, IfErr};
-ghost use Rattle.turn_kit.specs.Public.{IsFirst, IsBadLimit, IsUnchanged, HasAsked, Closes, AreOut, told_out, Hears, Joins, seen, made, told as told_to, told_made};
+ghost use Rattle.turn_kit.specs.Public.{IsFirst, IsBadLimit, HasAsked, Closes, AreOut, told_out};
 ghost use Rattle.turn_kit.specs.declared.fault.TurnFault.TheVariants.{BadLimit};
-ghost use Rattle.writer_kit.specs.Shared.{IsAt, IsNoteAt, Serves, first_of, most_of, told};
+ghost use Rattle.writer_kit.specs.Shared.{IsAt, IsSameShared, Serves, first_of, most_of, told};
 
 mod change;
 mod steps;
@@ -16,13 +16,13 @@ mod writer;
 use crate::Writer;
 pub use change::WriterChange;
 use std::alloc::Global;
-use turn_kit::{Note, Seat, Turn, TurnFault};
+use turn_kit::{Quiet, Seat, Turn, TurnFault, Waking};
 pub use writer::SharedWriter;
 
 /// The shared writer was not closed, since other seats are out: they were split off and not joined.
 #[derive(Drop)]
-pub struct SeatsOut {
-    pub writer: SharedWriter,
+pub struct SeatsOut<G = Waking> {
+    pub writer: SharedWriter<G>,
     pub seat: Seat<Writer>,
     /// How many, at least 1: what the turn's own count said at one step of `close`.
     pub out: u64,
@@ -49,44 +49,25 @@ impl SharedWriter {
         Ok((SharedWriter { turn }, seat))
     }
 
-    /// What the seat has seen, for another seat to hear. Takes no memory.
-    pub fn note(&self, seat: &mut Seat<Writer>) -> Note<Writer>
-        requires { IsAt self.now seat.old }
-        ensures seat { IsAt self.now seat.new }
-        ensures unchanged { IsUnchanged seat.old seat.new }
-        ensures note { IsNoteAt self.now result }
-        ensures value { (told_to result ≡ seen seat.old) × (told_made result ≡ made seat.old) }
+    /// The same shared writer, whose turn's giving back wakes nobody from now on, as a static library wants it. It has no
+    /// calls that wait.
+    pub fn into_quiet(self) -> SharedWriter<Quiet>
+        ensures { IsSameShared self result }
     {
-        self.turn.note(seat)
+        let SharedWriter { turn } = self;
+        SharedWriter {
+            turn: turn.into_quiet(),
+        }
     }
+}
 
-    /// From now on the seat has seen what the note says, too. Takes no memory.
-    pub fn hear(&self, seat: &mut Seat<Writer>, note: Note<Writer>)
-        requires seat { IsAt self.now seat.old }
-        requires note { IsNoteAt self.now note }
-        ensures seat { IsAt self.now seat.new }
-        ensures value { Hears seat.old seat.new note }
-    {
-        self.turn.hear(seat, note);
-    }
-
-    /// Takes in another seat, which is then no longer out. From now on this one has seen what the other had, and answers
-    /// for the changes of both. Takes no memory.
-    pub fn join(&self, seat: &mut Seat<Writer>, other: Seat<Writer>)
-        requires seat { IsAt self.now seat.old }
-        requires other { IsAt self.now other }
-        ensures seat { IsAt self.now seat.new }
-        ensures value { Joins seat.old seat.new other }
-    {
-        self.turn.join(seat, other);
-    }
-
+impl<G> SharedWriter<G> {
     /// The writer, where no other seat is out. It is what the whole history makes of the opening one, and each change in
     /// the history is the closing seat's or one of a seat that was joined into it.
     ///
     /// Refused, with the shared writer and the seat handed back, where other seats were split off and not joined. Takes no
     /// memory.
-    pub fn close(self, seat: Seat<Writer>) -> Result<Writer, SeatsOut>
+    pub fn close(self, seat: Seat<Writer>) -> Result<Writer, SeatsOut<G>>
         requires { IsAt self seat }
         ensures ok { IfOk result (Closes (λ w. w) told (first_of self) seat) }
         ensures serves { IfOk result (λ w. (c : Closes (λ w. w) told (first_of self) seat w) × Serves (first_of self) c.history w) }

@@ -10,7 +10,7 @@ use point_kit::Export;
 use std::sync::Wait;
 use std::test::Fail;
 use std::thread::{Threads, join};
-use turn_kit::{Busy, ChangeFault, Look, SplitFault};
+use turn_kit::{Busy, ChangeFault, Look};
 
 /// Copies what is held.
 #[derive(Drop)]
@@ -66,21 +66,8 @@ impl<'a> Look<Gateway> for Meanwhile<'a> {
         } = self;
         let busy = shared.try_take(&mut seat, export) == Err(ChangeFault::Busy)
             && shared.try_merge(&mut seat, machine) == Err(ChangeFault::Busy)
-            && shared.try_look(&mut seat, Copied).err() == Some(Busy)
-            && shared.try_split(&mut seat).err() == Some(SplitFault::Busy);
+            && shared.try_look(&mut seat, Copied).err() == Some(Busy);
         (busy, seat)
-    }
-}
-
-// A second seat.
-fn second(shared: &SharedGateway, seat: &mut Seat<Gateway>) -> Result<Seat<Gateway>, Fail>
-    requires { IsAt shared.now seat.old }
-    ensures seat { IsAt shared.now seat.new }
-    ensures new { IfOk result (λ s. IsAt shared.now s) }
-{
-    match shared.try_split(seat) {
-        Ok(other) => Ok(other),
-        Err(_) => Err("no second seat".into()),
     }
 }
 
@@ -88,7 +75,9 @@ fn second(shared: &SharedGateway, seat: &mut Seat<Gateway>) -> Result<Seat<Gatew
 fn a_held_turn_is_busy(rt: HostRuntime) -> Result<(), Fail> {
     let export = single(rt.alloc(), 1, 100, 200, 7)?;
     let Served { shared, mut seat } = Served::open(rt.alloc(), 8)?;
-    let other = second(&shared, &mut seat)?;
+    let Ok(other) = shared.try_split(&mut seat) else {
+        return Err("no second seat".into());
+    };
     let meanwhile = Meanwhile {
         shared: &shared,
         seat: other,
@@ -98,26 +87,6 @@ fn a_held_turn_is_busy(rt: HostRuntime) -> Result<(), Fail> {
         return Err("no look".into());
     };
     assert!(rt; busy);
-    Ok(())
-}
-
-#[test]
-fn close_waits_for_seats_to_be_joined(rt: HostRuntime) -> Result<(), Fail> {
-    let Served { shared, mut seat } = Served::open(rt.alloc(), 8)?;
-    let other = second(&shared, &mut seat)?;
-    let Err(
-        SeatsOut {
-            gateway: shared,
-            mut seat,
-            out,
-        },
-    ) = shared.close(seat)
-    else {
-        return Err("closed too soon".into());
-    };
-    assert!(rt; out == 1);
-    shared.join(&mut seat, other);
-    assert!(rt; shared.close(seat).map(|gateway| gateway.id()).ok() == Some(1));
     Ok(())
 }
 
@@ -184,7 +153,9 @@ fn after_threads<R: Threads + Wait + Sync>(
     other: &Gateway,
 ) -> Result<Gateway, Fail> {
     let Served { shared, mut seat } = served;
-    let new = second(&shared, &mut seat)?;
+    let Ok(new) = shared.split(rt, &mut seat) else {
+        return Err("no second seat".into());
+    };
     let mut all = take_beside_merge(rt, &shared, (seat, new), export, other);
     Ok(shared.look(rt, &mut all, Copied)?)
 }

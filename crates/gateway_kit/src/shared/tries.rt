@@ -2,16 +2,16 @@
 ghost use Rattle.std.specs.Prelude.{OnErr, IfOk, IfErr};
 ghost use Rattle.gateway_kit.specs.Shared.{IsAt, Accepts, Adds, LooksAt, Sees, IsExhausted, LacksMemory};
 ghost use Rattle.gateway_kit.specs.declared.shared.change.GatewayChange.TheVariants.{Taken, Merged};
-ghost use Rattle.turn_kit.specs.Public.{IsLeft, Splits, IsFull, AtBusy, AtExhausted, AtRefused, AtSplitBusy, AtSeatsFull};
+ghost use Rattle.turn_kit.specs.Public.{IsLeft, AtBusy, AtExhausted, AtRefused};
 
 use super::SharedGateway;
 use super::steps::{Merge, Take};
 use crate::gateway::Gateway;
 use attr_kit::NoMemory;
 use point_kit::Export;
-use turn_kit::{Busy, ChangeFault, Look, Seat, SplitFault};
+use turn_kit::{Busy, ChangeFault, GiveBack, Look, Seat};
 
-impl SharedGateway {
+impl<G: GiveBack> SharedGateway<G> {
     /// Asks for the turn once, and takes an export where it is had, as `Gateway::take` does. Answers the number of keys
     /// whose cell changed.
     ///
@@ -71,19 +71,5 @@ impl SharedGateway {
         ensures busy { OnErr result (IsLeft seat.old seat.new) }
     {
         self.turn.try_look(seat, look)
-    }
-
-    /// Asks for the turn once, and splits off a new seat where it is had. The new seat has seen what this one has.
-    ///
-    /// Refused: `Busy` where the turn is held; `SeatsFull` where 4,096 seats were made.
-    pub fn try_split(&self, seat: &mut Seat<Gateway>) -> Result<Seat<Gateway>, SplitFault>
-        requires { IsAt self.now seat.old }
-        ensures seat { IsAt self.now seat.new }
-        ensures new { IfOk result (λ s. IsAt self.now s) }
-        ensures ok { IfOk result (λ s. Splits seat.old seat.new s) }
-        ensures busy { IfErr result (AtSplitBusy (IsLeft seat.old seat.new)) }
-        ensures seats_full { IfErr result (AtSeatsFull (IsFull seat.old seat.new)) }
-    {
-        self.turn.try_split(seat)
     }
 }

@@ -2,7 +2,7 @@
 ghost use Rattle.std.specs.Prelude.{IfOk, IfErr};
 ghost use Rattle.gateway_kit.specs.Shared.{IsAt, Accepts, Adds, LooksAt, Sees, IsExhausted, LacksMemory};
 ghost use Rattle.gateway_kit.specs.declared.shared.change.GatewayChange.TheVariants.{Taken, Merged};
-ghost use Rattle.turn_kit.specs.Public.{Splits, IsFull, AtBusy, AtExhausted, AtRefused, AtSplitBusy, AtSeatsFull};
+ghost use Rattle.turn_kit.specs.Public.{AtBusy, AtExhausted, AtRefused};
 
 use super::SharedGateway;
 use super::steps::{Merge, Take};
@@ -10,7 +10,7 @@ use crate::gateway::Gateway;
 use attr_kit::NoMemory;
 use point_kit::Export;
 use std::sync::Wait;
-use turn_kit::{ChangeFault, Look, Seat, SplitFault};
+use turn_kit::{ChangeFault, Look, Seat};
 
 impl SharedGateway {
     /// Asks for the turn until it is had, and then takes an export, once, as `Gateway::take` does. Answers the number of
@@ -70,23 +70,5 @@ impl SharedGateway {
         ensures points { Sees self.now (λ v. T.answers look v result) seat.new }
     {
         self.turn.look(rt, seat, look)
-    }
-
-    /// Asks for the turn until it is had, and then splits off a new seat. The new seat has seen what this one has.
-    ///
-    /// Refused: `SeatsFull` where 4,096 seats were made. It never answers `Busy`.
-    pub fn split<R: Wait>(
-        &self,
-        rt: &R,
-        seat: &mut Seat<Gateway>,
-    ) -> Result<Seat<Gateway>, SplitFault>
-        requires { IsAt self.now seat.old }
-        ensures seat { IsAt self.now seat.new }
-        ensures new { IfOk result (λ s. IsAt self.now s) }
-        ensures ok { IfOk result (λ s. Splits seat.old seat.new s) }
-        ensures busy { IfErr result (AtSplitBusy ⊥) }
-        ensures seats_full { IfErr result (AtSeatsFull (IsFull seat.old seat.new)) }
-    {
-        self.turn.split(rt, seat)
     }
 }

@@ -84,9 +84,3 @@ pub fn newest(
     let writer = writer(alloc, number)?;
     Ok(gateway.newest(&writer, start))
 }
-
-/// How many points are lent of a writer's incarnation.
-pub fn part_len(alloc: Global, gateway: &Gateway, number: u128, start: u64) -> Result<usize, Fail> {
-    let writer = writer(alloc, number)?;
-    Ok(gateway.part(&writer, start).len())
-}

@@ -1,5 +1,5 @@
 //! The parts of a gateway after a restart.
-use super::builders::{newest, part_len, single, told};
+use super::builders::{newest, single, told};
 use crate::Gateway;
 use std::alloc::Global;
 use std::test::Fail;
@@ -16,9 +16,7 @@ fn restarted(alloc: Global) -> Result<Gateway, Fail> {
 fn a_part_is_one_incarnation(rt: HostRuntime) -> Result<(), Fail> {
     let alloc = rt.alloc();
     let gateway = restarted(alloc)?;
-    assert!(rt; part_len(alloc, &gateway, 1, 100)? == 1);
-    assert!(rt; part_len(alloc, &gateway, 1, 400)? == 1);
-    assert!(rt; part_len(alloc, &gateway, 1, 50)? == 0);
+    assert!(rt; gateway.len() == 2);
     assert!(rt; newest(alloc, &gateway, 1, 100)? == Some(300));
     assert!(rt; newest(alloc, &gateway, 1, 400)? == Some(500));
     assert!(rt; newest(alloc, &gateway, 1, 50)?.is_none());

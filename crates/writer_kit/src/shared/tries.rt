@@ -1,7 +1,7 @@
 //! The calls that ask for the turn once and wait for nobody.
 ghost use Rattle.std.specs.Prelude.{OnErr, IfOk, IfErr};
 ghost use Rattle.agg_kit.specs.Entries.{entry_of};
-ghost use Rattle.turn_kit.specs.Public.{IsLeft, Splits, IsFull, AtBusy, AtExhausted, AtRefused, AtSplitBusy, AtSeatsFull};
+ghost use Rattle.turn_kit.specs.Public.{IsLeft, AtBusy, AtExhausted, AtRefused};
 ghost use Rattle.writer_kit.specs.Shared.{IsAt, IsRound, Accepts, Adds, HasAllMeasured, IsNewest, LooksAt, Sees, IsExhausted, IsRefused, MayRefuse, MayRefuseRound};
 ghost use Rattle.writer_kit.specs.declared.shared.change.WriterChange.TheVariants.{Measured, Collected};
 
@@ -11,9 +11,9 @@ use crate::{CollectFault, MeasureFault, Writer};
 use attr_kit::AttrSet;
 use bumpalo::Bump;
 use round_kit::Round;
-use turn_kit::{Busy, ChangeFault, Look, Seat, SplitFault};
+use turn_kit::{Busy, ChangeFault, GiveBack, Look, Seat};
 
-impl SharedWriter {
+impl<G: GiveBack> SharedWriter<G> {
     /// Asks for the turn once, and records a value where it is had, as `Writer::measure` does.
     ///
     /// Refused: `Busy` where the turn is held, which it never is to the first seat before its first split; `Exhausted`
@@ -84,19 +84,5 @@ impl SharedWriter {
         ensures busy { OnErr result (IsLeft seat.old seat.new) }
     {
         self.turn.try_look(seat, look)
-    }
-
-    /// Asks for the turn once, and splits off a new seat where it is had. The new seat has seen what this one has.
-    ///
-    /// Refused: `Busy` where the turn is held; `SeatsFull` where 4,096 seats were made.
-    pub fn try_split(&self, seat: &mut Seat<Writer>) -> Result<Seat<Writer>, SplitFault>
-        requires { IsAt self.now seat.old }
-        ensures seat { IsAt self.now seat.new }
-        ensures new { IfOk result (λ s. IsAt self.now s) }
-        ensures ok { IfOk result (λ s. Splits seat.old seat.new s) }
-        ensures busy { IfErr result (AtSplitBusy (IsLeft seat.old seat.new)) }
-        ensures seats_full { IfErr result (AtSeatsFull (IsFull seat.old seat.new)) }
-    {
-        self.turn.try_split(seat)
     }
 }

@@ -1,7 +1,7 @@
 //! The calls that ask for the turn until they have it.
 ghost use Rattle.std.specs.Prelude.{IfOk, IfErr};
 ghost use Rattle.agg_kit.specs.Entries.{entry_of};
-ghost use Rattle.turn_kit.specs.Public.{Splits, IsFull, AtBusy, AtExhausted, AtRefused, AtSplitBusy, AtSeatsFull};
+ghost use Rattle.turn_kit.specs.Public.{AtBusy, AtExhausted, AtRefused};
 ghost use Rattle.writer_kit.specs.Shared.{IsAt, IsRound, Accepts, Adds, HasAllMeasured, IsNewest, LooksAt, Sees, IsExhausted, IsRefused, MayRefuse, MayRefuseRound};
 ghost use Rattle.writer_kit.specs.declared.shared.change.WriterChange.TheVariants.{Measured, Collected};
 
@@ -12,7 +12,7 @@ use attr_kit::AttrSet;
 use bumpalo::Bump;
 use round_kit::Round;
 use std::sync::Wait;
-use turn_kit::{ChangeFault, Look, Seat, SplitFault};
+use turn_kit::{ChangeFault, Look, Seat};
 
 impl SharedWriter {
     /// Asks for the turn until it is had, and then records a value, as `Writer::measure` does.
@@ -86,23 +86,5 @@ impl SharedWriter {
         ensures serves { Sees self.now (λ w. T.answers look w result) seat.new }
     {
         self.turn.look(rt, seat, look)
-    }
-
-    /// Asks for the turn until it is had, and then splits off a new seat. The new seat has seen what this one has.
-    ///
-    /// Refused: `SeatsFull` where 4,096 seats were made. It never answers `Busy`.
-    pub fn split<R: Wait>(
-        &self,
-        rt: &R,
-        seat: &mut Seat<Writer>,
-    ) -> Result<Seat<Writer>, SplitFault>
-        requires { IsAt self.now seat.old }
-        ensures seat { IsAt self.now seat.new }
-        ensures new { IfOk result (λ s. IsAt self.now s) }
-        ensures ok { IfOk result (λ s. Splits seat.old seat.new s) }
-        ensures busy { IfErr result (AtSplitBusy ⊥) }
-        ensures seats_full { IfErr result (AtSeatsFull (IsFull seat.old seat.new)) }
-    {
-        self.turn.split(rt, seat)
     }
 }

@@ -1,4 +1,5 @@
 use Rattle.std.proofs.Common.{rules, All, ◌≡◌, ◌∙◌, sym, refl, ap, subst, map, ne_eqb, eq-eqb, slice_get, Some}
+use Rattle.turn_kit.specs.Public.{IsOf}
 use Rattle.writer_kit.specs.Shared.{IsAt}
 use Rattle.fleet_kit.specs.Jobs.{job_entries}
 use Rattle.fleet_kit.proofs.Exports.{get_at}
@@ -12,7 +13,7 @@ loop-number-preserved g c = let j = c.index-jobs-number.result in let less = c.l
     search rules,
     search rules,
     search rules,
-    all_snoc (λ r. IsAt c.args.shared.now r.seat) rs c.if-job-place.recorders.items _ (ap (λ v. v.items) w.recorders-is ∙ w.push_reserved.ensures.items) (subst (All (λ r. IsAt c.args.shared.now r.seat)) (sym r) kept.3) w.in-Ok.ensures.new,
+    all_snoc (λ r. IsAt c.args.shared.now r.seat) rs c.if-job-place.recorders.items _ (ap (λ v. v.items) w.recorders-is ∙ w.push_reserved.ensures.items) (subst (All (λ r. IsAt c.args.shared.now r.seat)) (sym r) kept.3) (subst (λ t. IsOf t w.in-Ok.seat) w.deref.ensures w.in-Ok.ensures.new),
     ap (λ v. job_entries (map (λ r. r.job.now) v.items)) w.recorders-is ∙ (ap (λ l. job_entries (map (λ r. r.job.now) l)) w.push_reserved.ensures.items
         ∙ seat_more (λ r. r.job.now) rs _ c.args.place c.args.jobs.now c.loop-number.number j less is refl (eq-eqb j.writer c.args.place w.if-job-place.true) (ap (λ l. job_entries (map (λ r. r.job.now) l)) r ∙ kept.4)),
     all_snoc (λ r. slice_get c.args.jobs.now r.number ≡ Some r.job.now) rs c.if-job-place.recorders.items _ (ap (λ v. v.items) w.recorders-is ∙ w.push_reserved.ensures.items)

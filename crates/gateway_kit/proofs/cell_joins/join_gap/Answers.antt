@@ -4,6 +4,8 @@ use Rattle.gateway_kit.specs.Changing.{Entry}
 use Rattle.gateway_kit.specs.Keys.{ItemKey}
 use Rattle.gateway_kit.specs.OneCell.{JoinsEntry}
 use Rattle.gateway_kit.specs.Part.{Part, Cells}
+use Rattle.gateway_kit.specs.Parts.{part_of}
+use Rattle.gateway_kit.proofs.AllMoves.{first_moves, gap_moves}
 use Rattle.gateway_kit.proofs.Growing.{entries-empty, grows_gap, no_cells}
 use Rattle.gateway_kit.proofs.OneCell.{joins_some}
 use Rattle.gateway_kit.proofs.Tallies.{tells_insert}
@@ -19,7 +21,7 @@ returns-clause-grows c =
     let growth = c.in_ok-growth.growth in
     let new : Part = c.join.new.self in
     let joins : JoinsEntry (entries no_cells) (entries new.cells) (k, w) growth.more growth.changed = subst (λ (cs : Cells). JoinsEntry (entries cs) (entries new.cells) (k, w) growth.more growth.changed) c.new-incarnation.ensures.cells c.in_ok-growth.ensures.joins in
-    let is : new ≡ record { writer = key.writer; start = key.start; cells = new.cells } = c.in_ok-growth.ensures.same ∙ (λ i. record { writer = c.new-incarnation.ensures.writer i; start = c.new-incarnation.ensures.start i; cells = new.cells }) in
+    let is : part_of new ≡ ((key.writer, key.start), new.cells) = λ i. ((c.in_ok-growth.ensures.same ∙ (λ j. (c.new-incarnation.ensures.writer j, c.new-incarnation.ensures.start j))) i, new.cells) in
     rw c.in_ok-insert.ensures.items (grows_gap olds c.args.len c.requires.whole (key.writer, key.start) ((k, w) ∷ []) growth.more growth.changed c.args.place new new.cells c.requires.placed is (joins_some (entries no_cells) (entries new.cells) k w growth.more growth.changed joins) joins.joined joins.more_keys joins.changes)
 
 pub returns-clause-tells : goal.returns-clause-tells
@@ -29,3 +31,10 @@ returns-clause-tells c =
     let growth = c.in_ok-growth.growth in
     let none : growth.before ≡ 0 = c.in_ok-growth.ensures.before ∙ ap (λ (cs : Cells). conflicts_in (entries cs)) c.new-incarnation.ensures.cells ∙ ap (λ (es : List Entry). conflicts_in es) entries-empty in
     rw (c.in_ok-insert.ensures.items, none) (tells_insert olds c.args.place new growth.after c.in_ok-growth.ensures.after)
+
+pub returns-clause-moves : goal.returns-clause-moves
+returns-clause-moves c =
+    let key = c.args.key in
+    let new : Part = c.join.new.self in
+    rw c.in_ok-insert.ensures.items (gap_moves 0 c.args.incarnations.now.items c.args.place new (key.writer, key.start) (c.in_ok-growth.ensures.same ∙ (λ j. (c.new-incarnation.ensures.writer j, c.new-incarnation.ensures.start j))) c.requires.placed.none
+    (first_moves 0 c.new-incarnation.result new c.new-incarnation.ensures.cells c.new-incarnation.ensures.numbers c.in_ok-growth.ensures.moves))

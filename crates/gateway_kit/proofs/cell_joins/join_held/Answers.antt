@@ -7,6 +7,7 @@ use Rattle.gateway_kit.specs.Parts.{part_of, entries_at}
 use Rattle.gateway_kit.proofs.Drafting.{found_place}
 use Rattle.gateway_kit.proofs.Entries.{as_T}
 use Rattle.gateway_kit.proofs.KeyOrders.{part_total}
+use Rattle.gateway_kit.proofs.AllMoves.{held_moves}
 use Rattle.gateway_kit.proofs.OneCell.{held_grows}
 use Rattle.gateway_kit.proofs.Growing.{within_at}
 use Rattle.gateway_kit.proofs.Tallies.{held_tells}
@@ -28,3 +29,6 @@ pub returns-clause-tells : goal.returns-clause-tells
 returns-clause-tells c =
     let olds = c.args.incarnations.now.items in
     held_tells olds c.args.place c.index_mut.result.now c.join.new.self (within_at part_of olds c.args.place (c.args.key.writer, c.args.key.start) c.requires.placed) c.index_mut.ensures.value c.join.result c.join.ensures.before c.join.ensures.after
+
+pub returns-clause-moves : goal.returns-clause-moves
+returns-clause-moves c = held_moves 0 c.args.incarnations.now.items c.args.place c.index_mut.result.now c.join.new.self c.index_mut.ensures.value c.join.result c.join.ensures.same c.join.ensures.moves

@@ -1,4 +1,4 @@
-use Rattle.std.proofs.Common.{◌≡◌, ℕ, ◌+◌, ◌-◌, ◌<◌, ◌≤◌, length, Bool, true, false, cond, map, nat_le, vec_capacity, le-leb, refl, sym, ap, ◌∙◌, arith}
+use Rattle.std.proofs.Common.{◌≡◌, ℕ, ◌+◌, ◌-◌, ◌<◌, ◌≤◌, List, length, subst, Bool, true, false, cond, map, nat_le, vec_capacity, le-leb, refl, sym, ap, ◌∙◌, arith}
 use Rattle.std.proofs.lemmas.Grind.{common_steps}
 use Rattle.gateway_kit.specs.Keys.{item_cmp, entry_of}
 use Rattle.gateway_kit.specs.Weave.{weave}
@@ -6,14 +6,34 @@ use Rattle.gateway_kit.proofs.Entries.{on_keys, map-weave}
 use Rattle.gateway_kit.proofs.Finishing.{no_items}
 use Rattle.gateway_kit.proofs.Ahead.{weave-nil}
 use Rattle.std.proofs.lemmas.Bool.Decides.{nat_tests}
+use Rattle.std.specs.FinMap.Entries.{is_sorted}
+use Rattle.gateway_kit.specs.Numbers.{ItemsMove}
+use Rattle.gateway_kit.specs.Tallies.{are_up_to}
+use Rattle.gateway_kit.specs.declared.part_item.PartItem.{PartItem}
+use Rattle.gateway_kit.proofs.ItemMoves.{all_up_to, items_stay, woven_move}
+use Rattle.gateway_kit.proofs.MergeParts.{all_weave}
 use Rattle.gateway_kit.proofs.grow.put_items.Goals as goal
 use Rattle.gateway_kit.proofs.grow.put_items.Goals.{else-not-is_empty-via-then-not-is_empty+else-len-saturating_sub, else-not-is_empty-via-else-not-is_empty}
 
 pub returns-then-len-saturating_sub-clause-woven : goal.returns-then-len-saturating_sub-clause-woven
 returns-then-len-saturating_sub-clause-woven c =
     let fits : length c.args.items.now.items + length c.args.fresh.items ≤ vec_capacity c.args.room = grind (arith, common_steps) in
-    ap (map entry_of) (c.woven.ensures ∙ (λ i. weave (λ x y. on_keys item_cmp (entry_of x) (entry_of y)) (c.replace-mine.ensures.value i).items c.args.fresh.items)) ∙ map-weave _ (on_keys item_cmp) entry_of (λ x y. refl) c.args.items.now.items c.args.fresh.items
+    ap (map entry_of) (c.woven.ensures ∙ (λ i. weave (λ x y. on_keys item_cmp (entry_of x) (entry_of y)) (c.replace-mine.ensures.value i).items c.number_all.new.items.items)) ∙ map-weave _ (on_keys item_cmp) entry_of (λ x y. refl) c.args.items.now.items c.number_all.new.items.items
+    ∙ ap (weave (on_keys item_cmp) (map entry_of c.args.items.now.items)) c.number_all.ensures.entries
     ∙ ap (λ b. cond b (weave (on_keys item_cmp) (map entry_of c.args.items.now.items) (map entry_of c.args.fresh.items)) (map entry_of c.args.items.now.items)) (sym (le-leb _ _ fits))
+
+pub returns-then-len-saturating_sub-clause-moves : goal.returns-then-len-saturating_sub-clause-moves
+returns-then-len-saturating_sub-clause-moves c =
+    subst (λ (l : List PartItem). ItemsMove c.args.number c.args.items.now.items l) (sym (c.woven.ensures ∙ (λ i. weave (λ x y. on_keys item_cmp (entry_of x) (entry_of y)) (c.replace-mine.ensures.value i).items c.number_all.new.items.items)))
+    (woven_move c.args.number c.args.items.now.items c.number_all.new.items.items c.requires.sorted (ap (is_sorted item_cmp) c.number_all.ensures.entries ∙ c.requires.fresh_sorted) c.number_all.ensures.numbers)
+
+pub returns-then-len-saturating_sub-clause-up_to : goal.returns-then-len-saturating_sub-clause-up_to
+returns-then-len-saturating_sub-clause-up_to c = λ n g h.
+    ap (λ (l : List PartItem). are_up_to n l) (c.woven.ensures ∙ (λ i. weave (λ x y. on_keys item_cmp (entry_of x) (entry_of y)) (c.replace-mine.ensures.value i).items c.number_all.new.items.items))
+    ∙ all_weave (λ x y. on_keys item_cmp (entry_of x) (entry_of y)) (λ (i : PartItem). nat_le i.number n) c.args.items.now.items c.number_all.new.items.items h (all_up_to c.args.number c.number_all.new.items.items c.number_all.ensures.numbers n g)
+
+pub returns-else-not-is_empty-clause-moves : goal.returns-else-not-is_empty-clause-moves
+returns-else-not-is_empty-clause-moves c = items_stay c.args.number c.args.items.now.items
 
 same_either : {A : Type 0} (b : Bool) (x y : A) → y ≡ x → x ≡ cond b y x
 same_either true x y e = sym e

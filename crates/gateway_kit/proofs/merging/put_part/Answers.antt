@@ -1,11 +1,20 @@
 use Rattle.std.proofs.Common.{ap, rules}
 use Rattle.gateway_kit.specs.Merging.{made}
 use Rattle.gateway_kit.specs.Parts.{part_of}
+use Rattle.gateway_kit.specs.Keys.{PartKey}
+use Rattle.gateway_kit.specs.Part.{Cells}
+use Rattle.gateway_kit.proofs.AllMoves.{parts_stay, set_moves}
 use Rattle.gateway_kit.proofs.Moved.{set_amend, past_amend}
 use Rattle.gateway_kit.proofs.merging.put_part.Goals as goal
 
 pub returns-then-place-len-clause-change : goal.returns-then-place-len-clause-change
-returns-then-place-len-clause-change c = set_amend part_of made c.args.incarnations.now.items c.args.place c.index_mut.result.now c.install.new.self c.args.changes (search rules) c.index_mut.ensures.value (ap part_of c.install.ensures)
+returns-then-place-len-clause-change c = set_amend part_of made c.args.incarnations.now.items c.args.place c.index_mut.result.now c.install.new.self c.args.changes (search rules) c.index_mut.ensures.value c.install.ensures.cells
 
 pub returns-else-place-len-clause-change : goal.returns-else-place-len-clause-change
 returns-else-place-len-clause-change c = past_amend part_of made c.args.incarnations.now.items c.args.place c.args.changes (search rules)
+
+pub returns-then-place-len-clause-moves : goal.returns-then-place-len-clause-moves
+returns-then-place-len-clause-moves c = set_moves c.args.number c.args.incarnations.now.items c.args.place c.index_mut.result.now c.install.new.self c.index_mut.ensures.value (ap (λ (e : PartKey × Cells). e.0) c.install.ensures.cells) c.install.ensures.moves
+
+pub returns-else-place-len-clause-moves : goal.returns-else-place-len-clause-moves
+returns-else-place-len-clause-moves c = parts_stay c.args.number c.args.incarnations.now.items

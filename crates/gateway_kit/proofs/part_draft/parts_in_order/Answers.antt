@@ -23,7 +23,7 @@ returns-clause-sorted c =
 
 pub returns-clause-same : goal.returns-clause-same
 returns-clause-same c = λ q.
-    same_found part_total part_of c.args.parts.items c.sort_by.new.self.items (record { writer = q.0; start = q.1; cells = empty })
+    same_found part_total part_of c.args.parts.items c.sort_by.new.self.items (record { writer = q.0; start = q.1; cells = empty; numbers = empty })
     (c.in_ok-sort_by.ensures.stable (lower part_total part_of) (ranks_by part_total (λ (i : Part). (part_of i).0)) (always_returns_same _ _ _ (λ a r q k. let e : r ≡ part_cmp (part_of a.0.now).0 (part_of a.1.0.now).0 = search rules in (ap is_lt e, search rules))))
 
 pub returns-clause-filled : goal.returns-clause-filled

@@ -9,7 +9,7 @@ pub returns : goal.returns
 returns c =
     let ask = c.args.ask.now in
     let state = c.args.gateway.now.points in
-    let groups = c.in_ok-groups.groups in
+    let groups = c.in_ok-groups.groups.entries in
     let stands : Stands ask c.buckets_for-buckets.result (entries state) groups = c.asked_points.ensures.whole c.buckets_for-buckets.result groups c.in_ok-groups.ensures in
     record {
       value = IfOk-weaker c.rows_of.result _ _ (λ rows is. is ∙ answered ask state groups c.rows_of.ensures.ordered

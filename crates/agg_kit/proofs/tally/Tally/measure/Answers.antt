@@ -1,4 +1,4 @@
-use Rattle.std.proofs.Common.{◌≡◌, ◌∙◌, ◌∷◌, [], ℕ, List, length, slice_get, ap, sym, subst, refl, false, Option, Some, FitsSigned, w64, true≢false}
+use Rattle.std.proofs.Common.{◌≡◌, ◌∙◌, ◌∷◌, [], ℕ, length, slice_get, ap, sym, subst, refl, false, Option, Some, FitsSigned, w64, true≢false}
 use Rattle.std.proofs.lemmas.Int.{to_z-of_z}
 use Rattle.plan_kit.specs.Plans.{feeds_of, kind_of, AreFeeds, AllRise}
 use Rattle.plan_kit.specs.declared.instrument.Kind.{Kind}

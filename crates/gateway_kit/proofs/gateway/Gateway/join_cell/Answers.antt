@@ -1,4 +1,4 @@
-use Rattle.std.proofs.Common.{◌+◌, [], ◌∷◌, is_some, nat_lt, true≢false, sym, ap, ◌∙◌, arith}
+use Rattle.std.proofs.Common.{◌+◌, [], ◌∷◌, is_some, nat_lt, true≢false, sym, ap, ◌∙◌, arith, refl}
 use Rattle.std.specs.FinMap.{get, from_sorted, from_entries, get-from_entries}
 use Rattle.point_kit.specs.Exports.{join_points, changed_points}
 use Rattle.point_kit.specs.Orders.{key_cmp}
@@ -6,6 +6,7 @@ use Rattle.point_kit.proofs.OrderLaws.{key_total}
 use Rattle.gateway_kit.specs.Keys.{ItemKey}
 use Rattle.gateway_kit.specs.Parts.{listed}
 use Rattle.gateway_kit.specs.View.{View}
+use Rattle.gateway_kit.proofs.AllMoves.{numbers_left}
 use Rattle.gateway_kit.proofs.Joining.{get_points, points_joined, keys_changed, parts_whole}
 use Rattle.gateway_kit.proofs.OneCell.{apart_alone}
 use Rattle.gateway_kit.proofs.Tallies.{told_few, told_total, told_under}
@@ -47,3 +48,6 @@ returns-clause-value c =
     ap (nat_lt 0)
     (keys_changed c.self.inside.incarnations.items c.joined.new.incarnations.items c.self.inside.len c.self.invariant.0 (key.writer, key.start) ((k, c.args.cell) ∷ []) c.in_ok-growth.growth.more c.in_ok-growth.growth.changed (apart_alone k c.args.cell) c.in_ok-growth.ensures.grows
     ∙ ap (λ (v : View). changed_points v.points (from_sorted {R = key_cmp} (listed c.joined.new.incarnations.items))) c.self.view_is)
+
+pub returns-clause-numbers : goal.returns-clause-numbers
+returns-clause-numbers c = numbers_left c.self.inside.id c.self.inside.id c.self.inside.incarnations.items c.joined.new.incarnations.items c.args.self.now _ c.self.invariant.0.sorted c.in_ok-growth.ensures.grows.sorted c.self.view_is refl c.in_ok-growth.ensures.moves

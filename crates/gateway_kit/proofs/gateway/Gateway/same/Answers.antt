@@ -1,11 +1,12 @@
-use Rattle.std.proofs.Common.{◌≡◌, List, length, sym, ap, ◌∙◌}
+use Rattle.std.proofs.Common.{◌≡◌, List, map, length, sym, ap, ◌∙◌}
 use borrow.Author.Tests.{eqb-true}
 use Rattle.std.proofs.lemmas.Bool.{eq-eqb}
 use Rattle.std.specs.FinMap.{from_sorted, entries}
 use Rattle.point_kit.specs.Exports.{Points}
 use Rattle.point_kit.specs.Orders.{key_cmp}
-use Rattle.gateway_kit.specs.Part.{Part}
-use Rattle.gateway_kit.specs.Parts.{listed}
+use Rattle.gateway_kit.specs.Keys.{PartKey, whole_key}
+use Rattle.gateway_kit.specs.Part.{Cells}
+use Rattle.gateway_kit.specs.Parts.{flatten, listed, part_of}
 use Rattle.gateway_kit.specs.View.{View}
 use Rattle.gateway_kit.proofs.Joining.{entries_points}
 use Rattle.gateway_kit.proofs.Same.{same_parts}
@@ -20,9 +21,9 @@ returns-then-self-other c =
     record {
       value = (
         λ equal.
-            let parts : mine ≡ theirs = sym c.as_slice.ensures.value ∙ c.all_same.ensures.0 equal ∙ c.as_slice-then-self-other.ensures.value in
-            sym mine_is ∙ ap (λ (ps : List Part). from_sorted {R = key_cmp} (listed ps)) parts ∙ theirs_is,
-        λ equal. c.all_same.ensures.1 (c.as_slice.ensures.value ∙ same_parts mine theirs c.self.inside.len c.other.inside.len c.self.invariant.0 c.other.invariant.0 (mine_is ∙ equal ∙ sym theirs_is) ∙ sym c.as_slice-then-self-other.ensures.value),
+            let parts : map part_of mine ≡ map part_of theirs = ap (map part_of) (sym c.as_slice.ensures.value) ∙ c.all_same.ensures.0 equal ∙ ap (map part_of) c.as_slice-then-self-other.ensures.value in
+            sym mine_is ∙ ap (λ (ps : List (PartKey × Cells)). from_sorted {R = key_cmp} (flatten whole_key ps)) parts ∙ theirs_is,
+        λ equal. c.all_same.ensures.1 (ap (map part_of) c.as_slice.ensures.value ∙ same_parts mine theirs c.self.inside.len c.other.inside.len c.self.invariant.0 c.other.invariant.0 (mine_is ∙ equal ∙ sym theirs_is) ∙ sym (ap (map part_of) c.as_slice-then-self-other.ensures.value)),
       );
     }
 

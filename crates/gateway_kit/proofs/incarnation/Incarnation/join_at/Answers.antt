@@ -1,4 +1,4 @@
-use Rattle.std.proofs.Common.{◌≡◌, ◌<◌, length, List, map, sym, ap, subst, ◌∙◌, arith}
+use Rattle.std.proofs.Common.{◌≡◌, ◌<◌, length, List, map, refl, sym, ap, subst, ◌∙◌, arith}
 use Rattle.std.proofs.lemmas.Grind.{common_steps}
 use lib.ListN.{length-map}
 use Rattle.std.specs.FinMap.{entries, from_sorted, entries-from_sorted}
@@ -8,6 +8,10 @@ use Rattle.gateway_kit.specs.Keys.{entry_of, item_cmp}
 use Rattle.gateway_kit.specs.Places.{IsAt}
 use Rattle.gateway_kit.proofs.Entries.{as_T, is_sorted-amend}
 use Rattle.gateway_kit.proofs.KeyOrders.{item_total}
+use Rattle.gateway_kit.specs.Part.{Part}
+use Rattle.gateway_kit.proofs.AllMoves.{own_key}
+use Rattle.gateway_kit.proofs.ItemMoves.{part_moves}
+use Rattle.gateway_kit.proofs.Movement.{stays}
 use Rattle.gateway_kit.proofs.OneCell.{cells_of, joins_alike, kept_at, changed_at}
 use Rattle.gateway_kit.specs.Tallies.{conflicts_in}
 use Rattle.gateway_kit.proofs.Tallies.{shown}
@@ -32,6 +36,7 @@ pub invariant_of-self : goal.invariant_of-self
 invariant_of-self c = record {
   sorted = ap (is_sorted item_cmp) c.put_cell-self-inside.ensures.put ∙ is_sorted-amend item_total replaced (map entry_of c.self.inside.items.items) c.args.place c.in-Some.cell ∙ c.self.invariant.sorted;
   tallied = c.put_cell-self-inside.ensures.tally;
+  up_to = c.put_cell-self-inside.ensures.up_to c.self.inside.number (omega arith) c.self.invariant.up_to;
 }
 
 pub returns-clause-joins : goal.returns-clause-joins
@@ -58,3 +63,16 @@ returns-clause-after c =
     let news = c.put_cell-self-inside.new.items.items in
     let sorted = ap (is_sorted item_cmp) c.put_cell-self-inside.ensures.put ∙ is_sorted-amend item_total replaced (map entry_of c.self.inside.items.items) c.args.place c.in-Some.cell ∙ c.self.invariant.sorted in
     c.put_cell-self-inside.ensures.tally.conflicts ∙ ap (λ (es : List Entry). conflicts_in es) (sym (entries-from_sorted item_cmp (map entry_of news) (as_T sorted)))
+
+pub returns-in_default-clause-moves : goal.returns-in_default-clause-moves
+returns-in_default-clause-moves c = λ q. stays 0 _ _
+
+pub returns-clause-same : goal.returns-clause-same
+returns-clause-same c = ap (λ (p : Part). own_key p) c.self.view_is
+
+pub returns-clause-moves : goal.returns-clause-moves
+returns-clause-moves c =
+    let items = c.self.inside.items.items in
+    let news = c.put_cell-self-inside.new.items.items in
+    let sorted = ap (is_sorted item_cmp) c.put_cell-self-inside.ensures.put ∙ is_sorted-amend item_total replaced (map entry_of items) c.args.place c.in-Some.cell ∙ c.self.invariant.sorted in
+    part_moves 0 c.args.self.now _ c.self.inside.writer c.self.inside.writer c.self.inside.start c.self.inside.start items news c.self.invariant.sorted sorted c.self.view_is refl c.put_cell-self-inside.ensures.moves

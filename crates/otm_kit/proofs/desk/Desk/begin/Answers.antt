@@ -18,9 +18,9 @@ returns-in-Ok c = λ lines s.
     let w : Waits lines c.replace-draft.result = subst (λ (d : Declared). Waits lines d) (sym c.replace-draft.ensures.value) (waits_at lines c.args.self.now.draft c.args.self.now.running is s) in
     (begin_done lines c.replace-draft.result (string_bytes c.new-in-Ok.result) c.new-in-Ok.ensures.bytes w c.in-Ok.ensures.ok, goes_first lines c.replace-draft.result c.in-Ok.running w c.in-Ok.ensures.value)
 
-pub returns-in_ok-begin_line-in-Err : goal.returns-in_ok-begin_line-in-Err
-returns-in_ok-begin_line-in-Err c = λ lines s.
+pub returns-in_ok-printed-in-Err : goal.returns-in_ok-printed-in-Err
+returns-in_ok-printed-in-Err c = λ lines s.
     let is : is_some c.args.self.now.running ≡ false = sym c.is_some.ensures ∙ c.if-is_some.false in
     let w : Waits lines c.replace-draft.result = subst (λ (d : Declared). Waits lines d) (sym c.replace-draft.ensures.value) (waits_at lines c.args.self.now.draft c.args.self.now.running is s) in
     let differs : c.in-Err.fault ≢ faults.NoMemory = search rules in
-    (begin_bad lines c.replace-draft.result c.in-Err.fault (string_bytes c.in_ok-begin_line-in-Err.field-0) c.in_ok-begin_line-in-Err.ensures w (c.in-Err.ensures.err differs), tt)
+    (begin_bad lines c.replace-draft.result c.in-Err.fault (string_bytes c.in_ok-printed-in-Err.printed) c.in_ok-printed-in-Err.ensures w (c.in-Err.ensures.err differs), tt)

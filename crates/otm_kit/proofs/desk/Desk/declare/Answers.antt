@@ -1,6 +1,8 @@
-use Rattle.std.proofs.Common.{◌≡◌, ◌∙◌, sym, ap, true, false, not, [], ◌∷◌, ◌++◌, string_bytes}
+use Rattle.std.proofs.Common.{◌≡◌, ◌∙◌, sym, ap, true, false, not, [], ◌∷◌, ◌++◌, ℕ, string_bytes}
 use Rattle.std.specs.Prelude.{if◌then◌else◌, is_some}
 use Rattle.script_kit.specs.declared.line.Line.TheVariants as line
+use Rattle.script_kit.specs.declared.reason.Reason.TheVariants as reason
+use Rattle.otm_kit.specs.Effects.{bad}
 use Rattle.otm_kit.specs.Declarations.{is_taken, with_declaration}
 use Rattle.otm_kit.proofs.Runnings.{begun_at, waits_at, at_wait, declare_late, declare_bad, declare_done, waits_more}
 use Rattle.otm_kit.proofs.desk.Desk.declare.Goals as goal
@@ -27,4 +29,5 @@ returns-else-branch c = λ lines s.
     let is : is_some c.args.self.now.running ≡ false = sym c.is_some.ensures ∙ c.if-is_some.false in
     let w = waits_at lines draft c.args.self.now.running is s in
     let added : false ≡ not (is_taken draft x) = sym c.if-branch.false ∙ c.in_ok-declare.ensures.added in
-    (declare_bad lines x draft (string_bytes c.new-else-branch.result) c.new-else-branch.ensures.bytes w added, tt)
+    let bad_is = declare_bad lines x draft (string_bytes c.new-else-branch.result) c.new-else-branch.ensures.bytes w added in
+    (ap (λ (i : ℕ). bad (string_bytes c.new-else-branch.result) (reason.Taken i)) c.named_at-place.ensures ∙ bad_is, tt)

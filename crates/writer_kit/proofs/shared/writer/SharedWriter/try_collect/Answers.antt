@@ -4,10 +4,10 @@ use Rattle.writer_kit.proofs.Sharing.{adds, all_measured, newest}
 use Rattle.writer_kit.proofs.shared.writer.SharedWriter.try_collect.Goals as goal
 
 pub returns-clause-serves : goal.returns-clause-serves
-returns-clause-serves c = adds c.args.self.now c.args.seat.now c.try_change.new.seat c.args.self.now.planned (Collected c.args.time) (λ r w. IsRound w c.args.time r) c.try_change.result c.try_change.ensures.ok
+returns-clause-serves g c = adds c.args.self.now c.args.seat.now c.try_change.new.seat c.args.self.now.planned (Collected c.args.time) (λ r w. IsRound w c.args.time r) c.try_change.result c.try_change.ensures.ok
 
 pub returns-clause-round : goal.returns-clause-round
-returns-clause-round c = all_measured c.args.self.now c.args.seat.now c.try_change.new.seat c.args.self.now.planned c.args.time c.try_change.result c.try_change.ensures.ok
+returns-clause-round g c = all_measured c.args.self.now c.args.seat.now c.try_change.new.seat c.args.self.now.planned c.args.time c.try_change.result c.try_change.ensures.ok
 
 pub returns-clause-newest : goal.returns-clause-newest
-returns-clause-newest c = newest c.args.self.now c.args.seat.now c.try_change.new.seat c.args.self.now.planned c.args.time c.try_change.result c.try_change.ensures.ok
+returns-clause-newest g c = newest c.args.self.now c.args.seat.now c.try_change.new.seat c.args.self.now.planned c.args.time c.try_change.result c.try_change.ensures.ok

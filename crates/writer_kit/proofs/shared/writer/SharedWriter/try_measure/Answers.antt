@@ -5,7 +5,7 @@ use Rattle.writer_kit.proofs.Sharing.{adds}
 use Rattle.writer_kit.proofs.shared.writer.SharedWriter.try_measure.Goals as goal
 
 pub returns-clause-serves : goal.returns-clause-serves
-returns-clause-serves c =
+returns-clause-serves g c =
     let small : FitsSigned w64 c.args.value = c.ranges.value in
     let ok = simp to_z-of_z at c.try_change.ensures.ok in
     adds c.args.self.now c.args.seat.now c.try_change.new.seat c.args.self.now.planned (Measured c.args.instrument c.args.attrs.now c.args.value) (λ _ w. Unit {0}) c.try_change.result ok

@@ -1,0 +1,138 @@
+-- The bytes of parts: what they begin with, and what they are the bytes of.
+use Rattle.std.proofs.Common.{◌≡◌, ◌≢◌, ℕ, ◌+◌, ◌-◌, List, ◌++◌, length, take, refl, sym, ap, subst, ◌∙◌, append_assoc, arith, length-append, Option, Some, None}
+use Rattle.std.proofs.Props.{props}
+use Rattle.std.specs.Int.{w32, to_be_bytes}
+use Rattle.std.proofs.lemmas.List.{append_cancel_left, take_at}
+use Rattle.point_kit.specs.ExportFaults.{export_fault}
+use Rattle.point_kit.specs.declared.export.Export.{Export}
+use Rattle.point_kit.specs.declared.export_fault.ExportFault.{ExportFault}
+use Rattle.point_kit.specs.declared.export_fault.ExportFault.TheVariants as builds
+use Rattle.bytes_kit.specs.Checksum.{checksum}
+use Rattle.bytes_kit.specs.Explaining.{IsSealFault, IsPartsFault, Explains}
+use Rattle.bytes_kit.specs.Faults.{decode_fault}
+use Rattle.bytes_kit.specs.Fits.{IsParts}
+use Rattle.bytes_kit.specs.Format.{Parts, parts_of, parts, head, sealed, bytes_of_parts}
+use Rattle.bytes_kit.specs.PartLaws.{parts_code}
+use Rattle.bytes_kit.specs.Reading.{NoneAt}
+use Rattle.bytes_kit.specs.declared.fault.DecodeFault.{DecodeFault}
+use Rattle.bytes_kit.specs.declared.fault.DecodeFault.TheVariants as faults
+
+-- the checksum of parts, as bytes
+abbrev seal : Parts → List ℕ
+seal p = to_be_bytes w32 (checksum (head ++ parts p))
+
+opened : (p : Parts) → bytes_of_parts p ≡ head ++ (parts p ++ seal p)
+unfolding sealed
+opened p = append_assoc head (parts p) (seal p)
+
+behind_head : (bytes mid : List ℕ) (p : Parts) → bytes ≡ head ++ mid → bytes ≡ bytes_of_parts p → mid ≡ parts p ++ seal p
+behind_head bytes mid p is e = append_cancel_left head mid (parts p ++ seal p) (sym is ∙ e ∙ opened p)
+
+pub no_head : (bytes : List ℕ) → ((rest : List ℕ) → bytes ≢ head ++ rest) → (p : Parts) → bytes ≢ bytes_of_parts p
+no_head bytes none p e = none (parts p ++ seal p) (e ∙ opened p)
+
+pub no_parts : (bytes mid : List ℕ) → bytes ≡ head ++ mid → NoneAt parts IsParts mid → (p : Parts) → IsParts p → bytes ≢ bytes_of_parts p
+no_parts bytes mid is none p fit e = none p (seal p) fit (behind_head bytes mid p is e)
+
+front : (body rest : List ℕ) → take (length (body ++ rest) - length rest) (body ++ rest) ≡ body
+front body rest = take_at body rest (length (body ++ rest) - length rest) (omega (arith, length-append body rest))
+
+-- what the checksum is of
+body_is : (bytes mid rest : List ℕ) (x : Parts) → bytes ≡ head ++ mid → mid ≡ parts x ++ rest → take (length bytes - length rest) bytes ≡ head ++ parts x
+body_is bytes mid rest x is at =
+    let whole : bytes ≡ (head ++ parts x) ++ rest = is ∙ ap (λ (l : List ℕ). head ++ l) at ∙ sym (append_assoc head (parts x) rest) in
+    subst (λ (l : List ℕ). take (length l - length rest) l ≡ head ++ parts x) (sym whole) (front (head ++ parts x) rest)
+
+sum_is : (bytes mid rest body : List ℕ) (x : Parts) (sum : ℕ) → bytes ≡ head ++ mid → mid ≡ parts x ++ rest → body ≡ take (length bytes - length rest) bytes → sum ≡ checksum body → to_be_bytes w32 sum ≡ seal x
+sum_is bytes mid rest body x sum is at taken summed =
+    ap (λ (n : ℕ). to_be_bytes w32 n) (summed ∙ ap (λ (l : List ℕ). checksum l) (taken ∙ body_is bytes mid rest x is at))
+
+pub no_seal : (bytes mid rest body : List ℕ) (x : Parts) (sum : ℕ) → bytes ≡ head ++ mid → mid ≡ parts x ++ rest → body ≡ take (length bytes - length rest) bytes → sum ≡ checksum body → rest ≢ to_be_bytes w32 sum → (p : Parts) → bytes ≢ bytes_of_parts p
+no_seal bytes mid rest body x sum is at taken summed no_sum p e =
+    let both = parts_code x p rest (seal p) (sym at ∙ behind_head bytes mid p is e) in
+    no_sum (both.1 ∙ ap seal (sym both.0) ∙ sym (sum_is bytes mid rest body x sum is at taken summed))
+
+pub is_sealed : (bytes mid rest body : List ℕ) (x : Parts) (sum : ℕ) → bytes ≡ head ++ mid → mid ≡ parts x ++ rest → body ≡ take (length bytes - length rest) bytes → sum ≡ checksum body → rest ≡ to_be_bytes w32 sum → bytes ≡ bytes_of_parts x
+is_sealed bytes mid rest body x sum is at taken summed last =
+    is ∙ ap (λ (l : List ℕ). head ++ l) (at ∙ ap (λ (l : List ℕ). parts x ++ l) (last ∙ sum_is bytes mid rest body x sum is at taken summed)) ∙ sym (opened x)
+
+-- why the checksum is not read says why no parts are
+end_place : (i end all front rest : ℕ) → i ≡ end - rest → end ≡ all → all ≡ front + rest → i ≡ front
+end_place i end all front rest p q r = omega arith
+
+pub seal_fault : (bytes mid rest body : List ℕ) (x : Parts) (sum end : ℕ) → bytes ≡ head ++ mid → mid ≡ parts x ++ rest → body ≡ take (length bytes - length rest) bytes → sum ≡ checksum body → end ≡ length bytes
+    → (f : DecodeFault) → IsSealFault end rest sum f → IsPartsFault bytes f
+seal_fault bytes mid rest body x sum end is at taken summed ends (faults.Truncated i) h = h ∙ ends
+seal_fault bytes mid rest body x sum end is at taken summed ends (faults.BadMagic i) h = absurd h
+seal_fault bytes mid rest body x sum end is at taken summed ends (faults.BadVersion i) h = absurd h
+seal_fault bytes mid rest body x sum end is at taken summed ends (faults.NotCanonical i) h = omega arith
+seal_fault bytes mid rest body x sum end is at taken summed ends (faults.NotText i) h = absurd h
+seal_fault bytes mid rest body x sum end is at taken summed ends (faults.BadChecksum i) h =
+    let whole : bytes ≡ (head ++ parts x) ++ rest = is ∙ ap (λ (l : List ℕ). head ++ l) at ∙ sym (append_assoc head (parts x) rest) in
+    let long : length bytes ≡ length ((head ++ parts x) ++ rest) = ap length whole in
+    let both : length ((head ++ parts x) ++ rest) ≡ length (head ++ parts x) + length rest = length-append (head ++ parts x) rest in
+    let place : i ≡ end - length rest = h.0 in
+    (x, rest, whole, end_place i end (length bytes) (length (head ++ parts x)) (length rest) place ends (long ∙ both), λ e. h.1 (e ∙ sym (sum_is bytes mid rest body x sum is at taken summed)))
+seal_fault bytes mid rest body x sum end is at taken summed ends (faults.BadExport f) h = absurd h
+seal_fault bytes mid rest body x sum end is at taken summed ends faults.NoMemory h = tt
+
+-- no two parts have the same bytes
+pub same_parts : (bytes : List ℕ) (x y : Parts) → bytes ≡ bytes_of_parts x → bytes ≡ bytes_of_parts y → x ≡ y
+same_parts bytes x y p q =
+    let both = parts_code x y (seal x) (seal y) (append_cancel_left head (parts x ++ seal x) (parts y ++ seal y) (sym (opened x) ∙ sym p ∙ q ∙ opened y)) in
+    both.0
+
+-- ---- exports
+
+-- why parts make no export
+abbrev pub fault_of : Parts → Option ExportFault
+fault_of p = export_fault p.1.0 p.1.1.0 p.1.1.1
+
+made : (x : Parts) → fault_of x ≡ None → Export
+made x sound = record { writer = x.0; start = x.1.0; time = x.1.1.0; points = x.1.1.1; sound = sound }
+
+same_made : (x y : Parts) → x ≡ y → (s : fault_of x ≡ None) (t : fault_of y ≡ None) → made x s ≡ made y t
+same_made x y h s t =
+    let one : IsProp (fault_of x ≡ None) = hlevel props in
+    subst (λ (z : Parts). (u : fault_of z ≡ None) → made x s ≡ made z u) h (λ u. ap (λ q. made x q) (one s u)) t
+
+-- exports of the same parts are one
+pub same_export : (a b : Export) → parts_of a ≡ parts_of b → a ≡ b
+unfolding made
+same_export a b h = same_made (parts_of a) (parts_of b) h a.sound b.sound
+
+-- the fault of parts that make an export
+pub sound_parts : (x : Parts) (e : Export) → x ≡ parts_of e → fault_of x ≡ None
+sound_parts x e h = ap fault_of h ∙ e.sound
+
+pub built : (f : ExportFault) (fault : Option ExportFault) → (f ≢ builds.NoMemory → fault ≡ Some f) → fault ≡ None → decode_fault f ≡ faults.NoMemory
+built builds.NoMemory fault why none = refl
+built builds.TimeNotAfterStart fault why none = let e = why (λ h. absurd cc) in absurd cc
+built (builds.KeyTwice i) fault why none = let e = why (λ h. absurd cc) in absurd cc
+built (builds.WrongShape i) fault why none = let e = why (λ h. absurd cc) in absurd cc
+built (builds.BucketCount i) fault why none = let e = why (λ h. absurd cc) in absurd cc
+built (builds.CountMismatch i) fault why none = let e = why (λ h. absurd cc) in absurd cc
+built (builds.NegativeTotal i) fault why none = let e = why (λ h. absurd cc) in absurd cc
+built (builds.BadRange i) fault why none = let e = why (λ h. absurd cc) in absurd cc
+
+-- why no export is built says what the bytes are
+pub explained : (f : ExportFault) (bytes : List ℕ) (x : Parts) → bytes ≡ bytes_of_parts x → (f ≢ builds.NoMemory → fault_of x ≡ Some f) → Explains bytes (decode_fault f)
+explained builds.NoMemory bytes x is why = tt
+explained builds.TimeNotAfterStart bytes x is why = (x, is, why (λ h. absurd cc))
+explained (builds.KeyTwice i) bytes x is why = (x, is, why (λ h. absurd cc))
+explained (builds.WrongShape i) bytes x is why = (x, is, why (λ h. absurd cc))
+explained (builds.BucketCount i) bytes x is why = (x, is, why (λ h. absurd cc))
+explained (builds.CountMismatch i) bytes x is why = (x, is, why (λ h. absurd cc))
+explained (builds.NegativeTotal i) bytes x is why = (x, is, why (λ h. absurd cc))
+explained (builds.BadRange i) bytes x is why = (x, is, why (λ h. absurd cc))
+
+-- a fault that cannot be another is want of memory
+pub no_memory : (f : DecodeFault) → (f ≢ faults.NoMemory → ⊥) → f ≡ faults.NoMemory
+no_memory faults.NoMemory other = refl
+no_memory (faults.Truncated i) other = absurd (other (λ h. absurd cc))
+no_memory (faults.BadMagic i) other = absurd (other (λ h. absurd cc))
+no_memory (faults.BadVersion i) other = absurd (other (λ h. absurd cc))
+no_memory (faults.NotCanonical i) other = absurd (other (λ h. absurd cc))
+no_memory (faults.NotText i) other = absurd (other (λ h. absurd cc))
+no_memory (faults.BadChecksum i) other = absurd (other (λ h. absurd cc))
+no_memory (faults.BadExport f) other = absurd (other (λ h. absurd cc))

@@ -1,0 +1,7 @@
+use Rattle.std.proofs.Common.{refl}
+use Rattle.bytes_kit.specs.Format.{parts_of, bytes_of}
+use Rattle.bytes_kit.proofs.Sealing.{same_parts, same_export}
+use Rattle.bytes_kit.proofs.laws.one_form.Goals as goal
+
+pub returns : goal.returns
+returns c = λ a b e. same_export a b (same_parts (bytes_of a) (parts_of a) (parts_of b) refl e)

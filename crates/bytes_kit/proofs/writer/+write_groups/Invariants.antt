@@ -1,0 +1,4 @@
+use Rattle.bytes_kit.proofs.writer.+write_groups.Given as goal
+
+abbrev pub decreases-write_groups : goal.decreases-write_groups
+decreases-write_groups l = l.more

@@ -1,0 +1,11 @@
+pub mod Checksum
+pub mod Codes
+pub mod Explaining
+pub mod Faults
+pub mod Fits
+pub mod Format
+pub mod Groups
+pub mod Laws
+pub mod Left
+pub mod PartLaws
+pub mod Reading

@@ -1,0 +1,95 @@
+//! The export of bytes.
+ghost use Rattle.std.specs.Prelude.{◌≡◌, ◌≢◌, ◌++◌, List, ℕ, ◌∷◌, ◌⊎◌, IfOk, IfErr, OnOk, OnErr};
+ghost use Rattle.std.specs.Int.{w32, to_be_bytes};
+ghost use Rattle.point_kit.specs.declared.export.Export.{Export};
+ghost use Rattle.bytes_kit.specs.Explaining.{Explains, IsPartsFault, IsHeadFault, IsSealFault, HasOther};
+ghost use Rattle.bytes_kit.specs.Faults.{GivesBack};
+ghost use Rattle.bytes_kit.specs.Fits.{IsParts, IsExport};
+ghost use Rattle.bytes_kit.specs.Format.{Parts, head, bytes_of_parts, bytes_of};
+ghost use Rattle.bytes_kit.specs.declared.fault.DecodeFault.TheVariants as faults;
+
+use crate::DecodeFault;
+use crate::checksum::checksum;
+use crate::piece::Piece;
+use crate::reader::Reader;
+use attr_kit::Seq;
+use point_kit::{Export, ExportPoint, WriterId};
+use std::alloc::Global;
+
+// The byte that must come next.
+fn expect(reader: &mut Reader<'_>, wanted: u8, fault: DecodeFault) -> Result<(), DecodeFault>
+    ensures ok { OnOk result (reader.old.rest ≡ wanted ∷ reader.new.rest) }
+    ensures err { OnErr result ((rest : List ℕ) → reader.old.rest ≢ wanted ∷ rest) }
+    ensures end { reader.new.end ≡ reader.old.end }
+    ensures fault { IfErr result (λ f. (f ≡ faults.Truncated reader.old.end) ⊎ ((f ≡ fault) × HasOther wanted reader.old.rest)) }
+{
+    if reader.byte()? != wanted {
+        return Err(fault);
+    }
+    Ok(())
+}
+
+// The letters by which an export is known, and the version.
+fn read_head(reader: &mut Reader<'_>) -> Result<(), DecodeFault>
+    ensures ok { OnOk result (reader.old.rest ≡ head ++ reader.new.rest) }
+    ensures err { OnErr result ((rest : List ℕ) → reader.old.rest ≢ head ++ rest) }
+    ensures end { reader.new.end ≡ reader.old.end }
+    ensures fault { IfErr result (IsHeadFault reader.old.end reader.old.rest) }
+{
+    expect(reader, b'K', DecodeFault::BadMagic(0))?;
+    expect(reader, b'T', DecodeFault::BadMagic(1))?;
+    expect(reader, b'S', DecodeFault::BadMagic(2))?;
+    expect(reader, b'K', DecodeFault::BadMagic(3))?;
+    expect(reader, 1, DecodeFault::BadVersion(4))
+}
+
+// The checksum, and nothing behind it.
+fn read_seal(reader: &mut Reader<'_>, sum: u32) -> Result<(), DecodeFault>
+    ensures ok { OnOk result (reader.old.rest ≡ to_be_bytes w32 sum) }
+    ensures err { OnErr result (reader.old.rest ≢ to_be_bytes w32 sum) }
+    ensures fault { IfErr result (IsSealFault reader.old.end reader.old.rest sum) }
+{
+    let place = reader.place();
+    let found = reader.take(4)?;
+    if found != sum.to_be_bytes().as_slice() {
+        return Err(DecodeFault::BadChecksum(place));
+    }
+    if reader.left() > 0 {
+        return Err(DecodeFault::NotCanonical(reader.place()));
+    }
+    Ok(())
+}
+
+// Writer, start, time and points.
+fn read_parts(
+    alloc: Global,
+    bytes: &[u8],
+) -> Result<(WriterId, (u64, (u64, Seq<ExportPoint>))), DecodeFault>
+    ensures ok { IfOk result (λ p. bytes.now ≡ bytes_of_parts p) }
+    ensures err { IfErr result (λ f. f ≢ faults.NoMemory → (p : Parts) → IsParts p → bytes.now ≢ bytes_of_parts p) }
+    ensures fault { IfErr result (λ f. IsPartsFault bytes.now f) }
+{
+    let mut reader = Reader::new(alloc, bytes);
+    read_head(&mut reader)?;
+    let parts = <(WriterId, (u64, (u64, Seq<ExportPoint>)))>::read(&mut reader)?;
+    let (body, _) = bytes.split_at(bytes.len() - reader.left());
+    read_seal(&mut reader, checksum(body))?;
+    Ok(parts)
+}
+
+/// The export whose bytes these are, in the one form that docs/BYTES.md tells.
+///
+/// What is read is sound as `Export::build` has it. A fault other than `NoMemory` comes only where these are the bytes of
+/// no export. O(n) in the bytes, but for the set of keys that `Export::build` makes; memory for at most as many values
+/// as there are bytes: a number of values or bytes is compared with the bytes that are left before it is used.
+pub fn decode_export(alloc: Global, bytes: &[u8]) -> Result<Export, DecodeFault>
+    // What is read has these bytes.
+    ensures ok { IfOk result (λ e. bytes_of e ≡ bytes.now) }
+    // What each fault says of the bytes.
+    ensures fault { IfErr result (Explains bytes.now) }
+    // The export that has these bytes is read, or there is no memory.
+    ensures found { (e : Export) → IsExport e → bytes.now ≡ bytes_of e → GivesBack result e }
+{
+    let (writer, (start, (time, points))) = read_parts(alloc, bytes)?;
+    Ok(Export::build(alloc, writer, start, time, points)?)
+}

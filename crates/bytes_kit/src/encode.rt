@@ -1,0 +1,67 @@
+//! The bytes of an export.
+ghost use Rattle.std.specs.Prelude.{◌≡◌, ◌++◌, [], IfOk, OnOk, OnErr};
+ghost use Rattle.bytes_kit.specs.Fits.{IsExport};
+ghost use Rattle.bytes_kit.specs.Format.{parts_of, parts, head, bytes_of};
+
+use crate::checksum::checksum;
+use crate::piece::Piece;
+use crate::writer::write_list;
+use attr_kit::NoMemory;
+use point_kit::Export;
+use std::alloc::Global;
+
+// The letters by which an export is known, and the version.
+const HEAD: [u8; 5] = [75, 84, 83, 75, 1];
+
+// What stands between the head and the checksum.
+fn write_parts(export: &Export, out: &mut Vec<u8>) -> Result<(), NoMemory>
+    ensures written { OnOk result (out.new.items ≡ out.old.items ++ parts (parts_of export.now)) }
+    ensures value { OnOk result (IsExport export.now) }
+{
+    export.writer().write(out)?;
+    export.start().write(out)?;
+    export.time().write(out)?;
+    write_list(export.points(), out)
+}
+
+// Head, parts and checksum.
+#[tactic(auto, unfolding(crate::specs::Format::sealed))]
+fn write_sealed(export: &Export, out: &mut Vec<u8>) -> Result<(), NoMemory>
+    requires { out.old.items ≡ [] }
+    ensures written { OnOk result (out.new.items ≡ bytes_of export.now) }
+    ensures value { OnOk result (IsExport export.now) }
+{
+    out.extend_from_slice(&HEAD)?;
+    write_parts(export, out)?;
+    let sum = checksum(out.as_slice());
+    out.extend_from_slice(&sum.to_be_bytes())?;
+    Ok(())
+}
+
+/// Makes the bytes of an export in a buffer. What the buffer held is gone; its memory is used again.
+///
+/// Each export has one form, told in docs/BYTES.md, and [`crate::decode_export`] gives the export back of it: that asks for
+/// values of the sizes that the types have, which `value` says of every export that was written. Refused only where memory
+/// is; the buffer is then empty. O(n) in the bytes.
+pub fn encode_export_into(export: &Export, out: &mut Vec<u8>) -> Result<(), NoMemory>
+    ensures ok { OnOk result (out.new.items ≡ bytes_of export.now) }
+    ensures value { OnOk result (IsExport export.now) }
+    ensures err { OnErr result (out.new.items ≡ []) }
+{
+    out.clear();
+    let written = write_sealed(export, out);
+    if written.is_err() {
+        out.clear();
+    }
+    written
+}
+
+/// The bytes of an export: see [`encode_export_into`].
+pub fn encode_export(alloc: Global, export: &Export) -> Result<Vec<u8>, NoMemory>
+    ensures ok { IfOk result (λ bytes. bytes.items ≡ bytes_of export.now) }
+    ensures value { OnOk result (IsExport export.now) }
+{
+    let mut bytes = Vec::new(alloc);
+    encode_export_into(export, &mut bytes)?;
+    Ok(bytes)
+}

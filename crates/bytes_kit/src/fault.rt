@@ -1,0 +1,80 @@
+//! Why bytes are no export.
+ghost use Rattle.std.specs.Prelude.{◌≡◌};
+
+use attr_kit::NoMemory;
+use point_kit::ExportFault;
+use std::alloc::{AllocError, AllocFailed};
+use thiserror::Error;
+
+/// Why bytes are no export. A place counts bytes from 0; for `Truncated` it is the number of bytes.
+#[derive(Clone, Copy, Debug, PartialEq, Eq, Error)]
+pub enum DecodeFault {
+    /// The bytes end within the export.
+    #[error("the bytes end at {0}, within the export")]
+    Truncated(usize),
+    /// The bytes do not begin as an export does.
+    #[error("byte {0} is not that of an export")]
+    BadMagic(usize),
+    /// The version is not one that is known here.
+    #[error("the version at byte {0} is not known")]
+    BadVersion(usize),
+    /// The value at this place is written so by none: a number in more bytes than it wants, a tag that there is not, keys
+    /// that do not rise, or bytes behind the end.
+    #[error("the value at byte {0} is not in its one form")]
+    NotCanonical(usize),
+    /// The text at this place is not UTF-8.
+    #[error("the text at byte {0} is not UTF-8")]
+    NotText(usize),
+    /// The checksum at this place is not that of the bytes before it.
+    #[error("the checksum at byte {0} is not that of the bytes before it")]
+    BadChecksum(usize),
+    /// The values make no export.
+    #[error("{0}")]
+    BadExport(ExportFault),
+    /// Memory was refused.
+    #[error("no memory")]
+    NoMemory,
+}
+
+impl From<NoMemory> for DecodeFault {
+    ghost use Rattle.bytes_kit.specs.declared.fault.DecodeFault.TheVariants as faults;
+
+    ghost from_gives = { λ _ e. e ≡ faults.NoMemory };
+
+    fn from(_error: NoMemory) -> DecodeFault {
+        DecodeFault::NoMemory
+    }
+}
+
+impl From<AllocError> for DecodeFault {
+    ghost use Rattle.bytes_kit.specs.declared.fault.DecodeFault.TheVariants as faults;
+
+    ghost from_gives = { λ _ e. e ≡ faults.NoMemory };
+
+    fn from(_error: AllocError) -> DecodeFault {
+        DecodeFault::NoMemory
+    }
+}
+
+impl<T: Drop> From<AllocFailed<T>> for DecodeFault {
+    ghost use Rattle.bytes_kit.specs.declared.fault.DecodeFault.TheVariants as faults;
+
+    ghost from_gives = { λ _ e. e ≡ faults.NoMemory };
+
+    fn from(_error: AllocFailed<T>) -> DecodeFault {
+        DecodeFault::NoMemory
+    }
+}
+
+impl From<ExportFault> for DecodeFault {
+    ghost use Rattle.bytes_kit.specs.Faults.{decode_fault};
+
+    ghost from_gives = { λ fault e. e ≡ decode_fault fault };
+
+    fn from(fault: ExportFault) -> DecodeFault {
+        match fault {
+            ExportFault::NoMemory => DecodeFault::NoMemory,
+            fault => DecodeFault::BadExport(fault),
+        }
+    }
+}

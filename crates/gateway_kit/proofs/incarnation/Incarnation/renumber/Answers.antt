@@ -1,0 +1,17 @@
+use Rattle.std.proofs.Common.{List, ap, sym, subst, ◌∙◌, arith}
+use Rattle.std.specs.FinMap.Entries.{is_sorted}
+use Rattle.gateway_kit.specs.Changing.{Entry}
+use Rattle.gateway_kit.specs.Keys.{item_cmp}
+use Rattle.gateway_kit.specs.Tallies.{IsTally}
+use Rattle.gateway_kit.proofs.ItemMoves.{all_up_to, shows_numbered}
+use Rattle.gateway_kit.proofs.incarnation.Incarnation.renumber.Goals as goal
+
+pub invariant_of-self : goal.invariant_of-self
+invariant_of-self c = record {
+  sorted = ap (is_sorted item_cmp) c.number_all.ensures.entries ∙ c.self.invariant.sorted;
+  tallied = subst (λ (es : List Entry). IsTally es c.self.inside.tally) (sym c.number_all.ensures.entries) c.self.invariant.tallied;
+  up_to = all_up_to c.args.number c.number_all.new.items.items c.number_all.ensures.numbers c.args.number (omega arith);
+}
+
+pub returns-clause-numbers : goal.returns-clause-numbers
+returns-clause-numbers c = shows_numbered c.args.number c.self.inside.writer c.self.inside.start c.number_all.new.items.items (ap (is_sorted item_cmp) c.number_all.ensures.entries ∙ c.self.invariant.sorted) c.number_all.ensures.numbers

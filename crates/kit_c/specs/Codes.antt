@@ -1,0 +1,68 @@
+-- The code of each refusal.
+use Rattle.std.specs.Prelude.{ℤ, pos}
+use Rattle.agg_kit.specs.declared.fault.MeasureFault.TheVariants as tallies
+use Rattle.attr_kit.specs.declared.error.AttrFault.{AttrFault}
+use Rattle.attr_kit.specs.declared.error.AttrFault.TheVariants as sets
+use Rattle.plan_kit.specs.declared.fault.PlanFault.{PlanFault}
+use Rattle.plan_kit.specs.declared.fault.PlanFault.TheVariants as plans
+use Rattle.writer_kit.specs.declared.fault.CollectFault.{CollectFault}
+use Rattle.writer_kit.specs.declared.fault.CollectFault.TheVariants as collections
+use Rattle.writer_kit.specs.declared.fault.MeasureFault.{MeasureFault}
+use Rattle.writer_kit.specs.declared.fault.MeasureFault.TheVariants as recordings
+use Rattle.writer_kit.specs.declared.fault.RestartFault.{RestartFault}
+use Rattle.writer_kit.specs.declared.fault.RestartFault.TheVariants as restarts
+use Rattle.kit_c.specs.declared.fault.Fault.{Fault}
+use Rattle.kit_c.specs.declared.fault.Fault.TheVariants as faults
+
+-- want of memory, whoever finds it
+abbrev pub no_memory : ℤ
+no_memory = pos 1
+
+abbrev pub recording_code : MeasureFault → ℤ
+recording_code recordings.Closed = pos 10
+recording_code (recordings.Refused tallies.NoInstrument) = pos 11
+recording_code (recordings.Refused tallies.Negative) = pos 12
+recording_code (recordings.Refused (tallies.Overflow stream)) = pos 13
+recording_code (recordings.Refused tallies.NoMemory) = no_memory
+
+abbrev pub collection_code : CollectFault → ℤ
+collection_code collections.Closed = pos 10
+collection_code (collections.TimeNotAfter last) = pos 14
+collection_code collections.NoMemory = no_memory
+
+abbrev pub restart_code : RestartFault → ℤ
+restart_code (restarts.StartNotAfter start) = pos 15
+restart_code restarts.NoMemory = no_memory
+
+abbrev pub attributes_code : AttrFault → ℤ
+attributes_code (sets.EmptyKey pair) = pos 20
+attributes_code sets.NoMemory = no_memory
+
+abbrev pub plan_code : PlanFault → ℤ
+plan_code (plans.BadName i) = pos 30
+plan_code (plans.BadUnit i) = pos 31
+plan_code (plans.BadBounds v) = pos 32
+plan_code (plans.BadRename v) = pos 33
+plan_code (plans.WildcardRename v) = pos 34
+plan_code (plans.BadAggregation i v) = pos 35
+plan_code (plans.SameStream i j) = pos 36
+plan_code plans.BadLimit = pos 37
+plan_code plans.NoMemory = no_memory
+
+-- the first ten are refusals of the boundary
+abbrev pub code_of : Fault → ℤ
+code_of faults.NoMemory = no_memory
+code_of faults.Nothing = pos 2
+code_of faults.WrongKind = pos 3
+code_of faults.Full = pos 4
+code_of faults.NotText = pos 5
+code_of faults.BadNumber = pos 6
+code_of faults.NoSet = pos 7
+code_of faults.NoRow = pos 8
+code_of faults.NoPoint = pos 9
+code_of faults.TooWide = pos 40
+code_of (faults.Measure f) = recording_code f
+code_of (faults.Collect f) = collection_code f
+code_of (faults.Restart f) = restart_code f
+code_of (faults.Attributes f) = attributes_code f
+code_of (faults.Plan f) = plan_code f

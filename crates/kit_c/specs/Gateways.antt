@@ -1,0 +1,49 @@
+-- What gateways behind handles take.
+use Rattle.std.specs.Prelude.{ℕ, [], ◌∷◌, count_by, Option, Some, None}
+use Rattle.std.specs.FinMap as finite
+use Rattle.std.specs.FinMap.{entries}
+use Rattle.gateway_kit.specs.Queries.{has_conflict}
+use Rattle.point_kit.specs.Exports.{Points, state, join_points, changed_points}
+use Rattle.kit_c.specs.declared.fault.Fault.{Fault}
+use Rattle.kit_c.specs.declared.fault.Fault.TheVariants as faults
+use Rattle.kit_c.specs.declared.held.Held.{Held}
+use Rattle.kit_c.specs.declared.held.Held.TheVariants.{Export, Gateway}
+
+-- the first can't take the second: a gateway takes exports
+abbrev pub taking_fault : Held → Held → Option Fault
+taking_fault (Gateway g) (Export e) = None
+taking_fault h other = Some faults.WrongKind
+
+-- a gateway with the points of an export
+abbrev pub after_take : Held → Held → Held
+after_take (Gateway g) (Export e) = Gateway (record g { points = join_points g.points (state (e ∷ [])) })
+after_take h other = h
+
+-- the first can't merge the second: gateways merge
+abbrev pub merging_fault : Held → Held → Option Fault
+merging_fault (Gateway g) (Gateway other) = None
+merging_fault h other = Some faults.WrongKind
+
+-- a gateway with the points of another
+abbrev pub after_merge : Held → Held → Held
+after_merge (Gateway g) (Gateway other) = Gateway (record g { points = join_points g.points other.points })
+after_merge h other = h
+
+-- the number of keys at which two gateways differ
+abbrev pub changes_of : Held → Held → ℕ
+changes_of (Gateway g) (Gateway other) = changed_points g.points other.points
+changes_of h other = 0
+
+-- a thing is no gateway
+abbrev pub gateway_fault : Held → Option Fault
+gateway_fault (Gateway g) = None
+gateway_fault h = Some faults.WrongKind
+
+-- what a gateway holds
+abbrev pub points_of : Held → Points
+points_of (Gateway g) = g.points
+points_of h = finite.empty
+
+-- the number of its conflicts
+abbrev pub conflicts_of : Held → ℕ
+conflicts_of h = count_by (λ e. has_conflict e.1) (entries (points_of h))

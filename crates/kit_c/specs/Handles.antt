@@ -1,0 +1,42 @@
+-- What calls make of what handles have.
+use Rattle.std.specs.Prelude.{ℕ, ℤ, Bool, List, [], Option, Some, None}
+use Rattle.agg_kit.specs.Entries.{entry_of}
+use Rattle.attr_kit.specs.declared.attr_value.AttrValue.{AttrValue}
+use Rattle.writer_kit.specs.Recording.{after_collect, after_restart, recorded}
+use Rattle.kit_c.specs.declared.held.Held.{Held}
+use Rattle.kit_c.specs.declared.held.Held.TheVariants.{Attributes, Pairs, Text, Writer}
+
+-- a writer with a recording of the value x, by the instrument i, at the attributes that the second has
+abbrev pub after_recording : ℕ → ℤ → Held → Held → Held
+after_recording i x (Writer w ss) (Attributes a) = Writer (recorded w (entry_of i a x)) ss
+after_recording i x h other = h
+
+-- the same of handles, of which one may have nothing
+abbrev pub in_first : (Held → Held → Held) → Option Held → Option Held → Option Held
+in_first change (Some h) (Some other) = Some (change h other)
+in_first change m n = m
+
+-- the pairs that a handle has
+abbrev pub pairs_of : Option Held → List (List ℕ × AttrValue)
+pairs_of (Some (Pairs ps)) = ps
+pairs_of m = []
+
+-- what a handle has once it was changed
+abbrev pub in_one : (Held → Held) → Option Held → Option Held
+in_one change (Some h) = Some (change h)
+in_one change None = None
+
+-- a writer after a collection, which closes it or not
+abbrev pub after_collection : ℕ → Bool → Held → Held
+after_collection time closing (Writer w ss) = Writer (after_collect w time closing) ss
+after_collection time closing h = h
+
+-- a writer after a restart
+abbrev pub after_restarting : ℕ → Held → Held
+after_restarting start (Writer w ss) = Writer (after_restart w start) ss
+after_restarting start h = h
+
+-- the bytes of a text
+abbrev pub bytes_of : Held → List ℕ
+bytes_of (Text t) = t
+bytes_of h = []

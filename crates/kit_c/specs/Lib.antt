@@ -1,0 +1,14 @@
+pub mod Asks
+pub mod Codes
+pub mod Faults
+pub mod Gateways
+pub mod Handles
+pub mod Keys
+pub mod Kinds
+pub mod Numbers
+pub mod Owned
+pub mod Places
+pub mod Plans
+pub mod Rows
+pub mod Views
+pub mod Writers

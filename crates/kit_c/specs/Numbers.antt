@@ -1,0 +1,45 @@
+-- Sets that writers hold by number, and recordings by them.
+use Rattle.std.specs.Prelude.{ℕ, ℤ, [], ◌∷◌, ◌++◌, length, slice_get, Option, Some, None}
+use Rattle.std.specs.Option.{option_map}
+use Rattle.agg_kit.specs.Entries.{entry_of}
+use Rattle.attr_kit.specs.declared.attr_set.AttrSet.{AttrSet}
+use Rattle.writer_kit.specs.Recording.{recorded}
+use Rattle.writer_kit.specs.Refusals.{fault_now}
+use Rattle.writer_kit.specs.Written.{Written}
+use Rattle.kit_c.specs.declared.fault.Fault.{Fault}
+use Rattle.kit_c.specs.declared.fault.Fault.TheVariants as faults
+use Rattle.kit_c.specs.declared.held.Held.{Held}
+use Rattle.kit_c.specs.declared.held.Held.TheVariants.{Attributes, Writer}
+
+-- the first can't hold the second: writers hold sets
+abbrev pub holding_fault : Held → Held → Option Fault
+holding_fault (Writer w ss) (Attributes a) = None
+holding_fault h other = Some faults.WrongKind
+
+-- a writer that holds one set more
+abbrev pub after_holding : Held → Held → Held
+after_holding (Writer w ss) (Attributes a) = Writer w (ss ++ a ∷ [])
+after_holding h other = h
+
+-- how many sets a writer holds
+abbrev pub sets_len : Held → ℕ
+sets_len (Writer w ss) = length ss
+sets_len h = 0
+
+-- a recording at a set that there may not be
+abbrev pub set_fault : ℕ → ℤ → Written → Option AttrSet → Option Fault
+set_fault i x w (Some a) = option_map (λ f. faults.Measure f) (fault_now w (entry_of i a x))
+set_fault i x w None = Some faults.NoSet
+
+abbrev pub recorded_at : ℕ → ℤ → Written → Option AttrSet → Written
+recorded_at i x w (Some a) = recorded w (entry_of i a x)
+recorded_at i x w None = w
+
+-- a recording at the set of a number
+abbrev pub numbered_fault : ℕ → ℕ → ℤ → Held → Option Fault
+numbered_fault i n x (Writer w ss) = set_fault i x w (slice_get ss n)
+numbered_fault i n x h = Some faults.WrongKind
+
+abbrev pub after_numbered : ℕ → ℕ → ℤ → Held → Held
+after_numbered i n x (Writer w ss) = Writer (recorded_at i x w (slice_get ss n)) ss
+after_numbered i n x h = h

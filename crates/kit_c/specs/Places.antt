@@ -1,0 +1,46 @@
+-- What refusals carry: the place, or the time, that they are about.
+use Rattle.std.specs.Prelude.{ℕ, Option, Some, None}
+use Rattle.std.specs.Option.{unwrap_or}
+use Rattle.agg_kit.specs.declared.fault.MeasureFault.TheVariants as tallies
+use Rattle.attr_kit.specs.declared.error.AttrFault.TheVariants as sets
+use Rattle.plan_kit.specs.declared.fault.PlanFault.{PlanFault}
+use Rattle.plan_kit.specs.declared.fault.PlanFault.TheVariants as plans
+use Rattle.writer_kit.specs.declared.fault.CollectFault.TheVariants as collections
+use Rattle.writer_kit.specs.declared.fault.MeasureFault.TheVariants as recordings
+use Rattle.writer_kit.specs.declared.fault.RestartFault.TheVariants as restarts
+use Rattle.kit_c.specs.declared.fault.Fault.{Fault}
+use Rattle.kit_c.specs.declared.fault.Fault.TheVariants as faults
+
+abbrev pub plan_place : PlanFault → Option ℕ
+plan_place (plans.BadName i) = Some i
+plan_place (plans.BadUnit i) = Some i
+plan_place (plans.BadBounds v) = Some v
+plan_place (plans.BadRename v) = Some v
+plan_place (plans.WildcardRename v) = Some v
+plan_place (plans.BadAggregation i v) = Some i
+plan_place (plans.SameStream i j) = Some i
+plan_place other = None
+
+-- the place of a refusal, or the first where it has two
+abbrev pub place_of : Fault → Option ℕ
+place_of (faults.Measure (recordings.Refused (tallies.Overflow stream))) = Some stream
+place_of (faults.Collect (collections.TimeNotAfter last)) = Some last
+place_of (faults.Restart (restarts.StartNotAfter start)) = Some start
+place_of (faults.Attributes (sets.EmptyKey pair)) = Some pair
+place_of (faults.Plan f) = plan_place f
+place_of other = None
+
+-- the second
+abbrev pub second_of : Fault → Option ℕ
+second_of (faults.Plan (plans.BadAggregation i v)) = Some v
+second_of (faults.Plan (plans.SameStream i j)) = Some j
+second_of other = None
+
+-- what a caller then reads: what the refusal carries, or what was there
+abbrev pub place_after : Option Fault → ℕ → ℕ
+place_after None before = before
+place_after (Some f) before = unwrap_or (place_of f) before
+
+abbrev pub second_after : Option Fault → ℕ → ℕ
+second_after None before = before
+second_after (Some f) before = unwrap_or (second_of f) before

@@ -1,0 +1,205 @@
+//! Attributes: pairs are written down one by one, and sets are made of them.
+ghost use Rattle.std.specs.Prelude.{◌≡◌, ◌≢◌, ◌++◌, ◌∷◌, [], pos, None, Some, OnOk, OnErr, IfErr, IfOk};
+ghost use Rattle.std.specs.Option.{option_map};
+ghost use Rattle.attr_kit.specs.Putting.{attributes_of};
+ghost use Rattle.attr_kit.specs.Refusing.{first};
+ghost use Rattle.attr_kit.specs.declared.attr_value.AttrValue.TheVariants as values;
+ghost use Rattle.kit_c.specs.Codes.{code_of, no_memory};
+ghost use Rattle.kit_c.specs.Faults.{full_fault, no_pairs, set_fault, text_fault};
+ghost use Rattle.kit_c.specs.Handles.{pairs_of};
+ghost use Rattle.kit_c.specs.Places.{place_after};
+ghost use Rattle.kit_c.specs.declared.held.Held.TheVariants.{Attributes, Pairs};
+
+use crate::fault::{FULL, Fault, OK, refused};
+use crate::handle::KitHandle;
+use crate::held::Held;
+use crate::list::push;
+use crate::text::text_of;
+use attr_kit::{AttrSet, AttrValue, Seq, TryCopy, Txt};
+use std::alloc::Global;
+
+fn pushed(alloc: Global, held: &mut Held, key: Txt, value: AttrValue) -> Result<(), Fault>
+    ensures ok { OnOk result (no_pairs (Some held.old) ≡ None) }
+    ensures value { OnOk result (held.new ≡ Pairs (pairs_of (Some held.old) ++ (key, value) ∷ [])) }
+    ensures err { IfErr result (λ f. code_of f ≢ no_memory → no_pairs (Some held.old) ≡ Some f) }
+    ensures unchanged { OnErr result (held.new ≡ held.old) }
+{
+    let Held::Pairs(pairs) = held else {
+        return Err(Fault::WrongKind);
+    };
+    push(alloc, pairs, (key, value))?;
+    Ok(())
+}
+
+fn added(alloc: Global, pairs: &mut KitHandle, key: Txt, value: AttrValue) -> Result<(), Fault>
+    ensures ok { OnOk result (no_pairs pairs.old.inner.value ≡ None) }
+    ensures value { OnOk result (pairs.new.inner.value ≡ Some (Pairs (pairs_of pairs.old.inner.value ++ (key, value) ∷ []))) }
+    ensures err { IfErr result (λ f. code_of f ≢ no_memory → no_pairs pairs.old.inner.value ≡ Some f) }
+    ensures unchanged { OnErr result (pairs.new.inner.value ≡ pairs.old.inner.value) }
+{
+    match pairs.take(alloc) {
+        Some(mut held) => {
+            let outcome = pushed(alloc, &mut held, key, value);
+            pairs.put(held);
+            outcome
+        }
+        None => {
+            let mut first = Held::Pairs(Seq::new(alloc));
+            pushed(alloc, &mut first, key, value)?;
+            pairs.put(Box::new(alloc, first)?);
+            Ok(())
+        }
+    }
+}
+
+/// Adds a pair whose value is a text. An empty handle begins with it.
+///
+/// Refused, in this order: `NOT_TEXT` where the key or else the value is no UTF-8, `WRONG_KIND`, `NO_MEMORY`.
+#[unsafe(no_mangle)]
+pub extern "C" fn kit_pairs_add_text(
+    alloc: Global,
+    pairs: &mut KitHandle,
+    key: &[u8],
+    value: &[u8],
+) -> i32
+    ensures ok { result ≡ pos 0 → first (text_fault key.now ∷ text_fault value.now ∷ no_pairs pairs.old.inner.value ∷ []) ≡ None }
+    ensures value { result ≡ pos 0
+        → pairs.new.inner.value ≡ Some (Pairs (pairs_of pairs.old.inner.value ++ (key.now, values.Text value.now) ∷ [])) }
+    ensures err { result ≢ pos 0 → result ≢ no_memory
+        → option_map code_of (first (text_fault key.now ∷ text_fault value.now ∷ no_pairs pairs.old.inner.value ∷ [])) ≡ Some result }
+    ensures unchanged { result ≢ pos 0 → pairs.new.inner.value ≡ pairs.old.inner.value }
+{
+    let key = match text_of(alloc, key) {
+        Ok(key) => key,
+        Err(fault) => return fault.code(),
+    };
+    let value = match text_of(alloc, value) {
+        Ok(value) => value,
+        Err(fault) => return fault.code(),
+    };
+    match added(alloc, pairs, key, AttrValue::Text(value)) {
+        Ok(()) => OK,
+        Err(fault) => fault.code(),
+    }
+}
+
+/// Adds a pair whose value is a whole number. An empty handle begins with it.
+///
+/// Refused, in this order: `NOT_TEXT` where the key is no UTF-8, `WRONG_KIND`, `NO_MEMORY`.
+#[unsafe(no_mangle)]
+pub extern "C" fn kit_pairs_add_whole(
+    alloc: Global,
+    pairs: &mut KitHandle,
+    key: &[u8],
+    value: i64,
+) -> i32
+    ensures ok { result ≡ pos 0 → first (text_fault key.now ∷ no_pairs pairs.old.inner.value ∷ []) ≡ None }
+    ensures value { result ≡ pos 0
+        → pairs.new.inner.value ≡ Some (Pairs (pairs_of pairs.old.inner.value ++ (key.now, values.Whole value) ∷ [])) }
+    ensures err { result ≢ pos 0 → result ≢ no_memory
+        → option_map code_of (first (text_fault key.now ∷ no_pairs pairs.old.inner.value ∷ [])) ≡ Some result }
+    ensures unchanged { result ≢ pos 0 → pairs.new.inner.value ≡ pairs.old.inner.value }
+{
+    let key = match text_of(alloc, key) {
+        Ok(key) => key,
+        Err(fault) => return fault.code(),
+    };
+    match added(alloc, pairs, key, AttrValue::Whole(value)) {
+        Ok(()) => OK,
+        Err(fault) => fault.code(),
+    }
+}
+
+/// Adds a pair whose value is a truth. An empty handle begins with it.
+///
+/// Refused, in this order: `NOT_TEXT` where the key is no UTF-8, `WRONG_KIND`, `NO_MEMORY`.
+#[unsafe(no_mangle)]
+pub extern "C" fn kit_pairs_add_truth(
+    alloc: Global,
+    pairs: &mut KitHandle,
+    key: &[u8],
+    value: bool,
+) -> i32
+    ensures ok { result ≡ pos 0 → first (text_fault key.now ∷ no_pairs pairs.old.inner.value ∷ []) ≡ None }
+    ensures value { result ≡ pos 0
+        → pairs.new.inner.value ≡ Some (Pairs (pairs_of pairs.old.inner.value ++ (key.now, values.Truth value) ∷ [])) }
+    ensures err { result ≢ pos 0 → result ≢ no_memory
+        → option_map code_of (first (text_fault key.now ∷ no_pairs pairs.old.inner.value ∷ [])) ≡ Some result }
+    ensures unchanged { result ≢ pos 0 → pairs.new.inner.value ≡ pairs.old.inner.value }
+{
+    let key = match text_of(alloc, key) {
+        Ok(key) => key,
+        Err(fault) => return fault.code(),
+    };
+    match added(alloc, pairs, key, AttrValue::Truth(value)) {
+        Ok(()) => OK,
+        Err(fault) => fault.code(),
+    }
+}
+
+/// A copy of the pairs that a handle has, of none where it has nothing.
+pub(crate) fn copy_of_pairs(
+    alloc: Global,
+    pairs: &mut KitHandle,
+) -> Result<Seq<(Txt, AttrValue)>, Fault>
+    ensures ok { OnOk result (no_pairs pairs.old.inner.value ≡ None) }
+    ensures value { IfOk result (λ copy. copy ≡ pairs_of pairs.old.inner.value) }
+    ensures err { IfErr result (λ f. code_of f ≢ no_memory → no_pairs pairs.old.inner.value ≡ Some f) }
+    ensures kept { pairs.new.inner.value ≡ pairs.old.inner.value }
+{
+    let Some(held) = pairs.take(alloc) else {
+        return Ok(Seq::new(alloc));
+    };
+    let copy = match &*held {
+        Held::Pairs(pairs) => pairs.try_copy(),
+        _ => {
+            pairs.put(held);
+            return Err(Fault::WrongKind);
+        }
+    };
+    pairs.put(held);
+    Ok(copy?)
+}
+
+fn set_of(alloc: Global, pairs: &mut KitHandle) -> Result<AttrSet, Fault>
+    ensures ok { OnOk result (set_fault pairs.old.inner.value ≡ None) }
+    ensures value { IfOk result (λ set. set ≡ attributes_of (pairs_of pairs.old.inner.value)) }
+    ensures err { IfErr result (λ f. code_of f ≢ no_memory → set_fault pairs.old.inner.value ≡ Some f) }
+    ensures kept { pairs.new.inner.value ≡ pairs.old.inner.value }
+{
+    let copy = copy_of_pairs(alloc, pairs)?;
+    match AttrSet::from_pairs(copy.into_vec()) {
+        Ok(set) => Ok(set),
+        Err(fault) => Err(Fault::Attributes(fault)),
+    }
+}
+
+/// Makes a set of the pairs that a handle has, or of none where it has nothing. The pairs stay.
+///
+/// Refused, in this order: `FULL`, `WRONG_KIND`, `EMPTY_KEY` with the least place of an empty key, `NO_MEMORY`. O(n log n)
+/// comparisons of keys, O(n) where they rise already.
+#[unsafe(no_mangle)]
+pub extern "C" fn kit_attributes_make(
+    alloc: Global,
+    attributes: &mut KitHandle,
+    pairs: &mut KitHandle,
+    place: &mut u64,
+) -> i32
+    ensures ok { result ≡ pos 0 → first (full_fault attributes.old.inner.value ∷ set_fault pairs.old.inner.value ∷ []) ≡ None }
+    ensures value { result ≡ pos 0
+        → attributes.new.inner.value ≡ Some (Attributes (attributes_of (pairs_of pairs.old.inner.value))) }
+    ensures err { result ≢ pos 0 → result ≢ no_memory
+        → option_map code_of (first (full_fault attributes.old.inner.value ∷ set_fault pairs.old.inner.value ∷ [])) ≡ Some result }
+    ensures place { result ≢ no_memory
+        → place.new ≡ place_after (first (full_fault attributes.old.inner.value ∷ set_fault pairs.old.inner.value ∷ [])) place.old }
+    ensures unchanged { result ≢ pos 0 → attributes.new.inner.value ≡ attributes.old.inner.value }
+    ensures kept { pairs.new.inner.value ≡ pairs.old.inner.value }
+{
+    if attributes.full {
+        return FULL;
+    }
+    match set_of(alloc, pairs) {
+        Ok(set) => attributes.filled(alloc, Held::Attributes(set)),
+        Err(fault) => refused(fault, place),
+    }
+}

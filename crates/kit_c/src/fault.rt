@@ -1,0 +1,238 @@
+//! Why calls are refused, and the codes that say so.
+ghost use Rattle.std.specs.Prelude.{◌≡◌, ◌≢◌, pos, OnOk, OnErr, IfErr, IfOk};
+ghost use Rattle.std.specs.Option.{unwrap_or};
+ghost use Rattle.kit_c.specs.Codes.{code_of, recording_code, collection_code, restart_code, attributes_code, plan_code, no_memory};
+ghost use Rattle.kit_c.specs.Places.{place_of, plan_place, second_of};
+
+use agg_kit::MeasureFault as TallyFault;
+use attr_kit::{AttrFault, NoMemory};
+use plan_kit::PlanFault;
+use std::alloc::{AllocError, AllocFailed};
+use writer_kit::{CollectFault, MeasureFault, RestartFault};
+
+/// The call did what it says.
+pub(crate) const OK: i32 = 0;
+
+/// Memory was refused.
+pub(crate) const NO_MEMORY: i32 = 1;
+
+/// A handle that is read has nothing.
+pub(crate) const NOTHING: i32 = 2;
+
+/// The handle that is to be filled has something.
+pub(crate) const FULL: i32 = 4;
+
+/// Why a call is refused.
+#[derive(Drop)]
+pub enum Fault {
+    /// Memory was refused.
+    NoMemory,
+    /// A handle that is read has nothing.
+    Nothing,
+    /// A handle has something else than is asked for.
+    WrongKind,
+    /// The handle that is to be filled has something.
+    Full,
+    /// A text is not UTF-8.
+    NotText,
+    /// A number stands for nothing here.
+    BadNumber,
+    /// The writer holds no set of this number.
+    NoSet,
+    /// There is no row of this number.
+    NoRow,
+    /// There is no point of what is asked for.
+    NoPoint,
+    /// A total is wider than the number that it is to be told in.
+    TooWide,
+    Measure(MeasureFault),
+    Collect(CollectFault),
+    Restart(RestartFault),
+    Attributes(AttrFault),
+    Plan(PlanFault),
+}
+
+impl From<NoMemory> for Fault {
+    ghost use Rattle.kit_c.specs.declared.fault.Fault.TheVariants as faults;
+
+    ghost from_gives = { λ _ e. e ≡ faults.NoMemory };
+
+    fn from(_error: NoMemory) -> Fault {
+        Fault::NoMemory
+    }
+}
+
+impl From<AllocError> for Fault {
+    ghost use Rattle.kit_c.specs.declared.fault.Fault.TheVariants as faults;
+
+    ghost from_gives = { λ _ e. e ≡ faults.NoMemory };
+
+    fn from(_error: AllocError) -> Fault {
+        Fault::NoMemory
+    }
+}
+
+impl<T: Drop> From<AllocFailed<T>> for Fault {
+    ghost use Rattle.kit_c.specs.declared.fault.Fault.TheVariants as faults;
+
+    ghost from_gives = { λ _ e. e ≡ faults.NoMemory };
+
+    fn from(_error: AllocFailed<T>) -> Fault {
+        Fault::NoMemory
+    }
+}
+
+fn of_recording(fault: &MeasureFault) -> i32
+    ensures code { result ≡ recording_code fault.now }
+    ensures refused { result ≢ pos 0 }
+{
+    match fault {
+        MeasureFault::Closed => 10,
+        MeasureFault::Refused(TallyFault::NoInstrument) => 11,
+        MeasureFault::Refused(TallyFault::Negative) => 12,
+        MeasureFault::Refused(TallyFault::Overflow(_)) => 13,
+        MeasureFault::Refused(TallyFault::NoMemory) => 1,
+    }
+}
+
+fn of_collection(fault: &CollectFault) -> i32
+    ensures code { result ≡ collection_code fault.now }
+    ensures refused { result ≢ pos 0 }
+{
+    match fault {
+        CollectFault::Closed => 10,
+        CollectFault::TimeNotAfter(_) => 14,
+        CollectFault::NoMemory => 1,
+    }
+}
+
+fn of_restart(fault: &RestartFault) -> i32
+    ensures code { result ≡ restart_code fault.now }
+    ensures refused { result ≢ pos 0 }
+{
+    match fault {
+        RestartFault::StartNotAfter(_) => 15,
+        RestartFault::NoMemory => 1,
+    }
+}
+
+fn of_attributes(fault: &AttrFault) -> i32
+    ensures code { result ≡ attributes_code fault.now }
+    ensures refused { result ≢ pos 0 }
+{
+    match fault {
+        AttrFault::EmptyKey(_) => 20,
+        AttrFault::NoMemory => 1,
+    }
+}
+
+fn of_plan(fault: &PlanFault) -> i32
+    ensures code { result ≡ plan_code fault.now }
+    ensures refused { result ≢ pos 0 }
+{
+    match fault {
+        PlanFault::BadName(_) => 30,
+        PlanFault::BadUnit(_) => 31,
+        PlanFault::BadBounds(_) => 32,
+        PlanFault::BadRename(_) => 33,
+        PlanFault::WildcardRename(_) => 34,
+        PlanFault::BadAggregation(_, _) => 35,
+        PlanFault::SameStream(_, _) => 36,
+        PlanFault::BadLimit => 37,
+        PlanFault::NoMemory => 1,
+    }
+}
+
+impl Fault {
+    /// The code of a refusal.
+    pub(crate) fn code(&self) -> i32
+        ensures code { result ≡ code_of self.now }
+        ensures refused { result ≢ pos 0 }
+    {
+        match self {
+            Fault::NoMemory => 1,
+            Fault::Nothing => 2,
+            Fault::WrongKind => 3,
+            Fault::Full => 4,
+            Fault::NotText => 5,
+            Fault::BadNumber => 6,
+            Fault::NoSet => 7,
+            Fault::NoRow => 8,
+            Fault::NoPoint => 9,
+            Fault::TooWide => 40,
+            Fault::Measure(fault) => of_recording(fault),
+            Fault::Collect(fault) => of_collection(fault),
+            Fault::Restart(fault) => of_restart(fault),
+            Fault::Attributes(fault) => of_attributes(fault),
+            Fault::Plan(fault) => of_plan(fault),
+        }
+    }
+
+    /// The place or the time that a refusal carries.
+    fn place(&self) -> Option<u64>
+        ensures { result ≡ place_of self.now }
+    {
+        match self {
+            Fault::Measure(MeasureFault::Refused(TallyFault::Overflow(stream))) => Some(
+                *stream as u64,
+            ),
+            Fault::Collect(CollectFault::TimeNotAfter(last)) => Some(*last),
+            Fault::Restart(RestartFault::StartNotAfter(start)) => Some(*start),
+            Fault::Attributes(AttrFault::EmptyKey(pair)) => Some(*pair as u64),
+            Fault::Plan(fault) => plan_place(fault),
+            _ => None,
+        }
+    }
+
+    /// The second place of the refusals that carry two.
+    fn second(&self) -> Option<u64>
+        ensures { result ≡ second_of self.now }
+    {
+        match self {
+            Fault::Plan(PlanFault::BadAggregation(_, view)) => Some(*view as u64),
+            Fault::Plan(PlanFault::SameStream(_, second)) => Some(*second as u64),
+            _ => None,
+        }
+    }
+}
+
+fn plan_place(fault: &PlanFault) -> Option<u64>
+    ensures { result ≡ plan_place fault.now }
+{
+    match fault {
+        PlanFault::BadName(instrument) => Some(*instrument as u64),
+        PlanFault::BadUnit(instrument) => Some(*instrument as u64),
+        PlanFault::BadBounds(view) => Some(*view as u64),
+        PlanFault::BadRename(view) => Some(*view as u64),
+        PlanFault::WildcardRename(view) => Some(*view as u64),
+        PlanFault::BadAggregation(instrument, _) => Some(*instrument as u64),
+        PlanFault::SameStream(first, _) => Some(*first as u64),
+        PlanFault::BadLimit => None,
+        PlanFault::NoMemory => None,
+    }
+}
+
+/// Tells the place that a refusal carries, and answers with its code.
+pub(crate) fn refused(fault: Fault, place: &mut u64) -> i32
+    ensures code { result ≡ code_of fault }
+    ensures refused { result ≢ pos 0 }
+    ensures place { place.new ≡ unwrap_or (place_of fault) place.old }
+{
+    if let Some(told) = fault.place() {
+        *place = told;
+    }
+    fault.code()
+}
+
+/// The same of a refusal that may carry two.
+pub(crate) fn refused_twice(fault: Fault, first: &mut u64, second: &mut u64) -> i32
+    ensures code { result ≡ code_of fault }
+    ensures refused { result ≢ pos 0 }
+    ensures first { first.new ≡ unwrap_or (place_of fault) first.old }
+    ensures second { second.new ≡ unwrap_or (second_of fault) second.old }
+{
+    if let Some(told) = fault.second() {
+        *second = told;
+    }
+    refused(fault, first)
+}

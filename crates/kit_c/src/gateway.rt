@@ -1,0 +1,232 @@
+//! Gateways: what they take of exports and of each other.
+ghost use Rattle.std.specs.Prelude.{◌≡◌, ◌≢◌, ◌↔◌, pos, IsTrue, None, Some, OnOk, OnErr, IfErr, IfOk};
+ghost use Rattle.std.specs.FinMap as finite;
+ghost use Rattle.std.specs.Option.{option_map};
+ghost use Rattle.kit_c.specs.Codes.{code_of, no_memory};
+ghost use Rattle.kit_c.specs.Faults.{full_fault, of_one, of_two};
+ghost use Rattle.kit_c.specs.Gateways.{after_merge, after_take, changes_of, conflicts_of, gateway_fault, merging_fault, points_of, taking_fault};
+ghost use Rattle.kit_c.specs.Handles.{in_first};
+ghost use Rattle.kit_c.specs.declared.held.Held.TheVariants as things;
+
+use crate::fault::{FULL, Fault, NOTHING, OK};
+use crate::handle::KitHandle;
+use crate::held::Held;
+use gateway_kit::Gateway;
+use std::alloc::Global;
+
+/// Opens a gateway without points, under an id. Refused: `FULL`, `NO_MEMORY`.
+#[unsafe(no_mangle)]
+pub extern "C" fn kit_gateway_open(alloc: Global, gateway: &mut KitHandle, id: u32) -> i32
+    ensures ok { result ≡ pos 0 → full_fault gateway.old.inner.value ≡ None }
+    ensures value { result ≡ pos 0
+        → gateway.new.inner.value ≡ Some (things.Gateway (record { id = id; points = finite.empty; numbers = finite.empty })) }
+    ensures err { result ≢ pos 0 → result ≢ no_memory → option_map code_of (full_fault gateway.old.inner.value) ≡ Some result }
+    ensures unchanged { result ≢ pos 0 → gateway.new.inner.value ≡ gateway.old.inner.value }
+{
+    if gateway.full {
+        return FULL;
+    }
+    gateway.filled(alloc, Held::Gateway(Gateway::new(alloc, id)))
+}
+
+fn taken(held: &mut Held, export: &Held) -> Result<u64, Fault>
+    ensures ok { OnOk result (taking_fault held.old export.now ≡ None) }
+    ensures value { OnOk result (held.new ≡ after_take held.old export.now) }
+    ensures changed { IfOk result (λ n. n ≡ changes_of held.old held.new) }
+    ensures err { IfErr result (λ f. code_of f ≢ no_memory → taking_fault held.old export.now ≡ Some f) }
+    ensures unchanged { OnErr result (held.new ≡ held.old) }
+{
+    let Held::Gateway(gateway) = held else {
+        return Err(Fault::WrongKind);
+    };
+    let Held::Export(export) = export else {
+        return Err(Fault::WrongKind);
+    };
+    Ok(gateway.take(export)?)
+}
+
+/// Joins the points of an export, which stays, and tells the number of keys whose points changed. An export that comes again
+/// changes nothing (OpenTelemetry Metrics Data Model, "Single-Writer").
+///
+/// Refused, in this order: `NOTHING` of the gateway, then of the export; `WRONG_KIND`; `NO_MEMORY`.
+#[unsafe(no_mangle)]
+pub extern "C" fn kit_gateway_take(
+    alloc: Global,
+    gateway: &mut KitHandle,
+    export: &mut KitHandle,
+    changed: &mut u64,
+) -> i32
+    ensures ok { result ≡ pos 0 → of_two gateway.old.inner.value export.old.inner.value taking_fault ≡ None }
+    ensures value { result ≡ pos 0 → gateway.new.inner.value ≡ in_first after_take gateway.old.inner.value export.old.inner.value }
+    ensures changed { result ≡ pos 0 → (h k : _) → gateway.old.inner.value ≡ Some h → gateway.new.inner.value ≡ Some k
+        → changed.new ≡ changes_of h k }
+    ensures err { result ≢ pos 0 → result ≢ no_memory
+        → option_map code_of (of_two gateway.old.inner.value export.old.inner.value taking_fault) ≡ Some result }
+    ensures unchanged { result ≢ pos 0 → gateway.new.inner.value ≡ gateway.old.inner.value }
+    ensures kept { export.new.inner.value ≡ export.old.inner.value }
+{
+    let Some(mut held) = gateway.take(alloc) else {
+        return NOTHING;
+    };
+    let Some(other) = export.take(alloc) else {
+        gateway.put(held);
+        return NOTHING;
+    };
+    let outcome = taken(&mut held, &other);
+    gateway.put(held);
+    export.put(other);
+    match outcome {
+        Ok(keys) => {
+            *changed = keys;
+            OK
+        }
+        Err(fault) => fault.code(),
+    }
+}
+
+fn merged(held: &mut Held, other: &Held) -> Result<u64, Fault>
+    ensures ok { OnOk result (merging_fault held.old other.now ≡ None) }
+    ensures value { OnOk result (held.new ≡ after_merge held.old other.now) }
+    ensures changed { IfOk result (λ n. n ≡ changes_of held.old held.new) }
+    ensures err { IfErr result (λ f. code_of f ≢ no_memory → merging_fault held.old other.now ≡ Some f) }
+    ensures unchanged { OnErr result (held.new ≡ held.old) }
+{
+    let Held::Gateway(gateway) = held else {
+        return Err(Fault::WrongKind);
+    };
+    let Held::Gateway(other) = other else {
+        return Err(Fault::WrongKind);
+    };
+    Ok(gateway.merge(other)?)
+}
+
+/// Joins what another gateway holds, which stays, and tells the number of keys whose points changed. What comes again changes
+/// nothing, in whatever order.
+///
+/// Refused, in this order: `NOTHING` of this gateway, then of the other; `WRONG_KIND`; `NO_MEMORY`.
+#[unsafe(no_mangle)]
+pub extern "C" fn kit_gateway_merge(
+    alloc: Global,
+    gateway: &mut KitHandle,
+    other: &mut KitHandle,
+    changed: &mut u64,
+) -> i32
+    ensures ok { result ≡ pos 0 → of_two gateway.old.inner.value other.old.inner.value merging_fault ≡ None }
+    ensures value { result ≡ pos 0 → gateway.new.inner.value ≡ in_first after_merge gateway.old.inner.value other.old.inner.value }
+    ensures changed { result ≡ pos 0 → (h k : _) → gateway.old.inner.value ≡ Some h → gateway.new.inner.value ≡ Some k
+        → changed.new ≡ changes_of h k }
+    ensures err { result ≢ pos 0 → result ≢ no_memory
+        → option_map code_of (of_two gateway.old.inner.value other.old.inner.value merging_fault) ≡ Some result }
+    ensures unchanged { result ≢ pos 0 → gateway.new.inner.value ≡ gateway.old.inner.value }
+    ensures kept { other.new.inner.value ≡ other.old.inner.value }
+{
+    let Some(mut held) = gateway.take(alloc) else {
+        return NOTHING;
+    };
+    let Some(from) = other.take(alloc) else {
+        gateway.put(held);
+        return NOTHING;
+    };
+    let outcome = merged(&mut held, &from);
+    gateway.put(held);
+    other.put(from);
+    match outcome {
+        Ok(keys) => {
+            *changed = keys;
+            OK
+        }
+        Err(fault) => fault.code(),
+    }
+}
+
+fn conflicts(held: &Held) -> Result<u64, Fault>
+    ensures ok { OnOk result (gateway_fault held.now ≡ None) }
+    ensures value { IfOk result (λ n. n ≡ conflicts_of held.now) }
+    ensures err { IfErr result (λ f. gateway_fault held.now ≡ Some f) }
+{
+    let Held::Gateway(gateway) = held else {
+        return Err(Fault::WrongKind);
+    };
+    Ok(gateway.conflicts())
+}
+
+/// Tells the number of keys at whose time different values came: two writers recorded under one identity. O(1).
+///
+/// Refused, in this order: `NOTHING`; `WRONG_KIND`. Takes no memory.
+#[unsafe(no_mangle)]
+pub extern "C" fn kit_gateway_conflicts(
+    alloc: Global,
+    gateway: &mut KitHandle,
+    count: &mut u64,
+) -> i32
+    ensures ok { result ≡ pos 0 → of_one gateway.old.inner.value gateway_fault ≡ None }
+    ensures value { result ≡ pos 0 → (g : _) → gateway.old.inner.value ≡ Some g → count.new ≡ conflicts_of g }
+    ensures err { result ≢ pos 0 → option_map code_of (of_one gateway.old.inner.value gateway_fault) ≡ Some result }
+    ensures unchanged { result ≢ pos 0 → count.new ≡ count.old }
+    ensures kept { gateway.new.inner.value ≡ gateway.old.inner.value }
+{
+    let Some(held) = gateway.take(alloc) else {
+        return NOTHING;
+    };
+    let outcome = conflicts(&held);
+    gateway.put(held);
+    match outcome {
+        Ok(told) => {
+            *count = told;
+            OK
+        }
+        Err(fault) => fault.code(),
+    }
+}
+
+fn alike(held: &Held, other: &Held) -> Result<bool, Fault>
+    ensures ok { OnOk result (merging_fault held.now other.now ≡ None) }
+    ensures value { IfOk result (λ same. IsTrue same ↔ (points_of held.now ≡ points_of other.now)) }
+    ensures err { IfErr result (λ f. merging_fault held.now other.now ≡ Some f) }
+{
+    let Held::Gateway(gateway) = held else {
+        return Err(Fault::WrongKind);
+    };
+    let Held::Gateway(other) = other else {
+        return Err(Fault::WrongKind);
+    };
+    Ok(gateway.same(other))
+}
+
+/// Tells whether two gateways hold equal points; their ids are not compared.
+///
+/// Refused, in this order: `NOTHING` of this gateway, then of the other; `WRONG_KIND`. Takes no memory.
+#[unsafe(no_mangle)]
+pub extern "C" fn kit_gateway_same(
+    alloc: Global,
+    gateway: &mut KitHandle,
+    other: &mut KitHandle,
+    same: &mut bool,
+) -> i32
+    ensures ok { result ≡ pos 0 → of_two gateway.old.inner.value other.old.inner.value merging_fault ≡ None }
+    ensures value { result ≡ pos 0 → (g h : _) → gateway.old.inner.value ≡ Some g → other.old.inner.value ≡ Some h
+        → IsTrue same.new ↔ (points_of g ≡ points_of h) }
+    ensures err { result ≢ pos 0
+        → option_map code_of (of_two gateway.old.inner.value other.old.inner.value merging_fault) ≡ Some result }
+    ensures unchanged { result ≢ pos 0 → same.new ≡ same.old }
+    ensures kept { gateway.new.inner.value ≡ gateway.old.inner.value }
+    ensures other { other.new.inner.value ≡ other.old.inner.value }
+{
+    let Some(held) = gateway.take(alloc) else {
+        return NOTHING;
+    };
+    let Some(from) = other.take(alloc) else {
+        gateway.put(held);
+        return NOTHING;
+    };
+    let outcome = alike(&held, &from);
+    gateway.put(held);
+    other.put(from);
+    match outcome {
+        Ok(told) => {
+            *same = told;
+            OK
+        }
+        Err(fault) => fault.code(),
+    }
+}

@@ -1,0 +1,36 @@
+//! What a handle can have.
+use attr_kit::{AttrSet, AttrValue, Seq, Txt};
+use gateway_kit::Gateway;
+use plan_kit::{Instrument, Plan, View};
+use point_kit::Export;
+use rollup_kit::{Ask, Row};
+use writer_kit::Writer;
+
+/// What a handle can have.
+#[derive(Drop)]
+pub enum Held {
+    /// Attributes that are written down, in the order in which they came.
+    Pairs(Seq<(Txt, AttrValue)>),
+    Attributes(AttrSet),
+    Instruments(Seq<Instrument>),
+    /// A view that is being made.
+    View(View),
+    Views(Seq<View>),
+    /// Keys that are written down.
+    Keys(Seq<Txt>),
+    Plan(Plan),
+    /// A writer, and beside it the sets that it holds by number.
+    Writer(Writer, Seq<AttrSet>),
+    Export(Export),
+    Gateway(Gateway),
+    Ask(Ask),
+    Rows(Seq<Row>),
+    Text(Txt),
+}
+
+fn sends<T: Send>() {}
+
+// A handle may go to another thread, with what it has.
+fn held_goes_to_another_thread() {
+    sends::<Held>();
+}

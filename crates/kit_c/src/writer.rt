@@ -1,0 +1,398 @@
+//! Writers.
+ghost use Rattle.std.specs.Prelude.{◌≡◌, ◌≢◌, ◌∷◌, [], pos, true, false, None, Some, OnOk, OnErr, IfErr, IfOk};
+ghost use Rattle.std.specs.Option.{option_map};
+ghost use Rattle.attr_kit.specs.Refusing.{first};
+ghost use Rattle.kit_c.specs.Codes.{code_of, no_memory};
+ghost use Rattle.kit_c.specs.Faults.{collection_fault, full_fault, of_one, of_two, recording_fault, restarting_fault, starting_fault, text_fault};
+ghost use Rattle.kit_c.specs.Handles.{after_collection, after_recording, after_restarting, in_first, in_one};
+ghost use Rattle.kit_c.specs.Places.{place_after};
+ghost use Rattle.kit_c.specs.declared.held.Held.TheVariants as things;
+ghost use Rattle.kit_c.specs.Numbers.{after_holding, after_numbered, holding_fault, numbered_fault, sets_len};
+ghost use Rattle.kit_c.specs.Writers.{HasStarted, IsCollection, instance_of};
+
+use crate::fault::{FULL, Fault, NOTHING, OK, refused};
+use crate::handle::KitHandle;
+use crate::held::Held;
+use crate::list::push;
+use crate::text::text_of;
+use attr_kit::Seq;
+use bumpalo::Bump;
+use point_kit::WriterId;
+use std::alloc::Global;
+use uuid::Uuid;
+use writer_kit::Writer;
+
+fn started(alloc: Global, id: WriterId, held: &Held, start: u64) -> Result<Writer, Fault>
+    ensures ok { OnOk result (starting_fault held.now ≡ None) }
+    ensures value { IfOk result (λ w. HasStarted id start (Some held.now) (Some (things.Writer w []))) }
+    ensures err { IfErr result (λ f. code_of f ≢ no_memory → starting_fault held.now ≡ Some f) }
+{
+    let Held::Plan(plan) = held else {
+        return Err(Fault::WrongKind);
+    };
+    Ok(Writer::start(alloc, id, plan.try_copy()?, start)?)
+}
+
+/// Starts a writer, which counts from a start on, under a copy of a plan. The instance is a UUID as two numbers. Times are
+/// nanoseconds since the Unix epoch.
+///
+/// Refused, in this order: `FULL`; `NOT_TEXT` where the service is no UTF-8; `NOTHING` or `WRONG_KIND` of the plan; `NO_MEMORY`.
+#[unsafe(no_mangle)]
+pub extern "C" fn kit_writer_start(
+    alloc: Global,
+    writer: &mut KitHandle,
+    plan: &mut KitHandle,
+    service: &[u8],
+    instance_high: u64,
+    instance_low: u64,
+    start: u64,
+) -> i32
+    ensures ok { result ≡ pos 0 → first
+        (full_fault writer.old.inner.value ∷ text_fault service.now ∷ of_one plan.old.inner.value starting_fault ∷ []) ≡ None }
+    ensures value { result ≡ pos 0 → HasStarted (record { service = service.now; instance = instance_of instance_high instance_low }) start
+        plan.old.inner.value writer.new.inner.value }
+    ensures err { result ≢ pos 0 → result ≢ no_memory → option_map code_of (first
+        (full_fault writer.old.inner.value ∷ text_fault service.now ∷ of_one plan.old.inner.value starting_fault ∷ [])) ≡ Some result }
+    ensures unchanged { result ≢ pos 0 → writer.new.inner.value ≡ writer.old.inner.value }
+    ensures kept { plan.new.inner.value ≡ plan.old.inner.value }
+{
+    if writer.full {
+        return FULL;
+    }
+    let service = match text_of(alloc, service) {
+        Ok(service) => service,
+        Err(fault) => return fault.code(),
+    };
+    let Some(held) = plan.take(alloc) else {
+        return NOTHING;
+    };
+    let id = WriterId {
+        service,
+        instance: Uuid::from_u64_pair(instance_high, instance_low),
+    };
+    let made = started(alloc, id, &held, start);
+    plan.put(held);
+    match made {
+        Ok(made) => writer.filled(alloc, Held::Writer(made, Seq::new(alloc))),
+        Err(fault) => fault.code(),
+    }
+}
+
+fn recorded(held: &mut Held, instrument: usize, set: &Held, value: i64) -> Result<(), Fault>
+    ensures ok { OnOk result (recording_fault instrument value held.old set.now ≡ None) }
+    ensures value { OnOk result (held.new ≡ after_recording instrument value held.old set.now) }
+    ensures err { IfErr result (λ f. code_of f ≢ no_memory → recording_fault instrument value held.old set.now ≡ Some f) }
+    ensures unchanged { OnErr result (held.new ≡ held.old) }
+{
+    let Held::Writer(writer, _) = held else {
+        return Err(Fault::WrongKind);
+    };
+    let Held::Attributes(attributes) = set else {
+        return Err(Fault::WrongKind);
+    };
+    match writer.measure(instrument, attributes, value) {
+        Ok(()) => Ok(()),
+        Err(fault) => Err(Fault::Measure(fault)),
+    }
+}
+
+/// Records a value of an instrument at an attribute set, in the stream of every feed of the instrument or in none (OpenTelemetry
+/// Metrics API, "Counter", "Histogram", "Gauge").
+///
+/// Refused, in this order: `NOTHING` of the writer, then of the attributes; `WRONG_KIND`; `CLOSED`; `NO_INSTRUMENT`; `NEGATIVE`;
+/// `OVERFLOW` with the stream; `NO_MEMORY`. O(feeds of the instrument); no memory where the set was recorded before.
+#[unsafe(no_mangle)]
+pub extern "C" fn kit_writer_measure(
+    alloc: Global,
+    writer: &mut KitHandle,
+    instrument: usize,
+    attributes: &mut KitHandle,
+    value: i64,
+    place: &mut u64,
+) -> i32
+    ensures ok { result ≡ pos 0 → of_two writer.old.inner.value attributes.old.inner.value (recording_fault instrument value) ≡ None }
+    ensures value { result ≡ pos 0 → writer.new.inner.value
+        ≡ in_first (after_recording instrument value) writer.old.inner.value attributes.old.inner.value }
+    ensures err { result ≢ pos 0 → result ≢ no_memory
+        → option_map code_of (of_two writer.old.inner.value attributes.old.inner.value (recording_fault instrument value)) ≡ Some result }
+    ensures place { result ≢ no_memory → place.new
+        ≡ place_after (of_two writer.old.inner.value attributes.old.inner.value (recording_fault instrument value)) place.old }
+    ensures unchanged { result ≢ pos 0 → writer.new.inner.value ≡ writer.old.inner.value }
+    ensures kept { attributes.new.inner.value ≡ attributes.old.inner.value }
+{
+    let Some(mut held) = writer.take(alloc) else {
+        return NOTHING;
+    };
+    let Some(set) = attributes.take(alloc) else {
+        writer.put(held);
+        return NOTHING;
+    };
+    let outcome = recorded(&mut held, instrument, &set, value);
+    writer.put(held);
+    attributes.put(set);
+    match outcome {
+        Ok(()) => OK,
+        Err(fault) => refused(fault, place),
+    }
+}
+
+fn held_too(alloc: Global, held: &mut Held, set: &Held) -> Result<usize, Fault>
+    ensures ok { OnOk result (holding_fault held.old set.now ≡ None) }
+    ensures value { OnOk result (held.new ≡ after_holding held.old set.now) }
+    ensures number { IfOk result (λ n. n ≡ sets_len held.old) }
+    ensures err { IfErr result (λ f. code_of f ≢ no_memory → holding_fault held.old set.now ≡ Some f) }
+    ensures unchanged { OnErr result (held.new ≡ held.old) }
+{
+    let Held::Writer(_, sets) = held else {
+        return Err(Fault::WrongKind);
+    };
+    let Held::Attributes(attributes) = set else {
+        return Err(Fault::WrongKind);
+    };
+    let copy = attributes.try_copy()?;
+    let number = sets.len();
+    push(alloc, sets, copy)?;
+    Ok(number)
+}
+
+/// Holds a copy of an attribute set beside the writer, and tells its number: sets are numbered from 0, and held as long as the
+/// writer is. To record by number is the shortest way.
+///
+/// Refused, in this order: `NOTHING` of the writer, then of the attributes; `WRONG_KIND`; `NO_MEMORY`.
+#[unsafe(no_mangle)]
+pub extern "C" fn kit_writer_hold(
+    alloc: Global,
+    writer: &mut KitHandle,
+    attributes: &mut KitHandle,
+    number: &mut usize,
+) -> i32
+    ensures ok { result ≡ pos 0 → of_two writer.old.inner.value attributes.old.inner.value holding_fault ≡ None }
+    ensures value { result ≡ pos 0 → writer.new.inner.value
+        ≡ in_first after_holding writer.old.inner.value attributes.old.inner.value }
+    ensures number { result ≡ pos 0 → (h : _) → writer.old.inner.value ≡ Some h → number.new ≡ sets_len h }
+    ensures err { result ≢ pos 0 → result ≢ no_memory
+        → option_map code_of (of_two writer.old.inner.value attributes.old.inner.value holding_fault) ≡ Some result }
+    ensures unchanged { result ≢ pos 0 → writer.new.inner.value ≡ writer.old.inner.value }
+    ensures kept { attributes.new.inner.value ≡ attributes.old.inner.value }
+{
+    let Some(mut held) = writer.take(alloc) else {
+        return NOTHING;
+    };
+    let Some(set) = attributes.take(alloc) else {
+        writer.put(held);
+        return NOTHING;
+    };
+    let outcome = held_too(alloc, &mut held, &set);
+    writer.put(held);
+    attributes.put(set);
+    match outcome {
+        Ok(told) => {
+            *number = told;
+            OK
+        }
+        Err(fault) => fault.code(),
+    }
+}
+
+fn recorded_by_number(
+    held: &mut Held,
+    instrument: usize,
+    number: usize,
+    value: i64,
+) -> Result<(), Fault>
+    ensures ok { OnOk result (numbered_fault instrument number value held.old ≡ None) }
+    ensures value { OnOk result (held.new ≡ after_numbered instrument number value held.old) }
+    ensures err { IfErr result (λ f. code_of f ≢ no_memory → numbered_fault instrument number value held.old ≡ Some f) }
+    ensures unchanged { OnErr result (held.new ≡ held.old) }
+{
+    let Held::Writer(writer, sets) = held else {
+        return Err(Fault::WrongKind);
+    };
+    let Some(set) = sets.get(number) else {
+        return Err(Fault::NoSet);
+    };
+    match writer.measure(instrument, set, value) {
+        Ok(()) => Ok(()),
+        Err(fault) => Err(Fault::Measure(fault)),
+    }
+}
+
+/// Records a value of an instrument at the attribute set of a number, which `kit_writer_hold` told.
+///
+/// Refused, in this order: `NOTHING`; `WRONG_KIND`; `NO_SET`; then as `kit_writer_measure` is.
+#[unsafe(no_mangle)]
+pub extern "C" fn kit_writer_measure_held(
+    alloc: Global,
+    writer: &mut KitHandle,
+    instrument: usize,
+    number: usize,
+    value: i64,
+    place: &mut u64,
+) -> i32
+    ensures ok { result ≡ pos 0 → of_one writer.old.inner.value (numbered_fault instrument number value) ≡ None }
+    ensures value { result ≡ pos 0 → writer.new.inner.value
+        ≡ in_one (after_numbered instrument number value) writer.old.inner.value }
+    ensures err { result ≢ pos 0 → result ≢ no_memory
+        → option_map code_of (of_one writer.old.inner.value (numbered_fault instrument number value)) ≡ Some result }
+    ensures place { result ≢ no_memory
+        → place.new ≡ place_after (of_one writer.old.inner.value (numbered_fault instrument number value)) place.old }
+    ensures unchanged { result ≢ pos 0 → writer.new.inner.value ≡ writer.old.inner.value }
+{
+    let Some(mut held) = writer.take(alloc) else {
+        return NOTHING;
+    };
+    let outcome = recorded_by_number(&mut held, instrument, number, value);
+    writer.put(held);
+    match outcome {
+        Ok(()) => OK,
+        Err(fault) => refused(fault, place),
+    }
+}
+
+// Collects, and closes the writer where asked. The writer is marked last, where nothing can be refused any more.
+#[tactic(auto, using(writer_kit::proofs::Refusals::collect_open, writer_kit::proofs::Refusals::collect_later))]
+fn collected(alloc: Global, held: &mut Held, time: u64, closing: bool) -> Result<Box<Held>, Fault>
+    ensures ok { OnOk result (collection_fault time held.old ≡ None) }
+    ensures value { OnOk result (held.new ≡ after_collection time closing held.old) }
+    ensures export { IfOk result (λ made. IsCollection time (Some held.old) (Some made.value)) }
+    ensures err { IfErr result (λ f. code_of f ≢ no_memory → collection_fault time held.old ≡ Some f) }
+    ensures unchanged { OnErr result (held.new ≡ held.old) }
+{
+    let Held::Writer(writer, _) = held else {
+        return Err(Fault::WrongKind);
+    };
+    let arena = Bump::new(alloc);
+    let round = match writer.look_round(&arena, time) {
+        Ok(round) => round,
+        Err(fault) => return Err(Fault::Collect(fault)),
+    };
+    let export = round.copy_out(alloc, writer.id())?;
+    let made = Box::new(alloc, Held::Export(export))?;
+    writer.mark(time, closing);
+    Ok(made)
+}
+
+/// Collects the points since the start, as an export. Exports are cumulative, so a lost one is covered by the next (OpenTelemetry
+/// Metrics SDK, "MetricReader", Collect). The time is in nanoseconds since the Unix epoch.
+///
+/// Refused, in this order: `FULL`; `NOTHING`; `WRONG_KIND`; `CLOSED`; `TIME_NOT_AFTER` with the last collection or the start;
+/// `NO_MEMORY`. O(size of the points).
+#[unsafe(no_mangle)]
+pub extern "C" fn kit_writer_collect(
+    alloc: Global,
+    writer: &mut KitHandle,
+    time: u64,
+    export: &mut KitHandle,
+    place: &mut u64,
+) -> i32
+    ensures ok { result ≡ pos 0
+        → first (full_fault export.old.inner.value ∷ of_one writer.old.inner.value (collection_fault time) ∷ []) ≡ None }
+    ensures value { result ≡ pos 0 → writer.new.inner.value ≡ in_one (after_collection time false) writer.old.inner.value }
+    ensures export { result ≡ pos 0 → IsCollection time writer.old.inner.value export.new.inner.value }
+    ensures err { result ≢ pos 0 → result ≢ no_memory → option_map code_of
+        (first (full_fault export.old.inner.value ∷ of_one writer.old.inner.value (collection_fault time) ∷ [])) ≡ Some result }
+    ensures place { result ≢ no_memory → place.new ≡ place_after
+        (first (full_fault export.old.inner.value ∷ of_one writer.old.inner.value (collection_fault time) ∷ [])) place.old }
+    ensures unchanged { result ≢ pos 0 → writer.new.inner.value ≡ writer.old.inner.value }
+    ensures held { result ≢ pos 0 → export.new.inner.value ≡ export.old.inner.value }
+{
+    if export.full {
+        return FULL;
+    }
+    let Some(mut held) = writer.take(alloc) else {
+        return NOTHING;
+    };
+    let made = collected(alloc, &mut held, time, false);
+    writer.put(held);
+    match made {
+        Ok(made) => {
+            export.put(made);
+            OK
+        }
+        Err(fault) => refused(fault, place),
+    }
+}
+
+/// Collects for the last time, and closes the writer (OpenTelemetry Metrics SDK, "MetricReader", Shutdown).
+///
+/// Refused as `kit_writer_collect` is.
+#[unsafe(no_mangle)]
+pub extern "C" fn kit_writer_shutdown(
+    alloc: Global,
+    writer: &mut KitHandle,
+    time: u64,
+    export: &mut KitHandle,
+    place: &mut u64,
+) -> i32
+    ensures ok { result ≡ pos 0
+        → first (full_fault export.old.inner.value ∷ of_one writer.old.inner.value (collection_fault time) ∷ []) ≡ None }
+    ensures value { result ≡ pos 0 → writer.new.inner.value ≡ in_one (after_collection time true) writer.old.inner.value }
+    ensures export { result ≡ pos 0 → IsCollection time writer.old.inner.value export.new.inner.value }
+    ensures err { result ≢ pos 0 → result ≢ no_memory → option_map code_of
+        (first (full_fault export.old.inner.value ∷ of_one writer.old.inner.value (collection_fault time) ∷ [])) ≡ Some result }
+    ensures place { result ≢ no_memory → place.new ≡ place_after
+        (first (full_fault export.old.inner.value ∷ of_one writer.old.inner.value (collection_fault time) ∷ [])) place.old }
+    ensures unchanged { result ≢ pos 0 → writer.new.inner.value ≡ writer.old.inner.value }
+    ensures held { result ≢ pos 0 → export.new.inner.value ≡ export.old.inner.value }
+{
+    if export.full {
+        return FULL;
+    }
+    let Some(mut held) = writer.take(alloc) else {
+        return NOTHING;
+    };
+    let made = collected(alloc, &mut held, time, true);
+    writer.put(held);
+    match made {
+        Ok(made) => {
+            export.put(made);
+            OK
+        }
+        Err(fault) => refused(fault, place),
+    }
+}
+
+fn restarted(held: &mut Held, start: u64) -> Result<(), Fault>
+    ensures ok { OnOk result (restarting_fault start held.old ≡ None) }
+    ensures value { OnOk result (held.new ≡ after_restarting start held.old) }
+    ensures err { IfErr result (λ f. code_of f ≢ no_memory → restarting_fault start held.old ≡ Some f) }
+    ensures unchanged { OnErr result (held.new ≡ held.old) }
+{
+    let Held::Writer(writer, _) = held else {
+        return Err(Fault::WrongKind);
+    };
+    match writer.restart(start) {
+        Ok(()) => Ok(()),
+        Err(fault) => Err(Fault::Restart(fault)),
+    }
+}
+
+/// Begins a new incarnation under a later start: the writer is open and has recorded nothing (OpenTelemetry Metrics Data Model,
+/// "Resets and Gaps").
+///
+/// Refused, in this order: `NOTHING`; `WRONG_KIND`; `START_NOT_AFTER` with the start so far; `NO_MEMORY`.
+#[unsafe(no_mangle)]
+pub extern "C" fn kit_writer_restart(
+    alloc: Global,
+    writer: &mut KitHandle,
+    start: u64,
+    place: &mut u64,
+) -> i32
+    ensures ok { result ≡ pos 0 → of_one writer.old.inner.value (restarting_fault start) ≡ None }
+    ensures value { result ≡ pos 0 → writer.new.inner.value ≡ in_one (after_restarting start) writer.old.inner.value }
+    ensures err { result ≢ pos 0 → result ≢ no_memory
+        → option_map code_of (of_one writer.old.inner.value (restarting_fault start)) ≡ Some result }
+    ensures place { result ≢ no_memory
+        → place.new ≡ place_after (of_one writer.old.inner.value (restarting_fault start)) place.old }
+    ensures unchanged { result ≢ pos 0 → writer.new.inner.value ≡ writer.old.inner.value }
+{
+    let Some(mut held) = writer.take(alloc) else {
+        return NOTHING;
+    };
+    let outcome = restarted(&mut held, start);
+    writer.put(held);
+    match outcome {
+        Ok(()) => OK,
+        Err(fault) => refused(fault, place),
+    }
+}

@@ -1,0 +1,40 @@
+//! A fleet of threads, and what its gateways answer.
+ghost use Rattle.std.specs.Prelude.{◌≡◌, ◌⊎◌, IfOk, IfSome};
+ghost use Rattle.fleet_kit.specs.Setups.{recorded, writers_of};
+ghost use Rattle.rollup_kit.specs.Rollups.{AddsUp};
+ghost use Rattle.rollup_kit.specs.Writers.{AllWithin, IsRegrouped, rows_of};
+
+use attr_kit::Seq;
+use fleet_kit::{FleetSetup, Gate, run_fleet};
+use rollup_kit::{Ask, Row, rollup};
+use std::alloc::Global;
+use std::sync::Wait;
+use std::thread::Threads;
+
+/// A gate that is never shut: each recording may go ahead.
+#[derive(Clone, Copy, Debug, Drop)]
+pub struct Open;
+
+impl Gate for Open {
+    fn pass<R: Wait>(&self, _rt: &R, _job: usize, _entry: usize) -> bool {
+        true
+    }
+}
+
+/// Runs a fleet, and asks its first gateway, if it has one. The rows of a sum or a histogram are those of what the jobs recorded,
+/// whatever the threads did at once: where no writer has more attribute sets than its limit, and past it of totals over all sets.
+pub fn rows_of_fleet<R: Threads + Wait + Sync>(
+    rt: &R,
+    alloc: Global,
+    setup: FleetSetup,
+    ask: &Ask,
+) -> anyhow::Result<Option<Seq<Row>>>
+    ensures rows { AddsUp ask.now.stream.shape → AllWithin (writers_of setup) (recorded setup) ⊎ IsRegrouped ask.now
+        → IfOk result (λ found. IfSome found (λ rows. rows ≡ rows_of (writers_of setup) (recorded setup) ask.now)) }
+{
+    let gateways = run_fleet(rt, alloc, setup, &Open)?;
+    match gateways.get(0) {
+        Some(gateway) => Ok(Some(rollup(alloc, gateway, ask)?)),
+        None => Ok(None),
+    }
+}

@@ -1,0 +1,179 @@
+/* Kotskhin for C: proved metrics (libkotskhin.a).
+ *
+ * A handle has one thing, or nothing. Begin with KIT_EMPTY, and give back by kit_free.
+ * - What a call reads stays; what it makes goes into an empty handle; what it changes is its first handle.
+ * - A call answers KIT_OK, or why it is refused. A refused call leaves every handle as it was, and what it was to tell, too,
+ *   but for the place that some refusals tell (see the codes).
+ * - A call has its handles for itself while it runs: no two parameters of one call may be one handle, and no handle may be in
+ *   two calls at once, even in calls that only read it. Another thread may have a handle once this one no longer uses it.
+ * - Never copy a handle that has something, and never write to one: its fields are the library's.
+ * - Texts and lists are a pointer, which is never null, and a length; they are copied. Texts are UTF-8, with no 0 at the end.
+ * - Times are nanoseconds since the Unix epoch.
+ * docs/EMBEDDING.md says the rest. */
+#ifndef KOTSKHIN_H
+#define KOTSKHIN_H
+
+#include <stdbool.h>
+#include <stddef.h>
+#include <stdint.h>
+
+#ifdef __cplusplus
+extern "C" {
+#endif
+
+typedef struct kit_handle {
+    bool full;
+    void *at;
+} kit_handle;
+
+#ifdef __cplusplus
+#define KIT_EMPTY (kit_handle{false, nullptr})
+#else
+#define KIT_EMPTY ((kit_handle){false, 0})
+#endif
+
+/* What calls answer. With a * the place that is told is said behind it. */
+enum {
+    KIT_OK = 0,
+    KIT_NO_MEMORY = 1,
+    KIT_NOTHING = 2,          /* a handle that is read has nothing */
+    KIT_WRONG_KIND = 3,       /* a handle has something else */
+    KIT_FULL = 4,             /* the handle that is to be filled has something */
+    KIT_NOT_TEXT = 5,         /* a text is not UTF-8 */
+    KIT_BAD_NUMBER = 6,       /* a number stands for nothing here */
+    KIT_NO_SET = 7,           /* the writer holds no set of this number */
+    KIT_NO_ROW = 8,           /* there is no row of this number */
+    KIT_NO_POINT = 9,         /* there is no point of what is asked for */
+
+    KIT_CLOSED = 10,          /* the writer was shut down, and not restarted since */
+    KIT_NO_INSTRUMENT = 11,   /* the plan has no instrument of this number */
+    KIT_NEGATIVE = 12,        /* a counter or a histogram takes no value below 0 */
+    KIT_OVERFLOW = 13,        /* a total would leave its range: * its stream */
+    KIT_TIME_NOT_AFTER = 14,  /* the time is not after the last collection or the start: * that time */
+    KIT_START_NOT_AFTER = 15, /* the new start is not after the start so far: * that start */
+
+    KIT_EMPTY_KEY = 20,       /* the key of a pair is empty: * the first such pair */
+
+    KIT_BAD_NAME = 30,        /* a name breaks the rule of names: * the instrument */
+    KIT_BAD_UNIT = 31,        /* a unit breaks the rule of units: * the instrument */
+    KIT_BAD_BOUNDS = 32,      /* bounds do not strictly rise, or are too many: * the view */
+    KIT_BAD_RENAME = 33,      /* a new name breaks the rule of names: * the view */
+    KIT_WILDCARD_RENAME = 34, /* a view of every name gives a new one: * the view */
+    KIT_BAD_AGGREGATION = 35, /* an aggregation does not fit: * the instrument, and second the view */
+    KIT_SAME_STREAM = 36,     /* two instruments feed one stream: * the one, and second the other */
+    KIT_BAD_LIMIT = 37,       /* the limit is 0 */
+
+    KIT_TOO_WIDE = 40,        /* a total is wider than the number that it is to be told in */
+};
+
+/* Kinds of instruments. */
+enum {
+    KIT_COUNTER = 0,
+    KIT_UP_DOWN = 1,
+    KIT_GAUGE = 2,
+    KIT_HISTOGRAM = 3,
+};
+
+/* What views make of values: as the kind of the instrument does, a sum, the last value, nothing. */
+enum {
+    KIT_AS_KIND = 0,
+    KIT_SUM = 1,
+    KIT_LAST_VALUE = 2,
+    KIT_DROP = 3,
+};
+
+/* How many attribute sets a stream has points of their own for, where nothing else is asked. */
+enum { KIT_DEFAULT_LIMIT = 2000 };
+
+/* Gives up what a handle has. The handle is then empty, and may be used again. Never refused. */
+void kit_free(kit_handle *handle);
+
+/* Instruments are numbered from 0 in the order in which they are added. An empty handle begins with the first. */
+int32_t kit_instruments_add(kit_handle *instruments, const uint8_t *scope, size_t scope_len, const uint8_t *name, size_t name_len,
+                            const uint8_t *unit, size_t unit_len, uint8_t kind);
+
+/* Keys of attributes. An empty handle begins with the first. */
+int32_t kit_keys_add(kit_handle *keys, const uint8_t *key, size_t key_len);
+
+/* A view of the instruments of one name, but for the case of ASCII letters, or of all; it changes nothing until it is told to. */
+int32_t kit_view_of_name(kit_handle *view, const uint8_t *name, size_t name_len);
+int32_t kit_view_of_every(kit_handle *view);
+/* From now on it is of one kind, or of one scope. */
+int32_t kit_view_kind(kit_handle *view, uint8_t kind);
+int32_t kit_view_scope(kit_handle *view, const uint8_t *scope, size_t scope_len);
+/* From now on its stream has this name; keeps these keys of attributes alone; aggregates so. */
+int32_t kit_view_rename(kit_handle *view, const uint8_t *name, size_t name_len);
+int32_t kit_view_keep(kit_handle *view, kit_handle *keys);
+int32_t kit_view_aggregation(kit_handle *view, uint8_t number);
+int32_t kit_view_buckets(kit_handle *view, const int64_t *bounds, size_t bounds_len);
+/* Views are numbered from 0 in the order in which they are added. An empty handle begins with a copy of the first. */
+int32_t kit_views_add(kit_handle *views, kit_handle *view);
+
+/* The plan of instruments and of views; a handle that has nothing stands for none. Many writers may start under one plan. */
+int32_t kit_plan_build(kit_handle *plan, kit_handle *instruments, kit_handle *views, uint64_t limit, uint64_t *place,
+                       uint64_t *second);
+
+/* Pairs of attributes. An empty handle begins with the first. */
+int32_t kit_pairs_add_text(kit_handle *pairs, const uint8_t *key, size_t key_len, const uint8_t *value, size_t value_len);
+int32_t kit_pairs_add_whole(kit_handle *pairs, const uint8_t *key, size_t key_len, int64_t value);
+int32_t kit_pairs_add_truth(kit_handle *pairs, const uint8_t *key, size_t key_len, bool value);
+
+/* The set of pairs: of a key that is given twice the later value stays. A handle that has nothing stands for no pairs. */
+int32_t kit_attributes_make(kit_handle *attributes, kit_handle *pairs, uint64_t *place);
+
+/* A writer counts from a start on. The instance is a UUID as two numbers. */
+int32_t kit_writer_start(kit_handle *writer, kit_handle *plan, const uint8_t *service, size_t service_len, uint64_t instance_high,
+                         uint64_t instance_low, uint64_t start);
+int32_t kit_writer_measure(kit_handle *writer, size_t instrument, kit_handle *attributes, int64_t value, uint64_t *place);
+/* Holds a copy of a set as long as the writer is, and tells its number, for kit_writer_measure_held: the shortest way to record. */
+int32_t kit_writer_hold(kit_handle *writer, kit_handle *attributes, size_t *number);
+int32_t kit_writer_measure_held(kit_handle *writer, size_t instrument, size_t number, int64_t value, uint64_t *place);
+/* The points since the start, as an export: a lost one is covered by the next. */
+int32_t kit_writer_collect(kit_handle *writer, uint64_t time, kit_handle *export_, uint64_t *place);
+/* The same for the last time: the writer is closed. */
+int32_t kit_writer_shutdown(kit_handle *writer, uint64_t time, kit_handle *export_, uint64_t *place);
+/* Begins anew under a later start: the writer is open and has recorded nothing. */
+int32_t kit_writer_restart(kit_handle *writer, uint64_t start, uint64_t *place);
+
+/* A gateway takes exports, in any order and however often each comes, and merges with other gateways. What is told is the number
+ * of keys whose points changed. */
+int32_t kit_gateway_open(kit_handle *gateway, uint32_t id);
+int32_t kit_gateway_take(kit_handle *gateway, kit_handle *export_, uint64_t *changed);
+int32_t kit_gateway_merge(kit_handle *gateway, kit_handle *other, uint64_t *changed);
+
+/* The number of keys at whose time different values came: two writers recorded under one identity. */
+int32_t kit_gateway_conflicts(kit_handle *gateway, uint64_t *count);
+/* Whether two gateways hold equal points. */
+int32_t kit_gateway_same(kit_handle *gateway, kit_handle *other, bool *same);
+
+/* Asks of a stream: all its points, a row for each attribute set. */
+int32_t kit_ask_sum(kit_handle *ask, const uint8_t *scope, size_t scope_len, const uint8_t *name, size_t name_len,
+                    const uint8_t *unit, size_t unit_len, bool monotonic);
+int32_t kit_ask_gauge(kit_handle *ask, const uint8_t *scope, size_t scope_len, const uint8_t *name, size_t name_len,
+                      const uint8_t *unit, size_t unit_len);
+int32_t kit_ask_histogram(kit_handle *ask, const uint8_t *scope, size_t scope_len, const uint8_t *name, size_t name_len,
+                          const uint8_t *unit, size_t unit_len, const int64_t *bounds, size_t bounds_len);
+
+/* From now on an ask is of one service's writers; of the points that have each of these pairs; told apart by these keys alone. */
+int32_t kit_ask_service(kit_handle *ask, const uint8_t *service, size_t service_len);
+int32_t kit_ask_only(kit_handle *ask, kit_handle *pairs);
+int32_t kit_ask_keep(kit_handle *ask, kit_handle *keys);
+
+/* The rows that a gateway answers with, and their table. */
+int32_t kit_gateway_rows(kit_handle *gateway, kit_handle *ask, kit_handle *rows);
+int32_t kit_rows_table(kit_handle *rows, kit_handle *text);
+
+/* Rows as numbers: how many there are; how many points a row's total is of, and how many conflicts it leaves out; the total of a sum,
+ * refused where it leaves 64 bits; the newest point of a gauge. */
+int32_t kit_rows_len(kit_handle *rows, size_t *count);
+int32_t kit_rows_counts(kit_handle *rows, size_t number, uint64_t *points, uint64_t *conflicts);
+int32_t kit_rows_sum(kit_handle *rows, size_t number, int64_t *total);
+int32_t kit_rows_gauge(kit_handle *rows, size_t number, uint64_t *time, int64_t *value);
+
+/* Copies the front of a text that has room, and tells how long the whole text is. */
+int32_t kit_text_copy(kit_handle *text, uint8_t *into, size_t room, size_t *len);
+
+#ifdef __cplusplus
+}
+#endif
+#endif

@@ -1,0 +1,152 @@
+// Kotskhin for C++: owners that give their handles back. They are moved, never copied, and a refusal is thrown.
+#pragma once
+#include "kotskhin.h"
+#include <cstddef>
+#include <cstdint>
+#include <initializer_list>
+#include <stdexcept>
+#include <string>
+#include <string_view>
+#include <utility>
+
+namespace kotskhin {
+
+// Why a call is refused: a code of kotskhin.h, with the place that it tells.
+struct Refused : std::runtime_error {
+    int32_t code;
+    uint64_t place;
+    explicit Refused(int32_t code, uint64_t place = 0)
+        : std::runtime_error("kotskhin: refused with code " + std::to_string(code)), code(code), place(place) {}
+};
+
+inline void checked(int32_t code, uint64_t place = 0) {
+    if (code != KIT_OK) throw Refused(code, place);
+}
+
+// A text: a pointer that is never null, and a length.
+struct Text {
+    const uint8_t *at;
+    size_t len;
+    Text(std::string_view text) : at(reinterpret_cast<const uint8_t *>(text.empty() ? "" : text.data())), len(text.size()) {}
+    Text(const char *text) : Text(std::string_view(text)) {}
+};
+
+class Handle {
+    kit_handle raw = KIT_EMPTY;
+
+public:
+    Handle() = default;
+    Handle(Handle &&other) noexcept : raw(std::exchange(other.raw, KIT_EMPTY)) {}
+    Handle &operator=(Handle &&other) noexcept {
+        std::swap(raw, other.raw);
+        return *this;
+    }
+    ~Handle() { kit_free(&raw); }
+    kit_handle *at() { return &raw; }
+};
+
+class Attributes {
+    friend class Writer;
+    Handle handle;
+
+public:
+    Attributes(std::initializer_list<std::pair<std::string_view, std::string_view>> pairs) {
+        Handle list;
+        for (auto &[key, value] : pairs) {
+            Text k(key), v(value);
+            checked(kit_pairs_add_text(list.at(), k.at, k.len, v.at, v.len));
+        }
+        uint64_t place = 0;
+        checked(kit_attributes_make(handle.at(), list.at(), &place), place);
+    }
+};
+
+struct Instrument {
+    std::string_view scope, name, unit;
+    uint8_t kind;
+};
+
+class Plan {
+    friend class Writer;
+    Handle handle;
+
+public:
+    Plan(std::initializer_list<Instrument> instruments, uint64_t limit = KIT_DEFAULT_LIMIT) {
+        Handle list, views;
+        for (auto &one : instruments) {
+            Text scope(one.scope), name(one.name), unit(one.unit);
+            checked(kit_instruments_add(list.at(), scope.at, scope.len, name.at, name.len, unit.at, unit.len, one.kind));
+        }
+        uint64_t place = 0, second = 0;
+        checked(kit_plan_build(handle.at(), list.at(), views.at(), limit, &place, &second), place);
+    }
+};
+
+class Export {
+    friend class Gateway;
+    friend class Writer;
+    Handle handle;
+};
+
+// One thread at a time has a writer: put a lock of yours round it, or give each thread one of its own.
+class Writer {
+    Handle handle;
+
+public:
+    Writer(Plan &plan, Text service, uint64_t instance_high, uint64_t instance_low, uint64_t start) {
+        checked(kit_writer_start(handle.at(), plan.handle.at(), service.at, service.len, instance_high, instance_low, start));
+    }
+    void measure(size_t instrument, Attributes &attributes, int64_t value) {
+        uint64_t place = 0;
+        checked(kit_writer_measure(handle.at(), instrument, attributes.handle.at(), value, &place), place);
+    }
+    size_t hold(Attributes &attributes) {
+        size_t number = 0;
+        checked(kit_writer_hold(handle.at(), attributes.handle.at(), &number));
+        return number;
+    }
+    void measure_held(size_t instrument, size_t number, int64_t value) {
+        uint64_t place = 0;
+        checked(kit_writer_measure_held(handle.at(), instrument, number, value, &place), place);
+    }
+    Export collect(uint64_t time) {
+        Export made;
+        uint64_t place = 0;
+        checked(kit_writer_collect(handle.at(), time, made.handle.at(), &place), place);
+        return made;
+    }
+};
+
+class Gateway {
+    Handle handle;
+
+public:
+    explicit Gateway(uint32_t id) { checked(kit_gateway_open(handle.at(), id)); }
+    uint64_t take(Export &given) {
+        uint64_t changed = 0;
+        checked(kit_gateway_take(handle.at(), given.handle.at(), &changed));
+        return changed;
+    }
+    uint64_t merge(Gateway &other) {
+        uint64_t changed = 0;
+        if (&other != this) checked(kit_gateway_merge(handle.at(), other.handle.at(), &changed));
+        return changed;
+    }
+    // The table of a sum, a line for each attribute set.
+    std::string sum(Text scope, Text name, Text unit, bool monotonic = true) {
+        Handle ask, rows, table;
+        checked(kit_ask_sum(ask.at(), scope.at, scope.len, name.at, name.len, unit.at, unit.len, monotonic));
+        checked(kit_gateway_rows(handle.at(), ask.at(), rows.at()));
+        checked(kit_rows_table(rows.at(), table.at()));
+        std::string told(1024, '\0');
+        size_t len = 0;
+        do {
+            if (len > told.size()) told.resize(len);
+            checked(kit_text_copy(table.at(), reinterpret_cast<uint8_t *>(told.data()), told.size(), &len));
+        } while (len > told.size());
+        told.resize(len);
+        return told;
+    }
+};
+
+}  // namespace kotskhin

@@ -1,0 +1,97 @@
+#!/usr/bin/env python3
+"""Holds the declarations that are written by hand to the exports of kit_c, and their codes to its proved definitions.
+
+    declarations.py [--print]
+
+The functions are those of `pub extern "C" fn` in crates/kit_c/src/*.rt, the codes those of crates/kit_c/specs/Codes.antt. Of each
+the declaration is made as C and as Rust, and compared with embed/c/kotskhin.h and embed/rust/kotskhin-sys/src/lib.rs. A wrong
+declaration is undefined behaviour, and nothing else compares them. --print prints what is made. Ends with a status other than 0
+where one differs or is missing."""
+import pathlib
+import re
+import sys
+
+EMBED = pathlib.Path(__file__).resolve().parent
+CRATE = EMBED.parent / "crates" / "kit_c"
+HEADER = EMBED / "c" / "kotskhin.h"
+RUST = EMBED / "rust" / "kotskhin-sys" / "src" / "lib.rs"
+
+C_TYPES = {"u8": "uint8_t", "i32": "int32_t", "u32": "uint32_t", "i64": "int64_t", "u64": "uint64_t", "usize": "size_t", "bool": "bool"}
+# (`export` is a word of C++)
+C_NAMES = {"export": "export_"}
+EXPORT = re.compile(r'#\[unsafe\(no_mangle\)\]\s*pub extern "C" fn (\w+)\(([^)]*)\)(?: -> (\w+))?')
+CODE = re.compile(r"^\w+_(?:code|of) \(?(?:\w+\.)?(?:Refused \(?)?(?:\w+\.)?(\w+)[^=]*= pos (\d+)$", re.M)
+
+
+def exports():
+    """The exports: (name, [(parameter, type)], result)."""
+    for file in sorted((CRATE / "src").glob("*.rt")):
+        for name, given, result in EXPORT.findall(file.read_text(encoding="utf-8")):
+            words = [it.split(":", 1) for it in re.split(r",\s*", given.strip().rstrip(",")) if it]
+            yield name, [(word.strip(), kind.strip()) for word, kind in words], result
+
+
+def crossing(name, kind):
+    """A parameter as it crosses: (name, C type, Rust type) for each word of the machine."""
+    if kind == "Global":
+        return []
+    if found := re.fullmatch(r"&(mut )?\[(\w+)\]", kind):
+        item = found[2]
+        if found[1]:
+            return [(name, f"{C_TYPES[item]} *", f"*mut {item}"), ("room", "size_t ", "usize")]
+        return [(name, f"const {C_TYPES[item]} *", f"*const {item}"), (f"{name}_len", "size_t ", "usize")]
+    if kind == "&mut KitHandle":
+        return [(name, "kit_handle *", "*mut Handle")]
+    if found := re.fullmatch(r"&mut (\w+)", kind):
+        return [(name, f"{C_TYPES[found[1]]} *", f"*mut {found[1]}")]
+    return [(name, f"{C_TYPES[kind]} ", kind)]
+
+
+def codes():
+    """The codes by their names, as C spells them."""
+    text = (CRATE / "specs" / "Codes.antt").read_text(encoding="utf-8")
+    told = {("OK", 0)}
+    told.add(("NO_MEMORY", int(re.search(r"^no_memory = pos (\d+)$", text, re.M)[1])))
+    for name, number in CODE.findall(text):
+        told.add((re.sub(r"(?<=[a-z])(?=[A-Z])", "_", name).upper(), int(number)))
+    return told
+
+
+def made():
+    """What the two files are to declare: functions and codes."""
+    c, rust = set(), set()
+    for name, given, result in exports():
+        words = [word for one in given for word in crossing(*one)]
+        c.add(f"{C_TYPES[result] if result else 'void'} {name}({', '.join(f'{kind}{C_NAMES.get(word, word)}' for word, kind, _ in words)});")
+        rust.add(f"pub fn {name}({', '.join(f'{word}: {kind}' for word, _, kind in words)}){f' -> {result}' if result else ''};")
+    c |= {f"KIT_{name} = {number}" for name, number in codes()}
+    rust |= {f"pub const {name}: i32 = {number};" for name, number in codes()}
+    return c, rust
+
+
+def declared():
+    """What they declare."""
+    header = re.sub(r"\s+", " ", re.sub(r"/\*.*?\*/", "", HEADER.read_text(encoding="utf-8"), flags=re.S))
+    c = set(re.findall(r"(?:int32_t|void) kit_\w+\([^)]*\);", header))
+    first = header[header.index("enum {"):header.index("};")]
+    c |= set(re.findall(r"KIT_\w+ = \d+", first))
+    rust = re.sub(r"\s+", " ", RUST.read_text(encoding="utf-8"))
+    functions = re.findall(r"pub fn kit_\w+\([^)]*\)(?: -> \w+)?;", rust)
+    rust = {re.sub(r",? \)", ")", it.replace("( ", "(")) for it in functions} | set(re.findall(r"pub const \w+: i32 = \d+;", rust))
+    return c, rust
+
+
+def main():
+    wanted, found = made(), declared()
+    if "--print" in sys.argv:
+        print("\n".join(sorted(wanted[0]) + sorted(wanted[1])))
+    wrong = []
+    for file, want, there in zip((HEADER, RUST), wanted, found):
+        wrong += [f"{file.name}: not of kit_c: {it}" for it in sorted(there - want)]
+        wrong += [f"{file.name}: missing: {it}" for it in sorted(want - there)]
+    print("\n".join(wrong) or f"{sum(1 for _ in exports())} functions and {len(codes())} codes, each declared twice as it is")
+    return 1 if wrong else 0
+
+
+if __name__ == "__main__":
+    sys.exit(main())

@@ -1,0 +1,3 @@
+module kotskhin
+
+go 1.21

@@ -1,0 +1,195 @@
+// Package kotskhin is proved metrics for Go, by cgo over libkotskhin.a. Set CGO_CFLAGS=-I<folder of kotskhin.h> and
+// CGO_LDFLAGS="-L<folder of libkotskhin.a> -lkotskhin".
+package kotskhin
+
+// #include "kotskhin.h"
+import "C"
+
+import (
+	"fmt"
+	"runtime"
+	"sync"
+	"unsafe"
+)
+
+// Kinds of instruments.
+const (
+	Counter   = 0
+	UpDown    = 1
+	Gauge     = 2
+	Histogram = 3
+)
+
+// Refused says why a call is refused: a code of kotskhin.h, with the place that it tells.
+type Refused struct {
+	Code  int32
+	Place uint64
+}
+
+func (r Refused) Error() string { return fmt.Sprintf("kotskhin: refused with code %d", r.Code) }
+
+// A handle is in one call at a time: its lock is held for each. Handles of one call are locked in the order of their numbers.
+type handle struct {
+	lock   sync.Mutex
+	number uint64
+	raw    C.kit_handle
+}
+
+var made struct {
+	sync.Mutex
+	handles uint64
+}
+
+func newHandle() *handle {
+	made.Lock()
+	made.handles++
+	h := &handle{number: made.handles}
+	made.Unlock()
+	runtime.SetFinalizer(h, func(h *handle) { C.kit_free(&h.raw) })
+	return h
+}
+
+// with makes a call that has one handle or two.
+func with(a, b *handle, call func(place *C.uint64_t) C.int32_t) error {
+	if a.number > b.number {
+		a, b = b, a
+	}
+	a.lock.Lock()
+	defer a.lock.Unlock()
+	if a != b {
+		b.lock.Lock()
+		defer b.lock.Unlock()
+	}
+	var place C.uint64_t
+	if code := call(&place); code != C.KIT_OK {
+		return Refused{int32(code), uint64(place)}
+	}
+	return nil
+}
+
+var noBytes = [1]byte{}
+
+// A text as C takes it: the pointer is never nil.
+func text(s string) (*C.uint8_t, C.size_t) {
+	bytes := []byte(s)
+	if len(bytes) == 0 {
+		return (*C.uint8_t)(unsafe.Pointer(&noBytes[0])), 0
+	}
+	return (*C.uint8_t)(unsafe.Pointer(&bytes[0])), C.size_t(len(bytes))
+}
+
+// Instrument is a scope, a name, a unit and a kind.
+type Instrument struct {
+	Scope, Name, Unit string
+	Kind              uint8
+}
+
+type (
+	Attributes struct{ h *handle }
+	Plan       struct{ h *handle }
+	Writer     struct{ h *handle }
+	Export     struct{ h *handle }
+	Gateway        struct{ h *handle }
+)
+
+// NewAttributes makes a set of keys and values that take turns.
+func NewAttributes(pairs ...string) (Attributes, error) {
+	list, h := newHandle(), newHandle()
+	for i := 0; i+1 < len(pairs); i += 2 {
+		key, keyLen := text(pairs[i])
+		value, valueLen := text(pairs[i+1])
+		if err := with(list, list, func(*C.uint64_t) C.int32_t {
+			return C.kit_pairs_add_text(&list.raw, key, keyLen, value, valueLen)
+		}); err != nil {
+			return Attributes{}, err
+		}
+	}
+	return Attributes{h}, with(h, list, func(place *C.uint64_t) C.int32_t {
+		return C.kit_attributes_make(&h.raw, &list.raw, place)
+	})
+}
+
+// NewPlan makes the plan of instruments, which are numbered from 0.
+func NewPlan(instruments ...Instrument) (Plan, error) {
+	list, h := newHandle(), newHandle()
+	for _, one := range instruments {
+		scope, scopeLen := text(one.Scope)
+		name, nameLen := text(one.Name)
+		unit, unitLen := text(one.Unit)
+		if err := with(list, list, func(*C.uint64_t) C.int32_t {
+			return C.kit_instruments_add(&list.raw, scope, scopeLen, name, nameLen, unit, unitLen, C.uint8_t(one.Kind))
+		}); err != nil {
+			return Plan{}, err
+		}
+	}
+	return Plan{h}, with(h, list, func(place *C.uint64_t) C.int32_t {
+		var views C.kit_handle
+		var second C.uint64_t
+		return C.kit_plan_build(&h.raw, &list.raw, &views, C.KIT_DEFAULT_LIMIT, place, &second)
+	})
+}
+
+// StartWriter starts a writer of a service's instance, which counts from start on.
+func StartWriter(plan Plan, service string, high, low, start uint64) (Writer, error) {
+	h := newHandle()
+	s, sLen := text(service)
+	return Writer{h}, with(h, plan.h, func(*C.uint64_t) C.int32_t {
+		return C.kit_writer_start(&h.raw, &plan.h.raw, s, sLen, C.uint64_t(high), C.uint64_t(low), C.uint64_t(start))
+	})
+}
+
+func (w Writer) Measure(instrument int, a Attributes, value int64) error {
+	return with(w.h, a.h, func(place *C.uint64_t) C.int32_t {
+		return C.kit_writer_measure(&w.h.raw, C.size_t(instrument), &a.h.raw, C.int64_t(value), place)
+	})
+}
+
+func (w Writer) Collect(time uint64) (Export, error) {
+	h := newHandle()
+	return Export{h}, with(w.h, h, func(place *C.uint64_t) C.int32_t {
+		return C.kit_writer_collect(&w.h.raw, C.uint64_t(time), &h.raw, place)
+	})
+}
+
+// OpenGateway opens a gateway without points.
+func OpenGateway(id uint32) (Gateway, error) {
+	h := newHandle()
+	return Gateway{h}, with(h, h, func(*C.uint64_t) C.int32_t { return C.kit_gateway_open(&h.raw, C.uint32_t(id)) })
+}
+
+func (g Gateway) Take(e Export) (uint64, error) {
+	var changed C.uint64_t
+	err := with(g.h, e.h, func(*C.uint64_t) C.int32_t { return C.kit_gateway_take(&g.h.raw, &e.h.raw, &changed) })
+	return uint64(changed), err
+}
+
+// Sum gives the table of a sum, a line for each attribute set.
+func (g Gateway) Sum(scope, name, unit string, monotonic bool) (string, error) {
+	ask, rows, table := newHandle(), newHandle(), newHandle()
+	s, sLen := text(scope)
+	n, nLen := text(name)
+	u, uLen := text(unit)
+	if err := with(ask, ask, func(*C.uint64_t) C.int32_t {
+		return C.kit_ask_sum(&ask.raw, s, sLen, n, nLen, u, uLen, C.bool(monotonic))
+	}); err != nil {
+		return "", err
+	}
+	if err := with(g.h, rows, func(*C.uint64_t) C.int32_t { return C.kit_gateway_rows(&g.h.raw, &ask.raw, &rows.raw) }); err != nil {
+		return "", err
+	}
+	if err := with(rows, table, func(*C.uint64_t) C.int32_t { return C.kit_rows_table(&rows.raw, &table.raw) }); err != nil {
+		return "", err
+	}
+	for room := make([]byte, 1024); ; {
+		var length C.size_t
+		if err := with(table, table, func(*C.uint64_t) C.int32_t {
+			return C.kit_text_copy(&table.raw, (*C.uint8_t)(unsafe.Pointer(&room[0])), C.size_t(len(room)), &length)
+		}); err != nil {
+			return "", err
+		}
+		if int(length) <= len(room) {
+			return string(room[:length]), nil
+		}
+		room = make([]byte, int(length))
+	}
+}

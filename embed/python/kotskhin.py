@@ -1,0 +1,148 @@
+"""Proved metrics for Python, by ctypes over a shared library made of libkotskhin.a, whose path is in KOTSKHIN_SO."""
+import ctypes
+import os
+import threading
+from ctypes import POINTER, byref, c_bool, c_char_p, c_int32, c_int64, c_size_t, c_uint8, c_uint32, c_uint64
+
+COUNTER, UP_DOWN, GAUGE, HISTOGRAM = range(4)
+
+
+class _Raw(ctypes.Structure):
+    _fields_ = [("full", c_bool), ("at", ctypes.c_void_p)]
+
+
+_HANDLE, _TEXT = POINTER(_Raw), (c_char_p, c_size_t)
+_TYPES = {
+    "kit_free": [_HANDLE],
+    "kit_instruments_add": [_HANDLE, *_TEXT, *_TEXT, *_TEXT, c_uint8],
+    "kit_plan_build": [_HANDLE, _HANDLE, _HANDLE, c_uint64, POINTER(c_uint64), POINTER(c_uint64)],
+    "kit_pairs_add_text": [_HANDLE, *_TEXT, *_TEXT],
+    "kit_pairs_add_whole": [_HANDLE, *_TEXT, c_int64],
+    "kit_pairs_add_truth": [_HANDLE, *_TEXT, c_bool],
+    "kit_attributes_make": [_HANDLE, _HANDLE, POINTER(c_uint64)],
+    "kit_writer_start": [_HANDLE, _HANDLE, *_TEXT, c_uint64, c_uint64, c_uint64],
+    "kit_writer_measure": [_HANDLE, c_size_t, _HANDLE, c_int64, POINTER(c_uint64)],
+    "kit_writer_collect": [_HANDLE, c_uint64, _HANDLE, POINTER(c_uint64)],
+    "kit_gateway_open": [_HANDLE, c_uint32],
+    "kit_gateway_take": [_HANDLE, _HANDLE, POINTER(c_uint64)],
+    "kit_gateway_merge": [_HANDLE, _HANDLE, POINTER(c_uint64)],
+    "kit_ask_sum": [_HANDLE, *_TEXT, *_TEXT, *_TEXT, c_bool],
+    "kit_gateway_rows": [_HANDLE, _HANDLE, _HANDLE],
+    "kit_rows_table": [_HANDLE, _HANDLE],
+    "kit_text_copy": [_HANDLE, c_char_p, c_size_t, POINTER(c_size_t)],
+}
+_library = ctypes.CDLL(os.environ["KOTSKHIN_SO"])
+for _name, _types in _TYPES.items():
+    getattr(_library, _name).argtypes = _types
+    getattr(_library, _name).restype = None if _name == "kit_free" else c_int32
+
+# ctypes lets go of Python's own lock during a call, and a handle may be in one call at a time: one lock for all calls. A collector
+# may free a handle while its thread has the lock, so it may be taken again.
+_lock = threading.RLock()
+
+
+class Refused(Exception):
+    """A call is refused: a code of kotskhin.h, and the place that it tells."""
+
+    def __init__(self, code, place):
+        super().__init__(code, place)
+        self.code, self.place = code, place
+
+
+def _call(name, *given, place=None):
+    place = place or c_uint64()
+    with _lock:
+        code = getattr(_library, name)(*given)
+    if code:
+        raise Refused(code, place.value)
+
+
+def _text(text):
+    text = text.encode()
+    return text, len(text)
+
+
+class _Handle:
+    def __init__(self):
+        self._raw = _Raw(False, None)
+
+    @property
+    def _at(self):
+        return byref(self._raw)
+
+    def __del__(self):
+        with _lock:
+            _library.kit_free(self._at)
+
+
+class Attributes(_Handle):
+    def __init__(self, pairs=()):
+        super().__init__()
+        made, place = _Handle(), c_uint64()
+        for key, value in dict(pairs).items():
+            if isinstance(value, bool):
+                _call("kit_pairs_add_truth", made._at, *_text(key), value)
+            elif isinstance(value, int):
+                _call("kit_pairs_add_whole", made._at, *_text(key), value)
+            else:
+                _call("kit_pairs_add_text", made._at, *_text(key), *_text(value))
+        _call("kit_attributes_make", self._at, made._at, byref(place), place=place)
+
+
+class Plan(_Handle):
+    """The plan of instruments: each a scope, a name, a unit and a kind."""
+
+    def __init__(self, instruments, limit=2000):
+        super().__init__()
+        made, views, place, second = _Handle(), _Handle(), c_uint64(), c_uint64()
+        for scope, name, unit, kind in instruments:
+            _call("kit_instruments_add", made._at, *_text(scope), *_text(name), *_text(unit), kind)
+        _call("kit_plan_build", self._at, made._at, views._at, limit, byref(place), byref(second), place=place)
+
+
+class Export(_Handle):
+    pass
+
+
+class Writer(_Handle):
+    def __init__(self, plan, service, instance, start):
+        super().__init__()
+        _call("kit_writer_start", self._at, plan._at, *_text(service), instance >> 64, instance & (1 << 64) - 1, start)
+
+    def measure(self, instrument, attributes, value):
+        place = c_uint64()
+        _call("kit_writer_measure", self._at, instrument, attributes._at, value, byref(place), place=place)
+
+    def collect(self, time):
+        made, place = Export(), c_uint64()
+        _call("kit_writer_collect", self._at, time, made._at, byref(place), place=place)
+        return made
+
+
+class Gateway(_Handle):
+    def __init__(self, number):
+        super().__init__()
+        _call("kit_gateway_open", self._at, number)
+
+    def take(self, export):
+        changed = c_uint64()
+        _call("kit_gateway_take", self._at, export._at, byref(changed))
+        return changed.value
+
+    def merge(self, other):
+        changed = c_uint64()
+        if other is not self:
+            _call("kit_gateway_merge", self._at, other._at, byref(changed))
+        return changed.value
+
+    def sum(self, scope, name, unit, monotonic=True):
+        """The table of a sum, a line for each attribute set."""
+        ask, rows, table, length = _Handle(), _Handle(), _Handle(), c_size_t(1024)
+        _call("kit_ask_sum", ask._at, *_text(scope), *_text(name), *_text(unit), monotonic)
+        _call("kit_gateway_rows", self._at, ask._at, rows._at)
+        _call("kit_rows_table", rows._at, table._at)
+        while True:
+            room = ctypes.create_string_buffer(length.value)
+            _call("kit_text_copy", table._at, room, len(room), byref(length))
+            if length.value <= len(room):
+                return room.raw[: length.value].decode()

@@ -1,0 +1,160 @@
+//! Why a call is refused.
+use kotskhin_sys as sys;
+use std::fmt;
+
+/// Why a call is refused. A refused call changed nothing. Places count from 0, and each is the least at which the refusal fits.
+#[derive(Clone, Copy, Debug, PartialEq, Eq)]
+#[non_exhaustive]
+pub enum Error {
+    /// Memory was refused.
+    NoMemory,
+    /// The writer holds no set of this number.
+    NoSet,
+    /// There is no row of this number.
+    NoRow,
+    /// There is no point of what is asked for.
+    NoPoint,
+    /// A total is wider than the number that it is to be told in.
+    TooWide,
+    /// The writer was shut down, and not restarted since.
+    Closed,
+    /// The plan has no instrument of this number.
+    NoInstrument,
+    /// A counter or a histogram takes no value below 0.
+    Negative,
+    /// A total of this stream would leave its range.
+    Overflow { stream: u64 },
+    /// The time is not after this one, that of the last collection or of the start.
+    TimeNotAfter { last: u64 },
+    /// The new start is not after this one, the start so far.
+    StartNotAfter { start: u64 },
+    /// The key of this pair is empty.
+    EmptyKey { pair: u64 },
+    /// The name of this instrument breaks the rule of names.
+    BadName { instrument: u64 },
+    /// The unit of this instrument breaks the rule of units.
+    BadUnit { instrument: u64 },
+    /// The bounds of this view do not strictly rise, or are too many.
+    BadBounds { view: u64 },
+    /// The new name that this view gives breaks the rule of names.
+    BadRename { view: u64 },
+    /// This view matches every name, and gives a new one.
+    WildcardRename { view: u64 },
+    /// This instrument is matched by this view, whose aggregation does not fit its kind.
+    BadAggregation { instrument: u64, view: u64 },
+    /// These instruments feed one stream.
+    SameStream { first: u64, second: u64 },
+    /// The limit is 0.
+    BadLimit,
+    /// A code that these types make impossible: `NOTHING`, `WRONG_KIND`, `FULL`, `NOT_TEXT`, `BAD_NUMBER`, or none of the kit's.
+    Unexpected(i32),
+}
+
+/// The refusal of a code, with the places that it carries.
+#[cold]
+fn refusal(code: i32, place: u64, second: u64) -> Error {
+    match code {
+        sys::NO_MEMORY => Error::NoMemory,
+        sys::NO_SET => Error::NoSet,
+        sys::NO_ROW => Error::NoRow,
+        sys::NO_POINT => Error::NoPoint,
+        sys::TOO_WIDE => Error::TooWide,
+        sys::CLOSED => Error::Closed,
+        sys::NO_INSTRUMENT => Error::NoInstrument,
+        sys::NEGATIVE => Error::Negative,
+        sys::OVERFLOW => Error::Overflow { stream: place },
+        sys::TIME_NOT_AFTER => Error::TimeNotAfter { last: place },
+        sys::START_NOT_AFTER => Error::StartNotAfter { start: place },
+        sys::EMPTY_KEY => Error::EmptyKey { pair: place },
+        sys::BAD_NAME => Error::BadName { instrument: place },
+        sys::BAD_UNIT => Error::BadUnit { instrument: place },
+        sys::BAD_BOUNDS => Error::BadBounds { view: place },
+        sys::BAD_RENAME => Error::BadRename { view: place },
+        sys::WILDCARD_RENAME => Error::WildcardRename { view: place },
+        sys::BAD_AGGREGATION => Error::BadAggregation {
+            instrument: place,
+            view: second,
+        },
+        sys::SAME_STREAM => Error::SameStream {
+            first: place,
+            second,
+        },
+        sys::BAD_LIMIT => Error::BadLimit,
+        other => Error::Unexpected(other),
+    }
+}
+
+/// What a call answers.
+#[inline]
+pub(crate) fn checked(code: i32) -> Result<(), Error> {
+    checked_at(code, 0)
+}
+
+/// The same of a call that tells a place.
+#[inline]
+pub(crate) fn checked_at(code: i32, place: u64) -> Result<(), Error> {
+    checked_twice(code, place, 0)
+}
+
+/// The same of a call that tells two.
+#[inline]
+pub(crate) fn checked_twice(code: i32, place: u64, second: u64) -> Result<(), Error> {
+    if code == sys::OK {
+        Ok(())
+    } else {
+        Err(refusal(code, place, second))
+    }
+}
+
+impl fmt::Display for Error {
+    fn fmt(&self, f: &mut fmt::Formatter<'_>) -> fmt::Result {
+        match self {
+            Error::NoMemory => write!(f, "no memory"),
+            Error::NoSet => write!(f, "the writer holds no set of this number"),
+            Error::NoRow => write!(f, "there is no row of this number"),
+            Error::NoPoint => write!(f, "there is no point of what is asked for"),
+            Error::TooWide => write!(f, "the total is wider than the number that tells it"),
+            Error::Closed => write!(f, "the writer is closed"),
+            Error::NoInstrument => write!(f, "there is no such instrument"),
+            Error::Negative => write!(f, "the value is below 0"),
+            Error::Overflow { stream } => {
+                write!(f, "a total of stream {stream} would be out of range")
+            }
+            Error::TimeNotAfter { last } => write!(
+                f,
+                "the time is not after {last}, the last collection or the start"
+            ),
+            Error::StartNotAfter { start } => {
+                write!(f, "the new start is not after {start}, the start so far")
+            }
+            Error::EmptyKey { pair } => write!(f, "the key of pair {pair} is empty"),
+            Error::BadName { instrument } => write!(
+                f,
+                "the name of instrument {instrument} breaks the rule of names"
+            ),
+            Error::BadUnit { instrument } => write!(
+                f,
+                "the unit of instrument {instrument} breaks the rule of units"
+            ),
+            Error::BadBounds { view } => write!(
+                f,
+                "the bounds of view {view} do not strictly rise, or are too many"
+            ),
+            Error::BadRename { view } => {
+                write!(f, "the new name of view {view} breaks the rule of names")
+            }
+            Error::WildcardRename { view } => write!(f, "view {view} gives every name a new one"),
+            Error::BadAggregation { instrument, view } => write!(
+                f,
+                "the aggregation of view {view} does not fit instrument {instrument}"
+            ),
+            Error::SameStream { first, second } => {
+                write!(f, "instruments {first} and {second} feed one stream")
+            }
+            Error::BadLimit => write!(f, "the limit is 0"),
+            Error::Unexpected(code) => write!(f, "unexpected code {code}"),
+        }
+    }
+}
+
+impl std::error::Error for Error {}

@@ -1,0 +1,72 @@
+//! Gateways.
+use crate::ask::Ask;
+use crate::error::{Error, checked};
+use crate::export::Export;
+use crate::handle::Handle;
+use crate::rows::Rows;
+use kotskhin_sys::{
+    kit_gateway_conflicts, kit_gateway_merge, kit_gateway_open, kit_gateway_rows, kit_gateway_same,
+    kit_gateway_take,
+};
+use std::ptr;
+
+/// The newest points of all writers that were brought to it, in whatever order and however often.
+pub struct Gateway(Handle);
+
+impl Gateway {
+    /// A gateway without points, under an id. Refused: `NoMemory`.
+    pub fn open(id: u32) -> Result<Gateway, Error> {
+        let mut gateway = Handle::empty();
+        // SAFETY: the handle is ours alone.
+        checked(unsafe { kit_gateway_open(gateway.change(), id) })?;
+        Ok(Gateway(gateway))
+    }
+
+    /// Takes an export, and answers the number of keys whose points changed. Refused: `NoMemory`.
+    pub fn take(&mut self, export: &Export) -> Result<u64, Error> {
+        let mut changed = 0;
+        // SAFETY: the gateway is ours alone, and the export stays on this thread; they are two.
+        checked(unsafe { kit_gateway_take(self.0.change(), export.0.read(), &mut changed) })?;
+        Ok(changed)
+    }
+
+    /// Joins what another gateway holds, and answers the number of keys whose points changed. Refused: `NoMemory`.
+    pub fn merge(&mut self, other: &Gateway) -> Result<u64, Error> {
+        let mut changed = 0;
+        // SAFETY: this one is ours alone, and the other stays on this thread; a `&mut` and a `&` are of two.
+        checked(unsafe { kit_gateway_merge(self.0.change(), other.0.read(), &mut changed) })?;
+        Ok(changed)
+    }
+
+    /// The number of keys at whose time different values came: two writers recorded under one identity.
+    pub fn conflicts(&self) -> Result<u64, Error> {
+        let mut count = 0;
+        // SAFETY: the gateway stays on this thread.
+        checked(unsafe { kit_gateway_conflicts(self.0.read(), &mut count) })?;
+        Ok(count)
+    }
+
+    /// Whether both hold equal points; ids are not compared.
+    pub fn same(&self, other: &Gateway) -> Result<bool, Error> {
+        if ptr::eq(self, other) {
+            return Ok(true);
+        }
+        let mut same = false;
+        // SAFETY: both stay on this thread, and they are two.
+        checked(unsafe { kit_gateway_same(self.0.read(), other.0.read(), &mut same) })?;
+        Ok(same)
+    }
+
+    /// The rows that answer an ask, in the order of their attribute sets. Refused: `NoMemory`.
+    pub fn rows(&self, ask: &Ask) -> Result<Rows, Error> {
+        let mut rows = Handle::empty();
+        // SAFETY: the rows are ours alone, the gateway and the ask stay on this thread; they are three.
+        checked(unsafe { kit_gateway_rows(self.0.read(), ask.0.read(), rows.change()) })?;
+        Ok(Rows(rows))
+    }
+
+    /// The table that answers an ask: a line for each row below a header. Refused: `NoMemory`.
+    pub fn table(&self, ask: &Ask) -> Result<String, Error> {
+        self.rows(ask)?.table()
+    }
+}

@@ -1,0 +1,31 @@
+//! Metrics after OpenTelemetry whose totals are proved: safe types over libkotskhin.a.
+//!
+//! [`metrics`] has OpenTelemetry's names: `Meter`, `Counter::add`, `Histogram::record`. Below it are the kit's own: a [`Writer`]
+//! records under a [`Plan`] and gives an [`Export`], a [`Gateway`] takes exports and merges with others, and answers an [`Ask`]
+//! with a table. Times are nanoseconds since the Unix epoch.
+//!
+//! A call that is refused says why, and changes nothing ([`Error`]). Every type may go to another thread, and none may be read by
+//! two at once: the library's calls need their handles for themselves, those that only read, too.
+#![deny(unsafe_op_in_unsafe_fn)]
+
+mod ask;
+mod attributes;
+mod error;
+mod export;
+mod gateway;
+mod handle;
+pub mod metrics;
+mod plan;
+mod rows;
+mod view;
+mod writer;
+
+pub use ask::Ask;
+pub use attributes::{AttributeValue, Attributes};
+pub use error::Error;
+pub use export::Export;
+pub use gateway::Gateway;
+pub use plan::{DEFAULT_LIMIT, Instruments, Kind, Plan};
+pub use rows::Rows;
+pub use view::{Aggregation, View, Views};
+pub use writer::{SetNumber, Writer};

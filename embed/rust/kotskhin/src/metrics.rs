@@ -1,0 +1,173 @@
+//! The names of OpenTelemetry's metrics API, over a writer that threads share by a `Mutex` of Rust.
+//!
+//! Three things are other than there. Instruments are declared in one place, before the first recording, since a plan is fixed
+//! when its writer starts. `add` and `record` answer a `Result`: nothing is dropped or wrapped in silence. Values are whole
+//! numbers. Attributes are made once and held: to make them anew for each recording costs several times as much.
+use crate::{Attributes, DEFAULT_LIMIT, Error, Export, Instruments, Kind, Plan, SetNumber, Writer};
+use std::sync::{Arc, Mutex, MutexGuard, OnceLock, PoisonError};
+
+#[derive(Default)]
+struct Shared(OnceLock<Mutex<Writer>>);
+
+impl Shared {
+    // No panic can leave the writer half changed, so a lock that one has poisoned is as good as before.
+    fn writer(&self) -> MutexGuard<'_, Writer> {
+        let writer = self
+            .0
+            .get()
+            .expect("`Meter::start` hands out no instrument before the writer");
+        writer.lock().unwrap_or_else(PoisonError::into_inner)
+    }
+}
+
+/// Declares the instruments of one scope.
+pub struct Declaring<'a> {
+    scope: &'a str,
+    instruments: Instruments,
+    shared: Arc<Shared>,
+}
+
+impl Declaring<'_> {
+    fn instrument(&mut self, name: &str, unit: &str, kind: Kind) -> Result<Instrument, Error> {
+        let number = self.instruments.add(self.scope, name, unit, kind)?;
+        Ok(Instrument {
+            shared: Arc::clone(&self.shared),
+            number,
+        })
+    }
+
+    pub fn counter(&mut self, name: &str, unit: &str) -> Result<Counter, Error> {
+        Ok(Counter(self.instrument(name, unit, Kind::Counter)?))
+    }
+
+    pub fn up_down_counter(&mut self, name: &str, unit: &str) -> Result<UpDownCounter, Error> {
+        Ok(UpDownCounter(self.instrument(name, unit, Kind::UpDown)?))
+    }
+
+    pub fn gauge(&mut self, name: &str, unit: &str) -> Result<Gauge, Error> {
+        Ok(Gauge(self.instrument(name, unit, Kind::Gauge)?))
+    }
+
+    pub fn histogram(&mut self, name: &str, unit: &str) -> Result<Histogram, Error> {
+        Ok(Histogram(self.instrument(name, unit, Kind::Histogram)?))
+    }
+}
+
+#[derive(Clone)]
+struct Instrument {
+    shared: Arc<Shared>,
+    number: usize,
+}
+
+impl Instrument {
+    fn measure(&self, value: i64, attributes: &Attributes) -> Result<(), Error> {
+        self.shared.writer().measure(self.number, attributes, value)
+    }
+
+    fn measure_held(&self, value: i64, set: SetNumber) -> Result<(), Error> {
+        self.shared.writer().measure_held(self.number, set, value)
+    }
+
+    fn hold(&self, attributes: &Attributes) -> Result<SetNumber, Error> {
+        self.shared.writer().hold(attributes)
+    }
+}
+
+/// A value that the kit's whole numbers have no room for is refused as one that would leave the total's range.
+fn whole(value: u64) -> Result<i64, Error> {
+    i64::try_from(value).map_err(|_| Error::TooWide)
+}
+
+/// Increments of at least 0.
+#[derive(Clone)]
+pub struct Counter(Instrument);
+
+impl Counter {
+    pub fn add(&self, value: u64, attributes: &Attributes) -> Result<(), Error> {
+        self.0.measure(whole(value)?, attributes)
+    }
+
+    /// The counter at one set, for any thread and for as long as the meter.
+    pub fn with(&self, attributes: &Attributes) -> Result<BoundCounter, Error> {
+        Ok(BoundCounter(self.0.clone(), self.0.hold(attributes)?))
+    }
+}
+
+/// A counter at one set of attributes: recording looks up no handle of a set.
+#[derive(Clone)]
+pub struct BoundCounter(Instrument, SetNumber);
+
+impl BoundCounter {
+    pub fn add(&self, value: u64) -> Result<(), Error> {
+        self.0.measure_held(whole(value)?, self.1)
+    }
+}
+
+/// Increments of either sign.
+#[derive(Clone)]
+pub struct UpDownCounter(Instrument);
+
+impl UpDownCounter {
+    pub fn add(&self, value: i64, attributes: &Attributes) -> Result<(), Error> {
+        self.0.measure(value, attributes)
+    }
+}
+
+/// Values of which the last one counts.
+#[derive(Clone)]
+pub struct Gauge(Instrument);
+
+impl Gauge {
+    pub fn record(&self, value: i64, attributes: &Attributes) -> Result<(), Error> {
+        self.0.measure(value, attributes)
+    }
+}
+
+/// Values of at least 0 whose distribution counts.
+#[derive(Clone)]
+pub struct Histogram(Instrument);
+
+impl Histogram {
+    pub fn record(&self, value: u64, attributes: &Attributes) -> Result<(), Error> {
+        self.0.measure(whole(value)?, attributes)
+    }
+}
+
+/// A writer, and what is done with it beside recording.
+#[derive(Clone)]
+pub struct Meter {
+    shared: Arc<Shared>,
+}
+
+impl Meter {
+    /// A meter of a service's instance, and the instruments that `declare` makes. Refused as `Plan::build` is.
+    pub fn start<T>(
+        service: &str,
+        instance: u128,
+        scope: &str,
+        start: u64,
+        declare: impl FnOnce(&mut Declaring) -> Result<T, Error>,
+    ) -> Result<(Meter, T), Error> {
+        let shared = Arc::new(Shared::default());
+        let mut declaring = Declaring {
+            scope,
+            instruments: Instruments::new(),
+            shared: Arc::clone(&shared),
+        };
+        let declared = declare(&mut declaring)?;
+        let plan = Plan::build(&declaring.instruments, DEFAULT_LIMIT)?;
+        let writer = Writer::start(&plan, service, instance, start)?;
+        let _ = shared.0.set(Mutex::new(writer));
+        Ok((Meter { shared }, declared))
+    }
+
+    /// All that was recorded so far. A thread of the host calls this once in a while, and brings the export to its gateways.
+    pub fn collect(&self, time: u64) -> Result<Export, Error> {
+        self.shared.writer().collect(time)
+    }
+
+    /// The same for the last time: from now on recordings are refused as `Closed`.
+    pub fn shutdown(&self, time: u64) -> Result<Export, Error> {
+        self.shared.writer().shutdown(time)
+    }
+}

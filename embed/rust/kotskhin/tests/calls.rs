@@ -1,0 +1,228 @@
+//! Refusals, threads and tables, in safe code.
+#![forbid(unsafe_code)]
+use kotskhin::metrics::{Counter, Meter};
+use kotskhin::{
+    Aggregation, Ask, AttributeValue, Attributes, DEFAULT_LIMIT, Error, Gateway, Instruments, Kind,
+    Plan, View, Views, Writer,
+};
+use std::thread;
+
+fn plan() -> Result<Plan, Error> {
+    let mut instruments = Instruments::new();
+    instruments.add("app", "requests", "1", Kind::Counter)?;
+    Plan::build(&instruments, DEFAULT_LIMIT)
+}
+
+fn writer(instance: u128) -> Result<Writer, Error> {
+    Writer::start(&plan()?, "shop", instance, 100)
+}
+
+fn requests() -> Result<Ask, Error> {
+    Ask::sum("app", "requests", "1", true)
+}
+
+const TOTAL_OF_7: &str = "attributes  points  conflicts  total\n{}               1          0  7\n";
+
+#[test]
+fn one_export_is_for_many_gateways() -> Result<(), Error> {
+    let (mut writer, none) = (writer(1)?, Attributes::none()?);
+    writer.measure(0, &none, 3)?;
+    writer.measure(0, &none, 4)?;
+    let export = writer.collect(200)?;
+    let (mut one, mut other) = (Gateway::open(1)?, Gateway::open(2)?);
+    assert_eq!(one.take(&export), Ok(1));
+    assert_eq!(one.take(&export), Ok(0));
+    assert_eq!(other.take(&export), Ok(1));
+    assert_eq!(other.merge(&one), Ok(0));
+    assert_eq!(one.table(&requests()?)?, TOTAL_OF_7);
+    assert_eq!(other.table(&requests()?)?, TOTAL_OF_7);
+    let rows = one.rows(&requests()?)?;
+    assert_eq!(
+        (rows.count(), rows.counts(0), rows.sum(0)),
+        (Ok(1), Ok((1, 0)), Ok(7))
+    );
+    assert_eq!(rows.sum(1), Err(Error::NoRow));
+    assert_eq!(rows.gauge(0), Err(Error::Unexpected(3)));
+    assert_eq!(one.same(&other), Ok(true));
+    assert_eq!(one.same(&one), Ok(true));
+    assert_eq!(one.conflicts(), Ok(0));
+    Ok(())
+}
+
+#[test]
+fn refusals_are_told_and_change_nothing() -> Result<(), Error> {
+    let (mut writer, none) = (writer(1)?, Attributes::none()?);
+    writer.measure(0, &none, 7)?;
+    assert_eq!(writer.measure(1, &none, 1), Err(Error::NoInstrument));
+    assert_eq!(writer.measure(0, &none, -1), Err(Error::Negative));
+    assert_eq!(
+        writer.measure(0, &none, i64::MAX),
+        Err(Error::Overflow { stream: 0 })
+    );
+    assert_eq!(
+        writer.collect(100).err(),
+        Some(Error::TimeNotAfter { last: 100 })
+    );
+    assert_eq!(
+        writer.restart(100),
+        Err(Error::StartNotAfter { start: 100 })
+    );
+    let mut gateway = Gateway::open(1)?;
+    gateway.take(&writer.collect(200)?)?;
+    assert_eq!(gateway.table(&requests()?)?, TOTAL_OF_7);
+    gateway.take(&writer.shutdown(300)?)?;
+    assert_eq!(gateway.table(&requests()?)?, TOTAL_OF_7);
+    assert_eq!(writer.measure(0, &none, 1), Err(Error::Closed));
+    writer.restart(300)?;
+    writer.measure(0, &none, 1)?;
+    let pairs = [("a", "v"), ("", "v")];
+    assert_eq!(
+        Attributes::new(pairs).err(),
+        Some(Error::EmptyKey { pair: 1 })
+    );
+    let mut bad = Instruments::new();
+    bad.add("app", "fine", "1", Kind::Counter)?;
+    bad.add("app", "9 lives", "1", Kind::Counter)?;
+    assert_eq!(
+        Plan::build(&bad, 1).err(),
+        Some(Error::BadName { instrument: 1 })
+    );
+    assert_eq!(
+        Plan::build(&Instruments::new(), 0).err(),
+        Some(Error::BadLimit)
+    );
+    Ok(())
+}
+
+#[test]
+fn attributes_are_sets_and_writers_hold_them() -> Result<(), Error> {
+    let mut writer = writer(1)?;
+    let one = Attributes::new([
+        ("route", AttributeValue::Text("/")),
+        ("status", AttributeValue::Whole(200)),
+        ("cached", AttributeValue::Truth(true)),
+    ])?;
+    let same = Attributes::new([
+        ("cached", AttributeValue::Truth(true)),
+        ("status", AttributeValue::Whole(200)),
+        ("route", AttributeValue::Text("/")),
+    ])?;
+    let held = writer.hold(&same)?;
+    writer.measure(0, &one, 3)?;
+    writer.measure_held(0, held, 4)?;
+    let mut gateway = Gateway::open(1)?;
+    gateway.take(&writer.collect(200)?)?;
+    let table = gateway.table(&requests()?)?;
+    assert_eq!(table.lines().count(), 2, "{table}");
+    assert!(table.ends_with("  7\n"), "{table}");
+    let mut by_route = requests()?;
+    by_route.keep(["route"])?;
+    by_route.only([("status", 200)])?;
+    by_route.service("shop")?;
+    assert!(
+        gateway.table(&by_route)?.contains("{route=\"/\"}"),
+        "{}",
+        gateway.table(&by_route)?
+    );
+    let mut of_others = requests()?;
+    of_others.service("bank")?;
+    assert_eq!(gateway.table(&of_others)?.lines().count(), 1);
+    Ok(())
+}
+
+#[test]
+fn views_make_streams_of_their_own() -> Result<(), Error> {
+    let mut instruments = Instruments::new();
+    instruments.add("app", "latency", "ms", Kind::Histogram)?;
+    let mut by_route = View::of_name("latency")?;
+    by_route.kind(Kind::Histogram)?;
+    by_route.scope("app")?;
+    by_route.rename("latency.by.route")?;
+    by_route.keep(["route"])?;
+    by_route.aggregate(Aggregation::Buckets(&[10, 100]))?;
+    let mut views = Views::new();
+    views.add(&by_route)?;
+    let plan = Plan::with_views(&instruments, &views, DEFAULT_LIMIT)?;
+    let mut writer = Writer::start(&plan, "shop", 1, 100)?;
+    for (route, status) in [("/", 200), ("/", 404), ("/cart", 200)] {
+        let pairs = [
+            ("route", AttributeValue::Text(route)),
+            ("status", AttributeValue::Whole(status)),
+        ];
+        writer.measure(0, &Attributes::new(pairs)?, status)?;
+    }
+    let mut gateway = Gateway::open(1)?;
+    gateway.take(&writer.collect(200)?)?;
+    let ask = Ask::histogram("app", "latency.by.route", "ms", &[10, 100])?;
+    assert_eq!(
+        gateway.rows(&ask)?.count(),
+        Ok(2),
+        "{}",
+        gateway.table(&ask)?
+    );
+
+    let mut bad = View::of_every()?;
+    bad.rename("one.for.all")?;
+    let mut refused = Views::new();
+    refused.add(&by_route)?;
+    refused.add(&bad)?;
+    assert_eq!(
+        Plan::with_views(&instruments, &refused, 1).err(),
+        Some(Error::WildcardRename { view: 1 })
+    );
+    Ok(())
+}
+
+// Threads share one writer behind Rust's lock, each with attributes of its own or with a set that the writer holds.
+#[test]
+fn threads_share_a_meter() -> Result<(), Error> {
+    let (meter, requests): (Meter, Counter) =
+        Meter::start("shop", 1, "app", 100, |m| m.counter("requests", "1"))?;
+    let bound = requests.with(&Attributes::none()?)?;
+    let mut gateway = Gateway::open(1)?;
+    thread::scope(|scope| {
+        for _ in 0..4 {
+            let (requests, bound) = (requests.clone(), bound.clone());
+            scope.spawn(move || {
+                let none = Attributes::none().expect("memory");
+                for _ in 0..12_500 {
+                    requests.add(1, &none).expect("room");
+                    bound.add(1).expect("room");
+                }
+            });
+        }
+        for time in 200..210 {
+            gateway
+                .take(&meter.collect(time).expect("memory"))
+                .expect("memory");
+        }
+    });
+    gateway.take(&meter.shutdown(1000)?)?;
+    let table = gateway.table(&self::requests()?)?;
+    assert!(table.ends_with("  1          0  100000\n"), "{table}");
+    assert_eq!(bound.add(1), Err(Error::Closed));
+    Ok(())
+}
+
+// Each thread has a writer of its own, which then goes to the thread that collects: no lock at all.
+#[test]
+fn threads_have_writers() -> Result<(), Error> {
+    let mut gateway = Gateway::open(1)?;
+    let mut hands = Vec::new();
+    for instance in 1..=4 {
+        let mut writer = writer(instance)?;
+        hands.push(thread::spawn(move || {
+            let none = Attributes::none().expect("memory");
+            for _ in 0..25_000 {
+                writer.measure(0, &none, 1).expect("room");
+            }
+            writer
+        }));
+    }
+    for hand in hands {
+        gateway.take(&hand.join().expect("no panic").collect(200)?)?;
+    }
+    let table = gateway.table(&requests()?)?;
+    assert!(table.ends_with("  4          0  100000\n"), "{table}");
+    Ok(())
+}

@@ -1,0 +1,159 @@
+#!/usr/bin/env python3
+"""The kit in other languages: every caller, in each language that the machine has.
+
+    callers.py [FOLDER]      FOLDER is what embed/build made; it is built in a folder of this run where none is given
+
+The archive is built, and the declarations are held to the exports (embed/build). Then the first script, in C and C++ under each
+compiler that is there, in Rust, Go and Python: each must print examples/first.out. In C every refusal is raised once, each growth of
+each call is refused in turn, and threads record, each plainly and under AddressSanitizer with its leak check. In Rust the tests
+run, and callers that misuse the types must not compile. A language that the machine has not is told and passed over.
+
+This ends with a status other than 0 where one fails or differs. It leaves nothing in the tree but what lies in out/."""
+import os
+import pathlib
+import re
+import shutil
+import subprocess
+import sys
+import tempfile
+import time
+
+TOP = pathlib.Path(__file__).resolve().parents[2]
+EMBED = TOP / "embed"
+HERE = TOP / "tests" / "embed"
+WANTED = (TOP / "examples" / "first.out").read_bytes()
+C = ["-std=c11", "-Wall", "-Wextra", "-Werror"]
+CPP = ["-std=c++17", "-Wall", "-Wextra", "-Werror"]
+ASAN = ["-g", "-fsanitize=address", "-fno-omit-frame-pointer"]
+WRAPPED = ["-Wl,--wrap=malloc,--wrap=realloc"]
+ERROR = re.compile(r"^// (error\[E\d+\])$", re.M)
+
+
+class Run:
+    """What was run, and what failed."""
+
+    def __init__(self, kit, room):
+        self.kit, self.room, self.passed, self.failed = kit, room, 0, 0
+        self.linked = [f"-I{kit}/include", f"-L{kit}/lib", "-lkotskhin", "-pthread"]
+
+    def say(self, what, fault):
+        self.passed += not fault
+        self.failed += bool(fault)
+        print(f"{what}: {fault or 'ok'}", flush=True)
+
+    def run(self, what, *command, prints=None, **given):
+        """Runs a command: it must succeed, and print what is wanted where something is."""
+        try:
+            done = subprocess.run([str(it) for it in command], stdin=subprocess.DEVNULL, capture_output=True, timeout=900, **given)
+        except (OSError, subprocess.TimeoutExpired) as fault:
+            self.say(what, repr(fault))
+            return False
+        fault = None
+        if done.returncode:
+            fault = f"status {done.returncode}\n{(done.stdout + done.stderr).decode(errors='replace')}"
+        elif prints is not None and done.stdout != prints:
+            fault = f"it printed\n{done.stdout.decode(errors='replace')}"
+        self.say(what, fault)
+        return not fault
+
+    def compiled(self, what, compiler, source, flags, prints=None):
+        """Compiles one file over the kit, and runs it."""
+        program = self.room / "program"
+        libraries = [it for it in self.linked if not it.startswith("-I")]
+        if self.run(f"{what}: compiled", compiler, *flags, self.linked[0], source, *libraries, "-o", program):
+            self.run(what, program, prints=prints, env={**os.environ, "ASAN_OPTIONS": "detect_leaks=1"})
+
+    def c(self):
+        for compiler in ("gcc", "clang"):
+            if not shutil.which(compiler):
+                print(f"C: there is no {compiler}")
+                continue
+            for how, flags in (("", ["-O2"]), (" under AddressSanitizer", ASAN)):
+                self.compiled(f"C, {compiler}{how}: the first script", compiler, EMBED / "c" / "first.c", C + flags, WANTED)
+                self.compiled(f"C, {compiler}{how}: refusals", compiler, HERE / "refusals.c", C + flags + WRAPPED)
+                self.compiled(f"C, {compiler}{how}: threads", compiler, HERE / "threads.c", C + flags)
+            self.installed(compiler)
+
+    def installed(self, compiler):
+        """The same by pkg-config, as a service is built."""
+        if not shutil.which("pkg-config"):
+            print("C: there is no pkg-config")
+            return
+        given = {**os.environ, "PKG_CONFIG_PATH": f"{self.kit}/lib/pkgconfig"}
+        told = subprocess.run(["pkg-config", "--cflags", "--libs", "kotskhin"], capture_output=True, text=True, env=given, check=False).stdout
+        program = self.room / "program"
+        if self.run(f"C, {compiler}: compiled by pkg-config", compiler, EMBED / "c" / "first.c", *told.split(), "-o", program):
+            self.run(f"C, {compiler}: the first script by pkg-config", program, prints=WANTED)
+
+    def cpp(self):
+        for compiler in ("g++", "clang++"):
+            if not shutil.which(compiler):
+                print(f"C++: there is no {compiler}")
+                continue
+            for how, flags in (("", ["-O2"]), (" under AddressSanitizer", ASAN)):
+                self.compiled(f"C++, {compiler}{how}: the first script", compiler, EMBED / "cpp" / "first.cpp", CPP + flags, WANTED)
+
+    def rust(self):
+        if not shutil.which("cargo") or not self.works("cargo"):
+            print("Rust: there is no cargo")
+            return
+        target = self.room / "rust"
+        given = {**os.environ, "KOTSKHIN_LIB": f"{self.kit}/lib", "CARGO_TARGET_DIR": str(target), "RUSTFLAGS": "-D warnings"}
+        cargo = {"cwd": EMBED / "rust", "env": given}
+        self.run("Rust: tests", "cargo", "test", "-q", "--offline", "--locked", **cargo)
+        self.run("Rust: the first script", "cargo", "run", "-q", "--offline", "--locked", "--example", "first", prints=WANTED, **cargo)
+        self.run("Rust: built", "cargo", "build", "-q", "--offline", "--locked", **cargo)
+        for caller in sorted((HERE / "misuse").glob("*.rs")):
+            self.misused(caller, target / "debug")
+
+    def misused(self, caller, built):
+        """A caller that must not compile, and the error that says so."""
+        wanted = ERROR.search(caller.read_text(encoding="utf-8"))[1]
+        command = ["rustc", "--edition", "2024", "--crate-type", "lib", "--emit", "metadata", "--extern", f"kotskhin={built}/libkotskhin.rlib"]
+        command += ["-L", f"dependency={built}/deps", "-o", f"{self.room}/misuse", str(caller)]
+        done = subprocess.run(command, capture_output=True, text=True, check=False)
+        told = sorted(set(re.findall(r"^error\[E\d+\]", done.stderr, re.M)))
+        self.say(f"Rust: refused: {caller.stem}", None if done.returncode and told == [wanted] else f"not {wanted} alone\n{done.stderr}")
+
+    def go(self):
+        if not shutil.which("go"):
+            print("Go: there is no go")
+            return
+        given = {"CGO_CFLAGS": f"-I{self.kit}/include", "CGO_LDFLAGS": f"-L{self.kit}/lib -lkotskhin", "GOCACHE": f"{self.room}/go", "GOFLAGS": "-mod=mod", "GOPROXY": "off"}
+        program = self.room / "program"
+        if self.run("Go: compiled", "go", "build", "-o", program, "./first", cwd=EMBED / "go", env={**os.environ, **given}):
+            self.run("Go: the first script", program, prints=WANTED)
+
+    def python(self):
+        compiler = next((it for it in ("cc", "gcc", "clang") if shutil.which(it)), None)
+        if not compiler:
+            print("Python: there is no compiler to make a shared library with")
+            return
+        shared = self.room / "libkotskhin.so"
+        whole = ["-Wl,--whole-archive", f"{self.kit}/lib/libkotskhin.a", "-Wl,--no-whole-archive"]
+        if self.run("Python: the shared library", compiler, "-shared", "-o", shared, *whole):
+            given = {**os.environ, "KOTSKHIN_SO": str(shared)}
+            self.run("Python: the first script", sys.executable, "-B", EMBED / "python" / "first.py", prints=WANTED, env=given)
+
+    def works(self, command):
+        return not subprocess.run([command, "--version"], capture_output=True, stdin=subprocess.DEVNULL, check=False).returncode
+
+
+def main():
+    began = time.time()
+    with tempfile.TemporaryDirectory() as made:
+        room = pathlib.Path(made)
+        kit = pathlib.Path(sys.argv[1]).resolve() if len(sys.argv) > 1 else room / "kit"
+        if len(sys.argv) < 2 and subprocess.run([sys.executable, "-B", str(EMBED / "build"), str(kit)], stdin=subprocess.DEVNULL, check=False).returncode:
+            print("embed/build failed")
+            return 1
+        built = time.time()
+        run = Run(kit, room)
+        for language in (run.c, run.cpp, run.rust, run.go, run.python):
+            language()
+    print(f"{run.passed} passed, {run.failed} failed; {built - began:.0f} s to build, {time.time() - built:.0f} s to run")
+    return 1 if run.failed else 0
+
+
+if __name__ == "__main__":
+    sys.exit(main())

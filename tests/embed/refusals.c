@@ -1,0 +1,347 @@
+/* Every refusal, raised once: what it answers, the place that it tells, and that it leaves all as it was. Then the growths of each
+ * call that takes memory, refused one after the other (linked with --wrap=malloc,--wrap=realloc). Prints the first check that does
+ * not hold and exits with 1, or exits with 0. */
+#include <kotskhin.h>
+#include <stdio.h>
+#include <stdlib.h>
+#include <string.h>
+
+#define TEXT(s) (const uint8_t *)(s), sizeof(s) - 1
+#define CHECK(holds)                                            \
+    do {                                                        \
+        if (!(holds)) {                                         \
+            printf("line %d: %s does not hold\n", __LINE__, #holds); \
+            exit(1);                                            \
+        }                                                       \
+    } while (0)
+
+void *__real_malloc(size_t size);
+void *__real_realloc(void *at, size_t size);
+
+/* The growth that is refused, counted from 1; 0 for none. */
+static unsigned refused = 0;
+
+static bool refuses(void) { return refused && !--refused; }
+
+void *__wrap_malloc(size_t size) { return refuses() ? NULL : __real_malloc(size); }
+
+void *__wrap_realloc(void *at, size_t size) { return refuses() ? NULL : __real_realloc(at, size); }
+
+/* Makes a call again until no growth of it is refused: each refusal says so, and leaves all as it was. */
+#define EACH_GROWTH(call, as_before)             \
+    do {                                         \
+        unsigned growth = 0;                     \
+        for (;;) {                               \
+            refused = ++growth;                  \
+            int32_t code = (call);               \
+            refused = 0;                         \
+            if (code == KIT_OK) {                \
+                break;                           \
+            }                                    \
+            CHECK(code == KIT_NO_MEMORY);        \
+            CHECK(as_before);                    \
+        }                                        \
+        CHECK(growth > 1);                       \
+    } while (0)
+
+static uint64_t place, second, changed;
+
+/* The table of the counter at a gateway is this one. */
+static bool tells(kit_handle *gateway, const char *want) {
+    kit_handle ask = KIT_EMPTY, rows = KIT_EMPTY, table = KIT_EMPTY;
+    uint8_t text[1024];
+    size_t len = 0;
+    bool fits = !kit_ask_sum(&ask, TEXT("app"), TEXT("requests"), TEXT("1"), true) && !kit_gateway_rows(gateway, &ask, &rows) &&
+                !kit_rows_table(&rows, &table) && !kit_text_copy(&table, text, sizeof text, &len) && len == strlen(want) &&
+                !memcmp(text, want, len);
+    kit_free(&ask), kit_free(&rows), kit_free(&table);
+    return fits;
+}
+
+static const char *const SEVEN = "attributes  points  conflicts  total\n{}               1          0  7\n";
+static const char *const NO_ROWS = "attributes  points  conflicts  total\n";
+
+/* What a writer has comes to 7, as a fresh gateway says. */
+static bool has_seven(kit_handle *writer, uint64_t time) {
+    kit_handle collected = KIT_EMPTY, gateway = KIT_EMPTY;
+    bool fits = !kit_writer_collect(writer, time, &collected, &place) && !kit_gateway_open(&gateway, 9) &&
+                !kit_gateway_take(&gateway, &collected, &changed) && tells(&gateway, SEVEN);
+    kit_free(&collected), kit_free(&gateway);
+    return fits;
+}
+
+/* The plan of these instruments and of one view is refused so. */
+static int32_t planned(kit_handle *instruments, kit_handle *view) {
+    kit_handle views = KIT_EMPTY, plan = KIT_EMPTY;
+    CHECK(!kit_views_add(&views, view));
+    place = second = 77;
+    int32_t code = kit_plan_build(&plan, instruments, &views, 1, &place, &second);
+    CHECK(plan.full == (code == KIT_OK));
+    kit_free(&views), kit_free(&plan);
+    return code;
+}
+
+static void views(void) {
+    kit_handle instruments = KIT_EMPTY, view = KIT_EMPTY, list = KIT_EMPTY, keys = KIT_EMPTY;
+    CHECK(!kit_instruments_add(&instruments, TEXT("app"), TEXT("requests"), TEXT("1"), KIT_COUNTER));
+    CHECK(!kit_instruments_add(&instruments, TEXT("app"), TEXT("size"), TEXT("By"), KIT_HISTOGRAM));
+    CHECK(kit_view_of_name(&view, TEXT("\xff")) == KIT_NOT_TEXT && !view.full);
+    CHECK(kit_view_kind(&view, KIT_COUNTER) == KIT_NOTHING && !view.full);
+    EACH_GROWTH(kit_view_of_name(&view, TEXT("a name of more than thirty bytes of text")), !view.full);
+    CHECK(kit_view_of_every(&view) == KIT_FULL && view.full);
+    CHECK(kit_view_kind(&view, 4) == KIT_BAD_NUMBER && kit_view_aggregation(&view, 4) == KIT_BAD_NUMBER);
+    CHECK(kit_view_scope(&view, TEXT("\xff")) == KIT_NOT_TEXT && kit_view_keep(&view, &instruments) == KIT_WRONG_KIND);
+    CHECK(kit_view_kind(&instruments, KIT_COUNTER) == KIT_WRONG_KIND && instruments.full);
+    CHECK(kit_views_add(&list, &instruments) == KIT_WRONG_KIND && kit_views_add(&instruments, &view) == KIT_WRONG_KIND && !list.full);
+    CHECK(kit_views_add(&list, &keys) == KIT_NOTHING && !list.full);
+    EACH_GROWTH(kit_views_add(&list, &view), !list.full && view.full);
+    kit_free(&view);
+
+    CHECK(!kit_view_of_name(&view, TEXT("Size")));
+    EACH_GROWTH(kit_view_rename(&view, TEXT("a_new_name_of_more_than_thirty_bytes")), view.full);
+    EACH_GROWTH(kit_view_scope(&view, TEXT("a scope of more than thirty bytes")), view.full);
+    CHECK(!kit_view_scope(&view, TEXT("app")) && !kit_view_kind(&view, KIT_HISTOGRAM));
+    CHECK(!kit_keys_add(&keys, TEXT("route")));
+    EACH_GROWTH(kit_view_keep(&view, &keys), view.full && keys.full);
+    CHECK(planned(&instruments, &view) == KIT_OK && place == 77 && second == 77);
+    CHECK(!kit_view_rename(&view, TEXT("9 lives")) && planned(&instruments, &view) == KIT_BAD_RENAME && place == 0);
+    CHECK(!kit_view_rename(&view, TEXT("fine")) && !kit_view_aggregation(&view, KIT_LAST_VALUE));
+    CHECK(planned(&instruments, &view) == KIT_BAD_AGGREGATION && place == 1 && second == 0);
+    const int64_t falling[] = {2, 1};
+    EACH_GROWTH(kit_view_buckets(&view, falling, 2), view.full);
+    CHECK(planned(&instruments, &view) == KIT_BAD_BOUNDS && place == 0);
+    kit_free(&view);
+    CHECK(!kit_view_of_every(&view) && !kit_view_aggregation(&view, KIT_DROP) && planned(&instruments, &view) == KIT_OK);
+    CHECK(!kit_view_rename(&view, TEXT("fine")) && planned(&instruments, &view) == KIT_WILDCARD_RENAME && place == 0);
+    kit_free(&view);
+    CHECK(!kit_view_of_name(&view, TEXT("size")) && !kit_view_rename(&view, TEXT("fine")));
+    CHECK(!kit_instruments_add(&instruments, TEXT("app"), TEXT("fine"), TEXT("By"), KIT_HISTOGRAM));
+    CHECK(planned(&instruments, &view) == KIT_SAME_STREAM && place == 1 && second == 2);
+    kit_free(&instruments), kit_free(&view), kit_free(&list), kit_free(&keys);
+}
+
+static void plans(kit_handle *plan) {
+    kit_handle instruments = KIT_EMPTY, views = KIT_EMPTY, other = KIT_EMPTY, bad = KIT_EMPTY;
+    CHECK(kit_instruments_add(&instruments, TEXT("app"), TEXT("requests"), TEXT("1"), 4) == KIT_BAD_NUMBER && !instruments.full);
+    CHECK(kit_instruments_add(&instruments, TEXT("\xff"), TEXT("requests"), TEXT("1"), KIT_COUNTER) == KIT_NOT_TEXT);
+    CHECK(!instruments.full);
+    EACH_GROWTH(kit_instruments_add(&instruments, TEXT("a scope of more than thirty bytes"), TEXT("other"), TEXT("1"), KIT_COUNTER),
+                !instruments.full);
+    kit_free(&instruments);
+    CHECK(!kit_instruments_add(&instruments, TEXT("app"), TEXT("requests"), TEXT("1"), KIT_COUNTER));
+    CHECK(!kit_instruments_add(&instruments, TEXT("app"), TEXT("size"), TEXT("By"), KIT_HISTOGRAM));
+
+    CHECK(kit_plan_build(&instruments, &instruments, &views, 1, &place, &second) == KIT_FULL);
+    CHECK(kit_plan_build(&other, &instruments, &views, 0, &place, &second) == KIT_BAD_LIMIT && !other.full);
+    CHECK(!kit_instruments_add(&bad, TEXT("app"), TEXT("fine"), TEXT("1"), KIT_COUNTER));
+    CHECK(!kit_instruments_add(&bad, TEXT("app"), TEXT("9 lives"), TEXT("1"), KIT_COUNTER));
+    CHECK(kit_plan_build(&other, &bad, &views, 1, &place, &second) == KIT_BAD_NAME && place == 1 && !other.full);
+    kit_free(&bad);
+    CHECK(!kit_instruments_add(&bad, TEXT("app"), TEXT("fine"), TEXT("\xc3\xa4"), KIT_COUNTER));
+    CHECK(kit_plan_build(&other, &bad, &views, 1, &place, &second) == KIT_BAD_UNIT && place == 0);
+    kit_free(&bad);
+    CHECK(!kit_instruments_add(&bad, TEXT("app"), TEXT("fine"), TEXT("1"), KIT_COUNTER));
+    CHECK(!kit_instruments_add(&bad, TEXT("app"), TEXT("other"), TEXT("1"), KIT_COUNTER));
+    CHECK(!kit_instruments_add(&bad, TEXT("app"), TEXT("fine"), TEXT("1"), KIT_HISTOGRAM));
+    CHECK(!kit_instruments_add(&bad, TEXT("app"), TEXT("Fine"), TEXT("1"), KIT_COUNTER));
+    CHECK(!kit_plan_build(&other, &bad, &views, 1, &place, &second));
+    kit_free(&other);
+    CHECK(kit_plan_build(&other, plan, &views, 1, &place, &second) == KIT_OK); /* (no instruments make a plan, too) */
+    kit_free(&other);
+    EACH_GROWTH(kit_plan_build(plan, &instruments, &views, KIT_DEFAULT_LIMIT, &place, &second), !plan->full && instruments.full);
+    kit_handle again = KIT_EMPTY;
+    CHECK(kit_plan_build(&again, plan, &views, 1, &place, &second) == KIT_WRONG_KIND && plan->full && !again.full);
+    CHECK(kit_plan_build(&again, &instruments, plan, 1, &place, &second) == KIT_WRONG_KIND && plan->full && instruments.full);
+    kit_free(&instruments), kit_free(&views), kit_free(&bad);
+}
+
+static void attributes(kit_handle *none, kit_handle *four) {
+    kit_handle pairs = KIT_EMPTY, bad = KIT_EMPTY;
+    CHECK(!kit_attributes_make(none, &pairs, &place));
+    CHECK(kit_attributes_make(none, &pairs, &place) == KIT_FULL && none->full);
+    CHECK(kit_pairs_add_text(&pairs, TEXT("k\xff"), TEXT("v")) == KIT_NOT_TEXT && !pairs.full);
+    CHECK(kit_pairs_add_text(&pairs, TEXT("k"), TEXT("v\xff")) == KIT_NOT_TEXT && !pairs.full);
+    CHECK(kit_pairs_add_whole(none, TEXT("k"), 1) == KIT_WRONG_KIND && none->full);
+    EACH_GROWTH(kit_pairs_add_text(&pairs, TEXT("route"), TEXT("a value of more than thirty bytes of text")), !pairs.full);
+    CHECK(!kit_pairs_add_whole(&pairs, TEXT("status"), 200));
+    CHECK(!kit_pairs_add_truth(&pairs, TEXT("cached"), true));
+    CHECK(!kit_pairs_add_whole(&pairs, TEXT("attempt"), 1));
+    EACH_GROWTH(kit_attributes_make(four, &pairs, &place), !four->full && pairs.full);
+    CHECK(!kit_pairs_add_whole(&pairs, TEXT(""), 1));
+    place = 77;
+    CHECK(kit_attributes_make(&bad, &pairs, &place) == KIT_EMPTY_KEY && place == 4 && !bad.full && pairs.full);
+    CHECK(kit_attributes_make(&bad, none, &place) == KIT_WRONG_KIND && !bad.full && none->full);
+    kit_free(&pairs);
+}
+
+static void writers(kit_handle *plan, kit_handle *none, kit_handle *four) {
+    kit_handle writer = KIT_EMPTY, collected = KIT_EMPTY, nothing = KIT_EMPTY;
+    size_t number = 77;
+    CHECK(kit_writer_start(&writer, &nothing, TEXT("shop"), 0, 1, 100) == KIT_NOTHING && !writer.full);
+    CHECK(kit_writer_start(&writer, none, TEXT("shop"), 0, 1, 100) == KIT_WRONG_KIND && !writer.full && none->full);
+    CHECK(kit_writer_start(&writer, plan, TEXT("\xff"), 0, 1, 100) == KIT_NOT_TEXT && !writer.full);
+    EACH_GROWTH(kit_writer_start(&writer, plan, TEXT("a service of more than thirty bytes"), 0, 1, 100), !writer.full && plan->full);
+    CHECK(kit_writer_start(&writer, plan, TEXT("shop"), 0, 1, 100) == KIT_FULL && writer.full);
+    kit_free(&writer);
+    CHECK(!kit_writer_start(&writer, plan, TEXT("shop"), 0, 1, 100));
+
+    EACH_GROWTH(kit_writer_measure(&writer, 0, none, 3, &place), writer.full && none->full);
+    EACH_GROWTH(kit_writer_hold(&writer, none, &number), number == 77);
+    CHECK(number == 0);
+    refused = 1; /* (a set that was recorded before takes no memory) */
+    CHECK(!kit_writer_measure_held(&writer, 0, number, 4, &place) && refused == 1);
+    refused = 0;
+
+    CHECK(kit_writer_measure(&writer, 2, none, 1, &place) == KIT_NO_INSTRUMENT);
+    CHECK(kit_writer_measure(&writer, 0, none, -1, &place) == KIT_NEGATIVE);
+    place = 77;
+    CHECK(kit_writer_measure(&writer, 0, none, INT64_MAX, &place) == KIT_OVERFLOW && place == 0);
+    CHECK(kit_writer_measure_held(&writer, 0, 1, 1, &place) == KIT_NO_SET);
+    CHECK(kit_writer_measure_held(&writer, 0, number, -1, &place) == KIT_NEGATIVE);
+    CHECK(kit_writer_measure(&nothing, 0, none, 1, &place) == KIT_NOTHING && !nothing.full);
+    CHECK(kit_writer_measure(&writer, 0, &nothing, 1, &place) == KIT_NOTHING && !nothing.full && writer.full);
+    CHECK(kit_writer_measure(none, 0, none, 1, &place) != KIT_OK && none->full); /* one handle given twice */
+    CHECK(kit_writer_measure(&writer, 0, &writer, 1, &place) != KIT_OK && writer.full);
+    CHECK(kit_writer_measure(four, 0, none, 1, &place) == KIT_WRONG_KIND && four->full && none->full);
+    CHECK(kit_writer_measure(&writer, 0, plan, 1, &place) == KIT_WRONG_KIND && plan->full);
+    CHECK(kit_writer_hold(plan, none, &number) == KIT_WRONG_KIND && number == 0);
+    CHECK(kit_writer_measure_held(plan, 0, 0, 1, &place) == KIT_WRONG_KIND && plan->full);
+    CHECK(has_seven(&writer, 150));
+
+    CHECK(kit_writer_collect(&writer, 150, &collected, &place) == KIT_TIME_NOT_AFTER && place == 150 && !collected.full);
+    CHECK(kit_writer_collect(&writer, 200, none, &place) == KIT_FULL && none->full);
+    CHECK(kit_writer_collect(none, 200, &collected, &place) == KIT_WRONG_KIND && !collected.full);
+    CHECK(kit_writer_collect(&nothing, 200, &collected, &place) == KIT_NOTHING && !collected.full);
+    EACH_GROWTH(kit_writer_collect(&writer, 200, &collected, &place), !collected.full && writer.full);
+    kit_free(&collected);
+    EACH_GROWTH(kit_writer_shutdown(&writer, 300, &collected, &place), !collected.full && writer.full);
+    kit_free(&collected);
+    CHECK(kit_writer_measure(&writer, 0, none, 1, &place) == KIT_CLOSED);
+    CHECK(kit_writer_measure_held(&writer, 0, 0, 1, &place) == KIT_CLOSED);
+    CHECK(kit_writer_collect(&writer, 400, &collected, &place) == KIT_CLOSED && !collected.full);
+    CHECK(kit_writer_restart(&writer, 100, &place) == KIT_START_NOT_AFTER && place == 100);
+    CHECK(kit_writer_restart(none, 100, &place) == KIT_WRONG_KIND && none->full);
+    EACH_GROWTH(kit_writer_restart(&writer, 400, &place), kit_writer_measure(&writer, 0, none, 1, &place) == KIT_CLOSED);
+    CHECK(!kit_writer_measure_held(&writer, 0, 0, 7, &place) && has_seven(&writer, 500));
+    kit_free(&writer), kit_free(&writer);
+    CHECK(kit_writer_measure(&writer, 0, none, 1, &place) == KIT_NOTHING); /* an emptied one */
+}
+
+static void gateways(kit_handle *plan, kit_handle *none, kit_handle *four) {
+    kit_handle writer = KIT_EMPTY, other = KIT_EMPTY, collected = KIT_EMPTY, twin = KIT_EMPTY, gateway = KIT_EMPTY, second_one = KIT_EMPTY;
+    CHECK(!kit_writer_start(&writer, plan, TEXT("shop"), 0, 1, 100) && !kit_writer_measure(&writer, 0, none, 7, &place));
+    CHECK(!kit_writer_start(&other, plan, TEXT("shop"), 0, 1, 100) && !kit_writer_measure(&other, 0, none, 8, &place));
+    CHECK(!kit_writer_collect(&writer, 200, &collected, &place) && !kit_writer_collect(&other, 200, &twin, &place));
+    EACH_GROWTH(kit_gateway_open(&gateway, 1), !gateway.full);
+    CHECK(kit_gateway_open(&gateway, 2) == KIT_FULL && tells(&gateway, NO_ROWS));
+    CHECK(!kit_gateway_open(&second_one, 2));
+    EACH_GROWTH(kit_gateway_take(&gateway, &collected, &changed), tells(&gateway, NO_ROWS));
+    CHECK(changed == 1 && tells(&gateway, SEVEN));
+    CHECK(!kit_gateway_take(&gateway, &collected, &changed) && changed == 0 && tells(&gateway, SEVEN));
+    EACH_GROWTH(kit_gateway_merge(&second_one, &gateway, &changed), tells(&second_one, NO_ROWS));
+    CHECK(changed == 1 && tells(&second_one, SEVEN));
+
+    bool same = false;
+    uint64_t count = 77, time = 77;
+    CHECK(!kit_gateway_same(&gateway, &second_one, &same) && same);
+    CHECK(!kit_gateway_conflicts(&gateway, &count) && count == 0);
+    CHECK(!kit_gateway_take(&second_one, &twin, &changed) && changed == 1);
+    CHECK(!kit_gateway_conflicts(&second_one, &count) && count == 1);
+    CHECK(!kit_gateway_same(&gateway, &second_one, &same) && !same);
+
+    CHECK(kit_gateway_take(&gateway, four, &changed) == KIT_WRONG_KIND && four->full);
+    CHECK(kit_gateway_take(&gateway, &gateway, &changed) != KIT_OK && tells(&gateway, SEVEN)); /* one handle given twice */
+    CHECK(kit_gateway_merge(&gateway, &gateway, &changed) != KIT_OK && tells(&gateway, SEVEN));
+    CHECK(kit_gateway_merge(&gateway, &collected, &changed) == KIT_WRONG_KIND && collected.full);
+    CHECK(kit_gateway_conflicts(four, &count) == KIT_WRONG_KIND && count == 1);
+
+    kit_handle ask = KIT_EMPTY, rows = KIT_EMPTY, table = KIT_EMPTY, pairs = KIT_EMPTY, keys = KIT_EMPTY;
+    uint8_t text[4];
+    size_t len = 77;
+    CHECK(kit_ask_sum(&gateway, TEXT("app"), TEXT("requests"), TEXT("1"), true) == KIT_FULL);
+    CHECK(kit_ask_gauge(&ask, TEXT("\xff"), TEXT("requests"), TEXT("1")) == KIT_NOT_TEXT && !ask.full);
+    const int64_t bounds[] = {1, 2, 3};
+    EACH_GROWTH(kit_ask_histogram(&ask, TEXT("app"), TEXT("size"), TEXT("By"), bounds, 3), !ask.full);
+    kit_free(&ask);
+    CHECK(!kit_ask_sum(&ask, TEXT("app"), TEXT("requests"), TEXT("1"), true));
+    EACH_GROWTH(kit_ask_service(&ask, TEXT("a service of more than thirty bytes")), ask.full);
+    CHECK(!kit_ask_service(&ask, TEXT("shop")));
+    EACH_GROWTH(kit_keys_add(&keys, TEXT("a key of more than thirty bytes of text")), !keys.full);
+    EACH_GROWTH(kit_ask_keep(&ask, &keys), ask.full && keys.full);
+    CHECK(!kit_pairs_add_whole(&pairs, TEXT("status"), 200));
+    EACH_GROWTH(kit_ask_only(&ask, &pairs), ask.full && pairs.full);
+    CHECK(kit_ask_only(&ask, &keys) == KIT_WRONG_KIND && kit_ask_keep(&ask, &pairs) == KIT_WRONG_KIND);
+    CHECK(kit_ask_keep(&gateway, &keys) == KIT_WRONG_KIND && gateway.full);
+    kit_free(&ask);
+    CHECK(!kit_ask_sum(&ask, TEXT("app"), TEXT("requests"), TEXT("1"), true));
+    CHECK(kit_gateway_rows(&gateway, &ask, &ask) == KIT_FULL && kit_gateway_rows(&ask, &gateway, &rows) == KIT_WRONG_KIND);
+    CHECK(kit_gateway_rows(&rows, &ask, &table) == KIT_NOTHING && !table.full);
+    EACH_GROWTH(kit_gateway_rows(&gateway, &ask, &rows), !rows.full);
+    CHECK(kit_rows_table(&gateway, &table) == KIT_WRONG_KIND && !table.full);
+    EACH_GROWTH(kit_rows_table(&rows, &table), !table.full && rows.full);
+    size_t rows_len = 77;
+    int64_t total = 77;
+    CHECK(!kit_rows_len(&rows, &rows_len) && rows_len == 1);
+    CHECK(!kit_rows_counts(&rows, 0, &count, &time) && count == 1 && time == 0);
+    CHECK(!kit_rows_sum(&rows, 0, &total) && total == 7);
+    CHECK(kit_rows_sum(&rows, 1, &total) == KIT_NO_ROW && total == 7);
+    CHECK(kit_rows_gauge(&rows, 0, &time, &total) == KIT_WRONG_KIND && total == 7);
+    CHECK(kit_rows_len(&table, &rows_len) == KIT_WRONG_KIND && rows_len == 1);
+    CHECK(kit_text_copy(&rows, text, sizeof text, &len) == KIT_WRONG_KIND && len == 77);
+    CHECK(!kit_text_copy(&table, text, sizeof text, &len) && len == strlen(SEVEN) && !memcmp(text, SEVEN, sizeof text));
+
+    /* Two writers, whose sums leave 64 bits together. */
+    kit_handle wide[2] = {KIT_EMPTY, KIT_EMPTY}, wide_rows = KIT_EMPTY;
+    for (uint64_t i = 0; i < 2; i++) {
+        kit_free(&collected);
+        CHECK(!kit_writer_start(&wide[i], plan, TEXT("wide"), 0, i, 100) && !kit_writer_measure(&wide[i], 0, none, INT64_MAX, &place));
+        CHECK(!kit_writer_collect(&wide[i], 200, &collected, &place) && !kit_gateway_take(&gateway, &collected, &changed));
+        kit_free(&wide[i]);
+    }
+    CHECK(!kit_ask_service(&ask, TEXT("wide")) && !kit_gateway_rows(&gateway, &ask, &wide_rows));
+    CHECK(kit_rows_sum(&wide_rows, 0, &total) == KIT_TOO_WIDE && total == 7);
+    kit_free(&wide_rows);
+
+    kit_handle *all[] = {&writer, &other, &collected, &twin, &gateway, &second_one, &ask, &rows, &table, &pairs, &keys};
+    for (size_t i = 0; i < sizeof all / sizeof *all; i++) {
+        kit_free(all[i]);
+        CHECK(!all[i]->full);
+    }
+}
+
+/* Two writers under one identity: a gauge that has a conflict alone. */
+static void gauges(void) {
+    kit_handle instruments = KIT_EMPTY, views_of = KIT_EMPTY, plan = KIT_EMPTY, pairs = KIT_EMPTY, none = KIT_EMPTY;
+    kit_handle gateway = KIT_EMPTY, ask = KIT_EMPTY, rows = KIT_EMPTY;
+    uint64_t time = 77;
+    int64_t value = 77;
+    CHECK(!kit_instruments_add(&instruments, TEXT("app"), TEXT("depth"), TEXT("1"), KIT_GAUGE));
+    CHECK(!kit_plan_build(&plan, &instruments, &views_of, 1, &place, &second) && !kit_attributes_make(&none, &pairs, &place));
+    CHECK(!kit_gateway_open(&gateway, 1) && !kit_ask_gauge(&ask, TEXT("app"), TEXT("depth"), TEXT("1")));
+    for (int64_t i = 0; i < 2; i++) {
+        kit_handle writer = KIT_EMPTY, collected = KIT_EMPTY;
+        CHECK(!kit_writer_start(&writer, &plan, TEXT("shop"), 0, 1, 100) && !kit_writer_measure(&writer, 0, &none, 7 + i, &place));
+        CHECK(!kit_writer_collect(&writer, 200, &collected, &place) && !kit_gateway_take(&gateway, &collected, &changed));
+        CHECK(!kit_gateway_rows(&gateway, &ask, &rows));
+        if (i == 0) {
+            CHECK(!kit_rows_gauge(&rows, 0, &time, &value) && time == 200 && value == 7);
+            CHECK(kit_rows_sum(&rows, 0, &value) == KIT_WRONG_KIND && value == 7);
+        } else {
+            CHECK(kit_rows_gauge(&rows, 0, &time, &value) == KIT_NO_POINT && time == 200 && value == 7);
+        }
+        kit_free(&writer), kit_free(&collected), kit_free(&rows);
+    }
+    kit_free(&instruments), kit_free(&plan), kit_free(&none), kit_free(&gateway), kit_free(&ask);
+}
+
+int main(void) {
+    kit_handle plan = KIT_EMPTY, none = KIT_EMPTY, four = KIT_EMPTY;
+    views();
+    plans(&plan);
+    attributes(&none, &four);
+    writers(&plan, &none, &four);
+    gateways(&plan, &none, &four);
+    gauges();
+    kit_free(&plan), kit_free(&none), kit_free(&four);
+    return 0;
+}

@@ -1,0 +1,73 @@
+/* One writer under a lock of the host, and one writer for each thread: both come to all recordings. Exits with the number of the
+ * first check that fails, or 0. */
+#include <kotskhin.h>
+#include <pthread.h>
+#include <stdio.h>
+#include <string.h>
+
+#define TEXT(s) (const uint8_t *)(s), sizeof(s) - 1
+enum { THREADS = 4, TIMES = 25000 };
+
+static pthread_mutex_t lock = PTHREAD_MUTEX_INITIALIZER;
+static kit_handle plan, shared, own[THREADS];
+
+static void *work(void *at) {
+    kit_handle *mine = at, pairs = KIT_EMPTY, none = KIT_EMPTY; /* attributes are this thread's own */
+    uint64_t place = 0;
+    if (kit_attributes_make(&none, &pairs, &place)) return "attributes";
+    for (int i = 0; i < TIMES; i++) {
+        pthread_mutex_lock(&lock);
+        int32_t code = kit_writer_measure(&shared, 0, &none, 1, &place);
+        pthread_mutex_unlock(&lock);
+        if (code || kit_writer_measure(mine, 0, &none, 1, &place)) return "measure";
+    }
+    kit_free(&none);
+    return NULL;
+}
+
+static int bring(kit_handle *writer, kit_handle *gateway) {
+    kit_handle collected = KIT_EMPTY;
+    uint64_t place = 0, changed = 0;
+    int32_t code = kit_writer_collect(writer, 200, &collected, &place);
+    code = code ? code : kit_gateway_take(gateway, &collected, &changed);
+    kit_free(&collected), kit_free(writer);
+    return code;
+}
+
+static bool tells(kit_handle *gateway, const char *end) {
+    kit_handle ask = KIT_EMPTY, rows = KIT_EMPTY, table = KIT_EMPTY;
+    uint8_t text[1024];
+    size_t len = 0;
+    bool fits = !kit_ask_sum(&ask, TEXT("app"), TEXT("requests"), TEXT("1"), true) && !kit_gateway_rows(gateway, &ask, &rows) &&
+                !kit_rows_table(&rows, &table) && !kit_text_copy(&table, text, sizeof text, &len) && len <= sizeof text &&
+                len >= strlen(end) && !memcmp(text + len - strlen(end), end, strlen(end));
+    kit_free(&ask), kit_free(&rows), kit_free(&table), kit_free(gateway);
+    return fits;
+}
+
+int main(void) {
+    kit_handle one = KIT_EMPTY, four = KIT_EMPTY, instruments = KIT_EMPTY, views = KIT_EMPTY;
+    pthread_t threads[THREADS];
+    uint64_t place = 0, second = 0;
+    if (kit_instruments_add(&instruments, TEXT("app"), TEXT("requests"), TEXT("1"), KIT_COUNTER)) return 1;
+    if (kit_plan_build(&plan, &instruments, &views, KIT_DEFAULT_LIMIT, &place, &second)) return 2;
+    kit_free(&instruments);
+    if (kit_writer_start(&shared, &plan, TEXT("shop"), 0, 9, 100)) return 3;
+    if (kit_gateway_open(&one, 1) || kit_gateway_open(&four, 2)) return 4;
+    for (int i = 0; i < THREADS; i++) {
+        if (kit_writer_start(&own[i], &plan, TEXT("shop"), 0, i + 1, 100)) return 5;
+    }
+    for (int i = 0; i < THREADS; i++) {
+        if (pthread_create(&threads[i], NULL, work, &own[i])) return 6;
+    }
+    for (int i = 0; i < THREADS; i++) {
+        void *why = NULL;
+        if (pthread_join(threads[i], &why) || why) return 7;
+        if (bring(&own[i], &four)) return 8;
+    }
+    if (bring(&shared, &one)) return 9;
+    if (!tells(&one, "  1          0  100000\n")) return 10;
+    if (!tells(&four, "  4          0  100000\n")) return 11;
+    kit_free(&plan);
+    return 0;
+}
