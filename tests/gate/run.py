@@ -61,15 +61,19 @@ class Crate(rt.Crate):
         return super().prove(*[self.keeping(it) for it in commands])
 
     def keeping(self, words):
-        # (a program's own proof goes to its compilers by another way)
-        if self.is_program and "--test" not in words:
-            return words
         return [*[it for it in words if it != "--statements"], "--incremental", "out/incremental"]
 
     def ci(self, flags, tests):
-        status = super().ci(flags, tests)
+        status = self.ci_of_program(flags) if self.is_program and not tests else super().ci(flags, tests)
         Crate.proved[self.name, tests] = not status
         return status
+
+    def ci_of_program(self, flags):
+        """Proves a program into that folder, from which each compiler takes it: the toolchain's own way keeps no work for edits."""
+        words, to = self.words(flags, keeps=False), f"out/{self.name}"
+        status = self.prove(["check", *words])
+        words = [*self.keeping(words), "--toolchain", f"{rt.KIT}/toolchain"]
+        return status or self.compile_by("llvm", words, to) or self.compile_by("rattle", words, to)
 
 
 class Passing(io.TextIOBase):
