@@ -64,15 +64,20 @@ class Crate(rt.Crate):
         return [*[it for it in words if it != "--statements"], "--incremental", "out/incremental"]
 
     def ci(self, flags, tests):
-        status = self.ci_of_program(flags) if self.is_program and not tests else super().ci(flags, tests)
+        is_linked = (self.is_program or self.is_static) and not tests
+        status = self.ci_of_linked(flags) if is_linked else super().ci(flags, tests)
         Crate.proved[self.name, tests] = not status
         return status
 
-    def ci_of_program(self, flags):
-        """Proves a program into that folder, from which each compiler takes it: the toolchain's own way keeps no work for edits."""
-        words, to = self.words(flags, keeps=False), f"out/{self.name}"
-        status = self.prove(["check", *words])
-        words = [*self.keeping(words), "--toolchain", f"{rt.KIT}/toolchain"]
+    def ci_of_linked(self, flags):
+        """Proves a program or a static library into that folder, from which each compiler takes it.
+
+        The toolchain's own way keeps no work for the edits, and makes no archive."""
+        words, toolchain = self.words(flags, keeps=False), ["--toolchain", f"{rt.KIT}/toolchain"]
+        if self.is_static:
+            return self.prove(["build", *words, *toolchain, "--backend", "llvm", "-o", f"out/lib{self.name}.a"])
+        status, to = self.prove(["check", *words]), f"out/{self.name}"
+        words = [*self.keeping(words), *toolchain]
         return status or self.compile_by("llvm", words, to) or self.compile_by("rattle", words, to)
 
 
