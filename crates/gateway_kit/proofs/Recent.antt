@@ -7,7 +7,7 @@ use Rattle.std.proofs.lemmas.List.Sums.{count_by-le-length, length-filter}
 use lib.ListN.{length-map}
 use Rattle.std.specs.Prelude.{T, filter}
 use Rattle.std.specs.Cmp.{Equal-is}
-use Rattle.std.specs.FinMap.{FinMap, get, empty, entries, from_sorted, retain_keys, get-entries, get-empty, get-from_sorted, entries-from_sorted, entries_sorted, get-retain_keys, same_map}
+use Rattle.std.specs.FinMap.{get, empty, entries, from_sorted, retain_keys, get-entries, get-from_sorted, entries-from_sorted, entries_sorted, get-retain_keys, same_map}
 use Rattle.std.specs.FinMap.Entries.{find, is_sorted, below_all, where_key, same_entries, is_sorted-where_key, find-where_key}
 use Rattle.std.specs.List.{list_all}
 use Rattle.std.specs.Option.{unwrap_or}
@@ -22,25 +22,24 @@ use Rattle.point_kit.proofs.OrderLaws.{key_total, key_exact}
 use Rattle.gateway_kit.specs.Changing.{Entry}
 use Rattle.gateway_kit.specs.Growth.{part_at}
 use Rattle.gateway_kit.specs.Keys.{PartKey, ItemKey, part_cmp, item_cmp, entry_of, numbered, whole_key}
-use Rattle.gateway_kit.specs.Numbers.{AllAre, IsNumbered, PartsMove, number_in, numbers_at}
+use Rattle.gateway_kit.specs.Numbers.{AllAre, IsNumbered, number_in, numbers_at}
 use Rattle.gateway_kit.specs.Numbering.{number_of}
 use Rattle.gateway_kit.specs.Part.{Part, Cells}
 use Rattle.gateway_kit.specs.Parts.{IsWhole, flatten, listed, listed_numbers, part_of, numbers_of, has_cells, has_some, entries_at}
 use Rattle.gateway_kit.specs.Recent.{newer, recent_cells, recent_part, recent_parts}
 use Rattle.gateway_kit.specs.Queries.{has_conflict}
 use Rattle.gateway_kit.specs.Tallies.{are_up_to, conflicts_of}
-use Rattle.gateway_kit.specs.View.{View}
 use Rattle.gateway_kit.specs.declared.part_item.PartItem.{PartItem}
 use Rattle.gateway_kit.proofs.AllMoves.{own_key, get_numbers, viewed, numbers_left, parts_woven}
 use Rattle.gateway_kit.proofs.Entries.{as_T, as_true, both, first, second, below_tied, find_below, from_sorted-nil}
 use Rattle.gateway_kit.proofs.Growing.{both_true, first_true, second_true}
 use Rattle.gateway_kit.proofs.ItemMoves.{numbers_in, shows_numbered}
 use Rattle.gateway_kit.proofs.Joining.{get_points}
-use Rattle.gateway_kit.proofs.KeyOrders.{item_total, item_exact, part_total, part_exact, split_key}
+use Rattle.gateway_kit.proofs.KeyOrders.{item_total, item_exact, part_total, split_key}
 use Rattle.gateway_kit.proofs.MergeParts.{filled_parts}
 use Rattle.gateway_kit.proofs.Movement.{told_back}
 use Rattle.gateway_kit.proofs.OneCell.{cells_of, shows}
-use Rattle.gateway_kit.proofs.Tallies.{conflicts_listed, whole_few}
+use Rattle.gateway_kit.proofs.Tallies.{conflicts_listed}
 
 abbrev key_of : PartItem → ItemKey
 key_of i = (i.stream, i.attrs)

@@ -1,23 +1,16 @@
 -- What a delta carries is held, and brings what is not acknowledged.
-use Rattle.std.proofs.Common.{◌≡◌, ℕ, suc, Bool, true, false, cond, if◌then◌else◌, ◌&&◌, ◌||◌, ◌<◌, ◌≤◌, All, List, [], ◌∷◌, ◌++◌, map, is_some, Option, Some, None, inl, inr, refl, sym, ap, subst, ◌∙◌, arith, true≢false}
+use Rattle.std.proofs.Common.{◌≡◌, ℕ, suc, Bool, true, false, cond, if◌then◌else◌, ◌<◌, ◌≤◌, Option, Some, None, inl, inr, refl, sym, ap, ◌∙◌, arith, true≢false}
 use Rattle.std.proofs.lemmas.Bool.{le-leb, lt-ltb}
-use Rattle.std.proofs.Math.Dec.{leb-suc-zero}
-use Rattle.std.proofs.lemmas.List.Folds.{list_any-append}
-use Rattle.std.specs.Cmp.{Equal-is}
-use Rattle.std.specs.FinMap.Entries.{is_some-find}
-use Rattle.std.specs.Map.{lookup}
-use Rattle.std.specs.Ordering.{eq_by_cmp}
 use Rattle.std.proofs.lemmas.Bool.Decides.{leb_tells}
 use Rattle.std.specs.Prelude.{nat_lt, nat_le}
-use Rattle.std.specs.FinMap.{FinMap, get, empty, from_entries, get-from_entries, retain_keys, get-retain_keys, same_map}
-use Rattle.std.specs.Option.{option_map_or, unwrap_or}
+use Rattle.std.specs.FinMap.{get, empty, retain_keys, get-retain_keys, same_map}
+use Rattle.std.specs.Option.{option_map_or}
 use Rattle.point_kit.specs.declared.cell.Cell.{Cell}
 use Rattle.point_kit.specs.declared.key.Key.{Key}
 use Rattle.point_kit.specs.declared.payload.Payload.{Payload}
 use Rattle.point_kit.specs.Equality.{payload_eq}
 use Rattle.point_kit.specs.Exports.{Points, join_points}
-use Rattle.point_kit.specs.Join.{join_cells, join_options, IsAtOrBelow}
-use Rattle.point_kit.specs.Orders.{key_cmp}
+use Rattle.point_kit.specs.Join.{join_cells, join_options}
 use Rattle.point_kit.proofs.EqualityLaws.{payload_equivalence, payload_exact}
 use Rattle.point_kit.proofs.JoinLaws.{cells_commute, cells_associate, cells_idempotent, options_commute, options_associate, options_idempotent}
 use Rattle.point_kit.proofs.OrderLaws.{key_total, key_exact}

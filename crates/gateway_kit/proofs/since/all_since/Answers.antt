@@ -3,7 +3,7 @@ use Rattle.std.proofs.lemmas.Grind.{common_steps}
 use Rattle.std.proofs.lemmas.List.{append-nil, map-append}
 use Rattle.std.specs.FinMap.{entries}
 use Rattle.gateway_kit.specs.Keys.{PartKey}
-use Rattle.gateway_kit.specs.Part.{Part, Cells}
+use Rattle.gateway_kit.specs.Part.{Cells}
 use Rattle.gateway_kit.specs.Parts.{part_of, has_cells, has_some}
 use Rattle.gateway_kit.specs.Recent.{recent_part, recent_parts}
 use Rattle.gateway_kit.proofs.Recent.{has_items, has_none_left, recent_more}
