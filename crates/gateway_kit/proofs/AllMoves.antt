@@ -1,29 +1,23 @@
 -- How the numbers of all parts move, and those of a gateway.
-use Rattle.std.proofs.Common.{◌≡◌, ◌≢◌, ◌<◌, inl, inr, ℕ, zero, suc, ◌+◌, true, false, cond, nat_lt, List, [], ◌∷◌, map, length, get_or, is_some, Option, Some, None, Result, Ok, Err, refl, sym, ap, subst, ◌∙◌, arith}
+use Rattle.std.proofs.Common.{◌≡◌, ◌≢◌, ◌<◌, inl, inr, ℕ, suc, true, false, cond, List, [], ◌∷◌, map, get_or, Option, Some, None, Result, Ok, Err, refl, sym, ap, subst, ◌∙◌, arith}
 use Rattle.std.specs.Prelude.{T, OnOk, OnErr, slice_set}
-use Rattle.std.specs.FinMap.{FinMap, get, entries, from_sorted, empty, get-from_sorted, entries-from_sorted, same_map}
+use Rattle.std.specs.FinMap.{get, entries, from_sorted, empty, get-from_sorted, entries-from_sorted, same_map}
 use Rattle.std.specs.FinMap.Entries.{find, is_sorted}
 use Rattle.std.specs.List.{insert}
 use Rattle.std.specs.Option.{unwrap_or}
 use Rattle.std.specs.Ordering.{eq_by_cmp}
-use Rattle.point_kit.specs.declared.cell.Cell.{Cell}
 use Rattle.point_kit.specs.declared.key.Key.{Key}
-use Rattle.point_kit.specs.declared.payload.Payload.{Payload}
-use Rattle.point_kit.specs.Exports.{Points}
 use Rattle.point_kit.specs.Orders.{key_cmp}
 use Rattle.point_kit.proofs.OrderLaws.{key_total, key_exact}
-use Rattle.gateway_kit.specs.Changing.{Entry}
 use Rattle.gateway_kit.specs.Growth.{part_at}
 use Rattle.gateway_kit.specs.Keys.{PartKey, ItemKey, part_cmp, item_cmp, whole_key}
 use Rattle.gateway_kit.specs.Numbers.{Moves, PartMoves, PartsMove, AllAre, IsNumbered, given, rank_of, number_in, numbers_at}
 use Rattle.gateway_kit.specs.Numbering.{IsNumberedBy, ViewMoves, number_of}
 use Rattle.gateway_kit.specs.Part.{Part, Cells, Numbers}
-use Rattle.gateway_kit.specs.Parts.{IsWhole, listed, listed_numbers, part_of, numbers_of, entries_at, flatten}
-use Rattle.gateway_kit.specs.Places.{IsGap}
+use Rattle.gateway_kit.specs.Parts.{listed, listed_numbers, part_of, numbers_of, entries_at, flatten}
 use Rattle.gateway_kit.specs.View.{View}
 use Rattle.gateway_kit.specs.Weave.{weave}
-use Rattle.gateway_kit.proofs.Entries.{as_T, as_true, from_sorted-nil}
-use Rattle.gateway_kit.proofs.Growing.{no_cells, entries-empty}
+use Rattle.gateway_kit.proofs.Entries.{as_T, from_sorted-nil}
 use Rattle.gateway_kit.proofs.Joining.{get_points}
 use Rattle.gateway_kit.proofs.KeyOrders.{part_total, part_exact, compares, split_key}
 use Rattle.gateway_kit.proofs.Movement.{Held, stays, then_moves, comes_in, told, told_back, sorted_too, sorted_filter, find_filter, set_related, insert_related, weave_related}

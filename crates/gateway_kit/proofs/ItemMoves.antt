@@ -1,10 +1,10 @@
 -- How the numbers of items move, and of the incarnation that has them.
-use Rattle.std.proofs.Common.{◌≡◌, ◌<◌, ◌≤◌, inl, inr, ℕ, zero, suc, true, false, cond, nat_le, List, [], ◌∷◌, map, length, get_or, is_some, Option, Some, None, refl, sym, ap, subst, ◌∙◌, arith}
+use Rattle.std.proofs.Common.{◌≡◌, ◌<◌, ◌≤◌, inr, ℕ, suc, true, false, cond, nat_le, List, [], ◌∷◌, map, length, get_or, is_some, Option, Some, None, refl, sym, ap, subst, ◌∙◌, arith}
 use Rattle.std.proofs.lemmas.Bool.Decides.{nat_tests}
-use Rattle.std.specs.Prelude.{T, slice_set}
-use Rattle.std.specs.FinMap.{entries, from_sorted, entries-from_sorted}
+use Rattle.std.specs.Prelude.{slice_set}
+use Rattle.std.specs.FinMap.{entries, entries-from_sorted}
 use Rattle.std.specs.FinMap.Entries.{find, is_sorted}
-use Rattle.std.specs.List.{insert, list_all}
+use Rattle.std.specs.List.{insert}
 use Rattle.std.specs.Option.{unwrap_or}
 use Rattle.std.specs.Ordering.{eq_by_cmp}
 use Rattle.point_kit.specs.declared.cell.Cell.{Cell}

@@ -25,3 +25,4 @@ pub mod Ahead
 pub mod SharedPoints
 pub mod ItemMoves
 pub mod AllMoves
+pub mod Recent

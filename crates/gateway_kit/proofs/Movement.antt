@@ -1,11 +1,11 @@
 -- How the numbers of keys move with their cells.
-use Rattle.std.proofs.Common.{◌≡◌, ◌<◌, ◌≤◌, ◌⊎◌, inl, inr, ℕ, zero, suc, ◌+◌, Bool, true, false, ◌&&◌, cond, nat_lt, nat_le, List, [], ◌∷◌, map, length, get_or, is_some, Option, Some, None, refl, sym, ap, subst, ◌∙◌, arith, true≢false}
+use Rattle.std.proofs.Common.{◌≡◌, ◌<◌, ◌≤◌, inl, inr, ℕ, zero, suc, ◌+◌, Bool, true, false, ◌&&◌, cond, nat_lt, List, [], ◌∷◌, map, length, get_or, is_some, Option, Some, None, refl, sym, ap, subst, ◌∙◌, arith, true≢false}
 use Rattle.std.proofs.lemmas.Bool.Decides.{nat_tests}
 use Rattle.std.specs.Prelude.{T, slice_set, filter}
 use Rattle.std.specs.Cmp.{IsTotalOrder, Equal-is}
 use Rattle.std.specs.FinMap.{IsAntisymmetric}
 use Rattle.std.specs.FinMap.Entries.{find, is_sorted, below_all}
-use Rattle.std.specs.List.{insert, list_all}
+use Rattle.std.specs.List.{insert}
 use Rattle.std.specs.Option.{option_or, unwrap_or}
 use Rattle.std.specs.declared.cmp.Ordering.{Ordering}
 use Rattle.std.specs.Ordering.{eq_by_cmp, is_lt}
@@ -13,7 +13,7 @@ use Rattle.point_kit.specs.declared.cell.Cell.{Cell}
 use Rattle.point_kit.specs.declared.payload.Payload.{Payload}
 use Rattle.gateway_kit.specs.Numbers.{Moves, rank_of, given, number_in, AllBefore}
 use Rattle.gateway_kit.specs.Weave.{weave}
-use Rattle.gateway_kit.proofs.Entries.{as_T, as_true, both, first, second, below_tied, find_below, find-weave, map-weave, on_keys}
+use Rattle.gateway_kit.proofs.Entries.{both, first, second, below_tied, find_below, find-weave, map-weave, on_keys}
 
 abbrev pub Held : Type 0
 Held = Option (Cell Payload)

@@ -12,7 +12,7 @@ use Rattle.point_kit.specs.declared.payload.Payload.{Payload}
 use Rattle.gateway_kit.specs.Changing.{Entry}
 use Rattle.gateway_kit.specs.Growth.{part_at}
 use Rattle.gateway_kit.specs.Keys.{PartKey, part_cmp, whole_key}
-use Rattle.gateway_kit.specs.Part.{Part, Cells}
+use Rattle.gateway_kit.specs.Part.{Part}
 use Rattle.gateway_kit.specs.Parts.{listed, part_of, entries_at, has_some}
 use Rattle.gateway_kit.specs.Queries.{is_part, part_points}
 use Rattle.gateway_kit.specs.Times.{greatest, latest}

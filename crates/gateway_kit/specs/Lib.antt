@@ -14,6 +14,7 @@ pub mod OneCell
 pub mod Parts
 pub mod Places
 pub mod Queries
+pub mod Recent
 pub mod Shared
 pub mod Tallies
 pub mod Times

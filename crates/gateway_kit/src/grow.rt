@@ -181,11 +181,14 @@ impl Incarnation {
 }
 
 impl Incarnation {
-    /// Gives all keys one number.
+    /// Gives all keys one number. Of 0 it is done where no key is numbered.
     pub(crate) fn renumber(&mut self, number: u64)
         ensures cells { part_of self.new ≡ part_of self.old }
         ensures numbers { IsNumbered number self.new }
     {
+        if number == 0 && self.number == 0 {
+            return;
+        }
         number_all(&mut self.items, number);
         self.number = number;
     }

@@ -16,6 +16,7 @@ mod points;
 mod queries;
 mod seek;
 mod shared;
+mod since;
 mod taking;
 mod tally;
 #[cfg(test)]

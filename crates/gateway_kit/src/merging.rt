@@ -42,8 +42,8 @@ fn put_parts(incarnations: &mut Vec<Incarnation>, number: u64, updates: Vec<(usi
     }
 }
 
-// Gives all keys of incarnations one number.
-fn renumber(incarnations: &mut Vec<Incarnation>, number: u64)
+/// Gives all keys of incarnations one number. Of 0, an incarnation where no key is numbered takes constant time.
+pub(crate) fn renumber(incarnations: &mut Vec<Incarnation>, number: u64)
     ensures same { map part_of incarnations.new.items ≡ map part_of incarnations.old.items }
     ensures len { vec_len incarnations.new ≡ vec_len incarnations.old }
     ensures numbers { AllAre (IsNumbered number) incarnations.new.items }

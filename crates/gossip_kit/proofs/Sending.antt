@@ -1,23 +1,16 @@
 -- What a delta carries is held, and brings what is not acknowledged.
-use Rattle.std.proofs.Common.{◌≡◌, ℕ, suc, Bool, true, false, cond, if◌then◌else◌, ◌&&◌, ◌||◌, ◌<◌, ◌≤◌, All, List, [], ◌∷◌, ◌++◌, map, is_some, Option, Some, None, inl, inr, refl, sym, ap, subst, ◌∙◌, arith, true≢false}
+use Rattle.std.proofs.Common.{◌≡◌, ℕ, suc, Bool, true, false, cond, if◌then◌else◌, ◌<◌, ◌≤◌, Option, Some, None, inl, inr, refl, sym, ap, ◌∙◌, arith, true≢false}
 use Rattle.std.proofs.lemmas.Bool.{le-leb, lt-ltb}
-use Rattle.std.proofs.Math.Dec.{leb-suc-zero}
-use Rattle.std.proofs.lemmas.List.Folds.{list_any-append}
-use Rattle.std.specs.Cmp.{Equal-is}
-use Rattle.std.specs.FinMap.Entries.{is_some-find}
-use Rattle.std.specs.Map.{lookup}
-use Rattle.std.specs.Ordering.{eq_by_cmp}
 use Rattle.std.proofs.lemmas.Bool.Decides.{leb_tells}
 use Rattle.std.specs.Prelude.{nat_lt, nat_le}
-use Rattle.std.specs.FinMap.{FinMap, get, empty, from_entries, get-from_entries, retain_keys, get-retain_keys, same_map}
-use Rattle.std.specs.Option.{option_map_or, unwrap_or}
+use Rattle.std.specs.FinMap.{get, empty, retain_keys, get-retain_keys, same_map}
+use Rattle.std.specs.Option.{option_map_or}
 use Rattle.point_kit.specs.declared.cell.Cell.{Cell}
 use Rattle.point_kit.specs.declared.key.Key.{Key}
 use Rattle.point_kit.specs.declared.payload.Payload.{Payload}
 use Rattle.point_kit.specs.Equality.{payload_eq}
 use Rattle.point_kit.specs.Exports.{Points, join_points}
-use Rattle.point_kit.specs.Join.{join_cells, join_options, IsAtOrBelow}
-use Rattle.point_kit.specs.Orders.{key_cmp}
+use Rattle.point_kit.specs.Join.{join_cells, join_options}
 use Rattle.point_kit.proofs.EqualityLaws.{payload_equivalence, payload_exact}
 use Rattle.point_kit.proofs.JoinLaws.{cells_commute, cells_associate, cells_idempotent, options_commute, options_associate, options_idempotent}
 use Rattle.point_kit.proofs.OrderLaws.{key_total, key_exact}
@@ -25,10 +18,7 @@ use Rattle.point_kit.proofs.PointLaws.{points_commute, points_associate, points_
 use Rattle.point_kit.proofs.StateLaws.{get-join_maps}
 use Rattle.gateway_kit.proofs.Entries.{not_None}
 use Rattle.gossip_kit.specs.Gossip.{CarriesHeld, Brings, acknowledged, carried_to, recent_to, numbered_above, numbered_to, number_of, delta_to, last_number}
-use Rattle.gossip_kit.specs.Keyed.{is_among}
 use Rattle.gossip_kit.specs.Views.{NodeView}
-use Rattle.gossip_kit.proofs.Changes.{map_push, or_false}
-use Rattle.gossip_kit.proofs.Kept.{key_eq, kept_number, at_place}
 
 abbrev Held : Type 0
 Held = Option (Cell Payload)
@@ -134,84 +124,3 @@ delta_recent node low = sym (ap (λ b. if b then Some node.change else None) (lt
 pub delta_none : (node : NodeView) → last_number ≤ node.change → None ≡ delta_to node
 unfolding delta_to
 delta_none node high = sym (ap (λ b. if b then Some node.change else None) (le-ltb last_number node.change high))
-
--- the number of a key among these
-abbrev pub number_in : List (Key × ℕ) → Key → ℕ
-number_in all q = unwrap_or (get (from_entries {R = key_cmp} all) q) 0
-
--- of the keys so far those with greater numbers have their cells
-abbrev pub AreCarried : List (Key × ℕ) → Points → ℕ → List (Key × ℕ) → Points → Type 0
-AreCarried all held n seen cells = (q : Key) → get cells q ≡ cond (is_among q (map (λ e. e.0) seen) && nat_lt n (number_in all q)) (get held q) None
-
--- each of these entries is that of its key
-abbrev pub AreFound : List (Key × ℕ) → Type 0
-AreFound all = All (λ e. lookup (key_eq e.0) all ≡ Some e.1) all
-
--- as a map tells of itself
-pub found_all : (all : List (Key × ℕ)) → All (λ e. lookup (key_eq e.0) all ≡ Some e.1) all → AreFound all
-found_all all found = found
-
-join_bits : (a e t u : Bool) (h : Held) → (e ≡ true → u ≡ t) → J (cond (a && t) h None) (cond (e && u) h None) ≡ cond ((a || e) && t) h None
-join_bits a false t u h same = none_right (cond (a && t) h None) ∙ ap (λ b. cond (b && t) h None) (sym (or_false a))
-join_bits true true true u h same = ap (λ b. J h (cond b h None)) (same refl) ∙ repeat h
-join_bits true true false u h same = ap (λ b. J None (cond b h None)) (same refl)
-join_bits false true true u h same = ap (λ b. J None (cond b h None)) (same refl)
-join_bits false true false u h same = ap (λ b. J None (cond b h None)) (same refl)
-
--- one more key
-pub carried_more : (all : List (Key × ℕ)) (held : Points) (n : ℕ) (seen rest : List (Key × ℕ)) (k : Key) (v : ℕ) (cells more : Points) → AreFound all → all ≡ seen ++ (k, v) ∷ rest
-    → ((q : Key) → get more q ≡ J (get cells q) (cond (eq_by_cmp key_cmp q k && nat_lt n v) (get held q) None)) → AreCarried all held n seen cells → AreCarried all held n (seen ++ (k, v) ∷ []) more
-carried_more all held n seen rest k v cells more found split joined carried q =
-    let among : is_among q (map (λ e. e.0) (seen ++ (k, v) ∷ [])) ≡ (is_among q (map (λ e. e.0) seen) || eq_by_cmp key_cmp q k) =
-    ap (is_among q) (map_push (λ (e : Key × ℕ). e.0) seen (k, v)) ∙ list_any-append (eq_by_cmp key_cmp q) (map (λ e. e.0) seen) (k ∷ []) ∙ ap (λ b. is_among q (map (λ e. e.0) seen) || b) (or_false (eq_by_cmp key_cmp q k)) in
-    joined q ∙ ap (λ o. J o (cond (eq_by_cmp key_cmp q k && nat_lt n v) (get held q) None)) (carried q)
-    ∙ join_bits (is_among q (map (λ e. e.0) seen)) (eq_by_cmp key_cmp q k) (nat_lt n (number_in all q)) (nat_lt n v) (get held q) (λ tied. ap (nat_lt n) (its tied))
-    ∙ ap (λ b. cond (b && nat_lt n (number_in all q)) (get held q) None) (sym among)
-  where
-    its : eq_by_cmp key_cmp q k ≡ true → v ≡ number_in all q
-    its tied =
-        let same : k ≡ q = sym (key_exact q k ((Equal-is (key_cmp q k)).0 tied)) in
-        let here : lookup (key_eq k) all ≡ Some v = at_place (λ (e : Key × ℕ). lookup (key_eq e.0) all ≡ Some e.1) seen rest (k, v) (subst (λ (es : List (Key × ℕ)). All (λ e. lookup (key_eq e.0) all ≡ Some e.1) es) split found) in
-        ap (λ o. unwrap_or o 0) (sym here ∙ sym (kept_number all k)) ∙ ap (number_in all) same
-
--- the joined cell of one key
-pub joined_cell : (held cells more : Points) (n v : ℕ) (k : Key) (c : Cell Payload) → nat_lt n v ≡ true → get held k ≡ Some c → more ≡ join_points cells (from_entries ((k, c) ∷ [])) → (q : Key) → get more q ≡ J (get cells q) (cond (eq_by_cmp key_cmp q k && nat_lt n v) (get held q) None)
-joined_cell held cells more n v k c above is joined q =
-    ap (λ (m : Points). get m q) joined ∙ get-join_maps key_total key_exact (join_cells payload_eq) cells (from_entries ((k, c) ∷ [])) q
-    ∙ ap (J (get cells q)) (get-from_entries key_total ((k, c) ∷ []) q ∙ go (eq_by_cmp key_cmp q k) refl)
-  where
-    go : (e : Bool) → eq_by_cmp key_cmp q k ≡ e → cond (eq_by_cmp key_cmp q k) (Some c) None ≡ cond (eq_by_cmp key_cmp q k && nat_lt n v) (get held q) None
-    go true tied =
-        let same : k ≡ q = sym (key_exact q k ((Equal-is (key_cmp q k)).0 tied)) in
-        ap (λ b. cond b (Some c) None) tied ∙ sym is ∙ ap (get held) same ∙ (λ i. cond (sym tied i && sym above i) (get held q) None)
-    go false apart = ap (λ b. cond b (Some c) None) apart ∙ ap (λ b. cond (b && nat_lt n v) (get held q) None) (sym apart)
-
-pub left_out : (held cells : Points) (n v : ℕ) (k : Key) → ((q : Key) → cond (eq_by_cmp key_cmp q k && nat_lt n v) (get held q) None ≡ None) → (q : Key) → get cells q ≡ J (get cells q) (cond (eq_by_cmp key_cmp q k && nat_lt n v) (get held q) None)
-left_out held cells n v k none q = sym (ap (J (get cells q)) (none q) ∙ none_right (get cells q))
-
--- a key that is not held, or whose number is not above, brings nothing
-pub none_held : (held : Points) (n v : ℕ) (k : Key) → get held k ≡ None → (q : Key) → cond (eq_by_cmp key_cmp q k && nat_lt n v) (get held q) None ≡ None
-none_held held n v k none q = go (eq_by_cmp key_cmp q k) (nat_lt n v) refl
-  where
-    go : (e u : Bool) → eq_by_cmp key_cmp q k ≡ e → cond (e && u) (get held q) None ≡ None
-    go false u apart = refl
-    go true false tied = refl
-    go true true tied = ap (get held) (key_exact q k ((Equal-is (key_cmp q k)).0 tied)) ∙ none
-
-pub none_above : (held : Points) (n v : ℕ) (k : Key) → nat_lt n v ≡ false → (q : Key) → cond (eq_by_cmp key_cmp q k && nat_lt n v) (get held q) None ≡ None
-none_above held n v k low q = go (eq_by_cmp key_cmp q k)
-  where
-    go : (e : Bool) → cond (e && nat_lt n v) (get held q) None ≡ None
-    go true = ap (λ b. cond b (get held q) None) low
-    go false = refl
-
--- all keys
-pub carried_whole : (all : List (Key × ℕ)) (held : Points) (n : ℕ) (cells : Points) → AreCarried all held n all cells → cells ≡ retain_keys held (λ k. nat_lt n (number_in all k))
-carried_whole all held n cells carried = same_map key_total key_exact _ _ (λ q.
-    carried q ∙ ap (λ b. cond (b && nat_lt n (number_in all q)) (get held q) None) (sym (is_some-find key_cmp q all) ∙ ap is_some (sym (get-from_entries key_total all q)))
-    ∙ numbered (get (from_entries {R = key_cmp} all) q) (get held q)
-    ∙ sym (retained held (λ k. nat_lt n (number_in all k)) q))
-  where
-    numbered : (o : Option ℕ) (h : Held) → cond (is_some o && nat_lt n (unwrap_or o 0)) h None ≡ cond (nat_lt n (unwrap_or o 0)) h None
-    numbered (Some v) h = refl
-    numbered None h = ap (λ b. cond b h None) (sym (leb-suc-zero n))

@@ -9,11 +9,9 @@
 #![tactic(auto)]
 
 mod books;
-mod changed;
 mod fault;
 mod message;
 mod node;
-mod numbers;
 
 pub use fault::HandFault;
 pub use message::Message;

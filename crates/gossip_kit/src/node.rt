@@ -2,12 +2,10 @@
 ghost use Rattle.std.specs.Prelude.{◌≡◌, ◌≢◌, IsSome, List, [], ◌∷◌, Ok, OnOk, OnErr, IfOk, IfErr, Some, None};
 ghost use Rattle.std.specs.FinMap as finite;
 ghost use Rattle.point_kit.specs.Exports.{join_points, changed_points, state};
-ghost use Rattle.gossip_kit.specs.Gossip.{acknowledged, acked_after, answer_of, carried_to, delta_to, hand_fault, recent_to, Brings, CarriesHeld, Renumbers};
+ghost use Rattle.gossip_kit.specs.Gossip.{acknowledged, acked_after, answer_of, carried_to, delta_to, hand_fault, next_number, recent_to, Brings, CarriesHeld, Renumbers};
 
 use crate::books::Books;
-use crate::changed::{changed_keys, taken_keys};
 use crate::message::Body;
-use crate::numbers::{LAST_NUMBER, Numbers};
 use crate::{HandFault, Message};
 use attr_kit::NoMemory;
 use gateway_kit::Gateway;
@@ -15,15 +13,19 @@ use point_kit::Export;
 use std::alloc::Global;
 use std::marker::Model;
 
+/// The greatest change number, where numbering ends.
+const LAST_NUMBER: u64 = 1 << 62;
+
 /// A gateway that sends and takes messages. The ids of nodes that exchange messages are distinct.
 ///
-/// It counts the changes of its points, and each key that changed has the number of its last change. Numbers end at
+/// It counts the changes of its points, and its gateway numbers each key by its last change. Numbers end at
 /// 2^62: a node that reached it sends all that it holds.
 #[derive(Debug, Drop)]
 pub struct Node {
     alloc: Global,
     gateway: Gateway,
-    numbers: Numbers,
+    /// How often its points changed.
+    change: u64,
     books: Books,
 }
 
@@ -32,28 +34,27 @@ impl Model for Node {
     ghost use Rattle.std.specs.Coded.{codes};
     ghost use Rattle.std.specs.FinMap.{code};
     ghost use Rattle.gossip_kit.specs.Gossip.{last_number};
-    ghost use Rattle.gossip_kit.specs.Keyed.{kept_numbers};
     ghost use Rattle.gossip_kit.specs.Views.{NodeView};
 
     ghost Value = { NodeView };
 
     ghost coded = { Prim.hlevel (codes, code) };
 
-    ghost view = { λ n. record { gateway = n.gateway; change = n.numbers.change; numbers = kept_numbers n.numbers.of_keys; acked = n.books } };
+    ghost view = { λ n. record { gateway = n.gateway; change = n.change; numbers = n.gateway.numbers; acked = n.books } };
 
-    ghost invariant = { λ n. n.numbers.change ≤ last_number };
+    ghost invariant = { λ n. n.change ≤ last_number };
 }
 
 impl Node {
     /// A node of this gateway, none of whose keys has changed yet, and to which nobody has acknowledged anything. Takes no
-    /// memory and constant time.
+    /// memory; numbers that the gateway has are dropped, else it takes a look at each of its incarnations.
     pub fn new(alloc: Global, gateway: Gateway) -> Node
-        ensures value { result ≡ record { gateway = gateway; change = 0; numbers = finite.empty; acked = finite.empty } }
+        ensures value { result ≡ record { gateway = record gateway { numbers = finite.empty }; change = 0; numbers = finite.empty; acked = finite.empty } }
     {
         Node {
             alloc,
-            gateway,
-            numbers: Numbers::new(alloc),
+            gateway: gateway.without_numbers(),
+            change: 0,
             books: Books::new(alloc),
         }
     }
@@ -67,7 +68,7 @@ impl Node {
 
     /// Joins the points of an export into the gateway and answers how many keys changed: they get the number of the next
     /// change. Where memory is refused nothing has changed. An export without points changes nothing and takes no memory.
-    /// Of k points it takes the cost of `Gateway::take`, that of taking them into a gateway of their own, and k look-ups.
+    /// At the cost of `Gateway::take`.
     pub fn take(&mut self, export: &Export) -> Result<u64, NoMemory>
         ensures id { self.new.gateway.id ≡ self.old.gateway.id }
         ensures ok { OnOk result (self.new.gateway.points ≡ join_points self.old.gateway.points (state (export.now ∷ []))) }
@@ -77,19 +78,17 @@ impl Node {
         ensures unchanged { OnErr result (self.new ≡ self.old) }
         ensures no_points { export.now.points ≡ [] → result ≡ Ok 0 }
     {
-        if export.points().is_empty() {
-            return Ok(0);
+        let number = self.next();
+        let changed = self.gateway.take_numbered(export, number)?;
+        if changed > 0 {
+            self.change = number;
         }
-        let keys = taken_keys(self.alloc, &self.gateway, export)?;
-        self.numbers.make_room(keys.len())?;
-        let changed = self.gateway.take(export)?;
-        self.numbers.renumber(keys);
         Ok(changed)
     }
 
     /// Joins what another gateway holds and answers how many keys changed: they get the number of the next change. Where
-    /// memory is refused nothing has changed. A gateway without points changes nothing and takes no memory. Of k points it
-    /// takes the cost of `Gateway::merge` and k look-ups.
+    /// memory is refused nothing has changed. A gateway without points changes nothing and takes no memory. At
+    /// the cost of `Gateway::merge`.
     pub fn merge(&mut self, other: &Gateway) -> Result<u64, NoMemory>
         ensures id { self.new.gateway.id ≡ self.old.gateway.id }
         ensures ok { OnOk result (self.new.gateway.points ≡ join_points self.old.gateway.points other.now.points) }
@@ -99,14 +98,23 @@ impl Node {
         ensures unchanged { OnErr result (self.new ≡ self.old) }
         ensures no_points { other.now.points ≡ finite.empty → result ≡ Ok 0 }
     {
-        if other.len() == 0 {
-            return Ok(0);
+        let number = self.next();
+        let changed = self.gateway.merge_numbered(other, number)?;
+        if changed > 0 {
+            self.change = number;
         }
-        let keys = changed_keys(self.alloc, &self.gateway, other)?;
-        self.numbers.make_room(keys.len())?;
-        let changed = self.gateway.merge(other)?;
-        self.numbers.renumber(keys);
         Ok(changed)
+    }
+
+    // The number of the next change.
+    fn next(&self) -> u64
+        ensures { result ≡ next_number self.now.change }
+    {
+        if self.change < LAST_NUMBER {
+            self.change + 1
+        } else {
+            LAST_NUMBER
+        }
     }
 
     // The cells that a message to the node of an id carries, where numbers have not ended.
@@ -114,7 +122,7 @@ impl Node {
         ensures { IfOk result (λ cells. cells.points ≡ recent_to self.now to) }
     {
         match self.books.number(to) {
-            Some(number) => self.numbers.since(self.alloc, &self.gateway, number),
+            Some(number) => self.gateway.since(self.alloc, number),
             None => self.gateway.try_copy(),
         }
     }
@@ -124,8 +132,8 @@ impl Node {
     ///
     /// It is a delta: it carries the cells of the keys numbered above the greatest number that that node acknowledged, or
     /// all where it acknowledged none, and asks for an Ack of the change number of this node. Where numbers ended it
-    /// carries all and asks for none. A delta takes a walk over the numbers of all keys that ever changed here, and a look-up
-    /// and a copy for each cell that it carries; else all cells are copied.
+    /// carries all and asks for none. A delta passes over every incarnation in which nothing is newer than what was
+    /// acknowledged, and walks over each other one; it copies the cells that it carries. Else all cells are copied.
     pub fn send(&self, to: u32) -> Result<Message, NoMemory>
         ensures from { IfOk result (λ message. message.from ≡ self.now.gateway.id) }
         ensures to { IfOk result (λ message. message.to ≡ to) }
@@ -135,7 +143,7 @@ impl Node {
         ensures held { IfOk result (λ message. CarriesHeld message.points self.now.gateway.points) }
         ensures brings { IfOk result (λ message. Brings message.points (acknowledged self.now to) self.now.gateway.points) }
     {
-        let number = self.numbers.change;
+        let number = self.change;
         let body = if number < LAST_NUMBER {
             let cells = self.cells_to(to)?;
             Body::Delta { number, cells }

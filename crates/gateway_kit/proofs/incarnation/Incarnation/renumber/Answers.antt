@@ -4,6 +4,7 @@ use Rattle.gateway_kit.specs.Changing.{Entry}
 use Rattle.gateway_kit.specs.Keys.{item_cmp}
 use Rattle.gateway_kit.specs.Tallies.{IsTally}
 use Rattle.gateway_kit.proofs.ItemMoves.{all_up_to, shows_numbered}
+use Rattle.gateway_kit.proofs.Recent.{none_numbered}
 use Rattle.gateway_kit.proofs.incarnation.Incarnation.renumber.Goals as goal
 
 pub invariant_of-self : goal.invariant_of-self
@@ -15,3 +16,6 @@ invariant_of-self c = record {
 
 pub returns-clause-numbers : goal.returns-clause-numbers
 returns-clause-numbers c = shows_numbered c.args.number c.self.inside.writer c.self.inside.start c.number_all.new.items.items (ap (is_sorted item_cmp) c.number_all.ensures.entries ∙ c.self.invariant.sorted) c.number_all.ensures.numbers
+
+pub returns-then-self-eq0-clause-numbers : goal.returns-then-self-eq0-clause-numbers
+returns-then-self-eq0-clause-numbers c = none_numbered c.args.number c.self.inside.number c.args.self.now c.self.inside.writer c.self.inside.start c.self.inside.items.items c.self.invariant.sorted c.self.view_is c.self.invariant.up_to c.if-number-eq0.true c.if-self-eq0.true

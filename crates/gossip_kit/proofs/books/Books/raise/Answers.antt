@@ -1,6 +1,5 @@
-use Rattle.std.proofs.Common.{◌≡◌, ℕ, None, Some, cond, max, is_some, refl, sym, ap, subst, ◌∙◌, true≢false}
-use Rattle.std.specs.FinMap.{FinMap, get, insert, get-insert, same_map, nat_cmp-IsAntisymmetric}
-use Rattle.std.specs.Cmp.{nat_cmp_total}
+use Rattle.std.proofs.Common.{ℕ, max, is_some, sym, ap, ◌∙◌, true≢false}
+use Rattle.std.specs.FinMap.{FinMap, get, insert}
 use Rattle.std.specs.Option.{unwrap_or}
 use Rattle.std.specs.Ordering.{nat_cmp}
 use Rattle.gossip_kit.proofs.Kept.{kept_book, raised_alike}

@@ -1,6 +1,6 @@
-use Rattle.std.proofs.Common.{◌≡◌, sym, ap, ◌∙◌}
+use Rattle.std.proofs.Common.{sym, ap, ◌∙◌}
 use Rattle.gateway_kit.proofs.Merged.{joined_empty}
-use Rattle.point_kit.specs.Exports.{Points, join_points}
+use Rattle.point_kit.specs.Exports.{join_points}
 use Rattle.gossip_kit.specs.Bodies.{cells_of}
 use Rattle.gossip_kit.specs.Views.{NodeView}
 use Rattle.gossip_kit.proofs.node.Node.hand.Goals as goal

@@ -1,0 +1,23 @@
+use Rattle.std.proofs.Common.{List, sym, ap, ◌∙◌}
+use Rattle.std.specs.FinMap.{from_sorted}
+use Rattle.std.specs.FinMap.Entries.{is_sorted}
+use Rattle.point_kit.specs.Orders.{key_cmp}
+use Rattle.gateway_kit.specs.Keys.{PartKey, part_cmp, whole_key}
+use Rattle.gateway_kit.specs.Part.{Cells}
+use Rattle.gateway_kit.specs.Parts.{flatten}
+use Rattle.gateway_kit.specs.View.{View}
+use Rattle.gateway_kit.proofs.Recent.{conflicts_alike, numbers_gone, whole_alike}
+use Rattle.gateway_kit.proofs.gateway.Gateway.without_numbers.Goals as goal
+
+pub invariant_of-gateway : goal.invariant_of-gateway
+invariant_of-gateway c =
+    let olds = c.gateway.inside.incarnations.items in
+    let news = c.renumber.new.incarnations.items in
+    (whole_alike olds news c.renumber.ensures.same c.gateway.inside.len c.gateway.invariant.0, c.gateway.invariant.1 ∙ sym (conflicts_alike olds news c.renumber.ensures.same))
+
+pub returns : goal.returns
+returns c =
+    let news = c.renumber.new.incarnations.items in
+    let points = ap (λ (l : List (PartKey × Cells)). from_sorted {R = key_cmp} (flatten whole_key l)) c.renumber.ensures.same ∙ ap (λ (v : View). v.points) c.gateway.view_is in
+    let none = numbers_gone news (ap (is_sorted part_cmp) c.renumber.ensures.same ∙ c.gateway.invariant.0.sorted) c.renumber.ensures.numbers in
+    record { value = λ i. record { id = (c.gateway.view_is i).id; points = points i; numbers = none i } }
