@@ -6,12 +6,13 @@ says that each of these calls has each of these clauses, an `ensures clause { ..
 without a type is one of the type named before it in its cell, or a function. The crate is that of the row, or the one that `of` names,
 or any. A word of a group in capitals is one of the specs of the crate.
 
-In every page each relative link leads to a file and to a heading, each crate that is named is one, each file of the repository that is
-named in code letters is there, and no line cites a paper by number. In PAGES each other name in code letters stands in the code. The
+In every page each relative link leads to a file and to a heading, each crate that is named is one, and no line cites a paper by number.
+In PAGES each file of the repository that is named in code letters is there, and each other name in code letters stands in the code. The
 files of specs/ that DEFINITIONS names exist. README's table has each crate once, and ARCHITECTURE's has what crates.txt says.
 
-This ends with a status other than 0 where one is missing, and names each. A folder as its word is checked in place of the repository:
-the tests of this runner break a copy so."""
+    tests/docs/run.py [FOLDER]      FOLDER in place of this repository
+
+This ends with a status other than 0 where one of these does not hold, and names each place."""
 import collections
 import pathlib
 import re
@@ -19,7 +20,7 @@ import sys
 
 TOP = pathlib.Path(sys.argv[1] if sys.argv[1:] else pathlib.Path(__file__).resolve().parents[2]).resolve()
 PAGES = ["README.md", *(f"docs/{it}.md" for it in ("ARCHITECTURE", "DECISIONS", "DEFINITIONS", "GOSSIP", "HISTORIES", "PERFORMANCE", "PROMISES"))]
-# Names in code letters that are none of the kit's: the reason behind each.
+# Names in code letters that are none of the kit's.
 FOREIGN = {"arrayvec::ArrayString", "Equivalent", "clap"}
 FN = re.compile(r"( *)(?:pub(?:\(crate\))? )?(?:unsafe )?(?:extern \"C\" )?fn (\w+)")
 OWNER = re.compile(r"(?:pub(?:\(crate\))? )?(?:unsafe )?(?:impl|trait)\b(?:<[^{]*?> )? ?(?:[\w:<>, &']+ for )?&?(?:\w+::)*(\w+)")
@@ -43,7 +44,8 @@ def crates():
 def functions():
     """Each function by its crate, type (None for none) and name, with its clauses: one set for each that has this name."""
     found = collections.defaultdict(list)
-    for file in sorted(TOP.glob("crates/*/src/**/*.rt")):
+    files = [it for it in sorted(TOP.glob("crates/*/src/**/*.rt")) if it.stem != "tests" and it.parent.name != "tests"]
+    for file in files:
         crate, owner, inside = file.relative_to(TOP).parts[1], None, None
         for line in file.read_text(encoding="utf-8").splitlines():
             begins, head = OWNER.match(line), FN.match(line)
@@ -66,7 +68,7 @@ def functions():
 class Docs:
     def __init__(self):
         self.crates, self.functions, self.faults, self.claims = crates(), functions(), [], 0
-        code = [it for kind in ("rt", "antt", "edit", "rs", "py", "h", "c", "cpp") for it in TOP.glob(f"*/**/*.{kind}") if "out" not in it.parts]
+        code = [it for kind in ("rt", "antt", "edit", "rs", "py", "h", "c", "cpp") for it in TOP.glob(f"*/**/*.{kind}") if not {"out", "target"} & set(it.parts) and it.parent != TOP / "tests" / "docs"]
         self.words = {it for file in code for it in re.findall(r"\w+", file.read_text(encoding="utf-8", errors="replace"))}
         self.words.update(re.findall(r"\w+", (TOP / "crates.txt").read_text()))
 
@@ -150,10 +152,13 @@ class Docs:
         if re.fullmatch(r"(?:crates|docs|tests|embed|examples|wip)/[\w./*-]+", span):
             if not list(TOP.glob(span)):
                 self.fault(where, f"no file {span}")
-        elif re.fullmatch(r"\w+(?:::\w+)*", span) and span not in FOREIGN and not span.isdigit():
-            missing = [it for it in span.split("::") if it not in self.words]
-            if missing:
-                self.fault(where, f"`{span}` stands nowhere in the code")
+            return
+        call = re.fullmatch(r"(\w+)::([a-z_]\w*)(?:\(.*\))?", span)
+        if call and not any(it[1:] == call.groups() for it in self.functions):
+            self.fault(where, f"no function `{call[1]}::{call[2]}`")
+        name = re.fullmatch(r"(\w+(?:::\w+)*)(?: [a-z])?", span)
+        if name and span not in FOREIGN and not span.isdigit() and any(it not in self.words for it in name[1].split("::")):
+            self.fault(where, f"`{name[1]}` stands nowhere in the code")
 
     def check_definitions(self):
         page = "docs/DEFINITIONS.md"
@@ -171,7 +176,7 @@ class Docs:
         for line in (TOP / "docs" / "ARCHITECTURE.md").read_text().splitlines():
             name, *words = line.split() if line.startswith("    ") else [""]
             if name in self.crates:
-                drawn[name] = [it for it in " ".join(words).replace(",", "").split() if it in self.crates or it in self.crates[name]]
+                drawn[name] = " ".join(words).replace(",", "").split()
         for crate, below in self.crates.items():
             if named.count(crate) != 1:
                 self.fault("README.md", f"the table has {crate} {named.count(crate)} times")
