@@ -31,13 +31,17 @@ TURNED = re.compile(rf"(?P<clauses>{RUN}) of (?P<calls>{RUN})")
 PAPER = re.compile(r"\b[TDRW][0-9]{1,2}[a-z]?\b|\bpapers? [0-9]")
 
 
+def text_of(file):
+    return file.read_text(encoding="utf-8", errors="replace")
+
+
 def spans(text):
     return re.findall(r"`([^`\n]+)`", text)
 
 
 def crates():
     """The crates of the kit, with what crates.txt says that each stands on."""
-    lines = [it for it in (TOP / "crates.txt").read_text().splitlines() if it and not it.startswith("#")]
+    lines = [it for it in text_of(TOP / "crates.txt").splitlines() if it and not it.startswith("#")]
     return {it.split(":")[0].split()[0]: it.split(":")[1].split() for it in lines}
 
 
@@ -47,7 +51,7 @@ def functions():
     files = [it for it in sorted(TOP.glob("crates/*/src/**/*.rt")) if it.stem != "tests" and it.parent.name != "tests"]
     for file in files:
         crate, owner, inside = file.relative_to(TOP).parts[1], None, None
-        for line in file.read_text(encoding="utf-8").splitlines():
+        for line in text_of(file).splitlines():
             begins, head = OWNER.match(line), FN.match(line)
             if begins:
                 owner = begins[1]
@@ -68,9 +72,10 @@ def functions():
 class Docs:
     def __init__(self):
         self.crates, self.functions, self.faults, self.claims = crates(), functions(), [], 0
-        code = [it for kind in ("rt", "antt", "edit", "rs", "py", "h", "c", "cpp") for it in TOP.glob(f"*/**/*.{kind}") if not {"out", "target"} & set(it.parts) and it.parent != TOP / "tests" / "docs"]
-        self.words = {it for file in code for it in re.findall(r"\w+", file.read_text(encoding="utf-8", errors="replace"))}
-        self.words.update(re.findall(r"\w+", (TOP / "crates.txt").read_text()))
+        code = [it for kind in ("rt", "antt", "edit", "rs", "py", "h", "c", "cpp") for it in TOP.glob(f"*/**/*.{kind}")]
+        code = [it for it in code if not {"out", "target"} & set(it.relative_to(TOP).parts) and it.parent != TOP / "tests" / "docs"]
+        self.words = {word for it in code for word in [it.stem, *re.findall(r"\w+", text_of(it))]}
+        self.words.update(re.findall(r"\w+", text_of(TOP / "crates.txt")))
 
     def fault(self, where, what):
         self.faults.append(f"{where}: {what}")
@@ -81,7 +86,7 @@ class Docs:
         return [one for it, found in kinds if it[1] == owner for one in found] or [one for it, found in kinds if it[1] is None for one in found]
 
     def is_spec(self, crate, word):
-        return any(re.search(rf"\b{word}\b", it.read_text(encoding="utf-8")) for it in TOP.glob(f"crates/{crate or '*'}/specs/**/*.antt"))
+        return any(re.search(rf"\b{word}\b", text_of(it)) for it in TOP.glob(f"crates/{crate or '*'}/specs/**/*.antt"))
 
     def check_claim(self, where, crate, owner, calls, clauses):
         """Whether each call has each clause; gives the type of the last one."""
@@ -115,7 +120,7 @@ class Docs:
     def check_rows(self, page):
         """The rows of a page whose first cell is a crate, or empty below one; and all rows of PROMISES."""
         crate = None
-        for number, line in enumerate((TOP / page).read_text().splitlines(), 1):
+        for number, line in enumerate(text_of(TOP / page).splitlines(), 1):
             cells = [it.strip() for it in line.strip("|").split("|")] if line.startswith("|") else []
             crate = cells[0] if cells and cells[0] in self.crates else crate if cells and not cells[0] else None
             if cells and (crate or page != "README.md"):
@@ -124,7 +129,7 @@ class Docs:
 
     def check_page(self, page):
         """What holds of every page."""
-        text, is_fenced = (TOP / page).read_text(), False
+        text, is_fenced = text_of(TOP / page), False
         for number, line in enumerate(text.splitlines(), 1):
             where, is_fenced = f"{page}:{number}", is_fenced != line.startswith("```")
             for target in re.findall(r"\]\(([^)\s]+)\)", line):
@@ -145,7 +150,7 @@ class Docs:
         file = ((TOP / page).parent / path).resolve() if path else TOP / page
         if not file.exists():
             self.fault(where, f"the link {target} leads to no file")
-        elif heading and heading not in [re.sub(r"[^\w -]", "", it).strip().lower().replace(" ", "-") for it in re.findall(r"^#+ (.*)$", file.read_text(), re.M)]:
+        elif heading and heading not in [re.sub(r"[^\w -]", "", it).strip().lower().replace(" ", "-") for it in re.findall(r"^#+ (.*)$", text_of(file), re.M)]:
             self.fault(where, f"the link {target} leads to no heading")
 
     def check_name(self, where, span):
@@ -162,7 +167,7 @@ class Docs:
 
     def check_definitions(self):
         page = "docs/DEFINITIONS.md"
-        for number, line in enumerate((TOP / page).read_text().splitlines(), 1):
+        for number, line in enumerate(text_of(TOP / page).splitlines(), 1):
             for crate, files in re.findall(r"`(\w+_kit)` ((?:[A-Z]\w+(?:, )?)+)", line):
                 for file in files.strip(", ").split(", "):
                     self.claims += 1
@@ -170,10 +175,10 @@ class Docs:
                         self.fault(f"{page}:{number}", f"no file {file}.antt in the specs of {crate}")
 
     def check_tables(self):
-        rows = re.findall(r"^\| ([\w, ]+?) \|[^|]*\|[^|]*\|$", (TOP / "README.md").read_text(), re.M)
+        rows = re.findall(r"^\| ([\w, ]+?) \|[^|]*\|[^|]*\|$", text_of(TOP / "README.md"), re.M)
         named = [it for row in rows for it in row.split(", ")]
         drawn = {}
-        for line in (TOP / "docs" / "ARCHITECTURE.md").read_text().splitlines():
+        for line in text_of(TOP / "docs" / "ARCHITECTURE.md").splitlines():
             name, *words = line.split() if line.startswith("    ") else [""]
             if name in self.crates:
                 drawn[name] = " ".join(words).replace(",", "").split()
