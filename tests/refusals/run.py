@@ -41,7 +41,7 @@ FLEET_FAULTS = ((3, re.compile(rb"no memory\n")), (1, re.compile(rb"fleet failed
 # Calls of which one growth alone may be spared: an arena asks for half of a piece that it is refused, and a list that is
 # collected grows as it goes where room for all of it is refused.
 SPARING = ("place", "Writer::look_round", "Writer::collect", "Writer::shutdown", "SharedWriter::try_collect", "SharedWriter::collect")
-SPARING += ("Periodic::tick", "Periodic::flush", "World::apply, Collect", "World::apply, Shutdown", "replay", "Plan::build")
+SPARING += ("Periodic::tick", "Periodic::flush", "World::apply, Collect", "World::apply, Shutdown", "replay", "Plan::build", "rollup")
 
 # The calls. What each prints with ample memory: the answer, and of a call that changes something what it left and what it
 # answers when it is made again; and what a refused growth makes of the first two, each of which must come. The third is then

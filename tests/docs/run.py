@@ -1,0 +1,218 @@
+#!/usr/bin/env python3
+"""What the docs name must stand in the code.
+
+In docs/PROMISES.md and the crate table of README.md a run of calls with clauses behind it, `Type::call`, `call` (`clause`, `clause`),
+says that each of these calls has each of these clauses, an `ensures clause { .. }` of its own; `clause` of `call` says the same. A call
+without a type is one of the type named before it in its cell, or a function. The crate is that of the row, or the one that `of` names,
+or any. A word of a group in capitals is one of the specs of the crate.
+
+In every page each relative link leads to a file and to a heading, each crate that is named is one, and no line cites a paper by number.
+In PAGES each file of the repository that is named in code letters is there, and each other name in code letters stands in the code. The
+files of specs/ that DEFINITIONS names exist. README's table has each crate once, and ARCHITECTURE's has what crates.txt says.
+
+    tests/docs/run.py [FOLDER]      FOLDER in place of this repository
+
+This ends with a status other than 0 where one of these does not hold, and names each place."""
+import collections
+import pathlib
+import re
+import sys
+
+TOP = pathlib.Path(sys.argv[1] if sys.argv[1:] else pathlib.Path(__file__).resolve().parents[2]).resolve()
+PAGES = ["README.md", *(f"docs/{it}.md" for it in ("ARCHITECTURE", "DECISIONS", "DEFINITIONS", "GOSSIP", "HISTORIES", "PERFORMANCE", "PROMISES"))]
+# Names in code letters that are none of the kit's.
+FOREIGN = {"arrayvec::ArrayString", "Equivalent", "clap"}
+FN = re.compile(r"( *)(?:pub(?:\(crate\))? )?(?:unsafe )?(?:extern \"C\" )?fn (\w+)")
+OWNER = re.compile(r"(?:pub(?:\(crate\))? )?(?:unsafe )?(?:impl|trait)\b(?:<[^{]*?> )? ?(?:[\w:<>, &']+ for )?&?(?:\w+::)*(\w+)")
+SPAN = r"`[^`\n]+`"
+RUN = rf"{SPAN}(?:(?:, and |, | and ){SPAN})*"
+CLAIM = re.compile(rf"(?P<calls>{RUN})(?: \((?P<group>`[^()]*)\))?(?: of `(?P<crate>\w+)`)?")
+TURNED = re.compile(rf"(?P<clauses>{RUN}) of (?P<calls>{RUN})")
+PAPER = re.compile(r"\b[TDRW][0-9]{1,2}[a-z]?\b|\bpapers? [0-9]")
+
+
+def text_of(file):
+    return file.read_text(encoding="utf-8", errors="replace")
+
+
+def spans(text):
+    return re.findall(r"`([^`\n]+)`", text)
+
+
+def crates():
+    """The crates of the kit, with what crates.txt says that each stands on."""
+    lines = [it for it in text_of(TOP / "crates.txt").splitlines() if it and not it.startswith("#")]
+    return {it.split(":")[0].split()[0]: it.split(":")[1].split() for it in lines}
+
+
+def functions():
+    """Each function by its crate, type (None for none) and name, with its clauses: one set for each that has this name."""
+    found = collections.defaultdict(list)
+    files = [it for it in sorted(TOP.glob("crates/*/src/**/*.rt")) if it.stem != "tests" and it.parent.name != "tests"]
+    for file in files:
+        crate, owner, inside = file.relative_to(TOP).parts[1], None, None
+        for line in text_of(file).splitlines():
+            begins, head = OWNER.match(line), FN.match(line)
+            if begins:
+                owner = begins[1]
+            elif line == "}":
+                owner = inside = None
+            elif head:
+                inside, clauses = head[1], set()
+                found[crate, owner if inside else None, head[2]].append(clauses)
+            elif inside is not None and line == inside + "{":
+                inside = None
+            elif owner and (member := re.match(r"    ghost (\w+) = ", line)):
+                found[crate, owner, member[1]].append(set())
+            elif inside is not None and (clause := re.match(inside + r"    ensures (\w+) \{", line)):
+                clauses.add(clause[1])
+    return found
+
+
+class Docs:
+    def __init__(self):
+        self.crates, self.functions, self.faults, self.claims = crates(), functions(), [], 0
+        code = [it for kind in ("rt", "antt", "edit", "rs", "py", "h", "c", "cpp") for it in TOP.glob(f"*/**/*.{kind}")]
+        code = [it for it in code if not {"out", "target"} & set(it.relative_to(TOP).parts) and it.parent != TOP / "tests" / "docs"]
+        self.words = {word for it in code for word in [it.stem, *re.findall(r"\w+", text_of(it))]}
+        self.words.update(re.findall(r"\w+", text_of(TOP / "crates.txt")))
+
+    def fault(self, where, what):
+        self.faults.append(f"{where}: {what}")
+
+    def stand(self, crate, owner, name):
+        """The clauses of each function of this name: of the type where it has one, or of none."""
+        kinds = [(it, found) for it, found in self.functions.items() if it[2] == name and crate in (None, it[0])]
+        return [one for it, found in kinds if it[1] == owner for one in found] or [one for it, found in kinds if it[1] is None for one in found]
+
+    def is_spec(self, crate, word):
+        return any(re.search(rf"\b{word}\b", text_of(it)) for it in TOP.glob(f"crates/{crate or '*'}/specs/**/*.antt"))
+
+    def check_claim(self, where, crate, owner, calls, clauses):
+        """Whether each call has each clause; gives the type of the last one."""
+        for call in calls:
+            typed, _, name = call.rpartition("::")
+            owner = typed or owner
+            found = self.stand(crate, owner, name)
+            if not found:
+                self.fault(where, f"no function `{call}`" + (f" of {crate}" if crate else "") + (f" or of {owner}" if owner and not typed else ""))
+            for clause in clauses:
+                self.claims += 1
+                if found and clause[0].isupper() and not self.is_spec(crate, clause):
+                    self.fault(where, f"no word `{clause}` in the specs of {crate or 'any crate'}")
+                elif found and clause[0].islower() and not any(clause in it for it in found):
+                    self.fault(where, f"`{call}` has no clause `{clause}`")
+        return owner
+
+    def check_cell(self, where, crate, cell):
+        for turned in TURNED.finditer(cell):
+            if turned["calls"].strip("`") not in self.crates:
+                self.check_claim(where, crate, None, spans(turned["calls"]), spans(turned["clauses"]))
+        owner = None
+        for claim in CLAIM.finditer(TURNED.sub(lambda it: it[0] if it["calls"].strip("`") in self.crates else "", cell)):
+            calls, clauses = spans(claim["calls"]), spans(claim["group"] or "")
+            if clauses:
+                owner = self.check_claim(where, claim["crate"] or crate, owner, calls, clauses)
+            else:
+                named = [it for it in calls if re.fullmatch(r"\w+::\w+|[a-z]\w*_\w+", it) and it not in self.crates]
+                owner = self.check_claim(where, claim["crate"] or crate, owner, named, [])
+
+    def check_rows(self, page):
+        """The rows of a page whose first cell is a crate, or empty below one; and all rows of PROMISES."""
+        crate = None
+        for number, line in enumerate(text_of(TOP / page).splitlines(), 1):
+            cells = [it.strip() for it in line.strip("|").split("|")] if line.startswith("|") else []
+            crate = cells[0] if cells and cells[0] in self.crates else crate if cells and not cells[0] else None
+            if cells and (crate or page != "README.md"):
+                for cell in cells:
+                    self.check_cell(f"{page}:{number}", crate, cell)
+
+    def check_page(self, page):
+        """What holds of every page."""
+        text, is_fenced = text_of(TOP / page), False
+        for number, line in enumerate(text.splitlines(), 1):
+            where, is_fenced = f"{page}:{number}", is_fenced != line.startswith("```")
+            for target in re.findall(r"\]\(([^)\s]+)\)", line):
+                self.check_link(where, page, target)
+            for word in re.findall(r"\b(?:\w+_kit|kit_[a-z]+)\b", line):
+                if word not in self.crates and word not in self.words:
+                    self.fault(where, f"no crate {word}")
+            if PAPER.search(line) and not is_fenced:
+                self.fault(where, f"cites a paper by number: {PAPER.search(line)[0]}")
+            if page in PAGES and not is_fenced:
+                for span in spans(line):
+                    self.check_name(where, span)
+
+    def check_link(self, where, page, target):
+        if re.match(r"\w+:", target):
+            return
+        path, _, heading = target.partition("#")
+        file = ((TOP / page).parent / path).resolve() if path else TOP / page
+        if not file.exists():
+            self.fault(where, f"the link {target} leads to no file")
+        elif heading and heading not in [re.sub(r"[^\w -]", "", it).strip().lower().replace(" ", "-") for it in re.findall(r"^#+ (.*)$", text_of(file), re.M)]:
+            self.fault(where, f"the link {target} leads to no heading")
+
+    def check_name(self, where, span):
+        if re.fullmatch(r"(?:crates|docs|tests|embed|examples|wip)/[\w./*-]+", span):
+            if not list(TOP.glob(span)):
+                self.fault(where, f"no file {span}")
+            return
+        call = re.fullmatch(r"(\w+)::([a-z_]\w*)(?:\(.*\))?", span)
+        if call and not any(it[1:] == call.groups() for it in self.functions):
+            self.fault(where, f"no function `{call[1]}::{call[2]}`")
+        name = re.fullmatch(r"(\w+(?:::\w+)*)(?: [a-z])?", span)
+        if name and span not in FOREIGN and not span.isdigit() and any(it not in self.words for it in name[1].split("::")):
+            self.fault(where, f"`{name[1]}` stands nowhere in the code")
+
+    def check_definitions(self):
+        page = "docs/DEFINITIONS.md"
+        for number, line in enumerate(text_of(TOP / page).splitlines(), 1):
+            for crate, files in re.findall(r"`(\w+_kit)` ((?:[A-Z]\w+(?:, )?)+)", line):
+                for file in files.strip(", ").split(", "):
+                    self.claims += 1
+                    if not (TOP / "crates" / crate / "specs" / f"{file}.antt").is_file():
+                        self.fault(f"{page}:{number}", f"no file {file}.antt in the specs of {crate}")
+
+    def check_tables(self):
+        rows = re.findall(r"^\| ([\w, ]+?) \|[^|]*\|[^|]*\|$", text_of(TOP / "README.md"), re.M)
+        named = [it for row in rows for it in row.split(", ")]
+        drawn = {}
+        for line in text_of(TOP / "docs" / "ARCHITECTURE.md").splitlines():
+            name, *words = line.split() if line.startswith("    ") else [""]
+            if name in self.crates:
+                drawn[name] = " ".join(words).replace(",", "").split()
+        for crate, below in self.crates.items():
+            if named.count(crate) != 1:
+                self.fault("README.md", f"the table has {crate} {named.count(crate)} times")
+            if not (TOP / "crates" / crate).is_dir():
+                self.fault("crates.txt", f"no folder of {crate}")
+            reached, waiting = set(), list(drawn.get(crate, []))
+            while waiting:
+                name = waiting.pop()
+                waiting += [] if name in reached else drawn.get(name, [])
+                reached.add(name)
+            wrong = set(drawn.get(crate, [])) - set(below) | {it for it in below if it in self.crates} - reached
+            if crate not in drawn or wrong:
+                self.fault("docs/ARCHITECTURE.md", f"{crate} is not drawn as crates.txt has it: {', '.join(sorted(wrong)) or 'missing'}")
+
+    def check(self):
+        for page in ("README.md", "docs/PROMISES.md"):
+            self.check_rows(page)
+        for file in sorted([TOP / "README.md", *TOP.glob("docs/**/*.md"), *TOP.glob("wip/*.md")]):
+            self.check_page(str(file.relative_to(TOP)))
+        self.check_definitions()
+        self.check_tables()
+
+
+def main():
+    docs = Docs()
+    docs.check()
+    for fault in docs.faults:
+        print(f"NOT AS TOLD: {fault}")
+    print(f"docs: {docs.claims} claims of clauses and files looked at, {len(docs.faults)} not as told")
+    return 1 if docs.faults or not docs.claims else 0
+
+
+if __name__ == "__main__":
+    sys.exit(main())
