@@ -2,7 +2,7 @@
 ghost use Rattle.std.specs.Prelude.{◌≡◌, ◌≢◌, IsSome, List, [], ◌∷◌, Ok, OnOk, OnErr, IfOk, IfErr, Some, None};
 ghost use Rattle.std.specs.FinMap as finite;
 ghost use Rattle.point_kit.specs.Exports.{join_points, changed_points, state};
-ghost use Rattle.gossip_kit.specs.Gossip.{acknowledged, acked_after, answer_of, carried_to, delta_to, hand_fault, next_number, recent_to, Brings, CarriesHeld, Renumbers};
+ghost use Rattle.gossip_kit.specs.Gossip.{acknowledged, acked_after, answer_of, begun, carried_to, delta_to, hand_fault, next_number, recent_to, Brings, CarriesHeld, Renumbers};
 
 use crate::books::Books;
 use crate::message::Body;
@@ -46,10 +46,11 @@ impl Model for Node {
 }
 
 impl Node {
-    /// A node of this gateway, none of whose keys has changed yet, and to which nobody has acknowledged anything. Takes no
-    /// memory; numbers that the gateway has are dropped, else it takes a look at each of its incarnations.
+    /// A node of this gateway, none of whose keys has changed yet, and to which nobody has acknowledged anything. Numbers
+    /// that the gateway has are dropped. Takes no memory; O(m) of m incarnations, and O(k) of the k points in those of
+    /// them where keys are numbered.
     pub fn new(alloc: Global, gateway: Gateway) -> Node
-        ensures value { result ≡ record { gateway = record gateway { numbers = finite.empty }; change = 0; numbers = finite.empty; acked = finite.empty } }
+        ensures value { result ≡ begun gateway }
     {
         Node {
             alloc,
@@ -68,7 +69,7 @@ impl Node {
 
     /// Joins the points of an export into the gateway and answers how many keys changed: they get the number of the next
     /// change. Where memory is refused nothing has changed. An export without points changes nothing and takes no memory.
-    /// At the cost of `Gateway::take`.
+    /// The cost is that of `Gateway::take`.
     pub fn take(&mut self, export: &Export) -> Result<u64, NoMemory>
         ensures id { self.new.gateway.id ≡ self.old.gateway.id }
         ensures ok { OnOk result (self.new.gateway.points ≡ join_points self.old.gateway.points (state (export.now ∷ []))) }
@@ -87,8 +88,8 @@ impl Node {
     }
 
     /// Joins what another gateway holds and answers how many keys changed: they get the number of the next change. Where
-    /// memory is refused nothing has changed. A gateway without points changes nothing and takes no memory. At
-    /// the cost of `Gateway::merge`.
+    /// memory is refused nothing has changed. A gateway without points changes nothing and takes no memory. The cost is that
+    /// of `Gateway::merge`.
     pub fn merge(&mut self, other: &Gateway) -> Result<u64, NoMemory>
         ensures id { self.new.gateway.id ≡ self.old.gateway.id }
         ensures ok { OnOk result (self.new.gateway.points ≡ join_points self.old.gateway.points other.now.points) }
@@ -132,8 +133,8 @@ impl Node {
     ///
     /// It is a delta: it carries the cells of the keys numbered above the greatest number that that node acknowledged, or
     /// all where it acknowledged none, and asks for an Ack of the change number of this node. Where numbers ended it
-    /// carries all and asks for none. A delta passes over every incarnation in which nothing is newer than what was
-    /// acknowledged, and walks over each other one; it copies the cells that it carries. Else all cells are copied.
+    /// carries all and asks for none. A delta takes a look at each incarnation, a walk over the points of those in which a
+    /// key changed since, and a copy of each cell that it carries. Else all cells are copied.
     pub fn send(&self, to: u32) -> Result<Message, NoMemory>
         ensures from { IfOk result (λ message. message.from ≡ self.now.gateway.id) }
         ensures to { IfOk result (λ message. message.to ≡ to) }
