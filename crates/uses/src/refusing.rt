@@ -1,13 +1,15 @@
 //! What becomes of a service where a call is refused.
-ghost use Rattle.std.specs.Prelude.{◌≡◌, MatchBool, Some, IfOk, OnErr, false};
+ghost use Rattle.std.specs.Prelude.{◌≡◌, ◌<◌, MatchBool, Some, None, IfOk, IfSome, OnOk, OnErr, false};
 ghost use Rattle.agg_kit.specs.Entries.{entry_of};
 ghost use Rattle.gossip_kit.specs.Gossip.{hand_fault};
 ghost use Rattle.gossip_kit.specs.declared.fault.HandFault.TheVariants as hands;
-ghost use Rattle.writer_kit.specs.Recording.{recorded};
+ghost use Rattle.writer_kit.specs.Recording.{recorded, round_now};
 
 use attr_kit::{AttrSet, NoMemory};
+use bumpalo::Bump;
 use gossip_kit::{HandFault, Message, Node};
-use writer_kit::{MeasureFault, RestartFault, Writer};
+use round_kit::Round;
+use writer_kit::{CollectFault, MeasureFault, RestartFault, Writer};
 
 /// Records a value, and says whether it was recorded. Where it was not, the writer is as it was.
 pub fn record_if_allowed(
@@ -26,8 +28,25 @@ pub fn record_if_allowed(
     }
 }
 
-/// Begins anew, one nanosecond after the last start where the given time is not after it: none where there is no later time.
+/// Collects where the time is after the last collection; else there is none, and the writer is as it was.
+pub fn collect_if_later<'b>(
+    writer: &mut Writer,
+    arena: &'b Bump,
+    now: u64,
+) -> Result<Option<Round<'b>>, CollectFault>
+    ensures early { IfOk result (λ round. round ≡ None → writer.new ≡ writer.old) }
+    ensures value { IfOk result (λ found. IfSome found (λ round. round ≡ round_now writer.old now)) }
+{
+    match writer.collect(arena, now) {
+        Ok(round) => Ok(Some(round)),
+        Err(CollectFault::TimeNotAfter(_)) => Ok(None),
+        Err(fault) => Err(fault),
+    }
+}
+
+/// Begins anew, where the clock went back one nanosecond after the last start. Refused where no time is later, and for memory.
 pub fn begin_again(writer: &mut Writer, now: u64) -> Result<(), RestartFault>
+    ensures later { OnOk result (writer.old.start < writer.new.start) }
     ensures unchanged { OnErr result (writer.new ≡ writer.old) }
 {
     match writer.restart(now) {

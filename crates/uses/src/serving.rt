@@ -1,6 +1,6 @@
 //! A gateway that threads share: who delivers, who looks, and who tells another seat what was seen.
-ghost use Rattle.std.specs.Prelude.{◌≡◌, IfOk};
-ghost use Rattle.gateway_kit.specs.Shared.{IsAt, Adds, Sees};
+ghost use Rattle.std.specs.Prelude.{◌≡◌, ◌<◌, IfOk, IfErr};
+ghost use Rattle.gateway_kit.specs.Shared.{History, IsAt, Adds, Keeps, Sees, first_of};
 ghost use Rattle.gateway_kit.specs.declared.shared.change.GatewayChange.TheVariants.{Taken};
 ghost use Rattle.turn_kit.specs.History.{StartsWith};
 ghost use Rattle.turn_kit.specs.Public.{seen};
@@ -58,4 +58,17 @@ pub fn pass_on(shared: &SharedGateway, from: &mut Seat<Gateway>, to: &mut Seat<G
 {
     let note: Note<Gateway> = shared.note(from);
     shared.hear(to, note);
+}
+
+/// The gateway at the end, once every other seat was joined into this one: it has all that the history brought. Where seats are
+/// out, how many.
+pub fn close(shared: SharedGateway, seat: Seat<Gateway>) -> Result<Gateway, u64>
+    requires { IsAt shared seat }
+    ensures all { IfOk result (λ gateway. (history : History) × Keeps (first_of shared) history gateway) }
+    ensures out { IfErr result (λ out. 0 < out) }
+{
+    match shared.close(seat) {
+        Ok(gateway) => Ok(gateway),
+        Err(left) => Err(left.out),
+    }
 }
