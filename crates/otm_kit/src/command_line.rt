@@ -61,7 +61,9 @@ fn run<'a>(alloc: Global) -> Command<'a>
     ensures own { (out-Command result).has_globals ≡ false }
     ensures whole { is_broken result ≡ false }
 {
-    Command::new(alloc, "run").about("Do the script of the standard input, and print what its lines say")
+    Command::new(alloc, "run").about(
+        "Do the script of the standard input, and print what its lines say",
+    )
 }
 
 #[tactic(auto, unfolding(crate::specs::Asked::otm))]

@@ -46,7 +46,8 @@ pub fn export_of_sum(
 
 /// Takes an export that came as bytes. Bytes of an export are taken as that export, and where bytes are refused nothing changes.
 pub fn take_bytes(alloc: Global, gateway: &mut Gateway, bytes: &[u8]) -> Result<u64, DecodeFault>
-    ensures taken { (e : Export) → IsExport e → bytes.now ≡ bytes_of e → OnOk result (gateway.new.points ≡ join_points gateway.old.points (state (e ∷ []))) }
+    ensures taken { (e : Export) → IsExport e → bytes.now ≡ bytes_of e
+        → OnOk result (gateway.new.points ≡ join_points gateway.old.points (state (e ∷ []))) }
     ensures unchanged { OnErr result (gateway.new ≡ gateway.old) }
 {
     let export = decode_export(alloc, bytes)?;

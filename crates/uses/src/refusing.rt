@@ -11,14 +11,16 @@ use gossip_kit::{HandFault, Message, Node};
 use round_kit::Round;
 use writer_kit::{CollectFault, MeasureFault, RestartFault, Writer};
 
-/// Records a value, and says whether it was recorded. Where it was not, the writer is as it was.
+/// Records a value, and says whether it was recorded; refused where the writer is closed. What was not recorded leaves the writer
+/// as it was.
 pub fn record_if_allowed(
     writer: &mut Writer,
     instrument: usize,
     attrs: &AttrSet,
     value: i64,
 ) -> Result<bool, MeasureFault>
-    ensures value { IfOk result (λ done. MatchBool done (writer.new ≡ recorded writer.old (entry_of instrument attrs.now value)) (writer.new ≡ writer.old)) }
+    ensures value { IfOk result (λ done. MatchBool done
+        (writer.new ≡ recorded writer.old (entry_of instrument attrs.now value)) (writer.new ≡ writer.old)) }
     ensures unchanged { OnErr result (writer.new ≡ writer.old) }
 {
     match writer.measure(instrument, attrs, value) {
@@ -45,6 +47,7 @@ pub fn collect_if_later<'b>(
 }
 
 /// Begins anew, where the clock went back one nanosecond after the last start. Refused where no time is later, and for memory.
+#[tactic(auto, using(writer_kit::proofs::Refusals::restart_later))]
 pub fn begin_again(writer: &mut Writer, now: u64) -> Result<(), RestartFault>
     ensures later { OnOk result (writer.old.start < writer.new.start) }
     ensures unchanged { OnErr result (writer.new ≡ writer.old) }
@@ -57,7 +60,8 @@ pub fn begin_again(writer: &mut Writer, now: u64) -> Result<(), RestartFault>
 
 /// Hands a message to a node, and says whether it was for that node. Where it was not, the node is as it was.
 pub fn hear(node: &mut Node, message: &Message) -> Result<bool, NoMemory>
-    ensures other { IfOk result (λ heard. heard ≡ false → (node.new ≡ node.old) × (hand_fault node.old message.now ≡ Some hands.NotAddressed)) }
+    ensures other { IfOk result (λ heard. heard ≡ false
+        → (node.new ≡ node.old) × (hand_fault node.old message.now ≡ Some hands.NotAddressed)) }
     ensures unchanged { OnErr result (node.new ≡ node.old) }
 {
     match node.hand(message) {

@@ -70,8 +70,10 @@ pub fn raise_to<R: Wait>(
 ) -> Result<u64, ChangeFault<NotHigher>>
     requires { IsOf turn.now seat.old }
     ensures seat { IsOf turn.now seat.new }
-    ensures raised { IfOk result (λ old. Enters (λ m. m) raised (opening turn.now) (limit_of turn.now) to (λ m. old ≡ m) seat.old seat.new) }
-    ensures refused { IfErr result (AtRefused (λ _. Refuses (λ m. m) raised (opening turn.now) (limit_of turn.now) (λ m. to ≤ m) seat.old seat.new)) }
+    ensures raised { IfOk result (λ old. Enters (λ m. m) raised (opening turn.now) (limit_of turn.now)
+        to (λ m. old ≡ m) seat.old seat.new) }
+    ensures refused { IfErr result (AtRefused (λ _. Refuses (λ m. m) raised (opening turn.now) (limit_of turn.now)
+        (λ m. to ≤ m) seat.old seat.new)) }
 {
     turn.change(rt, seat, Raise { to })
 }
@@ -95,7 +97,8 @@ pub fn raise_at_once<G: GiveBack>(
 ) -> Result<u64, ChangeFault<NotHigher>>
     requires { IsOf turn.now seat.old }
     ensures seat { IsOf turn.now seat.new }
-    ensures raised { IfOk result (λ old. Enters (λ m. m) raised (opening turn.now) (limit_of turn.now) to (λ m. old ≡ m) seat.old seat.new) }
+    ensures raised { IfOk result (λ old. Enters (λ m. m) raised (opening turn.now) (limit_of turn.now)
+        to (λ m. old ≡ m) seat.old seat.new) }
     ensures busy { IfErr result (AtBusy (IsLeft seat.old seat.new)) }
 {
     turn.try_change(seat, Raise { to })
