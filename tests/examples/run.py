@@ -11,7 +11,8 @@ leaves the program in crates/otm/out, as each of two compilers builds it, and `r
 there does all of it.
 
 What PAGES quote of crates/uses must stand there: a comment `<!-- FILE: fn NAME -->` names what the next block, fenced as
-`rust`, has whole, and `, body` after it asks for the lines between its braces.
+`rust`, has whole, and `, body` after it asks for the lines between its braces. Under the words `otm --help`, `otm help fleet` and
+`otm --version` COMMANDS_PAGE shows what these print.
 
 This ends with a status other than 0 where one differs, or where there is no program or no script."""
 import os
@@ -26,6 +27,7 @@ BAD_END = re.compile(rb"(?:.*\n)?line [0-9]+\n", re.S)
 BUILDS = ("otm", "otm.by-rattle")
 SECONDS = 60
 PAGES = ("README.md", "docs/GUIDE.md", "docs/SCRIPTS.md")
+COMMANDS_PAGE = "docs/SCRIPTS.md"
 
 NO_COMMAND = b"""error: 'otm' requires a subcommand but one was not provided
   [subcommands: run, fleet, help]
@@ -49,15 +51,46 @@ Usage: otm run
 For more information, try '--help'.
 
 """
-HELP = b"""Usage: otm <COMMAND>
+HELP = b"""Metrics by scripts and by fleets of threads, with totals that are proved
+
+Usage: otm <COMMAND>
 
 Commands:
-  run    
-  fleet  
+  run    Do the script of the standard input, and print what its lines say
+  fleet  Record with many threads, and print the total of each gateway
   help   Print this message or the help of the given subcommand(s)
 
 Options:
+  -h, --help     Print help
+  -V, --version  Print version
+
+"""
+RUN_HELP = b"""Do the script of the standard input, and print what its lines say
+
+Usage: otm run
+
+Options:
   -h, --help  Print help
+
+"""
+FLEET_HELP = b"""Record with many threads, and print the total of each gateway
+
+Usage: otm fleet [OPTIONS]
+
+Options:
+      --writers <writers>      How many writers, 1 to 8 [default: 2]
+      --recorders <recorders>  How many recorder threads each writer has, 1 to 8 [default: 2]
+      --each <each>            How many recordings each recorder makes, at most 1000000 [default: 1000]
+      --gateways <gateways>    How many gateways, 1 to 8 [default: 2]
+  -h, --help                   Print help
+
+"""
+VERSION = b"otm 0.1.0\n\n"
+NO_VERSION = b"""error: unexpected argument '--version' found
+
+Usage: otm run
+
+For more information, try '--help'.
 
 """
 
@@ -70,7 +103,15 @@ ENDS = {
     "a wrong command": (["garbage", "run"], b"", 2, b"", WRONG_COMMAND),
     "a word behind": (["run", "extra"], b"", 2, b"", WORD_BEHIND),
     "help": (["--help"], b"", 2, b"", HELP),
+    "help by its letter": (["-h"], b"", 2, b"", HELP),
     "help by its word": (["help"], b"", 2, b"", HELP),
+    "help of run": (["run", "--help"], b"", 2, b"", RUN_HELP),
+    "help of run by its word": (["help", "run"], b"", 2, b"", RUN_HELP),
+    "help of fleet": (["fleet", "--help"], b"", 2, b"", FLEET_HELP),
+    "help of fleet by its word": (["help", "fleet"], b"", 2, b"", FLEET_HELP),
+    "the version": (["--version"], b"", 2, b"", VERSION),
+    "the version by its letter": (["-V"], b"", 2, b"", VERSION),
+    "a version that no command has": (["run", "--version"], b"", 2, b"", NO_VERSION),
     "a word that is no text": ([b"\xff"], b"", 2, b"", b"the words are no text\n"),
 }
 
@@ -250,7 +291,7 @@ def told_scripts():
 
 def function_of(text, name, body):
     """The lines of what stands under this name, its comment and attributes left out; or of its body alone, moved to the left."""
-    whole = re.search(rf"^((?:pub )?{name}\b.*?^)}}$", text, re.S | re.M)
+    whole = re.search(rf"^((?:pub )?{re.escape(name)}\b.*?^)}}$", text, re.S | re.M)
     if whole is None:
         return None
     if not body:
@@ -263,12 +304,20 @@ def quotes():
     """Each quotation of a page, and what is wrong with it, or an empty text."""
     for page in PAGES:
         text = (TOP / page).read_text()
-        marks = re.findall(r"^<!-- (\S+): ([\w ]+)(, body)? -->\n\n?```rust\n(.*?)^```$", text, re.S | re.M)
+        marks = re.findall(r"^<!-- (\S+): ([\w<> ]+)(, body)? -->\n\n?```rust\n(.*?)^```$", text, re.S | re.M)
         if len(marks) != text.count("```rust"):
             yield page, "a quotation that names no function"
         for file, name, body, quoted in marks:
             stands = function_of((TOP / file).read_text(), name, bool(body))
             yield f"{page}: {name}", "" if stands == quoted else f"{file} has {stands!r}"
+
+
+def shown():
+    """Each text of the command line that a page shows, and what is wrong with it, or an empty text."""
+    page = (TOP / COMMANDS_PAGE).read_text()
+    for words, text in {"otm --help": HELP, "otm help fleet": FLEET_HELP, "otm --version": VERSION}.items():
+        block = f"`{words}`:\n\n```text\n{text.decode().rstrip()}\n```\n"
+        yield f"{COMMANDS_PAGE}: {words}", "" if block in page else "another text, or none"
 
 
 def said(text, sentence):
@@ -310,7 +359,7 @@ def main():
     failed = not list((TOP / "examples").glob("*.otm")) or not list(ROWS.glob("*.otm")) or not any(path.name == BUILDS[0] for path in programs)
     if failed:
         print("NO PROGRAM OR NO SCRIPT: rt ci, or rt run in crates/otm, makes the program")
-    for name, told in quotes():
+    for name, told in [*quotes(), *shown()]:
         failed = failed or bool(told)
         print(f"{name}: {'NOT AS TOLD: ' + told if told else 'as told'}")
     for program in programs:

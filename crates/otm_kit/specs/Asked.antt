@@ -20,10 +20,10 @@ each_rule = record (new_rule (codes "each")) { long = Some (codes "each"); defau
 abbrev pub fleet : App
 fleet = with_rule (with_rule (with_rule (with_rule (new_app (codes "fleet")) (count_rule (codes "writers"))) (count_rule (codes "recorders"))) each_rule) (count_rule (codes "gateways"))
 
--- the program, which wants one of its commands
+-- the program, which wants one of its commands, and has a version that may be asked for
 unfoldable pub otm : App
 otm = with_subcommand (with_subcommand (record (new_app (codes "otm")) {
-  top = record ((new_app (codes "otm")).top) { subcommand_required = true };
+  top = record ((new_app (codes "otm")).top) { has_version = true; subcommand_required = true };
 }) run.top) fleet.top
 
 -- the command that the words name, with what they and the defaults give its options

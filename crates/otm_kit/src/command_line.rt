@@ -1,7 +1,7 @@
 //! What the words of a command line ask for.
 ghost use Rattle.clap.specs.Words.{app_of, found_of, rows_of, rule_of, subcommand_rows_of, is_broken, kind_of};
 ghost use Rattle.clap.specs.declared.builder.command.Command.TheViews.{out-Command};
-ghost use Rattle.otm_kit.specs.Asked.{otm, fleet, count_rule, each_rule, Says, IsGiven, IsCount, IsRanged, faults_of, named_by, is_taken};
+ghost use Rattle.otm_kit.specs.Asked.{otm, run, fleet, count_rule, each_rule, Says, IsGiven, IsCount, IsRanged, faults_of, named_by, is_taken};
 ghost use Rattle.std.specs.Prelude.{◌≡◌, ◌≤◌, [], Some, codes, false, true, IfOk, IfSome, IsErrOf, OnOk, map};
 
 use crate::{Asked, LineFault};
@@ -10,14 +10,18 @@ use clap::{Arg, ArgMatches, Command, value_parser};
 use std::alloc::{AllocError, Global};
 use std::convert::AsStr;
 
+// The version that the program prints when asked.
+const VERSION: &str = "0.1.0";
+
 // An option whose value is a number from 1 to 8, or 2 where it is left out.
 #[tactic(auto)]
-fn count<'a>(alloc: Global, name: &'a str) -> Arg<'a>
+fn count<'a>(alloc: Global, name: &'a str, help: &'a str) -> Arg<'a>
     ensures rule { rule_of result ≡ count_rule name.entry.now }
     ensures own { result.global ≡ false }
 {
     Arg::new(alloc, name)
         .long(name)
+        .help(help)
         .value_parser(value_parser!(u8).range(1..=8))
         .default_value("2")
 }
@@ -30,6 +34,7 @@ fn each<'a>(alloc: Global) -> Arg<'a>
 {
     Arg::new(alloc, "each")
         .long("each")
+        .help("How many recordings each recorder makes, at most 1000000")
         .value_parser(value_parser!(u64).range(0..=1_000_000))
         .default_value("1000")
 }
@@ -40,10 +45,25 @@ fn fleet<'a>(alloc: Global) -> Result<Command<'a>, AllocError>
     ensures whole { IfOk result (λ c. is_broken c ≡ false) }
 {
     Command::new(alloc, "fleet")
-        .arg(count(alloc, "writers"))?
-        .arg(count(alloc, "recorders"))?
+        .about("Record with many threads, and print the total of each gateway")
+        .arg(count(alloc, "writers", "How many writers, 1 to 8"))?
+        .arg(count(
+            alloc,
+            "recorders",
+            "How many recorder threads each writer has, 1 to 8",
+        ))?
         .arg(each(alloc))?
-        .arg(count(alloc, "gateways"))
+        .arg(count(alloc, "gateways", "How many gateways, 1 to 8"))
+}
+
+fn run<'a>(alloc: Global) -> Command<'a>
+    ensures app { app_of result ≡ run }
+    ensures own { (out-Command result).has_globals ≡ false }
+    ensures whole { is_broken result ≡ false }
+{
+    Command::new(alloc, "run").about(
+        "Do the script of the standard input, and print what its lines say",
+    )
 }
 
 #[tactic(auto, unfolding(crate::specs::Asked::otm))]
@@ -53,8 +73,10 @@ fn command<'a>(alloc: Global) -> Result<Command<'a>, AllocError>
     ensures whole { IfOk result (λ c. is_broken c ≡ false) }
 {
     Command::new(alloc, "otm")
+        .version(VERSION)
+        .about("Metrics by scripts and by fleets of threads, with totals that are proved")
         .subcommand_required(true)
-        .subcommand(Command::new(alloc, "run"))?
+        .subcommand(run(alloc))?
         .subcommand(fleet(alloc)?)
 }
 

@@ -1,4 +1,6 @@
 pub mod Exporting
 pub mod Plans
 pub mod Pushing
+pub mod Serving
 pub mod Sharing
+pub mod Turning

@@ -1,11 +1,11 @@
 //! A fleet of threads, and what its gateways answer.
-ghost use Rattle.std.specs.Prelude.{◌≡◌, ◌⊎◌, IfOk, IfSome};
+ghost use Rattle.std.specs.Prelude.{◌≡◌, ◌⊎◌, ◌∷◌, [], IfOk, IfSome};
 ghost use Rattle.fleet_kit.specs.Setups.{recorded, writers_of};
 ghost use Rattle.rollup_kit.specs.Rollups.{AddsUp};
 ghost use Rattle.rollup_kit.specs.Writers.{AllWithin, IsRegrouped, rows_of};
 
-use attr_kit::Seq;
-use fleet_kit::{FleetSetup, Gate, run_fleet};
+use attr_kit::{AttrSet, NoMemory, Seq};
+use fleet_kit::{FleetSetup, Gate, Job, run_fleet};
 use rollup_kit::{Ask, Row, rollup};
 use std::alloc::Global;
 use std::sync::Wait;
@@ -19,6 +19,20 @@ impl Gate for Open {
     fn pass<R: Wait>(&self, _rt: &R, _job: usize, _entry: usize) -> bool {
         true
     }
+}
+
+/// A job of one recording, at the first instrument of a writer.
+pub fn one_recording(
+    alloc: Global,
+    writer: usize,
+    attrs: AttrSet,
+    value: i64,
+) -> Result<Job, NoMemory>
+    ensures { IfOk result (λ job. (job.writer ≡ writer) × (job.entries.items ≡ (0, attrs, value) ∷ [])) }
+{
+    let mut entries = Vec::new(alloc);
+    entries.push((0, attrs, value))?;
+    Ok(Job { writer, entries })
 }
 
 /// Runs a fleet, and asks its first gateway, if it has one. The rows of a sum or a histogram are those of what the jobs recorded,

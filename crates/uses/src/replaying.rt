@@ -1,11 +1,44 @@
 //! A schedule of writers and gateways, tried without threads.
-ghost use Rattle.std.specs.Prelude.{◌≡◌, true, IfOk, IfSome};
+ghost use Rattle.std.specs.Prelude.{◌≡◌, ◌∷◌, [], true, IfOk, IfSome};
 ghost use Rattle.schedule_kit.specs.Deeds.{TookSame};
 ghost use Rattle.schedule_kit.specs.Deeds.Holder.{AtGateway};
 ghost use Rattle.world_kit.specs.Judged.{deeds};
+ghost use Rattle.world_kit.specs.declared.event.Reply.TheVariants as answers;
 
+use attr_kit::Seq;
+use plan_kit::Plan;
+use point_kit::WriterId;
 use std::alloc::Global;
-use world_kit::{Event, Setup, replay};
+use world_kit::{Event, Refusal, Reply, Setup, WriterSetup, replay};
+
+/// A setup of one writer, which starts at 100, and of one gateway, whose id is 1.
+pub fn one_of_each(alloc: Global, id: WriterId, plan: Plan) -> anyhow::Result<Setup>
+    ensures writers { IfOk result (λ setup. setup.writers ≡ record { id = id; plan = plan; start = 100 } ∷ []) }
+    ensures gateways { IfOk result (λ setup. setup.gateways ≡ 1 ∷ []) }
+{
+    let mut writers = Vec::new(alloc);
+    writers.push(WriterSetup {
+        id,
+        plan,
+        start: 100,
+    })?;
+    let mut gateways = Vec::new(alloc);
+    gateways.push(1)?;
+    Ok(Setup {
+        writers: Seq::from_vec(writers),
+        gateways: Seq::from_vec(gateways),
+    })
+}
+
+/// Why an event was refused; none where it was accepted.
+pub fn refusal_of(reply: &Reply) -> Option<&Refusal>
+    ensures { IfSome result (λ refusal. reply.now ≡ answers.Refused refusal.now) }
+{
+    match reply {
+        Reply::Refused(refusal) => Some(refusal),
+        _ => None,
+    }
+}
 
 /// Whether two gateways hold the same once these events have happened, by their places; none where there is no such gateway.
 /// Gateways that took the same exports do, whatever came twice, late, or by other gateways and mails.

@@ -1,0 +1,25 @@
+//! Attributes of a recording.
+ghost use Rattle.std.specs.Prelude.{◌≡◌, ◌∷◌, [], Some, IfOk, codes};
+ghost use Rattle.attr_kit.specs.Putting.{value_of};
+ghost use Rattle.attr_kit.specs.declared.attr_value.AttrValue.TheVariants as values;
+
+use attr_kit::{AttrFault, AttrSet, AttrValue, NoMemory, Txt};
+use std::alloc::Global;
+
+// The pairs of a request, in the order in which a caller has them.
+fn pairs_of(alloc: Global, status: i64, route: Txt) -> Result<Vec<(Txt, AttrValue)>, NoMemory>
+    ensures { IfOk result (λ pairs. pairs.items ≡ (codes "status", values.Whole status) ∷ (codes "route", values.Text route) ∷ []) }
+{
+    let mut pairs = Vec::new(alloc);
+    pairs.push((Txt::from_str(alloc, "status")?, AttrValue::Whole(status)))?;
+    pairs.push((Txt::from_str(alloc, "route")?, AttrValue::Text(route)))?;
+    Ok(pairs)
+}
+
+/// The attributes of a request: its status and its route. Pairs may come in any order.
+pub fn of_request(alloc: Global, status: i64, route: Txt) -> Result<AttrSet, AttrFault>
+    ensures status { IfOk result (λ set. value_of (codes "status") set ≡ Some (values.Whole status)) }
+    ensures route { IfOk result (λ set. value_of (codes "route") set ≡ Some (values.Text route)) }
+{
+    AttrSet::from_pairs(pairs_of(alloc, status, route)?)
+}

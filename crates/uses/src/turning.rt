@@ -1,0 +1,105 @@
+//! A machine of one's own under a turn: threads share it, and each change stands in one history.
+ghost use Rattle.std.specs.Prelude.{◌≡◌, ◌≤◌, ℕ, IfOk, IfErr};
+ghost use Rattle.turn_kit.specs.Public.{IsOf, IsLeft, Enters, Refuses, AtBusy, AtRefused, opening, limit_of};
+ghost use Rattle.uses.specs.Turning.{raised};
+
+use std::alloc::Global;
+use std::marker::Model;
+use std::sync::Wait;
+use turn_kit::{ChangeFault, GiveBack, Machine, Quiet, Seat, Step, Turn, TurnFault};
+
+/// A mark that only rises.
+#[derive(Drop)]
+pub struct Mark {
+    height: u64,
+}
+
+impl Model for Mark {
+    ghost Value = { ℕ };
+
+    ghost view = { λ m. m.height };
+}
+
+impl Machine for Mark {
+    type Entry = u64;
+
+    ghost State = { ℕ };
+
+    ghost state = { λ height. height };
+
+    ghost after = { raised };
+}
+
+/// Raises the mark to a height, and answers the old one.
+#[derive(Drop)]
+pub struct Raise {
+    pub to: u64,
+}
+
+/// The mark is not below that height.
+#[derive(Clone, Copy, Debug, PartialEq, Eq, Drop)]
+pub struct NotHigher;
+
+impl Step<Mark> for Raise {
+    type Reply = u64;
+
+    type Refusal = NotHigher;
+
+    ghost entry = { λ r. r.to };
+
+    ghost replies = { λ _ old reply. reply ≡ old };
+
+    ghost refuses = { λ r old _. r.to ≤ old };
+
+    fn step(self, mark: &mut Mark) -> Result<u64, NotHigher> {
+        let old = mark.height;
+        if self.to <= old {
+            return Err(NotHigher);
+        }
+        mark.height = self.to;
+        Ok(old)
+    }
+}
+
+/// Raises a mark that threads share. The answer is the height of the mark at this change's place in the one history of all.
+pub fn raise_to<R: Wait>(
+    rt: &R,
+    turn: &Turn<Mark>,
+    seat: &mut Seat<Mark>,
+    to: u64,
+) -> Result<u64, ChangeFault<NotHigher>>
+    requires { IsOf turn.now seat.old }
+    ensures seat { IsOf turn.now seat.new }
+    ensures raised { IfOk result (λ old. Enters (λ m. m) raised (opening turn.now) (limit_of turn.now)
+        to (λ m. old ≡ m) seat.old seat.new) }
+    ensures refused { IfErr result (AtRefused (λ _. Refuses (λ m. m) raised (opening turn.now) (limit_of turn.now)
+        (λ m. to ≤ m) seat.old seat.new)) }
+{
+    turn.change(rt, seat, Raise { to })
+}
+
+/// A mark of height 0 in a turn without calls that wait, for programs that may not sleep, and the turn's first seat.
+pub fn quiet_mark(alloc: Global) -> Result<(Turn<Mark, Quiet>, Seat<Mark>), TurnFault>
+    ensures low { IfOk result (λ made. opening made.0 ≡ 0) }
+    ensures seat { IfOk result (λ made. IsOf made.0 made.1) }
+{
+    match Turn::new(alloc, Mark { height: 0 }, 1000) {
+        Ok((turn, seat)) => Ok((turn.into_quiet(), seat)),
+        Err((_mark, fault)) => Err(fault),
+    }
+}
+
+/// The same without waiting, in a turn of either sort: where the turn is held, the answer is `Busy` and the seat is as it was.
+pub fn raise_at_once<G: GiveBack>(
+    turn: &Turn<Mark, G>,
+    seat: &mut Seat<Mark>,
+    to: u64,
+) -> Result<u64, ChangeFault<NotHigher>>
+    requires { IsOf turn.now seat.old }
+    ensures seat { IsOf turn.now seat.new }
+    ensures raised { IfOk result (λ old. Enters (λ m. m) raised (opening turn.now) (limit_of turn.now)
+        to (λ m. old ≡ m) seat.old seat.new) }
+    ensures busy { IfErr result (AtBusy (IsLeft seat.old seat.new)) }
+{
+    turn.try_change(seat, Raise { to })
+}
