@@ -1,12 +1,16 @@
 //! Calls of writers that threads share. Each may accept one change: what was refused is made again, and counts for nothing.
+ghost use Rattle.std.specs.Prelude.{IfOk};
+ghost use Rattle.writer_kit.specs.Shared.{IsAt};
+
 use crate::rounds::len_of;
 use crate::same::are_same_writers;
 use crate::start::{set, writer};
 use crate::telling::{call_begins, call_ends, state, tell, tell_twice};
 use anyhow::bail;
 use bumpalo::Bump;
+use std::alloc::Global;
 use std::sync::Wait;
-use turn_kit::Look;
+use turn_kit::{Look, Seat};
 use writer_kit::{SharedWriter, Writer};
 
 // Whether the writer is the same as another.
@@ -35,14 +39,23 @@ fn new(rt: &(impl Wait + Print + Eprint + AllocGlobal)) -> anyhow::Result<()> {
     }
 }
 
+// A shared writer that accepts one change, and the only seat at it. Each function below knows no more of it than that they
+// belong together.
+fn share(alloc: Global, writer: Writer) -> anyhow::Result<(SharedWriter, Seat<Writer>)>
+    ensures { IfOk result (λ t. IsAt t.0 t.1) }
+{
+    match SharedWriter::new(alloc, writer, 1) {
+        Ok(made) => Ok(made),
+        Err(_) => bail!("not shared"),
+    }
+}
+
 // A recording, by the call that waits for nobody or by the one that may wait.
 fn measure(rt: &(impl Wait + Print + Eprint + AllocGlobal), waits: bool) -> anyhow::Result<()> {
+    let attrs = set(rt.alloc(), 2)?;
     let writer = writer(rt.alloc(), 1)?;
     let before = writer.try_copy()?;
-    let attrs = set(rt.alloc(), 2)?;
-    let Ok((shared, mut seat)) = SharedWriter::new(rt.alloc(), writer, 1) else {
-        bail!("not shared");
-    };
+    let (shared, mut seat) = share(rt.alloc(), writer)?;
     call_begins(rt);
     let answer = if waits {
         shared.measure(rt, &mut seat, 0, &attrs, 5)
@@ -59,10 +72,8 @@ fn measure(rt: &(impl Wait + Print + Eprint + AllocGlobal), waits: bool) -> anyh
 fn collect(rt: &(impl Wait + Print + Eprint + AllocGlobal), waits: bool) -> anyhow::Result<()> {
     let writer = writer(rt.alloc(), 1)?;
     let before = writer.try_copy()?;
+    let (shared, mut seat) = share(rt.alloc(), writer)?;
     let arena = Bump::new(rt.alloc());
-    let Ok((shared, mut seat)) = SharedWriter::new(rt.alloc(), writer, 1) else {
-        bail!("not shared");
-    };
     call_begins(rt);
     let answer = if waits {
         shared.collect(rt, &mut seat, &arena, 200)

@@ -47,8 +47,9 @@ fn instrument(alloc: Global, name: &str, kind: Kind) -> Result<Instrument, NoMem
 /// A counter of requests and a histogram of sizes.
 pub fn instruments(alloc: Global) -> anyhow::Result<Seq<Instrument>> {
     let mut instruments = Vec::new(alloc);
-    instruments.push(instrument(alloc, "requests", Kind::Counter)?)?;
-    instruments.push(instrument(alloc, "sizes", Kind::Histogram)?)?;
+    for (name, kind) in [("requests", Kind::Counter), ("sizes", Kind::Histogram)] {
+        instruments.push(instrument(alloc, name, kind)?)?;
+    }
     Ok(Seq::from_vec(instruments))
 }
 
