@@ -46,16 +46,24 @@ fn reader<E: Exporter>(alloc: Global, exporter: E) -> anyhow::Result<Periodic<E>
     Ok(Periodic::new(alloc, writer(alloc, 1)?, exporter, Pace::new(100, 200)))
 }
 
-fn measure(rt: &(impl Wait + Print + Eprint + AllocGlobal)) -> anyhow::Result<()> {
-    let mut reader = reader(rt.alloc(), MemoryExporter::new(rt.alloc()))?;
-    let before = reader.writer().try_copy()?;
+fn measures(
+    rt: &(impl Print + Eprint + AllocGlobal),
+    reader: &mut Periodic<MemoryExporter>,
+    before: &Writer,
+) -> anyhow::Result<()> {
     let attrs = set(rt.alloc(), 2)?;
     call_begins(rt);
     let answer = reader.measure(0, &attrs, 5);
     call_ends(rt);
-    let left = state(are_same_writers(reader.writer(), &before));
+    let left = state(are_same_writers(reader.writer(), before));
     let again = reader.measure(0, &attrs, 5);
     tell_twice(rt, &answer, left, &again)
+}
+
+fn measure(rt: &(impl Print + Eprint + AllocGlobal)) -> anyhow::Result<()> {
+    let mut reader = reader(rt.alloc(), MemoryExporter::new(rt.alloc()))?;
+    let before = reader.writer().try_copy()?;
+    measures(rt, &mut reader, &before)
 }
 
 // What a collection at 200 has left: all as it was, or a writer collected at 200 whose next collection is due at this time.

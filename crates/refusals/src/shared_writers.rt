@@ -7,6 +7,7 @@ use crate::same::are_same_writers;
 use crate::start::{set, writer};
 use crate::telling::{call_begins, call_ends, state, tell, tell_twice};
 use anyhow::bail;
+use attr_kit::AttrSet;
 use bumpalo::Bump;
 use std::alloc::Global;
 use std::sync::Wait;
@@ -50,40 +51,66 @@ fn share(alloc: Global, writer: Writer) -> anyhow::Result<(SharedWriter, Seat<Wr
     }
 }
 
-// A recording, by the call that waits for nobody or by the one that may wait.
+// A recording, by the call that waits for nobody or by the one that may wait. What it is made with is borrowed: it is dropped
+// at the exits of `measure`, and each drop at an exit is proved.
+fn measures(
+    rt: &(impl Wait + Print + Eprint),
+    shared: &SharedWriter,
+    seat: &mut Seat<Writer>,
+    before: &Writer,
+    attrs: &AttrSet,
+    waits: bool,
+) -> anyhow::Result<()>
+    requires { IsAt shared.now seat.old }
+{
+    call_begins(rt);
+    let answer = if waits {
+        shared.measure(rt, seat, 0, attrs, 5)
+    } else {
+        shared.try_measure(seat, 0, attrs, 5)
+    };
+    call_ends(rt);
+    let left = state(shared.look(rt, seat, IsSame(before)));
+    let again = shared.try_measure(seat, 0, attrs, 5);
+    tell_twice(rt, &answer, left, &again)
+}
+
 fn measure(rt: &(impl Wait + Print + Eprint + AllocGlobal), waits: bool) -> anyhow::Result<()> {
     let attrs = set(rt.alloc(), 2)?;
     let writer = writer(rt.alloc(), 1)?;
     let before = writer.try_copy()?;
     let (shared, mut seat) = share(rt.alloc(), writer)?;
-    call_begins(rt);
-    let answer = if waits {
-        shared.measure(rt, &mut seat, 0, &attrs, 5)
-    } else {
-        shared.try_measure(&mut seat, 0, &attrs, 5)
-    };
-    call_ends(rt);
-    let left = state(shared.look(rt, &mut seat, IsSame(&before)));
-    let again = shared.try_measure(&mut seat, 0, &attrs, 5);
-    tell_twice(rt, &answer, left, &again)
+    measures(rt, &shared, &mut seat, &before, &attrs, waits)
 }
 
 // The same of a collection.
+fn collects(
+    rt: &(impl Wait + Print + Eprint + AllocGlobal),
+    shared: &SharedWriter,
+    seat: &mut Seat<Writer>,
+    before: &Writer,
+    waits: bool,
+) -> anyhow::Result<()>
+    requires { IsAt shared.now seat.old }
+{
+    let arena = Bump::new(rt.alloc());
+    call_begins(rt);
+    let answer = if waits {
+        shared.collect(rt, seat, &arena, 200)
+    } else {
+        shared.try_collect(seat, &arena, 200)
+    };
+    call_ends(rt);
+    let left = state(shared.look(rt, seat, IsSame(before)));
+    let again = shared.try_collect(seat, &arena, 200);
+    tell_twice(rt, &len_of(answer), left, &len_of(again))
+}
+
 fn collect(rt: &(impl Wait + Print + Eprint + AllocGlobal), waits: bool) -> anyhow::Result<()> {
     let writer = writer(rt.alloc(), 1)?;
     let before = writer.try_copy()?;
     let (shared, mut seat) = share(rt.alloc(), writer)?;
-    let arena = Bump::new(rt.alloc());
-    call_begins(rt);
-    let answer = if waits {
-        shared.collect(rt, &mut seat, &arena, 200)
-    } else {
-        shared.try_collect(&mut seat, &arena, 200)
-    };
-    call_ends(rt);
-    let left = state(shared.look(rt, &mut seat, IsSame(&before)));
-    let again = shared.try_collect(&mut seat, &arena, 200);
-    tell_twice(rt, &len_of(answer), left, &len_of(again))
+    collects(rt, &shared, &mut seat, &before, waits)
 }
 
 /// Makes a call of a shared writer, if this is the name of one.
