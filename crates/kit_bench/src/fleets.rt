@@ -4,7 +4,7 @@ use crate::tallies::{plan, sets};
 use attr_kit::{AttrSet, Txt};
 use fleet_kit::{FleetSetup, Gate, Job, run_fleet};
 use indexmap::IndexMap;
-use plan_kit::Kind;
+use plan_kit::{Kind, Plan};
 use point_kit::WriterId;
 use std::alloc::Global;
 use std::rt::Clock;
@@ -19,6 +19,27 @@ use uuid::Uuid;
 struct Size {
     writers: usize,
     recorders: usize,
+}
+
+/// What each recorder records: 1 at each set in turn, so many times.
+#[derive(Clone, Copy)]
+struct Work<'a> {
+    size: Size,
+    sets: &'a [AttrSet],
+    turns: u32,
+}
+
+impl Work<'_> {
+    // How many points it makes.
+    fn points(&self) -> usize {
+        self.size.writers.saturating_mul(self.sets.len())
+    }
+
+    // How many recordings it is.
+    fn recordings(&self) -> u64 {
+        let each_turn = self.points().saturating_mul(self.size.recorders) as u64;
+        each_turn.saturating_mul(u64::from(self.turns))
+    }
 }
 
 /// Who records.
@@ -50,35 +71,50 @@ impl Gate for Open {
 
 type Totals = IndexMap<AttrSet, i64>;
 
-// Records 1 at each set in turn, so many times.
-fn job(alloc: Global, writer: usize, sets: &[AttrSet], turns: u32) -> anyhow::Result<Job> {
+// The job of a recorder.
+fn job(alloc: Global, writer: usize, work: Work<'_>) -> anyhow::Result<Job> {
     let mut entries = Vec::new(alloc);
-    for _ in 0..turns {
-        for set in sets {
+    for _ in 0..work.turns {
+        for set in work.sets {
             entries.push((0, set.try_copy()?, 1))?;
         }
     }
     Ok(Job { writer, entries })
 }
 
-// A fleet of counters and one gateway.
-fn setup(alloc: Global, size: Size, sets: &[AttrSet], turns: u32) -> anyhow::Result<FleetSetup> {
-    let mut writers = Vec::new(alloc);
+fn jobs(alloc: Global, work: Work<'_>) -> anyhow::Result<Vec<Job>> {
     let mut jobs = Vec::new(alloc);
-    for writer in 0..size.writers {
-        let id = WriterId {
-            service: Txt::from_str(alloc, "shop")?,
-            instance: Uuid::from_u128(writer as u128),
-        };
-        writers.push((id, plan(alloc, Kind::Counter, Vec::new(alloc))?, 100))?;
-        for _ in 0..size.recorders {
-            jobs.push(job(alloc, writer, sets, turns)?)?;
+    for writer in 0..work.size.writers {
+        for _ in 0..work.size.recorders {
+            jobs.push(job(alloc, writer, work)?)?;
         }
     }
-    let mut gateways = Vec::new(alloc);
-    gateways.push(1)?;
+    Ok(jobs)
+}
+
+// A counter's writer of a number, which starts at 100.
+fn member(alloc: Global, number: usize) -> anyhow::Result<(WriterId, Plan, u64)> {
+    let id = WriterId {
+        service: Txt::from_str(alloc, "shop")?,
+        instance: Uuid::from_u128(number as u128),
+    };
+    Ok((id, plan(alloc, Kind::Counter, Vec::new(alloc))?, 100))
+}
+
+fn members(alloc: Global, count: usize) -> anyhow::Result<Vec<(WriterId, Plan, u64)>> {
+    let mut members = Vec::new(alloc);
+    for number in 0..count {
+        members.push(member(alloc, number)?)?;
+    }
+    Ok(members)
+}
+
+// A fleet of counters and one gateway.
+fn setup(alloc: Global, work: Work<'_>) -> anyhow::Result<FleetSetup> {
+    let gateways = [1].to_vec(alloc)?;
+    let jobs = jobs(alloc, work)?;
     Ok(FleetSetup {
-        writers,
+        writers: members(alloc, work.size.writers)?,
         jobs,
         gateways,
         end: 200,
@@ -107,28 +143,39 @@ fn add_job<R: Wait>(rt: &R, maps: &[Mutex<Totals>], job: &Job) -> anyhow::Result
     Ok(())
 }
 
+fn empty_maps(alloc: Global, count: usize) -> anyhow::Result<Vec<Mutex<Totals>>> {
+    let mut maps = Vec::new(alloc);
+    for _ in 0..count {
+        maps.push(Mutex::new(IndexMap::new(alloc)))?;
+    }
+    Ok(maps)
+}
+
+// Adds all jobs, each by a thread of its own.
+fn add_jobs<R: Threads + Wait + Sync>(
+    rt: &R,
+    alloc: Global,
+    maps: &[Mutex<Totals>],
+    jobs: &[Job],
+) -> anyhow::Result<()> {
+    let added = thread::map_indices(
+        rt,
+        alloc,
+        jobs.len(),
+        &|place: usize| add_job(rt, maps, &jobs[place]).is_ok(),
+    )?;
+    anyhow::ensure!(!added.contains(&false), "a job was not added");
+    Ok(())
+}
+
 // The same work as a fleet's recorders do: a thread for each job, and a map for each writer. How many totals there are.
 fn add_all<R: Threads + Wait + Sync>(
     rt: &R,
     alloc: Global,
     setup: FleetSetup,
 ) -> anyhow::Result<usize> {
-    let mut maps = Vec::new(alloc);
-    for _ in 0..setup.writers.len() {
-        maps.push(Mutex::new(IndexMap::new(alloc)))?;
-    }
-    let jobs = setup.jobs.as_slice();
-    let shared = maps.as_slice();
-    let added = thread::map_indices(
-        rt,
-        alloc,
-        jobs.len(),
-        &|place: usize| add_job(rt, shared, &jobs[place]).is_ok(),
-    )?;
-    anyhow::ensure!(
-        added.iter().all(|is_added| *is_added),
-        "a job was not added"
-    );
+    let maps = empty_maps(alloc, setup.writers.len())?;
+    add_jobs(rt, alloc, maps.as_slice(), setup.jobs.as_slice())?;
     let mut count: usize = 0;
     for map in maps {
         count = count.saturating_add(map.into_inner().len());
@@ -166,50 +213,78 @@ fn timed<R: Threads + Wait + Sync + Clock + AllocGlobal>(
     Ok(took)
 }
 
+// One of the two ways, with a setup of its own that is made before.
+fn once<R: Threads + Wait + Sync + Clock + AllocGlobal>(
+    rt: &R,
+    way: Way,
+    work: Work<'_>,
+) -> anyhow::Result<Duration> {
+    let setup = setup(rt.alloc(), work)?;
+    timed(rt, way, setup, work.points())
+}
+
+/// The times of the two ways.
+#[derive(Drop)]
+struct Times {
+    mutexes: Vec<Duration>,
+    fleets: Vec<Duration>,
+}
+
+// The two ways in turn, so many times.
+fn gather<R: Threads + Wait + Sync + Clock + AllocGlobal>(
+    rt: &R,
+    work: Work<'_>,
+    rounds: u32,
+    times: &mut Times,
+) -> anyhow::Result<()> {
+    for _ in 0..rounds {
+        times.mutexes.push(once(rt, Way::Mutexes, work)?)?;
+        times.fleets.push(once(rt, Way::Fleet, work)?)?;
+    }
+    Ok(())
+}
+
+fn tell_one(
+    rt: &impl Eprint,
+    way: Way,
+    work: Work<'_>,
+    what: &str,
+    time: Duration,
+) -> anyhow::Result<()> {
+    let Size { writers, recorders } = work.size;
+    eprint!(rt; "writers: {writers}, recorders of each: {recorders}, {what}: ")?;
+    tell(rt, way.name(), work.recordings(), time)
+}
+
 // Tells the least and the median of these times.
 fn tell_all(
     rt: &impl Eprint,
     way: Way,
-    size: Size,
-    count: u64,
-    mut times: Vec<Duration>,
+    work: Work<'_>,
+    times: &mut Vec<Duration>,
 ) -> anyhow::Result<()> {
     times.sort()?;
     let middle = times.len() / 2;
     for (what, place) in [("least", 0), ("median", middle)] {
         if let Some(time) = times.get(place) {
-            eprint!(rt;
-                "writers: {}, recorders of each: {}, {what}: ",
-                size.writers, size.recorders
-            )?;
-            tell(rt, way.name(), count, *time)?;
+            tell_one(rt, way, work, what, *time)?;
         }
     }
     Ok(())
 }
 
-// The two ways in turn, so many times, each with a setup of its own that is made before.
 fn compare<R: Threads + Wait + Sync + Clock + Eprint + AllocGlobal>(
     rt: &R,
-    size: Size,
-    sets: &[AttrSet],
-    turns: u32,
+    work: Work<'_>,
     rounds: u32,
 ) -> anyhow::Result<()> {
-    let alloc = rt.alloc();
-    let points = size.writers.saturating_mul(sets.len());
-    let recordings = points.saturating_mul(size.recorders) as u64;
-    let count = recordings.saturating_mul(u64::from(turns));
-    let mut fleets = Vec::new(alloc);
-    let mut mutexes = Vec::new(alloc);
-    for _ in 0..rounds {
-        let jobs = setup(alloc, size, sets, turns)?;
-        mutexes.push(timed(rt, Way::Mutexes, jobs, points)?)?;
-        let jobs = setup(alloc, size, sets, turns)?;
-        fleets.push(timed(rt, Way::Fleet, jobs, points)?)?;
-    }
-    tell_all(rt, Way::Mutexes, size, count, mutexes)?;
-    tell_all(rt, Way::Fleet, size, count, fleets)
+    let mut times = Times {
+        mutexes: Vec::new(rt.alloc()),
+        fleets: Vec::new(rt.alloc()),
+    };
+    gather(rt, work, rounds, &mut times)?;
+    tell_all(rt, Way::Mutexes, work, &mut times.mutexes)?;
+    tell_all(rt, Way::Fleet, work, &mut times.fleets)
 }
 
 /// Recordings of 1 at so many sets of 4 attributes in turn, by each of four recorders: two of each of two writers, and four
@@ -222,7 +297,12 @@ pub fn run<R: Threads + Wait + Sync + Clock + Eprint + AllocGlobal>(
 ) -> anyhow::Result<()> {
     let sets = sets(rt.alloc(), 4, number)?;
     for (writers, recorders) in [(2, 2), (1, 4)] {
-        compare(rt, Size { writers, recorders }, &sets, turns, rounds)?;
+        let work = Work {
+            size: Size { writers, recorders },
+            sets: sets.as_slice(),
+            turns,
+        };
+        compare(rt, work, rounds)?;
     }
     Ok(())
 }

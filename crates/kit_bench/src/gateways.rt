@@ -16,18 +16,99 @@ pub fn requests(alloc: Global) -> anyhow::Result<SharedStream> {
     Ok(SharedStream::new(alloc, stream)?)
 }
 
-// A point whose set is k = number.
-fn point(alloc: Global, stream: &SharedStream, number: u32) -> anyhow::Result<ExportPoint> {
-    let attrs = AttrSet::single(
-        alloc,
-        Txt::from_str(alloc, "k")?,
-        AttrValue::Whole(i64::from(number)),
-    )?;
+/// The sets of an export's points, each of which has a number.
+#[derive(Clone, Copy)]
+pub enum Sets {
+    /// One pair, of the number.
+    Numbers,
+    /// 4 pairs, in no order.
+    Scattered,
+    /// 4 pairs; sets whose numbers tie by the number of routes share their route.
+    Routes(u32),
+}
+
+/// The key of a set's route: neither the first nor the last of its set.
+pub const ROUTE: &str = "route";
+
+// A key and its text, the text being a word and a number.
+fn pair(alloc: Global, key: &str, word: &str, number: u32) -> anyhow::Result<(Txt, AttrValue)> {
+    let text = format!(in alloc; "{word}{number}")?;
+    Ok((
+        Txt::from_str(alloc, key)?,
+        AttrValue::Text(Txt::from_string(text)),
+    ))
+}
+
+// A set of such pairs. One function over a table, since each exit of a function drops all that it owns then, and is proved.
+fn set_of_texts(alloc: Global, texts: &[(&str, &str, u32)]) -> anyhow::Result<AttrSet> {
+    let mut pairs = Vec::new(alloc);
+    for (key, word, number) in texts {
+        pairs.push(pair(alloc, key, word, *number)?)?;
+    }
+    Ok(AttrSet::from_pairs(pairs)?)
+}
+
+// Sets of numbers that rise have no order: an odd factor scatters them over all numbers of 32 bits.
+fn scattered_set(alloc: Global, number: u32) -> anyhow::Result<AttrSet> {
+    let texts = [
+        ("host", "h", number.wrapping_mul(2_654_435_761)),
+        ("method", "m", number % 4),
+        (ROUTE, "r", number % 100),
+        ("zone", "z", number % 3),
+    ];
+    set_of_texts(alloc, &texts)
+}
+
+fn routed_set(alloc: Global, number: u32, routes: u32) -> anyhow::Result<AttrSet> {
+    let routes = routes.max(1);
+    let texts = [
+        ("host", "h", number / routes),
+        ("method", "m", number % 4),
+        (ROUTE, "/api/r", number % routes),
+        ("zone", "z", number % 3),
+    ];
+    set_of_texts(alloc, &texts)
+}
+
+// The set of a number.
+fn set(alloc: Global, sets: Sets, number: u32) -> anyhow::Result<AttrSet> {
+    match sets {
+        Sets::Numbers => {
+            let value = AttrValue::Whole(i64::from(number));
+            Ok(AttrSet::single(alloc, Txt::from_str(alloc, "k")?, value)?)
+        }
+        Sets::Scattered => scattered_set(alloc, number),
+        Sets::Routes(routes) => routed_set(alloc, number, routes),
+    }
+}
+
+// A point of a number, which is also its value.
+fn point(
+    alloc: Global,
+    stream: &SharedStream,
+    sets: Sets,
+    number: u32,
+) -> anyhow::Result<ExportPoint> {
     Ok(ExportPoint {
+        attrs: set(alloc, sets, number)?,
         stream: stream.try_copy()?,
-        attrs,
         payload: Payload::Sum(i64::from(number)),
     })
+}
+
+// Points of so many numbers, from one on.
+fn points(
+    alloc: Global,
+    stream: &SharedStream,
+    sets: Sets,
+    from: u32,
+    keys: u32,
+) -> anyhow::Result<Vec<ExportPoint>> {
+    let mut points = Vec::new(alloc);
+    for number in from..from.saturating_add(keys) {
+        points.push(point(alloc, stream, sets, number)?)?;
+    }
+    Ok(points)
 }
 
 /// The writer of every export.
@@ -38,58 +119,34 @@ pub fn writer(alloc: Global) -> anyhow::Result<WriterId> {
     })
 }
 
-/// An export of one writer with so many keys, from a number on.
-pub fn export(alloc: Global, time: u64, from: u32, keys: u32) -> anyhow::Result<Export> {
-    export_of(alloc, 100, time, from, keys)
+/// When an export's incarnation began, and when it was collected.
+#[derive(Clone, Copy)]
+pub struct Times {
+    pub begin: u64,
+    pub time: u64,
 }
 
-/// An export of that writer's incarnation of a start.
+/// An export of one writer with so many keys, from a number on.
 pub fn export_of(
     alloc: Global,
-    begin: u64,
-    time: u64,
+    times: Times,
+    sets: Sets,
     from: u32,
     keys: u32,
 ) -> anyhow::Result<Export> {
-    let stream = requests(alloc)?;
-    let mut points = Vec::new(alloc);
-    for number in from..from.saturating_add(keys) {
-        points.push(point(alloc, &stream, number)?)?;
-    }
+    let points = points(alloc, &requests(alloc)?, sets, from, keys)?;
+    let Times { begin, time } = times;
     Ok(Export::build(alloc, writer(alloc)?, begin, time, Seq::from_vec(points))?)
 }
 
-// A key and its text, the text being a letter and a number.
-fn pair(alloc: Global, key: &str, letter: char, number: u32) -> anyhow::Result<(Txt, AttrValue)> {
-    let text = format!(in alloc; "{letter}{number}")?;
-    Ok((
-        Txt::from_str(alloc, key)?,
-        AttrValue::Text(Txt::from_string(text)),
-    ))
+/// An export of sets of one pair, of the writer's first incarnation.
+pub fn export(alloc: Global, time: u64, from: u32, keys: u32) -> anyhow::Result<Export> {
+    export_of(alloc, Times { begin: 100, time }, Sets::Numbers, from, keys)
 }
 
-// A set of 4 pairs. Sets of numbers that rise have no order: an odd factor scatters them over all numbers of 32 bits.
-fn scattered_set(alloc: Global, number: u32) -> anyhow::Result<AttrSet> {
-    let mut pairs = Vec::new(alloc);
-    pairs.push(pair(alloc, "host", 'h', number.wrapping_mul(2_654_435_761))?)?;
-    pairs.push(pair(alloc, "method", 'm', number % 4)?)?;
-    pairs.push(pair(alloc, "route", 'r', number % 100)?)?;
-    pairs.push(pair(alloc, "zone", 'z', number % 3)?)?;
-    Ok(AttrSet::from_pairs(pairs)?)
-}
-
-/// An export of one writer with so many keys of 4 pairs, in no order.
+/// The same of sets of 4 pairs, in no order.
 pub fn scattered_export(alloc: Global, time: u64, keys: u32) -> anyhow::Result<Export> {
-    let stream = requests(alloc)?;
-    let mut points = Vec::new(alloc);
-    for number in 0..keys {
-        points.push(ExportPoint {
-            stream: stream.try_copy()?,
-            attrs: scattered_set(alloc, number)?,
-            payload: Payload::Sum(i64::from(number)),
-        })?;
-    }
-    Ok(Export::build(alloc, writer(alloc)?, 100, time, Seq::from_vec(points))?)
+    export_of(alloc, Times { begin: 100, time }, Sets::Scattered, 0, keys)
 }
 
 /// A gateway that took one export.

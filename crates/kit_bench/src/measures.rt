@@ -28,13 +28,13 @@ fn record(tally: &mut Tally, sets: &[AttrSet], turns: u32) -> Result<(), Measure
 fn timed(
     rt: &HostRuntime,
     what: &str,
-    mut tally: Tally,
+    tally: &mut Tally,
     sets: &[AttrSet],
     turns: u32,
 ) -> anyhow::Result<()> {
-    record(&mut tally, sets, 1)?;
+    record(tally, sets, 1)?;
     let start = Instant::now(rt)?;
-    record(&mut tally, sets, turns)?;
+    record(tally, sets, turns)?;
     let took = start.elapsed(rt)?;
     tell(rt, what, count(sets, turns), took)
 }
@@ -69,28 +69,35 @@ fn floor(rt: &HostRuntime, sets: &[AttrSet], turns: u32) -> anyhow::Result<()> {
 }
 
 // A counter and a histogram, after the bare map.
-fn kinds(rt: &HostRuntime, pairs: u32, number: u32, turns: u32) -> anyhow::Result<()> {
-    let alloc = rt.alloc();
-    let sets = sets(alloc, pairs, number)?;
+fn kinds(rt: &HostRuntime, sets: &[AttrSet], turns: u32) -> anyhow::Result<()> {
+    floor(rt, sets, turns)?;
+    for (what, kind) in [("counter", Kind::Counter), ("histogram", Kind::Histogram)] {
+        let mut tally = tally(rt.alloc(), kind, Vec::new(rt.alloc()))?;
+        timed(rt, what, &mut tally, sets, turns)?;
+    }
+    Ok(())
+}
+
+// The same at so many sets of so many pairs.
+fn kinds_of(rt: &HostRuntime, pairs: u32, number: u32, turns: u32) -> anyhow::Result<()> {
     eprintln!(rt; "sets: {number}, attributes: {pairs}")?;
-    floor(rt, &sets, turns)?;
-    let counter = tally(alloc, Kind::Counter, Vec::new(alloc))?;
-    timed(rt, "counter", counter, &sets, turns)?;
-    let histogram = tally(alloc, Kind::Histogram, Vec::new(alloc))?;
-    timed(rt, "histogram", histogram, &sets, turns)
+    kinds(rt, &sets(rt.alloc(), pairs, number)?, turns)
+}
+
+fn keeping(alloc: Global) -> anyhow::Result<Tally> {
+    let mut views = Vec::new(alloc);
+    views.push(first_key(alloc)?)?;
+    tally(alloc, Kind::Counter, views)
 }
 
 // A counter under a view that keeps one key of four.
 fn kept(rt: &HostRuntime, turns: u32) -> anyhow::Result<()> {
-    let alloc = rt.alloc();
-    let sets = sets(alloc, 4, 1)?;
-    let mut views = Vec::new(alloc);
-    views.push(first_key(alloc)?)?;
-    let counter = tally(alloc, Kind::Counter, views)?;
+    let sets = sets(rt.alloc(), 4, 1)?;
+    let mut counter = keeping(rt.alloc())?;
     timed(
         rt,
         "counter that keeps one key of four",
-        counter,
+        &mut counter,
         &sets,
         turns,
     )
@@ -99,8 +106,8 @@ fn kept(rt: &HostRuntime, turns: u32) -> anyhow::Result<()> {
 /// Recordings at one set of no, 4 and 10 attributes, under a view, and at many sets in turn.
 pub fn run(rt: &HostRuntime, turns: u32, many: u32) -> anyhow::Result<()> {
     for pairs in [0, 4, 10] {
-        kinds(rt, pairs, 1, turns)?;
+        kinds_of(rt, pairs, 1, turns)?;
     }
     kept(rt, turns)?;
-    kinds(rt, 4, many, turns / many.max(1))
+    kinds_of(rt, 4, many, turns / many.max(1))
 }

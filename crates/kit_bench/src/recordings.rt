@@ -32,14 +32,14 @@ fn count(total: i64) -> u64 {
     total.unsigned_abs().saturating_sub(1)
 }
 
-fn alone<R: Clock + Eprint + AllocGlobal>(
+fn timed<R: Clock + Eprint>(
     rt: &R,
+    writer: &mut Writer,
     attrs: &AttrSet,
     times: u64,
 ) -> anyhow::Result<()> {
-    let mut writer = holding(rt.alloc(), attrs)?;
     let start = Instant::now(rt)?;
-    record(&mut writer, attrs, times)?;
+    record(writer, attrs, times)?;
     let took = start.elapsed(rt)?;
     tell(
         rt,
@@ -47,6 +47,14 @@ fn alone<R: Clock + Eprint + AllocGlobal>(
         count(total(writer.tally())),
         took,
     )
+}
+
+fn alone<R: Clock + Eprint + AllocGlobal>(
+    rt: &R,
+    attrs: &AttrSet,
+    times: u64,
+) -> anyhow::Result<()> {
+    timed(rt, &mut holding(rt.alloc(), attrs)?, attrs, times)
 }
 
 // So many recordings by each of so many threads; their start and end count too.

@@ -4,9 +4,11 @@ ghost use Rattle.std.specs.Prelude.{◌≡◌, ◌+◌, ◌<◌, ◌≤◌, IfOk
 use super::*;
 use attr_kit::{AttrSet, NoMemory, Seq, Txt};
 use bumpalo::Bump;
+use crossbeam_channel::Receiver;
 use plan_kit::{DEFAULT_LIMIT, Instrument, Kind, Plan};
 use point_kit::{Export, Payload, WriterId};
 use std::alloc::Global;
+use std::sync::Wait;
 use std::test::Fail;
 use uuid::Uuid;
 use writer_kit::{DEFAULT_INTERVAL, MeasureFault, Pace, Writer};
@@ -109,21 +111,28 @@ fn adds<E: Exporter>(periodic: &mut Periodic<E>, alloc: Global, value: i64) -> R
 
 const MINUTE: u64 = 60_000_000_000;
 
+// Each helper below borrows the reader: it is dropped at the exits of the test alone, and each exit that drops costs proof.
+
+// Whether a tick before its time does nothing, and after a refused one the next has all, over an exporter that fails at once.
+fn covers_a_lost_one(periodic: &mut Periodic<Failing>, alloc: Global) -> Result<bool, Fail>
+    requires { periodic.old.exporter.failures ≡ 0 }
+{
+    let arena = Bump::new(alloc);
+    adds(periodic, alloc, 3)?;
+    let early = periodic.tick(&arena, MINUTE - 1);
+    let refused = periodic.tick(&arena, MINUTE);
+    adds(periodic, alloc, 4)?;
+    let late = periodic.tick(&arena, 2 * MINUTE);
+    let exporter = periodic.exporter();
+    let is_told = exporter.last == Some(7) && exporter.failures() == 1;
+    let is_refused = early == Ok(Tick::NotDue) && refused == Err(TickFault::ExportRefused);
+    Ok(is_told && is_refused && late == Ok(Tick::Exported(1)))
+}
+
 #[test]
 fn the_next_collection_covers_a_lost_one(rt: HostRuntime) -> Result<(), Fail> {
-    let alloc = rt.alloc();
-    let arena = Bump::new(alloc);
-    let mut periodic = reading(alloc, Failing::at(1))?;
-    adds(&mut periodic, alloc, 3)?;
-    assert_eq!(rt; periodic.tick(&arena, MINUTE - 1), Ok(Tick::NotDue));
-    assert_eq!(rt;
-        periodic.tick(&arena, MINUTE),
-        Err(TickFault::ExportRefused)
-    );
-    adds(&mut periodic, alloc, 4)?;
-    assert_eq!(rt; periodic.tick(&arena, 2 * MINUTE), Ok(Tick::Exported(1)));
-    assert_eq!(rt; periodic.exporter().last, Some(7));
-    assert_eq!(rt; periodic.exporter().failures(), 1);
+    let mut periodic = reading(rt.alloc(), Failing::at(1))?;
+    assert!(rt; covers_a_lost_one(&mut periodic, rt.alloc())?);
     Ok(())
 }
 
@@ -152,41 +161,53 @@ fn four_ticks(alloc: Global, at: u64) -> Result<[Option<i64>; 4], Fail> {
 
 #[test]
 fn one_of_four_ticks_is_refused(rt: HostRuntime) -> Result<(), Fail> {
-    let at_first = four_ticks(rt.alloc(), 1)?;
-    assert_eq!(rt; at_first, [None, Some(2), Some(3), Some(4)]);
-    let at_second = four_ticks(rt.alloc(), 2)?;
-    assert_eq!(rt; at_second, [Some(1), None, Some(3), Some(4)]);
-    let at_third = four_ticks(rt.alloc(), 3)?;
-    assert_eq!(rt; at_third, [Some(1), Some(2), None, Some(4)]);
+    let rows = [
+        (1, [None, Some(2), Some(3), Some(4)]),
+        (2, [Some(1), None, Some(3), Some(4)]),
+        (3, [Some(1), Some(2), None, Some(4)]),
+    ];
+    for (at, wanted) in rows {
+        assert!(rt; four_ticks(rt.alloc(), at)? == wanted, "refused at {at}");
+    }
     Ok(())
+}
+
+// Whether flushes at 5 leave a pace that is due at 10, and a closing one at 6 ends the reader.
+fn leaves_the_pace(periodic: &mut Periodic<MemoryExporter>, alloc: Global) -> Result<bool, Fail>
+    requires { periodic.old.exporter.failures ≡ 0 }
+{
+    let arena = Bump::new(alloc);
+    adds(periodic, alloc, 3)?;
+    let first = periodic.flush(&arena, 5, false);
+    let next = periodic.pace().next;
+    adds(periodic, alloc, 4)?;
+    let again = periodic.flush(&arena, 5, false);
+    let last = periodic.flush(&arena, 6, true);
+    let total = periodic.exporter().copies().last().and_then(total);
+    let is_flushed = (first, last, total) == (Ok(1), Ok(1), Some(7));
+    let is_refused = again == Err(TickFault::TimeNotAfter(5));
+    Ok(is_flushed && is_refused && next == 10 && is_closed(periodic, alloc))
+}
+
+// Whether a reader refuses a recording and a tick since it is closed.
+fn is_closed(periodic: &mut Periodic<MemoryExporter>, alloc: Global) -> bool
+    requires { periodic.old.exporter.failures < 18446744073709551615 }
+{
+    let measured = periodic.measure(0, &AttrSet::empty(alloc), 1);
+    let ticked = periodic.tick(&Bump::new(alloc), 10);
+    measured == Err(MeasureFault::Closed) && ticked == Err(TickFault::Closed)
 }
 
 #[test]
 fn flushes_leave_the_pace(rt: HostRuntime) -> Result<(), Fail> {
-    let alloc = rt.alloc();
-    let arena = Bump::new(alloc);
+    let exporter = MemoryExporter::new(rt.alloc());
     let mut periodic = Periodic::new(
-        alloc,
-        counting(alloc)?,
-        MemoryExporter::new(alloc),
+        rt.alloc(),
+        counting(rt.alloc())?,
+        exporter,
         Pace::new(10, 10),
     );
-    adds(&mut periodic, alloc, 3)?;
-    assert_eq!(rt; periodic.flush(&arena, 5, false), Ok(1));
-    assert_eq!(rt; periodic.pace().next, 10);
-    adds(&mut periodic, alloc, 4)?;
-    assert_eq!(rt;
-        periodic.flush(&arena, 5, false),
-        Err(TickFault::TimeNotAfter(5))
-    );
-    assert_eq!(rt; periodic.flush(&arena, 6, true), Ok(1));
-    assert_eq!(rt;
-        periodic.exporter().copies().last().and_then(total),
-        Some(7)
-    );
-    let closed = periodic.measure(0, &AttrSet::empty(alloc), 1);
-    assert_eq!(rt; closed, Err(MeasureFault::Closed));
-    assert_eq!(rt; periodic.tick(&arena, 10), Err(TickFault::Closed));
+    assert!(rt; leaves_the_pace(&mut periodic, rt.alloc())?);
     Ok(())
 }
 
@@ -203,59 +224,49 @@ fn last_tick<E: Exporter>(
     Ok(periodic.tick(&arena, 2 * MINUTE))
 }
 
-#[test]
-fn memory_takes_the_next_tick(rt: HostRuntime) -> Result<(), Fail> {
-    let alloc = rt.alloc();
-    let mut periodic = reading(alloc, MemoryExporter::new(alloc))?;
-    assert_eq!(rt; last_tick(alloc, &mut periodic)?, Ok(Tick::Exported(1)));
+// Whether a due tick leaves one copy in memory, of all that was recorded.
+fn keeps_a_copy(periodic: &mut Periodic<MemoryExporter>, alloc: Global) -> Result<bool, Fail>
+    requires { periodic.old.exporter.failures ≡ 0 }
+{
+    let answer = last_tick(alloc, periodic)?;
     let copies = periodic.exporter().copies();
-    assert_eq!(rt; copies.len(), 1);
-    assert_eq!(rt; copies.first().and_then(total), Some(7));
-    Ok(())
+    let is_whole = copies.first().and_then(total) == Some(7);
+    Ok(answer == Ok(Tick::Exported(1)) && copies.len() == 1 && is_whole)
 }
 
 #[test]
-fn copies_are_equal(rt: HostRuntime) -> Result<(), Fail> {
-    let alloc = rt.alloc();
-    let mut writer = counting(alloc)?;
-    writer.measure(0, &AttrSet::empty(alloc), 3)?;
-    let arena = Bump::new(alloc);
-    let round = writer.collect(&arena, MINUTE)?;
-    let export = round.copy_out(alloc, writer.id())?;
-    let mut memory = MemoryExporter::new(alloc);
-    memory.export(&export)?;
-    assert_eq!(rt; memory.copies().len(), 1);
-    assert_eq!(rt; memory.copies().first(), Some(&export));
+fn memory_takes_the_next_tick(rt: HostRuntime) -> Result<(), Fail> {
+    let mut periodic = reading(rt.alloc(), MemoryExporter::new(rt.alloc()))?;
+    assert!(rt; keeps_a_copy(&mut periodic, rt.alloc())?);
     Ok(())
+}
+
+// Whether one export comes over a channel, of the total 7.
+fn is_only<R: Wait>(rt: &R, from: &Receiver<Export>) -> bool {
+    match from.recv(rt) {
+        Ok(export) => total(&export) == Some(7) && from.try_recv(rt).is_err(),
+        Err(_) => false,
+    }
 }
 
 #[test]
 fn a_channel_passes_it_on(rt: HostRuntime) -> Result<(), Fail> {
-    let alloc = rt.alloc();
-    let (to, from) = crossbeam_channel::unbounded(alloc)?;
-    let mut periodic = reading(alloc, ChannelExporter::new(&rt, to))?;
-    assert_eq!(rt; last_tick(alloc, &mut periodic)?, Ok(Tick::Exported(1)));
-    let Ok(export) = from.recv(&rt) else {
-        return Err(Fail::new("nothing came"));
-    };
-    assert_eq!(rt; total(&export), Some(7));
-    assert!(rt; from.try_recv(&rt).is_err());
+    let (to, from) = crossbeam_channel::unbounded(rt.alloc())?;
+    let mut periodic = reading(rt.alloc(), ChannelExporter::new(&rt, to))?;
+    let answer = last_tick(rt.alloc(), &mut periodic)?;
+    assert!(rt; answer == Ok(Tick::Exported(1)) && is_only(&rt, &from));
     Ok(())
 }
 
 #[test]
 fn a_channel_without_a_receiver_fails(rt: HostRuntime) -> Result<(), Fail> {
-    let alloc = rt.alloc();
-    let (to, from) = crossbeam_channel::unbounded(alloc)?;
+    let (to, from) = crossbeam_channel::unbounded(rt.alloc())?;
     drop(from);
-    let mut periodic = reading(alloc, ChannelExporter::new(&rt, to))?;
-    assert_eq!(rt;
-        last_tick(alloc, &mut periodic)?,
-        Err(TickFault::ExportRefused)
-    );
-    assert_eq!(rt; periodic.exporter().failures(), 1);
-    assert_eq!(rt; periodic.writer().last(), 2 * MINUTE);
-    assert_eq!(rt; periodic.pace().next, 3 * MINUTE);
+    let mut periodic = reading(rt.alloc(), ChannelExporter::new(&rt, to))?;
+    let is_refused = last_tick(rt.alloc(), &mut periodic)? == Err(TickFault::ExportRefused);
+    let failures = periodic.exporter().failures();
+    let times = (periodic.writer().last(), periodic.pace().next);
+    assert!(rt; is_refused && failures == 1 && times == (2 * MINUTE, 3 * MINUTE));
     Ok(())
 }
 

@@ -13,12 +13,18 @@ fn point(alloc: Global, stream: &SharedStream, shard: i64) -> anyhow::Result<Exp
     })
 }
 
+fn points(alloc: Global, stream: &SharedStream) -> anyhow::Result<Vec<ExportPoint>> {
+    let mut points = Vec::new(alloc);
+    for shard in [1, 2] {
+        points.push(point(alloc, stream, shard)?)?;
+    }
+    Ok(points)
+}
+
 fn build(rt: &HostRuntime) -> anyhow::Result<()> {
     let alloc = rt.alloc();
     let stream = SharedStream::new(alloc, requests(alloc)?)?;
-    let mut points = Vec::new(alloc);
-    points.push(point(alloc, &stream, 1)?)?;
-    points.push(point(alloc, &stream, 2)?)?;
+    let points = points(alloc, &stream)?;
     let writer = id(alloc, 1)?;
     call_begins(rt);
     let answer = Export::build(alloc, writer, START, 200, Seq::from_vec(points));

@@ -18,6 +18,11 @@ fn takes(rt: &HostRuntime, export: &Export) -> anyhow::Result<()> {
     tell_twice(rt, &answer, left, &again)
 }
 
+// The same of an export that is handed over, so that who makes it has nothing to drop.
+fn taken(rt: &HostRuntime, export: Export) -> anyhow::Result<()> {
+    takes(rt, &export)
+}
+
 fn empty_export(alloc: Global) -> anyhow::Result<Export> {
     let none = Seq::new(alloc);
     Ok(Export::build(alloc, id(alloc, 2)?, START, 200, none)?)
@@ -33,6 +38,11 @@ fn merges(rt: &HostRuntime, other: &Gateway) -> anyhow::Result<()> {
     let left = state(gateway.same(&before));
     let again = gateway.merge(other);
     tell_twice(rt, &answer, left, &again)
+}
+
+// The same of a gateway that is handed over.
+fn merged(rt: &HostRuntime, other: Gateway) -> anyhow::Result<()> {
+    merges(rt, &other)
 }
 
 // A gateway that holds an export of a second writer.
@@ -75,12 +85,12 @@ fn join_cell(rt: &HostRuntime) -> anyhow::Result<()> {
 pub fn made(rt: &HostRuntime, call: &str) -> anyhow::Result<bool> {
     let alloc = rt.alloc();
     match call {
-        "Gateway::take, a new writer" => takes(rt, &export(alloc, 2, 200)?)?,
-        "Gateway::take, later points" => takes(rt, &export(alloc, 1, 300)?)?,
-        "Gateway::take, no points" => takes(rt, &empty_export(alloc)?)?,
-        "Gateway::merge, a new writer" => merges(rt, &other(alloc)?)?,
-        "Gateway::merge, later points" => merges(rt, &gateway(alloc, 2, 300)?)?,
-        "Gateway::merge, an empty one" => merges(rt, &Gateway::new(alloc, 2))?,
+        "Gateway::take, a new writer" => taken(rt, export(alloc, 2, 200)?)?,
+        "Gateway::take, later points" => taken(rt, export(alloc, 1, 300)?)?,
+        "Gateway::take, no points" => taken(rt, empty_export(alloc)?)?,
+        "Gateway::merge, a new writer" => merged(rt, other(alloc)?)?,
+        "Gateway::merge, later points" => merged(rt, gateway(alloc, 2, 300)?)?,
+        "Gateway::merge, an empty one" => merged(rt, Gateway::new(alloc, 2))?,
         "Gateway::join_cell" => join_cell(rt)?,
         _ => return Ok(false),
     }

@@ -3,7 +3,7 @@ use crate::start::{export, gateway};
 use crate::telling::{call_begins, call_ends, state, tell_made, tell_twice};
 use anyhow::bail;
 use gateway_kit::Gateway;
-use gossip_kit::Node;
+use gossip_kit::{Message, Node};
 use std::alloc::Global;
 
 // A node of an id that took an export at a time.
@@ -58,32 +58,40 @@ fn send(rt: &HostRuntime) -> anyhow::Result<()> {
     tell_made(rt, answer)
 }
 
+// Hands a node a message. It and its twin are borrowed: each exit here drops what this owns, and that is proved.
+fn hands(rt: &HostRuntime, node: &mut Node, twin: &Node, message: &Message) -> anyhow::Result<()> {
+    call_begins(rt);
+    let answer = node.hand(message);
+    call_ends(rt);
+    let answer = answer.err();
+    let left = state(are_same(rt.alloc(), node, twin)?);
+    let again = node.hand(message).err();
+    tell_twice(rt, &answer, left, &again)
+}
+
 fn hand(rt: &HostRuntime) -> anyhow::Result<()> {
     let message = node(rt.alloc(), 1, 300)?.send(2)?;
     let mut second = Node::new(rt.alloc(), Gateway::new(rt.alloc(), 2));
     let twin = Node::new(rt.alloc(), Gateway::new(rt.alloc(), 2));
-    call_begins(rt);
-    let answer = second.hand(&message);
-    call_ends(rt);
-    let left = state(are_same(rt.alloc(), &second, &twin)?);
-    let again = second.hand(&message);
-    tell_twice(rt, &answer.err(), left, &again.err())
+    hands(rt, &mut second, &twin, &message)
+}
+
+// The answer of a second node to a node's first message.
+fn answer_to(alloc: Global, first: &Node) -> anyhow::Result<Message> {
+    let message = first.send(2)?;
+    let mut second = Node::new(alloc, Gateway::new(alloc, 2));
+    match second.hand(&message)? {
+        Some(answer) => Ok(answer),
+        None => bail!("not answered"),
+    }
 }
 
 // Hands a node the answer to its first message. What it keeps of the peer is then other than before.
 fn hand_answer(rt: &HostRuntime) -> anyhow::Result<()> {
     let mut first = node(rt.alloc(), 1, 200)?;
+    let answer = answer_to(rt.alloc(), &first)?;
     let twin = node(rt.alloc(), 1, 200)?;
-    let mut second = Node::new(rt.alloc(), Gateway::new(rt.alloc(), 2));
-    let Some(message) = second.hand(&first.send(2)?)? else {
-        bail!("not answered");
-    };
-    call_begins(rt);
-    let answer = first.hand(&message);
-    call_ends(rt);
-    let left = state(are_same(rt.alloc(), &first, &twin)?);
-    let again = first.hand(&message);
-    tell_twice(rt, &answer.err(), left, &again.err())
+    hands(rt, &mut first, &twin, &answer)
 }
 
 /// Makes a call of a node, if this is the name of one.

@@ -46,16 +46,24 @@ fn reader<E: Exporter>(alloc: Global, exporter: E) -> anyhow::Result<Periodic<E>
     Ok(Periodic::new(alloc, writer(alloc, 1)?, exporter, Pace::new(100, 200)))
 }
 
-fn measure(rt: &(impl Wait + Print + Eprint + AllocGlobal)) -> anyhow::Result<()> {
-    let mut reader = reader(rt.alloc(), MemoryExporter::new(rt.alloc()))?;
-    let before = reader.writer().try_copy()?;
+fn measures(
+    rt: &(impl Print + Eprint + AllocGlobal),
+    reader: &mut Periodic<MemoryExporter>,
+    before: &Writer,
+) -> anyhow::Result<()> {
     let attrs = set(rt.alloc(), 2)?;
     call_begins(rt);
     let answer = reader.measure(0, &attrs, 5);
     call_ends(rt);
-    let left = state(are_same_writers(reader.writer(), &before));
+    let left = state(are_same_writers(reader.writer(), before));
     let again = reader.measure(0, &attrs, 5);
     tell_twice(rt, &answer, left, &again)
+}
+
+fn measure(rt: &(impl Print + Eprint + AllocGlobal)) -> anyhow::Result<()> {
+    let mut reader = reader(rt.alloc(), MemoryExporter::new(rt.alloc()))?;
+    let before = reader.writer().try_copy()?;
+    measures(rt, &mut reader, &before)
 }
 
 // What a collection at 200 has left: all as it was, or a writer collected at 200 whose next collection is due at this time.
@@ -70,20 +78,46 @@ fn left<E: Exporter>(reader: &Periodic<E>, before: &Writer, next: u64) -> &'stat
     }
 }
 
+// A tick, and a later one. The reader is borrowed: each exit here drops what this owns, and that is proved.
+fn ticks<E: Exporter>(
+    rt: &(impl Wait + Print + Eprint + AllocGlobal),
+    reader: &mut Periodic<E>,
+    before: &Writer,
+) -> anyhow::Result<()> {
+    let arena = Bump::new(rt.alloc());
+    ensure!(reader.exporter().failures() == 0, "failed before");
+    call_begins(rt);
+    let answer = reader.tick(&arena, 200);
+    call_ends(rt);
+    let left = left(reader, before, 300);
+    ensure!(reader.exporter().failures() < 2, "miscounted");
+    let again = reader.tick(&arena, 300);
+    tell_twice(rt, &answer, left, &again)
+}
+
 fn tick<E: Exporter>(
     rt: &(impl Wait + Print + Eprint + AllocGlobal),
     exporter: E,
 ) -> anyhow::Result<()> {
     let mut reader = reader(rt.alloc(), exporter)?;
     let before = reader.writer().try_copy()?;
+    ticks(rt, &mut reader, &before)
+}
+
+// A flush, and a later one that closes.
+fn flushes<E: Exporter>(
+    rt: &(impl Wait + Print + Eprint + AllocGlobal),
+    reader: &mut Periodic<E>,
+    before: &Writer,
+) -> anyhow::Result<()> {
     let arena = Bump::new(rt.alloc());
     ensure!(reader.exporter().failures() == 0, "failed before");
     call_begins(rt);
-    let answer = reader.tick(&arena, 200);
+    let answer = reader.flush(&arena, 200, false);
     call_ends(rt);
-    let left = left(&reader, &before, 300);
+    let left = left(reader, before, 200);
     ensure!(reader.exporter().failures() < 2, "miscounted");
-    let again = reader.tick(&arena, 300);
+    let again = reader.flush(&arena, 300, true);
     tell_twice(rt, &answer, left, &again)
 }
 
@@ -93,15 +127,7 @@ fn flush<E: Exporter>(
 ) -> anyhow::Result<()> {
     let mut reader = reader(rt.alloc(), exporter)?;
     let before = reader.writer().try_copy()?;
-    let arena = Bump::new(rt.alloc());
-    ensure!(reader.exporter().failures() == 0, "failed before");
-    call_begins(rt);
-    let answer = reader.flush(&arena, 200, false);
-    call_ends(rt);
-    let left = left(&reader, &before, 200);
-    ensure!(reader.exporter().failures() < 2, "miscounted");
-    let again = reader.flush(&arena, 300, true);
-    tell_twice(rt, &answer, left, &again)
+    flushes(rt, &mut reader, &before)
 }
 
 fn tick_into_channel(rt: &(impl Wait + Print + Eprint + AllocGlobal)) -> anyhow::Result<()> {

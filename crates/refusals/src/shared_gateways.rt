@@ -1,10 +1,16 @@
 //! Calls of gateways that threads share. Each may accept one change: what was refused is made again, and counts for nothing.
+ghost use Rattle.std.specs.Prelude.{IfOk};
+ghost use Rattle.gateway_kit.specs.Shared.{IsAt};
+
 use crate::start::{export, gateway};
 use crate::telling::{call_begins, call_ends, state, tell, tell_twice};
-use anyhow::bail;
+use anyhow::{bail, ensure};
+use attr_kit::NoMemory;
 use gateway_kit::{Gateway, SharedGateway};
+use point_kit::Export;
+use std::alloc::Global;
 use std::sync::Wait;
-use turn_kit::Look;
+use turn_kit::{ChangeFault, Look, Seat};
 
 // Whether the gateway holds the same as another.
 #[derive(Drop)]
@@ -32,69 +38,151 @@ fn new(rt: &(impl Wait + Print + Eprint + AllocGlobal)) -> anyhow::Result<()> {
     }
 }
 
-// A take, by the call that waits for nobody or by the one that may wait.
-fn take(rt: &(impl Wait + Print + Eprint + AllocGlobal), waits: bool) -> anyhow::Result<()> {
-    let gateway = gateway(rt.alloc(), 1, 200)?;
+// A shared gateway that accepts so many changes, and the only seat at it. Each function below knows no more of it than that
+// they belong together: what else a new one promises would stand in each of their proofs.
+fn share(
+    alloc: Global,
+    gateway: Gateway,
+    limit: u64,
+) -> anyhow::Result<(SharedGateway, Seat<Gateway>)>
+    ensures { IfOk result (λ t. IsAt t.0 t.1) }
+{
+    match SharedGateway::new(alloc, gateway, limit) {
+        Ok(made) => Ok(made),
+        Err(_) => bail!("not shared"),
+    }
+}
+
+/// What is taken or merged.
+#[derive(Clone, Copy)]
+enum Change<'a> {
+    Take(&'a Export),
+    Merge(&'a Gateway),
+}
+
+// A change by the call that waits for nobody.
+fn try_it(
+    shared: &SharedGateway,
+    seat: &mut Seat<Gateway>,
+    change: Change<'_>,
+) -> Result<u64, ChangeFault<NoMemory>>
+    requires { IsAt shared.now seat.old }
+    ensures { IsAt shared.now seat.new }
+{
+    match change {
+        Change::Take(export) => shared.try_take(seat, export),
+        Change::Merge(other) => shared.try_merge(seat, other),
+    }
+}
+
+// A change by the call that may wait.
+fn wait_for_it(
+    rt: &impl Wait,
+    shared: &SharedGateway,
+    seat: &mut Seat<Gateway>,
+    change: Change<'_>,
+) -> Result<u64, ChangeFault<NoMemory>>
+    requires { IsAt shared.now seat.old }
+    ensures { IsAt shared.now seat.new }
+{
+    match change {
+        Change::Take(export) => shared.take(rt, seat, export),
+        Change::Merge(other) => shared.merge(rt, seat, other),
+    }
+}
+
+// A change of this gateway, and the same again.
+fn changes(
+    rt: &(impl Wait + Print + Eprint + AllocGlobal),
+    gateway: Gateway,
+    change: Change<'_>,
+    waits: bool,
+) -> anyhow::Result<()> {
     let before = gateway.try_copy()?;
-    let export = export(rt.alloc(), 2, 200)?;
-    let Ok((shared, mut seat)) = SharedGateway::new(rt.alloc(), gateway, 1) else {
-        bail!("not shared");
-    };
+    let (shared, mut seat) = share(rt.alloc(), gateway, 1)?;
     call_begins(rt);
     let answer = if waits {
-        shared.take(rt, &mut seat, &export)
+        wait_for_it(rt, &shared, &mut seat, change)
     } else {
-        shared.try_take(&mut seat, &export)
+        try_it(&shared, &mut seat, change)
     };
     call_ends(rt);
     let left = state(shared.look(rt, &mut seat, IsSame(&before)));
-    let again = shared.try_take(&mut seat, &export);
+    let again = try_it(&shared, &mut seat, change);
     tell_twice(rt, &answer, left, &again)
 }
 
-// The second of the two takes that a shared gateway accepts. Once a third is refused for good, it is still looked at.
-fn last_take(rt: &(impl Print + Eprint + AllocGlobal)) -> anyhow::Result<()> {
-    let before = gateway(rt.alloc(), 1, 200)?;
-    let first = export(rt.alloc(), 1, 200)?;
-    let second = export(rt.alloc(), 2, 200)?;
-    let Ok((shared, mut seat)) = SharedGateway::new(rt.alloc(), Gateway::new(rt.alloc(), 1), 2)
-    else {
-        bail!("not shared");
-    };
-    let Ok(3) = shared.try_take(&mut seat, &first) else {
-        bail!("the first is not taken");
-    };
+// A take, by the call that waits for nobody or by the one that may wait.
+fn take(rt: &(impl Wait + Print + Eprint + AllocGlobal), waits: bool) -> anyhow::Result<()> {
+    let export = export(rt.alloc(), 2, 200)?;
+    let gateway = gateway(rt.alloc(), 1, 200)?;
+    changes(rt, gateway, Change::Take(&export), waits)
+}
+
+// The same of a merge, into an empty one.
+fn merge(rt: &(impl Wait + Print + Eprint + AllocGlobal), waits: bool) -> anyhow::Result<()> {
+    let other = gateway(rt.alloc(), 2, 200)?;
+    let empty = Gateway::new(rt.alloc(), 1);
+    changes(rt, empty, Change::Merge(&other), waits)
+}
+
+// Whether a shared gateway, which is looked at by the call that waits for nobody, holds the same as another.
+fn is_same(
+    shared: &SharedGateway,
+    seat: &mut Seat<Gateway>,
+    before: &Gateway,
+) -> anyhow::Result<bool>
+    requires { IsAt shared.now seat.old }
+    ensures { IsAt shared.now seat.new }
+{
+    match shared.try_look(seat, IsSame(before)) {
+        Ok(is_same) => Ok(is_same),
+        Err(_) => bail!("not looked at"),
+    }
+}
+
+// The last of the takes that a shared gateway accepts. Once another is refused for good, it is still looked at.
+fn takes_last(
+    rt: &(impl Print + Eprint),
+    shared: &SharedGateway,
+    seat: &mut Seat<Gateway>,
+    before: &Gateway,
+    export: &Export,
+) -> anyhow::Result<()>
+    requires { IsAt shared.now seat.old }
+{
     call_begins(rt);
-    let answer = shared.try_take(&mut seat, &second);
+    let answer = shared.try_take(seat, export);
     call_ends(rt);
-    let Ok(is_as_before) = shared.try_look(&mut seat, IsSame(&before)) else {
-        bail!("not looked at");
-    };
-    let again = shared.try_take(&mut seat, &second);
-    let Ok(false) = shared.try_look(&mut seat, IsSame(&before)) else {
-        bail!("not looked at after the last take");
-    };
+    let is_as_before = is_same(shared, seat, before)?;
+    let again = try_it(shared, seat, Change::Take(export));
+    ensure!(!is_same(shared, seat, before)?, "the last take is lost");
     tell_twice(rt, &answer, state(is_as_before), &again)
 }
 
-// A merge, by the call that waits for nobody or by the one that may wait.
-fn merge(rt: &(impl Wait + Print + Eprint + AllocGlobal), waits: bool) -> anyhow::Result<()> {
-    let empty = Gateway::new(rt.alloc(), 1);
-    let before = empty.try_copy()?;
-    let other = gateway(rt.alloc(), 2, 200)?;
-    let Ok((shared, mut seat)) = SharedGateway::new(rt.alloc(), empty, 1) else {
-        bail!("not shared");
-    };
-    call_begins(rt);
-    let answer = if waits {
-        shared.merge(rt, &mut seat, &other)
-    } else {
-        shared.try_merge(&mut seat, &other)
-    };
-    call_ends(rt);
-    let left = state(shared.look(rt, &mut seat, IsSame(&before)));
-    let again = shared.try_merge(&mut seat, &other);
-    tell_twice(rt, &answer, left, &again)
+// The second of the two takes that a shared gateway accepts.
+fn last_take(rt: &(impl Print + Eprint + AllocGlobal)) -> anyhow::Result<()> {
+    let before = gateway(rt.alloc(), 1, 200)?;
+    let second = export(rt.alloc(), 2, 200)?;
+    let (shared, mut seat) = share(rt.alloc(), Gateway::new(rt.alloc(), 1), 2)?;
+    takes_first(rt.alloc(), &shared, &mut seat)?;
+    takes_last(rt, &shared, &mut seat, &before, &second)
+}
+
+// The first of two.
+fn takes_first(
+    alloc: Global,
+    shared: &SharedGateway,
+    seat: &mut Seat<Gateway>,
+) -> anyhow::Result<()>
+    requires { IsAt shared.now seat.old }
+    ensures { IsAt shared.now seat.new }
+{
+    let first = export(alloc, 1, 200)?;
+    match try_it(shared, seat, Change::Take(&first)) {
+        Ok(3) => Ok(()),
+        _ => bail!("the first is not taken"),
+    }
 }
 
 /// Makes a call of a shared gateway, if this is the name of one.

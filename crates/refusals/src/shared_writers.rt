@@ -1,12 +1,17 @@
 //! Calls of writers that threads share. Each may accept one change: what was refused is made again, and counts for nothing.
+ghost use Rattle.std.specs.Prelude.{IfOk};
+ghost use Rattle.writer_kit.specs.Shared.{IsAt};
+
 use crate::rounds::len_of;
 use crate::same::are_same_writers;
 use crate::start::{set, writer};
 use crate::telling::{call_begins, call_ends, state, tell, tell_twice};
 use anyhow::bail;
+use attr_kit::AttrSet;
 use bumpalo::Bump;
+use std::alloc::Global;
 use std::sync::Wait;
-use turn_kit::Look;
+use turn_kit::{Look, Seat};
 use writer_kit::{SharedWriter, Writer};
 
 // Whether the writer is the same as another.
@@ -35,44 +40,77 @@ fn new(rt: &(impl Wait + Print + Eprint + AllocGlobal)) -> anyhow::Result<()> {
     }
 }
 
-// A recording, by the call that waits for nobody or by the one that may wait.
-fn measure(rt: &(impl Wait + Print + Eprint + AllocGlobal), waits: bool) -> anyhow::Result<()> {
-    let writer = writer(rt.alloc(), 1)?;
-    let before = writer.try_copy()?;
-    let attrs = set(rt.alloc(), 2)?;
-    let Ok((shared, mut seat)) = SharedWriter::new(rt.alloc(), writer, 1) else {
-        bail!("not shared");
-    };
+// A shared writer that accepts one change, and the only seat at it. Each function below knows no more of it than that they
+// belong together.
+fn share(alloc: Global, writer: Writer) -> anyhow::Result<(SharedWriter, Seat<Writer>)>
+    ensures { IfOk result (λ t. IsAt t.0 t.1) }
+{
+    match SharedWriter::new(alloc, writer, 1) {
+        Ok(made) => Ok(made),
+        Err(_) => bail!("not shared"),
+    }
+}
+
+// A recording, by the call that waits for nobody or by the one that may wait. What it is made with is borrowed: it is dropped
+// at the exits of `measure`, and each drop at an exit is proved.
+fn measures(
+    rt: &(impl Wait + Print + Eprint),
+    shared: &SharedWriter,
+    seat: &mut Seat<Writer>,
+    before: &Writer,
+    attrs: &AttrSet,
+    waits: bool,
+) -> anyhow::Result<()>
+    requires { IsAt shared.now seat.old }
+{
     call_begins(rt);
     let answer = if waits {
-        shared.measure(rt, &mut seat, 0, &attrs, 5)
+        shared.measure(rt, seat, 0, attrs, 5)
     } else {
-        shared.try_measure(&mut seat, 0, &attrs, 5)
+        shared.try_measure(seat, 0, attrs, 5)
     };
     call_ends(rt);
-    let left = state(shared.look(rt, &mut seat, IsSame(&before)));
-    let again = shared.try_measure(&mut seat, 0, &attrs, 5);
+    let left = state(shared.look(rt, seat, IsSame(before)));
+    let again = shared.try_measure(seat, 0, attrs, 5);
     tell_twice(rt, &answer, left, &again)
 }
 
+fn measure(rt: &(impl Wait + Print + Eprint + AllocGlobal), waits: bool) -> anyhow::Result<()> {
+    let attrs = set(rt.alloc(), 2)?;
+    let writer = writer(rt.alloc(), 1)?;
+    let before = writer.try_copy()?;
+    let (shared, mut seat) = share(rt.alloc(), writer)?;
+    measures(rt, &shared, &mut seat, &before, &attrs, waits)
+}
+
 // The same of a collection.
+fn collects(
+    rt: &(impl Wait + Print + Eprint + AllocGlobal),
+    shared: &SharedWriter,
+    seat: &mut Seat<Writer>,
+    before: &Writer,
+    waits: bool,
+) -> anyhow::Result<()>
+    requires { IsAt shared.now seat.old }
+{
+    let arena = Bump::new(rt.alloc());
+    call_begins(rt);
+    let answer = if waits {
+        shared.collect(rt, seat, &arena, 200)
+    } else {
+        shared.try_collect(seat, &arena, 200)
+    };
+    call_ends(rt);
+    let left = state(shared.look(rt, seat, IsSame(before)));
+    let again = shared.try_collect(seat, &arena, 200);
+    tell_twice(rt, &len_of(answer), left, &len_of(again))
+}
+
 fn collect(rt: &(impl Wait + Print + Eprint + AllocGlobal), waits: bool) -> anyhow::Result<()> {
     let writer = writer(rt.alloc(), 1)?;
     let before = writer.try_copy()?;
-    let arena = Bump::new(rt.alloc());
-    let Ok((shared, mut seat)) = SharedWriter::new(rt.alloc(), writer, 1) else {
-        bail!("not shared");
-    };
-    call_begins(rt);
-    let answer = if waits {
-        shared.collect(rt, &mut seat, &arena, 200)
-    } else {
-        shared.try_collect(&mut seat, &arena, 200)
-    };
-    call_ends(rt);
-    let left = state(shared.look(rt, &mut seat, IsSame(&before)));
-    let again = shared.try_collect(&mut seat, &arena, 200);
-    tell_twice(rt, &len_of(answer), left, &len_of(again))
+    let (shared, mut seat) = share(rt.alloc(), writer)?;
+    collects(rt, &shared, &mut seat, &before, waits)
 }
 
 /// Makes a call of a shared writer, if this is the name of one.

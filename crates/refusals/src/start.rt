@@ -47,8 +47,9 @@ fn instrument(alloc: Global, name: &str, kind: Kind) -> Result<Instrument, NoMem
 /// A counter of requests and a histogram of sizes.
 pub fn instruments(alloc: Global) -> anyhow::Result<Seq<Instrument>> {
     let mut instruments = Vec::new(alloc);
-    instruments.push(instrument(alloc, "requests", Kind::Counter)?)?;
-    instruments.push(instrument(alloc, "sizes", Kind::Histogram)?)?;
+    for (name, kind) in [("requests", Kind::Counter), ("sizes", Kind::Histogram)] {
+        instruments.push(instrument(alloc, name, kind)?)?;
+    }
     Ok(Seq::from_vec(instruments))
 }
 
@@ -84,21 +85,39 @@ pub fn id(alloc: Global, number: u128) -> anyhow::Result<WriterId> {
     })
 }
 
+// A request and a size under one set.
+fn record(alloc: Global, writer: &mut Writer) -> anyhow::Result<()> {
+    let attrs = set(alloc, 1)?;
+    for (instrument, value) in [(0, 3), (1, 7)] {
+        writer.measure(instrument, &attrs, value)?;
+    }
+    Ok(())
+}
+
 /// A writer of a number that has recorded a request and a size under one set.
 pub fn writer(alloc: Global, number: u128) -> anyhow::Result<Writer> {
     let mut writer = Writer::start(alloc, id(alloc, number)?, plan(alloc)?, START)?;
-    let attrs = set(alloc, 1)?;
-    writer.measure(0, &attrs, 3)?;
-    writer.measure(1, &attrs, 7)?;
+    record(alloc, &mut writer)?;
     Ok(writer)
+}
+
+// The export of a collection at a time.
+fn collected(
+    alloc: Global,
+    writer: &mut Writer,
+    id: &WriterId,
+    time: u64,
+) -> anyhow::Result<Export> {
+    let arena = Bump::new(alloc);
+    let round = writer.collect(&arena, time)?;
+    Ok(round.copy_out(alloc, id)?)
 }
 
 /// The export of a collection of such a writer: three points.
 pub fn export(alloc: Global, number: u128, time: u64) -> anyhow::Result<Export> {
+    let id = id(alloc, number)?;
     let mut writer = writer(alloc, number)?;
-    let arena = Bump::new(alloc);
-    let round = writer.collect(&arena, time)?;
-    Ok(round.copy_out(alloc, &id(alloc, number)?)?)
+    collected(alloc, &mut writer, &id, time)
 }
 
 /// A gateway of an id that took an export of the first writer at a time.
