@@ -1,4 +1,17 @@
-//! Tallies.
+//! Tallies: what a plan's streams come to, one recording after the other (OpenTelemetry Metrics SDK, "Aggregation" and
+//! "Cardinality limits"; Metrics Data Model, "Sums", "Gauge", "Histogram").
+//!
+//! A [`Tally`] has the points of every stream of a plan, each in the order of its first recording. `Tally::measure` records
+//! a value: at each feed of the instrument it goes to the point of the kept attributes, or to that of the overflow set
+//! where the stream's limit is reached. A [`MeasureFault`] says why a value is refused: no such instrument, a value that
+//! the kind refuses, a sum that would leave its range, or want of memory. A refused value is recorded nowhere.
+//!
+//!     let mut tally = Tally::new(alloc, plan)?;
+//!     tally.measure(0, &attributes, 3)?;
+//!
+//! What a tally stands for is a list of recordings: [`steps_are_recordings`] and [`rounds_have_what_was_fed`] are the laws.
+//! What contracts cite stands in `specs/`: `Tallies` (what contracts see of one), `Measuring` (a step and its refusals),
+//! `Rounds` (what a list of recordings comes to), `Refusals`, `Entries`, `Feeding`.
 #![tactic(auto)]
 
 mod fault;

@@ -1,4 +1,16 @@
-//! What a gateway holds of the points of all writers.
+//! Gateways: the newest point of every key, of all writers (OpenTelemetry Metrics Data Model, "Single-Writer", "Overlap").
+//!
+//! - A [`Gateway`] takes exports (`take`), merges with others (`merge`), and is asked what it holds: `find`, `points`,
+//!   `points_of`, `newest`, `conflicts`. What it holds is the join of all that it took, so order and repeats do not matter.
+//! - [`Points`] walks over what is held in key order, each point a [`PointRef`].
+//! - A [`SharedGateway`] is one that threads take exports into, each by a seat of its own, with one history.
+//! - `take_numbered`, `merge_numbered` and `since` number each key by its last change, for those who tell others what is new.
+//!
+//!     let mut gateway = Gateway::new(alloc, 1);
+//!     let changed = gateway.take(&export)?;
+//!
+//! Times are nanoseconds since the Unix epoch. What contracts cite stands in `specs/`: `View` (what contracts see of a
+//! gateway), `Queries`, `Numbers` and `Numbering`, `Recent`, `Shared`; joins are those of `point_kit`.
 #![tactic(auto)]
 
 mod calls;

@@ -1,4 +1,12 @@
-//! The grammar of a script: bytes to lines, lines to words, words to what a line asks for.
+//! The grammar of a script: bytes to lines, lines to words, words to what a line asks for. docs/SCRIPTS.md tells each line.
+//!
+//! - [`read_script`] reads an input of at most [`MAX_BYTES`] bytes, [`first_line`] cuts its lines off, and [`write_text`] writes an answer.
+//! - [`parse_line`] reads a [`Line`]: a [`Declaration`], `begin`, a [`Command`], a [`Query`] or nothing. Else a [`Stop`] says why
+//!   it ended: for want of memory, or because the line is bad, with the [`Reason`] that comes first.
+//! - [`explain`] tells a reason in words. A [`ScriptFault`] is how a whole script ends.
+//!
+//! What contracts cite stands in `specs/`: `Lines` (what each line asks for, or why it is bad), `Words`, `Reading`, `Forms`,
+//! `Shapes`, `Numbers`, `Attributes`, `Reasons`, `Bytes`.
 #![tactic(auto)]
 
 mod attributes;
