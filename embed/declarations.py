@@ -1,14 +1,16 @@
 #!/usr/bin/env python3
 """Holds the declarations that are written by hand to the exports of kit_c, and their codes to its proved definitions.
 
-    declarations.py [--print]
+    declarations.py [--print] [--archive PATH]
 
 The functions are those of `pub extern "C" fn` in crates/kit_c/src/*.rt, the codes those of crates/kit_c/specs/Codes.antt. Of each
 the declaration is made as C and as Rust, and compared with embed/c/kotskhin.h and embed/rust/kotskhin-sys/src/lib.rs. A wrong
-declaration is undefined behaviour, and nothing else compares them. --print prints what is made. Ends with a status other than 0
-where one differs or is missing."""
+declaration is undefined behaviour, and nothing else compares them. --print prints what is made. An archive of kit_c that is given
+must define each export, and no other function of its names: one that was built before they changed is refused. Ends with a status
+other than 0 where one differs or is missing."""
 import pathlib
 import re
+import subprocess
 import sys
 
 EMBED = pathlib.Path(__file__).resolve().parent
@@ -81,6 +83,13 @@ def declared():
     return c, rust
 
 
+def of_archive(path):
+    """What an archive lacks of the exports, and what it has beside them."""
+    told = subprocess.run(["nm", "--defined-only", "-g", path], capture_output=True, text=True, check=True).stdout
+    defined, wanted = set(re.findall(r" T (kit_\w+)$", told, re.M)), {name for name, _, _ in exports()}
+    return [f"{path}: missing: {it}" for it in sorted(wanted - defined)] + [f"{path}: not of kit_c: {it}" for it in sorted(defined - wanted)]
+
+
 def main():
     wanted, found = made(), declared()
     if "--print" in sys.argv:
@@ -89,6 +98,8 @@ def main():
     for file, want, there in zip((HEADER, RUST), wanted, found):
         wrong += [f"{file.name}: not of kit_c: {it}" for it in sorted(there - want)]
         wrong += [f"{file.name}: missing: {it}" for it in sorted(want - there)]
+    if "--archive" in sys.argv:
+        wrong += of_archive(sys.argv[sys.argv.index("--archive") + 1])
     print("\n".join(wrong) or f"{sum(1 for _ in exports())} functions and {len(codes())} codes, each declared twice as it is")
     return 1 if wrong else 0
 

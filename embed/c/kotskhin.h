@@ -39,7 +39,7 @@ enum {
     KIT_NOTHING = 2,          /* a handle that is read has nothing */
     KIT_WRONG_KIND = 3,       /* a handle has something else */
     KIT_FULL = 4,             /* the handle that is to be filled has something */
-    KIT_NOT_TEXT = 5,         /* a text is not UTF-8 */
+    KIT_NOT_TEXT = 5,         /* a text is not UTF-8: of bytes * the text's */
     KIT_BAD_NUMBER = 6,       /* a number stands for nothing here */
     KIT_NO_SET = 7,           /* the writer holds no set of this number */
     KIT_NO_ROW = 8,           /* there is no row of this number */
@@ -51,6 +51,9 @@ enum {
     KIT_OVERFLOW = 13,        /* a total would leave its range: * its stream */
     KIT_TIME_NOT_AFTER = 14,  /* the time is not after the last collection or the start: * that time */
     KIT_START_NOT_AFTER = 15, /* the new start is not after the start so far: * that start */
+    KIT_BUSY = 16,            /* another call has the writer that threads share: try again */
+    KIT_EXHAUSTED = 17,       /* a writer that threads share accepted 2^62 changes */
+    KIT_SEATS_FULL = 18,      /* a writer that threads share gave 4,096 seats */
 
     KIT_EMPTY_KEY = 20,       /* the key of a pair is empty: * the first such pair */
 
@@ -64,6 +67,16 @@ enum {
     KIT_BAD_LIMIT = 37,       /* the limit is 0 */
 
     KIT_TOO_WIDE = 40,        /* a total is wider than the number that it is to be told in */
+    KIT_NO_BUCKET = 41,       /* there is no bucket of this number */
+
+    KIT_NOT_ADDRESSED = 50,   /* the message goes to another id */
+
+    KIT_TRUNCATED = 60,       /* bytes end within the export: * their number */
+    KIT_BAD_MAGIC = 61,       /* bytes do not begin as an export does: * the byte */
+    KIT_BAD_VERSION = 62,     /* the version is not one that is known: * the byte */
+    KIT_NOT_CANONICAL = 63,   /* a value is not in its one form: * its byte */
+    KIT_BAD_CHECKSUM = 64,    /* the checksum is not that of the bytes before it: * its byte */
+    KIT_BAD_EXPORT = 65,      /* the values make no export */
 };
 
 /* Kinds of instruments. */
@@ -135,6 +148,21 @@ int32_t kit_writer_shutdown(kit_handle *writer, uint64_t time, kit_handle *expor
 /* Begins anew under a later start: the writer is open and has recorded nothing. */
 int32_t kit_writer_restart(kit_handle *writer, uint64_t start, uint64_t *place);
 
+/* Shares a writer: its handle then has the first seat at it, and the seats hold the sets that it held, by their numbers. Each thread
+ * has a seat of its own, from kit_seat_split. Calls of seats wait for nobody, and answer KIT_BUSY while another thread's has the
+ * writer: yield, and try again. A collection has all that any seat recorded before it. The writer lasts as long as a seat does. */
+int32_t kit_writer_share(kit_handle *writer);
+int32_t kit_seat_split(kit_handle *seat, kit_handle *made);
+int32_t kit_seat_measure(kit_handle *seat, size_t instrument, kit_handle *attributes, int64_t value, uint64_t *place);
+int32_t kit_seat_measure_held(kit_handle *seat, size_t instrument, size_t number, int64_t value, uint64_t *place);
+int32_t kit_seat_collect(kit_handle *seat, uint64_t time, kit_handle *export_, uint64_t *place);
+
+/* The bytes of an export, which may go to another process, and the export of such bytes. Each export has one form, and no other bytes
+ * are read. kit_bytes_copy copies the front of bytes that has room, and tells how many there are. */
+int32_t kit_export_encode(kit_handle *export_, kit_handle *bytes);
+int32_t kit_export_decode(kit_handle *export_, const uint8_t *bytes, size_t bytes_len, uint64_t *place);
+int32_t kit_bytes_copy(kit_handle *bytes, uint8_t *into, size_t room, size_t *len);
+
 /* A gateway takes exports, in any order and however often each comes, and merges with other gateways. What is told is the number
  * of keys whose points changed. */
 int32_t kit_gateway_open(kit_handle *gateway, uint32_t id);
@@ -145,6 +173,19 @@ int32_t kit_gateway_merge(kit_handle *gateway, kit_handle *other, uint64_t *chan
 int32_t kit_gateway_conflicts(kit_handle *gateway, uint64_t *count);
 /* Whether two gateways hold equal points. */
 int32_t kit_gateway_same(kit_handle *gateway, kit_handle *other, bool *same);
+
+/* Nodes are gateways that tell each other what changed, by messages. A node begins with a gateway's points and id; the ids of nodes
+ * that exchange messages are distinct. kit_node_gateway makes a copy of what it holds, to be asked. */
+int32_t kit_node_open(kit_handle *node, kit_handle *gateway);
+int32_t kit_node_gateway(kit_handle *node, kit_handle *gateway);
+int32_t kit_node_take(kit_handle *node, kit_handle *export_, uint64_t *changed);
+int32_t kit_node_merge(kit_handle *node, kit_handle *gateway, uint64_t *changed);
+/* A message to the node of an id: what changed since the last one that it answered. It may be lost, come late or come twice. */
+int32_t kit_node_send(kit_handle *node, uint32_t to, kit_handle *message);
+/* Hands a node a message, which stays; where it is answered, the answer goes to its sender. */
+int32_t kit_node_hand(kit_handle *node, kit_handle *message, kit_handle *answer, bool *answered);
+/* From which id to which a message goes, and how many points it carries: an answer carries none. */
+int32_t kit_message_read(kit_handle *message, uint32_t *from, uint32_t *to, size_t *points);
 
 /* Asks of a stream: all its points, a row for each attribute set. */
 int32_t kit_ask_sum(kit_handle *ask, const uint8_t *scope, size_t scope_len, const uint8_t *name, size_t name_len,
@@ -169,6 +210,11 @@ int32_t kit_rows_len(kit_handle *rows, size_t *count);
 int32_t kit_rows_counts(kit_handle *rows, size_t number, uint64_t *points, uint64_t *conflicts);
 int32_t kit_rows_sum(kit_handle *rows, size_t number, int64_t *total);
 int32_t kit_rows_gauge(kit_handle *rows, size_t number, uint64_t *time, int64_t *value);
+/* Of a histogram: how many values, their sum, and how many buckets; the least and the greatest value; how many values a bucket has:
+ * those up to the bound of its number and above the one before, and in the last one those above all bounds. */
+int32_t kit_rows_histogram(kit_handle *rows, size_t number, uint64_t *count, int64_t *sum, size_t *buckets);
+int32_t kit_rows_range(kit_handle *rows, size_t number, int64_t *least, int64_t *greatest);
+int32_t kit_rows_bucket(kit_handle *rows, size_t number, size_t bucket_number, uint64_t *count);
 
 /* Copies the front of a text that has room, and tells how long the whole text is. */
 int32_t kit_text_copy(kit_handle *text, uint8_t *into, size_t room, size_t *len);

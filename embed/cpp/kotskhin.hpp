@@ -8,6 +8,7 @@
 #include <string>
 #include <string_view>
 #include <utility>
+#include <vector>
 
 namespace kotskhin {
 
@@ -46,6 +47,7 @@ public:
 };
 
 class Attributes {
+    friend class Seat;
     friend class Writer;
     Handle handle;
 
@@ -84,11 +86,63 @@ public:
 
 class Export {
     friend class Gateway;
+    friend class Node;
+    friend class Seat;
     friend class Writer;
     Handle handle;
+
+public:
+    // Its bytes, for another process.
+    std::vector<uint8_t> encode() {
+        Handle bytes;
+        checked(kit_export_encode(handle.at(), bytes.at()));
+        std::vector<uint8_t> made(1024);
+        size_t len = 0;
+        do {
+            if (len > made.size()) made.resize(len);
+            checked(kit_bytes_copy(bytes.at(), made.data(), made.size(), &len));
+        } while (len > made.size());
+        made.resize(len);
+        return made;
+    }
+    static Export decode(const std::vector<uint8_t> &bytes) {
+        Export made;
+        const uint8_t none = 0;
+        uint64_t place = 0;
+        checked(kit_export_decode(made.handle.at(), bytes.empty() ? &none : bytes.data(), bytes.size(), &place), place);
+        return made;
+    }
 };
 
-// One thread at a time has a writer: put a lock of yours round it, or give each thread one of its own.
+// A place at a writer that threads share: each thread has its own. Calls wait for nobody; a code KIT_BUSY says to try again.
+class Seat {
+    friend class Writer;
+    Handle handle;
+    explicit Seat(Handle &&of) : handle(std::move(of)) {}
+
+public:
+    Seat split() {
+        Handle made;
+        checked(kit_seat_split(handle.at(), made.at()));
+        return Seat(std::move(made));
+    }
+    void measure(size_t instrument, Attributes &attributes, int64_t value) {
+        uint64_t place = 0;
+        checked(kit_seat_measure(handle.at(), instrument, attributes.handle.at(), value, &place), place);
+    }
+    void measure_held(size_t instrument, size_t number, int64_t value) {
+        uint64_t place = 0;
+        checked(kit_seat_measure_held(handle.at(), instrument, number, value, &place), place);
+    }
+    Export collect(uint64_t time) {
+        Export made;
+        uint64_t place = 0;
+        checked(kit_seat_collect(handle.at(), time, made.handle.at(), &place), place);
+        return made;
+    }
+};
+
+// One thread at a time has a writer: share it by seats, put a lock of yours round it, or give each thread one of its own.
 class Writer {
     Handle handle;
 
@@ -115,9 +169,15 @@ public:
         checked(kit_writer_collect(handle.at(), time, made.handle.at(), &place), place);
         return made;
     }
+    // The first seat at the writer, which is then moved from.
+    Seat share() && {
+        checked(kit_writer_share(handle.at()));
+        return Seat(std::move(handle));
+    }
 };
 
 class Gateway {
+    friend class Node;
     Handle handle;
 
 public:
@@ -146,6 +206,62 @@ public:
         } while (len > told.size());
         told.resize(len);
         return told;
+    }
+};
+
+// What one node tells another. It may be lost, come late or come twice.
+class Message {
+    friend class Node;
+    Handle handle;
+
+public:
+    struct Envelope {
+        uint32_t from, to;
+        size_t points;
+    };
+    Envelope envelope() {
+        Envelope told{};
+        checked(kit_message_read(handle.at(), &told.from, &told.to, &told.points));
+        return told;
+    }
+};
+
+// A gateway that sends messages and takes them in. The ids of nodes that exchange messages are distinct.
+class Node {
+    Handle handle;
+
+public:
+    explicit Node(Gateway &gateway) { checked(kit_node_open(handle.at(), gateway.handle.at())); }
+    // A copy of what it holds, to be asked.
+    Gateway gateway() {
+        Gateway copy(0);
+        Handle made;
+        checked(kit_node_gateway(handle.at(), made.at()));
+        copy.handle = std::move(made);
+        return copy;
+    }
+    uint64_t take(Export &given) {
+        uint64_t changed = 0;
+        checked(kit_node_take(handle.at(), given.handle.at(), &changed));
+        return changed;
+    }
+    uint64_t merge(Gateway &other) {
+        uint64_t changed = 0;
+        checked(kit_node_merge(handle.at(), other.handle.at(), &changed));
+        return changed;
+    }
+    Message send(uint32_t to) {
+        Message made;
+        checked(kit_node_send(handle.at(), to, made.handle.at()));
+        return made;
+    }
+    // Takes in a message, and says whether the answer is to be sent to its sender.
+    bool hand(Message &message, Message &answer) {
+        bool answered = false;
+        Message made;
+        checked(kit_node_hand(handle.at(), message.handle.at(), made.handle.at(), &answered));
+        if (answered) answer = std::move(made);
+        return answered;
     }
 };
 

@@ -89,7 +89,10 @@ type (
 	Plan       struct{ h *handle }
 	Writer     struct{ h *handle }
 	Export     struct{ h *handle }
-	Gateway        struct{ h *handle }
+	Gateway    struct{ h *handle }
+	Seat       struct{ h *handle }
+	Node       struct{ h *handle }
+	Message    struct{ h *handle }
 )
 
 // NewAttributes makes a set of keys and values that take turns.
@@ -149,6 +152,107 @@ func (w Writer) Collect(time uint64) (Export, error) {
 	return Export{h}, with(w.h, h, func(place *C.uint64_t) C.int32_t {
 		return C.kit_writer_collect(&w.h.raw, C.uint64_t(time), &h.raw, place)
 	})
+}
+
+// Share shares the writer: what w has is the first seat at it from then on.
+func (w Writer) Share() (Seat, error) {
+	return Seat{w.h}, with(w.h, w.h, func(*C.uint64_t) C.int32_t { return C.kit_writer_share(&w.h.raw) })
+}
+
+// Split makes another seat at the same writer, for another goroutine.
+func (s Seat) Split() (Seat, error) {
+	h := newHandle()
+	return Seat{h}, with(s.h, h, func(*C.uint64_t) C.int32_t { return C.kit_seat_split(&s.h.raw, &h.raw) })
+}
+
+// Measure records a value. While another thread's call has the writer it is refused with the code KIT_BUSY, 16: try again.
+func (s Seat) Measure(instrument int, a Attributes, value int64) error {
+	return with(s.h, a.h, func(place *C.uint64_t) C.int32_t {
+		return C.kit_seat_measure(&s.h.raw, C.size_t(instrument), &a.h.raw, C.int64_t(value), place)
+	})
+}
+
+// Collect collects all that any seat recorded before it.
+func (s Seat) Collect(time uint64) (Export, error) {
+	h := newHandle()
+	return Export{h}, with(s.h, h, func(place *C.uint64_t) C.int32_t {
+		return C.kit_seat_collect(&s.h.raw, C.uint64_t(time), &h.raw, place)
+	})
+}
+
+// Encode gives the bytes of the export, for another process.
+func (e Export) Encode() ([]byte, error) {
+	made := newHandle()
+	if err := with(e.h, made, func(*C.uint64_t) C.int32_t { return C.kit_export_encode(&e.h.raw, &made.raw) }); err != nil {
+		return nil, err
+	}
+	for room := make([]byte, 1024); ; {
+		var length C.size_t
+		if err := with(made, made, func(*C.uint64_t) C.int32_t {
+			return C.kit_bytes_copy(&made.raw, (*C.uint8_t)(unsafe.Pointer(&room[0])), C.size_t(len(room)), &length)
+		}); err != nil {
+			return nil, err
+		}
+		if int(length) <= len(room) {
+			return room[:length], nil
+		}
+		room = make([]byte, int(length))
+	}
+}
+
+// DecodeExport gives the export of bytes that Encode made.
+func DecodeExport(bytes []byte) (Export, error) {
+	h := newHandle()
+	at, length := text(string(bytes))
+	return Export{h}, with(h, h, func(place *C.uint64_t) C.int32_t {
+		return C.kit_export_decode(&h.raw, at, length, place)
+	})
+}
+
+// OpenNode opens a node with the points and the id of a gateway. The ids of nodes that exchange messages are distinct.
+func OpenNode(g Gateway) (Node, error) {
+	h := newHandle()
+	return Node{h}, with(h, g.h, func(*C.uint64_t) C.int32_t { return C.kit_node_open(&h.raw, &g.h.raw) })
+}
+
+// Gateway copies out what the node holds, to be asked.
+func (n Node) Gateway() (Gateway, error) {
+	h := newHandle()
+	return Gateway{h}, with(n.h, h, func(*C.uint64_t) C.int32_t { return C.kit_node_gateway(&n.h.raw, &h.raw) })
+}
+
+func (n Node) Take(e Export) (uint64, error) {
+	var changed C.uint64_t
+	err := with(n.h, e.h, func(*C.uint64_t) C.int32_t { return C.kit_node_take(&n.h.raw, &e.h.raw, &changed) })
+	return uint64(changed), err
+}
+
+func (n Node) Merge(g Gateway) (uint64, error) {
+	var changed C.uint64_t
+	err := with(n.h, g.h, func(*C.uint64_t) C.int32_t { return C.kit_node_merge(&n.h.raw, &g.h.raw, &changed) })
+	return uint64(changed), err
+}
+
+// Send makes a message to the node of an id. It may be lost, come late or come twice.
+func (n Node) Send(to uint32) (Message, error) {
+	h := newHandle()
+	return Message{h}, with(n.h, h, func(*C.uint64_t) C.int32_t { return C.kit_node_send(&n.h.raw, C.uint32_t(to), &h.raw) })
+}
+
+// Hand takes in a message, and gives the answer to its sender where there is one.
+func (n Node) Hand(m Message) (answer Message, answered bool, err error) {
+	h := newHandle()
+	var told C.bool
+	err = with(n.h, m.h, func(*C.uint64_t) C.int32_t { return C.kit_node_hand(&n.h.raw, &m.h.raw, &h.raw, &told) })
+	return Message{h}, bool(told), err
+}
+
+// Envelope tells from which id to which the message goes, and how many points it carries.
+func (m Message) Envelope() (from, to uint32, points int, err error) {
+	var sender, receiver C.uint32_t
+	var carried C.size_t
+	err = with(m.h, m.h, func(*C.uint64_t) C.int32_t { return C.kit_message_read(&m.h.raw, &sender, &receiver, &carried) })
+	return uint32(sender), uint32(receiver), int(carried), err
 }
 
 // OpenGateway opens a gateway without points.

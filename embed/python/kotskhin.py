@@ -30,6 +30,20 @@ _TYPES = {
     "kit_gateway_rows": [_HANDLE, _HANDLE, _HANDLE],
     "kit_rows_table": [_HANDLE, _HANDLE],
     "kit_text_copy": [_HANDLE, c_char_p, c_size_t, POINTER(c_size_t)],
+    "kit_writer_share": [_HANDLE],
+    "kit_seat_split": [_HANDLE, _HANDLE],
+    "kit_seat_measure": [_HANDLE, c_size_t, _HANDLE, c_int64, POINTER(c_uint64)],
+    "kit_seat_collect": [_HANDLE, c_uint64, _HANDLE, POINTER(c_uint64)],
+    "kit_node_open": [_HANDLE, _HANDLE],
+    "kit_node_gateway": [_HANDLE, _HANDLE],
+    "kit_node_take": [_HANDLE, _HANDLE, POINTER(c_uint64)],
+    "kit_node_merge": [_HANDLE, _HANDLE, POINTER(c_uint64)],
+    "kit_node_send": [_HANDLE, c_uint32, _HANDLE],
+    "kit_node_hand": [_HANDLE, _HANDLE, _HANDLE, POINTER(c_bool)],
+    "kit_message_read": [_HANDLE, POINTER(c_uint32), POINTER(c_uint32), POINTER(c_size_t)],
+    "kit_export_encode": [_HANDLE, _HANDLE],
+    "kit_export_decode": [_HANDLE, *_TEXT, POINTER(c_uint64)],
+    "kit_bytes_copy": [_HANDLE, c_char_p, c_size_t, POINTER(c_size_t)],
 }
 _library = ctypes.CDLL(os.environ["KOTSKHIN_SO"])
 for _name, _types in _TYPES.items():
@@ -100,8 +114,46 @@ class Plan(_Handle):
         _call("kit_plan_build", self._at, made._at, views._at, limit, byref(place), byref(second), place=place)
 
 
+def _copied(name, at):
+    """What a call copies out, once its room is enough."""
+    length = c_size_t(1024)
+    while True:
+        room = ctypes.create_string_buffer(max(length.value, 1))
+        _call(name, at, room, len(room), byref(length))
+        if length.value <= len(room):
+            return room.raw[: length.value]
+
+
 class Export(_Handle):
-    pass
+    def encode(self):
+        """Its bytes, for another process."""
+        made = _Handle()
+        _call("kit_export_encode", self._at, made._at)
+        return _copied("kit_bytes_copy", made._at)
+
+    @classmethod
+    def decode(cls, of):
+        made, place = cls(), c_uint64()
+        _call("kit_export_decode", made._at, of, len(of), byref(place), place=place)
+        return made
+
+
+class Seat(_Handle):
+    """A place at a writer that threads share. While another thread's call has the writer a call is refused with the code 16."""
+
+    def split(self):
+        made = Seat()
+        _call("kit_seat_split", self._at, made._at)
+        return made
+
+    def measure(self, instrument, attributes, value):
+        place = c_uint64()
+        _call("kit_seat_measure", self._at, instrument, attributes._at, value, byref(place), place=place)
+
+    def collect(self, time):
+        made, place = Export(), c_uint64()
+        _call("kit_seat_collect", self._at, time, made._at, byref(place), place=place)
+        return made
 
 
 class Writer(_Handle):
@@ -117,6 +169,13 @@ class Writer(_Handle):
         made, place = Export(), c_uint64()
         _call("kit_writer_collect", self._at, time, made._at, byref(place), place=place)
         return made
+
+    def share(self):
+        """The first seat at the writer, which is none of its own from then on."""
+        _call("kit_writer_share", self._at)
+        first = Seat()
+        first._raw, self._raw = self._raw, first._raw
+        return first
 
 
 class Gateway(_Handle):
@@ -137,12 +196,54 @@ class Gateway(_Handle):
 
     def sum(self, scope, name, unit, monotonic=True):
         """The table of a sum, a line for each attribute set."""
-        ask, rows, table, length = _Handle(), _Handle(), _Handle(), c_size_t(1024)
+        ask, rows, table = _Handle(), _Handle(), _Handle()
         _call("kit_ask_sum", ask._at, *_text(scope), *_text(name), *_text(unit), monotonic)
         _call("kit_gateway_rows", self._at, ask._at, rows._at)
         _call("kit_rows_table", rows._at, table._at)
-        while True:
-            room = ctypes.create_string_buffer(length.value)
-            _call("kit_text_copy", table._at, room, len(room), byref(length))
-            if length.value <= len(room):
-                return room.raw[: length.value].decode()
+        return _copied("kit_text_copy", table._at).decode()
+
+
+class Message(_Handle):
+    """What one node tells another. It may be lost, come late or come twice."""
+
+    def envelope(self):
+        """From which id to which it goes, and how many points it carries."""
+        sender, receiver, points = c_uint32(), c_uint32(), c_size_t()
+        _call("kit_message_read", self._at, byref(sender), byref(receiver), byref(points))
+        return sender.value, receiver.value, points.value
+
+
+class Node(_Handle):
+    """A gateway that sends messages and takes them in. The ids of nodes that exchange messages are distinct."""
+
+    def __init__(self, gateway):
+        super().__init__()
+        _call("kit_node_open", self._at, gateway._at)
+
+    def gateway(self):
+        """A copy of what it holds, to be asked."""
+        copy, made = Gateway(0), _Handle()
+        _call("kit_node_gateway", self._at, made._at)
+        copy._raw, made._raw = made._raw, copy._raw
+        return copy
+
+    def take(self, export):
+        changed = c_uint64()
+        _call("kit_node_take", self._at, export._at, byref(changed))
+        return changed.value
+
+    def merge(self, gateway):
+        changed = c_uint64()
+        _call("kit_node_merge", self._at, gateway._at, byref(changed))
+        return changed.value
+
+    def send(self, to):
+        message = Message()
+        _call("kit_node_send", self._at, to, message._at)
+        return message
+
+    def hand(self, message):
+        """Takes in a message, and gives the answer to its sender, or none."""
+        answer, answered = Message(), c_bool()
+        _call("kit_node_hand", self._at, message._at, answer._at, byref(answered))
+        return answer if answered.value else None

@@ -334,6 +334,173 @@ static void gauges(void) {
     kit_free(&instruments), kit_free(&plan), kit_free(&none), kit_free(&gateway), kit_free(&ask);
 }
 
+/* Rows of a histogram of the bounds 10 and 20: as numbers, with two writers whose counts' sums leave 64 bits together. */
+static void histograms(void) {
+    const int64_t bounds[] = {10, 20}, values[] = {3, 10, 11, 50};
+    kit_handle instruments = KIT_EMPTY, view = KIT_EMPTY, list = KIT_EMPTY, plan = KIT_EMPTY, pairs = KIT_EMPTY, none = KIT_EMPTY;
+    kit_handle writer = KIT_EMPTY, other = KIT_EMPTY, collected = KIT_EMPTY, gateway = KIT_EMPTY, ask = KIT_EMPTY, rows = KIT_EMPTY;
+    uint64_t count = 77, bucket = 77, last = 77;
+    int64_t sum = 77, least = 77, greatest = 77;
+    size_t buckets = 77;
+    CHECK(!kit_instruments_add(&instruments, TEXT("app"), TEXT("size"), TEXT("By"), KIT_HISTOGRAM));
+    CHECK(!kit_view_of_name(&view, TEXT("size")) && !kit_view_buckets(&view, bounds, 2) && !kit_views_add(&list, &view));
+    CHECK(!kit_plan_build(&plan, &instruments, &list, 1, &place, &second) && !kit_attributes_make(&none, &pairs, &place));
+    CHECK(!kit_writer_start(&writer, &plan, TEXT("shop"), 0, 1, 100) && !kit_gateway_open(&gateway, 1));
+    for (size_t i = 0; i < 4; i++) {
+        CHECK(!kit_writer_measure(&writer, 0, &none, values[i], &place));
+    }
+    CHECK(!kit_writer_collect(&writer, 200, &collected, &place) && !kit_gateway_take(&gateway, &collected, &changed));
+    CHECK(!kit_ask_histogram(&ask, TEXT("app"), TEXT("size"), TEXT("By"), bounds, 2) && !kit_gateway_rows(&gateway, &ask, &rows));
+
+    CHECK(kit_rows_histogram(&writer, 0, &count, &sum, &buckets) == KIT_WRONG_KIND && writer.full);
+    CHECK(kit_rows_histogram(&rows, 1, &count, &sum, &buckets) == KIT_NO_ROW && count == 77 && sum == 77 && buckets == 77);
+    CHECK(kit_rows_range(&rows, 1, &least, &greatest) == KIT_NO_ROW && least == 77 && greatest == 77);
+    CHECK(!kit_rows_histogram(&rows, 0, &count, &sum, &buckets) && count == 4 && sum == 74 && buckets == 3);
+    CHECK(!kit_rows_range(&rows, 0, &least, &greatest) && least == 3 && greatest == 50);
+    CHECK(!kit_rows_bucket(&rows, 0, 0, &bucket) && bucket == 2 && !kit_rows_bucket(&rows, 0, 2, &last) && last == 1);
+    CHECK(kit_rows_bucket(&rows, 0, 3, &bucket) == KIT_NO_BUCKET && bucket == 2);
+    CHECK(kit_rows_bucket(&rows, 1, 0, &bucket) == KIT_NO_ROW && kit_rows_bucket(&pairs, 0, 0, &bucket) == KIT_NOTHING && bucket == 2);
+    CHECK(kit_rows_sum(&rows, 0, &sum) == KIT_WRONG_KIND && sum == 74);
+    kit_free(&rows), kit_free(&collected);
+
+    CHECK(!kit_writer_start(&other, &plan, TEXT("shop"), 0, 2, 100) && !kit_writer_measure(&other, 0, &none, INT64_MAX, &place));
+    CHECK(!kit_writer_collect(&other, 200, &collected, &place) && !kit_gateway_take(&gateway, &collected, &changed));
+    CHECK(!kit_gateway_rows(&gateway, &ask, &rows));
+    CHECK(kit_rows_histogram(&rows, 0, &count, &sum, &buckets) == KIT_TOO_WIDE && count == 4 && sum == 74 && buckets == 3);
+    CHECK(!kit_rows_range(&rows, 0, &least, &greatest) && least == 3 && greatest == INT64_MAX);
+
+    kit_handle *all[] = {&instruments, &view, &list, &plan, &none, &writer, &other, &collected, &gateway, &ask, &rows};
+    for (size_t i = 0; i < sizeof all / sizeof *all; i++) {
+        kit_free(all[i]);
+    }
+}
+
+/* A gateway of a node comes to this table. */
+static bool holds(kit_handle *node, const char *want) {
+    kit_handle copy = KIT_EMPTY;
+    bool fits = !kit_node_gateway(node, &copy) && tells(&copy, want);
+    kit_free(&copy);
+    return fits;
+}
+
+static void nodes(kit_handle *plan, kit_handle *none) {
+    kit_handle gateway = KIT_EMPTY, far = KIT_EMPTY, one = KIT_EMPTY, other = KIT_EMPTY, writer = KIT_EMPTY, collected = KIT_EMPTY;
+    kit_handle sent = KIT_EMPTY, answer = KIT_EMPTY, nothing = KIT_EMPTY;
+    uint32_t from = 77, to = 77;
+    size_t points = 77;
+    bool answered = true;
+    CHECK(!kit_writer_start(&writer, plan, TEXT("shop"), 0, 1, 100) && !kit_writer_measure(&writer, 0, none, 7, &place));
+    CHECK(!kit_writer_collect(&writer, 200, &collected, &place));
+    CHECK(!kit_gateway_open(&gateway, 1) && !kit_gateway_open(&far, 2));
+    CHECK(kit_node_open(&one, &nothing) == KIT_NOTHING && kit_node_open(&one, &writer) == KIT_WRONG_KIND && !one.full);
+    EACH_GROWTH(kit_node_open(&one, &gateway), !one.full && gateway.full);
+    CHECK(kit_node_open(&one, &gateway) == KIT_FULL && !kit_node_open(&other, &far));
+
+    CHECK(kit_node_take(&nothing, &collected, &changed) == KIT_NOTHING && kit_node_take(&one, &nothing, &changed) == KIT_NOTHING);
+    CHECK(kit_node_take(&one, &gateway, &changed) == KIT_WRONG_KIND && kit_node_merge(&one, &collected, &changed) == KIT_WRONG_KIND);
+    CHECK(kit_node_take(&one, &one, &changed) != KIT_OK && one.full); /* one handle given twice */
+    changed = 77;
+    EACH_GROWTH(kit_node_take(&one, &collected, &changed), changed == 77 && holds(&one, NO_ROWS));
+    CHECK(changed == 1 && holds(&one, SEVEN) && !kit_node_take(&one, &collected, &changed) && changed == 0);
+
+    CHECK(kit_node_send(&one, 2, &writer) == KIT_FULL && kit_node_send(&writer, 2, &sent) == KIT_WRONG_KIND && !sent.full);
+    EACH_GROWTH(kit_node_send(&one, 2, &sent), !sent.full && one.full);
+    CHECK(kit_message_read(&one, &from, &to, &points) == KIT_WRONG_KIND && from == 77 && to == 77 && points == 77);
+    CHECK(!kit_message_read(&sent, &from, &to, &points) && from == 1 && to == 2 && points == 1);
+    CHECK(kit_node_hand(&one, &sent, &answer, &answered) == KIT_NOT_ADDRESSED && !answer.full && answered);
+    CHECK(kit_node_hand(&other, &sent, &writer, &answered) == KIT_FULL && kit_node_hand(&other, &writer, &answer, &answered) == KIT_WRONG_KIND);
+    answered = false;
+    EACH_GROWTH(kit_node_hand(&other, &sent, &answer, &answered), !answer.full && !answered && holds(&other, NO_ROWS));
+    CHECK(answer.full && answered && sent.full && holds(&other, SEVEN));
+    CHECK(!kit_message_read(&answer, &from, &to, &points) && from == 2 && to == 1 && points == 0);
+    kit_free(&sent);
+    EACH_GROWTH(kit_node_hand(&one, &answer, &sent, &answered), !sent.full && answered);
+    CHECK(!sent.full && !answered && !kit_node_send(&one, 2, &sent));
+    CHECK(!kit_message_read(&sent, &from, &to, &points) && from == 1 && to == 2 && points == 0); /* all of it was acknowledged */
+
+    CHECK(!kit_node_gateway(&other, &nothing) && kit_node_gateway(&other, &gateway) == KIT_FULL);
+    kit_free(&one);
+    CHECK(!kit_node_open(&one, &far));
+    EACH_GROWTH(kit_node_merge(&one, &nothing, &changed), holds(&one, NO_ROWS) && nothing.full);
+    CHECK(changed == 1 && holds(&one, SEVEN));
+    kit_handle *all[] = {&gateway, &far, &one, &other, &writer, &collected, &sent, &answer, &nothing};
+    for (size_t i = 0; i < sizeof all / sizeof *all; i++) {
+        kit_free(all[i]);
+        CHECK(!all[i]->full);
+    }
+}
+
+/* Seats at one writer, in one thread: what each refuses, and that all of them record into it. */
+static void seats(kit_handle *plan, kit_handle *none) {
+    kit_handle seat = KIT_EMPTY, more = KIT_EMPTY, nothing = KIT_EMPTY, collected = KIT_EMPTY, gateway = KIT_EMPTY;
+    size_t number = 77;
+    CHECK(!kit_writer_start(&seat, plan, TEXT("shop"), 0, 1, 100) && !kit_writer_hold(&seat, none, &number));
+    CHECK(!kit_writer_measure_held(&seat, 0, number, 1, &place));
+    CHECK(kit_writer_share(&nothing) == KIT_NOTHING && kit_writer_share(none) == KIT_WRONG_KIND && none->full);
+    EACH_GROWTH(kit_writer_share(&seat), !kit_writer_measure_held(&seat, 0, number, 0, &place));
+    CHECK(kit_writer_share(&seat) == KIT_WRONG_KIND && kit_writer_measure(&seat, 0, none, 1, &place) == KIT_WRONG_KIND);
+    CHECK(kit_seat_split(&seat, none) == KIT_FULL && kit_seat_split(&nothing, &more) == KIT_NOTHING && !more.full);
+    CHECK(kit_seat_split(plan, &more) == KIT_WRONG_KIND && plan->full && !more.full);
+    EACH_GROWTH(kit_seat_split(&seat, &more), !more.full && seat.full);
+
+    CHECK(!kit_seat_measure(&seat, 0, none, 2, &place) && !kit_seat_measure(&more, 0, none, 3, &place));
+    CHECK(!kit_seat_measure_held(&more, 0, number, 1, &place));
+    CHECK(kit_seat_measure_held(&more, 0, 1, 1, &place) == KIT_NO_SET && kit_seat_measure(&more, 2, none, 1, &place) == KIT_NO_INSTRUMENT);
+    CHECK(kit_seat_measure(&nothing, 0, none, 1, &place) == KIT_NOTHING && kit_seat_measure(&seat, 0, &nothing, 1, &place) == KIT_NOTHING);
+    CHECK(kit_seat_measure(none, 0, none, 1, &place) != KIT_OK && kit_seat_measure(plan, 0, none, 1, &place) == KIT_WRONG_KIND);
+    CHECK(kit_seat_measure(&seat, 0, none, -1, &place) == KIT_NEGATIVE && kit_seat_measure_held(plan, 0, 0, 1, &place) == KIT_WRONG_KIND);
+    place = 77;
+    CHECK(kit_seat_measure(&seat, 0, none, INT64_MAX, &place) == KIT_OVERFLOW && place == 0);
+
+    CHECK(kit_seat_collect(&seat, 200, none, &place) == KIT_FULL && kit_seat_collect(&nothing, 200, &collected, &place) == KIT_NOTHING);
+    CHECK(kit_seat_collect(plan, 200, &collected, &place) == KIT_WRONG_KIND && !collected.full);
+    CHECK(kit_seat_collect(&seat, 100, &collected, &place) == KIT_TIME_NOT_AFTER && place == 100 && !collected.full);
+    EACH_GROWTH(kit_seat_collect(&more, 200, &collected, &place), !collected.full && more.full);
+    kit_free(&more);
+    CHECK(!kit_gateway_open(&gateway, 1) && !kit_gateway_take(&gateway, &collected, &changed) && tells(&gateway, SEVEN));
+    CHECK(kit_seat_collect(&seat, 200, &nothing, &place) == KIT_TIME_NOT_AFTER && place == 200 && !nothing.full);
+    uint32_t made = 2; /* (the first one, and the one that was freed) */
+    int32_t code = KIT_OK;
+    while (!(code = kit_seat_split(&seat, &more))) {
+        kit_free(&more), made++;
+    }
+    CHECK(code == KIT_SEATS_FULL && made == 4096 && !more.full && !kit_seat_measure_held(&seat, 0, number, 1, &place));
+    kit_free(&seat), kit_free(&collected), kit_free(&gateway);
+}
+
+/* An export as bytes, and each way in which bytes are none. */
+static void encodings(kit_handle *plan, kit_handle *none) {
+    kit_handle writer = KIT_EMPTY, collected = KIT_EMPTY, made = KIT_EMPTY, read = KIT_EMPTY, gateway = KIT_EMPTY;
+    uint8_t bytes[1024], few[4] = {0};
+    size_t len = 77, whole = 77;
+    CHECK(!kit_writer_start(&writer, plan, TEXT("shop"), 0, 1, 100) && !kit_writer_measure(&writer, 0, none, 7, &place));
+    CHECK(!kit_writer_collect(&writer, 200, &collected, &place));
+    CHECK(kit_export_encode(&made, &read) == KIT_NOTHING && kit_export_encode(&writer, &made) == KIT_WRONG_KIND && !made.full);
+    CHECK(kit_export_encode(&collected, none) == KIT_FULL && kit_bytes_copy(&collected, bytes, sizeof bytes, &len) == KIT_WRONG_KIND && len == 77);
+    EACH_GROWTH(kit_export_encode(&collected, &made), !made.full && collected.full);
+    CHECK(!kit_bytes_copy(&made, few, sizeof few, &len) && !kit_bytes_copy(&made, bytes, sizeof bytes, &whole));
+    CHECK(len == whole && len > sizeof few && len < sizeof bytes && !memcmp(few, bytes, sizeof few));
+
+    CHECK(kit_export_decode(none, bytes, len, &place) == KIT_FULL && none->full);
+    EACH_GROWTH(kit_export_decode(&read, bytes, len, &place), !read.full);
+    CHECK(!kit_gateway_open(&gateway, 1) && !kit_gateway_take(&gateway, &read, &changed) && tells(&gateway, SEVEN));
+    CHECK(!kit_gateway_take(&gateway, &collected, &changed) && changed == 0); /* it is the very export */
+    kit_free(&read);
+    for (size_t short_of = 0; short_of < len; short_of++) {
+        CHECK(kit_export_decode(&read, bytes, short_of, &place) == KIT_TRUNCATED && place == short_of && !read.full);
+    }
+    bytes[len] = 0;
+    CHECK(kit_export_decode(&read, bytes, len + 1, &place) == KIT_NOT_CANONICAL && !read.full);
+    place = 77;
+    bytes[0] ^= 1;
+    CHECK(kit_export_decode(&read, bytes, len, &place) == KIT_BAD_MAGIC && place == 0);
+    bytes[0] ^= 1, bytes[4] ^= 0x40;
+    CHECK(kit_export_decode(&read, bytes, len, &place) == KIT_BAD_VERSION && place == 4);
+    bytes[4] ^= 0x40, bytes[len - 1] ^= 1;
+    CHECK(kit_export_decode(&read, bytes, len, &place) == KIT_BAD_CHECKSUM && place == len - 4 && !read.full);
+    kit_free(&writer), kit_free(&collected), kit_free(&made), kit_free(&gateway);
+}
+
 int main(void) {
     kit_handle plan = KIT_EMPTY, none = KIT_EMPTY, four = KIT_EMPTY;
     views();
@@ -342,6 +509,10 @@ int main(void) {
     writers(&plan, &none, &four);
     gateways(&plan, &none, &four);
     gauges();
+    histograms();
+    nodes(&plan, &none);
+    seats(&plan, &none);
+    encodings(&plan, &none);
     kit_free(&plan), kit_free(&none), kit_free(&four);
     return 0;
 }

@@ -1,7 +1,8 @@
-/* One writer under a lock of the host, and one writer for each thread: both come to all recordings. Exits with the number of the
- * first check that fails, or 0. */
+/* One writer under a lock of the host, one writer for each thread, and one writer with a seat for each: each comes to all recordings,
+ * and no collection that is made meanwhile has fewer than one before. Exits with the number of the first check that fails, or 0. */
 #include <kotskhin.h>
 #include <pthread.h>
+#include <sched.h>
 #include <stdio.h>
 #include <string.h>
 
@@ -9,10 +10,10 @@
 enum { THREADS = 4, TIMES = 25000 };
 
 static pthread_mutex_t lock = PTHREAD_MUTEX_INITIALIZER;
-static kit_handle plan, shared, own[THREADS];
+static kit_handle plan, shared, own[THREADS], seats[THREADS];
 
 static void *work(void *at) {
-    kit_handle *mine = at, pairs = KIT_EMPTY, none = KIT_EMPTY; /* attributes are this thread's own */
+    kit_handle *mine = at, *seat = &seats[mine - own], pairs = KIT_EMPTY, none = KIT_EMPTY; /* attributes are this thread's own */
     uint64_t place = 0;
     if (kit_attributes_make(&none, &pairs, &place)) return "attributes";
     for (int i = 0; i < TIMES; i++) {
@@ -20,6 +21,10 @@ static void *work(void *at) {
         int32_t code = kit_writer_measure(&shared, 0, &none, 1, &place);
         pthread_mutex_unlock(&lock);
         if (code || kit_writer_measure(mine, 0, &none, 1, &place)) return "measure";
+        while ((code = kit_seat_measure(seat, 0, &none, 1, &place)) == KIT_BUSY) {
+            sched_yield();
+        }
+        if (code) return "seat";
     }
     kit_free(&none);
     return NULL;
@@ -34,6 +39,33 @@ static int bring(kit_handle *writer, kit_handle *gateway) {
     return code;
 }
 
+/* Collects by a seat, and brings the points. */
+static int bring_by_seat(kit_handle *seat, uint64_t time, kit_handle *gateway) {
+    kit_handle collected = KIT_EMPTY;
+    uint64_t place = 0, changed = 0;
+    int32_t code;
+    while ((code = kit_seat_collect(seat, time, &collected, &place)) == KIT_BUSY) {
+        sched_yield();
+    }
+    code = code ? code : kit_gateway_take(gateway, &collected, &changed);
+    kit_free(&collected);
+    return code;
+}
+
+/* The total of the counter that a gateway has, or -1. */
+static int64_t total(kit_handle *gateway) {
+    kit_handle ask = KIT_EMPTY, rows = KIT_EMPTY;
+    int64_t told = -1;
+    size_t count = 0;
+    if (!kit_ask_sum(&ask, TEXT("app"), TEXT("requests"), TEXT("1"), true) && !kit_gateway_rows(gateway, &ask, &rows) &&
+        !kit_rows_len(&rows, &count)) {
+        told = 0;
+        if (count && kit_rows_sum(&rows, 0, &told)) told = -1;
+    }
+    kit_free(&ask), kit_free(&rows);
+    return told;
+}
+
 static bool tells(kit_handle *gateway, const char *end) {
     kit_handle ask = KIT_EMPTY, rows = KIT_EMPTY, table = KIT_EMPTY;
     uint8_t text[1024];
@@ -46,7 +78,7 @@ static bool tells(kit_handle *gateway, const char *end) {
 }
 
 int main(void) {
-    kit_handle one = KIT_EMPTY, four = KIT_EMPTY, instruments = KIT_EMPTY, views = KIT_EMPTY;
+    kit_handle one = KIT_EMPTY, four = KIT_EMPTY, seated = KIT_EMPTY, first = KIT_EMPTY, instruments = KIT_EMPTY, views = KIT_EMPTY;
     pthread_t threads[THREADS];
     uint64_t place = 0, second = 0;
     if (kit_instruments_add(&instruments, TEXT("app"), TEXT("requests"), TEXT("1"), KIT_COUNTER)) return 1;
@@ -57,8 +89,19 @@ int main(void) {
     for (int i = 0; i < THREADS; i++) {
         if (kit_writer_start(&own[i], &plan, TEXT("shop"), 0, i + 1, 100)) return 5;
     }
+    if (kit_writer_start(&first, &plan, TEXT("shop"), 0, 99, 100) || kit_writer_share(&first) || kit_gateway_open(&seated, 3)) return 12;
+    for (int i = 0; i < THREADS; i++) {
+        if (kit_seat_split(&first, &seats[i])) return 13;
+    }
     for (int i = 0; i < THREADS; i++) {
         if (pthread_create(&threads[i], NULL, work, &own[i])) return 6;
+    }
+    int64_t before = 0;
+    for (uint64_t time = 101; time < 120; time++) {
+        if (bring_by_seat(&first, time, &seated)) return 14;
+        int64_t now = total(&seated);
+        if (now < before) return 15;
+        before = now;
     }
     for (int i = 0; i < THREADS; i++) {
         void *why = NULL;
@@ -68,6 +111,10 @@ int main(void) {
     if (bring(&shared, &one)) return 9;
     if (!tells(&one, "  1          0  100000\n")) return 10;
     if (!tells(&four, "  4          0  100000\n")) return 11;
-    kit_free(&plan);
+    for (int i = 0; i < THREADS; i++) {
+        kit_free(&seats[i]);
+    }
+    if (bring_by_seat(&first, 200, &seated) || total(&seated) != 100000) return 16;
+    kit_free(&first), kit_free(&seated), kit_free(&plan);
     return 0;
 }

@@ -5,6 +5,10 @@ use Rattle.attr_kit.specs.declared.error.AttrFault.{AttrFault}
 use Rattle.attr_kit.specs.declared.error.AttrFault.TheVariants as sets
 use Rattle.plan_kit.specs.declared.fault.PlanFault.{PlanFault}
 use Rattle.plan_kit.specs.declared.fault.PlanFault.TheVariants as plans
+use Rattle.bytes_kit.specs.declared.fault.DecodeFault.{DecodeFault}
+use Rattle.bytes_kit.specs.declared.fault.DecodeFault.TheVariants as decodings
+use Rattle.gossip_kit.specs.declared.fault.HandFault.{HandFault}
+use Rattle.gossip_kit.specs.declared.fault.HandFault.TheVariants as hands
 use Rattle.writer_kit.specs.declared.fault.CollectFault.{CollectFault}
 use Rattle.writer_kit.specs.declared.fault.CollectFault.TheVariants as collections
 use Rattle.writer_kit.specs.declared.fault.MeasureFault.{MeasureFault}
@@ -49,6 +53,20 @@ plan_code (plans.SameStream i j) = pos 36
 plan_code plans.BadLimit = pos 37
 plan_code plans.NoMemory = no_memory
 
+abbrev pub handing_code : HandFault → ℤ
+handing_code hands.NotAddressed = pos 50
+handing_code hands.NoMemory = no_memory
+
+abbrev pub decoding_code : DecodeFault → ℤ
+decoding_code (decodings.Truncated at) = pos 60
+decoding_code (decodings.BadMagic at) = pos 61
+decoding_code (decodings.BadVersion at) = pos 62
+decoding_code (decodings.NotCanonical at) = pos 63
+decoding_code (decodings.NotText at) = pos 5
+decoding_code (decodings.BadChecksum at) = pos 64
+decoding_code (decodings.BadExport fault) = pos 65
+decoding_code decodings.NoMemory = no_memory
+
 -- the first ten are refusals of the boundary
 abbrev pub code_of : Fault → ℤ
 code_of faults.NoMemory = no_memory
@@ -61,8 +79,14 @@ code_of faults.NoSet = pos 7
 code_of faults.NoRow = pos 8
 code_of faults.NoPoint = pos 9
 code_of faults.TooWide = pos 40
+code_of faults.NoBucket = pos 41
+code_of faults.Busy = pos 16
+code_of faults.Exhausted = pos 17
+code_of faults.SeatsFull = pos 18
 code_of (faults.Measure f) = recording_code f
 code_of (faults.Collect f) = collection_code f
 code_of (faults.Restart f) = restart_code f
 code_of (faults.Attributes f) = attributes_code f
 code_of (faults.Plan f) = plan_code f
+code_of (faults.Hand f) = handing_code f
+code_of (faults.Decode f) = decoding_code f

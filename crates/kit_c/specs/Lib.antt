@@ -1,10 +1,14 @@
 pub mod Asks
+pub mod Bytes
 pub mod Codes
+pub mod Desks
 pub mod Faults
 pub mod Gateways
 pub mod Handles
+pub mod Histograms
 pub mod Keys
 pub mod Kinds
+pub mod Nodes
 pub mod Numbers
 pub mod Owned
 pub mod Places

@@ -3,6 +3,8 @@ use Rattle.std.specs.Prelude.{ℕ, Option, Some, None}
 use Rattle.std.specs.Option.{unwrap_or}
 use Rattle.agg_kit.specs.declared.fault.MeasureFault.TheVariants as tallies
 use Rattle.attr_kit.specs.declared.error.AttrFault.TheVariants as sets
+use Rattle.bytes_kit.specs.declared.fault.DecodeFault.{DecodeFault}
+use Rattle.bytes_kit.specs.declared.fault.DecodeFault.TheVariants as decodings
 use Rattle.plan_kit.specs.declared.fault.PlanFault.{PlanFault}
 use Rattle.plan_kit.specs.declared.fault.PlanFault.TheVariants as plans
 use Rattle.writer_kit.specs.declared.fault.CollectFault.TheVariants as collections
@@ -21,6 +23,15 @@ plan_place (plans.BadAggregation i v) = Some i
 plan_place (plans.SameStream i j) = Some i
 plan_place other = None
 
+abbrev pub decoding_place : DecodeFault → Option ℕ
+decoding_place (decodings.Truncated at) = Some at
+decoding_place (decodings.BadMagic at) = Some at
+decoding_place (decodings.BadVersion at) = Some at
+decoding_place (decodings.NotCanonical at) = Some at
+decoding_place (decodings.NotText at) = Some at
+decoding_place (decodings.BadChecksum at) = Some at
+decoding_place other = None
+
 -- the place of a refusal, or the first where it has two
 abbrev pub place_of : Fault → Option ℕ
 place_of (faults.Measure (recordings.Refused (tallies.Overflow stream))) = Some stream
@@ -28,6 +39,7 @@ place_of (faults.Collect (collections.TimeNotAfter last)) = Some last
 place_of (faults.Restart (restarts.StartNotAfter start)) = Some start
 place_of (faults.Attributes (sets.EmptyKey pair)) = Some pair
 place_of (faults.Plan f) = plan_place f
+place_of (faults.Decode f) = decoding_place f
 place_of other = None
 
 -- the second

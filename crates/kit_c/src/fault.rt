@@ -1,11 +1,13 @@
 //! Why calls are refused, and the codes that say so.
 ghost use Rattle.std.specs.Prelude.{◌≡◌, ◌≢◌, pos, OnOk, OnErr, IfErr, IfOk};
 ghost use Rattle.std.specs.Option.{unwrap_or};
-ghost use Rattle.kit_c.specs.Codes.{code_of, recording_code, collection_code, restart_code, attributes_code, plan_code, no_memory};
-ghost use Rattle.kit_c.specs.Places.{place_of, plan_place, second_of};
+ghost use Rattle.kit_c.specs.Codes.{code_of, recording_code, collection_code, restart_code, attributes_code, plan_code, handing_code, decoding_code, no_memory};
+ghost use Rattle.kit_c.specs.Places.{decoding_place, place_of, plan_place, second_of};
 
 use agg_kit::MeasureFault as TallyFault;
 use attr_kit::{AttrFault, NoMemory};
+use bytes_kit::DecodeFault;
+use gossip_kit::HandFault;
 use plan_kit::PlanFault;
 use std::alloc::{AllocError, AllocFailed};
 use writer_kit::{CollectFault, MeasureFault, RestartFault};
@@ -45,11 +47,21 @@ pub enum Fault {
     NoPoint,
     /// A total is wider than the number that it is to be told in.
     TooWide,
+    /// There is no bucket of this number.
+    NoBucket,
+    /// The writer that threads share is in another call.
+    Busy,
+    /// As many changes were accepted as a writer that threads share may.
+    Exhausted,
+    /// A writer that threads share has given all the places that it may.
+    SeatsFull,
     Measure(MeasureFault),
     Collect(CollectFault),
     Restart(RestartFault),
     Attributes(AttrFault),
     Plan(PlanFault),
+    Hand(HandFault),
+    Decode(DecodeFault),
 }
 
 impl From<NoMemory> for Fault {
@@ -143,6 +155,32 @@ fn of_plan(fault: &PlanFault) -> i32
     }
 }
 
+fn of_handing(fault: &HandFault) -> i32
+    ensures code { result ≡ handing_code fault.now }
+    ensures refused { result ≢ pos 0 }
+{
+    match fault {
+        HandFault::NotAddressed => 50,
+        HandFault::NoMemory => 1,
+    }
+}
+
+fn of_decoding(fault: &DecodeFault) -> i32
+    ensures code { result ≡ decoding_code fault.now }
+    ensures refused { result ≢ pos 0 }
+{
+    match fault {
+        DecodeFault::Truncated(_) => 60,
+        DecodeFault::BadMagic(_) => 61,
+        DecodeFault::BadVersion(_) => 62,
+        DecodeFault::NotCanonical(_) => 63,
+        DecodeFault::NotText(_) => 5,
+        DecodeFault::BadChecksum(_) => 64,
+        DecodeFault::BadExport(_) => 65,
+        DecodeFault::NoMemory => 1,
+    }
+}
+
 impl Fault {
     /// The code of a refusal.
     pub(crate) fn code(&self) -> i32
@@ -160,11 +198,17 @@ impl Fault {
             Fault::NoRow => 8,
             Fault::NoPoint => 9,
             Fault::TooWide => 40,
+            Fault::NoBucket => 41,
+            Fault::Busy => 16,
+            Fault::Exhausted => 17,
+            Fault::SeatsFull => 18,
             Fault::Measure(fault) => of_recording(fault),
             Fault::Collect(fault) => of_collection(fault),
             Fault::Restart(fault) => of_restart(fault),
             Fault::Attributes(fault) => of_attributes(fault),
             Fault::Plan(fault) => of_plan(fault),
+            Fault::Hand(fault) => of_handing(fault),
+            Fault::Decode(fault) => of_decoding(fault),
         }
     }
 
@@ -180,6 +224,7 @@ impl Fault {
             Fault::Restart(RestartFault::StartNotAfter(start)) => Some(*start),
             Fault::Attributes(AttrFault::EmptyKey(pair)) => Some(*pair as u64),
             Fault::Plan(fault) => plan_place(fault),
+            Fault::Decode(fault) => decoding_place(fault),
             _ => None,
         }
     }
@@ -209,6 +254,21 @@ fn plan_place(fault: &PlanFault) -> Option<u64>
         PlanFault::SameStream(first, _) => Some(*first as u64),
         PlanFault::BadLimit => None,
         PlanFault::NoMemory => None,
+    }
+}
+
+fn decoding_place(fault: &DecodeFault) -> Option<u64>
+    ensures { result ≡ decoding_place fault.now }
+{
+    match fault {
+        DecodeFault::Truncated(at) => Some(*at as u64),
+        DecodeFault::BadMagic(at) => Some(*at as u64),
+        DecodeFault::BadVersion(at) => Some(*at as u64),
+        DecodeFault::NotCanonical(at) => Some(*at as u64),
+        DecodeFault::NotText(at) => Some(*at as u64),
+        DecodeFault::BadChecksum(at) => Some(*at as u64),
+        DecodeFault::BadExport(_) => None,
+        DecodeFault::NoMemory => None,
     }
 }
 

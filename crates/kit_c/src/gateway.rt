@@ -63,6 +63,7 @@ pub extern "C" fn kit_gateway_take(
     ensures err { result ≢ pos 0 → result ≢ no_memory
         → option_map code_of (of_two gateway.old.inner.value export.old.inner.value taking_fault) ≡ Some result }
     ensures unchanged { result ≢ pos 0 → gateway.new.inner.value ≡ gateway.old.inner.value }
+    ensures told { result ≢ pos 0 → changed.new ≡ changed.old }
     ensures kept { export.new.inner.value ≡ export.old.inner.value }
 {
     let Some(mut held) = gateway.take(alloc) else {
@@ -118,6 +119,7 @@ pub extern "C" fn kit_gateway_merge(
     ensures err { result ≢ pos 0 → result ≢ no_memory
         → option_map code_of (of_two gateway.old.inner.value other.old.inner.value merging_fault) ≡ Some result }
     ensures unchanged { result ≢ pos 0 → gateway.new.inner.value ≡ gateway.old.inner.value }
+    ensures told { result ≢ pos 0 → changed.new ≡ changed.old }
     ensures kept { other.new.inner.value ≡ other.old.inner.value }
 {
     let Some(mut held) = gateway.take(alloc) else {

@@ -1,6 +1,8 @@
 //! What a handle can have.
+use crate::desk::Desk;
 use attr_kit::{AttrSet, AttrValue, Seq, Txt};
 use gateway_kit::Gateway;
+use gossip_kit::{Message, Node};
 use plan_kit::{Instrument, Plan, View};
 use point_kit::Export;
 use rollup_kit::{Ask, Row};
@@ -23,9 +25,16 @@ pub enum Held {
     Writer(Writer, Seq<AttrSet>),
     Export(Export),
     Gateway(Gateway),
+    /// A gateway that sends messages and takes them in.
+    Node(Node),
+    Message(Message),
+    /// A place at a writer that threads share.
+    Desk(Desk),
     Ask(Ask),
     Rows(Seq<Row>),
     Text(Txt),
+    /// An export as bytes.
+    Bytes(Seq<u8>),
 }
 
 fn sends<T: Send>() {}

@@ -3,16 +3,21 @@
 
 mod ask;
 mod attributes;
+mod bytes;
+mod desk;
 mod fault;
 mod gateway;
 mod handle;
 mod held;
+mod histograms;
 mod inner;
 mod instruments;
 mod keys;
 mod list;
 mod loose;
+mod nodes;
 mod rows;
+mod seats;
 #[cfg(test)]
 mod tests;
 mod text;

@@ -48,7 +48,7 @@ pub extern "C" fn kit_rows_len(alloc: Global, rows: &mut KitHandle, count: &mut 
     }
 }
 
-fn row(held: &Held, number: usize) -> Result<&Row, Fault>
+pub(crate) fn row(held: &Held, number: usize) -> Result<&Row, Fault>
     ensures ok { OnOk result (row_fault number held.now ≡ None) }
     ensures value { IfOk result (λ r. row_at number held.now ≡ Some r.now) }
     ensures err { IfErr result (λ f. row_fault number held.now ≡ Some f) }
@@ -179,6 +179,8 @@ pub extern "C" fn kit_rows_gauge(
     ensures value { result ≡ pos 0 → (h : _) → rows.old.inner.value ≡ Some h
         → gauge_at number h ≡ Some (Some (time.new, value.new)) }
     ensures err { result ≢ pos 0 → option_map code_of (of_one rows.old.inner.value (gauge_fault number)) ≡ Some result }
+    ensures time { result ≢ pos 0 → time.new ≡ time.old }
+    ensures unchanged { result ≢ pos 0 → value.new ≡ value.old }
     ensures kept { rows.new.inner.value ≡ rows.old.inner.value }
 {
     let Some(held) = rows.take(alloc) else {

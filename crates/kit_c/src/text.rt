@@ -59,6 +59,7 @@ pub extern "C" fn kit_text_copy(
     ensures len { result ≡ pos 0 → (t : _) → text.old.inner.value ≡ Some t → len.new ≡ length (bytes_of t) }
     ensures err { result ≢ pos 0 → option_map code_of (of_one text.old.inner.value copying_fault) ≡ Some result }
     ensures unchanged { result ≢ pos 0 → into.new ≡ into.old }
+    ensures told { result ≢ pos 0 → len.new ≡ len.old }
     ensures kept { text.new.inner.value ≡ text.old.inner.value }
 {
     let Some(held) = text.take(alloc) else {

@@ -170,6 +170,7 @@ pub extern "C" fn kit_writer_hold(
     ensures value { result ≡ pos 0 → writer.new.inner.value
         ≡ in_first after_holding writer.old.inner.value attributes.old.inner.value }
     ensures number { result ≡ pos 0 → (h : _) → writer.old.inner.value ≡ Some h → number.new ≡ sets_len h }
+    ensures told { result ≢ pos 0 → number.new ≡ number.old }
     ensures err { result ≢ pos 0 → result ≢ no_memory
         → option_map code_of (of_two writer.old.inner.value attributes.old.inner.value holding_fault) ≡ Some result }
     ensures unchanged { result ≢ pos 0 → writer.new.inner.value ≡ writer.old.inner.value }

@@ -40,6 +40,9 @@ pub const NEGATIVE: i32 = 12;
 pub const OVERFLOW: i32 = 13;
 pub const TIME_NOT_AFTER: i32 = 14;
 pub const START_NOT_AFTER: i32 = 15;
+pub const BUSY: i32 = 16;
+pub const EXHAUSTED: i32 = 17;
+pub const SEATS_FULL: i32 = 18;
 pub const EMPTY_KEY: i32 = 20;
 pub const BAD_NAME: i32 = 30;
 pub const BAD_UNIT: i32 = 31;
@@ -50,6 +53,14 @@ pub const BAD_AGGREGATION: i32 = 35;
 pub const SAME_STREAM: i32 = 36;
 pub const BAD_LIMIT: i32 = 37;
 pub const TOO_WIDE: i32 = 40;
+pub const NO_BUCKET: i32 = 41;
+pub const NOT_ADDRESSED: i32 = 50;
+pub const TRUNCATED: i32 = 60;
+pub const BAD_MAGIC: i32 = 61;
+pub const BAD_VERSION: i32 = 62;
+pub const NOT_CANONICAL: i32 = 63;
+pub const BAD_CHECKSUM: i32 = 64;
+pub const BAD_EXPORT: i32 = 65;
 
 unsafe extern "C" {
     pub fn kit_ask_sum(
@@ -191,4 +202,70 @@ unsafe extern "C" {
         place: *mut u64,
     ) -> i32;
     pub fn kit_writer_restart(writer: *mut Handle, start: u64, place: *mut u64) -> i32;
+    pub fn kit_node_open(node: *mut Handle, gateway: *mut Handle) -> i32;
+    pub fn kit_node_gateway(node: *mut Handle, gateway: *mut Handle) -> i32;
+    pub fn kit_node_take(node: *mut Handle, export: *mut Handle, changed: *mut u64) -> i32;
+    pub fn kit_node_merge(node: *mut Handle, gateway: *mut Handle, changed: *mut u64) -> i32;
+    pub fn kit_node_send(node: *mut Handle, to: u32, message: *mut Handle) -> i32;
+    pub fn kit_node_hand(
+        node: *mut Handle,
+        message: *mut Handle,
+        answer: *mut Handle,
+        answered: *mut bool,
+    ) -> i32;
+    pub fn kit_message_read(
+        message: *mut Handle,
+        from: *mut u32,
+        to: *mut u32,
+        points: *mut usize,
+    ) -> i32;
+    pub fn kit_rows_histogram(
+        rows: *mut Handle,
+        number: usize,
+        count: *mut u64,
+        sum: *mut i64,
+        buckets: *mut usize,
+    ) -> i32;
+    pub fn kit_rows_range(
+        rows: *mut Handle,
+        number: usize,
+        least: *mut i64,
+        greatest: *mut i64,
+    ) -> i32;
+    pub fn kit_rows_bucket(
+        rows: *mut Handle,
+        number: usize,
+        bucket_number: usize,
+        count: *mut u64,
+    ) -> i32;
+    pub fn kit_writer_share(writer: *mut Handle) -> i32;
+    pub fn kit_seat_split(seat: *mut Handle, made: *mut Handle) -> i32;
+    pub fn kit_seat_measure(
+        seat: *mut Handle,
+        instrument: usize,
+        attributes: *mut Handle,
+        value: i64,
+        place: *mut u64,
+    ) -> i32;
+    pub fn kit_seat_measure_held(
+        seat: *mut Handle,
+        instrument: usize,
+        number: usize,
+        value: i64,
+        place: *mut u64,
+    ) -> i32;
+    pub fn kit_seat_collect(
+        seat: *mut Handle,
+        time: u64,
+        export: *mut Handle,
+        place: *mut u64,
+    ) -> i32;
+    pub fn kit_export_encode(export: *mut Handle, bytes: *mut Handle) -> i32;
+    pub fn kit_export_decode(
+        export: *mut Handle,
+        bytes: *const u8,
+        bytes_len: usize,
+        place: *mut u64,
+    ) -> i32;
+    pub fn kit_bytes_copy(bytes: *mut Handle, into: *mut u8, room: usize, len: *mut usize) -> i32;
 }

@@ -16,6 +16,10 @@ pub enum Error {
     NoPoint,
     /// A total is wider than the number that it is to be told in.
     TooWide,
+    /// There is no bucket of this number.
+    NoBucket,
+    /// The message goes to another id.
+    NotAddressed,
     /// The writer was shut down, and not restarted since.
     Closed,
     /// The plan has no instrument of this number.
@@ -28,6 +32,12 @@ pub enum Error {
     TimeNotAfter { last: u64 },
     /// The new start is not after this one, the start so far.
     StartNotAfter { start: u64 },
+    /// Another thread's call has the writer that is shared.
+    Busy,
+    /// The writer that is shared accepted 2^62 changes.
+    Exhausted,
+    /// The writer that is shared gave 4,096 seats.
+    SeatsFull,
     /// The key of this pair is empty.
     EmptyKey { pair: u64 },
     /// The name of this instrument breaks the rule of names.
@@ -46,7 +56,21 @@ pub enum Error {
     SameStream { first: u64, second: u64 },
     /// The limit is 0.
     BadLimit,
-    /// A code that these types make impossible: `NOTHING`, `WRONG_KIND`, `FULL`, `NOT_TEXT`, `BAD_NUMBER`, or none of the kit's.
+    /// The bytes end at this place, within the export.
+    Truncated { at: u64 },
+    /// The byte at this place is not that of an export.
+    BadMagic { at: u64 },
+    /// The version at this place is not known.
+    BadVersion { at: u64 },
+    /// The value at this place is not in its one form.
+    NotCanonical { at: u64 },
+    /// The text at this place is not UTF-8.
+    NotText { at: u64 },
+    /// The checksum at this place is not that of the bytes before it.
+    BadChecksum { at: u64 },
+    /// The values of the bytes make no export.
+    BadExport,
+    /// A code that these types make impossible: `NOTHING`, `WRONG_KIND`, `FULL`, `BAD_NUMBER`, or none of the kit's.
     Unexpected(i32),
 }
 
@@ -59,12 +83,17 @@ fn refusal(code: i32, place: u64, second: u64) -> Error {
         sys::NO_ROW => Error::NoRow,
         sys::NO_POINT => Error::NoPoint,
         sys::TOO_WIDE => Error::TooWide,
+        sys::NO_BUCKET => Error::NoBucket,
+        sys::NOT_ADDRESSED => Error::NotAddressed,
         sys::CLOSED => Error::Closed,
         sys::NO_INSTRUMENT => Error::NoInstrument,
         sys::NEGATIVE => Error::Negative,
         sys::OVERFLOW => Error::Overflow { stream: place },
         sys::TIME_NOT_AFTER => Error::TimeNotAfter { last: place },
         sys::START_NOT_AFTER => Error::StartNotAfter { start: place },
+        sys::BUSY => Error::Busy,
+        sys::EXHAUSTED => Error::Exhausted,
+        sys::SEATS_FULL => Error::SeatsFull,
         sys::EMPTY_KEY => Error::EmptyKey { pair: place },
         sys::BAD_NAME => Error::BadName { instrument: place },
         sys::BAD_UNIT => Error::BadUnit { instrument: place },
@@ -80,6 +109,13 @@ fn refusal(code: i32, place: u64, second: u64) -> Error {
             second,
         },
         sys::BAD_LIMIT => Error::BadLimit,
+        sys::TRUNCATED => Error::Truncated { at: place },
+        sys::BAD_MAGIC => Error::BadMagic { at: place },
+        sys::BAD_VERSION => Error::BadVersion { at: place },
+        sys::NOT_CANONICAL => Error::NotCanonical { at: place },
+        sys::NOT_TEXT => Error::NotText { at: place },
+        sys::BAD_CHECKSUM => Error::BadChecksum { at: place },
+        sys::BAD_EXPORT => Error::BadExport,
         other => Error::Unexpected(other),
     }
 }
@@ -114,6 +150,8 @@ impl fmt::Display for Error {
             Error::NoRow => write!(f, "there is no row of this number"),
             Error::NoPoint => write!(f, "there is no point of what is asked for"),
             Error::TooWide => write!(f, "the total is wider than the number that tells it"),
+            Error::NoBucket => write!(f, "there is no bucket of this number"),
+            Error::NotAddressed => write!(f, "the message goes to another id"),
             Error::Closed => write!(f, "the writer is closed"),
             Error::NoInstrument => write!(f, "there is no such instrument"),
             Error::Negative => write!(f, "the value is below 0"),
@@ -127,6 +165,9 @@ impl fmt::Display for Error {
             Error::StartNotAfter { start } => {
                 write!(f, "the new start is not after {start}, the start so far")
             }
+            Error::Busy => write!(f, "another call has the writer"),
+            Error::Exhausted => write!(f, "the writer accepted as many changes as it may"),
+            Error::SeatsFull => write!(f, "the writer gave as many seats as it may"),
             Error::EmptyKey { pair } => write!(f, "the key of pair {pair} is empty"),
             Error::BadName { instrument } => write!(
                 f,
@@ -152,6 +193,20 @@ impl fmt::Display for Error {
                 write!(f, "instruments {first} and {second} feed one stream")
             }
             Error::BadLimit => write!(f, "the limit is 0"),
+            Error::Truncated { at } => write!(f, "the bytes end at {at}, within the export"),
+            Error::BadMagic { at } => write!(f, "byte {at} is not that of an export"),
+            Error::BadVersion { at } => write!(f, "the version at byte {at} is not known"),
+            Error::NotCanonical { at } => {
+                write!(f, "the value at byte {at} is not in its one form")
+            }
+            Error::NotText { at } => write!(f, "the text at byte {at} is not UTF-8"),
+            Error::BadChecksum { at } => {
+                write!(
+                    f,
+                    "the checksum at byte {at} is not that of the bytes before it"
+                )
+            }
+            Error::BadExport => write!(f, "the values make no export"),
             Error::Unexpected(code) => write!(f, "unexpected code {code}"),
         }
     }

@@ -11,7 +11,7 @@ use kotskhin_sys::{
 use std::ptr;
 
 /// The newest points of all writers that were brought to it, in whatever order and however often.
-pub struct Gateway(Handle);
+pub struct Gateway(pub(crate) Handle);
 
 impl Gateway {
     /// A gateway without points, under an id. Refused: `NoMemory`.

@@ -2,7 +2,7 @@
 //!
 //! [`metrics`] has OpenTelemetry's names: `Meter`, `Counter::add`, `Histogram::record`. Below it are the kit's own: a [`Writer`]
 //! records under a [`Plan`] and gives an [`Export`], a [`Gateway`] takes exports and merges with others, and answers an [`Ask`]
-//! with a table. Times are nanoseconds since the Unix epoch.
+//! with a table. A [`Node`] is a gateway that tells others what changed, by [`Message`]s. Times are nanoseconds since the Unix epoch.
 //!
 //! A call that is refused says why, and changes nothing ([`Error`]). Every type may go to another thread, and none may be read by
 //! two at once: the library's calls need their handles for themselves, those that only read, too.
@@ -15,8 +15,10 @@ mod export;
 mod gateway;
 mod handle;
 pub mod metrics;
+mod node;
 mod plan;
 mod rows;
+mod seat;
 mod view;
 mod writer;
 
@@ -25,7 +27,9 @@ pub use attributes::{AttributeValue, Attributes};
 pub use error::Error;
 pub use export::Export;
 pub use gateway::Gateway;
+pub use node::{Envelope, Message, Node};
 pub use plan::{DEFAULT_LIMIT, Instruments, Kind, Plan};
 pub use rows::Rows;
+pub use seat::Seat;
 pub use view::{Aggregation, View, Views};
 pub use writer::{SetNumber, Writer};

@@ -2,7 +2,8 @@
 use crate::error::{Error, checked};
 use crate::handle::Handle;
 use kotskhin_sys::{
-    kit_rows_counts, kit_rows_gauge, kit_rows_len, kit_rows_sum, kit_rows_table, kit_text_copy,
+    kit_rows_bucket, kit_rows_counts, kit_rows_gauge, kit_rows_histogram, kit_rows_len,
+    kit_rows_range, kit_rows_sum, kit_rows_table, kit_text_copy,
 };
 
 /// The rows that answer an ask, numbered from 0 in the order of their attribute sets.
@@ -39,6 +40,35 @@ impl Rows {
         // SAFETY: the rows stay on this thread.
         checked(unsafe { kit_rows_gauge(self.0.read(), row, &mut time, &mut value) })?;
         Ok((time, value))
+    }
+
+    /// Of a row of a histogram: how many values it is of, their sum, and how many buckets it has. Refused: `NoRow`; `TooWide` where
+    /// the count or the sum leaves 64 bits; a row of another shape.
+    pub fn histogram(&self, row: usize) -> Result<(u64, i64, usize), Error> {
+        let (mut count, mut sum, mut buckets) = (0, 0, 0);
+        // SAFETY: the rows stay on this thread.
+        checked(unsafe {
+            kit_rows_histogram(self.0.read(), row, &mut count, &mut sum, &mut buckets)
+        })?;
+        Ok((count, sum, buckets))
+    }
+
+    /// The least and the greatest value of a histogram's row. Refused: `NoRow`; `NoPoint` where it has no value; a row of another
+    /// shape.
+    pub fn range(&self, row: usize) -> Result<(i64, i64), Error> {
+        let (mut least, mut greatest) = (0, 0);
+        // SAFETY: the rows stay on this thread.
+        checked(unsafe { kit_rows_range(self.0.read(), row, &mut least, &mut greatest) })?;
+        Ok((least, greatest))
+    }
+
+    /// How many values a bucket of a histogram's row has: those up to the bound of its number and above the one before, and in the
+    /// last one those above all bounds. Refused: `NoRow`; `NoBucket`; `TooWide`; a row of another shape.
+    pub fn bucket(&self, row: usize, bucket: usize) -> Result<u64, Error> {
+        let mut count = 0;
+        // SAFETY: the rows stay on this thread.
+        checked(unsafe { kit_rows_bucket(self.0.read(), row, bucket, &mut count) })?;
+        Ok(count)
     }
 
     /// The table of the rows: a line for each below a header. Refused: `NoMemory`.

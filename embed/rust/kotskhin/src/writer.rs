@@ -4,17 +4,18 @@ use crate::error::{Error, checked, checked_at};
 use crate::export::Export;
 use crate::handle::Handle;
 use crate::plan::Plan;
+use crate::seat::Seat;
 use kotskhin_sys::{
     kit_writer_collect, kit_writer_hold, kit_writer_measure, kit_writer_measure_held,
-    kit_writer_restart, kit_writer_shutdown, kit_writer_start,
+    kit_writer_restart, kit_writer_share, kit_writer_shutdown, kit_writer_start,
 };
 
 /// The number of a set that a writer holds. At another writer it is that of another set, or of none.
 #[derive(Clone, Copy, Debug, PartialEq, Eq)]
-pub struct SetNumber(usize);
+pub struct SetNumber(pub(crate) usize);
 
-/// The points of a plan's instruments since a start. One thread at a time has it: share it by a `Mutex`, or give each thread its
-/// own, under another instance.
+/// The points of a plan's instruments since a start. One thread at a time has it: share it by seats or by a `Mutex`, or give each
+/// thread its own, under another instance.
 pub struct Writer(Handle);
 
 impl Writer {
@@ -80,6 +81,16 @@ impl Writer {
             kit_writer_measure_held(self.0.change(), instrument, set.0, value, &mut place)
         };
         checked_at(code, place)
+    }
+
+    /// Shares the writer: the first seat at it. The seats hold the sets that it held, by the same numbers. Refused, with the writer
+    /// handed back: `NoMemory`.
+    pub fn share(mut self) -> Result<Seat, (Writer, Error)> {
+        // SAFETY: the writer is ours alone.
+        match checked(unsafe { kit_writer_share(self.0.change()) }) {
+            Ok(()) => Ok(Seat(self.0)),
+            Err(error) => Err((self, error)),
+        }
     }
 
     /// The points since the start. Refused: `Closed`, `TimeNotAfter`, `NoMemory`.

@@ -2,8 +2,8 @@
 #![forbid(unsafe_code)]
 use kotskhin::metrics::{Counter, Meter};
 use kotskhin::{
-    Aggregation, Ask, AttributeValue, Attributes, DEFAULT_LIMIT, Error, Gateway, Instruments, Kind,
-    Plan, View, Views, Writer,
+    Aggregation, Ask, AttributeValue, Attributes, DEFAULT_LIMIT, Envelope, Error, Export, Gateway,
+    Instruments, Kind, Node, Plan, Seat, View, Views, Writer,
 };
 use std::thread;
 
@@ -224,5 +224,134 @@ fn threads_have_writers() -> Result<(), Error> {
     }
     let table = gateway.table(&requests()?)?;
     assert!(table.ends_with("  4          0  100000\n"), "{table}");
+    Ok(())
+}
+
+#[test]
+fn nodes_tell_each_other_what_changed() -> Result<(), Error> {
+    let (mut writer, none) = (writer(1)?, Attributes::none()?);
+    writer.measure(0, &none, 7)?;
+    let mut one = Node::open(&Gateway::open(1)?)?;
+    let mut other = Node::open(&Gateway::open(2)?)?;
+    assert_eq!(one.take(&writer.collect(200)?), Ok(1));
+    let sent = one.send(2)?;
+    let told = |from, to, points| Ok(Envelope { from, to, points });
+    assert_eq!(sent.envelope(), told(1, 2, 1));
+    assert_eq!(one.hand(&sent).err(), Some(Error::NotAddressed));
+    let answer = other.hand(&sent)?.expect("it is answered");
+    assert_eq!(answer.envelope(), told(2, 1, 0));
+    assert!(one.hand(&answer)?.is_none());
+    assert_eq!(one.send(2)?.envelope(), told(1, 2, 0));
+    assert_eq!(other.gateway()?.table(&requests()?)?, TOTAL_OF_7);
+    assert_eq!(one.merge(&other.gateway()?), Ok(0));
+    Ok(())
+}
+
+#[test]
+fn histograms_have_buckets() -> Result<(), Error> {
+    let mut instruments = Instruments::new();
+    instruments.add("app", "size", "By", Kind::Histogram)?;
+    let mut views = Views::new();
+    let mut view = View::of_name("size")?;
+    view.aggregate(Aggregation::Buckets(&[10, 20]))?;
+    views.add(&view)?;
+    let plan = Plan::with_views(&instruments, &views, DEFAULT_LIMIT)?;
+    let (mut writer, none) = (Writer::start(&plan, "shop", 1, 100)?, Attributes::none()?);
+    for value in [3, 10, 11, 50] {
+        writer.measure(0, &none, value)?;
+    }
+    let mut gateway = Gateway::open(1)?;
+    gateway.take(&writer.collect(200)?)?;
+    let rows = gateway.rows(&Ask::histogram("app", "size", "By", &[10, 20])?)?;
+    assert_eq!(rows.histogram(0), Ok((4, 74, 3)));
+    assert_eq!(rows.range(0), Ok((3, 50)));
+    let buckets: Vec<_> = (0..4).map(|it| rows.bucket(0, it)).collect();
+    assert_eq!(buckets, [Ok(2), Ok(1), Ok(1), Err(Error::NoBucket)]);
+    assert_eq!(rows.histogram(1), Err(Error::NoRow));
+    assert_eq!(rows.sum(0), Err(Error::Unexpected(3)));
+    Ok(())
+}
+
+// Makes a call again while another thread's has the writer.
+fn until_free<T>(
+    seat: &mut Seat,
+    call: impl Fn(&mut Seat) -> Result<T, Error>,
+) -> Result<T, Error> {
+    loop {
+        match call(seat) {
+            Err(Error::Busy) => thread::yield_now(),
+            told => return told,
+        }
+    }
+}
+
+#[test]
+fn threads_have_seats_at_one_writer() -> Result<(), Error> {
+    let mut held = writer(1)?;
+    let set = held.hold(&Attributes::none()?)?;
+    let mut first = held.share().map_err(|(_, error)| error)?;
+    let seats = (0..4)
+        .map(|_| first.split())
+        .collect::<Result<Vec<_>, _>>()?;
+    let hands: Vec<_> = seats
+        .into_iter()
+        .map(|mut seat| {
+            thread::spawn(move || -> Result<(), Error> {
+                for _ in 0..1000 {
+                    until_free(&mut seat, |it| it.measure_held(0, set, 1))?;
+                }
+                until_free(&mut seat, |it| it.measure(0, &Attributes::none()?, 1))
+            })
+        })
+        .collect();
+    for hand in hands {
+        hand.join().expect("it ends")?;
+    }
+    let mut gateway = Gateway::open(1)?;
+    gateway.take(&first.collect(200)?)?;
+    assert_eq!(gateway.rows(&requests()?)?.sum(0), Ok(4004));
+    assert_eq!(
+        first.measure(1, &Attributes::none()?, 1),
+        Err(Error::NoInstrument)
+    );
+    assert_eq!(
+        first.collect(200).err(),
+        Some(Error::TimeNotAfter { last: 200 })
+    );
+    Ok(())
+}
+
+#[test]
+fn exports_go_to_other_processes() -> Result<(), Error> {
+    let (mut writer, none) = (writer(1)?, Attributes::none()?);
+    writer.measure(0, &none, 7)?;
+    let export = writer.collect(200)?;
+    let mut bytes = export.encode()?;
+    let (mut one, mut other) = (Gateway::open(1)?, Gateway::open(2)?);
+    one.take(&export)?;
+    other.take(&Export::decode(&bytes)?)?;
+    assert_eq!(one.same(&other), Ok(true));
+    assert_eq!(Export::decode(&bytes)?.encode()?, bytes);
+    assert_eq!(Export::decode(&[]).err(), Some(Error::Truncated { at: 0 }));
+    let short = &bytes[..bytes.len() - 1];
+    assert_eq!(
+        Export::decode(short).err(),
+        Some(Error::Truncated {
+            at: short.len() as u64
+        })
+    );
+    let last = bytes.len() - 1;
+    bytes[last] ^= 1;
+    assert_eq!(
+        Export::decode(&bytes).err(),
+        Some(Error::BadChecksum {
+            at: last as u64 - 3
+        })
+    );
+    bytes[0] ^= 1;
+    assert_eq!(
+        Export::decode(&bytes).err(),
+        Some(Error::BadMagic { at: 0 })
+    );
     Ok(())
 }

@@ -1,9 +1,10 @@
 #!/usr/bin/env python3
 """The kit in other languages: every caller, in each language that the machine has.
 
-    callers.py [FOLDER]      FOLDER is what embed/build made; it is built in a folder of this run where none is given
+    run.py [FOLDER]      FOLDER is what embed/build made; it is made in a folder of this run where none is given
 
-The archive is built, and the declarations are held to the exports (embed/build). Then the first script, in C and C++ under each
+The archive is crates/kit_c/out/libkit_c.a, which `rt lib` builds in crates/kit_c, and the gate before it calls this: nothing is
+proved here. The declarations are held to the exports (embed/build). Then the first script, in C and C++ under each
 compiler that is there, in Rust, Go and Python: each must print examples/first.out. In C every refusal is raised once, each growth of
 each call is refused in turn, and threads record, each plainly and under AddressSanitizer with its leak check. In Rust the tests
 run, and callers that misuse the types must not compile. A language that the machine has not is told and passed over.
@@ -21,6 +22,7 @@ import time
 TOP = pathlib.Path(__file__).resolve().parents[2]
 EMBED = TOP / "embed"
 HERE = TOP / "tests" / "embed"
+ARCHIVE = TOP / "crates" / "kit_c" / "out" / "libkit_c.a"
 WANTED = (TOP / "examples" / "first.out").read_bytes()
 C = ["-std=c11", "-Wall", "-Wextra", "-Werror"]
 CPP = ["-std=c++17", "-Wall", "-Wextra", "-Werror"]
@@ -44,7 +46,7 @@ class Run:
     def run(self, what, *command, prints=None, **given):
         """Runs a command: it must succeed, and print what is wanted where something is."""
         try:
-            done = subprocess.run([str(it) for it in command], stdin=subprocess.DEVNULL, capture_output=True, timeout=900, **given)
+            done = subprocess.run([str(it) for it in command], stdin=subprocess.DEVNULL, capture_output=True, timeout=120, **given)
         except (OSError, subprocess.TimeoutExpired) as fault:
             self.say(what, repr(fault))
             return False
@@ -139,19 +141,26 @@ class Run:
         return not subprocess.run([command, "--version"], capture_output=True, stdin=subprocess.DEVNULL, check=False).returncode
 
 
+def laid_out(kit):
+    """Whether the archive that is there was laid out as an installation."""
+    if not ARCHIVE.is_file():
+        print(f"there is no {ARCHIVE.relative_to(TOP)}: `rt lib` in crates/kit_c builds it")
+        return False
+    command = [sys.executable, "-B", str(EMBED / "build"), "--archive", str(ARCHIVE), str(kit)]
+    return not subprocess.run(command, stdin=subprocess.DEVNULL, check=False).returncode
+
+
 def main():
     began = time.time()
     with tempfile.TemporaryDirectory() as made:
         room = pathlib.Path(made)
         kit = pathlib.Path(sys.argv[1]).resolve() if len(sys.argv) > 1 else room / "kit"
-        if len(sys.argv) < 2 and subprocess.run([sys.executable, "-B", str(EMBED / "build"), str(kit)], stdin=subprocess.DEVNULL, check=False).returncode:
-            print("embed/build failed")
+        if len(sys.argv) < 2 and not laid_out(kit):
             return 1
-        built = time.time()
         run = Run(kit, room)
         for language in (run.c, run.cpp, run.rust, run.go, run.python):
             language()
-    print(f"{run.passed} passed, {run.failed} failed; {built - began:.0f} s to build, {time.time() - built:.0f} s to run")
+    print(f"{run.passed} passed, {run.failed} failed, in {time.time() - began:.0f} s")
     return 1 if run.failed else 0
 
 

@@ -1,0 +1,69 @@
+//! Writers that threads share without a lock.
+use crate::attributes::Attributes;
+use crate::error::{Error, checked, checked_at};
+use crate::export::Export;
+use crate::handle::Handle;
+use crate::writer::SetNumber;
+use kotskhin_sys::{kit_seat_collect, kit_seat_measure, kit_seat_measure_held, kit_seat_split};
+
+/// A place at a writer that threads share: each thread has its own, and it can't be used at another writer.
+///
+/// Its calls wait for nobody: while another thread's call has the writer they are refused with `Busy`, and may be made again. The
+/// writer lasts as long as one of its seats does.
+pub struct Seat(pub(crate) Handle);
+
+impl Seat {
+    /// Another seat at the same writer, for another thread. Refused: `NoMemory`; `Busy`; `SeatsFull` where 4,096 were made.
+    pub fn split(&mut self) -> Result<Seat, Error> {
+        let mut made = Handle::empty();
+        // SAFETY: both handles are ours alone, and they are two.
+        checked(unsafe { kit_seat_split(self.0.change(), made.change()) })?;
+        Ok(Seat(made))
+    }
+
+    /// Records a value. Refused: `Busy`, `Exhausted`, and as `Writer::measure` is.
+    #[inline]
+    pub fn measure(
+        &mut self,
+        instrument: usize,
+        attributes: &Attributes,
+        value: i64,
+    ) -> Result<(), Error> {
+        let mut place = 0;
+        // SAFETY: the seat is ours alone; no other call has the attributes, since they stay on this thread; they are two.
+        let code = unsafe {
+            kit_seat_measure(
+                self.0.change(),
+                instrument,
+                attributes.0.read(),
+                value,
+                &mut place,
+            )
+        };
+        checked_at(code, place)
+    }
+
+    /// Records a value at a set that the writer held when it was shared. Refused: `NoSet`, and as `measure` is.
+    #[inline]
+    pub fn measure_held(
+        &mut self,
+        instrument: usize,
+        set: SetNumber,
+        value: i64,
+    ) -> Result<(), Error> {
+        let mut place = 0;
+        // SAFETY: the seat is ours alone.
+        let code =
+            unsafe { kit_seat_measure_held(self.0.change(), instrument, set.0, value, &mut place) };
+        checked_at(code, place)
+    }
+
+    /// The points since the start: all that any seat recorded before. Refused: `Busy`, `Exhausted`, `TimeNotAfter`, `NoMemory`.
+    pub fn collect(&mut self, time: u64) -> Result<Export, Error> {
+        let (mut export, mut place) = (Handle::empty(), 0);
+        // SAFETY: both handles are ours alone, and they are two.
+        let code = unsafe { kit_seat_collect(self.0.change(), time, export.change(), &mut place) };
+        checked_at(code, place)?;
+        Ok(Export(export))
+    }
+}
