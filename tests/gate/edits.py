@@ -8,7 +8,7 @@ import dataclasses
 import os
 import re
 
-HEAD = re.compile(r"^(?P<indent> *)(?:pub(?:\([a-z]+\))? )?(?:const )?(?:unsafe )?(?:extern "C" )?fn (?P<name>\w+)")
+HEAD = re.compile(r'^(?P<indent> *)(?:pub(?:\([a-z]+\))? )?(?:const )?(?:unsafe )?(?:extern "C" )?fn (?P<name>\w+)')
 BLOCK = re.compile(r"^(?:unsafe )?impl\b")
 CLAUSE = re.compile(r"\b(requires|ensures|ghost|invariant)\b")
 AT_SOURCE = re.compile(r"^(?:note: )?(?:\./)?(src/\S+?\.rt):(\d+):\d+: (.*)")
