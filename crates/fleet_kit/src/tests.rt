@@ -9,7 +9,6 @@ use std::alloc::Global;
 use std::sync::Wait;
 use std::sync::atomic::{AtomicU64, Ordering};
 use std::test::Fail;
-use std::thread::Threads;
 use uuid::Uuid;
 
 /// Lets all pass.
@@ -126,117 +125,77 @@ fn total(alloc: Global, gateway: &Gateway) -> Result<Option<i128>, Fail> {
     })
 }
 
-// A fleet with these jobs: a writer's place, and the values of its recordings.
-fn busy(alloc: Global, instances: &[u128], jobs: &[(usize, &[i64])]) -> Result<FleetSetup, Fail> {
-    let mut setup = fleet(alloc, instances, &[4, 5])?;
-    for (writer, values) in jobs {
-        setup.jobs.push(job(alloc, *writer, values)?)?;
-    }
-    Ok(setup)
-}
-
-// Jobs without recordings, one more than a writer may have.
-fn crowded(alloc: Global) -> Result<FleetSetup, Fail> {
-    let mut setup = fleet(alloc, &[1, 2], &[1])?;
-    for _ in 0..4096 {
-        setup.jobs.push(job(alloc, 1, &[])?)?;
-    }
-    Ok(setup)
-}
-
-// Whether a fleet ends by this fault.
-fn ends_by<R: Threads + Wait + Sync, G: Gate + Sync>(
-    rt: &R,
-    alloc: Global,
-    setup: FleetSetup,
-    gate: &G,
-    wanted: FleetFault,
-) -> bool {
-    match run_fleet(rt, alloc, setup, gate) {
-        Ok(_) => false,
-        Err(fault) => fault == wanted,
-    }
-}
-
-// Whether two writers who start at 1 are refused at the end 1.
-fn is_early<R: Threads + Wait + Sync>(rt: &R, alloc: Global) -> Result<bool, Fail> {
-    let mut early = fleet(alloc, &[1, 2], &[1])?;
-    early.end = 1;
-    Ok(ends_by(rt, alloc, early, &Open, FleetFault::EndNotAfter(0)))
-}
-
 #[test]
 fn setups_are_refused(rt: HostRuntime) -> Result<(), Fail> {
     let alloc = rt.alloc();
-    let stray = busy(alloc, &[1, 2], &[(2, &[1])])?;
-    assert!(rt; ends_by(&rt, alloc, stray, &Open, FleetFault::NoWriter(0)));
+    let mut stray = fleet(alloc, &[1, 2], &[1])?;
+    stray.jobs.push(job(alloc, 2, &[1])?)?;
     let twins = fleet(alloc, &[1, 1], &[1])?;
-    assert!(rt; ends_by(&rt, alloc, twins, &Open, FleetFault::SameWriter(0, 1)));
     let doubled = fleet(alloc, &[1, 2], &[7, 7])?;
-    assert!(rt; ends_by(&rt, alloc, doubled, &Open, FleetFault::SameGateway(0, 1)));
-    assert!(rt; is_early(&rt, alloc)?);
-    let crowded = crowded(alloc)?;
-    assert!(rt; ends_by(&rt, alloc, crowded, &Open, FleetFault::TooManyJobs(1)));
+    let mut early = fleet(alloc, &[1, 2], &[1])?;
+    early.end = 1;
+    let mut crowded = fleet(alloc, &[1, 2], &[1])?;
+    for _ in 0..4096 {
+        crowded.jobs.push(job(alloc, 1, &[])?)?;
+    }
+    assert!(rt; run_fleet(&rt, alloc, stray, &Open).err() == Some(FleetFault::NoWriter(0)));
+    assert!(rt; run_fleet(&rt, alloc, twins, &Open).err() == Some(FleetFault::SameWriter(0, 1)));
+    assert!(rt; run_fleet(&rt, alloc, doubled, &Open).err() == Some(FleetFault::SameGateway(0, 1)));
+    assert!(rt; run_fleet(&rt, alloc, early, &Open).err() == Some(FleetFault::EndNotAfter(0)));
+    assert!(rt; run_fleet(&rt, alloc, crowded, &Open).err() == Some(FleetFault::TooManyJobs(1)));
     Ok(())
 }
 
 #[test]
 fn jobs_are_stopped(rt: HostRuntime) -> Result<(), Fail> {
     let alloc = rt.alloc();
-    // Both jobs of the first are refused: the least is told.
-    let negative = busy(alloc, &[1, 2], &[(1, &[1, -1]), (0, &[-1])])?;
-    let refused = FleetFault::Refused { job: 0, entry: 1 };
-    assert!(rt; ends_by(&rt, alloc, negative, &Open, refused));
-    let shut = busy(alloc, &[1, 2], &[(0, &[1]), (1, &[1])])?;
-    assert!(rt; ends_by(&rt, alloc, shut, &ShutAt(1, 0), FleetFault::GateShut(1)));
-    Ok(())
-}
-
-// Whether a fleet ends in gateways of these ids, each of this total. Without jobs they hold nothing, and lack nothing.
-fn adds_up<R: Threads + Wait + Sync, G: Gate + Sync>(
-    rt: &R,
-    alloc: Global,
-    setup: FleetSetup,
-    gate: &G,
-    wanted: &[(u32, i128)],
-) -> Result<bool, Fail> {
-    let gateways = run_fleet(rt, alloc, setup, gate)?;
-    for (gateway, (id, sum)) in gateways.iter().zip(wanted.iter()) {
-        if gateway.id() != *id || total(alloc, gateway)? != Some(*sum) {
-            return Ok(false);
-        }
+    let mut negative = fleet(alloc, &[1, 2], &[1])?;
+    negative.jobs.push(job(alloc, 1, &[1, -1])?)?;
+    negative.jobs.push(job(alloc, 0, &[-1])?)?;
+    let mut shut = fleet(alloc, &[1, 2], &[1])?;
+    for writer in 0..2 {
+        shut.jobs.push(job(alloc, writer, &[1])?)?;
     }
-    Ok(gateways.len() == wanted.len())
+    // Both jobs of the first are refused: the least is told.
+    let refused = Some(FleetFault::Refused { job: 0, entry: 1 });
+    assert!(rt; run_fleet(&rt, alloc, negative, &Open).err() == refused);
+    assert!(rt; run_fleet(&rt, alloc, shut, &ShutAt(1, 0)).err() == Some(FleetFault::GateShut(1)));
+    Ok(())
 }
 
 #[test]
 fn totals_are_exact(rt: HostRuntime) -> Result<(), Fail> {
     let alloc = rt.alloc();
-    let ones: &[i64] = &[1; 1000];
-    let jobs = [
-        (0, ones),
-        (1, ones),
-        (0, ones),
-        (1, ones),
-        (0, ones),
-        (1, ones),
-    ];
-    let many = busy(alloc, &[1, 2], &jobs)?;
-    assert!(rt; adds_up(&rt, alloc, many, &Open, &[(4, 6000), (5, 6000)])?);
-    let idle = fleet(alloc, &[1, 2], &[4])?;
-    assert!(rt; adds_up(&rt, alloc, idle, &Open, &[(4, 0)])?);
-    let none = fleet(alloc, &[1], &[])?;
-    assert!(rt; adds_up(&rt, alloc, none, &Open, &[])?);
+    let ones = [1; 1000];
+    let mut busy = fleet(alloc, &[1, 2], &[4, 5])?;
+    for place in 0..6 {
+        busy.jobs.push(job(alloc, place % 2, &ones)?)?;
+    }
+    let gateways = run_fleet(&rt, alloc, busy, &Open)?;
+    assert!(rt; gateways.len() == 2 && gateways[0].id() == 4 && gateways[1].id() == 5);
+    for gateway in &gateways {
+        assert!(rt; total(alloc, gateway)? == Some(6000));
+    }
+    // Without jobs gateways hold nothing, and lack nothing.
+    let idle = run_fleet(&rt, alloc, fleet(alloc, &[1, 2], &[4])?, &Open)?;
+    assert!(rt; idle.len() == 1 && idle[0].len() == 0 && total(alloc, &idle[0])? == Some(0));
+    let none = run_fleet(&rt, alloc, fleet(alloc, &[1], &[])?, &Open)?;
+    assert!(rt; none.is_empty());
     Ok(())
 }
 
 #[test]
 fn jobs_run_at_once(rt: HostRuntime) -> Result<(), Fail> {
-    let pair = busy(rt.alloc(), &[1], &[(0, &[3]), (0, &[3])])?;
+    let alloc = rt.alloc();
+    let mut pair = fleet(alloc, &[1], &[1])?;
+    for _ in 0..2 {
+        pair.jobs.push(job(alloc, 0, &[3])?)?;
+    }
     let meeting = Meeting {
         here: AtomicU64::new(0),
         there: AtomicU64::new(0),
     };
-    assert!(rt; adds_up(&rt, rt.alloc(), pair, &meeting, &[(4, 6), (5, 6)])?);
+    let gateways = run_fleet(&rt, alloc, pair, &meeting)?;
+    assert!(rt; gateways.len() == 1 && total(alloc, &gateways[0])? == Some(6));
     Ok(())
 }
