@@ -74,11 +74,11 @@ class Crate(rt.Crate):
 
         The toolchain's own way keeps no work for the edits, and makes no archive."""
         words, toolchain = self.words(flags, keeps=False), ["--toolchain", f"{rt.KIT}/toolchain"]
+        to, by_llvm = f"out/{self.name}", [*words, *toolchain, "--backend", "llvm", "-o"]
         if self.is_static:
-            return self.prove(["build", *words, *toolchain, "--backend", "llvm", "-o", f"out/lib{self.name}.a"])
-        status, to = self.prove(["check", *words]), f"out/{self.name}"
-        words = [*self.keeping(words), *toolchain]
-        return status or self.compile_by("llvm", words, to) or self.compile_by("rattle", words, to)
+            return self.prove(["build", *by_llvm, f"out/lib{self.name}.a"])
+        status = self.prove(["build", *by_llvm, f"{to}.o"]) or self.link(f"{to}.o", to)
+        return status or self.compile_by("rattle", [*self.keeping(words), *toolchain], to)
 
 
 class Passing(io.TextIOBase):
