@@ -1,8 +1,10 @@
 pub mod Alike
+pub mod BoundPoints
 pub mod Bounds
 pub mod Copies
 pub mod Distinct
 pub mod Here
+pub mod Inserts
 pub mod Limits
 pub mod Parts
 pub mod Payloads

@@ -1,4 +1,5 @@
 pub mod Alike
+pub mod BoundPoints
 pub mod Entries
 pub mod Feeds
 pub mod Feeding

@@ -1,6 +1,7 @@
 //! What tallies stand for.
 ghost use Rattle.std.specs.Prelude.{◌≡◌, ◌++◌, ◌∷◌, [], List};
 ghost use Rattle.plan_kit.specs.Plans.{Planned, feeds_of};
+ghost use Rattle.agg_kit.specs.BoundPoints.{BoundPointsStay};
 ghost use Rattle.agg_kit.specs.Entries.{Entry};
 ghost use Rattle.agg_kit.specs.Feeds.{AllWhole};
 ghost use Rattle.agg_kit.specs.Laws.{SumsAddUp, CountsAddUp, IsLimited, OwnPointsStay, FedGrows, RoundsHaveFed};
@@ -29,4 +30,11 @@ pub fn rounds_have_what_was_fed()
     ensures own { OwnPointsStay }
     ensures grows { FedGrows }
     ensures fed { RoundsHaveFed }
+{}
+
+/// A bound point that is at home in a tally is so after any recording: a set goes where it went, once its point is there.
+/// That each feed of the plan has a stream of its own, `Plan::streams_len` says.
+#[tactic(auto, using(crate::proofs::BoundPoints::bound_stays))]
+pub fn bound_points_stay()
+    ensures { BoundPointsStay }
 {}

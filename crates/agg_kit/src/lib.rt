@@ -9,11 +9,15 @@
 //!     let mut tally = Tally::new(alloc, plan)?;
 //!     tally.measure(0, &attributes, 3)?;
 //!
+//! A [`Bound`] is an instrument and a set whose points a tally has looked up: `Tally::bind` makes one, and `Tally::measure_bound`
+//! records the same step as `measure` with no look at the set ([`bound_points_stay`]).
+//!
 //! What a tally stands for is a list of recordings: [`steps_are_recordings`] and [`rounds_have_what_was_fed`] are the laws.
 //! What contracts cite stands in `specs/`: `Tallies` (what contracts see of one), `Measuring` (a step and its refusals),
-//! `Rounds` (what a list of recordings comes to), `Refusals`, `Entries`, `Feeding`.
+//! `Rounds` (what a list of recordings comes to), `BoundPoints`, `Refusals`, `Entries`, `Feeding`.
 #![tactic(auto)]
 
+mod bound;
 mod fault;
 mod laws;
 mod payload;
@@ -21,6 +25,7 @@ mod recording;
 mod series;
 mod tally;
 
+pub use bound::Bound;
 pub use fault::MeasureFault;
-pub use laws::{rounds_have_what_was_fed, steps_are_recordings};
+pub use laws::{bound_points_stay, rounds_have_what_was_fed, steps_are_recordings};
 pub use tally::Tally;

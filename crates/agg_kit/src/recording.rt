@@ -4,6 +4,7 @@ ghost use Rattle.std.specs.Option.{unwrap_or};
 ghost use Rattle.plan_kit.specs.Plans.{is_proper, AreFeeds, lacks};
 ghost use Rattle.attr_kit.specs.Keeping.{kept};
 ghost use Rattle.attr_kit.specs.declared.keep.Keep.TheVariants as keeps;
+ghost use Rattle.agg_kit.specs.BoundPoints.{place_of, KnowPlaces, MayGive, StandAt};
 ghost use Rattle.agg_kit.specs.Feeding.{overflow_set};
 ghost use Rattle.agg_kit.specs.Feeds.{entries_of, shape_at, early_out_at, out_at, points_with, AreHeld};
 ghost use Rattle.agg_kit.specs.Kept.{whole_feed};
@@ -34,7 +35,7 @@ fn shape_of(plan: &Plan, stream: usize) -> &Shape
 }
 
 // The set that a feed keeps of the attributes, or none where it keeps them all: they are not copied.
-fn restricted(attrs: &AttrSet, keep: &Keep) -> Result<Option<AttrSet>, NoMemory>
+pub(crate) fn restricted(attrs: &AttrSet, keep: &Keep) -> Result<Option<AttrSet>, NoMemory>
     ensures value { IfOk result (λ set. unwrap_or set attrs.now ≡ kept keep.now attrs.now) }
     ensures no_memory { OnErr result (keep.now ≢ keeps.All) }
 {
@@ -45,7 +46,7 @@ fn restricted(attrs: &AttrSet, keep: &Keep) -> Result<Option<AttrSet>, NoMemory>
 }
 
 // That set, or the attributes where there is none.
-fn chosen<'a>(only: &'a Option<AttrSet>, attrs: &'a AttrSet) -> &'a AttrSet
+pub(crate) fn chosen<'a>(only: &'a Option<AttrSet>, attrs: &'a AttrSet) -> &'a AttrSet
     ensures { result.now ≡ unwrap_or only.now attrs.now }
 {
     match only {
@@ -54,8 +55,28 @@ fn chosen<'a>(only: &'a Option<AttrSet>, attrs: &'a AttrSet) -> &'a AttrSet
     }
 }
 
+// The place of the point that a set feeds, if it is there: the first that is given, or where it is found.
+#[inline(always)]
+fn place_in(
+    series: &Series,
+    limit: u64,
+    overflow: &AttrSet,
+    set: &AttrSet,
+    given: &[usize],
+) -> Option<usize>
+    requires overflow { overflow.now ≡ overflow_set }
+    requires given { MayGive given.now (place_of limit series.now.entries set.now) }
+    ensures { result ≡ place_of limit series.now.entries set.now }
+{
+    if given.is_empty() {
+        series.find(limit, overflow, set)
+    } else {
+        Some(given[0])
+    }
+}
+
 /// Records a value in every feed's stream, or in none. Where the stream of a lone feed is given and the point is there, the
-/// point's place alone is needed.
+/// point's place alone is needed. `places` are those of the feeds' points, or none.
 #[inline(always)]
 pub(crate) fn record(
     plan: &Plan,
@@ -64,21 +85,24 @@ pub(crate) fn record(
     lone: Option<usize>,
     feeds: &[Feed],
     attrs: &AttrSet,
+    places: &[usize],
     value: i64,
 ) -> Result<(), MeasureFault>
     requires overflow { overflow.now ≡ overflow_set }
     requires lone { IfSome lone (λ m. feeds.now ≡ whole_feed m ∷ []) }
     requires feeds { AreFeeds (length series.old.items) feeds.now }
     requires sound { AllSound plan.now.streams (entries_of series.old.items) }
+    requires known { KnowPlaces plan.now feeds.now places.now attrs.now series.old.items }
     ensures value { OnOk result (entries_of series.new.items ≡ points_with plan.now feeds.now attrs.now value series.old.items) }
     ensures ok { OnOk result (out_at plan.now attrs.now value series.old.items feeds.now ≡ None) }
     ensures unchanged { OnErr result (entries_of series.new.items ≡ entries_of series.old.items) }
     ensures err { IfErr result (λ f. f ≢ faults.NoMemory → out_at plan.now attrs.now value series.old.items feeds.now ≡ Some f) }
     ensures no_memory { IfErr result (λ f. f ≡ faults.NoMemory → early_out_at plan.now attrs.now value series.old.items feeds.now ≡ None) }
     ensures held { AreHeld plan.now feeds.now attrs.now series.old.items → IfErr result (λ f. f ≢ faults.NoMemory) }
+    ensures known { places.now ≢ [] → IfErr result (λ f. f ≢ faults.NoMemory) }
 {
     if let Some(stream) = lone
-        && let Some(place) = series[stream].find(plan.limit(), overflow, attrs)
+        && let Some(place) = place_in(&series[stream], plan.limit(), overflow, attrs, places)
     {
         let shape = shape_of(plan, stream);
         let points = &mut series[stream];
@@ -87,7 +111,45 @@ pub(crate) fn record(
         }
         return Ok(());
     }
-    record_each(plan, overflow, series, feeds, attrs, value, Memory::Found)
+    if places.is_empty() {
+        record_each(plan, overflow, series, feeds, attrs, value, Memory::Found)
+    } else {
+        record_at(plan, series, feeds, attrs, places, value)
+    }
+}
+
+// Records a value in every feed's stream, or in none, where the places of the feeds' points are known.
+fn record_at(
+    plan: &Plan,
+    series: &mut Vec<Series>,
+    feeds: &[Feed],
+    attrs: &AttrSet,
+    places: &[usize],
+    value: i64,
+) -> Result<(), MeasureFault>
+    requires feeds { AreFeeds (length series.old.items) feeds.now }
+    requires sound { AllSound plan.now.streams (entries_of series.old.items) }
+    requires at { StandAt plan.now feeds.now places.now attrs.now series.old.items }
+    ensures value { OnOk result (entries_of series.new.items ≡ points_with plan.now feeds.now attrs.now value series.old.items) }
+    ensures ok { OnOk result (out_at plan.now attrs.now value series.old.items feeds.now ≡ None) }
+    ensures unchanged { OnErr result (entries_of series.new.items ≡ entries_of series.old.items) }
+    ensures err { IfErr result (λ f. out_at plan.now attrs.now value series.old.items feeds.now ≡ Some f) }
+    ensures memory { IfErr result (λ f. f ≢ faults.NoMemory) }
+    ensures len { length series.new.items ≡ length series.old.items }
+    ensures others { (m : ℕ) → lacks m feeds.now → slice_get series.new.items m ≡ slice_get series.old.items m }
+{
+    let Some((feed, rest)) = feeds.split_first() else {
+        return Ok(());
+    };
+    let (place, later) = places.split_first().unwrap();
+    let shape = shape_of(plan, feed.stream);
+    let points = &series[feed.stream];
+    if !points.takes(*place, value) {
+        return Err(MeasureFault::Overflow(feed.stream));
+    }
+    record_at(plan, series, rest, attrs, later, value)?;
+    series[feed.stream].add(*place, shape, value);
+    Ok(())
 }
 
 // Records a value in every feed's stream, or in none. `memory` is what the earlier feeds found.

@@ -2,6 +2,7 @@
 ghost use Rattle.std.specs.Prelude.{◌≡◌, ◌≢◌, ◌↔◌, ◌<◌, ◌∷◌, [], length, replicate, slice_get, Some, None, true, false, IfOk, IfErr, IfSome, OnOk, OnErr, IsTrue};
 ghost use Rattle.std.specs.Option.{option_map};
 ghost use Rattle.agg_kit.specs.Alike.{ShareKeys};
+ghost use Rattle.agg_kit.specs.BoundPoints.{AreKnown, HasInstrument, IsBound, LacksInstrument, entry_at};
 ghost use Rattle.agg_kit.specs.Entries.{entry_of};
 ghost use Rattle.agg_kit.specs.Feeding.{overflow_set};
 ghost use Rattle.agg_kit.specs.Feeds.{entries_of, series_at, IsHeld};
@@ -10,10 +11,12 @@ ghost use Rattle.agg_kit.specs.Measuring.{after_measure, early_fault_of, empty_t
 ghost use Rattle.agg_kit.specs.Refusals.{is_negative_for};
 ghost use Rattle.agg_kit.specs.declared.fault.MeasureFault.TheVariants as faults;
 ghost use Rattle.agg_kit.specs.Sound.{AllSound};
+ghost use Rattle.plan_kit.specs.Plans.{feeds_of};
 
-use crate::MeasureFault;
+use crate::bound::places_of;
 use crate::recording::record;
 use crate::series::Series;
+use crate::{Bound, MeasureFault};
 use attr_kit::{AttrSet, AttrValue, Keep, NoMemory, Txt};
 use plan_kit::{Feed, Kind, Plan};
 use point_kit::Payload;
@@ -74,6 +77,107 @@ impl Tally {
         ensures held { IsHeld self.old (entry_of instrument attrs.now value) → IfErr result (λ f. f ≢ MeasureFault.NoMemory) }
         ensures unchanged { OnErr result (self.new ≡ self.old) }
     {
+        self.measure_at(instrument, attrs, &[], value)
+    }
+
+    /// An instrument and a set whose points are looked up once: what `measure_bound` records goes there without a look.
+    /// Nothing is recorded, and no point appears before a value comes.
+    ///
+    /// Refuses, in this order: `NoInstrument`, `NoMemory`. O(feeds of the instrument times the size of the attributes).
+    pub fn bind(&self, instrument: usize, attrs: &AttrSet) -> Result<Bound, MeasureFault>
+        ensures ok { OnOk result (HasInstrument self.now instrument) }
+        ensures value { IfOk result (λ b. (b.instrument ≡ instrument) × (b.attrs ≡ attrs.now)) }
+        ensures bound { IfOk result (λ b. IsBound self.now b) }
+        ensures err { IfErr result (λ f. f ≢ MeasureFault.NoMemory → (f ≡ MeasureFault.NoInstrument) × LacksInstrument self.now instrument) }
+        ensures no_memory { IfErr result (λ f. f ≡ MeasureFault.NoMemory → HasInstrument self.now instrument) }
+    {
+        let Some(feeds) = self.plan.feeds(instrument) else {
+            return Err(MeasureFault::NoInstrument);
+        };
+        let alloc = *self.series.allocator();
+        Ok(Bound {
+            instrument,
+            attrs: attrs.try_copy()?,
+            places: places_of(
+                alloc,
+                &self.plan,
+                &self.overflow,
+                &self.series,
+                feeds,
+                attrs,
+            )?,
+        })
+    }
+
+    /// Looks the points of a bound point up again, whatever tally it was bound by: it is at home in this one then. Where a point
+    /// is not there or memory is refused it knows no places. O(feeds of the instrument times the size of the attributes).
+    pub fn rebind(&self, bound: &mut Bound)
+        ensures instrument { bound.new.instrument ≡ bound.old.instrument }
+        ensures attrs { bound.new.attrs ≡ bound.old.attrs }
+        ensures bound { IsBound self.now bound.new }
+    {
+        let alloc = *self.series.allocator();
+        bound.release();
+        if let Some(feeds) = self.plan.feeds(bound.instrument)
+            && let Ok(places) = places_of(
+                alloc,
+                &self.plan,
+                &self.overflow,
+                &self.series,
+                feeds,
+                &bound.attrs,
+            )
+        {
+            bound.places = places;
+        }
+    }
+
+    /// Records a value as `measure` does with the bound point's instrument and attributes, and looks up no set where it knows the
+    /// places. Else it knows them after the first value that is recorded, if memory is not refused.
+    ///
+    /// The bound point is at home in this tally: it was bound or bound again by this tally since its start, or is released. Refuses
+    /// as `measure` does, but for want of memory, which never comes where the places are known. O(feeds of the instrument).
+    pub fn measure_bound(&mut self, bound: &mut Bound, value: i64) -> Result<(), MeasureFault>
+        requires { IsBound self.old bound.old }
+        ensures ok { OnOk result (fault_of self.old (entry_at bound.old value) ≡ None) }
+        ensures value { OnOk result (self.new ≡ after_measure self.old (entry_at bound.old value)) }
+        ensures err { IfErr result (λ f. f ≢ MeasureFault.NoMemory → fault_of self.old (entry_at bound.old value) ≡ Some f) }
+        ensures no_memory { IfErr result (λ f. f ≡ faults.NoMemory → early_fault_of self.old (entry_at bound.old value) ≡ None) }
+        ensures held { IsHeld self.old (entry_at bound.old value) → IfErr result (λ f. f ≢ MeasureFault.NoMemory) }
+        ensures known { bound.old.places.items ≢ [] → IfErr result (λ f. f ≢ MeasureFault.NoMemory) }
+        ensures unchanged { OnErr result (self.new ≡ self.old) }
+        ensures instrument { bound.new.instrument ≡ bound.old.instrument }
+        ensures attrs { bound.new.attrs ≡ bound.old.attrs }
+        ensures bound { IsBound self.new bound.new }
+    {
+        // What the plan says of the feeds of all its instruments.
+        let _ = self.plan().streams_len();
+        let places = bound.places.as_slice();
+        self.measure_at(bound.instrument, &bound.attrs, places, value)?;
+        if bound.places.is_empty() {
+            self.rebind(bound);
+        }
+        Ok(())
+    }
+
+    // Records a value as `measure` does. `places` are those of the feeds' points, or none.
+    #[inline(always)]
+    fn measure_at(
+        &mut self,
+        instrument: usize,
+        attrs: &AttrSet,
+        places: &[usize],
+        value: i64,
+    ) -> Result<(), MeasureFault>
+        requires { AreKnown self.old.plan (feeds_of self.old.plan instrument) places.now attrs.now self.old.series }
+        ensures ok { OnOk result (fault_of self.old (entry_of instrument attrs.now value) ≡ None) }
+        ensures value { OnOk result (self.new ≡ after_measure self.old (entry_of instrument attrs.now value)) }
+        ensures err { IfErr result (λ f. f ≢ MeasureFault.NoMemory → fault_of self.old (entry_of instrument attrs.now value) ≡ Some f) }
+        ensures no_memory { IfErr result (λ f. f ≡ faults.NoMemory → early_fault_of self.old (entry_of instrument attrs.now value) ≡ None) }
+        ensures held { IsHeld self.old (entry_of instrument attrs.now value) → IfErr result (λ f. f ≢ MeasureFault.NoMemory) }
+        ensures known { places.now ≢ [] → IfErr result (λ f. f ≢ MeasureFault.NoMemory) }
+        ensures unchanged { OnErr result (self.new ≡ self.old) }
+    {
         let Some(feeds) = self.plan.feeds(instrument) else {
             return Err(MeasureFault::NoInstrument);
         };
@@ -87,6 +191,7 @@ impl Tally {
             lone_at(&self.lone, instrument),
             feeds,
             attrs,
+            places,
             value,
         )
     }

@@ -1,3 +1,4 @@
+pub mod BoundPoints
 pub mod Following
 pub mod Pacing
 pub mod PlanFeeds

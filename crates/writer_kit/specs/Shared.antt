@@ -1,8 +1,9 @@
 -- The history of a shared writer, and what it makes of the writer.
-use Rattle.std.specs.Prelude.{◌≡◌, ◌≢◌, ℕ, false, cond, is_none, List, [], ◌∷◌, ◌++◌, Option, Some, None}
+use Rattle.std.specs.Prelude.{◌≡◌, ◌≢◌, ℕ, ℤ, false, cond, is_none, List, [], ◌∷◌, ◌++◌, Option, Some, None}
 use Rattle.agg_kit.specs.Entries.{Entry, entry_of}
 use Rattle.agg_kit.specs.Feeds.{AllHeld}
 use Rattle.agg_kit.specs.Rounds.{StandsFor}
+use Rattle.attr_kit.specs.declared.attr_set.AttrSet.{AttrSet}
 use Rattle.plan_kit.specs.Plans.{feeds_of}
 use Rattle.round_kit.specs.Rounds.{points_of}
 use Rattle.round_kit.specs.Rounds as rounds
@@ -87,6 +88,9 @@ pub record MayRefuse (w : Written) (e : Entry) (f : MeasureFault) : Type 0 where
   pub told : f ≢ measure.Refused tallies.NoMemory → fault_now w e ≡ Some f
   pub short : f ≡ measure.Refused tallies.NoMemory → early_fault w e ≡ None
   pub held : AllHeld w.tally.plan (feeds_of w.tally.plan e.instrument) e.attrs w.tally.series → f ≢ measure.Refused tallies.NoMemory
+
+abbrev pub Declines : ℕ → AttrSet → ℤ → MeasureFault → Written → Type 0
+Declines i a v f w = MayRefuse w (entry_of i a v) f
 
 -- A writer may refuse a collection with this: for the first cause that fits, or for want of memory where none does.
 pub record MayRefuseRound (w : Written) (time : ℕ) (f : CollectFault) : Type 0 where

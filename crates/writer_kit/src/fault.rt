@@ -16,6 +16,20 @@ pub enum MeasureFault {
     Refused(TallyFault),
 }
 
+/// Why a recording at a bound point is refused, in the order in which it is looked for.
+#[derive(Debug, PartialEq, Eq, Drop, Error)]
+pub enum BoundFault {
+    /// The writer was shut down, and not restarted since.
+    #[error("the writer is closed")]
+    Closed,
+    /// The point was bound by another incarnation, one of another start.
+    #[error("the bound point is of another start")]
+    Stale,
+    /// The tally of the writer refuses the recording; no memory is one of its refusals.
+    #[error("the recording is refused: {0}")]
+    Refused(TallyFault),
+}
+
 /// Why a collection is refused, in the order in which it is looked for.
 #[derive(Debug, PartialEq, Eq, Drop, Error)]
 pub enum CollectFault {

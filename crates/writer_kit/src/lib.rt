@@ -6,21 +6,26 @@
 //! under a later start: what was recorded before is of an incarnation of its own. The times of an incarnation's
 //! collections rise, as later ones are refused otherwise. A [`Pace`] says when the next collection is due.
 //!
+//! `Writer::bind` looks the points of an instrument and a set up once; `Writer::measure_bound` records at such a [`BoundPoint`]
+//! with no look, and refuses one of another incarnation.
+//!
 //! A [`SharedWriter`] is a writer that threads record with and collect from, each by a seat of its own. Whatever they do at
 //! once, there is one history, and each round is that of all that the history has before it.
 //!
 //! Times are nanoseconds since the Unix epoch. What contracts cite stands in `specs/`: `Written` (what contracts see of a
-//! writer), `Refusals`, `Recording` (what accepted calls make of it), `Schedules` (the events that a writer accepts, and what is read off them), `Following`
+//! writer), `Refusals`, `BoundPoints`, `Recording` (what accepted calls make of it), `Schedules` (the events that a writer accepts, and what is read off them), `Following`
 //! (what a writer is after them), `Shared` (the history of a shared writer), `Pacing`.
 #![tactic(auto)]
 
+mod bound;
 mod fault;
 mod laws;
 mod pace;
 mod shared;
 mod writer;
 
-pub use fault::{CollectFault, MeasureFault, RestartFault};
+pub use bound::BoundPoint;
+pub use fault::{BoundFault, CollectFault, MeasureFault, RestartFault};
 pub use laws::{refusals_are_of_recordings, steps_are_events};
 pub use pace::{DEFAULT_INTERVAL, Pace};
 pub use shared::{SeatsOut, SharedWriter, WriterChange};

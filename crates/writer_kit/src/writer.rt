@@ -3,12 +3,14 @@ ghost use Rattle.std.specs.Prelude.{◌≡◌, ◌≢◌, ◌<◌, ◌≤◌, []
 ghost use Rattle.agg_kit.specs.Entries.{entry_of};
 ghost use Rattle.agg_kit.specs.Feeds.{IsHeld};
 ghost use Rattle.agg_kit.specs.Rounds.{StandsFor};
+ghost use Rattle.agg_kit.specs.BoundPoints.{HasInstrument, LacksInstrument, entry_at};
+ghost use Rattle.writer_kit.specs.BoundPoints.{IsAtHome, RefusesAt};
 ghost use Rattle.writer_kit.specs.Following.{Follows};
 ghost use Rattle.writer_kit.specs.Recording.{recorded, after_collect, after_restart, round_now};
 ghost use Rattle.writer_kit.specs.Refusals.{no_memory, fault_now, early_fault, collect_fault, restart_fault};
 
-use crate::{CollectFault, MeasureFault, RestartFault};
-use agg_kit::Tally;
+use crate::{BoundFault, BoundPoint, CollectFault, MeasureFault, RestartFault};
+use agg_kit::{MeasureFault as TallyFault, Tally};
 use attr_kit::{AttrSet, NoMemory};
 use bumpalo::Bump;
 use plan_kit::Plan;
@@ -126,6 +128,68 @@ impl Writer {
             Ok(()) => Ok(()),
             Err(fault) => Err(MeasureFault::Refused(fault)),
         }
+    }
+
+    /// An instrument and a set whose points are looked up once: what `measure_bound` records goes there without a look.
+    /// Nothing is recorded, and no point appears before a value comes. It is of this incarnation.
+    ///
+    /// Refuses, in this order: `NoInstrument`, `NoMemory`. O(feeds of the instrument times the size of the attributes).
+    pub fn bind(&self, instrument: usize, attrs: &AttrSet) -> Result<BoundPoint, TallyFault>
+        ensures ok { OnOk result (HasInstrument self.now.tally instrument) }
+        ensures value { IfOk result (λ b. (b.point.instrument ≡ instrument) × (b.point.attrs ≡ attrs.now) × (b.start ≡ self.now.start)) }
+        ensures home { IfOk result (λ b. IsAtHome self.now b) }
+        ensures err { IfErr result (λ f. f ≢ TallyFault.NoMemory → (f ≡ TallyFault.NoInstrument) × LacksInstrument self.now.tally instrument) }
+        ensures no_memory { IfErr result (λ f. f ≡ TallyFault.NoMemory → HasInstrument self.now.tally instrument) }
+    {
+        Ok(BoundPoint {
+            point: self.tally.bind(instrument, attrs)?,
+            start: self.start,
+        })
+    }
+
+    /// Looks the points of a bound point up again, whatever writer it was bound by: it is of this incarnation then. Where a point
+    /// is not there or memory is refused it knows no places. O(feeds of the instrument times the size of the attributes).
+    pub fn rebind(&self, bound: &mut BoundPoint)
+        ensures instrument { bound.new.point.instrument ≡ bound.old.point.instrument }
+        ensures attrs { bound.new.point.attrs ≡ bound.old.point.attrs }
+        ensures start { bound.new.start ≡ self.now.start }
+        ensures home { IsAtHome self.now bound.new }
+    {
+        self.tally.rebind(&mut bound.point);
+        bound.start = self.start;
+    }
+
+    /// Records a value as `measure` does with the bound point's instrument and attributes, and looks up no set where it knows the
+    /// places. Else it knows them after the first value that is recorded, if memory is not refused.
+    ///
+    /// Refuses, in this order: `Closed`; `Stale` where the point is of another start; `Refused` as `measure` does, but for want of
+    /// memory, which never comes where the places are known. A refusal changes nothing. O(feeds of the instrument).
+    ///
+    /// A point that another writer of the same start bound is at home here only where its places are those of this one: that
+    /// is asked of the caller, and no run looks for it.
+    #[tactic(auto, using(crate::proofs::Refusals::now_accepted))]
+    pub fn measure_bound(&mut self, bound: &mut BoundPoint, value: i64) -> Result<(), BoundFault>
+        requires { IsAtHome self.old bound.old }
+        ensures ok { OnOk result (fault_now self.old (entry_at bound.old.point value) ≡ None) }
+        ensures fresh { OnOk result (bound.old.start ≡ self.old.start) }
+        ensures value { OnOk result (self.new ≡ recorded self.old (entry_at bound.old.point value)) }
+        ensures err { IfErr result (λ f. RefusesAt self.old bound.old value f) }
+        ensures unchanged { OnErr result (self.new ≡ self.old) }
+        ensures instrument { bound.new.point.instrument ≡ bound.old.point.instrument }
+        ensures attrs { bound.new.point.attrs ≡ bound.old.point.attrs }
+        ensures start { bound.new.start ≡ bound.old.start }
+        ensures home { IsAtHome self.new bound.new }
+    {
+        if self.closed {
+            return Err(BoundFault::Closed);
+        }
+        if bound.start != self.start {
+            return Err(BoundFault::Stale);
+        }
+        if let Err(fault) = self.tally.measure_bound(&mut bound.point, value) {
+            return Err(BoundFault::Refused(fault));
+        }
+        Ok(())
     }
 
     /// The points since the start, in an arena, as of a time. The writer stays as it is.

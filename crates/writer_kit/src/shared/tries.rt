@@ -1,8 +1,7 @@
 //! The calls that ask for the turn once and wait for nobody.
 ghost use Rattle.std.specs.Prelude.{OnErr, IfOk, IfErr};
-ghost use Rattle.agg_kit.specs.Entries.{entry_of};
 ghost use Rattle.turn_kit.specs.Public.{IsLeft, AtBusy, AtExhausted, AtRefused};
-ghost use Rattle.writer_kit.specs.Shared.{IsAt, IsRound, Accepts, Adds, HasAllMeasured, IsNewest, LooksAt, Sees, IsExhausted, IsRefused, MayRefuse, MayRefuseRound};
+ghost use Rattle.writer_kit.specs.Shared.{IsAt, IsRound, Accepts, Adds, HasAllMeasured, IsNewest, LooksAt, Sees, IsExhausted, IsRefused, MayRefuseRound, Declines};
 ghost use Rattle.writer_kit.specs.declared.shared.change.WriterChange.TheVariants.{Measured, Collected};
 
 use super::SharedWriter;
@@ -32,7 +31,7 @@ impl<G: GiveBack> SharedWriter<G> {
         ensures serves { IfOk result (λ r. Adds self.now (Measured instrument attrs.now value) seat.old seat.new) }
         ensures busy { IfErr result (AtBusy (IsLeft seat.old seat.new)) }
         ensures exhausted { IfErr result (AtExhausted (IsExhausted self.now seat.old seat.new)) }
-        ensures refused { IfErr result (AtRefused (λ f. IsRefused self.now (λ w. MayRefuse w (entry_of instrument attrs.now value) f) seat.old seat.new)) }
+        ensures refused { IfErr result (AtRefused (λ f. IsRefused self.now (Declines instrument attrs.now value f) seat.old seat.new)) }
     {
         self.turn.try_change(
             seat,

@@ -1,8 +1,7 @@
 //! The calls that ask for the turn until they have it.
 ghost use Rattle.std.specs.Prelude.{IfOk, IfErr};
-ghost use Rattle.agg_kit.specs.Entries.{entry_of};
 ghost use Rattle.turn_kit.specs.Public.{AtBusy, AtExhausted, AtRefused};
-ghost use Rattle.writer_kit.specs.Shared.{IsAt, IsRound, Accepts, Adds, HasAllMeasured, IsNewest, LooksAt, Sees, IsExhausted, IsRefused, MayRefuse, MayRefuseRound};
+ghost use Rattle.writer_kit.specs.Shared.{IsAt, IsRound, Accepts, Adds, HasAllMeasured, IsNewest, LooksAt, Sees, IsExhausted, IsRefused, MayRefuseRound, Declines};
 ghost use Rattle.writer_kit.specs.declared.shared.change.WriterChange.TheVariants.{Measured, Collected};
 
 use super::SharedWriter;
@@ -34,7 +33,7 @@ impl SharedWriter {
         ensures serves { IfOk result (λ r. Adds self.now (Measured instrument attrs.now value) seat.old seat.new) }
         ensures busy { IfErr result (AtBusy ⊥) }
         ensures exhausted { IfErr result (AtExhausted (IsExhausted self.now seat.old seat.new)) }
-        ensures refused { IfErr result (AtRefused (λ f. IsRefused self.now (λ w. MayRefuse w (entry_of instrument attrs.now value) f) seat.old seat.new)) }
+        ensures refused { IfErr result (AtRefused (λ f. IsRefused self.now (Declines instrument attrs.now value f) seat.old seat.new)) }
     {
         self.turn.change(
             rt,

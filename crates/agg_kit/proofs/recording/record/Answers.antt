@@ -6,6 +6,7 @@ use Rattle.attr_kit.specs.Keeping.{kept}
 use Rattle.point_kit.specs.declared.shape.Shape.{Shape}
 use Rattle.plan_kit.specs.Plans.{AreFeeds}
 use Rattle.plan_kit.specs.declared.feed.Feed.{Feed}
+use Rattle.agg_kit.specs.BoundPoints.{AreKnown}
 use Rattle.agg_kit.specs.Feeding.{set_eq}
 use Rattle.agg_kit.specs.Feeds.{entries_of, shape_at, first_out, applied}
 use Rattle.agg_kit.specs.FreshPoints.{payload_in}
@@ -14,6 +15,7 @@ use Rattle.agg_kit.specs.Payloads.{is_out_of_range}
 use Rattle.agg_kit.specs.Sound.{AreSound}
 use Rattle.agg_kit.specs.Steps.{Stored, place, bounds_of, recorded}
 use Rattle.agg_kit.specs.Tallies.{Points}
+use Rattle.agg_kit.proofs.BoundPoints.{known-lone}
 use Rattle.agg_kit.proofs.Records.{entries-read, stored-length, sound-shape, leaves-here, first-here, first-kept, same-read, read-there, recorded-here, same_entries, found-at, lone-is}
 use Rattle.agg_kit.proofs.Steps.{range-there, add_under-held, within-held}
 use Rattle.agg_kit.proofs.recording.record.Goals as goal
@@ -25,6 +27,16 @@ index-requires c =
     let fits : AreFeeds (length ss) (whole_feed c.in-Some.stream ∷ []) = subst (AreFeeds (length ss)) is c.requires.feeds in
     let l : c.in-Some.stream < length ss = fits.0 in
     search rules
+
+pub place_in-requires-clause-given : goal.place_in-requires-clause-given
+place_in-requires-clause-given c =
+    let p = c.args.plan.now in
+    let m = c.in-Some.stream in
+    let ss = c.args.series.now.items in
+    let is = lone-is c.args.lone m c.args.feeds.now c.in-Some.is c.requires.lone in
+    let fits : AreFeeds (length ss) (whole_feed m ∷ []) = subst (AreFeeds (length ss)) is c.requires.feeds in
+    known-lone p m c.args.places.now c.args.attrs.now ss c.index.result.now c.limit.result c.limit.ensures.value fits.0 c.index.ensures
+    (subst (λ (fs : List Feed). AreKnown p fs c.args.places.now c.args.attrs.now (entries_of ss)) is c.requires.known)
 
 pub shape_of-shape-requires : goal.shape_of-shape-requires
 shape_of-shape-requires c =
@@ -67,9 +79,9 @@ try_add-requires-clause-within c =
     let points = c.index_mut-points.result.now in
     let was = c.index_mut-points.ensures.value in
     let shape = shape_at p feed.stream in
-    let i = c.in-Some-find.place in
+    let i = c.in-Some-place_in.place in
     let same = same-read ss feed.stream c.index.result.now points fits.0 c.index.ensures was in
-    let found = found-at p (kept feed.keep a) c.index.result.now.entries c.limit.result a c.find.result (Some i) c.limit.ensures.value refl c.in-Some-find.is c.find.ensures in
+    let found = found-at p (kept feed.keep a) c.index.result.now.entries c.limit.result a c.place_in.result (Some i) c.limit.ensures.value refl c.in-Some-place_in.is c.place_in.ensures in
     let b = place p.limit points.entries (kept feed.keep a) in
     let at : position (set_eq b) (keys_of points.entries) ≡ Some i =
     subst (λ (s : Stored). position (set_eq (place p.limit s.entries (kept feed.keep a))) (keys_of s.entries) ≡ Some i) (sym same) found in
@@ -88,9 +100,9 @@ returns-then-not-try_add-clause-err c = λ _.
     let points = c.index_mut-points.result.now in
     let was = c.index_mut-points.ensures.value in
     let shape = shape_at p feed.stream in
-    let i = c.in-Some-find.place in
+    let i = c.in-Some-place_in.place in
     let same = same-read ss feed.stream c.index.result.now points fits.0 c.index.ensures was in
-    let found = found-at p (kept feed.keep a) c.index.result.now.entries c.limit.result a c.find.result (Some i) c.limit.ensures.value refl c.in-Some-find.is c.find.ensures in
+    let found = found-at p (kept feed.keep a) c.index.result.now.entries c.limit.result a c.place_in.result (Some i) c.limit.ensures.value refl c.in-Some-place_in.is c.place_in.ensures in
     let b = place p.limit points.entries (kept feed.keep a) in
     let at : position (set_eq b) (keys_of points.entries) ≡ Some i =
     subst (λ (s : Stored). position (set_eq (place p.limit s.entries (kept feed.keep a))) (keys_of s.entries) ≡ Some i) (sym same) found in
@@ -116,9 +128,9 @@ returns-clause-value c =
     let points = c.index_mut-points.result.now in
     let was = c.index_mut-points.ensures.value in
     let shape = shape_at p feed.stream in
-    let i = c.in-Some-find.place in
+    let i = c.in-Some-place_in.place in
     let same = same-read ss feed.stream c.index.result.now points fits.0 c.index.ensures was in
-    let found = found-at p (kept feed.keep a) c.index.result.now.entries c.limit.result a c.find.result (Some i) c.limit.ensures.value refl c.in-Some-find.is c.find.ensures in
+    let found = found-at p (kept feed.keep a) c.index.result.now.entries c.limit.result a c.place_in.result (Some i) c.limit.ensures.value refl c.in-Some-place_in.is c.place_in.ensures in
     let b = place p.limit points.entries (kept feed.keep a) in
     let at : position (set_eq b) (keys_of points.entries) ≡ Some i =
     subst (λ (s : Stored). position (set_eq (place p.limit s.entries (kept feed.keep a))) (keys_of s.entries) ≡ Some i) (sym same) found in
@@ -141,9 +153,9 @@ returns-clause-ok c =
     let points = c.index_mut-points.result.now in
     let was = c.index_mut-points.ensures.value in
     let shape = shape_at p feed.stream in
-    let i = c.in-Some-find.place in
+    let i = c.in-Some-place_in.place in
     let same = same-read ss feed.stream c.index.result.now points fits.0 c.index.ensures was in
-    let found = found-at p (kept feed.keep a) c.index.result.now.entries c.limit.result a c.find.result (Some i) c.limit.ensures.value refl c.in-Some-find.is c.find.ensures in
+    let found = found-at p (kept feed.keep a) c.index.result.now.entries c.limit.result a c.place_in.result (Some i) c.limit.ensures.value refl c.in-Some-place_in.is c.place_in.ensures in
     let b = place p.limit points.entries (kept feed.keep a) in
     let at : position (set_eq b) (keys_of points.entries) ≡ Some i =
     subst (λ (s : Stored). position (set_eq (place p.limit s.entries (kept feed.keep a))) (keys_of s.entries) ≡ Some i) (sym same) found in

@@ -1,7 +1,9 @@
-use Rattle.std.proofs.Common.{◌≡◌, ◌∙◌, ◌∷◌, [], ℕ, length, slice_get, ap, sym, subst, refl, false, Option, Some, FitsSigned, w64, true≢false}
+use Rattle.std.proofs.Common.{◌≡◌, ◌∙◌, ◌∷◌, [], ℕ, List, length, slice_get, ap, sym, subst, refl, false, Option, Some, FitsSigned, w64, true≢false}
 use Rattle.std.proofs.lemmas.Int.{to_z-of_z}
 use Rattle.plan_kit.specs.Plans.{feeds_of, kind_of, AreFeeds, AllRise}
 use Rattle.plan_kit.specs.declared.instrument.Kind.{Kind}
+use Rattle.plan_kit.specs.declared.feed.Feed.{Feed}
+use Rattle.agg_kit.specs.BoundPoints.{AreKnown}
 use Rattle.agg_kit.specs.Entries.{Entry, entry_of}
 use Rattle.agg_kit.specs.Feeds.{entries_of, applied, whole_first}
 use Rattle.agg_kit.specs.Kept.{whole_feed}
@@ -11,7 +13,7 @@ use Rattle.agg_kit.specs.Tallies.{Tallied}
 use Rattle.agg_kit.proofs.Records.{stored-length, sound-length, sound-applied, sound-either, rising-feeds, some-kind, on_ok, if_err, if_some}
 use Rattle.agg_kit.proofs.Refusals.{all-part, whole-part, kind-there, kind-gone, into-gone, into-negative, into-points}
 use Rattle.agg_kit.proofs.Rounds.{applied-is}
-use Rattle.agg_kit.proofs.tally.Tally.measure.Goals as goal
+use Rattle.agg_kit.proofs.tally.Tally.measure_at.Goals as goal
 
 pub returns-in_default-clause-err : goal.returns-in_default-clause-err
 unfolding fault_of
@@ -42,6 +44,11 @@ pub record-requires-clause-feeds : goal.record-requires-clause-feeds
 record-requires-clause-feeds c =
     subst (λ (n : ℕ). AreFeeds n c.in-Some.feeds.now) (sym (stored-length c.self.inside.plan.streams c.self.inside.series.items c.self.invariant.sound))
     (subst (AreFeeds (length c.self.inside.plan.streams)) (sym c.in-Some.ensures.value) c.in-Some.ensures.feeds)
+
+pub record-requires-clause-known : goal.record-requires-clause-known
+record-requires-clause-known c =
+    subst (λ (fs : List Feed). AreKnown c.self.inside.plan fs c.args.places.now c.args.attrs.now (entries_of c.self.inside.series.items)) (sym c.in-Some.ensures.value)
+    (subst (λ (t : Tallied). AreKnown t.plan (feeds_of t.plan c.args.instrument) c.args.places.now c.args.attrs.now t.series) (sym c.self.view_is) c.requires)
 
 pub record-requires-clause-lone : goal.record-requires-clause-lone
 record-requires-clause-lone c =

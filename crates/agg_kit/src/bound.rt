@@ -1,0 +1,75 @@
+//! Bound points: an instrument and a set, with the places where their values go.
+ghost use Rattle.std.specs.Prelude.{◌≡◌, [], length, IfOk};
+ghost use Rattle.agg_kit.specs.BoundPoints.{KnowPlaces};
+ghost use Rattle.agg_kit.specs.Feeding.{overflow_set};
+ghost use Rattle.plan_kit.specs.Plans.{AreFeeds};
+
+use crate::recording::{chosen, restricted};
+use crate::series::Series;
+use attr_kit::{AttrSet, NoMemory};
+use plan_kit::{Feed, Plan};
+use std::alloc::Global;
+
+/// An instrument and an attribute set whose points a tally has looked up: recording there hashes and compares no set.
+///
+/// `Tally::bind` makes one. It knows the places of its points once they are all there, and until then it is looked up at each
+/// value as any set is: binding makes no point, and takes no place in first-seen order or under the limit. What it knows stays
+/// true in its tally until a restart. [`Bound::release`] makes it forget, and `Tally::rebind` look again.
+#[derive(Drop)]
+pub struct Bound {
+    pub(crate) instrument: usize,
+    pub(crate) attrs: AttrSet,
+    // The place of each feed's point, in the order of the feeds, or none.
+    pub(crate) places: Vec<usize>,
+}
+
+impl Bound {
+    /// The instrument. O(1), takes no memory.
+    pub fn instrument(&self) -> usize
+        ensures { result ≡ self.now.instrument }
+    {
+        self.instrument
+    }
+
+    /// The attributes, as they were given. O(1), takes no memory.
+    pub fn attrs(&self) -> &AttrSet
+        ensures { result.now ≡ self.now.attrs }
+    {
+        &self.attrs
+    }
+
+    /// Forgets the places, so that it is at home in every tally. O(1), takes no memory.
+    pub fn release(&mut self)
+        ensures places { self.new.places.items ≡ [] }
+        ensures instrument { self.new.instrument ≡ self.old.instrument }
+        ensures attrs { self.new.attrs ≡ self.old.attrs }
+    {
+        self.places.clear();
+    }
+}
+
+/// The place of each feed's point, in the order of the feeds, or none where one of the points is not there.
+pub(crate) fn places_of(
+    alloc: Global,
+    plan: &Plan,
+    overflow: &AttrSet,
+    series: &Vec<Series>,
+    feeds: &[Feed],
+    attrs: &AttrSet,
+) -> Result<Vec<usize>, NoMemory>
+    requires overflow { overflow.now ≡ overflow_set }
+    requires feeds { AreFeeds (length series.now.items) feeds.now }
+    ensures { IfOk result (λ places. KnowPlaces plan.now feeds.now places.items attrs.now series.now.items) }
+{
+    let limit = plan.limit();
+    let mut places = Vec::with_capacity(alloc, feeds.len())?;
+    for feed in feeds {
+        let only = restricted(attrs, &feed.keep)?;
+        let set = chosen(&only, attrs);
+        match series[feed.stream].find(limit, overflow, set) {
+            Some(place) => places.push(place)?,
+            None => return Ok(Vec::new(alloc)),
+        }
+    }
+    Ok(places)
+}
