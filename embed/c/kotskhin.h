@@ -171,6 +171,9 @@ int32_t kit_gateway_merge(kit_handle *gateway, kit_handle *other, uint64_t *chan
 
 /* The number of keys at whose time different values came: two writers recorded under one identity. */
 int32_t kit_gateway_conflicts(kit_handle *gateway, uint64_t *count);
+/* The greatest time that it holds of one incarnation of a writer: what was collected up to it has come. */
+int32_t kit_gateway_newest(kit_handle *gateway, const uint8_t *service, size_t service_len, uint64_t instance_high,
+                           uint64_t instance_low, uint64_t start, uint64_t *time);
 /* Whether two gateways hold equal points. */
 int32_t kit_gateway_same(kit_handle *gateway, kit_handle *other, bool *same);
 

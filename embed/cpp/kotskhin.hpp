@@ -192,6 +192,12 @@ public:
         if (&other != this) checked(kit_gateway_merge(handle.at(), other.handle.at(), &changed));
         return changed;
     }
+    // The greatest time that is held of one incarnation of a service's instance.
+    uint64_t newest(Text service, uint64_t instance_high, uint64_t instance_low, uint64_t start) {
+        uint64_t time = 0;
+        checked(kit_gateway_newest(handle.at(), service.at, service.len, instance_high, instance_low, start, &time));
+        return time;
+    }
     // The table of a sum, a line for each attribute set.
     std::string sum(Text scope, Text name, Text unit, bool monotonic = true) {
         Handle ask, rows, table;

@@ -1,3 +1,3 @@
 module kotskhin
 
-go 1.21
+go 1.18

@@ -147,11 +147,37 @@ func (w Writer) Measure(instrument int, a Attributes, value int64) error {
 	})
 }
 
+// Hold holds a copy of a set as long as the writer is, and tells its number, for MeasureHeld: the shortest way to record.
+func (w Writer) Hold(a Attributes) (int, error) {
+	var number C.size_t
+	err := with(w.h, a.h, func(*C.uint64_t) C.int32_t { return C.kit_writer_hold(&w.h.raw, &a.h.raw, &number) })
+	return int(number), err
+}
+
+func (w Writer) MeasureHeld(instrument, number int, value int64) error {
+	return with(w.h, w.h, func(place *C.uint64_t) C.int32_t {
+		return C.kit_writer_measure_held(&w.h.raw, C.size_t(instrument), C.size_t(number), C.int64_t(value), place)
+	})
+}
+
 func (w Writer) Collect(time uint64) (Export, error) {
 	h := newHandle()
 	return Export{h}, with(w.h, h, func(place *C.uint64_t) C.int32_t {
 		return C.kit_writer_collect(&w.h.raw, C.uint64_t(time), &h.raw, place)
 	})
+}
+
+// Shutdown collects for the last time, and closes the writer.
+func (w Writer) Shutdown(time uint64) (Export, error) {
+	h := newHandle()
+	return Export{h}, with(w.h, h, func(place *C.uint64_t) C.int32_t {
+		return C.kit_writer_shutdown(&w.h.raw, C.uint64_t(time), &h.raw, place)
+	})
+}
+
+// Restart begins anew under a later start: the writer is open and has recorded nothing.
+func (w Writer) Restart(start uint64) error {
+	return with(w.h, w.h, func(place *C.uint64_t) C.int32_t { return C.kit_writer_restart(&w.h.raw, C.uint64_t(start), place) })
 }
 
 // Share shares the writer: what w has is the first seat at it from then on.
@@ -253,6 +279,16 @@ func (m Message) Envelope() (from, to uint32, points int, err error) {
 	var carried C.size_t
 	err = with(m.h, m.h, func(*C.uint64_t) C.int32_t { return C.kit_message_read(&m.h.raw, &sender, &receiver, &carried) })
 	return uint32(sender), uint32(receiver), int(carried), err
+}
+
+// Newest tells the greatest time that is held of one incarnation of a service's instance.
+func (g Gateway) Newest(service string, high, low, start uint64) (uint64, error) {
+	s, sLen := text(service)
+	var time C.uint64_t
+	err := with(g.h, g.h, func(*C.uint64_t) C.int32_t {
+		return C.kit_gateway_newest(&g.h.raw, s, sLen, C.uint64_t(high), C.uint64_t(low), C.uint64_t(start), &time)
+	})
+	return uint64(time), err
 }
 
 // OpenGateway opens a gateway without points.

@@ -22,7 +22,11 @@ _TYPES = {
     "kit_attributes_make": [_HANDLE, _HANDLE, POINTER(c_uint64)],
     "kit_writer_start": [_HANDLE, _HANDLE, *_TEXT, c_uint64, c_uint64, c_uint64],
     "kit_writer_measure": [_HANDLE, c_size_t, _HANDLE, c_int64, POINTER(c_uint64)],
+    "kit_writer_hold": [_HANDLE, _HANDLE, POINTER(c_size_t)],
+    "kit_writer_measure_held": [_HANDLE, c_size_t, c_size_t, c_int64, POINTER(c_uint64)],
     "kit_writer_collect": [_HANDLE, c_uint64, _HANDLE, POINTER(c_uint64)],
+    "kit_writer_shutdown": [_HANDLE, c_uint64, _HANDLE, POINTER(c_uint64)],
+    "kit_writer_restart": [_HANDLE, c_uint64, POINTER(c_uint64)],
     "kit_gateway_open": [_HANDLE, c_uint32],
     "kit_gateway_take": [_HANDLE, _HANDLE, POINTER(c_uint64)],
     "kit_gateway_merge": [_HANDLE, _HANDLE, POINTER(c_uint64)],
@@ -30,6 +34,7 @@ _TYPES = {
     "kit_gateway_rows": [_HANDLE, _HANDLE, _HANDLE],
     "kit_rows_table": [_HANDLE, _HANDLE],
     "kit_text_copy": [_HANDLE, c_char_p, c_size_t, POINTER(c_size_t)],
+    "kit_gateway_newest": [_HANDLE, *_TEXT, c_uint64, c_uint64, c_uint64, POINTER(c_uint64)],
     "kit_writer_share": [_HANDLE],
     "kit_seat_split": [_HANDLE, _HANDLE],
     "kit_seat_measure": [_HANDLE, c_size_t, _HANDLE, c_int64, POINTER(c_uint64)],
@@ -165,10 +170,32 @@ class Writer(_Handle):
         place = c_uint64()
         _call("kit_writer_measure", self._at, instrument, attributes._at, value, byref(place), place=place)
 
+    def hold(self, attributes):
+        """The number of a set that the writer holds from then on."""
+        number = c_size_t()
+        _call("kit_writer_hold", self._at, attributes._at, byref(number))
+        return number.value
+
+    def measure_held(self, instrument, number, value):
+        """Records at a set that the writer holds: the shortest way."""
+        place = c_uint64()
+        _call("kit_writer_measure_held", self._at, instrument, number, value, byref(place), place=place)
+
     def collect(self, time):
         made, place = Export(), c_uint64()
         _call("kit_writer_collect", self._at, time, made._at, byref(place), place=place)
         return made
+
+    def shutdown(self, time):
+        """Collects for the last time, and closes the writer."""
+        made, place = Export(), c_uint64()
+        _call("kit_writer_shutdown", self._at, time, made._at, byref(place), place=place)
+        return made
+
+    def restart(self, start):
+        """Begins anew under a later start: the writer is open and has recorded nothing."""
+        place = c_uint64()
+        _call("kit_writer_restart", self._at, start, byref(place), place=place)
 
     def share(self):
         """The first seat at the writer, which is none of its own from then on."""
@@ -193,6 +220,12 @@ class Gateway(_Handle):
         if other is not self:
             _call("kit_gateway_merge", self._at, other._at, byref(changed))
         return changed.value
+
+    def newest(self, service, instance, start):
+        """The greatest time that is held of one incarnation of a service's instance."""
+        time = c_uint64()
+        _call("kit_gateway_newest", self._at, *_text(service), instance >> 64, instance & (1 << 64) - 1, start, byref(time))
+        return time.value
 
     def sum(self, scope, name, unit, monotonic=True):
         """The table of a sum, a line for each attribute set."""

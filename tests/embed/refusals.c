@@ -369,6 +369,15 @@ static void histograms(void) {
     CHECK(kit_rows_histogram(&rows, 0, &count, &sum, &buckets) == KIT_TOO_WIDE && count == 4 && sum == 74 && buckets == 3);
     CHECK(!kit_rows_range(&rows, 0, &least, &greatest) && least == 3 && greatest == INT64_MAX);
 
+    uint64_t time = 77;
+    CHECK(kit_gateway_newest(&gateway, TEXT("\xff"), 0, 1, 100, &time) == KIT_NOT_TEXT && time == 77);
+    CHECK(kit_gateway_newest(&pairs, TEXT("shop"), 0, 1, 100, &time) == KIT_NOTHING && time == 77);
+    CHECK(kit_gateway_newest(&rows, TEXT("shop"), 0, 1, 100, &time) == KIT_WRONG_KIND && rows.full);
+    CHECK(kit_gateway_newest(&gateway, TEXT("shop"), 0, 3, 100, &time) == KIT_NO_POINT && time == 77);
+    refused = 1;
+    CHECK(kit_gateway_newest(&gateway, TEXT("a service of more than thirty bytes"), 0, 1, 100, &time) == KIT_NO_MEMORY && time == 77);
+    refused = 0;
+    CHECK(!kit_gateway_newest(&gateway, TEXT("shop"), 0, 1, 100, &time) && time == 200);
     kit_handle *all[] = {&instruments, &view, &list, &plan, &none, &writer, &other, &collected, &gateway, &ask, &rows};
     for (size_t i = 0; i < sizeof all / sizeof *all; i++) {
         kit_free(all[i]);

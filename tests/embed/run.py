@@ -6,8 +6,9 @@
 The archive is crates/kit_c/out/libkit_c.a, which `rt lib` builds in crates/kit_c, and the gate before it calls this: nothing is
 proved here. The declarations are held to the exports (embed/build). Then the first script, in C and C++ under each
 compiler that is there, in Rust, Go and Python: each must print examples/first.out. In C every refusal is raised once, each growth of
-each call is refused in turn, and threads record, each plainly and under AddressSanitizer with its leak check. In Rust the tests
-run, and callers that misuse the types must not compile. A language that the machine has not is told and passed over.
+each call is refused in turn, and threads record, each plainly and under AddressSanitizer with its leak check. In Rust and Go the tests
+run, and callers in Rust that misuse the types must not compile. Then exports between processes: examples/pipe, a writer in C and a gateway in
+Rust, and examples/broker, where there is a redis-server. What the machine has not is told and passed over.
 
 This ends with a status other than 0 where one fails or differs. It leaves nothing in the tree but what lies in out/."""
 import os
@@ -24,6 +25,7 @@ EMBED = TOP / "embed"
 HERE = TOP / "tests" / "embed"
 ARCHIVE = TOP / "crates" / "kit_c" / "out" / "libkit_c.a"
 WANTED = (TOP / "examples" / "first.out").read_bytes()
+PIPE, BROKER = TOP / "examples" / "pipe", TOP / "examples" / "broker"
 C = ["-std=c11", "-Wall", "-Wextra", "-Werror"]
 CPP = ["-std=c++17", "-Wall", "-Wextra", "-Werror"]
 ASAN = ["-g", "-fsanitize=address", "-fno-omit-frame-pointer"]
@@ -123,8 +125,10 @@ class Run:
             return
         given = {"CGO_CFLAGS": f"-I{self.kit}/include", "CGO_LDFLAGS": f"-L{self.kit}/lib -lkotskhin", "GOCACHE": f"{self.room}/go", "GOFLAGS": "-mod=mod", "GOPROXY": "off"}
         program = self.room / "program"
-        if self.run("Go: compiled", "go", "build", "-o", program, "./first", cwd=EMBED / "go", env={**os.environ, **given}):
+        go = {"cwd": EMBED / "go", "env": {**os.environ, **given}}
+        if self.run("Go: compiled", "go", "build", "-o", program, "./first", **go):
             self.run("Go: the first script", program, prints=WANTED)
+        self.run("Go: tests", "go", "test", "-count=1", ".", **go)
 
     def python(self):
         compiler = next((it for it in ("cc", "gcc", "clang") if shutil.which(it)), None)
@@ -136,6 +140,36 @@ class Run:
         if self.run("Python: the shared library", compiler, "-shared", "-o", shared, *whole):
             given = {**os.environ, "KOTSKHIN_SO": str(shared)}
             self.run("Python: the first script", sys.executable, "-B", EMBED / "python" / "first.py", prints=WANTED, env=given)
+            self.broker(given)
+
+    def broker(self, given):
+        """Workers and gateways, each a process, over a broker: it compares what the gateways say with what the workers counted."""
+        if not shutil.which("redis-server"):
+            print("Broker: there is no redis-server")
+            return
+        wanted = (BROKER / "broker.out").read_bytes()
+        self.run("Broker: workers and gateways", sys.executable, "-B", BROKER / "run.py", prints=wanted, env=given)
+
+    def pipe(self):
+        """A writer in C, a pipe, and a gateway in Rust, whose total is what the writer counted."""
+        compiler = next((it for it in ("cc", "gcc", "clang") if shutil.which(it)), None)
+        gateway = self.room / "rust" / "debug" / "examples" / "pipe"
+        if not compiler or not gateway.is_file():
+            print("Pipe: there is no compiler of C, or none of Rust")
+            return
+        writer, libraries = self.room / "writer", self.linked[1:]
+        if not self.run("Pipe: the writer compiled", compiler, *C, "-O2", self.linked[0], PIPE / "writer.c", *libraries, "-o", writer):
+            return
+        with subprocess.Popen([writer], stdin=subprocess.DEVNULL, stdout=subprocess.PIPE, stderr=subprocess.PIPE) as sends:
+            done = subprocess.run([gateway], stdin=sends.stdout, capture_output=True, timeout=120, check=False)
+            sends.stdout.close()
+            counted, status = sends.stderr.read(), sends.wait(120)
+        fault = None
+        if status or done.returncode:
+            fault = f"status {status} and {done.returncode}\n{(counted + done.stderr).decode(errors='replace')}"
+        elif done.stdout != (PIPE / "pipe.out").read_bytes() or not done.stdout.endswith(b"\n" + counted):
+            fault = f"it printed\n{done.stdout.decode(errors='replace')}\nwhere the writer {counted.decode(errors='replace')}"
+        self.say("Pipe: what the gateway has is what the writer counted", fault)
 
     def works(self, command):
         return not subprocess.run([command, "--version"], capture_output=True, stdin=subprocess.DEVNULL, check=False).returncode
@@ -158,7 +192,7 @@ def main():
         if len(sys.argv) < 2 and not laid_out(kit):
             return 1
         run = Run(kit, room)
-        for language in (run.c, run.cpp, run.rust, run.go, run.python):
+        for language in (run.c, run.cpp, run.rust, run.pipe, run.go, run.python):
             language()
     print(f"{run.passed} passed, {run.failed} failed, in {time.time() - began:.0f} s")
     return 1 if run.failed else 0

@@ -19,8 +19,12 @@ def minutes(seconds):
     return f"{seconds / 60:.1f}" if seconds else ""
 
 
-def table(ledger, head, stages):
-    """The page: what ran and where, minutes by the clock of each stage, and the table."""
+# The edits that the page tells.
+DEAREST = 20
+
+
+def table(ledger, head, stages, took):
+    """The page: what ran and where, minutes by the clock of each stage, the table, and the dearest edits of those whose seconds are given."""
     used = read(ledger)
     crates = sorted({crate for crate, _ in used}, key=lambda it: -sum(used[it, kind][0] for kind in KINDS))
     lines = ["# The gate's last cost", "", *head, "", "| Stage | Minutes by the clock |", "|---|---|"]
@@ -31,4 +35,6 @@ def table(ledger, head, stages):
         lines.append(f"| {crate} | {' | '.join(minutes(it) for it in spent)} | {minutes(sum(spent))} |")
     whole = [sum(used[crate, kind][0] for crate in crates) for kind in KINDS]
     lines.append(f"| all | {' | '.join(minutes(it) for it in whole)} | {minutes(sum(whole))} |")
+    lines += ["", "The dearest edits, seconds by the clock:", "", "| Edit | Seconds |", "|---|---|"]
+    lines += [f"| {name} | {seconds:.0f} |" for name, seconds in sorted(took.items(), key=lambda it: -it[1])[:DEAREST]]
     return "\n".join(lines) + "\n"

@@ -86,17 +86,37 @@ def spans_of(file, text):
     return found
 
 
-def is_of(span, path):
-    """Whether a folder below proofs/ is that of the function."""
+def names_of(span, functions):
+    """Which of the functions the span may be, as the prover calls them: a type's stand in its own module where the block's bounds are the type's."""
+    name = span.folder.rpartition("/")[2]
     if not span.owner:
-        return path == span.folder
-    module, _, name = span.folder.rpartition("/*/")
-    head, _, last = path.rpartition("/")
-    if not module and span.folder.startswith("*/"):
-        module, name = "", span.folder[2:]
-    above, _, block = head.rpartition("/")
+        return [it for it in functions if it == span.folder.replace("/", "::")]
+    module = span.folder.rpartition("*/")[0].rstrip("/").replace("/", "::")
     kind, of = span.owner.split("|")
-    return last == name and above == module and block.startswith(kind) and of in block[len(kind):] and bool(of) == (block != kind)
+    kind = kind[:1].upper() + kind[1:]
+    found = []
+    for function in functions:
+        above, _, last = function.rpartition("::")
+        above, _, block = above.rpartition("::")
+        rest = block.removeprefix(kind)
+        if last == name and rest != block and (of in rest if of else rest[:1] in ("", "+")):
+            found.append((above, function))
+    return [it for above, it in found if above == module] or [it for _, it in found]
+
+
+def functions_of(edit, source, functions):
+    """The names of the functions that an edit changes; none where one of them has none."""
+    made = applied({}, edit, source)
+    names = [names_of(Span(file, 0, 0, folder, owner), functions) for file, folder, owner in made[1]] if made else []
+    return [name for it in names for name in it] if all(names) else []
+
+
+def texts_of(members, source):
+    """The texts of the files that these edits change, with all of them."""
+    texts = {}
+    for edit in members:
+        texts = applied(texts, edit, source)[0]
+    return texts
 
 
 def applied(texts, edit, source):
@@ -136,22 +156,23 @@ def rounds_of(edits, source, most):
     return [(texts, members) for texts, _, members in rounds], alone
 
 
-def refused_in(said, texts, edit, source):
+def refused_in(said, texts, edit, source, functions):
     """What the check of a round says against the function that the edit changes: a line, or none."""
     made = applied({}, edit, source)
     if made is None:
         return ""
     spans = [it for file, name, owner in made[1] for it in spans_of(file, texts[file]) if (it.folder, it.owner) == (name, owner)]
+    names = {name for it in spans for name in names_of(it, functions)}
     vanished = ""
     for line in said:
         at = AT_SOURCE.match(line)
         if at and OPEN.search(line) and any(it.file == at[1] and it.first <= int(at[2]) <= it.last for it in spans):
             return line
         at = AT_NAME.match(line)
-        if at and any(is_of(it, at[1].replace("::", "/")) for it in spans):
+        if at and at[1] in names:
             return line
         at = AT_PROOF.match(line)
-        if at and any(is_of(it, at[1]) for it in spans):
+        if at and at[1].replace("/", "::") in names:
             if not VANISHED.search(at[2]):
                 return line
             vanished = vanished or line

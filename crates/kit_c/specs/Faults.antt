@@ -55,6 +55,10 @@ abbrev pub collection_fault : ℕ → Held → Option Fault
 collection_fault time (Writer w ss) = option_map (λ f. faults.Collect f) (collect_fault w time)
 collection_fault time h = Some faults.WrongKind
 
+-- the same of handles, of which the second is to be filled
+abbrev pub collecting_fault : ℕ → Option Held → Option Held → Option Fault
+collecting_fault time writer export = first (full_fault export ∷ of_one writer (collection_fault time) ∷ [])
+
 -- a restart under a start
 abbrev pub restarting_fault : ℕ → Held → Option Fault
 restarting_fault start (Writer w ss) = option_map (λ f. faults.Restart f) (restart_fault w start)

@@ -1,9 +1,12 @@
 -- What gateways behind handles take.
-use Rattle.std.specs.Prelude.{ℕ, [], ◌∷◌, count_by, Option, Some, None}
+use Rattle.std.specs.Prelude.{ℕ, List, [], ◌∷◌, count_by, is_none, Option, Some, None}
 use Rattle.std.specs.FinMap as finite
 use Rattle.std.specs.FinMap.{entries}
-use Rattle.gateway_kit.specs.Queries.{has_conflict}
+use Rattle.attr_kit.specs.Refusing.{when}
+use Rattle.gateway_kit.specs.Queries.{has_conflict, newest_time}
 use Rattle.point_kit.specs.Exports.{Points, state, join_points, changed_points}
+use Rattle.point_kit.specs.declared.writer_id.WriterId.{WriterId}
+use Rattle.kit_c.specs.Writers.{instance_of}
 use Rattle.kit_c.specs.declared.fault.Fault.{Fault}
 use Rattle.kit_c.specs.declared.fault.Fault.TheVariants as faults
 use Rattle.kit_c.specs.declared.held.Held.{Held}
@@ -47,3 +50,16 @@ points_of h = finite.empty
 -- the number of its conflicts
 abbrev pub conflicts_of : Held → ℕ
 conflicts_of h = count_by (λ e. has_conflict e.1) (entries (points_of h))
+
+-- the identity of a service's instance
+unfoldable pub identity_of : List ℕ → ℕ → ℕ → WriterId
+identity_of service high low = record { service = service; instance = instance_of high low }
+
+-- the greatest time that it holds of an incarnation of a writer
+unfoldable pub newest_of : WriterId → ℕ → Held → Option ℕ
+newest_of writer start h = newest_time writer start (points_of h)
+
+-- there is none
+unfoldable pub newest_fault : WriterId → ℕ → Held → Option Fault
+newest_fault writer start (Gateway g) = when (is_none (newest_time writer start g.points)) faults.NoPoint
+newest_fault writer start h = Some faults.WrongKind

@@ -1,18 +1,23 @@
 //! Gateways: what they take of exports and of each other.
-ghost use Rattle.std.specs.Prelude.{◌≡◌, ◌≢◌, ◌↔◌, pos, IsTrue, None, Some, OnOk, OnErr, IfErr, IfOk};
+ghost use Rattle.std.specs.Prelude.{◌≡◌, ◌≢◌, ◌↔◌, ◌∷◌, [], pos, IsTrue, None, Some, OnOk, OnErr, IfErr, IfOk};
 ghost use Rattle.std.specs.FinMap as finite;
 ghost use Rattle.std.specs.Option.{option_map};
+ghost use Rattle.attr_kit.specs.Refusing.{first};
 ghost use Rattle.kit_c.specs.Codes.{code_of, no_memory};
-ghost use Rattle.kit_c.specs.Faults.{full_fault, of_one, of_two};
-ghost use Rattle.kit_c.specs.Gateways.{after_merge, after_take, changes_of, conflicts_of, gateway_fault, merging_fault, points_of, taking_fault};
+ghost use Rattle.kit_c.specs.Faults.{full_fault, of_one, of_two, text_fault};
+ghost use Rattle.kit_c.specs.Gateways.{after_merge, after_take, changes_of, conflicts_of, gateway_fault, identity_of, merging_fault, newest_fault, newest_of, points_of, taking_fault};
 ghost use Rattle.kit_c.specs.Handles.{in_first};
 ghost use Rattle.kit_c.specs.declared.held.Held.TheVariants as things;
 
 use crate::fault::{FULL, Fault, NOTHING, OK};
 use crate::handle::KitHandle;
 use crate::held::Held;
+use crate::text::text_of;
+use attr_kit::Txt;
 use gateway_kit::Gateway;
+use point_kit::WriterId;
 use std::alloc::Global;
+use uuid::Uuid;
 
 /// Opens a gateway without points, under an id. Refused: `FULL`, `NO_MEMORY`.
 #[unsafe(no_mangle)]
@@ -227,6 +232,87 @@ pub extern "C" fn kit_gateway_same(
     match outcome {
         Ok(told) => {
             *same = told;
+            OK
+        }
+        Err(fault) => fault.code(),
+    }
+}
+
+#[tactic(auto, unfolding(crate::specs::Gateways::identity_of))]
+fn identity(service: Txt, instance_high: u64, instance_low: u64) -> WriterId
+    ensures { result ≡ identity_of service instance_high instance_low }
+{
+    WriterId {
+        service,
+        instance: Uuid::from_u64_pair(instance_high, instance_low),
+    }
+}
+
+#[tactic(auto, unfolding(crate::specs::Gateways::newest_fault, crate::specs::Gateways::newest_of))]
+fn newest(held: &Held, writer: &WriterId, start: u64) -> Result<u64, Fault>
+    ensures ok { OnOk result (newest_fault writer.now start held.now ≡ None) }
+    ensures value { IfOk result (λ time. newest_of writer.now start held.now ≡ Some time) }
+    ensures err { IfErr result (λ f. newest_fault writer.now start held.now ≡ Some f) }
+{
+    let Held::Gateway(gateway) = held else {
+        return Err(Fault::WrongKind);
+    };
+    match gateway.newest(writer, start) {
+        Some(time) => Ok(time),
+        None => Err(Fault::NoPoint),
+    }
+}
+
+fn newest_of_instance(
+    held: &Held,
+    service: Txt,
+    instance_high: u64,
+    instance_low: u64,
+    start: u64,
+) -> Result<u64, Fault>
+    ensures ok { OnOk result (newest_fault (identity_of service instance_high instance_low) start held.now ≡ None) }
+    ensures value { IfOk result (λ time. newest_of (identity_of service instance_high instance_low) start held.now ≡ Some time) }
+    ensures err { IfErr result (λ f. newest_fault (identity_of service instance_high instance_low) start held.now ≡ Some f) }
+{
+    newest(held, &identity(service, instance_high, instance_low), start)
+}
+
+/// Tells the greatest time that a gateway holds of one incarnation of a service's instance: all that was collected up to then has
+/// come. The instance is a UUID as two numbers. O(log n of what is held).
+///
+/// Refused, in this order: `NOT_TEXT` where the service is no UTF-8; `NOTHING`; `WRONG_KIND`; `NO_POINT` where nothing of that
+/// incarnation is held; `NO_MEMORY`.
+#[unsafe(no_mangle)]
+pub extern "C" fn kit_gateway_newest(
+    alloc: Global,
+    gateway: &mut KitHandle,
+    service: &[u8],
+    instance_high: u64,
+    instance_low: u64,
+    start: u64,
+    time: &mut u64,
+) -> i32
+    ensures ok { result ≡ pos 0 → first (text_fault service.now
+        ∷ of_one gateway.old.inner.value (newest_fault (identity_of service.now instance_high instance_low) start) ∷ []) ≡ None }
+    ensures value { result ≡ pos 0 → (g : _) → gateway.old.inner.value ≡ Some g
+        → newest_of (identity_of service.now instance_high instance_low) start g ≡ Some time.new }
+    ensures err { result ≢ pos 0 → result ≢ no_memory → option_map code_of (first (text_fault service.now
+        ∷ of_one gateway.old.inner.value (newest_fault (identity_of service.now instance_high instance_low) start) ∷ [])) ≡ Some result }
+    ensures unchanged { result ≢ pos 0 → time.new ≡ time.old }
+    ensures kept { gateway.new.inner.value ≡ gateway.old.inner.value }
+{
+    let service = match text_of(alloc, service) {
+        Ok(service) => service,
+        Err(fault) => return fault.code(),
+    };
+    let Some(held) = gateway.take(alloc) else {
+        return NOTHING;
+    };
+    let outcome = newest_of_instance(&held, service, instance_high, instance_low, start);
+    gateway.put(held);
+    match outcome {
+        Ok(told) => {
+            *time = told;
             OK
         }
         Err(fault) => fault.code(),

@@ -167,7 +167,8 @@ fn planned(
     limit: u64,
 ) -> Result<Plan, Fault>
     ensures ok { OnOk result (planning_fault instruments.old.inner.value views.old.inner.value limit ≡ None) }
-    ensures value { IfOk result (λ plan. plan ≡ plan_of (instruments_of instruments.old.inner.value) (views_of views.old.inner.value) limit) }
+    ensures value { IfOk result (λ plan. plan
+        ≡ plan_of (instruments_of instruments.old.inner.value) (views_of views.old.inner.value) limit) }
     ensures err { IfErr result (λ f. code_of f ≢ no_memory
         → planning_fault instruments.old.inner.value views.old.inner.value limit ≡ Some f) }
     ensures instruments { instruments.new.inner.value ≡ instruments.old.inner.value }

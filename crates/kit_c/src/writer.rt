@@ -3,7 +3,7 @@ ghost use Rattle.std.specs.Prelude.{◌≡◌, ◌≢◌, ◌∷◌, [], pos, tr
 ghost use Rattle.std.specs.Option.{option_map};
 ghost use Rattle.attr_kit.specs.Refusing.{first};
 ghost use Rattle.kit_c.specs.Codes.{code_of, no_memory};
-ghost use Rattle.kit_c.specs.Faults.{collection_fault, full_fault, of_one, of_two, recording_fault, restarting_fault, starting_fault, text_fault};
+ghost use Rattle.kit_c.specs.Faults.{collecting_fault, collection_fault, full_fault, of_one, of_two, recording_fault, restarting_fault, starting_fault, text_fault};
 ghost use Rattle.kit_c.specs.Handles.{after_collection, after_recording, after_restarting, in_first, in_one};
 ghost use Rattle.kit_c.specs.Places.{place_after};
 ghost use Rattle.kit_c.specs.declared.held.Held.TheVariants as things;
@@ -286,14 +286,13 @@ pub extern "C" fn kit_writer_collect(
     export: &mut KitHandle,
     place: &mut u64,
 ) -> i32
-    ensures ok { result ≡ pos 0
-        → first (full_fault export.old.inner.value ∷ of_one writer.old.inner.value (collection_fault time) ∷ []) ≡ None }
+    ensures ok { result ≡ pos 0 → collecting_fault time writer.old.inner.value export.old.inner.value ≡ None }
     ensures value { result ≡ pos 0 → writer.new.inner.value ≡ in_one (after_collection time false) writer.old.inner.value }
     ensures export { result ≡ pos 0 → IsCollection time writer.old.inner.value export.new.inner.value }
-    ensures err { result ≢ pos 0 → result ≢ no_memory → option_map code_of
-        (first (full_fault export.old.inner.value ∷ of_one writer.old.inner.value (collection_fault time) ∷ [])) ≡ Some result }
-    ensures place { result ≢ no_memory → place.new ≡ place_after
-        (first (full_fault export.old.inner.value ∷ of_one writer.old.inner.value (collection_fault time) ∷ [])) place.old }
+    ensures err { result ≢ pos 0 → result ≢ no_memory
+        → option_map code_of (collecting_fault time writer.old.inner.value export.old.inner.value) ≡ Some result }
+    ensures place { result ≢ no_memory
+        → place.new ≡ place_after (collecting_fault time writer.old.inner.value export.old.inner.value) place.old }
     ensures unchanged { result ≢ pos 0 → writer.new.inner.value ≡ writer.old.inner.value }
     ensures held { result ≢ pos 0 → export.new.inner.value ≡ export.old.inner.value }
 {
@@ -325,14 +324,13 @@ pub extern "C" fn kit_writer_shutdown(
     export: &mut KitHandle,
     place: &mut u64,
 ) -> i32
-    ensures ok { result ≡ pos 0
-        → first (full_fault export.old.inner.value ∷ of_one writer.old.inner.value (collection_fault time) ∷ []) ≡ None }
+    ensures ok { result ≡ pos 0 → collecting_fault time writer.old.inner.value export.old.inner.value ≡ None }
     ensures value { result ≡ pos 0 → writer.new.inner.value ≡ in_one (after_collection time true) writer.old.inner.value }
     ensures export { result ≡ pos 0 → IsCollection time writer.old.inner.value export.new.inner.value }
-    ensures err { result ≢ pos 0 → result ≢ no_memory → option_map code_of
-        (first (full_fault export.old.inner.value ∷ of_one writer.old.inner.value (collection_fault time) ∷ [])) ≡ Some result }
-    ensures place { result ≢ no_memory → place.new ≡ place_after
-        (first (full_fault export.old.inner.value ∷ of_one writer.old.inner.value (collection_fault time) ∷ [])) place.old }
+    ensures err { result ≢ pos 0 → result ≢ no_memory
+        → option_map code_of (collecting_fault time writer.old.inner.value export.old.inner.value) ≡ Some result }
+    ensures place { result ≢ no_memory
+        → place.new ≡ place_after (collecting_fault time writer.old.inner.value export.old.inner.value) place.old }
     ensures unchanged { result ≢ pos 0 → writer.new.inner.value ≡ writer.old.inner.value }
     ensures held { result ≢ pos 0 → export.new.inner.value ≡ export.old.inner.value }
 {

@@ -38,31 +38,41 @@ noun_text noun.Mail = codes "the number of a mail"
 noun_text noun.Limit = codes "a limit"
 noun_text noun.Gateway = codes "the id of a gateway"
 
+-- how a reason begins: all that is said, but for the form or the noun that it names
+abbrev pub reason_opening : Reason → List ℕ
+reason_opening reason.Bytes = codes "a byte is neither a space nor a visible ASCII character"
+reason_opening reason.Spaces = codes "words have one space between two, and none stands at either end"
+reason_opening reason.Unknown = codes "begins no line"
+reason_opening (reason.Count form) = codes "wants "
+reason_opening (reason.Label i) = codes "is no label: 1 to 16 of a to z and 0 to 9"
+reason_opening (reason.Kind i) = codes "is no kind: counter, updown, gauge or histogram"
+reason_opening (reason.KindAsked i) = codes "is no kind: counter, updown, gauge, histogram, or * for any"
+reason_opening (reason.NoNumber i) = codes "is no number: digits with no sign and no leading zero"
+reason_opening (reason.TooGreat i noun) = codes "is too great for "
+reason_opening (reason.Uuid i) = codes "is no UUID: 32 hexadecimal digits, with hyphens or without"
+reason_opening (reason.Value i) = codes "is no value: a whole number of 64 bits, with no plus sign and no leading zero"
+reason_opening (reason.Attributes i) = codes "lists no attributes: -, or pairs of a key, = and a value, with commas between"
+reason_opening (reason.Keep i) = codes "lists no keys: *, -, or keys with commas between"
+reason_opening (reason.Aggregation i) = codes "is no aggregation: default, sum, last, drop, or buckets: and values with commas between"
+reason_opening (reason.Shape i) = codes "is no shape: sum+, sum, gauge, hist, or hist: and values with commas between"
+reason_opening reason.Cut = codes "no line feed ends it"
+reason_opening reason.Late = codes "stands after 'begin'"
+reason_opening reason.Early = codes "stands before 'begin'"
+reason_opening (reason.Taken i) = codes "was declared before"
+reason_opening reason.Refused = codes "is refused"
+reason_opening (reason.NoWriter i) = codes "names no writer"
+reason_opening (reason.NoInstrument i) = codes "names no instrument"
+reason_opening (reason.NoGateway i) = codes "names no gateway"
+
+-- the form or the noun that it names, if any
+abbrev pub reason_named : Reason → List ℕ
+reason_named (reason.Count form) = form_text form
+reason_named (reason.TooGreat i noun) = noun_text noun
+reason_named _ = []
+
 -- what is said of the word at its place, or of the whole line
 abbrev pub reason_text : Reason → List ℕ
-reason_text reason.Bytes = codes "a byte is neither a space nor a visible ASCII character"
-reason_text reason.Spaces = codes "words have one space between two, and none stands at either end"
-reason_text reason.Unknown = codes "begins no line"
-reason_text (reason.Count form) = codes "wants " ++ form_text form
-reason_text (reason.Label i) = codes "is no label: 1 to 16 of a to z and 0 to 9"
-reason_text (reason.Kind i) = codes "is no kind: counter, updown, gauge or histogram"
-reason_text (reason.KindAsked i) = codes "is no kind: counter, updown, gauge, histogram, or * for any"
-reason_text (reason.NoNumber i) = codes "is no number: digits with no sign and no leading zero"
-reason_text (reason.TooGreat i noun) = codes "is too great for " ++ noun_text noun
-reason_text (reason.Uuid i) = codes "is no UUID: 32 hexadecimal digits, with hyphens or without"
-reason_text (reason.Value i) = codes "is no value: a whole number of 64 bits, with no plus sign and no leading zero"
-reason_text (reason.Attributes i) = codes "lists no attributes: -, or pairs of a key, = and a value, with commas between"
-reason_text (reason.Keep i) = codes "lists no keys: *, -, or keys with commas between"
-reason_text (reason.Aggregation i) = codes "is no aggregation: default, sum, last, drop, or buckets: and values with commas between"
-reason_text (reason.Shape i) = codes "is no shape: sum+, sum, gauge, hist, or hist: and values with commas between"
-reason_text reason.Cut = codes "no line feed ends it"
-reason_text reason.Late = codes "stands after 'begin'"
-reason_text reason.Early = codes "stands before 'begin'"
-reason_text (reason.Taken i) = codes "was declared before"
-reason_text reason.Refused = codes "is refused"
-reason_text (reason.NoWriter i) = codes "names no writer"
-reason_text (reason.NoInstrument i) = codes "names no instrument"
-reason_text (reason.NoGateway i) = codes "names no gateway"
+reason_text why = reason_opening why ++ reason_named why
 
 -- the place of the word that a reason is about, if it is about one
 abbrev pub place_of : Reason → Option ℕ

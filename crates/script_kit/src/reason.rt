@@ -149,61 +149,57 @@ impl fmt::Display for Reason {
     ghost output = { λ it. Some (reason_text it) };
 
     fn fmt<W: fmt::Write>(&self, f: &mut fmt::Formatter<W>) -> fmt::Result {
+        let opening = self.opening();
         match self {
-            Reason::Bytes => write!(f, "a byte is neither a space nor a visible ASCII character"),
-            Reason::Spaces => write!(
-                f,
-                "words have one space between two, and none stands at either end"
-            ),
-            Reason::Unknown => write!(f, "begins no line"),
-            Reason::Count(form) => write!(f, "wants {form}"),
-            Reason::Label(_) => write!(f, "is no label: 1 to 16 of a to z and 0 to 9"),
-            Reason::Kind(_) => write!(f, "is no kind: counter, updown, gauge or histogram"),
-            Reason::KindAsked(_) => write!(
-                f,
-                "is no kind: counter, updown, gauge, histogram, or * for any"
-            ),
-            Reason::NoNumber(_) => write!(
-                f,
-                "is no number: digits with no sign and no leading zero"
-            ),
-            Reason::TooGreat(_, noun) => write!(f, "is too great for {noun}"),
-            Reason::Uuid(_) => write!(
-                f,
-                "is no UUID: 32 hexadecimal digits, with hyphens or without"
-            ),
-            Reason::Value(_) => write!(
-                f,
-                "is no value: a whole number of 64 bits, with no plus sign and no leading zero"
-            ),
-            Reason::Attributes(_) => write!(
-                f,
-                "lists no attributes: -, or pairs of a key, = and a value, with commas between"
-            ),
-            Reason::Keep(_) => write!(f, "lists no keys: *, -, or keys with commas between"),
-            Reason::Aggregation(_) => write!(
-                f,
-                "is no aggregation: default, sum, last, drop, or buckets: and values with commas between"
-            ),
-            Reason::Shape(_) => write!(
-                f,
-                "is no shape: sum+, sum, gauge, hist, or hist: and values with commas between"
-            ),
-            Reason::Cut => write!(f, "no line feed ends it"),
-            Reason::Late => write!(f, "stands after 'begin'"),
-            Reason::Early => write!(f, "stands before 'begin'"),
-            Reason::Taken(_) => write!(f, "was declared before"),
-            Reason::Refused => write!(f, "is refused"),
-            Reason::NoWriter(_) => write!(f, "names no writer"),
-            Reason::NoInstrument(_) => write!(f, "names no instrument"),
-            Reason::NoGateway(_) => write!(f, "names no gateway"),
+            Reason::Count(form) => write!(f, "{opening}{form}"),
+            Reason::TooGreat(_, noun) => write!(f, "{opening}{noun}"),
+            _ => write!(f, "{opening}"),
         }
     }
 }
 
 impl Reason {
     ghost use Rattle.std.specs.Prelude.{◌≡◌};
-    ghost use Rattle.script_kit.specs.Reasons.{place_of};
+    ghost use Rattle.script_kit.specs.Reasons.{place_of, reason_opening};
+
+    // How it begins: all that it says, but for the form or the noun that it names.
+    fn opening(self) -> &'static str
+        ensures { result.now ≡ reason_opening self }
+    {
+        match self {
+            Reason::Bytes => "a byte is neither a space nor a visible ASCII character",
+            Reason::Spaces => "words have one space between two, and none stands at either end",
+            Reason::Unknown => "begins no line",
+            Reason::Count(_) => "wants ",
+            Reason::Label(_) => "is no label: 1 to 16 of a to z and 0 to 9",
+            Reason::Kind(_) => "is no kind: counter, updown, gauge or histogram",
+            Reason::KindAsked(_) => "is no kind: counter, updown, gauge, histogram, or * for any",
+            Reason::NoNumber(_) => "is no number: digits with no sign and no leading zero",
+            Reason::TooGreat(_, _) => "is too great for ",
+            Reason::Uuid(_) => "is no UUID: 32 hexadecimal digits, with hyphens or without",
+            Reason::Value(_) => {
+                "is no value: a whole number of 64 bits, with no plus sign and no leading zero"
+            }
+            Reason::Attributes(_) => {
+                "lists no attributes: -, or pairs of a key, = and a value, with commas between"
+            }
+            Reason::Keep(_) => "lists no keys: *, -, or keys with commas between",
+            Reason::Aggregation(_) => {
+                "is no aggregation: default, sum, last, drop, or buckets: and values with commas between"
+            }
+            Reason::Shape(_) => {
+                "is no shape: sum+, sum, gauge, hist, or hist: and values with commas between"
+            }
+            Reason::Cut => "no line feed ends it",
+            Reason::Late => "stands after 'begin'",
+            Reason::Early => "stands before 'begin'",
+            Reason::Taken(_) => "was declared before",
+            Reason::Refused => "is refused",
+            Reason::NoWriter(_) => "names no writer",
+            Reason::NoInstrument(_) => "names no instrument",
+            Reason::NoGateway(_) => "names no gateway",
+        }
+    }
 
     /// The place of the word that it is about; none where it is about the whole line.
     pub fn place(self) -> Option<usize>

@@ -1,5 +1,5 @@
 //! The lines of a script, and the words of a line.
-ghost use Rattle.std.specs.Prelude.{◌≡◌, ◌==◌, ◌<◌, ◌++◌, ◌∷◌, [], IfOk, MatchOption, IfSome, IfNone, IsErrOf, Ok, Err, map, length, true, false, position};
+ghost use Rattle.std.specs.Prelude.{◌≡◌, ◌==◌, ◌<◌, ◌++◌, ◌∷◌, [], IfOk, OnSome, IfSome, IfNone, IsErrOf, Ok, Err, map, length, true, false, position};
 ghost use Rattle.std.specs.List.{list_all, slice_split};
 ghost use Rattle.script_kit.specs.declared.reason.Reason.{Reason};
 ghost use Rattle.script_kit.specs.Words.{words_of, pieces_of, is_line_byte, is_filled};
@@ -39,7 +39,9 @@ fn is_line(line: &[u8]) -> bool
 }
 
 pub(crate) fn text_of(line: &[u8]) -> Option<&str>
-    ensures { MatchOption result (list_all is_line_byte line.now ≡ false) (λ t. (list_all is_line_byte line.now ≡ true) × (t.now ≡ line.now)) }
+    ensures ok { OnSome result (list_all is_line_byte line.now ≡ true) }
+    ensures value { IfSome result (λ text. text.now ≡ line.now) }
+    ensures none { IfNone result (list_all is_line_byte line.now ≡ false) }
 {
     if is_line(line) {
         str::from_utf8(line).ok()

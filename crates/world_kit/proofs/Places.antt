@@ -1,10 +1,19 @@
 -- What stands at a place of a list that was changed at one place, or got longer by one.
-use Rattle.std.proofs.Common.{◌≡◌, ◌≢◌, ℕ, zero, suc, ◌⊎◌, inl, inr, List, [], ◌∷◌, ◌++◌, length, slice_get, Some, refl, sym, ap, arith}
+use Rattle.std.proofs.Common.{◌≡◌, ◌≢◌, ℕ, zero, suc, ◌<◌, ◌⊎◌, inl, inr, List, [], ◌∷◌, ◌++◌, ◌∙◌, length, get_or, slice_get, Some, refl, sym, ap, arith}
+use Rattle.std.proofs.lemmas.Option.{slice_get_read}
 use Rattle.std.proofs.Math.ListN.{set}
 
 module _ {A : Type 0} where
   same_some : (a b : A) → Some a ≡ Some b → a ≡ b
   same_some a b e = cc
+
+  -- what is read at a place inside stands there
+  pub stands_at : (xs : List A) (i : ℕ) (x : A) → i < length xs → x ≡ get_or xs i x → slice_get xs i ≡ Some x
+  stands_at xs i x there read = slice_get_read xs (length xs) i x refl there read
+
+  -- what is read twice at a place is the same
+  pub same_at : (xs : List A) (i : ℕ) (x y : A) → i < length xs → x ≡ get_or xs i x → y ≡ get_or xs i y → x ≡ y
+  same_at xs i x y there one other = same_some x y (sym (stands_at xs i x there one) ∙ stands_at xs i y there other)
 
   -- the new element at its place, or an old one at another
   pub in_set : (xs : List A) (g : ℕ) (n : A) (h : ℕ) (m : A) → slice_get (set xs g n) h ≡ Some m → ((g ≡ h) × (m ≡ n)) ⊎ ((h ≢ g) × (slice_get xs h ≡ Some m))

@@ -81,7 +81,7 @@ impl World {
 
 // A writer's refusal of a recording, as a world's.
 fn told_measure(fault: MeasureFault) -> Result<Refusal, NoMemory>
-    ensures ok { IfOk result (λ refusal. measure_refusal fault ≡ Some refusal) }
+    ensures value { IfOk result (λ refusal. measure_refusal fault ≡ Some refusal) }
     ensures no_memory { OnErr result (measure_refusal fault ≡ None) }
 {
     match fault {
@@ -95,7 +95,7 @@ fn told_measure(fault: MeasureFault) -> Result<Refusal, NoMemory>
 
 // A writer's refusal of a restart, as a world's.
 fn told_restart(fault: RestartFault) -> Result<Refusal, NoMemory>
-    ensures ok { IfOk result (λ refusal. restart_refusal fault ≡ Some refusal) }
+    ensures value { IfOk result (λ refusal. restart_refusal fault ≡ Some refusal) }
     ensures no_memory { OnErr result (restart_refusal fault ≡ None) }
 {
     match fault {
@@ -107,7 +107,7 @@ fn told_restart(fault: RestartFault) -> Result<Refusal, NoMemory>
 // An export of what a writer holds at a time, or its refusal. The round lies in an arena that is given up here.
 #[tactic(auto, using(crate::proofs::Copies::copies))]
 fn copied(alloc: Global, writer: &Writer, time: u64) -> Result<Result<Export, Refusal>, NoMemory>
-    ensures ok { IfOk result (λ copy. IsCopy writer.now time copy) }
+    ensures value { IfOk result (λ copy. IsCopy writer.now time copy) }
     ensures no_memory { OnErr result (collect_fault writer.now time ≡ None) }
 {
     let arena = Bump::new(alloc);

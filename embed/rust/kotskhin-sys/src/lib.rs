@@ -202,6 +202,15 @@ unsafe extern "C" {
         place: *mut u64,
     ) -> i32;
     pub fn kit_writer_restart(writer: *mut Handle, start: u64, place: *mut u64) -> i32;
+    pub fn kit_gateway_newest(
+        gateway: *mut Handle,
+        service: *const u8,
+        service_len: usize,
+        instance_high: u64,
+        instance_low: u64,
+        start: u64,
+        time: *mut u64,
+    ) -> i32;
     pub fn kit_node_open(node: *mut Handle, gateway: *mut Handle) -> i32;
     pub fn kit_node_gateway(node: *mut Handle, gateway: *mut Handle) -> i32;
     pub fn kit_node_take(node: *mut Handle, export: *mut Handle, changed: *mut u64) -> i32;

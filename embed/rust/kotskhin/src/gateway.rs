@@ -5,8 +5,8 @@ use crate::export::Export;
 use crate::handle::Handle;
 use crate::rows::Rows;
 use kotskhin_sys::{
-    kit_gateway_conflicts, kit_gateway_merge, kit_gateway_open, kit_gateway_rows, kit_gateway_same,
-    kit_gateway_take,
+    kit_gateway_conflicts, kit_gateway_merge, kit_gateway_newest, kit_gateway_open,
+    kit_gateway_rows, kit_gateway_same, kit_gateway_take,
 };
 use std::ptr;
 
@@ -44,6 +44,25 @@ impl Gateway {
         // SAFETY: the gateway stays on this thread.
         checked(unsafe { kit_gateway_conflicts(self.0.read(), &mut count) })?;
         Ok(count)
+    }
+
+    /// The greatest time held of the incarnation of a service's instance that began at `start`: what was collected up to it has
+    /// come. Refused: `NoPoint` where nothing of it is held; `NoMemory`.
+    pub fn newest(&self, service: &str, instance: u128, start: u64) -> Result<u64, Error> {
+        let mut time = 0;
+        // SAFETY: the gateway stays on this thread, and the text is a slice's pointer and length.
+        checked(unsafe {
+            kit_gateway_newest(
+                self.0.read(),
+                service.as_ptr(),
+                service.len(),
+                (instance >> 64) as u64,
+                instance as u64,
+                start,
+                &mut time,
+            )
+        })?;
+        Ok(time)
     }
 
     /// Whether both hold equal points; ids are not compared.

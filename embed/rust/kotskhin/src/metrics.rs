@@ -6,6 +6,9 @@
 use crate::{Attributes, DEFAULT_LIMIT, Error, Export, Instruments, Kind, Plan, SetNumber, Writer};
 use std::sync::{Arc, Mutex, MutexGuard, OnceLock, PoisonError};
 
+mod reader;
+pub use reader::{DEFAULT_INTERVAL, ExportError, PeriodicReader, PushExporter, ReadError, now};
+
 #[derive(Default)]
 struct Shared(OnceLock<Mutex<Writer>>);
 
@@ -161,7 +164,7 @@ impl Meter {
         Ok((Meter { shared }, declared))
     }
 
-    /// All that was recorded so far. A thread of the host calls this once in a while, and brings the export to its gateways.
+    /// All that was recorded so far: for a host that brings exports by itself. A [`PeriodicReader`] does both on a thread of its own.
     pub fn collect(&self, time: u64) -> Result<Export, Error> {
         self.shared.writer().collect(time)
     }

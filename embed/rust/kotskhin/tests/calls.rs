@@ -46,6 +46,8 @@ fn one_export_is_for_many_gateways() -> Result<(), Error> {
     assert_eq!(one.same(&other), Ok(true));
     assert_eq!(one.same(&one), Ok(true));
     assert_eq!(one.conflicts(), Ok(0));
+    assert_eq!(one.newest("shop", 1, 100), Ok(200));
+    assert_eq!(one.newest("shop", 2, 100), Err(Error::NoPoint));
     Ok(())
 }
 

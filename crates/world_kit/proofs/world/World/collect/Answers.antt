@@ -1,7 +1,7 @@
-use Rattle.std.proofs.Common.{◌≡◌, ℕ, ◌+◌, ◌<◌, List, [], ◌∷◌, ◌++◌, length, Some, subst, refl, sym, ap, ◌∙◌, arith}
+use Rattle.std.proofs.Common.{◌≡◌, ℕ, ◌+◌, ◌<◌, List, [], ◌∷◌, ◌++◌, length, Some, subst, sym, ap, ◌∙◌, arith}
 use Rattle.std.proofs.Math.ListN.{set}
 use Rattle.std.proofs.lemmas.Grind.{common_steps}
-use Rattle.std.proofs.lemmas.Option.{slice_get_read}
+use Rattle.world_kit.proofs.Places.{same_at, stands_at}
 use Rattle.world_kit.proofs.Replies.{left_as, seen_as, wants_as}
 use Rattle.world_kit.proofs.WriterEvents.{collect_nowhere, collect_refused, collect_wants, collects, opened_at, rises_at, with_export}
 use Rattle.world_kit.specs.contracts.world.World as world
@@ -22,34 +22,26 @@ returns-in-Err-clause-ok c =
     let writers = c.self.inside.writers.items in
     let there : c.args.writer < length writers = grind (arith, common_steps) in
     let x = c.index.result.now in
-    let at_v = slice_get_read writers (length writers) c.args.writer x refl there c.index.ensures in
-    let refuses : Refuses x c.args.time c.in-Err.refusal = subst (IsCopy x c.args.time) c.in-Err.is c.in_ok-export.ensures.ok in
+    let at_v = stands_at writers c.args.writer x there c.index.ensures in
+    let refuses : Refuses x c.args.time c.in-Err.refusal = subst (IsCopy x c.args.time) c.in-Err.is c.in_ok-export.ensures.value in
     left_as _ _ _ _ c.self.view_is (collect_refused w c.args.writer x at_v c.args.time c.args.closing c.in-Err.refusal refuses)
 
 pub mark-requires-clause-open : goal.mark-requires-clause-open
 mark-requires-clause-open c =
-    let w = world.the_view c.self.inside in
     let writers = c.self.inside.writers.items in
     let there : c.args.writer < length writers = grind (arith, common_steps) in
     let x = c.index.result.now in
-    let at_v = slice_get_read writers (length writers) c.args.writer x refl there c.index.ensures in
-    let at_m = slice_get_read writers (length writers) c.args.writer c.index_mut.result.now refl there c.index_mut.ensures.value in
-    let one : Some c.index_mut.result.now ≡ Some x = sym at_m ∙ at_v in
-    let same : c.index_mut.result.now ≡ x = cc one in
-    let copy : Copies x c.args.time c.in-Ok.export = subst (IsCopy x c.args.time) c.in-Ok.is c.in_ok-export.ensures.ok in
+    let same = same_at writers c.args.writer c.index_mut.result.now x there c.index_mut.ensures.value c.index.ensures in
+    let copy : Copies x c.args.time c.in-Ok.export = subst (IsCopy x c.args.time) c.in-Ok.is c.in_ok-export.ensures.value in
     ap (λ (z : Written). z.closed) same ∙ opened_at x c.args.time copy.accepted
 
 pub mark-requires-clause-rises : goal.mark-requires-clause-rises
 mark-requires-clause-rises c =
-    let w = world.the_view c.self.inside in
     let writers = c.self.inside.writers.items in
     let there : c.args.writer < length writers = grind (arith, common_steps) in
     let x = c.index.result.now in
-    let at_v = slice_get_read writers (length writers) c.args.writer x refl there c.index.ensures in
-    let at_m = slice_get_read writers (length writers) c.args.writer c.index_mut.result.now refl there c.index_mut.ensures.value in
-    let one : Some c.index_mut.result.now ≡ Some x = sym at_m ∙ at_v in
-    let same : c.index_mut.result.now ≡ x = cc one in
-    let copy : Copies x c.args.time c.in-Ok.export = subst (IsCopy x c.args.time) c.in-Ok.is c.in_ok-export.ensures.ok in
+    let same = same_at writers c.args.writer c.index_mut.result.now x there c.index_mut.ensures.value c.index.ensures in
+    let copy : Copies x c.args.time c.in-Ok.export = subst (IsCopy x c.args.time) c.in-Ok.is c.in_ok-export.ensures.value in
     let last : c.index_mut.result.now.last ≡ x.last = ap (λ (z : Written). z.last) same in
     let above = rises_at x c.args.time copy.accepted in
     omega arith
@@ -60,11 +52,9 @@ returns-clause-ok c =
     let writers = c.self.inside.writers.items in
     let there : c.args.writer < length writers = grind (arith, common_steps) in
     let x = c.index.result.now in
-    let at_v = slice_get_read writers (length writers) c.args.writer x refl there c.index.ensures in
-    let at_m = slice_get_read writers (length writers) c.args.writer c.index_mut.result.now refl there c.index_mut.ensures.value in
-    let one : Some c.index_mut.result.now ≡ Some x = sym at_m ∙ at_v in
-    let same : c.index_mut.result.now ≡ x = cc one in
-    let copy : Copies x c.args.time c.in-Ok.export = subst (IsCopy x c.args.time) c.in-Ok.is c.in_ok-export.ensures.ok in
+    let at_v = stands_at writers c.args.writer x there c.index.ensures in
+    let same = same_at writers c.args.writer c.index_mut.result.now x there c.index_mut.ensures.value c.index.ensures in
+    let copy : Copies x c.args.time c.in-Ok.export = subst (IsCopy x c.args.time) c.in-Ok.is c.in_ok-export.ensures.value in
     let exports = c.self.inside.exports.items in
     let grown : c.push.new.self.items ≡ exports ++ c.in-Ok.export ∷ [] = c.in_ok-push-in-Ok.ensures.items in
     let count : c.len-2.result ≡ length exports + 1 = grind (arith, common_steps) in
@@ -80,7 +70,7 @@ returns-in_err-export-clause-no_memory c =
     let writers = c.self.inside.writers.items in
     let there : c.args.writer < length writers = grind (arith, common_steps) in
     let x = c.index.result.now in
-    let at_v = slice_get_read writers (length writers) c.args.writer x refl there c.index.ensures in
+    let at_v = stands_at writers c.args.writer x there c.index.ensures in
     wants_as _ _ _ _ c.self.view_is (collect_wants (world.the_view c.self.inside) c.args.writer x at_v c.args.time c.args.closing c.in_err-export.ensures.no_memory)
 
 pub returns-in_err-push-in-Ok-clause-no_memory : goal.returns-in_err-push-in-Ok-clause-no_memory
@@ -88,6 +78,6 @@ returns-in_err-push-in-Ok-clause-no_memory c =
     let writers = c.self.inside.writers.items in
     let there : c.args.writer < length writers = grind (arith, common_steps) in
     let x = c.index.result.now in
-    let at_v = slice_get_read writers (length writers) c.args.writer x refl there c.index.ensures in
-    let copy : Copies x c.args.time c.in-Ok.export = subst (IsCopy x c.args.time) c.in-Ok.is c.in_ok-export.ensures.ok in
+    let at_v = stands_at writers c.args.writer x there c.index.ensures in
+    let copy : Copies x c.args.time c.in-Ok.export = subst (IsCopy x c.args.time) c.in-Ok.is c.in_ok-export.ensures.value in
     wants_as _ _ _ _ c.self.view_is (collect_wants (world.the_view c.self.inside) c.args.writer x at_v c.args.time c.args.closing copy.accepted)

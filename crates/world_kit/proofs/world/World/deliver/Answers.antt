@@ -1,6 +1,6 @@
-use Rattle.std.proofs.Common.{◌-◌, ◌<◌, length, refl, arith}
+use Rattle.std.proofs.Common.{◌-◌, ◌<◌, length, arith}
 use Rattle.std.proofs.lemmas.Grind.{common_steps}
-use Rattle.std.proofs.lemmas.Option.{slice_get_read}
+use Rattle.world_kit.proofs.Places.{stands_at}
 use Rattle.world_kit.proofs.GatewayEvents.{deliver_nowhere, deliver_wants, deliver_zero, deliver_past, delivers}
 use Rattle.world_kit.proofs.Replies.{left_as, seen_as, wants_as}
 use Rattle.world_kit.proofs.world.World.deliver.Goals as goal
@@ -22,8 +22,8 @@ returns-clause-ok c =
     let high : c.args.export - 1 < length exports = grind (arith, common_steps) in
     let there : c.args.gateway < length nodes = grind (arith, common_steps) in
     seen_as _ _ _ _ _ c.self.view_is (delivers _ c.args.export c.args.gateway c.in_ok-changed.changed c.index-brought.result.now c.index_mut.result.now c.take.new.self low
-    (slice_get_read exports (length exports) (c.args.export - 1) c.index-brought.result.now refl high c.index-brought.ensures)
-    (slice_get_read nodes (length nodes) c.args.gateway c.index_mut.result.now refl there c.index_mut.ensures.value)
+    (stands_at exports (c.args.export - 1) c.index-brought.result.now high c.index-brought.ensures)
+    (stands_at nodes c.args.gateway c.index_mut.result.now there c.index_mut.ensures.value)
     c.in_ok-changed.ensures.id c.in_ok-changed.ensures.ok c.in_ok-changed.ensures.value c.in_ok-changed.ensures.numbers c.in_ok-changed.ensures.acked)
 
 pub returns-in_err-changed-clause-no_memory : goal.returns-in_err-changed-clause-no_memory

@@ -1,11 +1,11 @@
-use Rattle.std.proofs.Common.{◌≡◌, ◌<◌, length, Some, None, refl, sym, ap, ◌∙◌, arith, rules}
+use Rattle.std.proofs.Common.{◌≡◌, Some, None, refl, sym, ap, ◌∙◌, arith, rules}
 use Rattle.std.proofs.Math.ListN.{set}
 use Rattle.std.proofs.lemmas.Grind.{common_steps}
 use Rattle.std.proofs.lemmas.Int.{to_z-of_z}
 use Rattle.std.proofs.lemmas.List.{set-get_or}
-use Rattle.std.proofs.lemmas.Option.{slice_get_read}
 use Rattle.std.specs.Int.{w64}
 use Rattle.std.specs.Prelude.{FitsSigned}
+use Rattle.world_kit.proofs.Places.{stands_at}
 use Rattle.world_kit.proofs.Replies.{left_as, seen_as, same_as, wants_as}
 use Rattle.world_kit.proofs.WriterEvents.{measure_nowhere, measure_refused, measure_wants, measures, with_writers}
 use Rattle.world_kit.specs.contracts.world.World as world
@@ -25,15 +25,14 @@ returns-then-writer-len-clause-ok c = left_as _ _ _ _ c.self.view_is (measure_no
 pub returns-in-Err-clause-ok : goal.returns-in-Err-clause-ok
 returns-in-Err-clause-ok c =
     let w = world.the_view c.self.inside in
-    let writers = c.self.inside.writers.items in
-    let there : c.args.writer < length writers = grind (arith, common_steps) in
     let x = c.index_mut.result.now in
-    let at_v = slice_get_read writers (length writers) c.args.writer x refl there c.index_mut.ensures.value in
+    let at_v = stands_at c.self.inside.writers.items c.args.writer x (grind (arith, common_steps)) c.index_mut.ensures.value in
     let its = c.in-Err.ensures in
     let r = c.in_ok-told_measure.field-0 in
-    let told = c.in_ok-told_measure.ensures.ok in
+    let told = c.in_ok-told_measure.ensures.value in
     let fits : FitsSigned w64 c.args.value = search rules in
     let refuses = simp to_z-of_z at (its.err (not_memory c.in-Err.fault r told)) in
+    let writers = c.self.inside.writers.items in
     let kept : set writers c.args.writer c.measure.new.self ≡ writers = ap (set writers c.args.writer) (its.unchanged ∙ c.index_mut.ensures.value) ∙ set-get_or writers c.args.writer x in
     same_as _ _ _ w _ c.self.view_is (ap (with_writers w) kept)
     (measure_refused w c.args.writer x at_v c.args.instrument c.args.attrs.now c.args.value c.in-Err.fault r refuses told)
@@ -41,10 +40,8 @@ returns-in-Err-clause-ok c =
 pub returns-clause-ok : goal.returns-clause-ok
 returns-clause-ok c =
     let w = world.the_view c.self.inside in
-    let writers = c.self.inside.writers.items in
-    let there : c.args.writer < length writers = grind (arith, common_steps) in
     let x = c.index_mut.result.now in
-    let at_v = slice_get_read writers (length writers) c.args.writer x refl there c.index_mut.ensures.value in
+    let at_v = stands_at c.self.inside.writers.items c.args.writer x (grind (arith, common_steps)) c.index_mut.ensures.value in
     let its = c.in_default.ensures in
     let fits : FitsSigned w64 c.args.value = search rules in
     let accepts = simp to_z-of_z at its.ok in
@@ -61,10 +58,8 @@ memory_of (Refused NoMemory) none = refl
 
 pub returns-in_err-told_measure-clause-no_memory : goal.returns-in_err-told_measure-clause-no_memory
 returns-in_err-told_measure-clause-no_memory c =
-    let writers = c.self.inside.writers.items in
-    let there : c.args.writer < length writers = grind (arith, common_steps) in
     let x = c.index_mut.result.now in
-    let at_v = slice_get_read writers (length writers) c.args.writer x refl there c.index_mut.ensures.value in
+    let at_v = stands_at c.self.inside.writers.items c.args.writer x (grind (arith, common_steps)) c.index_mut.ensures.value in
     let its = c.in-Err.ensures in
     let memory = memory_of c.in-Err.fault c.in_err-told_measure.ensures.no_memory in
     let fits : FitsSigned w64 c.args.value = search rules in

@@ -1,8 +1,8 @@
-use Rattle.std.proofs.Common.{◌≡◌, ◌<◌, length, Some, None, refl, sym, ap, ◌∙◌, arith}
+use Rattle.std.proofs.Common.{◌≡◌, Some, None, refl, sym, ap, ◌∙◌, arith}
 use Rattle.std.proofs.Math.ListN.{set}
 use Rattle.std.proofs.lemmas.Grind.{common_steps}
 use Rattle.std.proofs.lemmas.List.{set-get_or}
-use Rattle.std.proofs.lemmas.Option.{slice_get_read}
+use Rattle.world_kit.proofs.Places.{stands_at}
 use Rattle.world_kit.proofs.Replies.{left_as, seen_as, same_as, wants_as}
 use Rattle.world_kit.proofs.WriterEvents.{restart_nowhere, restart_refused, restart_wants, restarts, with_writers}
 use Rattle.world_kit.specs.contracts.world.World as world
@@ -21,13 +21,12 @@ returns-then-writer-len-clause-ok c = left_as _ _ _ _ c.self.view_is (restart_no
 pub returns-in-Err-clause-ok : goal.returns-in-Err-clause-ok
 returns-in-Err-clause-ok c =
     let w = world.the_view c.self.inside in
-    let writers = c.self.inside.writers.items in
-    let there : c.args.writer < length writers = grind (arith, common_steps) in
     let x = c.index_mut.result.now in
-    let at_v = slice_get_read writers (length writers) c.args.writer x refl there c.index_mut.ensures.value in
-    let its = c.in-Err.ensures in
+    let at_v = stands_at c.self.inside.writers.items c.args.writer x (grind (arith, common_steps)) c.index_mut.ensures.value in
     let r = c.in_ok-told_restart.field-0 in
-    let told = c.in_ok-told_restart.ensures.ok in
+    let told = c.in_ok-told_restart.ensures.value in
+    let its = c.in-Err.ensures in
+    let writers = c.self.inside.writers.items in
     let kept : set writers c.args.writer c.restart.new.self ≡ writers = ap (set writers c.args.writer) (its.unchanged ∙ c.index_mut.ensures.value) ∙ set-get_or writers c.args.writer x in
     same_as _ _ _ w _ c.self.view_is (ap (with_writers w) kept)
     (restart_refused w c.args.writer x at_v c.args.start c.in-Err.fault r (its.err (not_memory c.in-Err.fault r told)) told)
@@ -35,12 +34,9 @@ returns-in-Err-clause-ok c =
 pub returns-clause-ok : goal.returns-clause-ok
 returns-clause-ok c =
     let w = world.the_view c.self.inside in
-    let writers = c.self.inside.writers.items in
-    let there : c.args.writer < length writers = grind (arith, common_steps) in
     let x = c.index_mut.result.now in
-    let at_v = slice_get_read writers (length writers) c.args.writer x refl there c.index_mut.ensures.value in
-    let its = c.in_default.ensures in
-    seen_as _ _ _ _ _ c.self.view_is (restarts w c.args.writer x at_v c.args.start c.restart.new.self its.ok its.value)
+    let at_v = stands_at c.self.inside.writers.items c.args.writer x (grind (arith, common_steps)) c.index_mut.ensures.value in
+    seen_as _ _ _ _ _ c.self.view_is (restarts w c.args.writer x at_v c.args.start c.restart.new.self c.in_default.ensures.ok c.in_default.ensures.value)
 
 -- what is no refusal is want of memory
 memory_of : (f : RestartFault) → restart_refusal f ≡ None → f ≡ NoMemory
@@ -49,9 +45,7 @@ memory_of NoMemory none = refl
 
 pub returns-in_err-told_restart-clause-no_memory : goal.returns-in_err-told_restart-clause-no_memory
 returns-in_err-told_restart-clause-no_memory c =
-    let writers = c.self.inside.writers.items in
-    let there : c.args.writer < length writers = grind (arith, common_steps) in
     let x = c.index_mut.result.now in
-    let at_v = slice_get_read writers (length writers) c.args.writer x refl there c.index_mut.ensures.value in
+    let at_v = stands_at c.self.inside.writers.items c.args.writer x (grind (arith, common_steps)) c.index_mut.ensures.value in
     let memory = memory_of c.in-Err.fault c.in_err-told_restart.ensures.no_memory in
     wants_as _ _ _ _ c.self.view_is (restart_wants (world.the_view c.self.inside) c.args.writer x at_v c.args.start (c.in-Err.ensures.no_memory memory))

@@ -1,6 +1,6 @@
-use Rattle.std.proofs.Common.{◌≡◌, ℕ, ◌+◌, ◌<◌, length, List, [], ◌∷◌, ◌++◌, subst, refl, sym, ap, ◌∙◌, arith}
+use Rattle.std.proofs.Common.{◌≡◌, ℕ, ◌+◌, ◌<◌, length, List, [], ◌∷◌, ◌++◌, subst, sym, ap, ◌∙◌, arith}
 use Rattle.std.proofs.lemmas.Grind.{common_steps}
-use Rattle.std.proofs.lemmas.Option.{slice_get_read}
+use Rattle.world_kit.proofs.Places.{stands_at}
 use Rattle.world_kit.proofs.GatewayEvents.{send_nowhere, send_none, send_wants, sends, with_mails}
 use Rattle.world_kit.proofs.Replies.{left_as, seen_as, wants_as}
 use Rattle.gateway_kit.specs.View.{View}
@@ -34,8 +34,8 @@ returns-clause-ok c =
     (subst (λ (n : ℕ). Acts (event.Send c.args.from c.args.to) w (reply.Sent n) (with_mails w c.push.new.self.items)) (sym count)
     (subst (λ (ms : List MessageView). Acts (event.Send c.args.from c.args.to) w (reply.Sent (length mails + 1)) (with_mails w ms)) (sym grown)
     (sends w c.args.from c.args.to c.index-2.result.now c.index.result.now mail
-    (slice_get_read nodes (length nodes) c.args.from c.index-2.result.now refl here c.index-2.ensures)
-    (slice_get_read nodes (length nodes) c.args.to c.index.result.now refl there c.index.ensures)
+    (stands_at nodes c.args.from c.index-2.result.now here c.index-2.ensures)
+    (stands_at nodes c.args.to c.index.result.now there c.index.ensures)
     comes goes c.in_ok-mail.ensures.delta c.in_ok-mail.ensures.ack c.in_ok-mail.ensures.held
     (subst (λ (t : ℕ). Brings mail.points (acknowledged c.index-2.result.now t) c.index-2.result.now.gateway.points) (sym c.in_ok-mail.ensures.to) c.in_ok-mail.ensures.brings))))
 

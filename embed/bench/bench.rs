@@ -1,0 +1,115 @@
+//! What a recording costs from Rust. Each line: a name, and the least of the rounds in nanoseconds for each recording.
+use kotskhin::metrics::Meter;
+use kotskhin::{Attributes, DEFAULT_LIMIT, Error, Instruments, Kind, Plan, Writer};
+use std::thread;
+use std::time::Instant;
+
+const ROUNDS: usize = 25;
+const TIMES: usize = 400_000;
+const THREADS: usize = 4;
+
+type Done = Result<(), Error>;
+
+fn tell(name: &str, recordings: usize, mut run: impl FnMut() -> Done) -> Done {
+    let mut least = f64::MAX;
+    for _ in 0..ROUNDS {
+        let began = Instant::now();
+        run()?;
+        least = least.min(began.elapsed().as_nanos() as f64 / recordings as f64);
+    }
+    println!("{name:<55} {least:7.1}");
+    Ok(())
+}
+
+fn times(recordings: usize, mut record: impl FnMut() -> Done) -> impl FnMut() -> Done {
+    move || (0..recordings).try_for_each(|_| record())
+}
+
+/// The same by each of as many threads.
+fn by_threads<T: Send>(hands: &mut [T], record: impl Fn(&mut T) -> Done + Sync) -> Done {
+    let record = &record;
+    thread::scope(|scope| {
+        let started: Vec<_> = hands
+            .iter_mut()
+            .map(|hand| scope.spawn(move || (0..TIMES).try_for_each(|_| record(hand))))
+            .collect();
+        started
+            .into_iter()
+            .try_for_each(|it| it.join().expect("it ends"))
+    })
+}
+
+fn four() -> Result<Attributes, Error> {
+    const KEYS: [&str; 4] = ["attribute.0", "attribute.1", "attribute.2", "attribute.3"];
+    Attributes::new(KEYS.map(|key| (key, "value 0")))
+}
+
+fn main() -> Done {
+    let mut instruments = Instruments::new();
+    instruments.add("bench", "requests", "1", Kind::Counter)?;
+    let plan = Plan::build(&instruments, DEFAULT_LIMIT)?;
+    let mut writer = Writer::start(&plan, "bench", 1, 100)?;
+    let set = four()?;
+    let number = writer.hold(&set)?;
+    tell(
+        "Rust: 4 attributes, a held set, Writer",
+        TIMES,
+        times(TIMES, || writer.measure(0, &set, 1)),
+    )?;
+    tell(
+        "Rust: 4 attributes, by number, Writer",
+        TIMES,
+        times(TIMES, || writer.measure_held(0, number, 1)),
+    )?;
+
+    let (_meter, (requests, sizes)) = Meter::start("bench", 2, "bench", 100, |m| {
+        Ok((m.counter("requests", "1")?, m.histogram("sizes", "1")?))
+    })?;
+    let bound = requests.with(&set)?;
+    tell(
+        "Rust: 4 attributes, a held set, Counter",
+        TIMES,
+        times(TIMES, || requests.add(1, &set)),
+    )?;
+    tell(
+        "Rust: 4 attributes, by number, BoundCounter",
+        TIMES,
+        times(TIMES, || bound.add(1)),
+    )?;
+    tell(
+        "Rust: 4 attributes, a held set, Histogram",
+        TIMES,
+        times(TIMES, || sizes.record(1, &set)),
+    )?;
+    tell(
+        "Rust: 4 attributes, made anew, Counter",
+        TIMES / 8,
+        times(TIMES / 8, || requests.add(1, &four()?)),
+    )?;
+
+    let mut seats = vec![writer.share().map_err(|(_, error)| error)?];
+    while seats.len() < THREADS {
+        let next = seats[0].split()?;
+        seats.push(next);
+    }
+    tell(
+        "Rust: 4 attributes, by number, 4 threads by seats",
+        THREADS * TIMES,
+        || {
+            by_threads(&mut seats, |seat| {
+                loop {
+                    match seat.measure_held(0, number, 1) {
+                        Err(Error::Busy) => thread::yield_now(),
+                        told => return told,
+                    }
+                }
+            })
+        },
+    )?;
+    let mut hands = vec![bound; THREADS];
+    tell(
+        "Rust: 4 attributes, by number, 4 threads, BoundCounter",
+        THREADS * TIMES,
+        || by_threads(&mut hands, |hand| hand.add(1)),
+    )
+}

@@ -1,0 +1,80 @@
+//! The same of the crate `prometheus`, whose labels are its attributes.
+use prometheus::{exponential_buckets, HistogramOpts, HistogramVec, IntCounterVec, Opts};
+use std::hint::black_box;
+use std::thread;
+use std::time::Instant;
+
+const ROUNDS: usize = 25;
+const TIMES: usize = 400_000;
+const THREADS: usize = 4;
+const KEYS: [&str; 4] = ["attribute_0", "attribute_1", "attribute_2", "attribute_3"];
+const VALUES: [&str; 4] = ["value 0"; 4];
+
+fn tell(name: &str, recordings: usize, mut run: impl FnMut()) {
+    let mut least = f64::MAX;
+    for _ in 0..ROUNDS {
+        let began = Instant::now();
+        run();
+        least = least.min(began.elapsed().as_nanos() as f64 / recordings as f64);
+    }
+    println!("{name:<55} {least:7.1}");
+}
+
+fn main() -> prometheus::Result<()> {
+    let requests = IntCounterVec::new(Opts::new("requests", "requests"), &KEYS)?;
+    let buckets = exponential_buckets(1.0, 2.0, 15)?;
+    let sizes = HistogramVec::new(HistogramOpts::new("sizes", "sizes").buckets(buckets), &KEYS)?;
+    let (bound, bound_sizes) = (
+        requests.with_label_values(&VALUES),
+        sizes.with_label_values(&VALUES),
+    );
+    tell(
+        "prometheus: 4 labels, looked up by their values",
+        TIMES,
+        || {
+            for _ in 0..TIMES {
+                requests.with_label_values(black_box(&VALUES)).inc();
+            }
+        },
+    );
+    tell("prometheus: 4 labels, a held counter", TIMES, || {
+        for _ in 0..TIMES {
+            black_box(&bound).inc();
+        }
+    });
+    tell(
+        "prometheus: 4 labels, a histogram, looked up",
+        TIMES,
+        || {
+            for _ in 0..TIMES {
+                sizes.with_label_values(black_box(&VALUES)).observe(1.0);
+            }
+        },
+    );
+    tell("prometheus: 4 labels, a held histogram", TIMES, || {
+        for _ in 0..TIMES {
+            black_box(&bound_sizes).observe(1.0);
+        }
+    });
+    for (name, is_held) in [("looked up", false), ("a held counter", true)] {
+        tell(
+            &format!("prometheus: 4 labels, {name}, 4 threads"),
+            THREADS * TIMES,
+            || {
+                thread::scope(|scope| {
+                    for _ in 0..THREADS {
+                        scope.spawn(|| {
+                            for _ in 0..TIMES {
+                                match is_held {
+                                    true => black_box(&bound).inc(),
+                                    false => requests.with_label_values(black_box(&VALUES)).inc(),
+                                }
+                            }
+                        });
+                    }
+                });
+            },
+        );
+    }
+    Ok(())
+}

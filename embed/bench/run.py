@@ -1,0 +1,47 @@
+#!/usr/bin/env python3
+"""What a recording costs from other languages, in one run; docs/EMBEDDING.md has the figures.
+
+    run.py FOLDER        FOLDER is what embed/build made
+
+Each line is the least of 25 rounds of 400,000 recordings (fewer of sets that are made anew), in nanoseconds for each. From C and from Rust, and
+where Debian's librust-prometheus-dev and golang-github-prometheus-client-golang-dev are there, beside the crate `prometheus` and
+client_golang. It leaves nothing in the tree."""
+import os
+import pathlib
+import shutil
+import subprocess
+import sys
+import tempfile
+
+HERE = pathlib.Path(__file__).resolve().parent
+CRATES, GOCODE = pathlib.Path("/usr/share/cargo/registry"), pathlib.Path("/usr/share/gocode")
+
+
+def run(*command, **given):
+    subprocess.run([str(it) for it in command], stdin=subprocess.DEVNULL, check=True, **given)
+
+
+def main():
+    kit = pathlib.Path(sys.argv[1]).resolve()
+    with tempfile.TemporaryDirectory() as made:
+        room = pathlib.Path(made)
+        compiler = shutil.which("clang") or "cc"
+        run(compiler, "-O2", f"-I{kit}/include", HERE / "bench.c", f"-L{kit}/lib", "-lkotskhin", "-pthread", "-o", room / "bench")
+        given = {**os.environ, "KOTSKHIN_LIB": f"{kit}/lib", "CARGO_TARGET_DIR": f"{room}/rust"}
+        run("cargo", "build", "-q", "--release", "--offline", "--locked", "--example", "bench", cwd=HERE.parent / "rust", env=given)
+        programs = [room / "bench", room / "rust/release/examples/bench"]
+        if list(CRATES.glob("prometheus-*")):
+            shutil.copytree(HERE / "prometheus", room / "prometheus")
+            there = ["--config", 'source.crates-io.replace-with="debian"', "--config", f'source.debian.directory="{CRATES}"']
+            run("cargo", "build", "-q", "--release", "--offline", *there, cwd=room / "prometheus", env=given)
+            programs.append(room / "rust/release/bench-prometheus")
+        if shutil.which("go") and (GOCODE / "src/github.com/prometheus").is_dir():
+            given = {**os.environ, "GO111MODULE": "off", "GOPATH": str(GOCODE), "GOCACHE": f"{room}/cache"}
+            run("go", "build", "-o", room / "go", ".", cwd=HERE / "go", env=given)
+            programs.append(room / "go")
+        for program in programs:
+            run(program)
+
+
+if __name__ == "__main__":
+    main()

@@ -1,0 +1,65 @@
+"""A gateway: gateway.py PORT ID. Of the exports at the broker each goes to one gateway, which takes it and tells the others; it
+acknowledges the export at the broker once all of them were told. It ends, and prints its table, once each gateway has all that the
+workers counted."""
+import sys
+import time
+
+from resp import Redis
+from shared import ALL, COUNTED, DONE, EXPORTS, GROUP, INBOX, NAME, PEERS, SCOPE, SECONDS, SERVICE, UNIT, Line, entries
+from kotskhin import Export, Gateway, Refused
+
+NO_POINT = 9
+# An export that another gateway read so long ago and did not acknowledge: it is gone, or slow. Then the export comes twice.
+IDLE_MILLISECONDS = 300
+
+
+def has_all(redis, gateway):
+    """Whether it holds the last collection of each incarnation of each worker."""
+    if redis("GET", ALL) is None:
+        return False
+    told = redis("HGETALL", COUNTED)
+    for incarnation, last in zip(told[::2], told[1::2]):
+        instance, start = map(int, incarnation.split())
+        try:
+            if gateway.newest(SERVICE, instance, start) < int(last.split()[0]):
+                return False
+        except Refused as refused:
+            if refused.code != NO_POINT:
+                raise
+            return False
+    return True
+
+
+def main():
+    port, me = int(sys.argv[1]), int(sys.argv[2])
+    redis = Redis(port, SECONDS)
+    line = Line(redis, seed=100 + me)
+    gateway = Gateway(me)
+    redis("SADD", PEERS, me)
+    # A gateway that comes late: what was acknowledged before nobody tells again, and stands in the log.
+    for _, fields in redis("XRANGE", EXPORTS, "-", "+"):
+        gateway.take(Export.decode(fields[1]))
+    seen, end = "0", time.monotonic() + SECONDS
+    while time.monotonic() < end:
+        came = entries(redis("XREADGROUP", "GROUP", GROUP, me, "COUNT", 10, "BLOCK", 20, "STREAMS", EXPORTS, ">"))
+        came += entries([[EXPORTS, redis("XAUTOCLAIM", EXPORTS, GROUP, me, IDLE_MILLISECONDS, "0", "COUNT", 10)[1]]])
+        for _, export in came:
+            gateway.take(Export.decode(export))
+            for peer in redis("SMEMBERS", PEERS):
+                if int(peer) != me:
+                    line.send(INBOX(int(peer)), export)
+        line.flush()
+        for entry, _ in came:
+            redis("XACK", EXPORTS, GROUP, entry)
+        for seen, export in entries(redis("XREAD", "COUNT", 100, "STREAMS", INBOX(me), seen)):
+            gateway.take(Export.decode(export))
+        if has_all(redis, gateway):
+            redis("SADD", DONE, me)
+            if redis("SCARD", DONE) == redis("SCARD", PEERS):
+                print(gateway.sum(SCOPE, NAME, UNIT), end="")
+                return
+    sys.exit(f"gateway {me} never had all")
+
+
+if __name__ == "__main__":
+    main()
