@@ -23,7 +23,7 @@ import types
 
 import costs
 import trials
-from kit import ONE_JOB, patiently, rt, rtlib, version, what_is_free
+from kit import ONE_JOB, patiently, rt, rtlib, version, what_is_free, whole_gate
 
 HERE = pathlib.Path(__file__).resolve().parent
 TOP = HERE.parents[1]
@@ -141,13 +141,13 @@ def lanes(crates):
     return max(1, min(rt.processors(), int(0.85 * rt.free() / max([rt.need(it) for it in crates], default=1))))
 
 
-def whole(from_nothing, aside, ledger):
+def whole(from_nothing, ledger):
     """The gate, once what earlier runs left is set aside."""
     edits_of, out, stages, at = rt.edits_of, Passing(sys.stdout), [], time.time()
     rt.edits_of = lambda crate: ([], [])
     os.environ["GATE_UNTIL"] = str(BEGAN + 60 * (MINUTES + MORE_MINUTES))
     with contextlib.redirect_stdout(out):
-        status = from_nothing(aside, True)
+        status = from_nothing()
     rt.edits_of = edits_of
     passed, lost = out.count or (0, 1)
     failed = ["rt ci"] * max(lost, status != 0)
@@ -214,9 +214,7 @@ def main(words):
         if words[:1] == ["edits"]:
             return edits_alone(words[1:])
         print(f"free: {what_is_free()}", flush=True)
-        over = rt.ci_over
-        rt.ci_over = lambda aside, anew: whole(over, aside, ledger)
-        return rt.ci(True)
+        return whole_gate(lambda from_nothing: whole(from_nothing, ledger))
 
 
 if __name__ == "__main__":

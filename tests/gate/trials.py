@@ -10,7 +10,7 @@ import tempfile
 import time
 
 import edits
-from kit import ONE_JOB, patiently, rt, rtlib
+from kit import BAD, ONE_JOB, REFUSED, linked, listing, must_fail, patiently, rt, rtlib
 
 # More edits in one check than this would be lost at once where time is over.
 MOST_TOGETHER = 40
@@ -63,7 +63,7 @@ class Trial:
     def __init__(self, crate, paths, functions):
         self.crate, self.edits, self.functions = crate, [edits.read(it) for it in paths], functions
         self.seed = f"{crate.folder}/out/incremental"
-        self.was = rt.listing(self.seed)
+        self.was = listing(self.seed)
         self.rounds, self.single = edits.rounds_of(self.edits, source_of(crate), MOST_TOGETHER)
         self.told, self.took = {}, {}
 
@@ -71,7 +71,7 @@ class Trial:
         """The call's answer, given a copy of its own of the work that the crate's proof left: no check then meets another's wrong bodies."""
         room = tempfile.mkdtemp(prefix="edits-", dir=f"{self.crate.folder}/out")
         try:
-            rt.linked(self.seed, f"{room}/kept")
+            linked(self.seed, f"{room}/kept")
             return call(f"{room}/kept")
         finally:
             shutil.rmtree(room, ignore_errors=True)
@@ -116,12 +116,12 @@ class Trial:
             if is_over():
                 self.told[edit.path] = None, ""
                 return
-            began, one = time.time(), lambda over: rt.must_fail(self.crate, edit.path, ONE_JOB, over)
+            began, one = time.time(), lambda over: must_fail(self.crate, edit.path, over)
             kind, text = self.over_seed(one) if kept else one(None)
-            is_refused = kind in (rt.REFUSED, rt.AT_LIMIT)
+            is_refused = kind == REFUSED
             self.told[edit.path] = (None, "") if not is_refused and is_over() else (is_refused, text)
             self.took[edit.name] = time.time() - began
-            if is_refused or kind == rt.BAD:
+            if is_refused or kind == BAD:
                 return
 
     def untold(self):
@@ -129,7 +129,7 @@ class Trial:
 
     def is_untouched(self):
         """Whether the seed is as the crate's proof left it; if not, no result that stands on it counts."""
-        return rt.listing(self.seed) == self.was
+        return listing(self.seed) == self.was
 
     def end(self):
         """Tells what came of the edits; gives how many were refused, the names of those that were not, and how many were left."""
