@@ -18,6 +18,12 @@ use Rattle.point_kit.specs.Equality.{cell_eq}
 abbrev pub part_at : PartKey → List Part → List Entry
 part_at key parts = entries_at (find part_cmp key (map part_of parts))
 
+-- entries after others came in, how many keys are new and how many changed
+pub record Joins (olds news came : List Entry) (more changed : ℕ) : Type 0 where
+  pub joined : (b : ItemKey) → find item_cmp b news ≡ join_options (join_cells payload_eq) (find item_cmp b olds) (find item_cmp b came)
+  pub more_keys : more ≡ count_by (is_new item_cmp olds) came
+  pub changes : changed ≡ count_by (is_change item_cmp (join_cells payload_eq) cell_eq olds) came
+
 -- the part under a key is joined with what came, and all others stay
 pub record Grows (olds news : List Part) (key : PartKey) (came : List Entry) (more changed : ℕ) : Type 0 where
   pub sorted : IsTrue (is_sorted part_cmp (map part_of news))

@@ -13,6 +13,7 @@ ghost use Rattle.gateway_kit.specs.Numbers.{ItemsMove};
 ghost use Rattle.gateway_kit.specs.Tallies.{IsTally, are_up_to};
 
 use crate::changes::Changes;
+use crate::hint::Hint;
 use crate::part_item::PartItem;
 use crate::seek::rises;
 use crate::tally::{Tally, conflict_of, is_further};
@@ -158,6 +159,14 @@ impl Draft {
         }
     }
 
+    /// Where among so many items and the new ones behind them what stands at a place is, or comes to be.
+    pub(crate) fn place_in(&self, len: usize, place: Result<usize, usize>) -> usize {
+        match place {
+            Ok(place) => place,
+            Err(_) => len.saturating_add(self.fresh.len()),
+        }
+    }
+
     /// Brings in what is told of a key, whose place among the items is known. Copies the key only where it is new.
     pub(crate) fn bring(
         &mut self,
@@ -179,6 +188,7 @@ impl Draft {
                 }
             }
             Err(_) => {
+                let here = self.place_in(items.len(), place);
                 let item = PartItem {
                     stream: stream.try_copy()?,
                     attrs: attrs.try_copy()?,
@@ -187,6 +197,7 @@ impl Draft {
                         held: copied(payload)?,
                     },
                     number: 0,
+                    hint: Hint::at(here),
                 };
                 self.fresh.push(item)?;
             }

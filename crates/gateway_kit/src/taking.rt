@@ -67,23 +67,7 @@ fn take_held(
     ensures moves { OnOk result (PartsMove number incarnations.old.items incarnations.new.items) }
     ensures unchanged { OnErr result (incarnations.new.items ≡ incarnations.old.items) }
 {
-    let alloc = *incarnations.allocator();
-    let changes = incarnations[place].changes_by(alloc, export)?;
-    let more = changes.fresh.len();
-    let changed = (changes.updates.len() + more) as u64;
-    if more > MOST_POINTS - len {
-        return Err(NoMemory);
-    }
-    let incarnation = &mut incarnations[place];
-    let before = incarnation.conflicts();
-    incarnation.install(number, changes);
-    let after = incarnation.conflicts();
-    Ok(Growth {
-        more,
-        changed,
-        before,
-        after,
-    })
+    incarnations[place].take(len, number, export)
 }
 
 // Adds the incarnation of an export at the place where it belongs.
@@ -105,21 +89,9 @@ fn take_new(
 {
     let alloc = *incarnations.allocator();
     let mut incarnation = Incarnation::new(alloc, export.writer().try_copy()?, export.start());
-    let changes = incarnation.changes_by(alloc, export)?;
-    let more = changes.fresh.len();
-    let changed = (changes.updates.len() + more) as u64;
-    if more > MOST_POINTS - len {
-        return Err(NoMemory);
-    }
-    incarnation.install(number, changes);
-    let after = incarnation.conflicts();
+    let growth = incarnation.take(len, number, export)?;
     incarnations.insert(place, incarnation)?;
-    Ok(Growth {
-        more,
-        changed,
-        before: 0,
-        after,
-    })
+    Ok(growth)
 }
 
 /// Joins an export, which has points, into its incarnation, and numbers the keys that change.
