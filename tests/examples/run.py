@@ -10,7 +10,7 @@ written. There its status and both its streams are told below. `rt ci`
 leaves the program in crates/otm/out, as each of two compilers builds it, and `rt run` as the first does: every build that lies
 there does all of it.
 
-What PAGES quote of crates/uses must stand there: a comment `<!-- FILE: fn NAME -->` names what the next block, fenced as
+What PAGES quote of the crates must stand there: a comment `<!-- FILE: fn NAME -->` names what the next block, fenced as
 `rust`, has whole, and `, body` after it asks for the lines between its braces. Under the words `otm --help`, `otm help fleet` and
 `otm --version` COMMANDS_PAGE shows what these print.
 
