@@ -1,10 +1,10 @@
 //! How an incarnation grows.
-ghost use Rattle.std.specs.Prelude.{◌≡◌, ℕ, ◌^◌, IsTrue, IfOk, OnOk, OnErr, map, if◌then◌else◌, nat_le, [], ◌≤◌, ◌+◌, length, option_copied, vec_len, vec_capacity};
+ghost use Rattle.std.specs.Prelude.{◌≡◌, ℕ, ◌^◌, IsTrue, IfOk, OnOk, OnErr, map, [], ◌≤◌, ◌+◌, option_copied, vec_len, vec_capacity};
 ghost use Rattle.std.specs.FinMap as finite;
 ghost use Rattle.std.specs.FinMap.{entries, from_sorted};
 ghost use Rattle.std.specs.FinMap.Entries.{is_sorted};
-ghost use Rattle.gateway_kit.specs.Changing.{Prepares, entries_of, grown, held_as};
-ghost use Rattle.gateway_kit.specs.Growth.{Joins};
+ghost use Rattle.gateway_kit.specs.Changing.{Prepares, entries_of, grown, held_as, woven_items};
+ghost use Rattle.gateway_kit.specs.Growth.{PartJoins};
 ghost use Rattle.gateway_kit.specs.Keys.{entry_of, item_cmp, part_cmp};
 ghost use Rattle.gateway_kit.specs.Numbers.{AllAre, IsNumbered, ItemsMove, PartMoves};
 ghost use Rattle.gateway_kit.specs.Parts.{part_of};
@@ -12,7 +12,6 @@ ghost use Rattle.gateway_kit.specs.Places.{IsPlace};
 ghost use Rattle.gateway_kit.specs.Tallies.{IsTally, are_up_to, part_conflicts};
 ghost use Rattle.gateway_kit.specs.Times.{latest};
 ghost use Rattle.std.specs.declared.cmp.Ordering.{Ordering};
-ghost use Rattle.gateway_kit.specs.Weave.{weave};
 ghost use Rattle.gateway_kit.specs.declared.part_item.PartItem.{PartItem};
 
 use crate::changes::Changes;
@@ -56,7 +55,7 @@ fn put_items(
     ensures tally { IsTally (map entry_of items.new.items) result }
     ensures moves { ItemsMove number items.old.items items.new.items }
     ensures up_to { (n : ℕ) → number ≤ n → IsTrue (are_up_to n items.old.items) → IsTrue (are_up_to n items.new.items) }
-    ensures woven { map entry_of items.new.items ≡ (if nat_le (length items.old.items + length fresh.items) (vec_capacity room) then weave (λ x y. item_cmp x.0 y.0) (map entry_of items.old.items) (map entry_of fresh.items) else map entry_of items.old.items) }
+    ensures woven { map entry_of items.new.items ≡ woven_items items.old.items fresh.items (vec_capacity room) }
 {
     if !fresh.is_empty() && fresh.len() <= room.capacity().saturating_sub(items.len()) {
         number_all(&mut fresh, number);
@@ -135,7 +134,7 @@ impl Incarnation {
         export: &Export,
     ) -> Result<Growth, NoMemory>
         requires { len ≤ 2 ^ 62 }
-        ensures joins { IfOk result (λ g. Joins (entries self.old.cells) (entries self.new.cells) (entries_of export.now) g.more g.changed) }
+        ensures joins { IfOk result (λ g. PartJoins self.old self.new (entries_of export.now) g) }
         ensures same { OnOk result ((part_of self.new).0 ≡ (part_of self.old).0) }
         ensures moves { OnOk result (PartMoves number self.old self.new) }
         ensures bounded { IfOk result (λ g. len + g.more ≤ 2 ^ 62) }

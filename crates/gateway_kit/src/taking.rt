@@ -1,8 +1,7 @@
 //! How a gateway's incarnations take an export.
 ghost use Rattle.std.specs.Prelude.{◌≡◌, ◌≢◌, ◌<◌, ◌≤◌, ◌+◌, ◌^◌, IsTrue, IfOk, OnOk, OnErr, map, [], length, vec_len};
 ghost use Rattle.std.specs.FinMap.Entries.{is_sorted};
-ghost use Rattle.gateway_kit.specs.Changing.{entries_of};
-ghost use Rattle.gateway_kit.specs.Growth.{Grows};
+ghost use Rattle.gateway_kit.specs.Growth.{TakesExport};
 ghost use Rattle.gateway_kit.specs.Keys.{part_cmp};
 ghost use Rattle.gateway_kit.specs.Numbers.{PartsMove};
 ghost use Rattle.gateway_kit.specs.Parts.{IsWhole, part_of};
@@ -61,7 +60,7 @@ fn take_held(
     requires whole { IsWhole incarnations.old.items len }
     requires placed { IsAt part_cmp (map part_of incarnations.old.items) (export.now.writer, export.now.start) place }
     requires points { export.now.points ≢ [] }
-    ensures grows { IfOk result (λ g. Grows incarnations.old.items incarnations.new.items (export.now.writer, export.now.start) (entries_of export.now) g.more g.changed) }
+    ensures grows { IfOk result (λ g. TakesExport incarnations.old.items incarnations.new.items export.now g) }
     ensures bounded { IfOk result (λ g. len + g.more ≤ 2 ^ 62) }
     ensures tells { IfOk result (λ g. Tells incarnations.old.items incarnations.new.items g.before g.after) }
     ensures moves { OnOk result (PartsMove number incarnations.old.items incarnations.new.items) }
@@ -81,7 +80,7 @@ fn take_new(
     requires whole { IsWhole incarnations.old.items len }
     requires placed { IsGap part_cmp (map part_of incarnations.old.items) (export.now.writer, export.now.start) place }
     requires points { export.now.points ≢ [] }
-    ensures grows { IfOk result (λ g. Grows incarnations.old.items incarnations.new.items (export.now.writer, export.now.start) (entries_of export.now) g.more g.changed) }
+    ensures grows { IfOk result (λ g. TakesExport incarnations.old.items incarnations.new.items export.now g) }
     ensures bounded { IfOk result (λ g. len + g.more ≤ 2 ^ 62) }
     ensures tells { IfOk result (λ g. Tells incarnations.old.items incarnations.new.items g.before g.after) }
     ensures moves { OnOk result (PartsMove number incarnations.old.items incarnations.new.items) }
@@ -103,7 +102,7 @@ pub(crate) fn taken(
 ) -> Result<Growth, NoMemory>
     requires whole { IsWhole incarnations.old.items len }
     requires points { export.now.points ≢ [] }
-    ensures grows { IfOk result (λ g. Grows incarnations.old.items incarnations.new.items (export.now.writer, export.now.start) (entries_of export.now) g.more g.changed) }
+    ensures grows { IfOk result (λ g. TakesExport incarnations.old.items incarnations.new.items export.now g) }
     ensures bounded { IfOk result (λ g. len + g.more ≤ 2 ^ 62) }
     ensures tells { IfOk result (λ g. Tells incarnations.old.items incarnations.new.items g.before g.after) }
     ensures moves { OnOk result (PartsMove number incarnations.old.items incarnations.new.items) }
