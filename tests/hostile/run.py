@@ -1,13 +1,13 @@
 #!/usr/bin/env python3
-"""Malformed scripts and failing streams, and a soak of scripts made from a seed: of all sorts, and of gossip.
+"""Malformed scripts and failing streams, and soaks of scripts made from a seed: of all sorts, of exports that come again, and of gossip.
 
 `otm run` must answer each with a bad line, of which its standard error says what is wrong, or as the script says: statuses 0 and
-1, and 4 for a stream that failed, never by a signal. What the scripts of the soak must print is told by a plain reading of them
-(plain.py), in which a mail carries all that its sender holds. Those of gossip (gossip.py) have 20,000 events together, among which
-deltas and Acks are lost, doubled, late and out of order: this prints how many, and some of each must be there. It ends with a status
-other than 0 where something is not as told.
+1, and 4 for a stream that failed, never by a signal. What the scripts of a soak must print is told by a plain reading of them
+(plain.py), in which a mail carries all that its sender holds. The second soak delivers exports of the same incarnations again and again
+(resends.py). Scripts of gossip (gossip.py) have 20,000 events together, among which deltas and Acks are lost, doubled, late and out
+of order: this prints how many, and some of each must be there. It ends with a status other than 0 where something is not as told.
 
-    tests/hostile/run.py [--scripts N] [--seed S]     N scripts in the soak, made from this seed; it is printed"""
+    tests/hostile/run.py [--scripts N] [--exports N] [--seed S]     N scripts in the first soak and N exports in the second, made from this seed; it is printed"""
 import argparse
 import concurrent.futures
 import itertools
@@ -24,10 +24,12 @@ sys.path.insert(0, str(pathlib.Path(__file__).resolve().parents[1] / "faults"))
 import faults
 import gossip
 import plain
+import resends
 import scripts
 
 WORKERS = 2
 SCRIPTS = 4_000
+EXPORTS = 10_000
 GOSSIPS = 40
 CHUNK = 1_000
 LONGEST = 1_048_576
@@ -154,10 +156,24 @@ def closed(program):
     return len(rows) + 1, wrong
 
 
-def beside(programs, pool, made):
-    """Does scripts as they are made, a tenth of them by the second build too. How they ended, and what was wrong."""
+def made(count, seed):
+    """So many scripts made from a seed."""
+    seeds = [path.read_bytes() for path in sorted((faults.TOP / "examples").glob("*.otm"))]
+    maker = scripts.Maker(random.Random(seed), seeds)
+    for _ in range(count):
+        yield maker.script()
+
+
+def resent(maker, count):
+    """Scripts of this maker, until so many exports are delivered in them."""
+    while maker.delivered < count:
+        yield maker.script()
+
+
+def soak(programs, all_scripts, pool):
+    """Does scripts, a tenth of them by the second build too. How they ended, and what was wrong."""
     answers = done(programs[0], ANSWERED)[1] == b""
-    ends, wrong = {}, []
+    ends, wrong, works = {}, [], enumerate(all_scripts)
 
     def judged(work):
         number, script = work
@@ -170,28 +186,24 @@ def beside(programs, pool, made):
                 return script, told[0], f"{program.name}: status {told[0]}, {shown(told[1])}, {shown(told[2])}, not {shown(text)}"
         return script, status, ""
 
-    numbered = enumerate(made)
-    while chunk := list(itertools.islice(numbered, CHUNK)):
+    while chunk := list(itertools.islice(works, CHUNK)):
         for script, status, told in pool.map(judged, chunk):
             ends[status] = ends.get(status, 0) + 1
             if told:
                 wrong.append(f"{told}: {shown(script)}")
-    return ", ".join(f"{number} with status {status}" for status, number in sorted(ends.items())), wrong
-
-
-def soak(programs, count, seed, pool):
-    """Does so many scripts of all sorts, made from a seed."""
-    seeds = [path.read_bytes() for path in sorted((faults.TOP / "examples").glob("*.otm"))]
-    maker = scripts.Maker(random.Random(seed), seeds)
-    return beside(programs, pool, (maker.script() for _ in range(count)))
+    return ends, wrong
 
 
 def soak_gossip(programs, seed, pool):
     """Does scripts of gossip, made from a seed. What was among their events, and what was wrong."""
-    made, fates = gossip.made(random.Random(seed), GOSSIPS)
-    ends, wrong = beside(programs, pool, made)
+    all_scripts, fates = gossip.made(random.Random(seed), GOSSIPS)
+    ends, wrong = soak(programs, all_scripts, pool)
     told, few = gossip.told(GOSSIPS, fates)
-    return f"{GOSSIPS} scripts from seed {seed}: {ends}; {told}", wrong + few
+    return f"{GOSSIPS} scripts from seed {seed}: {ended(ends)}; {told}", wrong + few
+
+
+def ended(ends):
+    return ", ".join(f"{number} with status {status}" for status, number in sorted(ends.items()))
 
 
 def say(text, wrong):
@@ -207,6 +219,7 @@ def say(text, wrong):
 def main():
     words = argparse.ArgumentParser()
     words.add_argument("--scripts", type=int, default=SCRIPTS)
+    words.add_argument("--exports", type=int, default=EXPORTS)
     words.add_argument("--seed", type=int, default=random.SystemRandom().randrange(1 << 32))
     asked = words.parse_args()
     programs = faults.programs("otm")
@@ -223,8 +236,13 @@ def main():
             failed |= say(f"{program.name}: {count} runs with streams that are closed, full or no file", wrong)
         count, wrong = streams(library, programs[0])
         failed |= say(f"{programs[0].name}: {count} runs with reads and writes of one byte, each failing in turn", wrong)
-        text, wrong = soak(programs, asked.scripts, asked.seed, pool)
-        failed |= say(f"soak: {asked.scripts} scripts from seed {asked.seed}: {text}", wrong)
+        ends, wrong = soak(programs, made(asked.scripts, asked.seed), pool)
+        failed |= say(f"soak: {asked.scripts} scripts from seed {asked.seed}: {ended(ends)}", wrong)
+        maker = resends.Resender(random.Random(asked.seed))
+        ends, wrong = soak(programs, resent(maker, asked.exports), pool)
+        kinds = ", ".join(f"{kind} {number}" for kind, number in maker.kinds.items())
+        wrong += [f"no export of the kind {kind}" for kind, number in maker.kinds.items() if not number and asked.exports >= EXPORTS]
+        failed |= say(f"soak: {maker.delivered} exports that come again from seed {asked.seed} ({kinds}): {ended(ends)}", wrong)
         text, wrong = soak_gossip(programs, asked.seed, pool)
         failed |= say(f"gossip: {text}", wrong)
     print("hostile: " + ("NOT ALL AS TOLD" if failed else "all as told"))
