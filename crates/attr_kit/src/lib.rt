@@ -16,8 +16,6 @@ mod pair_list;
 mod pairs;
 mod seq;
 mod short_text;
-#[cfg(test)]
-mod tests;
 mod try_copy;
 mod txt;
 
