@@ -4,6 +4,10 @@
 //! not empty; a value is here a text, a truth or a whole number. [`AttrSet`] is the set, [`Keep`] is what a view keeps of
 //! one. All types are seen by contracts as plain values: a text as the list of its bytes, a set as the sorted list of its
 //! pairs. Copies may want memory ([`TryCopy`]), and `==` tells all values apart ([`Exact`]).
+//!
+//!     let mut pairs = Vec::new(alloc);
+//!     pairs.push((Txt::from_str(alloc, "route")?, AttrValue::Whole(7)))?;
+//!     let set = AttrSet::from_pairs(pairs)?;
 #![tactic(auto)]
 
 mod allow_list;

@@ -5,6 +5,8 @@
 //! a fault has exactly the totals of its jobs at every gateway, whatever its threads did in between: `run_fleet` says so of
 //! every query of sums or histograms. The OpenTelemetry specification has no fleets; they are the kit's own.
 //!
+//!     let gateways = run_fleet(rt, alloc, setup, &gate)?;
+//!
 //! What contracts cite stands in `specs/`: `Setups` (the writers and jobs of a setup), `Checks` and `Faults` (why a setup is refused),
 //! `Closing` and `Collected` (what a closed shared writer recorded, and its export), `Jobs`, `Posting` and `Serving` (between threads),
 //! `Halts` (why threads stop short, and which reason is told).

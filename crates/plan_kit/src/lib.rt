@@ -3,6 +3,9 @@
 //! `Plan::build` makes a plan of instruments and views. Each view that matches an instrument gives a feed, with the name,
 //! the keys and the aggregation of the view; where none matches, the default does. `Plan::feeds` reads the feeds of an
 //! instrument, and `Plan::stream` the stream of a number.
+//!
+//!     let plan = Plan::build(alloc, instruments, views, DEFAULT_LIMIT)?;
+//!     let feeds = plan.feeds(0);
 #![tactic(auto)]
 
 mod build;

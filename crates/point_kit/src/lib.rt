@@ -7,6 +7,9 @@
 //!   two: of the later time, and a conflict where different payloads meet at one time.
 //! - An [`Export`] is one collection of a writer. `Export::build` refuses points that are not sound.
 //!
+//!     let export = Export::build(alloc, writer, 100, 200, points)?;
+//!     let held = cell.join(newer);
+//!
 //! Times are nanoseconds since the Unix epoch. What contracts cite stands in `specs/`: `Best` (what all points under a
 //! key come to), `Join`, `States` and `Exports` (finite maps from keys to cells), `Changes`, `Payload` (which payloads
 //! are sound), `ExportFaults`, `Orders`.

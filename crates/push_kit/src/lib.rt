@@ -8,6 +8,11 @@
 //! - A [`Periodic`] owns a writer and an exporter. `Periodic::tick` collects where a [`writer_kit::Pace`] says that it is
 //!   due, and hands the exporter the round; `Periodic::flush` does so at once.
 //!
+//!     let exporter = MemoryExporter::new(alloc);
+//!     let mut reader = Periodic::new(alloc, writer, exporter, Pace::new(10, 10));
+//!     reader.measure(0, &attributes, 3)?;
+//!     let done = reader.tick(&arena, 10)?;
+//!
 //! Times are nanoseconds since the Unix epoch. What contracts cite stands in `specs/`: `Faults`
 //! (why a push is refused) and `Pushing` (what it hands to the exporter, and when).
 #![tactic(auto)]

@@ -5,6 +5,9 @@
 //! - `Round::copy_out` makes a round an `Export` of a writer, which borrows nothing of the arena. It is done after.
 //! - The caller resets the arena. A round, and whatever borrows of it, can't be used after that: it doesn't compile.
 //!
+//!     let round = place(&arena, &tally, 100, 200)?;
+//!     let export = round.copy_out(alloc, &writer)?;
+//!
 //! Every text, list and set of a round is a final slice of the arena; points of one stream share it. What contracts cite stands
 //! in `specs/`: `Placed` (what a value in an arena stands for) and `Rounds` (the points of a tally in their order).
 #![tactic(auto)]

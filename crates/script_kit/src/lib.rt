@@ -5,6 +5,12 @@
 //!   it ended: for want of memory, or because the line is bad, with the [`Reason`] that comes first.
 //! - [`explain`] tells a reason in words. A [`ScriptFault`] is how a whole script ends.
 //!
+//!     match parse_line(alloc, b"collect a 200") {
+//!         Ok(line) => act(line),
+//!         Err(Stop::Bad(reason)) => tell(explain(alloc, b"collect a 200", reason)?),
+//!         Err(Stop::NoMemory) => return Err(NoMemory),
+//!     }
+//!
 //! What contracts cite stands in `specs/`: `Lines` (what each line asks for, or why it is bad), `Words`, `Reading`, `Forms`,
 //! `Shapes`, `Numbers`, `Attributes`, `Reasons`, `Bytes`.
 #![tactic(auto)]

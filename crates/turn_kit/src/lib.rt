@@ -10,6 +10,10 @@
 //! function can wait only by a bound `Wait`, its own or that of a step or a look that it is given, and only those
 //! three have one. A turn that is [`Quiet`] has none of the three, and wakes nobody when it is given back.
 //!
+//!     let Ok((turn, mut seat)) = Turn::new(alloc, machine, 1000) else { return None };
+//!     let reply = turn.change(rt, &mut seat, step);
+//!     let machine = turn.close(seat);
+//!
 //! A [`Note`] tells another seat what one has seen, a seat that has done its work is joined into another, and `close`
 //! gives the machine back with the whole history known.
 #![tactic(auto)]

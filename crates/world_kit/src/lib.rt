@@ -6,6 +6,9 @@
 //! events (specs `Stands`). From that follows that gateways that took the same exports hold equal points, and that, where
 //! no two writers share an identity, each incarnation's part of a gateway is its newest round taken, or nothing.
 //! Schedules of a world are the kit's own; the OpenTelemetry specification has none.
+//!
+//!     let (world, replies) = replay(alloc, setup, events)?;
+//!     let node = world.node(0);
 #![tactic(auto)]
 
 mod apply;

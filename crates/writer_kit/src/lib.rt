@@ -12,6 +12,10 @@
 //! A [`SharedWriter`] is a writer that threads record with and collect from, each by a seat of its own. Whatever they do at
 //! once, there is one history, and each round is that of all that the history has before it.
 //!
+//!     let mut writer = Writer::start(alloc, id, plan, 100)?;
+//!     writer.measure(0, &attributes, 3)?;
+//!     let round = writer.collect(&arena, 200)?;
+//!
 //! Times are nanoseconds since the Unix epoch. What contracts cite stands in `specs/`: `Written` (what contracts see of a
 //! writer), `Refusals`, `BoundPoints`, `Recording` (what accepted calls make of it), `Schedules` (the events that a writer accepts, and what is read off them), `Following`
 //! (what a writer is after them), `Shared` (the history of a shared writer), `Pacing`.
