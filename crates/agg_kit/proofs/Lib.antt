@@ -2,10 +2,12 @@ pub mod Absorbs
 pub mod Alike
 pub mod BoundPoints
 pub mod Bounds
+pub mod ComingIn
 pub mod Copies
 pub mod Distinct
 pub mod Here
 pub mod Inserts
+pub mod JoinedParts
 pub mod Joins
 pub mod Limits
 pub mod Parts

@@ -178,6 +178,10 @@ pub rises-either : {T E : Type 0} (r : Result T E) (t n : Tallied) (e : Entry) �
 rises-either (Ok x) t n e now was keeps only = subst OnlyRises (sym now) (rises-still t e keeps only)
 rises-either (Err x) t n e now was keeps only = subst OnlyRises (sym was) only
 
+pub rises-emptied : {T E : Type 0} (r : Result T E) (t n : Tallied) → OnOk r (n ≡ empty_tally t.plan) → OnErr r (n ≡ t) → OnlyRises t → OnlyRises n
+rises-emptied (Ok x) t n now was only = subst OnlyRises (sym now) (rises-none t.plan)
+rises-emptied (Err x) t n now was only = subst OnlyRises (sym was) only
+
 -- ---- what a recorder looks at
 
 -- a set goes to its own point where there is room, and where it has one or is the overflow set

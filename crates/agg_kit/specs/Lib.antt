@@ -1,3 +1,4 @@
+pub mod Absorbing
 pub mod Absorbs
 pub mod Alike
 pub mod BoundPoints
@@ -5,6 +6,7 @@ pub mod Entries
 pub mod Feeding
 pub mod Feeds
 pub mod FreshPoints
+pub mod Joins
 pub mod Kept
 pub mod Laws
 pub mod Measuring

@@ -7,7 +7,7 @@ use Rattle.attr_kit.specs.Keeping.{kept}
 use Rattle.point_kit.specs.declared.stream.Stream.{Stream}
 use Rattle.plan_kit.specs.Plans.{Planned, AreFeeds, feeds_of, rises, stream_of}
 use Rattle.plan_kit.specs.declared.feed.Feed.{Feed}
-use Rattle.agg_kit.specs.Absorbs.{absorb, places}
+use Rattle.agg_kit.specs.Absorbs.{absorb, fits, places}
 use Rattle.agg_kit.specs.Entries.{Entry, arrivals}
 use Rattle.agg_kit.specs.Feeding.{set_eq}
 use Rattle.agg_kit.specs.Feeds.{entries_of, series_at, shape_at}
@@ -62,6 +62,16 @@ absorbed limit (es ∷ ess) (ms ∷ mss) = absorb limit es ms ∷ absorbed limit
 -- a tally with what a recorder holds
 abbrev pub with_recorder : Tallied → Tallied → Tallied
 with_recorder t r = record t { series = absorbed t.plan.limit t.series r.series }
+
+-- the first of the streams, counted from n, of which a point would leave its range
+abbrev pub first_unfit : ℕ → ℕ → List Points → List Points → Option ℕ
+first_unfit n limit [] mss = None
+first_unfit n limit (es ∷ ess) [] = None
+first_unfit n limit (es ∷ ess) (ms ∷ mss) = if fits limit es ms then first_unfit (n + 1) limit ess mss else Some n
+
+-- why a tally refuses to take a recorder in, memory aside
+abbrev pub absorb_fault : Tallied → Tallied → Option MeasureFault
+absorb_fault t r = option_map (λ m. faults.Overflow m) (first_unfit 0 t.plan.limit t.series r.series)
 
 -- of no gauge do two sets go under one
 abbrev pub AreApart : Planned → List Points → List Points → Type 0

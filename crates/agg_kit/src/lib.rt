@@ -12,13 +12,18 @@
 //! A [`Bound`] is an instrument and a set whose points a tally has looked up: `Tally::bind` makes one, and `Tally::measure_bound`
 //! records the same step as `measure` with no look at the set ([`bound_points_stay`]).
 //!
+//! A [`Recorder`] is a thread's own tally of counters and histograms: it records with no lock, and `Tally::absorb` takes it in as if
+//! each of its recordings had been measured in the tally, one after the other ([`absorbing_is_recording`]).
+//!
 //! What a tally stands for is a list of recordings: [`steps_are_recordings`] and [`rounds_have_what_was_fed`] are the laws.
 //! What contracts cite stands in `specs/`: `Tallies` (what contracts see of one), `Measuring` (a step and its refusals),
-//! `Rounds` (what a list of recordings comes to), `BoundPoints`, `Refusals`, `Entries`, `Feeding`.
+//! `Rounds` (what a list of recordings comes to), `BoundPoints`, `Recorders`, `Absorbs`, `Refusals`, `Entries`, `Feeding`.
 #![tactic(auto)]
 
+mod absorbing;
 mod bound;
 mod fault;
+mod joining;
 mod laws;
 mod payload;
 mod recorder;

@@ -16,12 +16,13 @@ use point_kit::Shape;
 use std::alloc::Global;
 use std::marker::Model;
 
-/// A thread's own tally, of counters and histograms: what it records needs no lock. That a tally of the same plan with what it
-/// holds is as if each recording had been measured there, [`crate::absorbing_is_recording`] says; no call takes one in yet.
+/// A thread's own tally, of counters and histograms: what it records needs no lock, and a tally of the same plan takes it in
+/// as if each recording had been measured there ([`crate::absorbing_is_recording`]).
 ///
 /// A recorder lets no set go to the overflow set by the limit: where it has points of their own for as many sets of a stream as
 /// the limit says, it refuses another by `Full`, and so it does where a sum of its own would leave its range and for
-/// instruments with a stream that does not only rise. A recorder that is dropped loses what it holds.
+/// instruments with a stream that does not only rise. Whoever gets `Full` has a tally absorb the recorder and records again; where
+/// the recorder is empty it measures at the tally itself. A recorder that is dropped loses what it holds.
 #[derive(Drop)]
 pub struct Recorder {
     pub(crate) tally: Tally,

@@ -8,17 +8,18 @@ ghost use Rattle.agg_kit.specs.Feeding.{overflow_set};
 ghost use Rattle.agg_kit.specs.Feeds.{entries_of, series_at, IsHeld};
 ghost use Rattle.agg_kit.specs.Kept.{whole_feed, AreLone};
 ghost use Rattle.agg_kit.specs.Measuring.{after_measure, early_fault_of, empty_tally, fault_of};
-ghost use Rattle.agg_kit.specs.Recorders.{keeps_sets};
+ghost use Rattle.agg_kit.specs.Recorders.{absorb_fault, keeps_sets, with_recorder};
 ghost use Rattle.agg_kit.specs.Refusals.{is_negative_for};
 ghost use Rattle.agg_kit.specs.declared.fault.MeasureFault.TheVariants as faults;
 ghost use Rattle.agg_kit.specs.Sound.{AllSound};
 ghost use Rattle.plan_kit.specs.Plans.{feeds_of};
 
+use crate::absorbing::absorb_into;
 use crate::bound::places_of;
 use crate::recorder::keep_each;
 use crate::recording::record;
 use crate::series::Series;
-use crate::{Bound, MeasureFault};
+use crate::{Bound, MeasureFault, Recorder};
 use attr_kit::{AttrSet, AttrValue, Keep, NoMemory, Txt};
 use plan_kit::{Feed, Kind, Plan};
 use point_kit::Payload;
@@ -207,6 +208,41 @@ impl Tally {
             Some(feeds) => keep_each(&self.plan, &self.overflow, &self.series, feeds, attrs),
             None => Ok(true),
         }
+    }
+
+    /// Takes in what a recorder of the same plan holds, as if each of its recordings had been measured here, one after the other,
+    /// and leaves the recorder empty, with its room. The sets are moved where there is no point for them.
+    ///
+    /// Refuses, and leaves both as they were: `Overflow` with the first stream of which a point would leave its range, `NoMemory`.
+    /// O(streams, and points of the recorder).
+    pub fn absorb(&mut self, recorder: &mut Recorder) -> Result<(), MeasureFault>
+        requires { recorder.old.plan ≡ self.old.plan }
+        ensures ok { OnOk result (absorb_fault self.old recorder.old ≡ None) }
+        ensures value { OnOk result (self.new ≡ with_recorder self.old recorder.old) }
+        ensures emptied { OnOk result (recorder.new ≡ empty_tally recorder.old.plan) }
+        ensures err { IfErr result (λ f. f ≢ MeasureFault.NoMemory → absorb_fault self.old recorder.old ≡ Some f) }
+        ensures unchanged { OnErr result (self.new ≡ self.old) }
+        ensures kept { OnErr result (recorder.new ≡ recorder.old) }
+    {
+        self.take_from(&mut recorder.tally)
+    }
+
+    // The same of a tally of the same plan, in which each set has a point of its own.
+    fn take_from(&mut self, other: &mut Tally) -> Result<(), MeasureFault>
+        requires { other.old.plan ≡ self.old.plan }
+        ensures ok { OnOk result (absorb_fault self.old other.old ≡ None) }
+        ensures value { OnOk result (self.new ≡ with_recorder self.old other.old) }
+        ensures emptied { OnOk result (other.new ≡ empty_tally other.old.plan) }
+        ensures err { IfErr result (λ f. f ≢ MeasureFault.NoMemory → absorb_fault self.old other.old ≡ Some f) }
+        ensures unchanged { OnErr result (self.new ≡ self.old) }
+        ensures kept { OnErr result (other.new ≡ other.old) }
+    {
+        absorb_into(
+            self.plan.limit(),
+            &self.overflow,
+            &mut self.series,
+            &mut other.series,
+        )
     }
 
     /// Whether there are no points. O(streams), takes no memory.

@@ -141,7 +141,7 @@ returns-in_default-find-clause-value t c =
     c.insert.new.self (inserted c.in-Ok.fresh) there c.fresh.ensures.entries c.index_mut.ensures.value
     ((simp (to_z-of_z, c.ranges.value) at c.in_ok-record_each.ensures.value) ∙ ap (applied c.args.plan.now c.in-Some.rest.now c.args.attrs.now c.args.value)
     (same_entries c.args.series.now.items c.in-Some.feed.now.stream c.fresh.new.self c.index_mut-points.result.now c.index_mut-points.ensures.value c.fresh.ensures.entries))
-    steps c.insert.ensures
+    steps c.insert.ensures.value
     ∙ ap (λ (fs : List Feed). applied c.args.plan.now fs c.args.attrs.now c.args.value (entries_of c.args.series.now.items)) (sym c.in-Some.ensures.cases.0)
 
 pub returns-in_default-find-clause-ok : goal.returns-in_default-find-clause-ok

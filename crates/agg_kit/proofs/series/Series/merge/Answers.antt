@@ -1,0 +1,91 @@
+use Rattle.std.proofs.Common.{◌≡◌, ◌∙◌, ◌<◌, None, Some, not, ap, sym, subst, true, false, true≢false, is_some}
+use Rattle.std.specs.Map.{keys_of, lookup}
+use Rattle.indexmap.specs.IndexMap.{set_value_at}
+use Rattle.attr_kit.specs.declared.attr_set.AttrSet.{AttrSet}
+use Rattle.point_kit.specs.declared.payload.Payload.{Payload}
+use Rattle.agg_kit.specs.Absorbs.{met}
+use Rattle.agg_kit.specs.Feeding.{set_eq, overflow_set}
+use Rattle.agg_kit.specs.Payloads.{is_out_of_range}
+use Rattle.agg_kit.specs.Steps.{held, own_count, place}
+use Rattle.agg_kit.proofs.ComingIn.{met-there, put-there, new-merged, lacks-before, over-place, held-over, over-own}
+use Rattle.agg_kit.proofs.Recorders.{place-roomy}
+use Rattle.agg_kit.proofs.Steps.{absent}
+use Rattle.agg_kit.proofs.series.Series.merge.Goals as goal
+
+pub join_at-requires-clause-in_range : goal.join_at-requires-clause-in_range
+join_at-requires-clause-in_range c =
+    let es = c.args.self.now.entries in
+    ap (λ (p : Payload). is_out_of_range p) (met-there es (place c.args.limit es c.args.set) c.args.payload c.in-Some.index (sym c.find.ensures ∙ c.in-Some.is)) ∙ c.requires.fits
+
+pub returns-in-Some-clause-value : goal.returns-in-Some-clause-value
+returns-in-Some-clause-value c =
+    let es = c.args.self.now.entries in
+    let b = place c.args.limit es c.args.set in
+    let p = c.args.payload in
+    let at = sym c.find.ensures ∙ c.in-Some.is in
+    c.join_at.ensures.value ∙ ap (set_value_at es c.in-Some.index) (met-there es b p c.in-Some.index at) ∙ put-there es b (met es b p) c.in-Some.index at
+
+pub returns-in-Some-clause-spare : goal.returns-in-Some-clause-spare
+returns-in-Some-clause-spare c = λ n.
+    let es = c.args.self.now.entries in
+    let b = place c.args.limit es c.args.set in
+    let p = c.args.payload in
+    let at = sym c.find.ensures ∙ c.in-Some.is in
+    let now = c.join_at.ensures.value ∙ ap (set_value_at es c.in-Some.index) (met-there es b p c.in-Some.index at) ∙ put-there es b (met es b p) c.in-Some.index at in
+    c.requires.spare (lacks-before c.args.limit es c.join_at.new.self.entries c.args.set p now n)
+
+pub insert-requires : goal.insert-requires
+insert-requires c =
+    let es = c.args.self.now.entries in
+    let b = place c.args.limit es c.args.set in
+    let gone : lookup (set_eq b) es ≡ None = absent es b (sym c.find.ensures ∙ c.in_default.is) in
+    let at : b ≡ c.args.set = place-roomy c.args.limit es c.args.set (c.has_room.ensures.0 c.if-has_room.true) in
+    record { ready = (c.requires.room, subst (λ (a : AttrSet). lookup (set_eq a) es ≡ None) at gone, c.ne-own.ensures ∙ ap (λ (o : AttrSet). not (set_eq c.args.set o)) c.requires.overflow) }
+
+pub returns-then-has_room-clause-value : goal.returns-then-has_room-clause-value
+returns-then-has_room-clause-value c =
+    let es = c.args.self.now.entries in
+    let b = place c.args.limit es c.args.set in
+    let gone : lookup (set_eq b) es ≡ None = absent es b (sym c.find.ensures ∙ c.in_default.is) in
+    let at : b ≡ c.args.set = place-roomy c.args.limit es c.args.set (c.has_room.ensures.0 c.if-has_room.true) in
+    c.insert.ensures.value ∙ new-merged c.args.limit es c.args.set c.args.set c.args.payload gone (sym at)
+
+pub returns-then-has_room-clause-spare : goal.returns-then-has_room-clause-spare
+returns-then-has_room-clause-spare c = λ n.
+    let es = c.args.self.now.entries in
+    let b = place c.args.limit es c.args.set in
+    let gone : lookup (set_eq b) es ≡ None = absent es b (sym c.find.ensures ∙ c.in_default.is) in
+    let at : b ≡ c.args.set = place-roomy c.args.limit es c.args.set (c.has_room.ensures.0 c.if-has_room.true) in
+    let now = c.insert.ensures.value ∙ new-merged c.args.limit es c.args.set c.args.set c.args.payload gone (sym at) in
+    c.requires.spare (lacks-before c.args.limit es c.insert.new.self.entries c.args.set c.args.payload now n)
+
+pub insert-requires-else-has_room : goal.insert-requires-else-has_room
+insert-requires-else-has_room c =
+    let es = c.args.self.now.entries in
+    let b = place c.args.limit es c.args.set in
+    let gone : lookup (set_eq b) es ≡ None = absent es b (sym c.find.ensures ∙ c.in_default.is) in
+    let at : b ≡ overflow_set = over-place c.args.limit es c.args.set gone (λ l. absurd (true≢false (sym (c.has_room.ensures.1 l) ∙ c.if-has_room.false))) in
+    let over : lookup (set_eq overflow_set) es ≡ None = subst (λ (a : AttrSet). lookup (set_eq a) es ≡ None) at gone in
+    let is : c.replace-set.result ≡ overflow_set = c.replace-set.ensures.value ∙ c.requires.spare (ap is_some over) in
+    record { ready = (c.requires.room, subst (λ (a : AttrSet). lookup (set_eq a) es ≡ None) (sym is) over, over-own c.replace-set.result is) }
+
+pub returns-else-has_room-clause-value : goal.returns-else-has_room-clause-value
+returns-else-has_room-clause-value c =
+    let es = c.args.self.now.entries in
+    let b = place c.args.limit es c.args.set in
+    let gone : lookup (set_eq b) es ≡ None = absent es b (sym c.find.ensures ∙ c.in_default.is) in
+    let at : b ≡ overflow_set = over-place c.args.limit es c.args.set gone (λ l. absurd (true≢false (sym (c.has_room.ensures.1 l) ∙ c.if-has_room.false))) in
+    let over : lookup (set_eq overflow_set) es ≡ None = subst (λ (a : AttrSet). lookup (set_eq a) es ≡ None) at gone in
+    let is : c.replace-set.result ≡ overflow_set = c.replace-set.ensures.value ∙ c.requires.spare (ap is_some over) in
+    c.insert-else-has_room.ensures.value ∙ new-merged c.args.limit es c.args.set c.replace-set.result c.args.payload gone (is ∙ sym at)
+
+pub returns-else-has_room-clause-spare : goal.returns-else-has_room-clause-spare
+returns-else-has_room-clause-spare c = λ n.
+    let es = c.args.self.now.entries in
+    let b = place c.args.limit es c.args.set in
+    let gone : lookup (set_eq b) es ≡ None = absent es b (sym c.find.ensures ∙ c.in_default.is) in
+    let at : b ≡ overflow_set = over-place c.args.limit es c.args.set gone (λ l. absurd (true≢false (sym (c.has_room.ensures.1 l) ∙ c.if-has_room.false))) in
+    let over : lookup (set_eq overflow_set) es ≡ None = subst (λ (a : AttrSet). lookup (set_eq a) es ≡ None) at gone in
+    let is : c.replace-set.result ≡ overflow_set = c.replace-set.ensures.value ∙ c.requires.spare (ap is_some over) in
+    let now = c.insert-else-has_room.ensures.value ∙ new-merged c.args.limit es c.args.set c.replace-set.result c.args.payload gone (is ∙ sym at) in
+    absurd (true≢false (sym (held-over c.args.limit es c.insert-else-has_room.new.self.entries c.args.set c.args.payload now at) ∙ n))

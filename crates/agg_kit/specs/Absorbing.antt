@@ -1,0 +1,49 @@
+-- What the code knows of points as later ones come in.
+use Rattle.std.specs.Prelude.{◌≡◌, ℕ, ℤ, pos, true, List, slice_index_or}
+use Rattle.std.specs.Map.{lookup, values_of}
+use Rattle.std.specs.Option.{option_map_or}
+use Rattle.attr_kit.specs.declared.attr_set.AttrSet.{AttrSet}
+use Rattle.point_kit.specs.declared.payload.Payload.{Payload}
+use Rattle.point_kit.specs.declared.shape.Shape.{Shape}
+use Rattle.point_kit.specs.declared.stream.Stream.{Stream}
+use Rattle.agg_kit.specs.Absorbs.{joined}
+use Rattle.agg_kit.specs.Feeding.{set_eq, overflow_set, is_own}
+use Rattle.agg_kit.specs.Joins.{total_of}
+use Rattle.agg_kit.specs.Parts.{count_of}
+use Rattle.agg_kit.specs.Sound.{IsSound, AreSound, AllSound}
+use Rattle.agg_kit.specs.Steps.{own_count}
+use Rattle.agg_kit.specs.Tallies.{Points}
+use Rattle.agg_kit.specs.declared.absorbing.Walk.{Walk}
+
+-- the count and the sum under a set, those of no values where it has no point
+abbrev pub count_at : Points → AttrSet → ℕ
+count_at es b = option_map_or count_of (lookup (set_eq b) es) 0
+
+abbrev pub total_at : Points → AttrSet → ℤ
+total_at es b = option_map_or total_of (lookup (set_eq b) es) (pos 0)
+
+-- the payload of the point at a place, with a later one
+abbrev pub payload_joined : Points → ℕ → Payload → Payload
+payload_joined es i p = joined (slice_index_or (values_of es) i p) p
+
+-- points and a payload of one shape
+abbrev pub TakesSound : Points → Payload → Type 0
+TakesSound es p = (shape : Shape) × AreSound shape es × IsSound shape p
+
+-- points of one shape
+abbrev pub AreBothSound : Points → Points → Type 0
+AreBothSound es ms = (shape : Shape) × AreSound shape es × AreSound shape ms
+
+-- points of each stream, of their shapes, with no set twice
+abbrev pub AreAllSound : List Points → List Points → Type 0
+AreAllSound ess mss = (streams : List Stream) × AllSound streams ess × AllSound streams mss
+
+-- a walk that has come to these points knows how many sets have their own, and the extent of the overflow set's
+pub record Knows (w : Walk) (es : Points) : Type 0 where
+  pub own : w.own ≡ own_count es
+  pub count : w.over.count ≡ count_at es overflow_set
+  pub sum : w.over.sum ≡ total_at es overflow_set
+
+-- it began at points that are still as they were at a set of its own
+abbrev pub Walks : Walk → Points → Points → AttrSet → Type 0
+Walks w before es a = Knows w es × (is_own a ≡ true → lookup (set_eq a) es ≡ lookup (set_eq a) before)

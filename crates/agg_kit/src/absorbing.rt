@@ -1,0 +1,254 @@
+//! How points of later values come into those of a stream, and those of all streams into a tally's.
+ghost use Rattle.std.specs.Prelude.{◌≡◌, ◌≢◌, ◌+◌, ◌<◌, ◌≤◌, ◌^◌, [], length, replicate, true, false, not, None, Some, IfErr, OnOk, OnErr};
+ghost use Rattle.std.specs.Option.{option_map};
+ghost use Rattle.std.specs.Map.{keys_of};
+ghost use Rattle.indexmap.specs.IndexMap.{set_value_at};
+ghost use Rattle.agg_kit.specs.Absorbing.{count_at, total_at, payload_joined, AreAllSound, AreBothSound, Knows, TakesSound, Walks};
+ghost use Rattle.agg_kit.specs.Absorbs.{absorb, fits, merged, met};
+ghost use Rattle.agg_kit.specs.Feeding.{overflow_set};
+ghost use Rattle.agg_kit.specs.Feeds.{entries_of};
+ghost use Rattle.agg_kit.specs.Payloads.{is_out_of_range};
+ghost use Rattle.agg_kit.specs.Recorders.{absorbed, first_unfit};
+ghost use Rattle.agg_kit.specs.Sound.{AreOnce};
+ghost use Rattle.agg_kit.specs.Steps.{held, place};
+ghost use Rattle.agg_kit.specs.Tallies.{Points};
+ghost use Rattle.agg_kit.specs.declared.fault.MeasureFault.TheVariants as faults;
+
+use crate::MeasureFault;
+use crate::joining::{Extent, extent_in, join};
+use crate::series::{Fresh, Series};
+use attr_kit::{AttrSet, NoMemory};
+use indexmap::IndexMap;
+use point_kit::Payload;
+use std::mem;
+
+/// What a walk over later points knows of the points that they have come to: how many sets have a point of their own, and the
+/// extent of the overflow set's.
+#[derive(Clone, Copy)]
+struct Walk {
+    own: u64,
+    over: Extent,
+}
+
+impl Series {
+    // The extent of the point of a set, that of no values where there is none.
+    fn extent_of(&self, set: &AttrSet) -> Extent
+        ensures count { result.count ≡ count_at self.now.entries set.now }
+        ensures sum { result.sum ≡ total_at self.now.entries set.now }
+    {
+        match self.points.get(set) {
+            Some(payload) => extent_in(payload),
+            None => Extent { count: 0, sum: 0 },
+        }
+    }
+
+    // Whether a point stays in range as a later one comes in, where others have come before it.
+    fn steps_over(
+        &self,
+        walk: &mut Walk,
+        limit: u64,
+        overflow: &AttrSet,
+        set: &AttrSet,
+        payload: &Payload,
+    ) -> bool
+        requires { overflow.now ≡ overflow_set }
+        ensures fits { (es : Points) → Walks walk.old self.now.entries es set.now → TakesSound es payload.now → is_out_of_range (met es (place limit es set.now) payload.now) ≡ not result }
+        ensures goes { (es : Points) → Walks walk.old self.now.entries es set.now → TakesSound es payload.now → result ≡ true → Knows walk.new (merged limit es (set.now, payload.now)) }
+    {
+        let more = extent_in(payload);
+        if *set != *overflow {
+            if self.points.contains_key(set) {
+                return self.extent_of(set).plus(more).is_some();
+            }
+            if walk.own < limit {
+                walk.own += 1;
+                return self.extent_of(set).plus(more).is_some();
+            }
+        }
+        match walk.over.plus(more) {
+            Some(over) => {
+                walk.over = over;
+                true
+            }
+            None => false,
+        }
+    }
+
+    /// Whether each point stays in range as later ones come in, one after the other.
+    pub(crate) fn fits(&self, limit: u64, overflow: &AttrSet, later: &Series) -> bool
+        requires overflow { overflow.now ≡ overflow_set }
+        requires sound { AreBothSound self.now.entries later.now.entries }
+        requires once { AreOnce (keys_of later.now.entries) }
+        ensures { result ≡ fits limit self.now.entries later.now.entries }
+    {
+        let mut walk = Walk {
+            own: self.own,
+            over: self.extent_of(overflow),
+        };
+        for place in 0..later.points.len() {
+            if let Some((set, payload)) = later.points.get_index(place) {
+                if !self.steps_over(&mut walk, limit, overflow, set, payload) {
+                    return false;
+                }
+            }
+        }
+        true
+    }
+
+    /// Makes room for as many points as later ones are.
+    pub(crate) fn reserve_for(&mut self, later: &Series) -> Result<(), NoMemory>
+        ensures entries { self.new.entries ≡ self.old.entries }
+        ensures room { OnOk result (length later.now.entries ≤ self.new.room) }
+        ensures keeps { self.old.room ≤ self.new.room }
+    {
+        self.points.reserve(later.points.len())?;
+        Ok(())
+    }
+
+    // Joins a later payload to that of the point at a place.
+    fn join_at(&mut self, index: usize, later: &Payload)
+        requires within { index < length self.old.entries }
+        requires sound { TakesSound self.old.entries later.now }
+        requires in_range { is_out_of_range (payload_joined self.old.entries index later.now) ≡ false }
+        ensures value { self.new.entries ≡ set_value_at self.old.entries index (payload_joined self.old.entries index later.now) }
+        ensures room { self.new.room ≡ self.old.room }
+    {
+        join(&mut self.points[index], later);
+    }
+
+    // Takes in one point of later values. Where it makes the overflow set's point, that takes the spare set.
+    fn merge(
+        &mut self,
+        limit: u64,
+        overflow: &AttrSet,
+        spare: &mut AttrSet,
+        set: AttrSet,
+        payload: Payload,
+    )
+        requires overflow { overflow.now ≡ overflow_set }
+        requires spare { held self.old.entries overflow_set ≡ false → spare.old ≡ overflow_set }
+        requires room { 0 < self.old.room }
+        requires sound { TakesSound self.old.entries payload }
+        requires fits { is_out_of_range (met self.old.entries (place limit self.old.entries set) payload) ≡ false }
+        ensures value { self.new.entries ≡ merged limit self.old.entries (set, payload) }
+        ensures room { self.old.room ≤ self.new.room + 1 }
+        ensures spare { held self.new.entries overflow_set ≡ false → spare.new ≡ overflow_set }
+    {
+        if let Some(index) = self.find(limit, overflow, &set) {
+            self.join_at(index, &payload);
+        } else if self.has_room(limit) {
+            let own = set != *overflow;
+            self.insert(Fresh { set, payload, own });
+        } else {
+            let set = mem::replace(spare, set);
+            self.insert(Fresh {
+                set,
+                payload,
+                own: false,
+            });
+        }
+    }
+
+    /// Takes in later points, in their order, and leaves none of them. They are moved, or joined to those that are there.
+    pub(crate) fn take_in(
+        &mut self,
+        limit: u64,
+        overflow: &AttrSet,
+        spare: AttrSet,
+        later: &mut Series,
+    )
+        requires overflow { overflow.now ≡ overflow_set }
+        requires spare { spare ≡ overflow_set }
+        requires room { length later.old.entries ≤ self.old.room }
+        requires sound { AreBothSound self.old.entries later.old.entries }
+        requires fits { fits limit self.old.entries later.old.entries ≡ true }
+        ensures value { self.new.entries ≡ absorb limit self.old.entries later.old.entries }
+        ensures emptied { later.new.entries ≡ [] }
+    {
+        take_points(self, limit, overflow, spare, &mut later.points);
+        later.own = 0;
+        later.alike = true;
+    }
+}
+
+// Takes in points, in their order, and leaves none of them.
+fn take_points(
+    series: &mut Series,
+    limit: u64,
+    overflow: &AttrSet,
+    mut spare: AttrSet,
+    later: &mut IndexMap<AttrSet, Payload>,
+)
+    requires overflow { overflow.now ≡ overflow_set }
+    requires spare { spare ≡ overflow_set }
+    requires room { length later.old.entries ≤ series.old.room }
+    requires sound { AreBothSound series.old.entries later.old.entries }
+    requires fits { fits limit series.old.entries later.old.entries ≡ true }
+    ensures value { series.new.entries ≡ absorb limit series.old.entries later.old.entries }
+    ensures emptied { later.new.entries ≡ [] }
+{
+    later.reverse();
+    while let Some((set, payload)) = later.pop() {
+        series.merge(limit, overflow, &mut spare, set, payload);
+    }
+}
+
+/// Takes the points of a recorder's streams in, each stream's into the stream at its place, or none of them. `number` is that of
+/// the first stream.
+pub(crate) fn absorb_each(
+    limit: u64,
+    overflow: &AttrSet,
+    series: &mut [Series],
+    later: &mut [Series],
+    number: usize,
+) -> Result<(), MeasureFault>
+    requires overflow { overflow.now ≡ overflow_set }
+    requires sound { AreAllSound (entries_of series.old) (entries_of later.old) }
+    requires bound { number + length series.old < 2 ^ 64 }
+    ensures value { OnOk result (entries_of series.new ≡ absorbed limit (entries_of series.old) (entries_of later.old)) }
+    ensures emptied { OnOk result (entries_of later.new ≡ replicate (length later.old) []) }
+    ensures ok { OnOk result (first_unfit number limit (entries_of series.old) (entries_of later.old) ≡ None) }
+    ensures err { IfErr result (λ f. f ≢ faults.NoMemory → option_map (λ m. faults.Overflow m) (first_unfit number limit (entries_of series.old) (entries_of later.old)) ≡ Some f) }
+    ensures unchanged { OnErr result (entries_of series.new ≡ entries_of series.old) }
+    ensures kept { OnErr result (entries_of later.new ≡ entries_of later.old) }
+{
+    let Some((points, rest)) = series.split_first_mut() else {
+        return Ok(());
+    };
+    let Some((more, others)) = later.split_first_mut() else {
+        return Ok(());
+    };
+    let spare = overflow.try_copy()?;
+    points.reserve_for(more)?;
+    if !points.fits(limit, overflow, more) {
+        return Err(MeasureFault::Overflow(number));
+    }
+    absorb_each(limit, overflow, rest, others, number + 1)?;
+    points.take_in(limit, overflow, spare, more);
+    Ok(())
+}
+
+/// Takes the points of a recorder's streams in, each stream's into the stream at its place, or none of them.
+pub(crate) fn absorb_into(
+    limit: u64,
+    overflow: &AttrSet,
+    series: &mut Vec<Series>,
+    later: &mut Vec<Series>,
+) -> Result<(), MeasureFault>
+    requires overflow { overflow.now ≡ overflow_set }
+    requires sound { AreAllSound (entries_of series.old.items) (entries_of later.old.items) }
+    ensures value { OnOk result (entries_of series.new.items ≡ absorbed limit (entries_of series.old.items) (entries_of later.old.items)) }
+    ensures emptied { OnOk result (entries_of later.new.items ≡ replicate (length later.old.items) []) }
+    ensures ok { OnOk result (first_unfit 0 limit (entries_of series.old.items) (entries_of later.old.items) ≡ None) }
+    ensures err { IfErr result (λ f. f ≢ faults.NoMemory → option_map (λ m. faults.Overflow m) (first_unfit 0 limit (entries_of series.old.items) (entries_of later.old.items)) ≡ Some f) }
+    ensures unchanged { OnErr result (entries_of series.new.items ≡ entries_of series.old.items) }
+    ensures kept { OnErr result (entries_of later.new.items ≡ entries_of later.old.items) }
+{
+    absorb_each(
+        limit,
+        overflow,
+        series.as_mut_slice(),
+        later.as_mut_slice(),
+        0,
+    )
+}
