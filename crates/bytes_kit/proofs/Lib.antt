@@ -1,3 +1,9 @@
+pub mod Behind
+pub mod Carrying
+pub mod Gathering
+pub mod MessageSealing
 pub mod Refusing
-pub mod Tags
 pub mod Sealing
+pub mod Soundness
+pub mod Staying
+pub mod Tags

@@ -10,77 +10,78 @@ use Rattle.point_kit.specs.declared.export_fault.ExportFault.TheVariants as buil
 use Rattle.bytes_kit.specs.Checksum.{checksum}
 use Rattle.bytes_kit.specs.Explaining.{IsSealFault, IsPartsFault, Explains}
 use Rattle.bytes_kit.specs.Faults.{decode_fault}
-use Rattle.bytes_kit.specs.Fits.{IsParts}
-use Rattle.bytes_kit.specs.Format.{Parts, parts_of, parts, head, sealed, bytes_of_parts}
-use Rattle.bytes_kit.specs.PartLaws.{parts_code}
+use Rattle.bytes_kit.specs.Format.{Parts, parts_of, sealed, bytes_of_parts}
+use Rattle.bytes_kit.specs.Codes.{IsCode}
 use Rattle.bytes_kit.specs.Reading.{NoneAt}
 use Rattle.bytes_kit.specs.declared.fault.DecodeFault.{DecodeFault}
 use Rattle.bytes_kit.specs.declared.fault.DecodeFault.TheVariants as faults
 
--- the checksum of parts, as bytes
-abbrev seal : Parts → List ℕ
-seal p = to_be_bytes w32 (checksum (head ++ parts p))
+-- the checksum of bytes, as bytes
+abbrev seal : List ℕ → List ℕ
+seal front = to_be_bytes w32 (checksum front)
 
-opened : (p : Parts) → bytes_of_parts p ≡ head ++ (parts p ++ seal p)
-unfolding sealed
-opened p = append_assoc head (parts p) (seal p)
-
-behind_head : (bytes mid : List ℕ) (p : Parts) → bytes ≡ head ++ mid → bytes ≡ bytes_of_parts p → mid ≡ parts p ++ seal p
-behind_head bytes mid p is e = append_cancel_left head mid (parts p ++ seal p) (sym is ∙ e ∙ opened p)
-
-pub no_head : (bytes : List ℕ) → ((rest : List ℕ) → bytes ≢ head ++ rest) → (p : Parts) → bytes ≢ bytes_of_parts p
-no_head bytes none p e = none (parts p ++ seal p) (e ∙ opened p)
-
-pub no_parts : (bytes mid : List ℕ) → bytes ≡ head ++ mid → NoneAt parts IsParts mid → (p : Parts) → IsParts p → bytes ≢ bytes_of_parts p
-no_parts bytes mid is none p fit e = none p (seal p) fit (behind_head bytes mid p is e)
-
-front : (body rest : List ℕ) → take (length (body ++ rest) - length rest) (body ++ rest) ≡ body
-front body rest = take_at body rest (length (body ++ rest) - length rest) (omega (arith, length-append body rest))
-
--- what the checksum is of
-body_is : (bytes mid rest : List ℕ) (x : Parts) → bytes ≡ head ++ mid → mid ≡ parts x ++ rest → take (length bytes - length rest) bytes ≡ head ++ parts x
-body_is bytes mid rest x is at =
-    let whole : bytes ≡ (head ++ parts x) ++ rest = is ∙ ap (λ (l : List ℕ). head ++ l) at ∙ sym (append_assoc head (parts x) rest) in
-    subst (λ (l : List ℕ). take (length l - length rest) l ≡ head ++ parts x) (sym whole) (front (head ++ parts x) rest)
-
-sum_is : (bytes mid rest body : List ℕ) (x : Parts) (sum : ℕ) → bytes ≡ head ++ mid → mid ≡ parts x ++ rest → body ≡ take (length bytes - length rest) bytes → sum ≡ checksum body → to_be_bytes w32 sum ≡ seal x
-sum_is bytes mid rest body x sum is at taken summed =
-    ap (λ (n : ℕ). to_be_bytes w32 n) (summed ∙ ap (λ (l : List ℕ). checksum l) (taken ∙ body_is bytes mid rest x is at))
-
-pub no_seal : (bytes mid rest body : List ℕ) (x : Parts) (sum : ℕ) → bytes ≡ head ++ mid → mid ≡ parts x ++ rest → body ≡ take (length bytes - length rest) bytes → sum ≡ checksum body → rest ≢ to_be_bytes w32 sum → (p : Parts) → bytes ≢ bytes_of_parts p
-no_seal bytes mid rest body x sum is at taken summed no_sum p e =
-    let both = parts_code x p rest (seal p) (sym at ∙ behind_head bytes mid p is e) in
-    no_sum (both.1 ∙ ap seal (sym both.0) ∙ sym (sum_is bytes mid rest body x sum is at taken summed))
-
-pub is_sealed : (bytes mid rest body : List ℕ) (x : Parts) (sum : ℕ) → bytes ≡ head ++ mid → mid ≡ parts x ++ rest → body ≡ take (length bytes - length rest) bytes → sum ≡ checksum body → rest ≡ to_be_bytes w32 sum → bytes ≡ bytes_of_parts x
-is_sealed bytes mid rest body x sum is at taken summed last =
-    is ∙ ap (λ (l : List ℕ). head ++ l) (at ∙ ap (λ (l : List ℕ). parts x ++ l) (last ∙ sum_is bytes mid rest body x sum is at taken summed)) ∙ sym (opened x)
+front_of : (body rest : List ℕ) → take (length (body ++ rest) - length rest) (body ++ rest) ≡ body
+front_of body rest = take_at body rest (length (body ++ rest) - length rest) (omega (arith, length-append body rest))
 
 -- why the checksum is not read says why no parts are
 end_place : (i end all front rest : ℕ) → i ≡ end - rest → end ≡ all → all ≡ front + rest → i ≡ front
 end_place i end all front rest p q r = omega arith
 
-pub seal_fault : (bytes mid rest body : List ℕ) (x : Parts) (sum end : ℕ) → bytes ≡ head ++ mid → mid ≡ parts x ++ rest → body ≡ take (length bytes - length rest) bytes → sum ≡ checksum body → end ≡ length bytes
-    → (f : DecodeFault) → IsSealFault end rest sum f → IsPartsFault bytes f
-seal_fault bytes mid rest body x sum end is at taken summed ends (faults.Truncated i) h = h ∙ ends
-seal_fault bytes mid rest body x sum end is at taken summed ends (faults.BadMagic i) h = absurd h
-seal_fault bytes mid rest body x sum end is at taken summed ends (faults.BadVersion i) h = absurd h
-seal_fault bytes mid rest body x sum end is at taken summed ends (faults.NotCanonical i) h = omega arith
-seal_fault bytes mid rest body x sum end is at taken summed ends (faults.NotText i) h = absurd h
-seal_fault bytes mid rest body x sum end is at taken summed ends (faults.BadChecksum i) h =
-    let whole : bytes ≡ (head ++ parts x) ++ rest = is ∙ ap (λ (l : List ℕ). head ++ l) at ∙ sym (append_assoc head (parts x) rest) in
-    let long : length bytes ≡ length ((head ++ parts x) ++ rest) = ap length whole in
-    let both : length ((head ++ parts x) ++ rest) ≡ length (head ++ parts x) + length rest = length-append (head ++ parts x) rest in
-    let place : i ≡ end - length rest = h.0 in
-    (x, rest, whole, end_place i end (length bytes) (length (head ++ parts x)) (length rest) place ends (long ∙ both), λ e. h.1 (e ∙ sym (sum_is bytes mid rest body x sum is at taken summed)))
-seal_fault bytes mid rest body x sum end is at taken summed ends (faults.BadExport f) h = absurd h
-seal_fault bytes mid rest body x sum end is at taken summed ends faults.NoMemory h = tt
+-- bytes that begin with a head, parts of some kind behind it, and their checksum at the end
+module _ {A : Type 0} (head : List ℕ) (parts : A → List ℕ) where
+  opened : (p : A) → sealed (head ++ parts p) ≡ head ++ (parts p ++ seal (head ++ parts p))
+  unfolding sealed
+  opened p = append_assoc head (parts p) (seal (head ++ parts p))
 
--- no two parts have the same bytes
-pub same_parts : (bytes : List ℕ) (x y : Parts) → bytes ≡ bytes_of_parts x → bytes ≡ bytes_of_parts y → x ≡ y
-same_parts bytes x y p q =
-    let both = parts_code x y (seal x) (seal y) (append_cancel_left head (parts x ++ seal x) (parts y ++ seal y) (sym (opened x) ∙ sym p ∙ q ∙ opened y)) in
-    both.0
+  behind_head : (bytes mid : List ℕ) (p : A) → bytes ≡ head ++ mid → bytes ≡ sealed (head ++ parts p) → mid ≡ parts p ++ seal (head ++ parts p)
+  behind_head bytes mid p is e = append_cancel_left head mid (parts p ++ seal (head ++ parts p)) (sym is ∙ e ∙ opened p)
+
+  pub no_head : (bytes : List ℕ) → ((rest : List ℕ) → bytes ≢ head ++ rest) → (p : A) → bytes ≢ sealed (head ++ parts p)
+  no_head bytes none p e = none (parts p ++ seal (head ++ parts p)) (e ∙ opened p)
+
+  pub no_parts : (fits : A → Type 0) (bytes mid : List ℕ) → bytes ≡ head ++ mid → NoneAt parts fits mid → (p : A) → fits p → bytes ≢ sealed (head ++ parts p)
+  no_parts fits bytes mid is none p fit e = none p (seal (head ++ parts p)) fit (behind_head bytes mid p is e)
+
+  -- what the checksum is of
+  body_is : (bytes mid rest : List ℕ) (x : A) → bytes ≡ head ++ mid → mid ≡ parts x ++ rest → take (length bytes - length rest) bytes ≡ head ++ parts x
+  body_is bytes mid rest x is at =
+      let whole : bytes ≡ (head ++ parts x) ++ rest = is ∙ ap (λ (l : List ℕ). head ++ l) at ∙ sym (append_assoc head (parts x) rest) in
+      subst (λ (l : List ℕ). take (length l - length rest) l ≡ head ++ parts x) (sym whole) (front_of (head ++ parts x) rest)
+
+  sum_is : (bytes mid rest body : List ℕ) (x : A) (sum : ℕ) → bytes ≡ head ++ mid → mid ≡ parts x ++ rest → body ≡ take (length bytes - length rest) bytes → sum ≡ checksum body → to_be_bytes w32 sum ≡ seal (head ++ parts x)
+  sum_is bytes mid rest body x sum is at taken summed =
+      ap (λ (n : ℕ). to_be_bytes w32 n) (summed ∙ ap (λ (l : List ℕ). checksum l) (taken ∙ body_is bytes mid rest x is at))
+
+  pub no_seal : IsCode parts → (bytes mid rest body : List ℕ) (x : A) (sum : ℕ) → bytes ≡ head ++ mid → mid ≡ parts x ++ rest → body ≡ take (length bytes - length rest) bytes → sum ≡ checksum body → rest ≢ to_be_bytes w32 sum → (p : A) → bytes ≢ sealed (head ++ parts p)
+  no_seal is_code bytes mid rest body x sum is at taken summed no_sum p e =
+      let both = is_code x p rest (seal (head ++ parts p)) (sym at ∙ behind_head bytes mid p is e) in
+      no_sum (both.1 ∙ ap (λ (a : A). seal (head ++ parts a)) (sym both.0) ∙ sym (sum_is bytes mid rest body x sum is at taken summed))
+
+  pub is_sealed : (bytes mid rest body : List ℕ) (x : A) (sum : ℕ) → bytes ≡ head ++ mid → mid ≡ parts x ++ rest → body ≡ take (length bytes - length rest) bytes → sum ≡ checksum body → rest ≡ to_be_bytes w32 sum → bytes ≡ sealed (head ++ parts x)
+  is_sealed bytes mid rest body x sum is at taken summed last =
+      is ∙ ap (λ (l : List ℕ). head ++ l) (at ∙ ap (λ (l : List ℕ). parts x ++ l) (last ∙ sum_is bytes mid rest body x sum is at taken summed)) ∙ sym (opened x)
+
+  pub seal_fault : (bytes mid rest body : List ℕ) (x : A) (sum end : ℕ) → bytes ≡ head ++ mid → mid ≡ parts x ++ rest → body ≡ take (length bytes - length rest) bytes → sum ≡ checksum body → end ≡ length bytes
+      → (f : DecodeFault) → IsSealFault end rest sum f → IsPartsFault head parts bytes f
+  seal_fault bytes mid rest body x sum end is at taken summed ends (faults.Truncated i) h = h ∙ ends
+  seal_fault bytes mid rest body x sum end is at taken summed ends (faults.BadMagic i) h = absurd h
+  seal_fault bytes mid rest body x sum end is at taken summed ends (faults.BadVersion i) h = absurd h
+  seal_fault bytes mid rest body x sum end is at taken summed ends (faults.NotCanonical i) h = omega arith
+  seal_fault bytes mid rest body x sum end is at taken summed ends (faults.NotText i) h = absurd h
+  seal_fault bytes mid rest body x sum end is at taken summed ends (faults.BadChecksum i) h =
+      let whole : bytes ≡ (head ++ parts x) ++ rest = is ∙ ap (λ (l : List ℕ). head ++ l) at ∙ sym (append_assoc head (parts x) rest) in
+      let long : length bytes ≡ length ((head ++ parts x) ++ rest) = ap length whole in
+      let both : length ((head ++ parts x) ++ rest) ≡ length (head ++ parts x) + length rest = length-append (head ++ parts x) rest in
+      let place : i ≡ end - length rest = h.0 in
+      (x, rest, whole, end_place i end (length bytes) (length (head ++ parts x)) (length rest) place ends (long ∙ both), λ e. h.1 (e ∙ sym (sum_is bytes mid rest body x sum is at taken summed)))
+  seal_fault bytes mid rest body x sum end is at taken summed ends (faults.BadExport f) h = absurd h
+  seal_fault bytes mid rest body x sum end is at taken summed ends faults.NoMemory h = tt
+
+  -- no two parts have the same bytes
+  pub same_parts : IsCode parts → (bytes : List ℕ) (x y : A) → bytes ≡ sealed (head ++ parts x) → bytes ≡ sealed (head ++ parts y) → x ≡ y
+  same_parts is_code bytes x y p q =
+      let both = is_code x y (seal (head ++ parts x)) (seal (head ++ parts y)) (append_cancel_left head (parts x ++ seal (head ++ parts x)) (parts y ++ seal (head ++ parts y)) (sym (opened x) ∙ sym p ∙ q ∙ opened y)) in
+      both.0
 
 -- ---- exports
 

@@ -4,7 +4,9 @@ use Rattle.std.specs.Int.{w32, to_be_bytes}
 use Rattle.point_kit.specs.ExportFaults.{export_fault}
 use Rattle.point_kit.specs.declared.export_fault.ExportFault.{ExportFault}
 use Rattle.bytes_kit.specs.Checksum.{checksum}
-use Rattle.bytes_kit.specs.Format.{Parts, parts, head, bytes_of_parts}
+use Rattle.bytes_kit.specs.Format.{Parts, parts, head, head_of, bytes_of_parts}
+use Rattle.bytes_kit.specs.MessageFits.{carried_fault}
+use Rattle.bytes_kit.specs.Messages.{Said, said, bytes_of_said, message_head}
 use Rattle.bytes_kit.specs.declared.fault.DecodeFault.{DecodeFault}
 use Rattle.bytes_kit.specs.declared.fault.DecodeFault.TheVariants as faults
 
@@ -17,15 +19,15 @@ abbrev pub HasOther : ℕ → List ℕ → Type 0
 HasOther wanted bytes = (b : ℕ) × (rest : List ℕ) × (bytes ≡ b ∷ rest) × (b ≢ wanted)
 
 -- the byte at this place of the head is another
-abbrev pub IsHeadFault : ℕ → List ℕ → DecodeFault → Type 0
-IsHeadFault end bytes (faults.Truncated place) = place ≡ end
-IsHeadFault end bytes (faults.BadMagic place) = (place < 4) × DifferAt head bytes place
-IsHeadFault end bytes (faults.BadVersion place) = (place ≡ 4) × DifferAt head bytes place
-IsHeadFault end bytes (faults.NotCanonical place) = ⊥
-IsHeadFault end bytes (faults.NotText place) = ⊥
-IsHeadFault end bytes (faults.BadChecksum place) = ⊥
-IsHeadFault end bytes (faults.BadExport fault) = ⊥
-IsHeadFault end bytes faults.NoMemory = ⊥
+abbrev pub IsHeadFault : ℕ → ℕ → List ℕ → DecodeFault → Type 0
+IsHeadFault letter end bytes (faults.Truncated place) = place ≡ end
+IsHeadFault letter end bytes (faults.BadMagic place) = (place < 4) × DifferAt (head_of letter) bytes place
+IsHeadFault letter end bytes (faults.BadVersion place) = (place ≡ 4) × DifferAt (head_of letter) bytes place
+IsHeadFault letter end bytes (faults.NotCanonical place) = ⊥
+IsHeadFault letter end bytes (faults.NotText place) = ⊥
+IsHeadFault letter end bytes (faults.BadChecksum place) = ⊥
+IsHeadFault letter end bytes (faults.BadExport fault) = ⊥
+IsHeadFault letter end bytes faults.NoMemory = ⊥
 
 -- of so many bytes some are missing at the end, or the value at a place is not written so
 abbrev pub IsReadFault : ℕ → DecodeFault → Type 0
@@ -50,25 +52,34 @@ IsSealFault end rest sum (faults.BadExport fault) = ⊥
 IsSealFault end rest sum faults.NoMemory = ⊥
 
 -- the bytes begin with head and parts up to this place, and go on with another checksum
-abbrev pub HasOtherSeal : List ℕ → ℕ → Type 0
-HasOtherSeal bytes place = (p : Parts) × (rest : List ℕ) × (bytes ≡ (head ++ parts p) ++ rest) × (place ≡ length (head ++ parts p)) × (take 4 rest ≢ to_be_bytes w32 (checksum (head ++ parts p)))
+abbrev pub HasOtherSeal : {A : Type 0} → (A → List ℕ) → List ℕ → ℕ → Type 0
+HasOtherSeal {A} front bytes place = (p : A) × (rest : List ℕ) × (bytes ≡ front p ++ rest) × (place ≡ length (front p)) × (take 4 rest ≢ to_be_bytes w32 (checksum (front p)))
 
 -- the bytes are those of parts that make no export
 abbrev pub MakesNone : List ℕ → ExportFault → Type 0
 MakesNone bytes fault = (p : Parts) × (bytes ≡ bytes_of_parts p) × (export_fault p.1.0 p.1.1.0 p.1.1.1 ≡ Some fault)
 
--- what a fault says of bytes of which no parts are read
-abbrev pub IsPartsFault : List ℕ → DecodeFault → Type 0
-IsPartsFault bytes (faults.Truncated place) = place ≡ length bytes
-IsPartsFault bytes (faults.BadMagic place) = (place < 4) × DifferAt head bytes place
-IsPartsFault bytes (faults.BadVersion place) = (place ≡ 4) × DifferAt head bytes place
-IsPartsFault bytes (faults.NotCanonical place) = place ≤ length bytes
-IsPartsFault bytes (faults.NotText place) = place ≤ length bytes
-IsPartsFault bytes (faults.BadChecksum place) = HasOtherSeal bytes place
-IsPartsFault bytes (faults.BadExport fault) = ⊥
-IsPartsFault bytes faults.NoMemory = Unit {0}
+-- what a fault says of bytes of which no head and parts are read
+abbrev pub IsPartsFault : {A : Type 0} → List ℕ → (A → List ℕ) → List ℕ → DecodeFault → Type 0
+IsPartsFault front code bytes (faults.Truncated place) = place ≡ length bytes
+IsPartsFault front code bytes (faults.BadMagic place) = (place < 4) × DifferAt front bytes place
+IsPartsFault front code bytes (faults.BadVersion place) = (place ≡ 4) × DifferAt front bytes place
+IsPartsFault front code bytes (faults.NotCanonical place) = place ≤ length bytes
+IsPartsFault front code bytes (faults.NotText place) = place ≤ length bytes
+IsPartsFault front code bytes (faults.BadChecksum place) = HasOtherSeal (λ p. front ++ code p) bytes place
+IsPartsFault front code bytes (faults.BadExport fault) = ⊥
+IsPartsFault front code bytes faults.NoMemory = Unit {0}
 
--- what a fault of decoding says of the bytes
+-- what a fault of decoding an export says of the bytes
 abbrev pub Explains : List ℕ → DecodeFault → Type 0
 Explains bytes (faults.BadExport fault) = MakesNone bytes fault
-Explains bytes fault = IsPartsFault bytes fault
+Explains bytes fault = IsPartsFault head parts bytes fault
+
+-- the bytes are those of a message with a cell that no export brings
+abbrev pub MakesNoMessage : List ℕ → ExportFault → Type 0
+MakesNoMessage bytes fault = (s : Said) × (bytes ≡ bytes_of_said s) × (carried_fault s.2 ≡ Some fault)
+
+-- what a fault of decoding a message says of the bytes
+abbrev pub ExplainsMessage : List ℕ → DecodeFault → Type 0
+ExplainsMessage bytes (faults.BadExport fault) = MakesNoMessage bytes fault
+ExplainsMessage bytes fault = IsPartsFault message_head said bytes fault

@@ -75,9 +75,13 @@ point p = stream p.stream ++ (attributes p.attrs ++ payload p.payload)
 abbrev pub writer : WriterId → List ℕ
 writer w = text w.service ++ text w.instance
 
--- 'K' 'T' 'S' 'K', and version 1
+-- 'K' 'T' 'S', a letter that says what follows, and version 1
+abbrev pub head_of : ℕ → List ℕ
+head_of letter = 75 ∷ 84 ∷ 83 ∷ letter ∷ 1 ∷ []
+
+-- an export's letter is 'K'
 abbrev pub head : List ℕ
-head = 75 ∷ 84 ∷ 83 ∷ 75 ∷ 1 ∷ []
+head = head_of 75
 
 -- writer, start, time and points
 abbrev pub Parts : Type 0

@@ -5,7 +5,11 @@ pub mod Faults
 pub mod Fits
 pub mod Format
 pub mod Groups
+pub mod KeyForms
 pub mod Laws
 pub mod Left
+pub mod MessageFits
+pub mod MessageLaws
+pub mod Messages
 pub mod PartLaws
 pub mod Reading

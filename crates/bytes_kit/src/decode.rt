@@ -5,7 +5,7 @@ ghost use Rattle.point_kit.specs.declared.export.Export.{Export};
 ghost use Rattle.bytes_kit.specs.Explaining.{Explains, IsPartsFault, IsHeadFault, IsSealFault, HasOther};
 ghost use Rattle.bytes_kit.specs.Faults.{GivesBack};
 ghost use Rattle.bytes_kit.specs.Fits.{IsParts, IsExport};
-ghost use Rattle.bytes_kit.specs.Format.{Parts, head, bytes_of_parts, bytes_of};
+ghost use Rattle.bytes_kit.specs.Format.{Parts, parts, head, head_of, bytes_of_parts, bytes_of};
 ghost use Rattle.bytes_kit.specs.declared.fault.DecodeFault.TheVariants as faults;
 
 use crate::DecodeFault;
@@ -29,22 +29,22 @@ fn expect(reader: &mut Reader<'_>, wanted: u8, fault: DecodeFault) -> Result<(),
     Ok(())
 }
 
-// The letters by which an export is known, and the version.
-fn read_head(reader: &mut Reader<'_>) -> Result<(), DecodeFault>
-    ensures ok { OnOk result (reader.old.rest ≡ head ++ reader.new.rest) }
-    ensures err { OnErr result ((rest : List ℕ) → reader.old.rest ≢ head ++ rest) }
+/// The letters by which a thing of the kit is known, of which the last says what it is, and the version.
+pub(crate) fn read_head(reader: &mut Reader<'_>, letter: u8) -> Result<(), DecodeFault>
+    ensures ok { OnOk result (reader.old.rest ≡ head_of letter ++ reader.new.rest) }
+    ensures err { OnErr result ((rest : List ℕ) → reader.old.rest ≢ head_of letter ++ rest) }
     ensures end { reader.new.end ≡ reader.old.end }
-    ensures fault { IfErr result (IsHeadFault reader.old.end reader.old.rest) }
+    ensures fault { IfErr result (IsHeadFault letter reader.old.end reader.old.rest) }
 {
     expect(reader, b'K', DecodeFault::BadMagic(0))?;
     expect(reader, b'T', DecodeFault::BadMagic(1))?;
     expect(reader, b'S', DecodeFault::BadMagic(2))?;
-    expect(reader, b'K', DecodeFault::BadMagic(3))?;
+    expect(reader, letter, DecodeFault::BadMagic(3))?;
     expect(reader, 1, DecodeFault::BadVersion(4))
 }
 
-// The checksum, and nothing behind it.
-fn read_seal(reader: &mut Reader<'_>, sum: u32) -> Result<(), DecodeFault>
+/// The checksum, and nothing behind it.
+pub(crate) fn read_seal(reader: &mut Reader<'_>, sum: u32) -> Result<(), DecodeFault>
     ensures ok { OnOk result (reader.old.rest ≡ to_be_bytes w32 sum) }
     ensures err { OnErr result (reader.old.rest ≢ to_be_bytes w32 sum) }
     ensures fault { IfErr result (IsSealFault reader.old.end reader.old.rest sum) }
@@ -67,10 +67,10 @@ fn read_parts(
 ) -> Result<(WriterId, (u64, (u64, Seq<ExportPoint>))), DecodeFault>
     ensures ok { IfOk result (λ p. bytes.now ≡ bytes_of_parts p) }
     ensures err { IfErr result (λ f. f ≢ faults.NoMemory → (p : Parts) → IsParts p → bytes.now ≢ bytes_of_parts p) }
-    ensures fault { IfErr result (λ f. IsPartsFault bytes.now f) }
+    ensures fault { IfErr result (λ f. IsPartsFault head parts bytes.now f) }
 {
     let mut reader = Reader::new(alloc, bytes);
-    read_head(&mut reader)?;
+    read_head(&mut reader, b'K')?;
     let parts = <(WriterId, (u64, (u64, Seq<ExportPoint>)))>::read(&mut reader)?;
     let (body, _) = bytes.split_at(bytes.len() - reader.left());
     read_seal(&mut reader, checksum(body))?;

@@ -1,7 +1,7 @@
 //! The bytes of an export.
 ghost use Rattle.std.specs.Prelude.{◌≡◌, ◌++◌, [], IfOk, OnOk, OnErr};
 ghost use Rattle.bytes_kit.specs.Fits.{IsExport};
-ghost use Rattle.bytes_kit.specs.Format.{parts_of, parts, head, bytes_of};
+ghost use Rattle.bytes_kit.specs.Format.{parts_of, parts, head, bytes_of, sealed};
 
 use crate::checksum::checksum;
 use crate::piece::Piece;
@@ -12,6 +12,16 @@ use std::alloc::Global;
 
 // The letters by which an export is known, and the version.
 const HEAD: [u8; 5] = [75, 84, 83, 75, 1];
+
+/// Puts the checksum of all bytes behind them.
+#[tactic(auto, unfolding(crate::specs::Format::sealed))]
+pub(crate) fn seal(out: &mut Vec<u8>) -> Result<(), NoMemory>
+    ensures { OnOk result (out.new.items ≡ sealed out.old.items) }
+{
+    let sum = checksum(out.as_slice());
+    out.extend_from_slice(&sum.to_be_bytes())?;
+    Ok(())
+}
 
 // What stands between the head and the checksum.
 fn write_parts(export: &Export, out: &mut Vec<u8>) -> Result<(), NoMemory>
@@ -25,7 +35,6 @@ fn write_parts(export: &Export, out: &mut Vec<u8>) -> Result<(), NoMemory>
 }
 
 // Head, parts and checksum.
-#[tactic(auto, unfolding(crate::specs::Format::sealed))]
 fn write_sealed(export: &Export, out: &mut Vec<u8>) -> Result<(), NoMemory>
     requires { out.old.items ≡ [] }
     ensures written { OnOk result (out.new.items ≡ bytes_of export.now) }
@@ -33,9 +42,7 @@ fn write_sealed(export: &Export, out: &mut Vec<u8>) -> Result<(), NoMemory>
 {
     out.extend_from_slice(&HEAD)?;
     write_parts(export, out)?;
-    let sum = checksum(out.as_slice());
-    out.extend_from_slice(&sum.to_be_bytes())?;
-    Ok(())
+    seal(out)
 }
 
 /// Makes the bytes of an export in a buffer. What the buffer held is gone; its memory is used again.

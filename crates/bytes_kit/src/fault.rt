@@ -1,4 +1,4 @@
-//! Why bytes are no export.
+//! Why bytes are no export, or no message.
 ghost use Rattle.std.specs.Prelude.{◌≡◌};
 
 use attr_kit::NoMemory;
@@ -6,14 +6,14 @@ use point_kit::ExportFault;
 use std::alloc::{AllocError, AllocFailed};
 use thiserror::Error;
 
-/// Why bytes are no export. A place counts bytes from 0; for `Truncated` it is the number of bytes.
+/// Why bytes are no export, or no message. A place counts bytes from 0; for `Truncated` it is the number of bytes.
 #[derive(Clone, Copy, Debug, PartialEq, Eq, Error)]
 pub enum DecodeFault {
-    /// The bytes end within the export.
-    #[error("the bytes end at {0}, within the export")]
+    /// The bytes end within the export or the message.
+    #[error("the bytes end at {0}, too early")]
     Truncated(usize),
-    /// The bytes do not begin as an export does.
-    #[error("byte {0} is not that of an export")]
+    /// The bytes do not begin as those of an export do, or of a message.
+    #[error("byte {0} is not that of what is read")]
     BadMagic(usize),
     /// The version is not one that is known here.
     #[error("the version at byte {0} is not known")]
@@ -28,7 +28,7 @@ pub enum DecodeFault {
     /// The checksum at this place is not that of the bytes before it.
     #[error("the checksum at byte {0} is not that of the bytes before it")]
     BadChecksum(usize),
-    /// The values make no export.
+    /// The values make no export; or a cell of a message is one that no export brings, for this reason.
     #[error("{0}")]
     BadExport(ExportFault),
     /// Memory was refused.

@@ -3,6 +3,7 @@ ghost use Rattle.std.specs.Prelude.{◌≡◌, ◌++◌, ◌≢◌, [], IfErr, �
 ghost use Rattle.bytes_kit.specs.Explaining.{IsReadFault};
 ghost use Rattle.bytes_kit.specs.Fits.{IsCounted, IsNumber, IsInteger, IsText, IsPair, IsList};
 ghost use Rattle.bytes_kit.specs.Format.{varint, groups, zigzag, integer, text, pair_of, list_of};
+ghost use Rattle.bytes_kit.specs.MessageFits.{IsId};
 ghost use Rattle.bytes_kit.specs.Laws.{varint_code, varint_bytes, integer_code, integer_bytes, text_code, text_bytes, pair_code, pair_bytes, list_code, list_bytes};
 ghost use Rattle.bytes_kit.specs.Reading.{Reads, NoneAt};
 ghost use Rattle.bytes_kit.specs.declared.fault.DecodeFault.TheVariants as faults;
@@ -86,6 +87,29 @@ fn folded(z: i64) -> u64
     }
 }
 
+impl Piece for u32 {
+    ghost code = { varint };
+
+    ghost is_value = { IsId };
+
+    fn write(&self, out: &mut Vec<u8>) -> Result<(), NoMemory> {
+        u64::from(*self).write(out)
+    }
+
+    fn read(reader: &mut Reader<'_>) -> Result<u32, DecodeFault> {
+        let place = reader.place();
+        let number = u64::read(reader)?;
+        if number > u32::MAX as u64 {
+            return Err(DecodeFault::NotCanonical(place));
+        }
+        Ok(number as u32)
+    }
+
+    ghost is_code = { varint_code };
+
+    ghost has_bytes = { varint_bytes };
+}
+
 impl Piece for i64 {
     ghost code = { integer };
 
@@ -149,8 +173,8 @@ impl<A: Piece, B: Piece> Piece for (A, B) {
     ghost has_bytes = { pair_bytes A.code B.code A.has_bytes };
 }
 
-// Room for as many values as bytes are left, at most.
-fn room<T: Piece>(reader: &Reader<'_>, count: usize) -> Result<Vec<T>, DecodeFault>
+/// Room for as many values as bytes are left, at most.
+pub(crate) fn room<T>(reader: &Reader<'_>, count: usize) -> Result<Vec<T>, DecodeFault>
     requires { count ≤ length reader.now.rest }
     ensures empty { IfOk result (λ v. v.items ≡ []) }
     ensures err { IfErr result (λ f. f ≡ faults.NoMemory) }

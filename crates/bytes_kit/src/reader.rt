@@ -1,5 +1,5 @@
 //! A cursor over bytes.
-ghost use Rattle.std.specs.Prelude.{◌≡◌, ◌-◌, ◌<◌, ◌≤◌, ◌++◌, [], ◌∷◌, length, IfOk, OnErr, IfErr, ◌≢◌};
+ghost use Rattle.std.specs.Prelude.{◌≡◌, ◌-◌, ◌<◌, ◌≤◌, ◌++◌, [], ◌∷◌, List, ℕ, true, false, length, IfOk, OnErr, IfErr, ◌≢◌};
 ghost use Rattle.bytes_kit.specs.declared.fault.DecodeFault.TheVariants as faults;
 
 use crate::DecodeFault;
@@ -84,6 +84,22 @@ impl<'a> Reader<'a> {
                 Ok(*byte)
             }
             [] => Err(DecodeFault::Truncated(self.end)),
+        }
+    }
+
+    /// Whether the next byte is this one, which is then passed.
+    pub(crate) fn passes(&mut self, wanted: u8) -> bool
+        ensures passed { result ≡ true → self.old.rest ≡ wanted ∷ self.new.rest }
+        ensures other { result ≡ false → (rest : List ℕ) → self.old.rest ≢ wanted ∷ rest }
+        ensures kept { result ≡ false → self.new.rest ≡ self.old.rest }
+        ensures end { self.new.end ≡ self.old.end }
+    {
+        match self.rest {
+            [byte, rest @ ..] if *byte == wanted => {
+                self.rest = rest;
+                true
+            }
+            _ => false,
         }
     }
 

@@ -1,6 +1,8 @@
-//! The worked example of docs/BYTES.md, there and back, and each refusal.
+//! The worked examples of docs/BYTES.md, there and back, and each refusal.
 use super::*;
 use attr_kit::{AttrSet, AttrValue, NoMemory, Seq, Txt};
+use gateway_kit::Gateway;
+use gossip_kit::{Message, Node};
 use point_kit::{Export, ExportFault, ExportPoint, Payload, Shape, SharedStream, Stream, WriterId};
 use std::alloc::Global;
 use std::test::Fail;
@@ -17,6 +19,20 @@ const EXAMPLE: [u8; 61] = [
 const AT_ITS_START: [u8; 30] = [
     75, 84, 83, 75, 1, 0, 16, 0, 0, 0, 0, 0, 0, 0, 0, 0, 0, 0, 0, 0, 0, 0, 0, 5, 5, 0, 31, 224, 1,
     89,
+];
+
+// Of docs/BYTES.md: what node 1 tells node 2 of the example.
+const MESSAGE: [u8; 66] = [
+    75, 84, 83, 77, 1, 1, 2, 1, 1, 1, 0, 4, 115, 104, 111, 112, 16, 0, 0, 0, 0, 0, 0, 0, 0, 0, 0,
+    0, 0, 0, 0, 0, 7, 100, 3, 97, 112, 112, 5, 115, 97, 108, 101, 115, 1, 49, 1, 1, 4, 105, 116,
+    101, 109, 0, 3, 116, 101, 97, 200, 1, 0, 12, 31, 204, 10, 218,
+];
+
+// The same with a cell whose time is its key's start.
+const LATE: [u8; 65] = [
+    75, 84, 83, 77, 1, 1, 2, 1, 1, 1, 0, 4, 115, 104, 111, 112, 16, 0, 0, 0, 0, 0, 0, 0, 0, 0, 0,
+    0, 0, 0, 0, 0, 7, 100, 3, 97, 112, 112, 5, 115, 97, 108, 101, 115, 1, 49, 1, 1, 4, 105, 116,
+    101, 109, 0, 3, 116, 101, 97, 100, 0, 12, 19, 208, 10, 117,
 ];
 
 fn text(alloc: Global, bytes: &str) -> Result<Txt, NoMemory> {
@@ -80,6 +96,45 @@ fn refusals(rt: HostRuntime) -> Result<(), Fail> {
     assert_eq!(rt; changed(alloc, 29, 0)?, Some(DecodeFault::NotCanonical(28)));
     assert_eq!(rt; changed(alloc, 56, 14)?, Some(DecodeFault::BadChecksum(57)));
     let fault = decode_export(alloc, &AT_ITS_START).err();
+    assert_eq!(rt;
+        fault,
+        Some(DecodeFault::BadExport(ExportFault::TimeNotAfterStart))
+    );
+    Ok(())
+}
+
+// What a node that took the example tells node 2.
+fn told(alloc: Global) -> Result<Message, Fail> {
+    let mut node = Node::new(alloc, Gateway::new(alloc, 1));
+    node.take(&example(alloc)?)?;
+    Ok(node.send(2)?)
+}
+
+#[test]
+fn the_worked_message(rt: HostRuntime) -> Result<(), Fail> {
+    let alloc = rt.alloc();
+    let bytes = encode_message(alloc, &told(alloc)?)?;
+    assert_eq!(rt; bytes.as_slice(), MESSAGE.as_slice());
+    let found = decode_message(alloc, bytes.as_slice())
+        .ok()
+        .ok_or("it is read again")?;
+    // Node 2 takes it in, and its answer goes the same way.
+    let mut node = Node::new(alloc, Gateway::new(alloc, 2));
+    let answer = node
+        .hand(&found)
+        .ok()
+        .flatten()
+        .ok_or("a delta is answered")?;
+    assert_eq!(rt; node.gateway().len(), 1);
+    let back = message_there_and_back(alloc, &answer)
+        .ok()
+        .ok_or("it is read again")?;
+    assert_eq!(rt; back.to(), 1);
+    for end in 0..MESSAGE.len() {
+        let fault = decode_message(alloc, &MESSAGE[..end]).err();
+        assert_eq!(rt; fault, Some(DecodeFault::Truncated(end)));
+    }
+    let fault = decode_message(alloc, &LATE).err();
     assert_eq!(rt;
         fault,
         Some(DecodeFault::BadExport(ExportFault::TimeNotAfterStart))

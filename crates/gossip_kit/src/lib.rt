@@ -5,7 +5,8 @@
 //! sender's change number. What a message carries is held by its sender and, joined into anything that has what the
 //! receiver acknowledged, brings that to or above the sender's state. So a message may be lost, doubled, or come late:
 //! handing it again changes nothing, and until an Ack is handed each later message brings what an earlier one would have
-//! brought. This gossip is the kit's own; the OpenTelemetry specification has none.
+//! brought. A `Body` is what a message carries, for those who carry it elsewhere as bytes. This gossip is the kit's own; the
+//! OpenTelemetry specification has none.
 #![tactic(auto)]
 
 mod books;
@@ -14,5 +15,5 @@ mod message;
 mod node;
 
 pub use fault::HandFault;
-pub use message::Message;
+pub use message::{Body, Message};
 pub use node::Node;

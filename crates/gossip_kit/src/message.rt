@@ -6,9 +6,9 @@ ghost use Rattle.gossip_kit.specs.Bodies.{cells_of, delta_of, ack_of};
 use gateway_kit::Gateway;
 use std::marker::Model;
 
-/// What a message carries.
+/// What a message carries. Of a gateway only the points count: its id and its numbers are nowhere looked at.
 #[derive(Debug, Drop)]
-pub(crate) enum Body {
+pub enum Body {
     /// All that its sender holds.
     Whole(Gateway),
     /// What changed at its sender since the last acknowledged number, and the sender's change number.
@@ -17,7 +17,7 @@ pub(crate) enum Body {
     Ack(u64),
 }
 
-/// What one gateway tells another. It is made by `Node::send` and `Node::hand` alone.
+/// What one gateway tells another. `Node::send` and `Node::hand` make it of what a node holds, [`Message::new`] of parts.
 #[derive(Debug, Drop)]
 pub struct Message {
     from: u32,
@@ -39,7 +39,12 @@ impl Model for Message {
 }
 
 impl Message {
-    pub(crate) fn new(from: u32, to: u32, body: Body) -> Message
+    /// A message of these parts, as a codec makes one that came as bytes. Takes no memory and constant time.
+    ///
+    /// Whether its sender holds the cells, or took in the delta whose number it acknowledges, is the word of whoever gives
+    /// the parts. A node that is handed it joins the cells whoever wrote them, and believes an Ack of its sender's id alone:
+    /// so a false one can keep cells back from the node of that id, and from no other.
+    pub fn new(from: u32, to: u32, body: Body) -> Message
         ensures value { result ≡ record { from = from; to = to; points = cells_of body; delta = delta_of body; ack = ack_of body } }
     {
         Message { from, to, body }
@@ -70,7 +75,8 @@ impl Message {
         }
     }
 
-    pub(crate) fn body(&self) -> &Body
+    /// What it carries. Takes no memory and constant time.
+    pub fn body(&self) -> &Body
         ensures points { cells_of result.now ≡ self.now.points }
         ensures delta { delta_of result.now ≡ self.now.delta }
         ensures ack { ack_of result.now ≡ self.now.ack }

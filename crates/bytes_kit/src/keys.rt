@@ -1,0 +1,176 @@
+//! Keys behind one another: what a key shares with the one before it is not written again.
+ghost use Rattle.std.specs.Prelude.{◌≡◌, ◌≢◌, ◌++◌, IfErr, IfOk, OnOk};
+ghost use Rattle.bytes_kit.specs.Explaining.{IsReadFault};
+ghost use Rattle.bytes_kit.specs.KeyForms.{Inherits, IsAny, IsKeyLike, IsKeyRest, key_before, key_at};
+ghost use Rattle.bytes_kit.specs.MessageFits.{IsKey};
+ghost use Rattle.bytes_kit.specs.Messages.{common, common_form, common_parts, key, key_rest};
+ghost use Rattle.bytes_kit.specs.Reading.{Reads, NoneAt};
+ghost use Rattle.bytes_kit.specs.declared.fault.DecodeFault.TheVariants as faults;
+
+use crate::DecodeFault;
+use crate::piece::Piece;
+use crate::reader::Reader;
+use attr_kit::{AttrSet, NoMemory};
+use gateway_kit::PointRef;
+use point_kit::{Key, Stream, WriterId};
+
+/// What a key shares with the one before it: nothing that counts, writer and start, or its stream too.
+#[derive(Clone, Copy, PartialEq, Eq)]
+pub(crate) enum Shared {
+    Nothing,
+    Incarnation,
+    Stream,
+}
+
+// What writer, start and stream of a key share with the key of the point before it.
+fn common(before: Option<PointRef<'_>>, writer: &WriterId, start: u64, stream: &Stream) -> Shared
+    ensures { result ≡ common_parts (key_before before.entry) writer.now start stream.now }
+{
+    let Some(before) = before else {
+        return Shared::Nothing;
+    };
+    if *before.writer != *writer || before.start != start {
+        return Shared::Nothing;
+    }
+    if *before.stream == *stream {
+        Shared::Stream
+    } else {
+        Shared::Incarnation
+    }
+}
+
+fn write_rest(shared: Shared, point: PointRef<'_>, out: &mut Vec<u8>) -> Result<(), NoMemory>
+    ensures written { OnOk result (out.new.items ≡ out.old.items ++ (common_form shared ++ key_rest shared (key_at point.entry))) }
+    ensures value { OnOk result (IsKeyRest shared (key_at point.entry)) }
+{
+    match shared {
+        Shared::Nothing => {
+            out.push(0)?;
+            point.writer.write(out)?;
+            point.start.write(out)?;
+            point.stream.write(out)?;
+            point.attrs.write(out)
+        }
+        Shared::Incarnation => {
+            out.push(1)?;
+            point.stream.write(out)?;
+            point.attrs.write(out)
+        }
+        Shared::Stream => {
+            out.push(2)?;
+            point.attrs.write(out)
+        }
+    }
+}
+
+/// The key of a point behind that of the point before it.
+pub(crate) fn write_key(
+    before: Option<PointRef<'_>>,
+    point: PointRef<'_>,
+    out: &mut Vec<u8>,
+) -> Result<(), NoMemory>
+    ensures written { OnOk result (out.new.items ≡ out.old.items ++ key (key_before before.entry) (key_at point.entry)) }
+    ensures value { OnOk result (IsKeyRest (common (key_before before.entry) (key_at point.entry)) (key_at point.entry)) }
+{
+    let shared = common(before, point.writer, point.start, point.stream);
+    write_rest(shared, point, out)
+}
+
+fn read_shared(reader: &mut Reader<'_>) -> Result<Shared, DecodeFault>
+    ensures found { Reads common_form IsAny reader.old.rest result reader.new.rest }
+    ensures end { reader.new.end ≡ reader.old.end }
+    ensures fault { IfErr result (IsReadFault reader.old.end) }
+{
+    let place = reader.place();
+    match reader.byte()? {
+        0 => Ok(Shared::Nothing),
+        1 => Ok(Shared::Incarnation),
+        2 => Ok(Shared::Stream),
+        _ => Err(DecodeFault::NotCanonical(place)),
+    }
+}
+
+// A key of which nothing is known.
+fn read_whole(reader: &mut Reader<'_>) -> Result<Key, DecodeFault>
+    ensures found { Reads (key_rest Shared.Nothing) IsKey reader.old.rest result reader.new.rest }
+    ensures end { reader.new.end ≡ reader.old.end }
+    ensures fault { IfErr result (IsReadFault reader.old.end) }
+{
+    let (writer, (start, (stream, attrs))) = <(WriterId, (u64, (Stream, AttrSet)))>::read(reader)?;
+    Ok(Key {
+        writer,
+        start,
+        stream,
+        attrs,
+    })
+}
+
+// A key of a known incarnation.
+fn read_stream(before: PointRef<'_>, reader: &mut Reader<'_>) -> Result<Key, DecodeFault>
+    ensures found { Reads (key_rest Shared.Incarnation) IsKey reader.old.rest result reader.new.rest }
+    ensures inherits { IfOk result (Inherits (key_before (Some before.entry)) Shared.Incarnation) }
+    ensures end { reader.new.end ≡ reader.old.end }
+    ensures fault { IfErr result (IsReadFault reader.old.end) }
+{
+    let (stream, attrs) = <(Stream, AttrSet)>::read(reader)?;
+    Ok(Key {
+        writer: before.writer.try_copy()?,
+        start: before.start,
+        stream,
+        attrs,
+    })
+}
+
+// A key of a known stream.
+fn read_attrs(before: PointRef<'_>, reader: &mut Reader<'_>) -> Result<Key, DecodeFault>
+    ensures found { Reads (key_rest Shared.Stream) IsKey reader.old.rest result reader.new.rest }
+    ensures inherits { IfOk result (Inherits (key_before (Some before.entry)) Shared.Stream) }
+    ensures end { reader.new.end ≡ reader.old.end }
+    ensures fault { IfErr result (IsReadFault reader.old.end) }
+{
+    let attrs = AttrSet::read(reader)?;
+    Ok(Key {
+        writer: before.writer.try_copy()?,
+        start: before.start,
+        stream: before.stream.try_copy()?,
+        attrs,
+    })
+}
+
+// What a key does not share with the one before it, and from there what it does.
+fn read_rest(
+    shared: Shared,
+    before: Option<PointRef<'_>>,
+    reader: &mut Reader<'_>,
+) -> Result<Key, DecodeFault>
+    ensures ok { IfOk result (λ k. reader.old.rest ≡ key_rest shared k ++ reader.new.rest) }
+    ensures inherits { IfOk result (Inherits (key_before before.entry) shared) }
+    ensures err { IfErr result (λ f. f ≢ faults.NoMemory → NoneAt (key_rest shared) (IsKeyLike (key_before before.entry) shared) reader.old.rest) }
+    ensures end { reader.new.end ≡ reader.old.end }
+    ensures fault { IfErr result (IsReadFault reader.old.end) }
+{
+    match (shared, before) {
+        (Shared::Nothing, _) => read_whole(reader),
+        (Shared::Incarnation, Some(before)) => read_stream(before, reader),
+        (Shared::Stream, Some(before)) => read_attrs(before, reader),
+        (_, None) => Err(DecodeFault::NotCanonical(reader.place())),
+    }
+}
+
+/// The key that comes next, behind that of the point before it.
+pub(crate) fn read_key(
+    before: Option<PointRef<'_>>,
+    reader: &mut Reader<'_>,
+) -> Result<Key, DecodeFault>
+    ensures found { Reads (key (key_before before.entry)) IsKey reader.old.rest result reader.new.rest }
+    ensures end { reader.new.end ≡ reader.old.end }
+    ensures fault { IfErr result (IsReadFault reader.old.end) }
+{
+    let place = reader.place();
+    let shared = read_shared(reader)?;
+    let key = read_rest(shared, before, reader)?;
+    if common(before, &key.writer, key.start, &key.stream) != shared {
+        return Err(DecodeFault::NotCanonical(place));
+    }
+    Ok(key)
+}
