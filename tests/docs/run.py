@@ -8,7 +8,8 @@ or any. A word of a group in capitals is one of the specs of the crate.
 
 In every page each relative link leads to a file and to a heading, each crate that is named is one, and no line cites a paper by number.
 In PAGES each file of the repository that is named in code letters is there, and each other name in code letters stands in the code. The
-files of specs/ that DEFINITIONS names exist. README's table has each crate once, and ARCHITECTURE's has what crates.txt says.
+files of specs/ that DEFINITIONS names exist. README's table has each crate once, and ARCHITECTURE's has what crates.txt says. In READ_PAGES
+no sentence has more than MOST_WORDS words, code in letters counted as one; a heading, a cell of a table and a list's item stand by themselves.
 
     tests/docs/run.py [FOLDER]      FOLDER in place of this repository
 
@@ -20,6 +21,9 @@ import sys
 
 TOP = pathlib.Path(sys.argv[1] if sys.argv[1:] else pathlib.Path(__file__).resolve().parents[2]).resolve()
 PAGES = ["README.md", *(f"docs/{it}.md" for it in ("ARCHITECTURE", "DECISIONS", "DEFINITIONS", "GOSSIP", "HISTORIES", "PERFORMANCE", "PROMISES"))]
+# What its users read from its beginning to its end.
+READ_PAGES = ["README.md", "docs/GUIDE.md", "docs/SCRIPTS.md"]
+MOST_WORDS = 29
 # Names in code letters that are none of the kit's.
 FOREIGN = {"arrayvec::ArrayString", "Equivalent", "clap"}
 FN = re.compile(r"( *)(?:pub(?:\(crate\))? )?(?:unsafe )?(?:extern \"C\" )?fn (\w+)")
@@ -37,6 +41,31 @@ def text_of(file):
 
 def spans(text):
     return re.findall(r"`([^`\n]+)`", text)
+
+
+def passages(text):
+    """The line and the text of each paragraph, item and cell of a page; what is fenced is left out."""
+    open_at, lines, is_fenced = 0, [], False
+    for number, line in enumerate([*text.splitlines(), ""], 1):
+        line, is_fenced = line.strip(), is_fenced != line.startswith("```")
+        ends = is_fenced or not line or line.startswith(("#", "|", "<!--", "```")) or re.match(r"[-*] |\d+\. ", line)
+        if ends and lines:
+            yield open_at, " ".join(lines)
+            lines = []
+        if line.startswith("|") and not is_fenced:
+            yield from ((number, it) for it in line.strip("|").split("|"))
+        elif not is_fenced and line and not line.startswith(("#", "<!--", "```")):
+            open_at, lines = number if not lines else open_at, [*lines, line]
+
+
+def long_sentences(text):
+    """The line, the number of words and the beginning of each sentence that is too long."""
+    for number, passage in passages(text):
+        passage = re.sub(r"\]\([^)]*\)", "]", re.sub(SPAN, "X", passage))
+        for sentence in re.split(r"(?<=[.!?])\)?\s+(?=[A-Z\[0-9(*\"])", passage):
+            count = len(re.findall(r"[A-Za-z0-9][\w'.@/-]*", sentence))
+            if count > MOST_WORDS:
+                yield number, count, sentence[:60]
 
 
 def crates():
@@ -143,6 +172,10 @@ class Docs:
                 for span in spans(line):
                     self.check_name(where, span)
 
+    def check_sentences(self, page):
+        for number, count, opening in long_sentences(text_of(TOP / page)):
+            self.fault(f"{page}:{number}", f"a sentence of {count} words: {opening} ..")
+
     def check_link(self, where, page, target):
         if re.match(r"\w+:", target):
             return
@@ -201,6 +234,8 @@ class Docs:
             self.check_rows(page)
         for file in sorted([TOP / "README.md", *TOP.glob("docs/**/*.md"), *TOP.glob("wip/*.md")]):
             self.check_page(str(file.relative_to(TOP)))
+        for page in READ_PAGES:
+            self.check_sentences(page)
         self.check_definitions()
         self.check_tables()
 

@@ -10,7 +10,7 @@ written. There its status and both its streams are told below. `rt ci`
 leaves the program in crates/otm/out, as each of two compilers builds it, and `rt run` as the first does: every build that lies
 there does all of it.
 
-What PAGES quote of crates/uses must stand there: a comment `<!-- FILE: fn NAME -->` names what the next block, fenced as
+What PAGES quote of the crates must stand there: a comment `<!-- FILE: fn NAME -->` names what the next block, fenced as
 `rust`, has whole, and `, body` after it asks for the lines between its braces. Under the words `otm --help`, `otm help fleet` and
 `otm --version` COMMANDS_PAGE shows what these print.
 
@@ -252,6 +252,17 @@ def many_points():
     return script, HEADER + b"{}           10000          0  49995000\n" + HEADER + b"".join(rows)
 
 
+def many_pairs():
+    """One set of many pairs, whose keys come in an order that jumps about, as it is and restricted to every other key."""
+    keys = [b"key.%d" % (number * 7919 % MANY) for number in range(MANY)]
+    half = keys[::2]
+    ends = b"collect a 200\ndeliver 1 1\nreport 1 app requests 1 sum+ * - *\nreport 1 app requests 1 sum+ * - %s\n" % b",".join(half)
+    script = COUNTER + b"begin\nmeasure a c 7 " + b",".join(it + b"=true" for it in keys) + b"\n" + ends
+    cells = [b"{" + b",".join(it + b"=true" for it in sorted(held)) + b"}" for held in (keys, half)]
+    head, row = b"attributes".ljust, b"       1          0  7\n"
+    return script, b"".join(head(len(it)) + HEADER.removeprefix(b"attributes") + it + row for it in cells)
+
+
 # A script of some length, that prints a line.
 LARGE = b"gateway 1\nbegin\n" + b"#" * 1_000_000 + b"\nconflicts 1\n"
 
@@ -345,7 +356,7 @@ def cases(program):
         for line, sentence in lines:
             text = b"line %d\n" % ((before + line).count(b"\n") + 1)
             yield f"{before[-6:]}{line}", ended(program, ["run"], (1, text, said(text, sentence)), input=before + line + b"\n")
-    for made in (many_streams, many_points):
+    for made in (many_streams, many_points, many_pairs):
         script, text = made()
         yield made.__name__, ended(program, ["run"], (0, text, b""), input=script)
     for name, (words, given, *wanted) in ENDS.items():

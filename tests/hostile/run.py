@@ -1,13 +1,16 @@
 #!/usr/bin/env python3
-"""Malformed scripts and failing streams, and a soak of scripts made from a seed.
+"""Malformed scripts and failing streams, and a soak of scripts made from a seed: of all sorts, and of gossip.
 
 `otm run` must answer each with a bad line, of which its standard error says what is wrong, or as the script says: statuses 0 and
-1, and 4 for a stream that failed, never by a signal. What the scripts of the soak must print is told by a plain reading of them (plain.py). This ends with a status other
-than 0 where something is not as told.
+1, and 4 for a stream that failed, never by a signal. What the scripts of the soak must print is told by a plain reading of them
+(plain.py), in which a mail carries all that its sender holds. Those of gossip (gossip.py) have 20,000 events together, among which
+deltas and Acks are lost, doubled, late and out of order: this prints how many, and some of each must be there. It ends with a status
+other than 0 where something is not as told.
 
     tests/hostile/run.py [--scripts N] [--seed S]     N scripts in the soak, made from this seed; it is printed"""
 import argparse
 import concurrent.futures
+import itertools
 import os
 import pathlib
 import random
@@ -19,11 +22,13 @@ import tempfile
 sys.dont_write_bytecode = True
 sys.path.insert(0, str(pathlib.Path(__file__).resolve().parents[1] / "faults"))
 import faults
+import gossip
 import plain
 import scripts
 
 WORKERS = 2
 SCRIPTS = 4_000
+GOSSIPS = 40
 CHUNK = 1_000
 LONGEST = 1_048_576
 BAD_END = re.compile(rb"(?:\A|\n)(line [0-9]+)\n\Z")
@@ -149,10 +154,8 @@ def closed(program):
     return len(rows) + 1, wrong
 
 
-def soak(programs, count, seed, pool):
-    """Does so many scripts made from a seed, a tenth of them by the second build too. How they ended, and what was wrong."""
-    seeds = [path.read_bytes() for path in sorted((faults.TOP / "examples").glob("*.otm"))]
-    maker = scripts.Maker(random.Random(seed), seeds)
+def beside(programs, pool, made):
+    """Does scripts as they are made, a tenth of them by the second build too. How they ended, and what was wrong."""
     answers = done(programs[0], ANSWERED)[1] == b""
     ends, wrong = {}, []
 
@@ -167,13 +170,28 @@ def soak(programs, count, seed, pool):
                 return script, told[0], f"{program.name}: status {told[0]}, {shown(told[1])}, {shown(told[2])}, not {shown(text)}"
         return script, status, ""
 
-    for start in range(0, count, CHUNK):
-        chunk = [(number, maker.script()) for number in range(start, min(count, start + CHUNK))]
+    numbered = enumerate(made)
+    while chunk := list(itertools.islice(numbered, CHUNK)):
         for script, status, told in pool.map(judged, chunk):
             ends[status] = ends.get(status, 0) + 1
             if told:
                 wrong.append(f"{told}: {shown(script)}")
-    return ends, wrong
+    return ", ".join(f"{number} with status {status}" for status, number in sorted(ends.items())), wrong
+
+
+def soak(programs, count, seed, pool):
+    """Does so many scripts of all sorts, made from a seed."""
+    seeds = [path.read_bytes() for path in sorted((faults.TOP / "examples").glob("*.otm"))]
+    maker = scripts.Maker(random.Random(seed), seeds)
+    return beside(programs, pool, (maker.script() for _ in range(count)))
+
+
+def soak_gossip(programs, seed, pool):
+    """Does scripts of gossip, made from a seed. What was among their events, and what was wrong."""
+    made, fates = gossip.made(random.Random(seed), GOSSIPS)
+    ends, wrong = beside(programs, pool, made)
+    told, few = gossip.told(GOSSIPS, fates)
+    return f"{GOSSIPS} scripts from seed {seed}: {ends}; {told}", wrong + few
 
 
 def say(text, wrong):
@@ -205,9 +223,10 @@ def main():
             failed |= say(f"{program.name}: {count} runs with streams that are closed, full or no file", wrong)
         count, wrong = streams(library, programs[0])
         failed |= say(f"{programs[0].name}: {count} runs with reads and writes of one byte, each failing in turn", wrong)
-        ends, wrong = soak(programs, asked.scripts, asked.seed, pool)
-        text = ", ".join(f"{number} with status {status}" for status, number in sorted(ends.items()))
+        text, wrong = soak(programs, asked.scripts, asked.seed, pool)
         failed |= say(f"soak: {asked.scripts} scripts from seed {asked.seed}: {text}", wrong)
+        text, wrong = soak_gossip(programs, asked.seed, pool)
+        failed |= say(f"gossip: {text}", wrong)
     print("hostile: " + ("NOT ALL AS TOLD" if failed else "all as told"))
     return failed
 

@@ -39,9 +39,11 @@ TOTALS = b"gateway 1 total 30\ngateway 2 total 30\n"
 FLEET_FAULTS = ((3, re.compile(rb"no memory\n")), (1, re.compile(rb"fleet failed\n|missing gateway [12] writer [01]\n")))
 
 # Calls of which one growth alone may be spared: an arena asks for half of a piece that it is refused, and a list that is
-# collected grows as it goes where room for all of it is refused.
+# collected grows as it goes where room for all of it is refused. A take that brings in new keys sets its guesses at places right
+# where there is memory for that, and else leaves them.
 SPARING = ("place", "Writer::look_round", "Writer::collect", "Writer::shutdown", "SharedWriter::try_collect", "SharedWriter::collect")
 SPARING += ("Periodic::tick", "Periodic::flush", "World::apply, Collect", "World::apply, Shutdown", "replay", "Plan::build", "rollup")
+SPARING += ("Gateway::take, a new writer", "SharedGateway::try_take", "SharedGateway::take", "Node::take", "World::apply, Deliver")
 
 # The calls. What each prints with ample memory: the answer, and of a call that changes something what it left and what it
 # answers when it is made again; and what a refused growth makes of the first two, each of which must come. The third is then

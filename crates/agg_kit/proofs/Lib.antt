@@ -1,3 +1,4 @@
+pub mod Absorbs
 pub mod Alike
 pub mod BoundPoints
 pub mod Bounds
@@ -5,10 +6,12 @@ pub mod Copies
 pub mod Distinct
 pub mod Here
 pub mod Inserts
+pub mod Joins
 pub mod Limits
 pub mod Parts
 pub mod Payloads
 pub mod Points
+pub mod Recorders
 pub mod Records
 pub mod Refusals
 pub mod RoundLaws

@@ -38,7 +38,7 @@ within [] m x h = absurd (cc)
 within (y ∷ xs) zero x h = omega arith
 within (y ∷ xs) (suc m) x h = let k = within xs m x h in omega arith
 
-at-enumerated : {X Y : Type 0} (f : ℕ × X → Y) (n : ℕ) (xs : List X) (m : ℕ) (x : X) → slice_get xs m ≡ Some x → slice_get (map f (enumerate_from n xs)) m ≡ Some (f (n + m, x))
+pub at-enumerated : {X Y : Type 0} (f : ℕ × X → Y) (n : ℕ) (xs : List X) (m : ℕ) (x : X) → slice_get xs m ≡ Some x → slice_get (map f (enumerate_from n xs)) m ≡ Some (f (n + m, x))
 at-enumerated f n [] m x h = absurd (cc)
 at-enumerated {X = X} f n (y ∷ xs) zero x h =
     let e : y ≡ x = cc in

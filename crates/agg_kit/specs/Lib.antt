@@ -1,14 +1,16 @@
+pub mod Absorbs
 pub mod Alike
 pub mod BoundPoints
 pub mod Entries
-pub mod Feeds
 pub mod Feeding
+pub mod Feeds
 pub mod FreshPoints
 pub mod Kept
 pub mod Laws
 pub mod Measuring
 pub mod Parts
 pub mod Payloads
+pub mod Recorders
 pub mod Refusals
 pub mod Rounds
 pub mod Sound

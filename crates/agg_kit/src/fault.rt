@@ -30,3 +30,45 @@ impl From<NoMemory> for MeasureFault {
         MeasureFault::NoMemory
     }
 }
+
+/// Why a recorder refuses a recording.
+#[derive(Debug, PartialEq, Eq, Drop, Error)]
+pub enum RecordFault {
+    /// The plan has no instrument of this number.
+    #[error("there is no such instrument")]
+    NoInstrument,
+    /// The value is below 0, and the instrument is a counter or a histogram.
+    #[error("the value is below 0")]
+    Negative,
+    /// The recorder may not hold this by itself: a tally has to take in what it holds first, or the recording itself.
+    #[error("the recorder is full")]
+    Full,
+    /// Memory was refused.
+    #[error("no memory")]
+    NoMemory,
+}
+
+impl From<MeasureFault> for RecordFault {
+    ghost use Rattle.agg_kit.specs.Recorders.{told};
+
+    ghost from_gives = { λ f e. e ≡ told f };
+
+    fn from(fault: MeasureFault) -> RecordFault {
+        match fault {
+            MeasureFault::NoInstrument => RecordFault::NoInstrument,
+            MeasureFault::Negative => RecordFault::Negative,
+            MeasureFault::Overflow(_) => RecordFault::Full,
+            MeasureFault::NoMemory => RecordFault::NoMemory,
+        }
+    }
+}
+
+impl From<NoMemory> for RecordFault {
+    ghost use Rattle.agg_kit.specs.declared.fault.RecordFault.TheVariants as record_faults;
+
+    ghost from_gives = { λ _ e. e ≡ record_faults.NoMemory };
+
+    fn from(_error: NoMemory) -> RecordFault {
+        RecordFault::NoMemory
+    }
+}

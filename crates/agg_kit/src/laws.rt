@@ -1,11 +1,13 @@
 //! What tallies stand for.
 ghost use Rattle.std.specs.Prelude.{◌≡◌, ◌++◌, ◌∷◌, [], List};
 ghost use Rattle.plan_kit.specs.Plans.{Planned, feeds_of};
+ghost use Rattle.agg_kit.specs.Absorbs.{PointsAreAbsorbed, PlacesAreKept, OthersAreAbsorbed};
 ghost use Rattle.agg_kit.specs.BoundPoints.{BoundPointsStay};
 ghost use Rattle.agg_kit.specs.Entries.{Entry};
 ghost use Rattle.agg_kit.specs.Feeds.{AllWhole};
 ghost use Rattle.agg_kit.specs.Laws.{SumsAddUp, CountsAddUp, IsLimited, OwnPointsStay, FedGrows, RoundsHaveFed};
 ghost use Rattle.agg_kit.specs.Measuring.{after_measure, early_fault_of, empty_tally, fault_of};
+ghost use Rattle.agg_kit.specs.Recorders.{Holds, RecordersHold, AbsorbingIsRecording};
 ghost use Rattle.agg_kit.specs.Refusals.{refused};
 ghost use Rattle.agg_kit.specs.Rounds.{StandsFor};
 ghost use Rattle.agg_kit.specs.Tallies.{Tallied};
@@ -37,4 +39,23 @@ pub fn rounds_have_what_was_fed()
 #[tactic(auto, using(crate::proofs::BoundPoints::bound_stays))]
 pub fn bound_points_stay()
     ensures { BoundPointsStay }
+{}
+
+/// Points that another tally has of later values, taken in one after the other, are as if each of their values had been recorded;
+/// of gauges, where no two sets of the other go under one. Whatever they are, the sets go where their values would, and but for
+/// the payload of the overflow set of a gauge all is as if recorded.
+#[tactic(auto, using(crate::proofs::Absorbs::points_absorbed, crate::proofs::Absorbs::places_kept))]
+pub fn points_are_absorbed()
+    ensures points { PointsAreAbsorbed }
+    ensures places { PlacesAreKept }
+    ensures others { OthersAreAbsorbed }
+{}
+
+/// Taking a recorder in is recording what it holds: one that holds nothing stands for no recordings, one that takes a recording
+/// stands for it too, and a tally with what a recorder holds stands for its recordings followed by the recorder's.
+#[tactic(auto, using(crate::proofs::Recorders::recorders_hold, crate::proofs::Recorders::absorbing_is_recording))]
+pub fn absorbing_is_recording()
+    ensures empty { (p : Planned) → Holds (empty_tally p) [] }
+    ensures holds { RecordersHold }
+    ensures stands { AbsorbingIsRecording }
 {}

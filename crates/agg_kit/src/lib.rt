@@ -21,11 +21,16 @@ mod bound;
 mod fault;
 mod laws;
 mod payload;
+mod recorder;
 mod recording;
 mod series;
 mod tally;
 
 pub use bound::Bound;
-pub use fault::MeasureFault;
-pub use laws::{bound_points_stay, rounds_have_what_was_fed, steps_are_recordings};
+pub use fault::{MeasureFault, RecordFault};
+pub use laws::{
+    absorbing_is_recording, bound_points_stay, points_are_absorbed, rounds_have_what_was_fed,
+    steps_are_recordings,
+};
+pub use recorder::Recorder;
 pub use tally::Tally;

@@ -24,9 +24,9 @@ enum Memory {
     Short,
 }
 
-// The shape of a stream.
+/// The shape of a stream.
 #[inline(always)]
-fn shape_of(plan: &Plan, stream: usize) -> &Shape
+pub(crate) fn shape_of(plan: &Plan, stream: usize) -> &Shape
     requires { stream < length plan.now.streams }
     ensures value { result.now ≡ shape_at plan.now stream }
     ensures proper { IsTrue (is_proper result.now) }

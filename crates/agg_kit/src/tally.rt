@@ -1,5 +1,5 @@
 //! The points of all streams of a plan, as recordings come in.
-ghost use Rattle.std.specs.Prelude.{◌≡◌, ◌≢◌, ◌↔◌, ◌<◌, ◌∷◌, [], length, replicate, slice_get, Some, None, true, false, IfOk, IfErr, IfSome, OnOk, OnErr, IsTrue};
+ghost use Rattle.std.specs.Prelude.{◌≡◌, ◌≢◌, ◌↔◌, ◌<◌, ◌∷◌, [], ℤ, length, replicate, slice_get, Some, None, true, false, IfOk, IfErr, IfSome, IsOk, OnOk, OnErr, IsTrue};
 ghost use Rattle.std.specs.Option.{option_map};
 ghost use Rattle.agg_kit.specs.Alike.{ShareKeys};
 ghost use Rattle.agg_kit.specs.BoundPoints.{AreKnown, HasInstrument, IsBound, LacksInstrument, entry_at};
@@ -8,12 +8,14 @@ ghost use Rattle.agg_kit.specs.Feeding.{overflow_set};
 ghost use Rattle.agg_kit.specs.Feeds.{entries_of, series_at, IsHeld};
 ghost use Rattle.agg_kit.specs.Kept.{whole_feed, AreLone};
 ghost use Rattle.agg_kit.specs.Measuring.{after_measure, early_fault_of, empty_tally, fault_of};
+ghost use Rattle.agg_kit.specs.Recorders.{keeps_sets};
 ghost use Rattle.agg_kit.specs.Refusals.{is_negative_for};
 ghost use Rattle.agg_kit.specs.declared.fault.MeasureFault.TheVariants as faults;
 ghost use Rattle.agg_kit.specs.Sound.{AllSound};
 ghost use Rattle.plan_kit.specs.Plans.{feeds_of};
 
 use crate::bound::places_of;
+use crate::recorder::keep_each;
 use crate::recording::record;
 use crate::series::Series;
 use crate::{Bound, MeasureFault};
@@ -196,6 +198,24 @@ impl Tally {
         )
     }
 
+    // Whether each feed of an instrument leads to a stream that only rises, with a point of its own for the set, or room for one.
+    pub(crate) fn keeps_sets(&self, instrument: usize, attrs: &AttrSet) -> Result<bool, NoMemory>
+        ensures value { IfOk result (λ keeps. (v : ℤ) → keeps ≡ keeps_sets self.now (entry_of instrument attrs.now v)) }
+        ensures held { (v : ℤ) → IsHeld self.now (entry_of instrument attrs.now v) → IsOk result }
+    {
+        match self.plan.feeds(instrument) {
+            Some(feeds) => keep_each(&self.plan, &self.overflow, &self.series, feeds, attrs),
+            None => Ok(true),
+        }
+    }
+
+    /// Whether there are no points. O(streams), takes no memory.
+    pub fn is_empty(&self) -> bool
+        ensures { IsTrue result ↔ (self.now ≡ empty_tally self.now.plan) }
+    {
+        are_empty(&self.series)
+    }
+
     /// Begins anew, without points, under the same plan.
     pub fn restart(&mut self) -> Result<(), NoMemory>
         ensures value { OnOk result (self.new ≡ empty_tally self.old.plan) }
@@ -279,6 +299,18 @@ fn no_points(alloc: Global, streams: usize) -> Result<Vec<Series>, NoMemory>
         series.push(Series::new(alloc))?;
     }
     Ok(series)
+}
+
+// Whether there are no points in any.
+fn are_empty(series: &Vec<Series>) -> bool
+    ensures { IsTrue result ↔ (entries_of series.now.items ≡ replicate (length series.now.items) []) }
+{
+    for points in series {
+        if !points.is_empty() {
+            return false;
+        }
+    }
+    true
 }
 
 // Equal series.

@@ -1,6 +1,6 @@
 -- One part changed in its place, or put in where it belongs.
-use Rattle.std.proofs.Common.{◌≡◌, ◌≢◌, ℕ, zero, suc, ◌+◌, ◌<◌, Bool, true, false, ◌&&◌, cond, List, [], ◌∷◌, map, length, get_or, Option, Some, None, refl, sym, ap, ◌∙◌, arith, true≢false, is_some, count_by}
-use Rattle.std.specs.Prelude.{slice_get, slice_set}
+use Rattle.std.proofs.Common.{◌≡◌, ◌≢◌, ℕ, zero, suc, ◌+◌, ◌<◌, Bool, true, false, ◌&&◌, cond, List, [], ◌∷◌, map, length, get_or, Option, Some, None, Result, Ok, Err, IfOk, refl, sym, ap, subst, ◌∙◌, arith, true≢false, is_some, count_by}
+use Rattle.std.specs.Prelude.{OnOk, slice_get, slice_set}
 use Rattle.std.specs.Option.{option_map}
 use Rattle.std.specs.List.{list_all, insert}
 use Rattle.std.specs.Ordering.{eq_by_cmp}
@@ -18,12 +18,13 @@ use Rattle.gateway_kit.specs.Bringing.{is_new, is_change}
 use Rattle.point_kit.specs.Equality.{cell_eq}
 use Rattle.point_kit.specs.declared.cell.Held.TheVariants.{One}
 use Rattle.gateway_kit.specs.Changing.{Entry, Prepares, entries_of, grown}
-use Rattle.gateway_kit.specs.Growth.{Grows, part_at}
+use Rattle.gateway_kit.specs.Growth.{Grows, Joins, part_at}
 use Rattle.gateway_kit.specs.Keys.{PartKey, ItemKey, part_cmp, item_cmp}
 use Rattle.gateway_kit.specs.Part.{Part, Cells}
 use Rattle.gateway_kit.specs.Parts.{IsWhole, part_of, has_some, has_cells, entries_at}
 use Rattle.gateway_kit.specs.Places.{IsAt, IsGap}
 use Rattle.gateway_kit.specs.declared.changes.Changes.{Changes}
+use Rattle.gateway_kit.specs.declared.taking.Growth.{Growth}
 use Rattle.gateway_kit.proofs.Drafting.{found_place}
 use Rattle.gateway_kit.proofs.Entries.{as_T, as_true, is_sorted-amend, find-amend, itself, from_sorted-nil, not_None}
 use Rattle.gateway_kit.proofs.ExportEntries.{point_key}
@@ -71,22 +72,35 @@ pub some_found : (es : List Entry) (b : ItemKey) (o : Option (Cell Payload)) →
 some_found [] b o is some = absurd (true≢false (sym some ∙ ap is_some (sym is)))
 some_found (e ∷ es) b o is some = refl
 
--- an export with points brings something to each part
-brings_some : (e : Export) (old new : List Entry) → e.points ≢ [] → ((b : ItemKey) → find item_cmp b new ≡ join_options (join_cells payload_eq) (find item_cmp b old) (find item_cmp b (entries_of e))) → has_some new ≡ true
-brings_some e old new some joined = go e.points refl
-  where
-    joined_some : (a : Option (Cell Payload)) (w : Cell Payload) → is_some (join_options (join_cells payload_eq) a (Some w)) ≡ true
-    joined_some None w = refl
-    joined_some (Some v) w = refl
+-- entries with a key among them
+abbrev pub HasEntry : List Entry → Type 0
+HasEntry came = (k : ItemKey) × (w : Cell Payload) × (find item_cmp k came ≡ Some w)
 
-    go : (ps : List ExportPoint) → e.points ≡ ps → has_some new ≡ true
-    go [] is = absurd (some is)
-    go (p ∷ ps) is =
-        let came : find item_cmp (point_key p) (entries_of e) ≡ Some (record { time = e.time; held = One p.payload }) =
-        ap (λ qs. find item_cmp (point_key p) (map (λ q. (point_key q, record { time = e.time; held = One q.payload })) qs)) is
-        ∙ ap (λ b. cond b (Some (record { time = e.time; held = One p.payload })) (find item_cmp (point_key p) (map (λ q. (point_key q, record { time = e.time; held = One q.payload })) ps))) (itself item_total (point_key p)) in
-        some_found new (point_key p) (join_options (join_cells payload_eq) (find item_cmp (point_key p) old) (find item_cmp (point_key p) (entries_of e))) (joined (point_key p))
-        (ap (λ x. is_some (join_options (join_cells payload_eq) (find item_cmp (point_key p) old) x)) came ∙ joined_some (find item_cmp (point_key p) old) (record { time = e.time; held = One p.payload }))
+-- those of an export with points
+pub export_entry : (e : Export) → e.points ≢ [] → HasEntry (entries_of e)
+export_entry e some = go e.points some
+  where
+    go : (ps : List ExportPoint) → ps ≢ [] → HasEntry (map (λ q. (point_key q, record { time = e.time; held = One q.payload })) ps)
+    go [] none = absurd (none refl)
+    go (p ∷ ps) some = (
+      point_key p,
+      record { time = e.time; held = One p.payload },
+      ap (λ b. cond b (Some (record { time = e.time; held = One p.payload })) (find item_cmp (point_key p) (map (λ q. (point_key q, record { time = e.time; held = One q.payload })) ps))) (itself item_total (point_key p)),
+    )
+
+-- one alone
+pub lone_entry : (k : ItemKey) (w : Cell Payload) → HasEntry ((k, w) ∷ [])
+lone_entry k w = (k, w, ap (λ b. cond b (Some w) None) (itself item_total k))
+
+-- where something comes in there is something then
+pub joins_some : (olds news came : List Entry) (more changed : ℕ) → HasEntry came → Joins olds news came more changed → has_some news ≡ true
+joins_some olds news came more changed h joins =
+    some_found news h.0 (join_options (join_cells payload_eq) (find item_cmp h.0 olds) (find item_cmp h.0 came)) (joins.joined h.0)
+    (ap (λ o. is_some (join_options (join_cells payload_eq) (find item_cmp h.0 olds) o)) h.2 ∙ some (find item_cmp h.0 olds))
+  where
+    some : (a : Option (Cell Payload)) → is_some (join_options (join_cells payload_eq) a (Some h.1)) ≡ true
+    some None = refl
+    some (Some v) = refl
 
 -- a place at which a key stands is one of the list
 pub within_at : {A K V : Type 0} (f : A → K × V) (xs : List A) (i : ℕ) (k : K) → slice_get (map (λ e. e.0) (map f xs)) i ≡ Some k → i < length xs
@@ -95,15 +109,14 @@ within_at f (x ∷ xs) zero k at = omega arith
 within_at f (x ∷ xs) (suc i) k at = let rest = within_at f xs i k at in omega (arith, rest)
 
 -- what was prepared for a part's cells, installed
-pub record Installed (e : Export) (old cells : Cells) : Type 0 where
-  pub joined : (b : ItemKey) → find item_cmp b (entries cells) ≡ join_options (join_cells payload_eq) (find item_cmp b (entries old)) (find item_cmp b (entries_of e))
-  pub filled : has_some (entries cells) ≡ true
-
-pub installed_cells : (e : Export) → e.points ≢ [] → (old : Cells) (c : Changes) → Prepares (entries old) (entries_of e) c → Installed e old (from_sorted (grown (entries old) c))
-installed_cells e some old c prepared =
-    let is : entries (from_sorted {R = item_cmp} (grown (entries old) c)) ≡ grown (entries old) c = entries-from_sorted item_cmp (grown (entries old) c) (as_T (sorted_grown (entries old) c (as_true _ (entries_sorted old)))) in
-    let joined : (b : ItemKey) → find item_cmp b (entries (from_sorted {R = item_cmp} (grown (entries old) c))) ≡ join_options (join_cells payload_eq) (find item_cmp b (entries old)) (find item_cmp b (entries_of e)) = λ b. ap (find item_cmp b) is ∙ prepared.joined b in
-    record { joined = joined; filled = brings_some e (entries old) (entries (from_sorted (grown (entries old) c))) some joined }
+pub grown_joins : (old : Part) (cells : Cells) (came : List Entry) (c : Changes) (more changed : ℕ) → Prepares (entries old.cells) came c → cells ≡ from_sorted (grown (entries old.cells) c) → more ≡ length c.fresh.items → changed ≡ length c.updates.items + length c.fresh.items → Joins (entries old.cells) (entries cells) came more changed
+grown_joins old cells came c more changed prepared is m n =
+    let grows : entries (from_sorted {R = item_cmp} (grown (entries old.cells) c)) ≡ grown (entries old.cells) c = entries-from_sorted item_cmp (grown (entries old.cells) c) (as_T (sorted_grown (entries old.cells) c (as_true _ (entries_sorted old.cells)))) in
+    record {
+      joined = λ b. ap (λ (cs : Cells). find item_cmp b (entries cs)) is ∙ ap (find item_cmp b) grows ∙ prepared.joined b;
+      more_keys = m ∙ sym prepared.new;
+      changes = n ∙ sym prepared.changed;
+    }
 
 -- one part changed in its place, or put in where it belongs
 module _ (olds : List Part) (len : ℕ) (whole : IsWhole olds len) (a : PartKey) (came : List Entry) (more changed : ℕ) where
@@ -136,15 +149,13 @@ module _ (olds : List Part) (len : ℕ) (whole : IsWhole olds len) (a : PartKey)
         changes = n ∙ ap (λ es. count_by (is_change item_cmp (join_cells payload_eq) cell_eq es) came) (sym here);
       }
 
-module _ (olds : List Part) (len : ℕ) (whole : IsWhole olds len) (e : Export) (some : e.points ≢ []) (c : Changes) (more changed : ℕ) where
-  pub grows_held : (place : ℕ) (part new : Part) → IsAt part_cmp (map part_of olds) (e.writer, e.start) place → part ≡ get_or olds place part → Prepares (entries part.cells) (entries_of e) c → part_of new ≡ ((part.writer, part.start), from_sorted (grown (entries part.cells) c)) → more ≡ length c.fresh.items → changed ≡ length c.updates.items + length c.fresh.items → Grows olds (slice_set olds place new) (e.writer, e.start) (entries_of e) more changed
-  grows_held place part new at is prepared new_is m n =
-      let cells : Cells = from_sorted (grown (entries part.cells) c) in
-      let inside : Installed e part.cells cells = installed_cells e some part.cells c prepared in
-      grows_at olds len whole (e.writer, e.start) (entries_of e) more changed place part new cells at is new_is inside.filled inside.joined (m ∙ sym prepared.new) (n ∙ sym prepared.changed)
+-- the same of calls that join entries into a part
+module _ (olds : List Part) (len : ℕ) (whole : IsWhole olds len) (a : PartKey) (came : List Entry) (some : HasEntry came) where
+  pub held_grows : {E : Type 0} (place : ℕ) (part new : Part) → IsAt part_cmp (map part_of olds) a place → part ≡ get_or olds place part → (r : Result Growth E) → IfOk r (λ g. Joins (entries part.cells) (entries new.cells) came g.more g.changed) → OnOk r ((part_of new).0 ≡ (part_of part).0) → IfOk r (λ g. Grows olds (slice_set olds place new) a came g.more g.changed)
+  held_grows place part new at is (Err e) joins same = tt
+  held_grows place part new at is (Ok g) joins same = grows_at olds len whole a came g.more g.changed place part new new.cells at is (λ i. (same i, new.cells)) (joins_some (entries part.cells) (entries new.cells) came g.more g.changed some joins) joins.joined joins.more_keys joins.changes
 
-  pub grows_new : (place : ℕ) (new : Part) → IsGap part_cmp (map part_of olds) (e.writer, e.start) place → Prepares (entries no_cells) (entries_of e) c → part_of new ≡ ((e.writer, e.start), from_sorted (grown (entries no_cells) c)) → more ≡ length c.fresh.items → changed ≡ length c.updates.items + length c.fresh.items → Grows olds (insert olds place new) (e.writer, e.start) (entries_of e) more changed
-  grows_new place new gap prepared new_is m n =
-      let cells : Cells = from_sorted (grown (entries no_cells) c) in
-      let inside : Installed e no_cells cells = installed_cells e some no_cells c prepared in
-      grows_gap olds len whole (e.writer, e.start) (entries_of e) more changed place new cells gap new_is inside.filled inside.joined (m ∙ sym prepared.new) (n ∙ sym prepared.changed)
+  pub gap_grows : (place : ℕ) (start new : Part) (more changed : ℕ) → IsGap part_cmp (map part_of olds) a place → start.cells ≡ no_cells → (part_of new).0 ≡ a → Joins (entries start.cells) (entries new.cells) came more changed → Grows olds (insert olds place new) a came more changed
+  gap_grows place start new more changed gap none key joins =
+      let first : Joins (entries no_cells) (entries new.cells) came more changed = subst (λ (cs : Cells). Joins (entries cs) (entries new.cells) came more changed) none joins in
+      grows_gap olds len whole a came more changed place new new.cells gap (λ i. (key i, new.cells)) (joins_some (entries no_cells) (entries new.cells) came more changed some first) first.joined first.more_keys first.changes

@@ -13,25 +13,23 @@ use Rattle.point_kit.specs.declared.payload.Payload.{Payload}
 use Rattle.point_kit.specs.declared.writer_id.WriterId.{WriterId}
 use Rattle.gateway_kit.specs.Amending.{amend}
 use Rattle.gateway_kit.specs.Changing.{Entry, Drafts, replaced}
-use Rattle.gateway_kit.specs.Growth.{Grows}
+use Rattle.gateway_kit.specs.Growth.{Joins}
 use Rattle.gateway_kit.specs.Keys.{PartKey, ItemKey, part_cmp, item_cmp, entry_of, numbered}
-use Rattle.gateway_kit.specs.OneCell.{JoinsEntry}
 use Rattle.gateway_kit.specs.Part.{Part}
 use Rattle.gateway_kit.specs.Parts.{IsWhole, part_of, has_some}
 use Rattle.gateway_kit.specs.Places.{IsAt, IsGap}
 use Rattle.gateway_kit.specs.Times.{latest}
-use Rattle.gateway_kit.specs.declared.taking.Growth.{Growth}
 use Rattle.gateway_kit.specs.declared.part_item.PartItem.{PartItem}
 use Rattle.gateway_kit.proofs.Drafting.{found_place, drafts_none, drafts_kept, drafts_changed, drafts_fresh}
 use Rattle.gateway_kit.proofs.Entries.{as_T, as_true, itself}
-use Rattle.gateway_kit.proofs.Growing.{grows_at, some_found, map-insert}
+use Rattle.gateway_kit.proofs.Growing.{map-insert}
 use Rattle.gateway_kit.proofs.Joining.{unjoined}
 use Rattle.gateway_kit.proofs.KeyOrders.{item_total, item_exact}
 use Rattle.gateway_kit.proofs.Prepared.{brings_held}
 
 module _ (es : List Entry) (k : ItemKey) (w : Cell Payload) where
   -- where the cell that is held stays
-  pub joins_kept : (v : Cell Payload) → find item_cmp k es ≡ Some v → join_cells payload_eq v w ≡ v → JoinsEntry es es (k, w) 0 0
+  pub joins_kept : (v : Cell Payload) → find item_cmp k es ≡ Some v → join_cells payload_eq v w ≡ v → Joins es es ((k, w) ∷ []) 0 0
   joins_kept v there same =
       let drafts : Drafts es ((k, w) ∷ []) [] [] = drafts_kept es [] [] [] (drafts_none es) k w refl v there same in
       record {
@@ -41,7 +39,7 @@ module _ (es : List Entry) (k : ItemKey) (w : Cell Payload) where
       }
 
   -- where it changes
-  pub joins_changed : T (is_sorted item_cmp es) → (v : Cell Payload) (place : ℕ) (cell : Cell Payload) → find item_cmp k es ≡ Some v → slice_get (map (λ e. e.0) es) place ≡ Some k → cell ≡ join_cells payload_eq v w → cell_eq v cell ≡ false → JoinsEntry es (amend replaced es place cell) (k, w) 0 1
+  pub joins_changed : T (is_sorted item_cmp es) → (v : Cell Payload) (place : ℕ) (cell : Cell Payload) → find item_cmp k es ≡ Some v → slice_get (map (λ e. e.0) es) place ≡ Some k → cell ≡ join_cells payload_eq v w → cell_eq v cell ≡ false → Joins es (amend replaced es place cell) ((k, w) ∷ []) 0 1
   joins_changed sorted v place cell there at is differs =
       let drafts : Drafts es ((k, w) ∷ []) ((place, cell) ∷ []) [] = drafts_changed es [] [] [] (drafts_none es) k w refl sorted v place cell there at is differs in
       record {
@@ -51,7 +49,7 @@ module _ (es : List Entry) (k : ItemKey) (w : Cell Payload) where
       }
 
   -- where none is held
-  pub joins_new : (item : PartItem) → entry_of item ≡ (k, w) → find item_cmp k es ≡ None → JoinsEntry es (put item_cmp k w es) (k, w) 1 1
+  pub joins_new : (item : PartItem) → entry_of item ≡ (k, w) → find item_cmp k es ≡ None → Joins es (put item_cmp k w es) ((k, w) ∷ []) 1 1
   joins_new item is none =
       let drafts : Drafts es ((k, w) ∷ []) [] (item ∷ []) = drafts_fresh es [] [] [] (drafts_none es) k w refl item is none in
       record {
@@ -63,16 +61,6 @@ module _ (es : List Entry) (k : ItemKey) (w : Cell Payload) where
         changes = sym drafts.changed;
       }
 
--- there is something then
-pub joins_some : (olds news : List Entry) (k : ItemKey) (w : Cell Payload) (more changed : ℕ) → JoinsEntry olds news (k, w) more changed → has_some news ≡ true
-joins_some olds news k w more changed joins =
-    some_found news k (join_options (join_cells payload_eq) (find item_cmp k olds) (find item_cmp k ((k, w) ∷ []))) (joins.joined k)
-    (ap (λ b. is_some (join_options (join_cells payload_eq) (find item_cmp k olds) (cond b (Some w) None))) (itself item_total k) ∙ some (find item_cmp k olds))
-  where
-    some : (a : Option (Cell Payload)) → is_some (join_options (join_cells payload_eq) a (Some w)) ≡ true
-    some None = refl
-    some (Some v) = refl
-
 -- no key comes twice of one
 pub apart_alone : (k : ItemKey) (w : Cell Payload) → IsDistinct (eq_by_cmp item_cmp) (map (λ (t : Entry). t.0) ((k, w) ∷ []))
 unfolding IsDistinct
@@ -83,18 +71,18 @@ module _ (items : List PartItem) (sorted : is_sorted item_cmp (map entry_of item
   there : find item_cmp k (map entry_of items) ≡ Some x.cell
   there = found_place entry_of item_total items place x k (as_T sorted) at is
 
-  pub kept_at : join_cells payload_eq x.cell w ≡ x.cell → JoinsEntry (map entry_of items) (map entry_of items) (k, w) 0 0
+  pub kept_at : join_cells payload_eq x.cell w ≡ x.cell → Joins (map entry_of items) (map entry_of items) ((k, w) ∷ []) 0 0
   kept_at same = joins_kept (map entry_of items) k w x.cell there same
 
-  pub changed_at : (news : List PartItem) (cell : Cell Payload) → map entry_of news ≡ amend replaced (map entry_of items) place cell → cell ≡ join_cells payload_eq x.cell w → cell_eq x.cell cell ≡ false → JoinsEntry (map entry_of items) (map entry_of news) (k, w) 0 1
+  pub changed_at : (news : List PartItem) (cell : Cell Payload) → map entry_of news ≡ amend replaced (map entry_of items) place cell → cell ≡ join_cells payload_eq x.cell w → cell_eq x.cell cell ≡ false → Joins (map entry_of items) (map entry_of news) ((k, w) ∷ []) 0 1
   changed_at news cell put joined differs =
-      subst (λ (es : List Entry). JoinsEntry (map entry_of items) es (k, w) 0 1) (sym put)
+      subst (λ (es : List Entry). Joins (map entry_of items) es ((k, w) ∷ []) 0 1) (sym put)
       (joins_changed (map entry_of items) k w (as_T sorted) x.cell place cell there at joined differs)
 
 -- and where it belongs
-pub new_at : (items : List PartItem) (item : PartItem) (place : ℕ) → IsGap item_cmp (map entry_of items) (entry_of item).0 place → JoinsEntry (map entry_of items) (map entry_of (insert items place item)) (entry_of item) 1 1
+pub new_at : (items : List PartItem) (item : PartItem) (place : ℕ) → IsGap item_cmp (map entry_of items) (entry_of item).0 place → Joins (map entry_of items) (map entry_of (insert items place item)) (entry_of item ∷ []) 1 1
 new_at items item place gap =
-    subst (λ (es : List Entry). JoinsEntry (map entry_of items) es (entry_of item) 1 1) (sym (map-insert entry_of items place item ∙ gap.fits item.cell))
+    subst (λ (es : List Entry). Joins (map entry_of items) es (entry_of item ∷ []) 1 1) (sym (map-insert entry_of items place item ∙ gap.fits item.cell))
     (joins_new (map entry_of items) (entry_of item).0 item.cell item refl gap.none)
 
 pub sorted_at : (items : List PartItem) (item : PartItem) (place : ℕ) → is_sorted item_cmp (map entry_of items) ≡ true → IsGap item_cmp (map entry_of items) (entry_of item).0 place → is_sorted item_cmp (map entry_of (insert items place item)) ≡ true
@@ -110,9 +98,9 @@ latest_insert (x ∷ items) item (suc place) h =
     ap (max x.cell.time) rest ∙ omega arith
 
 -- the same of entries that are equal
-pub joins_alike : (olds others news now : List Entry) (came : Entry) (more changed : ℕ) → olds ≡ others → news ≡ now → JoinsEntry olds news came more changed → JoinsEntry others now came more changed
+pub joins_alike : (olds others news now : List Entry) (came : Entry) (more changed : ℕ) → olds ≡ others → news ≡ now → Joins olds news (came ∷ []) more changed → Joins others now (came ∷ []) more changed
 joins_alike olds others news now came more changed p q joins =
-    subst (λ (es : List Entry). JoinsEntry es now came more changed) p (subst (λ (es : List Entry). JoinsEntry olds es came more changed) q joins)
+    subst (λ (es : List Entry). Joins es now (came ∷ []) more changed) p (subst (λ (es : List Entry). Joins olds es (came ∷ []) more changed) q joins)
 
 -- an incarnation as it is seen
 abbrev pub shows : WriterId → ℕ → List PartItem → Part
@@ -121,8 +109,3 @@ shows writer start items = record { writer = writer; start = start; cells = from
 -- the entries that it shows
 pub cells_of : (p : Part) (writer : WriterId) (start : ℕ) (items : List PartItem) → is_sorted item_cmp (map entry_of items) ≡ true → shows writer start items ≡ p → entries p.cells ≡ map entry_of items
 cells_of p writer start items sorted is = ap (λ (q : Part). entries q.cells) (sym is) ∙ entries-from_sorted item_cmp (map entry_of items) (as_T sorted)
-
--- a part into which a cell was joined
-pub held_grows : {E : Type 0} (olds : List Part) (len : ℕ) → IsWhole olds len → (a : PartKey) (k : ItemKey) (w : Cell Payload) (place : ℕ) (part new : Part) → IsAt part_cmp (map part_of olds) a place → part ≡ get_or olds place part → (r : Result Growth E) → IfOk r (λ g. JoinsEntry (entries part.cells) (entries new.cells) (k, w) g.more g.changed) → OnOk r ((part_of new).0 ≡ (part_of part).0) → IfOk r (λ g. Grows olds (slice_set olds place new) a ((k, w) ∷ []) g.more g.changed)
-held_grows olds len whole a k w place part new at is (Err e) joins same = tt
-held_grows olds len whole a k w place part new at is (Ok g) joins same = grows_at olds len whole a ((k, w) ∷ []) g.more g.changed place part new new.cells at is (λ i. (same i, new.cells)) (joins_some (entries part.cells) (entries new.cells) k w g.more g.changed joins) joins.joined joins.more_keys joins.changes

@@ -55,7 +55,7 @@ module _ (xs : List PartItem) (i : ℕ) (x : PartItem) (c : Cell Payload) (withi
   put_counts : before + now - was ≡ conflicts_in (amend replaced (map entry_of xs) i c)
   put_counts = let put = conflicts_put xs i x c within is up in omega (arith, put, told, n, w)
 
-pub written_conflicts : (xs : List PartItem) (i : ℕ) (x y : PartItem) (c : Cell Payload) (within : i < length xs) (is : x ≡ get_or xs i x) (lent : y ≡ get_or xs i y) (up : rank x.cell < rank c) (number before now was : ℕ) → before ≡ conflicts_in (map entry_of xs) → now ≡ conflict c → was ≡ conflict x.cell → before + now - was ≡ conflicts_in (map entry_of (slice_set xs i (record { stream = y.stream; attrs = y.attrs; cell = c; number = number })))
+pub written_conflicts : (xs : List PartItem) (i : ℕ) (x y : PartItem) (c : Cell Payload) (within : i < length xs) (is : x ≡ get_or xs i x) (lent : y ≡ get_or xs i y) (up : rank x.cell < rank c) (number before now was : ℕ) → before ≡ conflicts_in (map entry_of xs) → now ≡ conflict c → was ≡ conflict x.cell → before + now - was ≡ conflicts_in (map entry_of (slice_set xs i (record { stream = y.stream; attrs = y.attrs; cell = c; number = number; hint = y.hint })))
 written_conflicts xs i x y c within is lent up number before now was told n w = put_counts xs i x c within is up before now was told n w ∙ ap (λ (es : List Entry). conflicts_in es) (sym (written xs i x y c within is lent up number))
 
 -- one more entry

@@ -99,12 +99,12 @@ some_latest (e ∷ es) h = refl
 
 -- a cell that is not earlier, written at a place
 module _ (xs : List PartItem) (i : ℕ) (x y : PartItem) (c : Cell Payload) (within : i < length xs) (read : x ≡ get_or xs i x) (lent : y ≡ get_or xs i y) (up : rank x.cell < rank c) (number : ℕ) where
-  pub written : map entry_of (slice_set xs i (record { stream = y.stream; attrs = y.attrs; cell = c; number = number })) ≡ amend replaced (map entry_of xs) i c
+  pub written : map entry_of (slice_set xs i (record { stream = y.stream; attrs = y.attrs; cell = c; number = number; hint = y.hint })) ≡ amend replaced (map entry_of xs) i c
   written =
       let held : x ≡ y = same_at xs i x y within read lent in
       let above : rank y.cell < rank c = subst (λ (z : PartItem). rank z.cell < rank c) held up in
       let comes : c ≡ replaced y.cell c = ap (λ b. cond b c y.cell) (sym (below (rank y.cell) (rank c) above)) in
-      set_amend entry_of replaced xs i y (record { stream = y.stream; attrs = y.attrs; cell = c; number = number }) c within lent (λ j. ((y.stream, y.attrs), comes j))
+      set_amend entry_of replaced xs i y (record { stream = y.stream; attrs = y.attrs; cell = c; number = number; hint = y.hint }) c within lent (λ j. ((y.stream, y.attrs), comes j))
 
-  pub written_latest : (before after : ℕ) → after ≡ max before c.time → before ≡ latest (map entry_of xs) → after ≡ latest (map entry_of (slice_set xs i (record { stream = y.stream; attrs = y.attrs; cell = c; number = number })))
+  pub written_latest : (before after : ℕ) → after ≡ max before c.time → before ≡ latest (map entry_of xs) → after ≡ latest (map entry_of (slice_set xs i (record { stream = y.stream; attrs = y.attrs; cell = c; number = number; hint = y.hint })))
   written_latest before after is was = is ∙ ap (λ (n : ℕ). max n c.time) was ∙ sym (latest_put xs i x c within read up) ∙ ap latest (sym written)

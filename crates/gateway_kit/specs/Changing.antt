@@ -1,6 +1,8 @@
 -- How the cells of an incarnation change.
-use Rattle.std.specs.Prelude.{◌≡◌, ℕ, ◌+◌, false, cond, nat_le, nat_lt, List, length, map, Option, Some, None, count_by, vec_capacity}
+use Rattle.std.specs.Prelude.{◌≡◌, ℕ, ◌+◌, false, cond, nat_le, nat_lt, List, [], ◌∷◌, ◌++◌, length, map, IsTrue, Option, Some, None}
+use Rattle.std.specs.Prelude.{count_by, vec_capacity}
 use Rattle.std.specs.FinMap.{find}
+use Rattle.std.specs.FinMap.Entries.{is_sorted}
 use Rattle.point_kit.specs.Join.{join_options}
 use Rattle.point_kit.specs.declared.cell.Cell.{Cell}
 use Rattle.point_kit.specs.declared.cell.Held.{Held}
@@ -16,6 +18,7 @@ use Rattle.point_kit.specs.Equality.{cell_eq}
 use Rattle.gateway_kit.specs.Tallies.{rank}
 use Rattle.gateway_kit.specs.Weave.{weave}
 use Rattle.gateway_kit.specs.declared.changes.Changes.{Changes}
+use Rattle.gateway_kit.specs.declared.draft.Draft.{Draft}
 use Rattle.gateway_kit.specs.declared.part_item.PartItem.{PartItem}
 
 abbrev pub Entry : Type 0
@@ -46,6 +49,13 @@ grown es c =
     (weave (λ x y. item_cmp x.0 y.0) (amended replaced es c.updates.items) (map entry_of c.fresh.items))
     (amended replaced es c.updates.items)
 
+-- items with new ones woven in, where there is room for so many
+abbrev pub woven_items : List PartItem → List PartItem → ℕ → List Entry
+woven_items items fresh room =
+    cond (nat_le (length items + length fresh) room)
+    (weave (λ x y. item_cmp x.0 y.0) (map entry_of items) (map entry_of fresh))
+    (map entry_of items)
+
 -- what came in so far, as updates and new items
 pub record Drafts (es came : List Entry) (updates : List (ℕ × Cell Payload)) (fresh : List PartItem) : Type 0 where
   pub brings : Brings item_cmp (join_cells payload_eq) replaced es came updates (map entry_of fresh)
@@ -57,3 +67,15 @@ pub record Prepares (es came : List Entry) (c : Changes) : Type 0 where
   pub joined : (q : ItemKey) → find item_cmp q (grown es c) ≡ join_options (join_cells payload_eq) (find item_cmp q es) (find item_cmp q came)
   pub changed : count_by (is_change item_cmp (join_cells payload_eq) cell_eq es) came ≡ length c.updates.items + length c.fresh.items
   pub new : count_by (is_new item_cmp es) came ≡ length c.fresh.items
+
+-- a draft brings in what came before and then what is told of one key more
+abbrev pub TakesIn : List PartItem → ItemKey → ℕ → Option Payload → Draft → Draft → Type 0
+TakesIn items key time payload old new =
+    (came : List Entry) → find item_cmp key came ≡ None → Drafts (map entry_of items) came old.updates.items old.fresh.items
+    → Drafts (map entry_of items) (came ++ (key, record { time = time; held = held_as payload }) ∷ []) new.updates.items new.fresh.items
+
+-- the changes bring in what a draft does
+abbrev pub Finishes : List PartItem → Draft → Changes → Type 0
+Finishes items draft c =
+    (came : List Entry) → IsTrue (is_sorted item_cmp (map entry_of items))
+    → Drafts (map entry_of items) came draft.updates.items draft.fresh.items → Prepares (map entry_of items) came c

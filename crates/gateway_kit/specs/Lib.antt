@@ -10,7 +10,6 @@ pub mod Part
 pub mod Merging
 pub mod Numbering
 pub mod Numbers
-pub mod OneCell
 pub mod Parts
 pub mod Places
 pub mod Queries

@@ -1,5 +1,5 @@
 -- How the parts of two gateways become those of one.
-use Rattle.std.specs.Prelude.{◌≡◌, ℕ, ◌-◌, ◌^◌, min, IsTrue, List, map, count_by}
+use Rattle.std.specs.Prelude.{◌≡◌, ℕ, ◌-◌, ◌^◌, min, IsTrue, List, [], ◌∷◌, ◌++◌, map, None, count_by}
 use Rattle.std.specs.FinMap.{entries, from_sorted}
 use Rattle.std.specs.FinMap.Entries.{find, is_sorted}
 use Rattle.std.specs.List.{list_all}
@@ -12,7 +12,9 @@ use Rattle.gateway_kit.specs.Changing.{grown}
 use Rattle.gateway_kit.specs.Keys.{PartKey, part_cmp}
 use Rattle.gateway_kit.specs.Part.{Part, Cells}
 use Rattle.gateway_kit.specs.Parts.{listed, part_of, has_cells}
+use Rattle.gateway_kit.specs.Weave.{weave}
 use Rattle.gateway_kit.specs.declared.changes.Changes.{Changes}
+use Rattle.gateway_kit.specs.declared.part_draft.PartDraft.{PartDraft}
 
 -- the cells of one incarnation from two gateways
 abbrev pub join_parts : Cells → Cells → Cells
@@ -21,6 +23,10 @@ join_parts = join_maps (join_cells payload_eq)
 -- cells as changes make them
 abbrev pub made : Cells → Changes → Cells
 made cells changes = from_sorted (grown (entries cells) changes)
+
+-- parts with new ones woven in
+abbrev pub woven_parts : List Part → List Part → List (PartKey × Cells)
+woven_parts parts fresh = weave (λ x y. part_cmp x.0 y.0) (map part_of parts) (map part_of fresh)
 
 -- a number, or the greatest that 64 bits hold
 abbrev pub capped : ℕ → ℕ
@@ -32,6 +38,16 @@ pub record PartDrafts (olds came : List Part) (updates : List (ℕ × Changes)) 
   pub new : more ≡ capped (count_by (is_new key_cmp (listed olds)) (listed came))
   pub changes : changed ≡ capped (count_by (is_change key_cmp (join_cells payload_eq) cell_eq (listed olds)) (listed came))
   pub filled : IsTrue (list_all has_cells fresh)
+
+-- those of a draft
+abbrev pub IsDraftOf : List Part → List Part → PartDraft → Type 0
+IsDraftOf olds came d = PartDrafts olds came d.updates.items d.fresh.items d.more d.changed
+
+-- a draft brings in what came before and then one part more
+abbrev pub TakesPart : List Part → Part → PartDraft → PartDraft → Type 0
+TakesPart olds part old new =
+    (came : List Part) → find part_cmp (part.writer, part.start) (map part_of came) ≡ None → IsDraftOf olds came old
+    → IsDraftOf olds (came ++ part ∷ []) new
 
 -- each part is joined with the one of its key
 pub record Merges (olds news theirs : List Part) (more changed : ℕ) : Type 0 where

@@ -45,11 +45,12 @@ impl Gateway {
 
     /// Joins the points of an export, and answers the number of keys whose cell changed, the new ones among them.
     ///
-    /// Of k points into an incarnation of n: O(k log n) where all keys are held, and then no key is copied and nothing
-    /// moves; O(k) where they come in the order in which they are held, each right behind the one before. Else
-    /// O(n + k log k). No other incarnation is touched. Refused with `NoMemory`, with nothing changed, where a
-    /// growth was refused, or where the gateway would come to hold more than 2^62 points. An export without points
-    /// changes nothing and takes no memory.
+    /// Of k points into an incarnation of n, where all keys are held: no key is copied, nothing moves, and each point is found
+    /// by one comparison, O(k), where the points come in the order of the incarnation's last export, whatever that order
+    /// was. A point that comes in another is searched for, O(log n), and the next export finds it by one. Where keys are
+    /// new: O(n + k log k). No other incarnation is touched. Refused with `NoMemory`, with nothing changed, where a growth
+    /// was refused, or where the gateway would come to hold more than 2^62 points. An export without points changes nothing
+    /// and takes no memory.
     pub fn take(&mut self, export: &Export) -> Result<u64, NoMemory>
         ensures id { self.new.id ≡ self.old.id }
         ensures ok { OnOk result (self.new.points ≡ join_points self.old.points (state (export.now ∷ []))) }

@@ -4,16 +4,16 @@ ghost use Rattle.std.specs.FinMap as finite;
 ghost use Rattle.std.specs.FinMap.{entries};
 ghost use Rattle.std.specs.FinMap.Entries.{find, is_sorted};
 ghost use Rattle.gateway_kit.specs.Changing.{IsUpdate};
-ghost use Rattle.gateway_kit.specs.Growth.{Grows, part_at};
-ghost use Rattle.gateway_kit.specs.Keys.{ItemKey, entry_of, item_cmp, part_cmp};
+ghost use Rattle.gateway_kit.specs.Growth.{Joins, JoinsAt, PartJoins, TakesCell, part_at};
+ghost use Rattle.gateway_kit.specs.Keys.{entry_of, item_cmp, part_cmp};
 ghost use Rattle.gateway_kit.specs.Numbers.{PartMoves, PartsMove};
-ghost use Rattle.gateway_kit.specs.OneCell.{JoinsEntry};
 ghost use Rattle.gateway_kit.specs.Parts.{IsWhole, part_of};
 ghost use Rattle.gateway_kit.specs.Places.{IsAt, IsGap};
 ghost use Rattle.gateway_kit.specs.Tallies.{Tells, part_conflicts};
 
 use crate::draft::{clashes, place_of, put_cell};
 use crate::grow::payload_of;
+use crate::hint::Hint;
 use crate::incarnation::Incarnation;
 use crate::part_item::PartItem;
 use crate::taking::{Growth, MOST_POINTS, part_place};
@@ -43,7 +43,7 @@ impl Incarnation {
     // Joins a cell into the one at a place. Takes no memory.
     fn join_at(&mut self, place: usize, cell: Cell) -> Growth
         requires { place < length (entries self.old.cells) }
-        ensures joins { (key : ItemKey) → IsAt item_cmp (entries self.old.cells) key place → JoinsEntry (entries self.old.cells) (entries self.new.cells) (key, cell) result.more result.changed }
+        ensures joins { JoinsAt self.old self.new place cell result }
         ensures same { (part_of self.new).0 ≡ (part_of self.old).0 }
         ensures moves { PartMoves 0 self.old self.new }
         ensures none_new { result.more ≡ 0 }
@@ -72,7 +72,7 @@ impl Incarnation {
     fn join_new(&mut self, place: usize, item: PartItem) -> Result<(), NoMemory>
         requires gap { IsGap item_cmp (entries self.old.cells) (item.stream, item.attrs) place }
         requires no_number { item.number ≡ 0 }
-        ensures joins { OnOk result (JoinsEntry (entries self.old.cells) (entries self.new.cells) (entry_of item) 1 1) }
+        ensures joins { OnOk result (Joins (entries self.old.cells) (entries self.new.cells) (entry_of item ∷ []) 1 1) }
         ensures same { OnOk result ((part_of self.new).0 ≡ (part_of self.old).0) }
         ensures moves { OnOk result (PartMoves 0 self.old self.new) }
         ensures unchanged { OnErr result (self.new ≡ self.old) }
@@ -93,7 +93,7 @@ impl Incarnation {
         cell: Cell,
     ) -> Result<Growth, NoMemory>
         requires { len ≤ 2 ^ 62 }
-        ensures joins { IfOk result (λ g. JoinsEntry (entries self.old.cells) (entries self.new.cells) ((stream, attrs), cell) g.more g.changed) }
+        ensures joins { IfOk result (λ g. PartJoins self.old self.new (((stream, attrs), cell) ∷ []) g) }
         ensures same { OnOk result ((part_of self.new).0 ≡ (part_of self.old).0) }
         ensures moves { OnOk result (PartMoves 0 self.old self.new) }
         ensures bounded { IfOk result (λ g. len + g.more ≤ 2 ^ 62) }
@@ -115,6 +115,7 @@ impl Incarnation {
                     attrs,
                     cell,
                     number: 0,
+                    hint: Hint::at(place),
                 };
                 let before = self.conflicts();
                 self.join_new(place, item)?;
@@ -139,7 +140,7 @@ fn join_held(
 ) -> Result<Growth, NoMemory>
     requires whole { IsWhole incarnations.old.items len }
     requires placed { IsAt part_cmp (map part_of incarnations.old.items) (key.writer, key.start) place }
-    ensures grows { IfOk result (λ g. Grows incarnations.old.items incarnations.new.items (key.writer, key.start) (((key.stream, key.attrs), cell) ∷ []) g.more g.changed) }
+    ensures grows { IfOk result (λ g. TakesCell incarnations.old.items incarnations.new.items key cell g) }
     ensures bounded { IfOk result (λ g. len + g.more ≤ 2 ^ 62) }
     ensures tells { IfOk result (λ g. Tells incarnations.old.items incarnations.new.items g.before g.after) }
     ensures held { IsSome (find item_cmp (key.stream, key.attrs) (part_at (key.writer, key.start) incarnations.old.items)) → IsOk result }
@@ -160,7 +161,7 @@ fn join_gap(
 ) -> Result<Growth, NoMemory>
     requires whole { IsWhole incarnations.old.items len }
     requires placed { IsGap part_cmp (map part_of incarnations.old.items) (key.writer, key.start) place }
-    ensures grows { IfOk result (λ g. Grows incarnations.old.items incarnations.new.items (key.writer, key.start) (((key.stream, key.attrs), cell) ∷ []) g.more g.changed) }
+    ensures grows { IfOk result (λ g. TakesCell incarnations.old.items incarnations.new.items key cell g) }
     ensures bounded { IfOk result (λ g. len + g.more ≤ 2 ^ 62) }
     ensures tells { IfOk result (λ g. Tells incarnations.old.items incarnations.new.items g.before g.after) }
     ensures moves { OnOk result (PartsMove 0 incarnations.old.items incarnations.new.items) }
@@ -187,7 +188,7 @@ pub(crate) fn joined(
     cell: Cell,
 ) -> Result<Growth, NoMemory>
     requires whole { IsWhole incarnations.old.items len }
-    ensures grows { IfOk result (λ g. Grows incarnations.old.items incarnations.new.items (key.writer, key.start) (((key.stream, key.attrs), cell) ∷ []) g.more g.changed) }
+    ensures grows { IfOk result (λ g. TakesCell incarnations.old.items incarnations.new.items key cell g) }
     ensures bounded { IfOk result (λ g. len + g.more ≤ 2 ^ 62) }
     ensures tells { IfOk result (λ g. Tells incarnations.old.items incarnations.new.items g.before g.after) }
     ensures held { IsSome (find item_cmp (key.stream, key.attrs) (part_at (key.writer, key.start) incarnations.old.items)) → IsOk result }

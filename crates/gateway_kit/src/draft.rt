@@ -1,10 +1,10 @@
 //! Changes in the making.
-ghost use Rattle.std.specs.Prelude.{◌≡◌, ◌≤◌, ℕ, List, OnOk, IfOk, Some, IsTrue, ◌↔◌, ◌≢◌, map, ◌++◌, ◌∷◌, [], None, length, option_copied, vec_len};
+ghost use Rattle.std.specs.Prelude.{◌≡◌, ◌≤◌, ℕ, List, OnOk, IfOk, IsTrue, ◌↔◌, ◌≢◌, map, [], length, option_copied, vec_len};
 ghost use Rattle.std.specs.FinMap.Entries.{find, is_sorted};
 ghost use Rattle.point_kit.specs.Join.{join_held};
 ghost use Rattle.point_kit.specs.Equality.{payload_eq};
 ghost use Rattle.gateway_kit.specs.Amending.{amend, amended};
-ghost use Rattle.gateway_kit.specs.Changing.{Entry, Drafts, Prepares, IsUpdate, held_as, entries_of, grown, replaced};
+ghost use Rattle.gateway_kit.specs.Changing.{Entry, Drafts, Finishes, IsUpdate, TakesIn, held_as, replaced};
 ghost use Rattle.std.specs.List.{IsDistinct};
 ghost use Rattle.std.specs.Ordering.{eq_by_cmp};
 ghost use Rattle.gateway_kit.specs.Keys.{ItemKey, entry_of, item_cmp};
@@ -13,6 +13,7 @@ ghost use Rattle.gateway_kit.specs.Numbers.{ItemsMove};
 ghost use Rattle.gateway_kit.specs.Tallies.{IsTally, are_up_to};
 
 use crate::changes::Changes;
+use crate::hint::Hint;
 use crate::part_item::PartItem;
 use crate::seek::rises;
 use crate::tally::{Tally, conflict_of, is_further};
@@ -158,6 +159,14 @@ impl Draft {
         }
     }
 
+    /// Where among so many items and the new ones behind them what stands at a place is, or comes to be.
+    pub(crate) fn place_in(&self, len: usize, place: Result<usize, usize>) -> usize {
+        match place {
+            Ok(place) => place,
+            Err(_) => len.saturating_add(self.fresh.len()),
+        }
+    }
+
     /// Brings in what is told of a key, whose place among the items is known. Copies the key only where it is new.
     pub(crate) fn bring(
         &mut self,
@@ -170,7 +179,7 @@ impl Draft {
     ) -> Result<(), NoMemory>
         requires sorted { IsTrue (is_sorted item_cmp (map entry_of items.now)) }
         requires placed { IsPlace item_cmp (map entry_of items.now) (stream.now, attrs.now) place }
-        ensures { OnOk result ((came : List Entry) → find item_cmp (stream.now, attrs.now) came ≡ None → Drafts (map entry_of items.now) came self.old.updates.items self.old.fresh.items → Drafts (map entry_of items.now) (came ++ ((stream.now, attrs.now), record { time = time; held = held_as (option_copied payload.entry) }) ∷ []) self.new.updates.items self.new.fresh.items) }
+        ensures { OnOk result (TakesIn items.now (stream.now, attrs.now) time (option_copied payload.entry) self.old self.new) }
     {
         match place {
             Ok(place) => {
@@ -179,6 +188,7 @@ impl Draft {
                 }
             }
             Err(_) => {
+                let here = self.place_in(items.len(), place);
                 let item = PartItem {
                     stream: stream.try_copy()?,
                     attrs: attrs.try_copy()?,
@@ -187,6 +197,7 @@ impl Draft {
                         held: copied(payload)?,
                     },
                     number: 0,
+                    hint: Hint::at(here),
                 };
                 self.fresh.push(item)?;
             }
@@ -214,7 +225,7 @@ impl Draft {
     /// Makes room beside the n items that are there.
     pub(crate) fn finished(self, alloc: Global, items: &[PartItem]) -> Result<Changes, NoMemory>
         requires { IsDistinct (eq_by_cmp item_cmp) (map (λ i. (entry_of i).0) self.fresh.items) }
-        ensures { IfOk result (λ c. (came : List Entry) → IsTrue (is_sorted item_cmp (map entry_of items.now)) → Drafts (map entry_of items.now) came self.updates.items self.fresh.items → Prepares (map entry_of items.now) came c) }
+        ensures { IfOk result (λ c. Finishes items.now self c) }
     {
         let Draft { updates, fresh } = self;
         let fresh = in_order(fresh)?;

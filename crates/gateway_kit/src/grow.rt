@@ -1,9 +1,10 @@
 //! How an incarnation grows.
-ghost use Rattle.std.specs.Prelude.{◌≡◌, ℕ, IsTrue, IfOk, map, if◌then◌else◌, nat_le, [], ◌≤◌, ◌+◌, length, option_copied, vec_len, vec_capacity};
+ghost use Rattle.std.specs.Prelude.{◌≡◌, ℕ, ◌^◌, IsTrue, IfOk, OnOk, OnErr, map, [], ◌≤◌, ◌+◌, option_copied, vec_len, vec_capacity};
 ghost use Rattle.std.specs.FinMap as finite;
 ghost use Rattle.std.specs.FinMap.{entries, from_sorted};
 ghost use Rattle.std.specs.FinMap.Entries.{is_sorted};
-ghost use Rattle.gateway_kit.specs.Changing.{Prepares, entries_of, grown, held_as};
+ghost use Rattle.gateway_kit.specs.Changing.{Prepares, entries_of, grown, held_as, woven_items};
+ghost use Rattle.gateway_kit.specs.Growth.{PartJoins};
 ghost use Rattle.gateway_kit.specs.Keys.{entry_of, item_cmp, part_cmp};
 ghost use Rattle.gateway_kit.specs.Numbers.{AllAre, IsNumbered, ItemsMove, PartMoves};
 ghost use Rattle.gateway_kit.specs.Parts.{part_of};
@@ -11,19 +12,20 @@ ghost use Rattle.gateway_kit.specs.Places.{IsPlace};
 ghost use Rattle.gateway_kit.specs.Tallies.{IsTally, are_up_to, part_conflicts};
 ghost use Rattle.gateway_kit.specs.Times.{latest};
 ghost use Rattle.std.specs.declared.cmp.Ordering.{Ordering};
-ghost use Rattle.gateway_kit.specs.Weave.{weave};
 ghost use Rattle.gateway_kit.specs.declared.part_item.PartItem.{PartItem};
 
 use crate::changes::Changes;
-use crate::draft::{Draft, place_near, place_of, put_cells};
+use crate::draft::{Draft, place_of, put_cells};
 use crate::incarnation::Incarnation;
 use crate::part_item::PartItem;
 use crate::seek::{after, place_from};
+use crate::taking::{Growth, MOST_POINTS};
 use crate::tally::{Tally, tally_of};
+use crate::trail::{draft_changes, follow_all};
 use crate::weave::{Keyed, woven};
 use attr_kit::{AttrSet, NoMemory, TryCopy, copy_all};
 use point_kit::{Cell, Export, Held, Payload, Stream, WriterId};
-use std::alloc::Global;
+use std::alloc::{AllocError, Global};
 use std::cmp::Ordering;
 use std::mem;
 
@@ -53,13 +55,14 @@ fn put_items(
     ensures tally { IsTally (map entry_of items.new.items) result }
     ensures moves { ItemsMove number items.old.items items.new.items }
     ensures up_to { (n : ℕ) → number ≤ n → IsTrue (are_up_to n items.old.items) → IsTrue (are_up_to n items.new.items) }
-    ensures woven { map entry_of items.new.items ≡ (if nat_le (length items.old.items + length fresh.items) (vec_capacity room) then weave (λ x y. item_cmp x.0 y.0) (map entry_of items.old.items) (map entry_of fresh.items) else map entry_of items.old.items) }
+    ensures woven { map entry_of items.new.items ≡ woven_items items.old.items fresh.items (vec_capacity room) }
 {
     if !fresh.is_empty() && fresh.len() <= room.capacity().saturating_sub(items.len()) {
         number_all(&mut fresh, number);
         let alloc = *items.allocator();
         let mine = mem::replace(items, Vec::new(alloc));
         *items = woven(mine, fresh, room);
+        follow_all(items);
         tally_of(items.as_slice())
     } else {
         tally
@@ -114,27 +117,46 @@ impl Incarnation {
         }
     }
 
-    /// What the points of an export, which is of this incarnation, change.
-    pub(crate) fn changes_by(&self, alloc: Global, export: &Export) -> Result<Changes, NoMemory>
-        ensures { IfOk result (λ c. Prepares (entries self.now.cells) (entries_of export.now) c) }
+    // What the points of an export, which is of this incarnation, change.
+    fn changes_by(&mut self, alloc: Global, export: &Export) -> Result<Changes, NoMemory>
+        ensures prepares { IfOk result (λ c. Prepares (entries self.old.cells) (entries_of export.now) c) }
+        ensures unchanged { self.new ≡ self.old }
     {
-        let items = self.items();
-        let mut draft = Draft::new(alloc);
-        // Points mostly come in the order of their keys: the next one is looked for behind the one before.
-        let mut guess = 0;
-        for point in export.points() {
-            let place = place_near(items, guess, point.stream.get(), &point.attrs);
-            guess = after(place);
-            draft.bring(
-                items,
-                place,
-                &point.stream,
-                &point.attrs,
-                export.time(),
-                Some(&point.payload),
-            )?;
+        draft_changes(&mut self.items, alloc, export)
+    }
+
+    /// Joins the points of an export, which is of this incarnation, where there are so many points, and numbers the keys that
+    /// change. All room comes first.
+    pub(crate) fn take(
+        &mut self,
+        len: usize,
+        number: u64,
+        export: &Export,
+    ) -> Result<Growth, NoMemory>
+        requires { len ≤ 2 ^ 62 }
+        ensures joins { IfOk result (λ g. PartJoins self.old self.new (entries_of export.now) g) }
+        ensures same { OnOk result ((part_of self.new).0 ≡ (part_of self.old).0) }
+        ensures moves { OnOk result (PartMoves number self.old self.new) }
+        ensures bounded { IfOk result (λ g. len + g.more ≤ 2 ^ 62) }
+        ensures before { IfOk result (λ g. g.before ≡ part_conflicts self.old) }
+        ensures after { IfOk result (λ g. g.after ≡ part_conflicts self.new) }
+        ensures unchanged { OnErr result (self.new ≡ self.old) }
+    {
+        let alloc = *self.items.allocator();
+        let changes = self.changes_by(alloc, export)?;
+        let more = changes.fresh.len();
+        let changed = (changes.updates.len() + more) as u64;
+        if more > MOST_POINTS - len {
+            return Err(NoMemory);
         }
-        draft.finished(alloc, items)
+        let before = self.conflicts();
+        self.install(number, changes);
+        Ok(Growth {
+            more,
+            changed,
+            before,
+            after: self.conflicts(),
+        })
     }
 
     /// What another gateway's part of this incarnation changes: one walk over both.

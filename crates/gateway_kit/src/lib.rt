@@ -20,6 +20,7 @@ mod draft;
 mod equality;
 mod gateway;
 mod grow;
+mod hint;
 mod incarnation;
 mod merging;
 mod part_draft;
@@ -33,6 +34,7 @@ mod taking;
 mod tally;
 #[cfg(test)]
 mod tests;
+mod trail;
 mod walk;
 mod weave;
 

@@ -4,10 +4,9 @@ ghost use Rattle.std.specs.FinMap.Entries.{is_sorted};
 ghost use Rattle.std.specs.List.{list_all};
 ghost use Rattle.gateway_kit.specs.Amending.{amend, amended};
 ghost use Rattle.gateway_kit.specs.Keys.{part_cmp};
-ghost use Rattle.gateway_kit.specs.Merging.{Merges, made};
+ghost use Rattle.gateway_kit.specs.Merging.{Merges, made, woven_parts};
 ghost use Rattle.gateway_kit.specs.Numbers.{AllAre, IsNumbered, PartsMove};
 ghost use Rattle.gateway_kit.specs.Tallies.{Tells};
-ghost use Rattle.gateway_kit.specs.Weave.{weave};
 ghost use Rattle.gateway_kit.specs.Parts.{IsWhole, listed, part_of, has_cells};
 
 use crate::changes::Changes;
@@ -64,7 +63,7 @@ fn put_new(
     requires sorted { IsTrue (is_sorted part_cmp (map part_of incarnations.old.items)) }
     requires fresh_sorted { IsTrue (is_sorted part_cmp (map part_of fresh.items)) }
     requires fits { (vec_len incarnations.old + vec_len fresh ≤ vec_capacity room) ⊎ (vec_len fresh ≡ 0) }
-    ensures woven { map part_of incarnations.new.items ≡ weave (λ x y. part_cmp x.0 y.0) (map part_of incarnations.old.items) (map part_of fresh.items) }
+    ensures woven { map part_of incarnations.new.items ≡ woven_parts incarnations.old.items fresh.items }
     ensures moves { PartsMove number incarnations.old.items incarnations.new.items }
 {
     if !fresh.is_empty() {

@@ -1,11 +1,11 @@
 //! What a gateway's incarnations are to be changed by, in the making.
-ghost use Rattle.std.specs.Prelude.{◌≡◌, List, OnOk, IfOk, IsTrue, map, ◌++◌, ◌∷◌, [], None};
+ghost use Rattle.std.specs.Prelude.{◌≡◌, List, OnOk, IfOk, IsTrue, map, []};
 ghost use Rattle.std.specs.FinMap.Entries.{find, is_sorted};
 ghost use Rattle.std.specs.List.{IsDistinct, list_all};
 ghost use Rattle.std.specs.Ordering.{eq_by_cmp};
 ghost use Rattle.gateway_kit.specs.Amending.{amend, amended};
 ghost use Rattle.gateway_kit.specs.Keys.{PartKey, part_cmp};
-ghost use Rattle.gateway_kit.specs.Merging.{PartDrafts, made};
+ghost use Rattle.gateway_kit.specs.Merging.{IsDraftOf, TakesPart, made};
 ghost use Rattle.gateway_kit.specs.Part.{Part};
 ghost use Rattle.gateway_kit.specs.Parts.{part_of, has_cells};
 ghost use Rattle.gateway_kit.specs.Places.{IsPlace};
@@ -32,7 +32,7 @@ pub(crate) struct PartDraft {
 
 impl PartDraft {
     fn new(alloc: Global) -> PartDraft
-        ensures { (olds : List Part) → PartDrafts olds [] result.updates.items result.fresh.items result.more result.changed }
+        ensures { (olds : List Part) → IsDraftOf olds [] result }
     {
         PartDraft {
             updates: Vec::new(alloc),
@@ -53,7 +53,7 @@ impl PartDraft {
         requires sorted { IsTrue (is_sorted part_cmp (map part_of mine.now)) }
         requires placed { IsPlace part_cmp (map part_of mine.now) (theirs.now.writer, theirs.now.start) place }
         requires filled { IsTrue (has_cells theirs.now) }
-        ensures { OnOk result ((came : List Part) → find part_cmp (theirs.now.writer, theirs.now.start) (map part_of came) ≡ None → PartDrafts mine.now came self.old.updates.items self.old.fresh.items self.old.more self.old.changed → PartDrafts mine.now (came ++ theirs.now ∷ []) self.new.updates.items self.new.fresh.items self.new.more self.new.changed) }
+        ensures { OnOk result (TakesPart mine.now theirs.now self.old self.new) }
     {
         match place {
             Ok(place) => {
@@ -84,7 +84,7 @@ impl PartDraft {
         requires sorted { IsTrue (is_sorted part_cmp (map part_of mine.now)) }
         requires theirs_sorted { IsTrue (is_sorted part_cmp (map part_of theirs.now)) }
         requires theirs_filled { IsTrue (list_all has_cells theirs.now) }
-        ensures { IfOk result (λ d. PartDrafts mine.now theirs.now d.updates.items d.fresh.items d.more d.changed) }
+        ensures { IfOk result (λ d. IsDraftOf mine.now theirs.now d) }
     {
         let mut draft = PartDraft::new(alloc);
         let mut hint = 0;

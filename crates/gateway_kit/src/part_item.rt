@@ -3,6 +3,7 @@ ghost use Rattle.std.specs.Prelude.{◌≡◌, IfOk};
 ghost use Rattle.gateway_kit.specs.Keys.{entry_of, item_cmp};
 ghost use Rattle.gateway_kit.specs.Numbers.{given};
 
+use crate::hint::Hint;
 use crate::weave::Keyed;
 use attr_kit::{AttrSet, NoMemory, TryCopy};
 use point_kit::{Cell, SharedStream, Stream};
@@ -16,6 +17,8 @@ pub(crate) struct PartItem {
     pub(crate) cell: Cell,
     /// The number that the key was given when its cell last changed, 0 where it was given none.
     pub(crate) number: u64,
+    /// Where it stands, and the item of the point that came next: guesses.
+    pub(crate) hint: Hint,
 }
 
 impl PartItem {
@@ -38,6 +41,22 @@ impl PartItem {
             self.number = number;
         }
     }
+
+    /// Notes where the item stands whose point came next.
+    pub(crate) fn note_next(&mut self, place: usize)
+        ensures { self.new ≡ self.old }
+    {
+        if self.hint.next() != place {
+            self.hint.set_next(place);
+        }
+    }
+
+    /// Stands at another place, where all have moved to these.
+    pub(crate) fn follow(&mut self, place: usize, places: &[u32])
+        ensures { self.new ≡ self.old }
+    {
+        self.hint.follow(place, places);
+    }
 }
 
 impl Keyed for PartItem {
@@ -55,6 +74,7 @@ impl TryCopy for PartItem {
             attrs: self.attrs.try_copy()?,
             cell: self.cell.try_copy()?,
             number: self.number,
+            hint: self.hint.copy(),
         })
     }
 }

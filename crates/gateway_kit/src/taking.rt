@@ -1,8 +1,7 @@
 //! How a gateway's incarnations take an export.
 ghost use Rattle.std.specs.Prelude.{◌≡◌, ◌≢◌, ◌<◌, ◌≤◌, ◌+◌, ◌^◌, IsTrue, IfOk, OnOk, OnErr, map, [], length, vec_len};
 ghost use Rattle.std.specs.FinMap.Entries.{is_sorted};
-ghost use Rattle.gateway_kit.specs.Changing.{entries_of};
-ghost use Rattle.gateway_kit.specs.Growth.{Grows};
+ghost use Rattle.gateway_kit.specs.Growth.{TakesExport};
 ghost use Rattle.gateway_kit.specs.Keys.{part_cmp};
 ghost use Rattle.gateway_kit.specs.Numbers.{PartsMove};
 ghost use Rattle.gateway_kit.specs.Parts.{IsWhole, part_of};
@@ -61,29 +60,13 @@ fn take_held(
     requires whole { IsWhole incarnations.old.items len }
     requires placed { IsAt part_cmp (map part_of incarnations.old.items) (export.now.writer, export.now.start) place }
     requires points { export.now.points ≢ [] }
-    ensures grows { IfOk result (λ g. Grows incarnations.old.items incarnations.new.items (export.now.writer, export.now.start) (entries_of export.now) g.more g.changed) }
+    ensures grows { IfOk result (λ g. TakesExport incarnations.old.items incarnations.new.items export.now g) }
     ensures bounded { IfOk result (λ g. len + g.more ≤ 2 ^ 62) }
     ensures tells { IfOk result (λ g. Tells incarnations.old.items incarnations.new.items g.before g.after) }
     ensures moves { OnOk result (PartsMove number incarnations.old.items incarnations.new.items) }
     ensures unchanged { OnErr result (incarnations.new.items ≡ incarnations.old.items) }
 {
-    let alloc = *incarnations.allocator();
-    let changes = incarnations[place].changes_by(alloc, export)?;
-    let more = changes.fresh.len();
-    let changed = (changes.updates.len() + more) as u64;
-    if more > MOST_POINTS - len {
-        return Err(NoMemory);
-    }
-    let incarnation = &mut incarnations[place];
-    let before = incarnation.conflicts();
-    incarnation.install(number, changes);
-    let after = incarnation.conflicts();
-    Ok(Growth {
-        more,
-        changed,
-        before,
-        after,
-    })
+    incarnations[place].take(len, number, export)
 }
 
 // Adds the incarnation of an export at the place where it belongs.
@@ -97,7 +80,7 @@ fn take_new(
     requires whole { IsWhole incarnations.old.items len }
     requires placed { IsGap part_cmp (map part_of incarnations.old.items) (export.now.writer, export.now.start) place }
     requires points { export.now.points ≢ [] }
-    ensures grows { IfOk result (λ g. Grows incarnations.old.items incarnations.new.items (export.now.writer, export.now.start) (entries_of export.now) g.more g.changed) }
+    ensures grows { IfOk result (λ g. TakesExport incarnations.old.items incarnations.new.items export.now g) }
     ensures bounded { IfOk result (λ g. len + g.more ≤ 2 ^ 62) }
     ensures tells { IfOk result (λ g. Tells incarnations.old.items incarnations.new.items g.before g.after) }
     ensures moves { OnOk result (PartsMove number incarnations.old.items incarnations.new.items) }
@@ -105,21 +88,9 @@ fn take_new(
 {
     let alloc = *incarnations.allocator();
     let mut incarnation = Incarnation::new(alloc, export.writer().try_copy()?, export.start());
-    let changes = incarnation.changes_by(alloc, export)?;
-    let more = changes.fresh.len();
-    let changed = (changes.updates.len() + more) as u64;
-    if more > MOST_POINTS - len {
-        return Err(NoMemory);
-    }
-    incarnation.install(number, changes);
-    let after = incarnation.conflicts();
+    let growth = incarnation.take(len, number, export)?;
     incarnations.insert(place, incarnation)?;
-    Ok(Growth {
-        more,
-        changed,
-        before: 0,
-        after,
-    })
+    Ok(growth)
 }
 
 /// Joins an export, which has points, into its incarnation, and numbers the keys that change.
@@ -131,7 +102,7 @@ pub(crate) fn taken(
 ) -> Result<Growth, NoMemory>
     requires whole { IsWhole incarnations.old.items len }
     requires points { export.now.points ≢ [] }
-    ensures grows { IfOk result (λ g. Grows incarnations.old.items incarnations.new.items (export.now.writer, export.now.start) (entries_of export.now) g.more g.changed) }
+    ensures grows { IfOk result (λ g. TakesExport incarnations.old.items incarnations.new.items export.now g) }
     ensures bounded { IfOk result (λ g. len + g.more ≤ 2 ^ 62) }
     ensures tells { IfOk result (λ g. Tells incarnations.old.items incarnations.new.items g.before g.after) }
     ensures moves { OnOk result (PartsMove number incarnations.old.items incarnations.new.items) }

@@ -1,5 +1,5 @@
 //! The walk over a gateway's points.
-ghost use Rattle.std.specs.Prelude.{◌≡◌, ◌∷◌, [], MatchOption, option_copied};
+ghost use Rattle.std.specs.Prelude.{◌≡◌, ◌∷◌, [], IfNone, IfSome, MatchOption, option_copied};
 ghost use Rattle.std.specs.Iterator.{YieldsFirstBy, item_count};
 ghost use Rattle.gateway_kit.specs.Walks.{entry_of_ref, is_asked, items_left, points_left};
 
@@ -20,7 +20,8 @@ fn asked(service: Option<&str>, writer: &WriterId) -> bool
 impl<'a> Points<'a> {
     // The next item of the incarnation that is lent.
     fn next_here(&mut self) -> Option<PointRef<'a>>
-        ensures value { MatchOption result (items_left self.old.here ≡ []) (λ p. points_left self.old ≡ entry_of_ref p ∷ points_left self.new) }
+        ensures none { IfNone result (items_left self.old.here ≡ []) }
+        ensures some { IfSome result (λ p. points_left self.old ≡ entry_of_ref p ∷ points_left self.new) }
         ensures same { MatchOption result (self.new ≡ self.old) (λ p. self.new.ahead ≡ self.old.ahead) }
     {
         let (incarnation, items) = self.here?;

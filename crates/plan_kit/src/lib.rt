@@ -18,8 +18,6 @@ mod names;
 mod owners;
 mod plan;
 mod refusals;
-#[cfg(test)]
-mod tests;
 mod try_copy;
 mod view;
 mod view_index;

@@ -1,5 +1,5 @@
-//! Worked pushes of one writer over each exporter, and over one that fails as told.
-ghost use Rattle.std.specs.Prelude.{◌≡◌, ◌+◌, ◌<◌, ◌≤◌, IfOk, OnOk};
+//! Worked pushes of one writer: over an exporter that fails as told, into memory, and into a channel.
+ghost use Rattle.std.specs.Prelude.{◌≡◌, ◌<◌, IfOk};
 
 use super::*;
 use attr_kit::{AttrSet, NoMemory, Seq, Txt};
@@ -136,42 +136,6 @@ fn the_next_collection_covers_a_lost_one(rt: HostRuntime) -> Result<(), Fail> {
     Ok(())
 }
 
-// Records 1 and then ticks: the total that the exporter took, or `None` where it refused.
-fn taken(periodic: &mut Periodic<Failing>, alloc: Global, now: u64) -> Result<Option<i64>, Fail>
-    requires { periodic.old.exporter.failures < 18446744073709551615 }
-    ensures { OnOk result (periodic.new.exporter.failures ≤ periodic.old.exporter.failures + 1) }
-{
-    adds(periodic, alloc, 1)?;
-    match periodic.tick(&Bump::new(alloc), now) {
-        Ok(_) => Ok(periodic.exporter().last),
-        Err(TickFault::ExportRefused) => Ok(None),
-        Err(fault) => Err(Fail::from(fault)),
-    }
-}
-
-// What each of four due ticks hands to an exporter that fails at one of its calls.
-fn four_ticks(alloc: Global, at: u64) -> Result<[Option<i64>; 4], Fail> {
-    let mut periodic = reading(alloc, Failing::at(at))?;
-    let first = taken(&mut periodic, alloc, MINUTE)?;
-    let second = taken(&mut periodic, alloc, 2 * MINUTE)?;
-    let third = taken(&mut periodic, alloc, 3 * MINUTE)?;
-    let fourth = taken(&mut periodic, alloc, 4 * MINUTE)?;
-    Ok([first, second, third, fourth])
-}
-
-#[test]
-fn one_of_four_ticks_is_refused(rt: HostRuntime) -> Result<(), Fail> {
-    let rows = [
-        (1, [None, Some(2), Some(3), Some(4)]),
-        (2, [Some(1), None, Some(3), Some(4)]),
-        (3, [Some(1), Some(2), None, Some(4)]),
-    ];
-    for (at, wanted) in rows {
-        assert!(rt; four_ticks(rt.alloc(), at)? == wanted, "refused at {at}");
-    }
-    Ok(())
-}
-
 // Whether flushes at 5 leave a pace that is due at 10, and a closing one at 6 ends the reader.
 fn leaves_the_pace(periodic: &mut Periodic<MemoryExporter>, alloc: Global) -> Result<bool, Fail>
     requires { periodic.old.exporter.failures ≡ 0 }
@@ -222,23 +186,6 @@ fn last_tick<E: Exporter>(
     adds(periodic, alloc, 4)?;
     let arena = Bump::new(alloc);
     Ok(periodic.tick(&arena, 2 * MINUTE))
-}
-
-// Whether a due tick leaves one copy in memory, of all that was recorded.
-fn keeps_a_copy(periodic: &mut Periodic<MemoryExporter>, alloc: Global) -> Result<bool, Fail>
-    requires { periodic.old.exporter.failures ≡ 0 }
-{
-    let answer = last_tick(alloc, periodic)?;
-    let copies = periodic.exporter().copies();
-    let is_whole = copies.first().and_then(total) == Some(7);
-    Ok(answer == Ok(Tick::Exported(1)) && copies.len() == 1 && is_whole)
-}
-
-#[test]
-fn memory_takes_the_next_tick(rt: HostRuntime) -> Result<(), Fail> {
-    let mut periodic = reading(rt.alloc(), MemoryExporter::new(rt.alloc()))?;
-    assert!(rt; keeps_a_copy(&mut periodic, rt.alloc())?);
-    Ok(())
 }
 
 // Whether one export comes over a channel, of the total 7.

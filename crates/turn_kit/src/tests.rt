@@ -196,19 +196,6 @@ fn a_held_turn_is_busy(rt: HostRuntime) -> Result<(), Fail> {
 }
 
 #[test]
-fn a_refused_step_counts_for_nothing(rt: HostRuntime) -> Result<(), Fail> {
-    let (turn, mut seat) = open(rt.alloc(), 1)?;
-    let too_much = MOST + 1;
-    assert!(rt;
-        turn.try_change(&mut seat, Add { by: too_much }) == Err(ChangeFault::Refused(TooHigh))
-    );
-    assert!(rt; turn.try_look(&mut seat, Read) == Ok(0));
-    assert!(rt; turn.try_change(&mut seat, Add { by: 5 }) == Ok(5));
-    assert!(rt; turn.try_change(&mut seat, Add { by: too_much }) == Err(ChangeFault::Exhausted));
-    Ok(())
-}
-
-#[test]
 fn seats_are_full_at_4096(rt: HostRuntime) -> Result<(), Fail> {
     let (turn, mut first) = open(rt.alloc(), 1)?;
     for _ in 1..4096 {
@@ -218,20 +205,6 @@ fn seats_are_full_at_4096(rt: HostRuntime) -> Result<(), Fail> {
     assert!(rt; turn.try_split(&mut first).err() == Some(SplitFault::SeatsFull));
     assert!(rt; turn.split(&rt, &mut first).err() == Some(SplitFault::SeatsFull));
     assert!(rt; turn.close(first).is_ok());
-    Ok(())
-}
-
-#[test]
-fn what_a_note_tells_is_heard(rt: HostRuntime) -> Result<(), Fail> {
-    let (turn, mut first) = open(rt.alloc(), 8)?;
-    let mut other = second(&turn, &mut first)?;
-    assert!(rt; turn.try_change(&mut first, Add { by: 3 }) == Ok(3));
-    let note = turn.note(&mut first);
-    let _unheard = turn.note(&mut first);
-    turn.hear(&mut other, note);
-    assert!(rt; turn.look(&rt, &mut other, Read) == 3);
-    turn.join(&mut other, first);
-    assert!(rt; turn.close(other).map(|counter| counter.count()).ok() == Some(3));
     Ok(())
 }
 
@@ -285,16 +258,6 @@ fn add_by_two<R: Threads + Wait + Sync>(
     first
 }
 
-#[test]
-fn two_threads(rt: HostRuntime) -> Result<(), Fail> {
-    let (turn, mut first) = open(rt.alloc(), 1 << 62)?;
-    let other = second(&turn, &mut first)?;
-    let mut all = add_by_two(&rt, &turn, first, other);
-    assert!(rt; turn.look(&rt, &mut all, Read) == 2000);
-    assert!(rt; turn.close(all).map(|counter| counter.count()).ok() == Some(2000));
-    Ok(())
-}
-
 /// Four seats, each in a thread of its own. One seat remains.
 fn add_by_four<R: Threads + Wait + Sync>(
     rt: &R,
@@ -331,17 +294,5 @@ fn four_threads(rt: HostRuntime) -> Result<(), Fail> {
     let d = second(&turn, &mut a)?;
     let all = add_by_four(&rt, &turn, (a, b, c, d));
     assert!(rt; turn.close(all).map(|counter| counter.count()).ok() == Some(4000));
-    Ok(())
-}
-
-#[test]
-fn seats_of_a_turn_are_the_quiet_ones(rt: HostRuntime) -> Result<(), Fail> {
-    let (turn, mut first) = open(rt.alloc(), 2)?;
-    let mut other = second(&turn, &mut first)?;
-    let quiet = turn.into_quiet();
-    assert!(rt; quiet.try_change(&mut other, Add { by: 4 }) == Ok(4));
-    assert!(rt; quiet.try_change(&mut first, Add { by: 3 }) == Ok(7));
-    quiet.join(&mut first, other);
-    assert!(rt; quiet.close(first).map(|counter| counter.count()).ok() == Some(7));
     Ok(())
 }

@@ -93,22 +93,6 @@ pub fn parts(
     })
 }
 
-/// The total of a row of histograms.
-pub fn parts_of_row(
-    alloc: Global,
-    count: u128,
-    sum: i128,
-    buckets: &[u128],
-    range: Option<(i64, i64)>,
-) -> Result<Total, NoMemory> {
-    Ok(Total::Hist {
-        count,
-        sum,
-        buckets: Seq::from_vec(buckets.to_vec(alloc)?),
-        range,
-    })
-}
-
 /// An export of the instance of this number, which runs since 100.
 pub fn export(
     alloc: Global,

@@ -1,6 +1,6 @@
 //! Roll-ups that no script can ask for: of histograms without a range, and by pairs of one key.
 use super::builders::{
-    ask, counted, counter, export, histogram, one, parts, point, stream, take, two, worded,
+    ask, counted, counter, export, histogram, parts, point, single, stream, take, two, worded,
 };
 use crate::{Ask, rollup, table};
 use attr_kit::{AllowList, AttrSet, AttrValue, Keep, NoMemory, Seq, Txt};
@@ -70,27 +70,17 @@ fn a_point_without_values_leaves_the_range(rt: HostRuntime) -> Result<(), Fail> 
     Ok(())
 }
 
-// The sum of a route and a host.
-fn routed(alloc: Global, route: &str, host: &str, sum: i64) -> Result<ExportPoint, Fail> {
-    let pairs = two(
-        alloc,
-        worded(alloc, "route", route)?,
-        worded(alloc, "host", host)?,
-    )?;
-    Ok(counted(alloc, AttrSet::from_pairs(pairs)?, sum)?)
+// The sum of a host.
+fn hosted(alloc: Global, host: &str, sum: i64) -> Result<ExportPoint, Fail> {
+    let attrs = single(alloc, worded(alloc, "host", host)?)?;
+    Ok(counted(alloc, attrs, sum)?)
 }
 
-// Two services with requests by route and host.
-fn shop_and_till(alloc: Global) -> Result<Gateway, Fail> {
+// A gateway that holds two hosts.
+fn two_hosts(alloc: Global) -> Result<Gateway, Fail> {
     let mut gateway = Gateway::new(alloc, 1);
-    let points = two(
-        alloc,
-        routed(alloc, "x", "p", 1)?,
-        routed(alloc, "y", "p", 2)?,
-    )?;
+    let points = two(alloc, hosted(alloc, "p", 1)?, hosted(alloc, "q", 4)?)?;
     gateway.take(&export(alloc, "shop", 1, 200, points)?)?;
-    let points = one(alloc, routed(alloc, "x", "q", 4)?)?;
-    gateway.take(&export(alloc, "till", 2, 200, points)?)?;
     Ok(gateway)
 }
 
@@ -104,26 +94,21 @@ fn having(alloc: Global, only: Vec<(Txt, AttrValue)>) -> Result<Ask, NoMemory> {
     })
 }
 
-// Whether this is what is answered of points that have both hosts.
-fn answers_hosts(alloc: Global, first: &str, second: &str, wanted: &str) -> Result<bool, Fail> {
-    let pairs = two(
+// Whether this is what is answered of points that have the host p and this one.
+fn answers_hosts(alloc: Global, gateway: &Gateway, host: &str, wanted: &str) -> Result<bool, Fail> {
+    let hosts = two(
         alloc,
-        worded(alloc, "host", first)?,
-        worded(alloc, "host", second)?,
+        worded(alloc, "host", "p")?,
+        worded(alloc, "host", host)?,
     )?;
-    let asked = having(alloc, pairs)?;
-    Ok(answers(alloc, &shop_and_till(alloc)?, &asked, wanted)?)
-}
-
-#[test]
-fn a_pair_asked_twice_is_asked_once(rt: HostRuntime) -> Result<(), Fail> {
-    let wanted = "attributes  points  conflicts  total\n{}               2          0  3\n";
-    assert!(rt; answers_hosts(rt.alloc(), "p", "p", wanted)?);
-    Ok(())
+    Ok(answers(alloc, gateway, &having(alloc, hosts)?, wanted)?)
 }
 
 #[test]
 fn no_point_has_two_values_of_one_key(rt: HostRuntime) -> Result<(), Fail> {
-    assert!(rt; answers_hosts(rt.alloc(), "p", "q", HEADER)?);
+    let gateway = two_hosts(rt.alloc())?;
+    let one = "attributes  points  conflicts  total\n{}               1          0  1\n";
+    assert!(rt; answers_hosts(rt.alloc(), &gateway, "p", one)?);
+    assert!(rt; answers_hosts(rt.alloc(), &gateway, "q", HEADER)?);
     Ok(())
 }

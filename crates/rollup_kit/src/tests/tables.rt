@@ -1,5 +1,5 @@
 //! Printed tables of rows that no script has.
-use super::builders::{one, parts_of_row, row, single, two, worded};
+use super::builders::{one, row, single, two, worded};
 use crate::{Row, Total, table};
 use attr_kit::{AttrSet, NoMemory};
 use std::alloc::Global;
@@ -9,22 +9,6 @@ use std::test::Fail;
 fn prints(alloc: Global, rows: Vec<Row>, wanted: &str) -> Result<bool, NoMemory> {
     let printed = table(alloc, rows.as_slice())?;
     Ok(printed.as_str() == wanted)
-}
-
-#[test]
-fn columns_are_as_wide_as_their_longest_cell(rt: HostRuntime) -> Result<(), Fail> {
-    let alloc = rt.alloc();
-    let route = single(alloc, worded(alloc, "route", "x")?)?;
-    let rows = two(
-        alloc,
-        row(route, Total::Sum(3), 1, 0),
-        row(AttrSet::empty(alloc), Total::Sum(-12), 1000000, 2000000000),
-    )?;
-    let wanted = "attributes    points   conflicts  total\n\
-                  {route=\"x\"}        1           0  3\n\
-                  {}           1000000  2000000000  -12\n";
-    assert!(rt; prints(alloc, rows, wanted)?);
-    Ok(())
 }
 
 // Whether the row of a set with one conflict of gauges is this line, in columns of this header.
@@ -81,23 +65,6 @@ fn widths_count_scalar_values(rt: HostRuntime) -> Result<(), Fail> {
     let wanted = "attributes  points  conflicts  total\n\
                   {k=\"界😀e\u{301}\"}       1          0  1\n\
                   {}               1          0  2\n";
-    assert!(rt; prints(alloc, rows, wanted)?);
-    Ok(())
-}
-
-#[test]
-fn a_histogram_shows_its_parts(rt: HostRuntime) -> Result<(), Fail> {
-    let alloc = rt.alloc();
-    let all = parts_of_row(alloc, 5, 32, &[1, 1, 2, 1], Some((0, 11)))?;
-    let untold = parts_of_row(alloc, 2, -13, &[u128::MAX], None)?;
-    let rows = two(
-        alloc,
-        row(AttrSet::empty(alloc), all, 1, 0),
-        row(AttrSet::empty(alloc), untold, 1, 0),
-    )?;
-    let wanted = "attributes  points  conflicts  total\n\
-                  {}               1          0  count=5 sum=32 buckets=1,1,2,1 min=0 max=11\n\
-                  {}               1          0  count=2 sum=-13 buckets=340282366920938463463374607431768211455\n";
     assert!(rt; prints(alloc, rows, wanted)?);
     Ok(())
 }

@@ -1,7 +1,6 @@
-//! Shared writers: seats and notes, and three threads that record while a fourth collects.
+//! Shared writers: seats, notes, and a turn that is held.
 ghost use Rattle.std.specs.Prelude.{IfOk};
 ghost use Rattle.writer_kit.specs.Shared.{IsAt};
-ghost use denote.Param.Send.{IsSync};
 
 use super::*;
 use crate::tests::{counting_from, held};
@@ -9,9 +8,7 @@ use crate::{CollectFault, MeasureFault};
 use attr_kit::AttrSet;
 use bumpalo::Bump;
 use round_kit::{Round, RoundPayload};
-use std::sync::Wait;
 use std::test::Fail;
-use std::thread::{Threads, join};
 use turn_kit::{Busy, ChangeFault, Look, SplitFault};
 
 // The total of a round's only point, 0 where it has no point; none of any other round.
@@ -182,179 +179,6 @@ fn close_waits_for_seats_to_be_joined(rt: HostRuntime) -> Result<(), Fail> {
     assert!(rt; out == 1);
     shared.join(&mut seat, other);
     assert!(rt; shared.close(seat).is_ok());
-    Ok(())
-}
-
-/// Measures 1, a thousand times.
-fn measure_many<R: Wait>(
-    rt: &R,
-    shared: &SharedWriter,
-    mut seat: Seat<Writer>,
-    attrs: &AttrSet,
-) -> Seat<Writer>
-    requires { IsAt shared.now seat }
-    ensures { IsAt shared.now result }
-{
-    for _ in 0..1000 {
-        let _ = shared.measure(rt, &mut seat, 0, attrs, 1);
-    }
-    seat
-}
-
-/// The same by two seats, each in a thread of its own. One seat remains.
-fn measure_by_two<R: Threads + Wait + Sync>(
-    rt: &R,
-    shared: &SharedWriter,
-    first: Seat<Writer>,
-    second: Seat<Writer>,
-    attrs: &AttrSet,
-) -> Seat<Writer>
-    requires first { IsAt shared.now first }
-    requires second { IsAt shared.now second }
-    ensures { IsAt shared.now result }
-{
-    let (mut first, second) = join(
-        rt,
-        || -> Seat<Writer>
-            requires { IsSync R.row × IsAt shared.now first }
-            ensures { IsAt shared.entry.now result }
-        { measure_many(rt, shared, first, attrs) },
-        || -> Seat<Writer>
-            requires { IsSync R.row × IsAt shared.now second }
-            ensures { IsAt shared.entry.now result }
-        { measure_many(rt, shared, second, attrs) },
-    );
-    shared.join(&mut first, second);
-    first
-}
-
-/// The total of a collection, by a call that waits.
-fn collect_once<R: Wait>(
-    rt: &R,
-    alloc: Global,
-    shared: &SharedWriter,
-    seat: &mut Seat<Writer>,
-    time: u64,
-) -> Option<i64>
-    requires { IsAt shared.now seat.old }
-    ensures { IsAt shared.now seat.new }
-{
-    let arena = Bump::new(alloc);
-    match shared.collect(rt, seat, &arena, time) {
-        Ok(round) => total(&round),
-        Err(_) => None,
-    }
-}
-
-/// Collects at 1 to 100, and answers whether each collection has a total and none is less than the one before.
-fn collect_many<R: Wait>(
-    rt: &R,
-    alloc: Global,
-    shared: &SharedWriter,
-    mut seat: Seat<Writer>,
-) -> (bool, Seat<Writer>)
-    requires { IsAt shared.now seat }
-    ensures { IsAt shared.now result.1 }
-{
-    let mut rise = true;
-    let mut last = 0;
-    for time in 1..101 {
-        match collect_once(rt, alloc, shared, &mut seat, time) {
-            Some(next) if next >= last => last = next,
-            _ => rise = false,
-        }
-    }
-    (rise, seat)
-}
-
-/// A seat measures in a thread while another collects. One seat remains.
-fn measure_beside_collect<R: Threads + Wait + Sync>(
-    rt: &R,
-    alloc: Global,
-    shared: &SharedWriter,
-    seats: (Seat<Writer>, Seat<Writer>),
-    attrs: &AttrSet,
-) -> (bool, Seat<Writer>)
-    requires { IsAt shared.now seats.0 × IsAt shared.now seats.1 }
-    ensures { IsAt shared.now result.1 }
-{
-    let (one, two) = seats;
-    let (mut one, collected) = join(
-        rt,
-        || -> Seat<Writer>
-            requires { IsSync R.row × IsAt shared.now one }
-            ensures { IsAt shared.entry.now result }
-        { measure_many(rt, shared, one, attrs) },
-        || -> (bool, Seat<Writer>)
-            requires { IsSync R.row × IsAt shared.now two }
-            ensures { IsAt shared.entry.now result.1 }
-        { collect_many(rt, alloc, shared, two) },
-    );
-    let (rise, two) = collected;
-    shared.join(&mut one, two);
-    (rise, one)
-}
-
-/// Three seats measure while a fourth collects, each in a thread of its own. One seat remains.
-fn measure_by_three<R: Threads + Wait + Sync>(
-    rt: &R,
-    alloc: Global,
-    shared: &SharedWriter,
-    seats: (Seat<Writer>, Seat<Writer>, Seat<Writer>, Seat<Writer>),
-    attrs: &AttrSet,
-) -> (bool, Seat<Writer>)
-    requires { IsAt shared.now seats.0 × IsAt shared.now seats.1 × IsAt shared.now seats.2 × IsAt shared.now seats.3 }
-    ensures { IsAt shared.now result.1 }
-{
-    let (a, b, c, d) = seats;
-    let (mut one, collected) = join(
-        rt,
-        || -> Seat<Writer>
-            requires { IsSync R.row × IsAt shared.now a × IsAt shared.now b }
-            ensures { IsAt shared.entry.now result }
-        { measure_by_two(rt, shared, a, b, attrs) },
-        || -> (bool, Seat<Writer>)
-            requires { IsSync R.row × IsAt shared.now c × IsAt shared.now d }
-            ensures { IsAt shared.entry.now result.1 }
-        { measure_beside_collect(rt, alloc, shared, (c, d), attrs) },
-    );
-    let (rise, two) = collected;
-    shared.join(&mut one, two);
-    (rise, one)
-}
-
-// What the writer holds that is handed out, none where it is not.
-fn closed(shared: SharedWriter, seat: Seat<Writer>) -> Option<i64>
-    requires { IsAt shared seat }
-{
-    match shared.close(seat) {
-        Ok(writer) => held(&writer),
-        Err(_) => None,
-    }
-}
-
-// Whether the totals that the fourth thread collected rise, what a collection has after all threads have ended, and what the
-// writer holds then.
-fn after_threads<R: Threads + Wait + Sync>(
-    rt: &R,
-    alloc: Global,
-    served: Served,
-) -> Result<(bool, Option<i64>, Option<i64>), Fail> {
-    let Served { shared, mut seat } = served;
-    let b = second(&shared, &mut seat)?;
-    let c = second(&shared, &mut seat)?;
-    let d = second(&shared, &mut seat)?;
-    let none = AttrSet::empty(alloc);
-    let (rise, mut all) = measure_by_three(rt, alloc, &shared, (seat, b, c, d), &none);
-    let after = collect_once(rt, alloc, &shared, &mut all, 101);
-    Ok((rise, after, closed(shared, all)))
-}
-
-#[test]
-fn three_threads_record_while_a_fourth_collects(rt: HostRuntime) -> Result<(), Fail> {
-    let served = open(rt.alloc(), 0, 1 << 62)?;
-    let (rise, after, held) = after_threads(&rt, rt.alloc(), served)?;
-    assert!(rt; rise && after == Some(3000) && held == Some(3000));
     Ok(())
 }
 

@@ -2,27 +2,19 @@ use Rattle.std.proofs.Common.{◌≡◌, List, [], ◌∷◌, ap, subst, ◌∙�
 use Rattle.std.specs.FinMap.{entries}
 use Rattle.gateway_kit.specs.Changing.{Entry}
 use Rattle.gateway_kit.specs.Keys.{ItemKey}
-use Rattle.gateway_kit.specs.OneCell.{JoinsEntry}
 use Rattle.gateway_kit.specs.Part.{Part, Cells}
-use Rattle.gateway_kit.specs.Parts.{part_of}
 use Rattle.gateway_kit.proofs.AllMoves.{first_moves, gap_moves}
-use Rattle.gateway_kit.proofs.Growing.{entries-empty, grows_gap, no_cells}
-use Rattle.gateway_kit.proofs.OneCell.{joins_some}
+use Rattle.gateway_kit.proofs.Growing.{entries-empty, gap_grows, lone_entry}
 use Rattle.gateway_kit.proofs.Tallies.{tells_insert}
 use Rattle.gateway_kit.specs.Tallies.{conflicts_in}
 use Rattle.gateway_kit.proofs.cell_joins.join_gap.Goals as goal
 
 pub returns-clause-grows : goal.returns-clause-grows
 returns-clause-grows c =
-    let olds = c.args.incarnations.now.items in
     let key = c.args.key in
     let k : ItemKey = (key.stream, key.attrs) in
-    let w = c.args.cell in
     let growth = c.in_ok-growth.growth in
-    let new : Part = c.join.new.self in
-    let joins : JoinsEntry (entries no_cells) (entries new.cells) (k, w) growth.more growth.changed = subst (λ (cs : Cells). JoinsEntry (entries cs) (entries new.cells) (k, w) growth.more growth.changed) c.new-incarnation.ensures.cells c.in_ok-growth.ensures.joins in
-    let is : part_of new ≡ ((key.writer, key.start), new.cells) = λ i. ((c.in_ok-growth.ensures.same ∙ (λ j. (c.new-incarnation.ensures.writer j, c.new-incarnation.ensures.start j))) i, new.cells) in
-    rw c.in_ok-insert.ensures.items (grows_gap olds c.args.len c.requires.whole (key.writer, key.start) ((k, w) ∷ []) growth.more growth.changed c.args.place new new.cells c.requires.placed is (joins_some (entries no_cells) (entries new.cells) k w growth.more growth.changed joins) joins.joined joins.more_keys joins.changes)
+    rw c.in_ok-insert.ensures.items (gap_grows c.args.incarnations.now.items c.args.len c.requires.whole (key.writer, key.start) ((k, c.args.cell) ∷ []) (lone_entry k c.args.cell) c.args.place c.new-incarnation.result c.join.new.self growth.more growth.changed c.requires.placed c.new-incarnation.ensures.cells (c.in_ok-growth.ensures.same ∙ (λ j. (c.new-incarnation.ensures.writer j, c.new-incarnation.ensures.start j))) c.in_ok-growth.ensures.joins)
 
 pub returns-clause-tells : goal.returns-clause-tells
 returns-clause-tells c =

@@ -1,4 +1,4 @@
-use Rattle.std.proofs.Common.{◌≡◌, is_some, sym, ap, ◌∙◌}
+use Rattle.std.proofs.Common.{◌≡◌, [], ◌∷◌, is_some, sym, ap, ◌∙◌}
 use Rattle.std.specs.FinMap.{entries}
 use Rattle.std.specs.FinMap.Entries.{find}
 use Rattle.gateway_kit.specs.Growth.{part_at}
@@ -8,15 +8,14 @@ use Rattle.gateway_kit.proofs.Drafting.{found_place}
 use Rattle.gateway_kit.proofs.Entries.{as_T}
 use Rattle.gateway_kit.proofs.KeyOrders.{part_total}
 use Rattle.gateway_kit.proofs.AllMoves.{held_moves}
-use Rattle.gateway_kit.proofs.OneCell.{held_grows}
-use Rattle.gateway_kit.proofs.Growing.{within_at}
+use Rattle.gateway_kit.proofs.Growing.{held_grows, lone_entry, within_at}
 use Rattle.gateway_kit.proofs.Tallies.{held_tells}
 use Rattle.gateway_kit.proofs.cell_joins.join_held.Goals as goal
 
 pub returns-clause-grows : goal.returns-clause-grows
 returns-clause-grows c =
     let key = c.args.key in
-    held_grows c.args.incarnations.now.items c.args.len c.requires.whole (key.writer, key.start) (key.stream, key.attrs) c.args.cell c.args.place c.index_mut.result.now c.join.new.self c.requires.placed c.index_mut.ensures.value c.join.result c.join.ensures.joins c.join.ensures.same
+    held_grows c.args.incarnations.now.items c.args.len c.requires.whole (key.writer, key.start) (((key.stream, key.attrs), c.args.cell) ∷ []) (lone_entry (key.stream, key.attrs) c.args.cell) c.args.place c.index_mut.result.now c.join.new.self c.requires.placed c.index_mut.ensures.value c.join.result c.join.ensures.joins c.join.ensures.same
 
 pub returns-clause-held : goal.returns-clause-held
 returns-clause-held c = λ some.

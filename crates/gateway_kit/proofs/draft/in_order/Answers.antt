@@ -22,5 +22,5 @@ returns-clause-sorted c =
 
 pub returns-clause-same : goal.returns-clause-same
 returns-clause-same c = λ q.
-    same_found item_total entry_of c.args.items.items c.sort_by.new.self.items (record { stream = q.0; attrs = q.1; cell = record { time = 0; held = Conflict }; number = 0 })
+    same_found item_total entry_of c.args.items.items c.sort_by.new.self.items (record { stream = q.0; attrs = q.1; cell = record { time = 0; held = Conflict }; number = 0; hint = tt })
     (c.in_ok-sort_by.ensures.stable (lower item_total entry_of) (ranks_by item_total (λ (i : PartItem). (entry_of i).0)) (always_returns_same _ _ _ (λ a r q k. let e : r ≡ item_cmp (entry_of a.0.now).0 (entry_of a.1.0.now).0 = search rules in (ap is_lt e, search rules))))

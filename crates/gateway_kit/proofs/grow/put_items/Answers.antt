@@ -18,18 +18,18 @@ use Rattle.gateway_kit.proofs.grow.put_items.Goals.{else-not-is_empty-via-then-n
 pub returns-then-len-saturating_sub-clause-woven : goal.returns-then-len-saturating_sub-clause-woven
 returns-then-len-saturating_sub-clause-woven c =
     let fits : length c.args.items.now.items + length c.args.fresh.items ≤ vec_capacity c.args.room = grind (arith, common_steps) in
-    ap (map entry_of) (c.woven.ensures ∙ (λ i. weave (λ x y. on_keys item_cmp (entry_of x) (entry_of y)) (c.replace-mine.ensures.value i).items c.number_all.new.items.items)) ∙ map-weave _ (on_keys item_cmp) entry_of (λ x y. refl) c.args.items.now.items c.number_all.new.items.items
+    ap (map entry_of) (c.follow_all.ensures ∙ c.woven.ensures ∙ (λ i. weave (λ x y. on_keys item_cmp (entry_of x) (entry_of y)) (c.replace-mine.ensures.value i).items c.number_all.new.items.items)) ∙ map-weave _ (on_keys item_cmp) entry_of (λ x y. refl) c.args.items.now.items c.number_all.new.items.items
     ∙ ap (weave (on_keys item_cmp) (map entry_of c.args.items.now.items)) c.number_all.ensures.entries
     ∙ ap (λ b. cond b (weave (on_keys item_cmp) (map entry_of c.args.items.now.items) (map entry_of c.args.fresh.items)) (map entry_of c.args.items.now.items)) (sym (le-leb _ _ fits))
 
 pub returns-then-len-saturating_sub-clause-moves : goal.returns-then-len-saturating_sub-clause-moves
 returns-then-len-saturating_sub-clause-moves c =
-    subst (λ (l : List PartItem). ItemsMove c.args.number c.args.items.now.items l) (sym (c.woven.ensures ∙ (λ i. weave (λ x y. on_keys item_cmp (entry_of x) (entry_of y)) (c.replace-mine.ensures.value i).items c.number_all.new.items.items)))
+    subst (λ (l : List PartItem). ItemsMove c.args.number c.args.items.now.items l) (sym (c.follow_all.ensures ∙ c.woven.ensures ∙ (λ i. weave (λ x y. on_keys item_cmp (entry_of x) (entry_of y)) (c.replace-mine.ensures.value i).items c.number_all.new.items.items)))
     (woven_move c.args.number c.args.items.now.items c.number_all.new.items.items c.requires.sorted (ap (is_sorted item_cmp) c.number_all.ensures.entries ∙ c.requires.fresh_sorted) c.number_all.ensures.numbers)
 
 pub returns-then-len-saturating_sub-clause-up_to : goal.returns-then-len-saturating_sub-clause-up_to
 returns-then-len-saturating_sub-clause-up_to c = λ n g h.
-    ap (λ (l : List PartItem). are_up_to n l) (c.woven.ensures ∙ (λ i. weave (λ x y. on_keys item_cmp (entry_of x) (entry_of y)) (c.replace-mine.ensures.value i).items c.number_all.new.items.items))
+    ap (λ (l : List PartItem). are_up_to n l) (c.follow_all.ensures ∙ c.woven.ensures ∙ (λ i. weave (λ x y. on_keys item_cmp (entry_of x) (entry_of y)) (c.replace-mine.ensures.value i).items c.number_all.new.items.items))
     ∙ all_weave (λ x y. on_keys item_cmp (entry_of x) (entry_of y)) (λ (i : PartItem). nat_le i.number n) c.args.items.now.items c.number_all.new.items.items h (all_up_to c.args.number c.number_all.new.items.items c.number_all.ensures.numbers n g)
 
 pub returns-else-not-is_empty-clause-moves : goal.returns-else-not-is_empty-clause-moves

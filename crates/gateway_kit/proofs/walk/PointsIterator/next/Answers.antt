@@ -15,7 +15,7 @@ pub loop-point-preserved : goal.loop-point-preserved
 loop-point-preserved c =
     let first : Part = c.in_ok-incarnation.incarnation.now in
     let same : c.next_here.new.self ≡ c.loop-point.self = c.in_default.ensures.same in
-    let none : items_left c.next_here.new.self.here ≡ [] = ap (λ (p : Points). items_left p.here) same ∙ c.in_default.ensures.value in
+    let none : items_left c.next_here.new.self.here ≡ [] = ap (λ (p : Points). items_left p.here) same ∙ c.in_default.ensures.none in
     let ahead : c.next_here.new.self.ahead.now ≡ first ∷ c.in_ok-incarnation.others.now = c.in_ok-incarnation.ensures.cases.0 in
     let wanted : c.asked.result ≡ is_asked c.next_here.new.self.service first.writer = c.asked.ensures ∙ ap (λ (p : Part). is_asked c.next_here.new.self.service p.writer) c.incarnation.view_is in
     let all : List (Key × Cell Payload) = map (λ e. (whole_key (first.writer, first.start) e.0, e.1)) (entries first.cells) in

@@ -1,0 +1,283 @@
+-- What a recorder stands for, as it takes one more recording and as a tally takes it in.
+use Rattle.std.proofs.Common.{◌≡◌, ℕ, ℤ, ◌+◌, ◌<◌, ◌≤◌, ◌==◌, ◌&&◌, ◌||◌, slice_get, Result, Ok, Err, IfOk, OnOk, OnErr, Bool, true, false, cond, List, [], ◌∷◌, ◌++◌, Option, Some, None, length, map, filter, replicate, get_or, refl, sym, ap, subst, ◌∙◌, arith, suc, zero, if◌then◌else◌, true≢false, nat_lt, ltb-true, ltb-false}
+use Rattle.std.specs.Cmp.{unsigned_Decides}
+use Rattle.std.specs.List.{enumerate_from, list_all}
+use Rattle.std.specs.Option.{option_map, option_map_or}
+use Rattle.std.proofs.lemmas.List.{length-map, ext_get_or}
+use Rattle.std.proofs.lemmas.List.FromFn.{length-enumerate_from}
+use Rattle.attr_kit.specs.declared.attr_set.AttrSet.{AttrSet}
+use Rattle.attr_kit.specs.Keeping.{kept}
+use Rattle.point_kit.specs.declared.shape.Shape.{Shape}
+use Rattle.point_kit.specs.declared.shape.Shape.TheVariants as shapes
+use Rattle.point_kit.specs.declared.stream.Stream.{Stream}
+use Rattle.plan_kit.specs.Plans.{Planned, Source, AreFeeds, feeds_of, rises, stream_of}
+use Rattle.plan_kit.specs.declared.feed.Feed.{Feed}
+use Rattle.agg_kit.specs.Absorbs.{absorb, places}
+use Rattle.agg_kit.specs.Entries.{Entry, Arrivals, arrivals, brought}
+use Rattle.agg_kit.specs.Feeding.{set_eq, overflow_set, placed, fed}
+use Rattle.agg_kit.specs.Feeds.{entries_of, series_at, shape_at}
+use Rattle.agg_kit.specs.Laws.{is_gauge}
+use Rattle.agg_kit.specs.Measuring.{after_measure, empty_tally, fault_of, points_after, series_after}
+use Rattle.agg_kit.specs.Recorders.{whole_round, Holds, OnlyRises, keeps_set, keeps_sets, keep_sets, record_fault_of, told, absorbed, AreApart, RecordersHold, AbsorbingIsRecording}
+use Rattle.agg_kit.specs.Rounds.{points_of, round, StandsFor}
+use Rattle.agg_kit.specs.Sound.{AreOnce}
+use Rattle.agg_kit.specs.Steps.{Stored, own_count, held, place, add_under, step}
+use Rattle.agg_kit.specs.Tallies.{Points, Tallied}
+use Rattle.agg_kit.specs.declared.fault.MeasureFault.{MeasureFault}
+use Rattle.agg_kit.specs.declared.fault.RecordFault.{RecordFault}
+use Rattle.agg_kit.specs.declared.fault.RecordFault.TheVariants as record_faults
+use Rattle.agg_kit.proofs.Absorbs.{points_absorbed}
+use Rattle.agg_kit.proofs.Distinct.{same, itself}
+use Rattle.agg_kit.proofs.Points.{points-push}
+use Rattle.agg_kit.proofs.Records.{entries-read}
+use Rattle.agg_kit.proofs.Rounds.{got, there, within, at-enumerated, length-round, round-at, round-none, shape-is, arrivals-append, arrivals-push, brought-none, length-after, at-after}
+use Rattle.agg_kit.proofs.Steps.{place-held, place-room}
+
+-- ---- the round without a limit
+
+length-whole : (p : Planned) (h : List Entry) → length (whole_round p h) ≡ length p.streams
+unfolding whole_round
+length-whole p h = length-map (enumerate_from 0 p.streams) (λ s. points_of s.1.shape (arrivals p s.0 h)) ∙ length-enumerate_from 0 p.streams
+
+at-whole : (p : Planned) (h : List Entry) (m : ℕ) (s : Stream) → stream_of p m ≡ Some s → series_at (whole_round p h) m ≡ points_of s.shape (arrivals p m h)
+unfolding whole_round
+at-whole p h m s e =
+    let z : 0 + m ≡ m = omega arith in
+    got (whole_round p h) m _ [] (at-enumerated (λ s. points_of s.1.shape (arrivals p s.0 h)) 0 p.streams m s e) ∙ ap (λ k. points_of s.shape (arrivals p k h)) z
+
+whole-at : (p : Planned) (h : List Entry) (m : ℕ) → m < length p.streams → series_at (whole_round p h) m ≡ points_of (shape_at p m) (arrivals p m h)
+whole-at p h m l =
+    let t = there p.streams m l in
+    at-whole p h m t.0 t.1 ∙ ap (λ (s : Shape). points_of s (arrivals p m h)) (sym (shape-is p m t.0 t.1))
+
+-- no recordings come to no points, with a limit and without
+whole-none : (p : Planned) → whole_round p [] ≡ replicate (length p.streams) []
+unfolding whole_round
+whole-none p = each p.streams 0
+  where
+    each : (ss : List Stream) (n : ℕ) → map (λ s. points_of s.1.shape (arrivals p s.0 [])) (enumerate_from n ss) ≡ replicate (length ss) []
+    each [] n = refl
+    each (s ∷ ss) n = ap (λ l. [] ∷ l) (each ss (n + 1))
+
+pub holds-none : (p : Planned) → Holds (empty_tally p) []
+holds-none p = round-none p ∙ sym (whole-none p)
+
+pub none-at : (n m : ℕ) → series_at (replicate n []) m ≡ []
+none-at zero m = refl
+none-at (suc n) zero = refl
+none-at (suc n) (suc m) = none-at n m
+
+pub rises-none : (p : Planned) → OnlyRises (empty_tally p)
+rises-none p m h = ap (λ ss. series_at ss m) (round-none p) ∙ none-at (length p.streams) m
+
+-- ---- one more recording
+
+both : (b c : Bool) → (b && c) ≡ true → (b ≡ true) × (c ≡ true)
+both true c h = (refl, h)
+both false c h = absurd (true≢false (sym h))
+
+keeps-first : (p : Planned) (a : AttrSet) (ss : List Points) (f : Feed) (fs : List Feed) → list_all (keeps_set p a ss) (f ∷ fs) ≡ true → keeps_set p a ss f ≡ true
+keeps-first p a ss f fs h = (both (keeps_set p a ss f) (list_all (keeps_set p a ss) fs) h).0
+
+keeps-rest : (p : Planned) (a : AttrSet) (ss : List Points) (f : Feed) (fs : List Feed) → list_all (keeps_set p a ss) (f ∷ fs) ≡ true → list_all (keeps_set p a ss) fs ≡ true
+keeps-rest p a ss f fs h = (both (keeps_set p a ss f) (list_all (keeps_set p a ss) fs) h).1
+
+-- the parts of what a feed keeps
+keeps-rises : (p : Planned) (a : AttrSet) (ss : List Points) (f : Feed) → keeps_set p a ss f ≡ true → rises (shape_at p f.stream) ≡ true
+keeps-rises p a ss f h = (both (rises (shape_at p f.stream)) (set_eq (place p.limit (series_at ss f.stream) (kept f.keep a)) (kept f.keep a)) h).0
+
+keeps-place : (p : Planned) (a : AttrSet) (ss : List Points) (f : Feed) → keeps_set p a ss f ≡ true → place p.limit (series_at ss f.stream) (kept f.keep a) ≡ kept f.keep a
+keeps-place p a ss f h =
+    same (place p.limit (series_at ss f.stream) (kept f.keep a)) (kept f.keep a)
+    (both (rises (shape_at p f.stream)) (set_eq (place p.limit (series_at ss f.stream) (kept f.keep a)) (kept f.keep a)) h).1
+
+-- what a feed with a stream of its own brings to the points of a list
+more-held : (p : Planned) (n m : ℕ) (ss : List Points) (xs : Arrivals) (fs : List Feed) (a : AttrSet) (v : ℤ) → AreFeeds n fs → series_at ss m ≡ points_of (shape_at p m) xs → list_all (keeps_set p a ss) fs ≡ true
+    → points_after (shape_at p m) p.limit (points_of (shape_at p m) xs) (brought m fs a v) ≡ points_of (shape_at p m) (xs ++ brought m fs a v)
+more-held p n m ss xs [] a v fit at keeps = ap (points_of (shape_at p m)) (nil xs)
+  where
+    nil : (xs : Arrivals) → xs ≡ xs ++ []
+    nil [] = refl
+    nil (x ∷ xs) = ap (λ l. x ∷ l) (nil xs)
+more-held p n m ss xs (f ∷ fs) a v fit at keeps = by (f.stream == m) refl (more-held p n m ss xs fs a v fit.2 at (keeps-rest p a ss f fs keeps))
+  where
+    shape : Shape
+    shape = shape_at p m
+
+    set : AttrSet
+    set = kept f.keep a
+
+    all : Bool → Arrivals
+    all b = map (λ f. (kept f.keep a, v)) (cond b (f ∷ filter (λ f. f.stream == m) fs) (filter (λ f. f.stream == m) fs))
+
+    goes : f.stream ≡ m → place p.limit (points_of shape xs) set ≡ set
+    goes e = ap (λ (es : Points). place p.limit es set) (sym (ap (series_at ss) e ∙ at)) ∙ keeps-place p a ss f (keeps-first p a ss f fs keeps)
+
+    by : (b : Bool) → (f.stream == m) ≡ b → points_after shape p.limit (points_of shape xs) (brought m fs a v) ≡ points_of shape (xs ++ brought m fs a v)
+        → points_after shape p.limit (points_of shape xs) (all b) ≡ points_of shape (xs ++ all b)
+    by true e rest =
+        let is : f.stream ≡ m = (unsigned_Decides f.stream m).0 e in
+        let none : brought m fs a v ≡ [] = subst (λ (k : ℕ). brought k fs a v ≡ []) is (brought-none f.stream fs a v fit.1) in
+        subst (λ (l : Arrivals). points_after shape p.limit (step shape p.limit (points_of shape xs) set v) l ≡ points_of shape (xs ++ (set, v) ∷ l)) (sym none)
+        (ap (λ (b : AttrSet). add_under shape (points_of shape xs) b v) (goes is) ∙ sym (points-push shape xs set v))
+    by false e rest = rest
+
+keeps-all : (r : Tallied) (e : Entry) → record_fault_of r e ≡ None → keeps_sets r e ≡ true
+keeps-all r e = by (keeps_sets r e)
+  where
+    by : (b : Bool) → (if b then option_map told (fault_of r e) else Some record_faults.Full) ≡ None → b ≡ true
+    by true h = refl
+    by false h = absurd (cc)
+
+pub recorders_hold : RecordersHold
+recorders_hold r k e fit holds fine =
+    let p = r.plan in
+    ext_get_or [] (series_after r e) (whole_round p (k ++ e ∷ []))
+    (length-after r e ∙ sym (length-whole p (k ++ e ∷ [])))
+    (λ m l.
+    let l' : m < length p.streams = subst (λ (n : ℕ). m < n) (length-after r e) l in
+    let at : series_at r.series m ≡ points_of (shape_at p m) (arrivals p m k) = ap (λ ss. series_at ss m) holds ∙ whole-at p k m l' in
+    at-after r e m l'
+    ∙ ap (λ (es : Points). points_after (shape_at p m) p.limit es (brought m (feeds_of p e.instrument) e.attrs e.value)) at
+    ∙ more-held p (length p.streams) m r.series (arrivals p m k) (feeds_of p e.instrument) e.attrs e.value fit at (keeps-all r e fine)
+    ∙ ap (points_of (shape_at p m)) (sym (arrivals-push p m k e))
+    ∙ sym (whole-at p (k ++ e ∷ []) m l'))
+
+-- a stream that does not only rise takes none
+falls-none : (p : Planned) (m : ℕ) (ss : List Points) (fs : List Feed) (a : AttrSet) (v : ℤ) → list_all (keeps_set p a ss) fs ≡ true → rises (shape_at p m) ≡ false → brought m fs a v ≡ []
+falls-none p m ss [] a v keeps h = refl
+falls-none p m ss (f ∷ fs) a v keeps h = by (f.stream == m) refl (falls-none p m ss fs a v (keeps-rest p a ss f fs keeps) h)
+  where
+    all : Bool → Arrivals
+    all b = map (λ f. (kept f.keep a, v)) (cond b (f ∷ filter (λ f. f.stream == m) fs) (filter (λ f. f.stream == m) fs))
+
+    by : (b : Bool) → (f.stream == m) ≡ b → brought m fs a v ≡ [] → all b ≡ []
+    by true e rest = absurd (true≢false (sym (keeps-rises p a ss f (keeps-first p a ss f fs keeps)) ∙ ap (λ n. rises (shape_at p n)) ((unsigned_Decides f.stream m).0 e) ∙ h))
+    by false e rest = rest
+
+beyond : (xs : List Points) (m n : ℕ) → length xs ≡ n → n ≤ m → series_at xs m ≡ []
+beyond [] m n e h = refl
+beyond (x ∷ xs) zero n e h = absurd (omega (arith, e, h))
+beyond (x ∷ xs) (suc m) zero e h = absurd (omega (arith, e))
+beyond (x ∷ xs) (suc m) (suc n) e h = beyond xs m n (omega (arith, e)) (omega (arith, h))
+
+pub rises-still : (r : Tallied) (e : Entry) → keeps_sets r e ≡ true → OnlyRises r → (m : ℕ) → rises (shape_at r.plan m) ≡ false → series_at (series_after r e) m ≡ []
+rises-still r e keeps only m h = by (nat_lt m (length p.streams)) refl
+  where
+    p : Planned
+    p = r.plan
+
+    by : (b : Bool) → nat_lt m (length p.streams) ≡ b → series_at (series_after r e) m ≡ []
+    by true l =
+        at-after r e m (ltb-true m (length p.streams) l)
+        ∙ ap (points_after (shape_at p m) p.limit (series_at r.series m)) (falls-none p m r.series (feeds_of p e.instrument) e.attrs e.value keeps h)
+        ∙ only m h
+    by false l = beyond (series_after r e) m (length p.streams) (length-after r e) (ltb-false m (length p.streams) l)
+
+pub rises-either : {T E : Type 0} (r : Result T E) (t n : Tallied) (e : Entry) → OnOk r (n ≡ after_measure t e) → OnErr r (n ≡ t) → keeps_sets t e ≡ true → OnlyRises t → OnlyRises n
+rises-either (Ok x) t n e now was keeps only = subst OnlyRises (sym now) (rises-still t e keeps only)
+rises-either (Err x) t n e now was keeps only = subst OnlyRises (sym was) only
+
+-- ---- what a recorder looks at
+
+-- a set goes to its own point where there is room, and where it has one or is the overflow set
+pub place-roomy : (limit : ℕ) (es : Points) (a : AttrSet) → own_count es < limit → place limit es a ≡ a
+place-roomy limit es a l = by (held es a) refl
+  where
+    by : (b : Bool) → held es a ≡ b → place limit es a ≡ a
+    by true h = place-held limit es a h
+    by false h = place-room limit es a h l
+
+pub place-own : (limit : ℕ) (es : Points) (a : AttrSet) → (held es a || set_eq overflow_set a) ≡ true → place limit es a ≡ a
+place-own limit es a h = by (held es a) refl h
+  where
+    either : (b : Bool) → overflow_set ≡ a → (if b then a else overflow_set) ≡ a
+    either true e = refl
+    either false e = e
+
+    by : (b : Bool) → held es a ≡ b → (b || set_eq overflow_set a) ≡ true → place limit es a ≡ a
+    by true k o = place-held limit es a k
+    by false k o = either (held es a || nat_lt (own_count es) limit) (same overflow_set a o)
+
+-- a feed keeps its set, by the points of its stream as they were read
+pub keeps-here : (p : Planned) (f : Feed) (a : AttrSet) (ss : List Stored) (s : Stored) → f.stream < length ss → s ≡ get_or ss f.stream s → rises (shape_at p f.stream) ≡ true
+    → place p.limit s.entries (kept f.keep a) ≡ kept f.keep a → keeps_set p a (entries_of ss) f ≡ true
+keeps-here p f a ss s l was up goes =
+    ap (λ (es : Points). rises (shape_at p f.stream) && set_eq (place p.limit es (kept f.keep a)) (kept f.keep a)) (entries-read ss f.stream s l was)
+    ∙ ap (λ b. b && set_eq (place p.limit s.entries (kept f.keep a)) (kept f.keep a)) up
+    ∙ ap (λ (x : AttrSet). set_eq x (kept f.keep a)) goes
+    ∙ itself (kept f.keep a)
+
+pub keeps-more : (p : Planned) (a : AttrSet) (ss : List Stored) (f : Feed) (fs all : List Feed) → all ≡ f ∷ fs → keeps_set p a (entries_of ss) f ≡ true → keep_sets p fs a ss ≡ keep_sets p all a ss
+keeps-more p a ss f fs all is h = sym (ap (λ (l : List Feed). keep_sets p l a ss) is ∙ ap (λ b. b && keep_sets p fs a ss) h)
+
+pub if_ok : {T E : Type 0} (P Q : T → Type 0) (r : Result T E) → ((x : T) → P x → Q x) → IfOk r P → IfOk r Q
+if_ok P Q (Ok x) f p = f x p
+if_ok P Q (Err e) f p = tt
+
+pub feeds-gone : (p : Planned) (i : ℕ) → (i < length p.instruments → ⊥) → feeds_of p i ≡ []
+feeds-gone p i n = by (slice_get p.instruments i) refl
+  where
+    by : (o : Option Source) → slice_get p.instruments i ≡ o → option_map_or (λ (s : Source). s.feeds) o [] ≡ []
+    by None e = refl
+    by (Some s) e = absurd (n (within p.instruments i s e))
+
+pub record-full : (r : Tallied) (e : Entry) → keeps_sets r e ≡ false → record_fault_of r e ≡ Some record_faults.Full
+record-full r e h = ap (λ b. if b then option_map told (fault_of r e) else Some record_faults.Full) h
+
+pub record-told : (r : Tallied) (e : Entry) (o : Option MeasureFault) → keeps_sets r e ≡ true → fault_of r e ≡ o → record_fault_of r e ≡ option_map told o
+record-told r e o h f = ap (λ b. if b then option_map told (fault_of r e) else Some record_faults.Full) h ∙ ap (option_map told) f
+
+-- ---- a tally that takes a recorder in
+
+length-absorbed : (limit : ℕ) (ess mss : List Points) → length (absorbed limit ess mss) ≡ length ess
+length-absorbed limit [] mss = refl
+length-absorbed limit (es ∷ ess) [] = refl
+length-absorbed limit (es ∷ ess) (ms ∷ mss) = ap suc (length-absorbed limit ess mss)
+
+at-absorbed : (limit : ℕ) (ess mss : List Points) (m : ℕ) → m < length ess → m < length mss → series_at (absorbed limit ess mss) m ≡ absorb limit (series_at ess m) (series_at mss m)
+at-absorbed limit [] mss m k l = absurd (omega (arith, k))
+at-absorbed limit (es ∷ ess) [] m k l = absurd (omega (arith, l))
+at-absorbed limit (es ∷ ess) (ms ∷ mss) zero k l = refl
+at-absorbed limit (es ∷ ess) (ms ∷ mss) (suc m) k l = at-absorbed limit ess mss m (omega (arith, k)) (omega (arith, l))
+
+at-stream : (p : Planned) (h : List Entry) (m : ℕ) (s : Stream) → stream_of p m ≡ Some s → series_at (round p h) m ≡ points_of s.shape (placed p.limit (arrivals p m h))
+unfolding fed
+at-stream p h m s e = got (round p h) m _ [] (round-at p h m s e)
+
+-- each stream by itself
+stream-absorbed : (p : Planned) (ess mss : List Points) (h k : List Entry) (m : ℕ) (s : Stream) → stream_of p m ≡ Some s → ess ≡ round p h → mss ≡ whole_round p k → AreApart p ess mss
+    → absorb p.limit (series_at ess m) (series_at mss m) ≡ series_at (round p (h ++ k)) m
+stream-absorbed p ess mss h k m s e x y o =
+    let a : series_at ess m ≡ points_of s.shape (placed p.limit (arrivals p m h)) = ap (λ l. series_at l m) x ∙ at-stream p h m s e in
+    let b : series_at mss m ≡ points_of s.shape (arrivals p m k) = ap (λ l. series_at l m) y ∙ at-whole p k m s e in
+    (λ i. absorb p.limit (a i) (b i))
+    ∙ points_absorbed s.shape p.limit (arrivals p m h) (arrivals p m k) (λ g. subst AreOnce (λ i. places p.limit (a i) (b i)) (o m s e g))
+    ∙ ap (λ l. points_of s.shape (placed p.limit l)) (sym (arrivals-append p m h k))
+    ∙ sym (at-stream p (h ++ k) m s e)
+
+all-absorbed : (p : Planned) (ess mss : List Points) (h k : List Entry) → ess ≡ round p h → mss ≡ whole_round p k → AreApart p ess mss → absorbed p.limit ess mss ≡ round p (h ++ k)
+all-absorbed p ess mss h k x y o =
+    let long : length ess ≡ length p.streams = ap length x ∙ length-round p h in
+    let wide : length mss ≡ length p.streams = ap length y ∙ length-whole p k in
+    let all = length-absorbed p.limit ess mss in
+    ext_get_or [] (absorbed p.limit ess mss) (round p (h ++ k))
+    (all ∙ long ∙ sym (length-round p (h ++ k)))
+    (λ m l.
+    let l' : m < length ess = subst (λ (n : ℕ). m < n) all l in
+    let l'' : m < length p.streams = subst (λ (n : ℕ). m < n) long l' in
+    let s = there p.streams m l'' in
+    at-absorbed p.limit ess mss m l' (subst (λ (n : ℕ). m < n) (sym wide) l'')
+    ∙ stream-absorbed p ess mss h k m s.0 s.1 x y o)
+
+gauges-fall : (shape : Shape) → is_gauge shape ≡ true → rises shape ≡ false
+gauges-fall (shapes.Sum m) h = absurd (true≢false (sym h))
+gauges-fall shapes.Gauge h = refl
+gauges-fall (shapes.Histogram bounds) h = absurd (true≢false (sym h))
+
+pub absorbing_is_recording : AbsorbingIsRecording
+absorbing_is_recording t r h k alike only stands holds =
+    all-absorbed t.plan t.series r.series h k stands (holds ∙ ap (λ (p : Planned). whole_round p k) alike)
+    (λ m s e g.
+    let falls : rises (shape_at r.plan m) ≡ false = ap (λ (p : Planned). rises (shape_at p m)) alike ∙ ap rises (shape-is t.plan m s e) ∙ gauges-fall s.shape g in
+    subst (λ ms. AreOnce (places t.plan.limit (series_at t.series m) ms)) (sym (only m falls)) tt)

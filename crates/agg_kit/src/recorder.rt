@@ -1,0 +1,131 @@
+//! Recorders: a thread's own tally, which another tally takes in.
+ghost use Rattle.std.specs.Prelude.{◌≡◌, ◌≢◌, ◌↔◌, length, Some, None, IfOk, IfErr, OnOk, OnErr, IsOk, IsTrue};
+ghost use Rattle.plan_kit.specs.Plans.{AreFeeds, rises};
+ghost use Rattle.agg_kit.specs.Entries.{entry_of};
+ghost use Rattle.agg_kit.specs.Feeding.{overflow_set};
+ghost use Rattle.agg_kit.specs.Feeds.{IsHeld, AreHeld};
+ghost use Rattle.agg_kit.specs.Measuring.{after_measure, empty_tally};
+ghost use Rattle.agg_kit.specs.Recorders.{keep_sets, record_fault_of, OnlyRises};
+
+use crate::recording::{chosen, restricted, shape_of};
+use crate::series::Series;
+use crate::{RecordFault, Tally};
+use attr_kit::{AttrSet, NoMemory};
+use plan_kit::{Feed, Plan};
+use point_kit::Shape;
+use std::alloc::Global;
+use std::marker::Model;
+
+/// A thread's own tally, of counters and histograms: what it records needs no lock. That a tally of the same plan with what it
+/// holds is as if each recording had been measured there, [`crate::absorbing_is_recording`] says; no call takes one in yet.
+///
+/// A recorder lets no set go to the overflow set by the limit: where it has points of their own for as many sets of a stream as
+/// the limit says, it refuses another by `Full`, and so it does where a sum of its own would leave its range and for
+/// instruments with a stream that does not only rise. A recorder that is dropped loses what it holds.
+#[derive(Drop)]
+pub struct Recorder {
+    pub(crate) tally: Tally,
+}
+
+impl Model for Recorder {
+    ghost use Rattle.agg_kit.specs.Tallies.{Tallied};
+    ghost use Rattle.agg_kit.specs.Recorders.{OnlyRises};
+
+    ghost Value = { Tallied };
+
+    ghost view = { λ r. r.tally };
+
+    ghost invariant = { λ r. OnlyRises r.tally };
+}
+
+impl Recorder {
+    /// A recorder of a plan, which holds nothing. O(size of the plan).
+    pub fn new(alloc: Global, plan: &Plan) -> Result<Recorder, NoMemory>
+        ensures value { IfOk result (λ recorder. recorder ≡ empty_tally plan.now) }
+    {
+        let tally = Tally::new(alloc, plan.try_copy()?)?;
+        Ok(Recorder { tally })
+    }
+
+    /// Records a value in the stream of every feed of the instrument, or in none.
+    ///
+    /// Refuses, in this order: `Full` where a feed's stream does not only rise, or has no point for the set and no room for one
+    /// of its own; `NoInstrument`; `Negative`; `Full` where a sum or count would leave its range. O(feeds of the instrument).
+    pub fn measure(
+        &mut self,
+        instrument: usize,
+        attrs: &AttrSet,
+        value: i64,
+    ) -> Result<(), RecordFault>
+        ensures ok { OnOk result (record_fault_of self.old (entry_of instrument attrs.now value) ≡ None) }
+        ensures value { OnOk result (self.new ≡ after_measure self.old (entry_of instrument attrs.now value)) }
+        ensures err { IfErr result (λ f. f ≢ RecordFault.NoMemory → record_fault_of self.old (entry_of instrument attrs.now value) ≡ Some f) }
+        ensures held { IsHeld self.old (entry_of instrument attrs.now value) → IfErr result (λ f. f ≢ RecordFault.NoMemory) }
+        ensures unchanged { OnErr result (self.new ≡ self.old) }
+    {
+        if !self.tally.keeps_sets(instrument, attrs)? {
+            return Err(RecordFault::Full);
+        }
+        match self.tally.measure(instrument, attrs, value) {
+            Ok(()) => Ok(()),
+            Err(fault) => Err(RecordFault::from(fault)),
+        }
+    }
+
+    /// Whether it holds no recordings. O(streams), takes no memory.
+    pub fn is_empty(&self) -> bool
+        ensures { IsTrue result ↔ (self.now ≡ empty_tally self.now.plan) }
+    {
+        self.tally.is_empty()
+    }
+
+    /// The plan. Takes no memory.
+    pub fn plan(&self) -> &Plan
+        ensures value { result.now ≡ self.now.plan }
+        // No stream that does not only rise has points.
+        ensures rising { OnlyRises self.now }
+    {
+        self.tally.plan()
+    }
+}
+
+// Whether the totals of a shape only rise.
+fn only_rises(shape: &Shape) -> bool
+    ensures { result ≡ rises shape.now }
+{
+    match shape {
+        Shape::Sum { monotonic } => *monotonic,
+        Shape::Gauge => false,
+        Shape::Histogram { .. } => true,
+    }
+}
+
+/// Whether each feed's stream only rises, and has a point of its own for the set that the feed keeps, or room for one.
+pub(crate) fn keep_each(
+    plan: &Plan,
+    overflow: &AttrSet,
+    series: &Vec<Series>,
+    feeds: &[Feed],
+    attrs: &AttrSet,
+) -> Result<bool, NoMemory>
+    requires overflow { overflow.now ≡ overflow_set }
+    requires feeds { AreFeeds (length series.now.items) feeds.now }
+    requires long { length series.now.items ≡ length plan.now.streams }
+    ensures value { IfOk result (λ keeps. keeps ≡ keep_sets plan.now feeds.now attrs.now series.now.items) }
+    ensures held { AreHeld plan.now feeds.now attrs.now series.now.items → IsOk result }
+{
+    let Some((feed, rest)) = feeds.split_first() else {
+        return Ok(true);
+    };
+    if !only_rises(shape_of(plan, feed.stream)) {
+        return Ok(false);
+    }
+    let points = &series[feed.stream];
+    if !points.has_room(plan.limit()) {
+        let only = restricted(attrs, &feed.keep)?;
+        if !points.has_own(overflow, chosen(&only, attrs)) {
+            return Ok(false);
+        }
+    }
+    keep_each(plan, overflow, series, rest, attrs)
+}

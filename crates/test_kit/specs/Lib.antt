@@ -1,0 +1,3 @@
+pub mod Defaults
+pub mod Failing
+pub mod Texts
