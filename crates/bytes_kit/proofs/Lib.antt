@@ -4,6 +4,7 @@ pub mod Gathering
 pub mod MessageSealing
 pub mod Refusing
 pub mod Sealing
+pub mod Sharing
 pub mod Soundness
 pub mod Staying
 pub mod Tags

@@ -33,7 +33,8 @@ pub(crate) enum Carried {
 
 /// The form of a body.
 pub(crate) fn write_body(body: &Body, out: &mut Vec<u8>) -> Result<(), NoMemory>
-    ensures written { OnOk result (out.new.items ≡ out.old.items ++ carried (carried_of (cells_of body.now) (delta_of body.now) (ack_of body.now))) }
+    ensures written { OnOk result
+        (out.new.items ≡ out.old.items ++ carried (carried_of (cells_of body.now) (delta_of body.now) (ack_of body.now))) }
     ensures value { OnOk result (IsCarried (carried_of (cells_of body.now) (delta_of body.now) (ack_of body.now))) }
     ensures one { IsOneOf (cells_of body.now) (delta_of body.now) (ack_of body.now) }
 {

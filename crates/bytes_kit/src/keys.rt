@@ -145,7 +145,8 @@ fn read_rest(
 ) -> Result<Key, DecodeFault>
     ensures ok { IfOk result (λ k. reader.old.rest ≡ key_rest shared k ++ reader.new.rest) }
     ensures inherits { IfOk result (Inherits (key_before before.entry) shared) }
-    ensures err { IfErr result (λ f. f ≢ faults.NoMemory → NoneAt (key_rest shared) (IsKeyLike (key_before before.entry) shared) reader.old.rest) }
+    ensures err { IfErr result
+        (λ f. f ≢ faults.NoMemory → NoneAt (key_rest shared) (IsKeyLike (key_before before.entry) shared) reader.old.rest) }
     ensures end { reader.new.end ≡ reader.old.end }
     ensures fault { IfErr result (IsReadFault reader.old.end) }
 {

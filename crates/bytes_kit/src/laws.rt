@@ -22,7 +22,8 @@ pub fn one_form()
 
 /// Messages of the same bytes are equal, as every message carries no cells or is no Ack.
 pub fn one_message_form()
-    ensures { (a b : MessageView) → IsOneOf a.points a.delta a.ack → IsOneOf b.points b.delta b.ack → bytes_of_message a ≡ bytes_of_message b → a ≡ b }
+    ensures { (a b : MessageView) → IsOneOf a.points a.delta a.ack → IsOneOf b.points b.delta b.ack
+        → bytes_of_message a ≡ bytes_of_message b → a ≡ b }
 {}
 
 /// Cells that came by exports are sound, and stay so in gateways that join them and in messages that carry them. So each

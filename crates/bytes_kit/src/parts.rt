@@ -177,9 +177,14 @@ impl Piece for SharedStream {
     }
 
     fn read(reader: &mut Reader<'_>) -> Result<SharedStream, DecodeFault> {
+        if let Some(stream) = reader.again()? {
+            return Ok(stream);
+        }
+        let before = reader.rest();
         let alloc = reader.alloc();
-        let stream = Stream::read(reader)?;
-        Ok(SharedStream::new(alloc, stream)?)
+        let stream = SharedStream::new(alloc, Stream::read(reader)?)?;
+        reader.keep(stream.try_copy()?, before);
+        Ok(stream)
     }
 
     ghost is_code = { stream_code };
