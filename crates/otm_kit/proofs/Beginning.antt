@@ -24,6 +24,15 @@ pub record AreOf (d : Declared) (is : List Instrument) (vs : List View) (limit :
   pub views : vs ≡ d.views
   pub limited : limit ≡ limit_of d
 
+-- those of a draft's parts are those of what it declares
+pub are_of : (d parts : Declared) (is : List Instrument) (vs : List View) (limit : ℕ) → parts ≡ d
+    → is ≡ parts.instruments → vs ≡ parts.views → limit ≡ limit_of parts → AreOf d is vs limit
+are_of d parts is vs limit same i v l = record {
+  instruments = i ∙ ap (λ (p : Declared). p.instruments) same;
+  views = v ∙ ap (λ (p : Declared). p.views) same;
+  limited = l ∙ ap limit_of same;
+}
+
 fault_is : (d : Declared) (is : List Instrument) (vs : List View) (limit : ℕ) → AreOf d is vs limit → plan_fault is vs limit ≡ plan_fault d.instruments d.views (limit_of d)
 fault_is d is vs limit a = λ i. plan_fault (a.instruments i) (a.views i) (a.limited i)
 

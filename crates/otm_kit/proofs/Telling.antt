@@ -10,10 +10,11 @@ use Rattle.script_kit.specs.Bytes.{AppendsFront}
 use Rattle.script_kit.specs.Lines.{line_of}
 use Rattle.script_kit.specs.Reasons.{sentence_of}
 use Rattle.script_kit.specs.Words.{pieces_of, is_filled}
+use Rattle.script_kit.specs.declared.fault.ScriptFault.TheVariants as faults
 use Rattle.script_kit.specs.declared.line.Line.{Line}
 use Rattle.otm_kit.specs.Effects.{Effect, done, bad}
 use Rattle.otm_kit.specs.Says.{Said, Wrong, said, says, wrong_of, bad_line_of, reason_of, sentence_for, behind, then_says, piece_effect, lines_of, effect_text}
-use Rattle.otm_kit.specs.Standing.{Does, Fails, IsAfter, Tells, TellsOf}
+use Rattle.otm_kit.specs.Standing.{Does, Fails, FailsNext, IsAfter, Tells, TellsOf}
 use Rattle.otm_kit.specs.declared.desk.Desk.{Desk}
 use Rattle.otm_kit.specs.declared.ended.Ended.{Ended}
 use Rattle.script_kit.specs.declared.reason.Reason.TheVariants as reason
@@ -155,3 +156,24 @@ said_so script w (Some text) is h = ap (option_map (λ (v : Wrong). sentence_of 
 -- what an end tells of a bad line it tells of the script
 pub tells_of : (script : List ℕ) (end : Ended) (w : Wrong) → wrong_of script ≡ Some w → Tells end w.line w.reason → TellsOf end script
 tells_of script end w is t = (t.reason ∙ sym (ap (option_map (λ (v : Wrong). v.reason)) is), said_so script w end.sentence is t.sentence)
+
+-- what a run wrote that ended at a bad line, which line it is, and what its end tells
+pub record EndsBad (script : List ℕ) (old new : Option (List ℕ)) (end : Ended) (n : ℕ) : Type 0 where
+  pub said : Appends old new (says script)
+  pub at : bad_line_of script ≡ Some n
+  pub tells : TellsOf end script
+
+-- the next line ends the run
+pub ends_bad : (script : List ℕ) (old mid new : Option (List ℕ)) (desk : Desk) (number : ℕ) (rest piece after : List ℕ) (last end : Ended) (n : ℕ)
+    → (t : Told script old mid desk number rest) → pieces_of rest ≡ piece ∷ pieces_of after → last ≡ end
+    → ((k : ℕ) → last.fault ≡ faults.BadLine k → k ≡ number) → ((k : ℕ) → last.fault ≡ faults.BadLine k → FailsNext desk piece mid new last)
+    → end.fault ≡ faults.BadLine n → EndsBad script old new end n
+ends_bad script old mid new desk number rest piece after last end n t cut same numbered failing is =
+    let fault : last.fault ≡ faults.BadLine n = ap (λ (e : Ended). e.fault) same ∙ is in
+    let fails = failing n fault (lines_of t.before) t.stands in
+    let wrong = told_bad script old mid new desk number rest piece after t cut last fails in
+    record {
+      said = wrong.0;
+      at = ap (option_map (λ (w : Wrong). w.number)) wrong.1 ∙ ap (λ (k : ℕ). Some k) (sym (numbered n fault));
+      tells = subst (λ (e : Ended). TellsOf e script) same (tells_of script last _ wrong.1 fails.tells);
+    }

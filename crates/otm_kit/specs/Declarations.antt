@@ -81,10 +81,24 @@ abbrev pub named_at : Declaration → ℕ
 named_at (declaration.Limit limit) = 0
 named_at _ = 1
 
+-- with one instrument more, under its label
+abbrev pub with_instrument : Declared → List ℕ → Instrument → Declared
+with_instrument d label instrument = record d {
+  instrument_labels = d.instrument_labels ++ label ∷ [];
+  instruments = d.instruments ++ instrument ∷ [];
+}
+
+-- with one writer more, under its label
+abbrev pub with_writer : Declared → List ℕ → WriterId → ℕ → Declared
+with_writer d label id start = record d {
+  writer_labels = d.writer_labels ++ label ∷ [];
+  writers = d.writers ++ (id, start) ∷ [];
+}
+
 -- with one declaration more
 unfoldable pub with_declaration : Declared → Declaration → Declared
-with_declaration d (declaration.Instrument label instrument) = record d { instrument_labels = d.instrument_labels ++ label ∷ []; instruments = d.instruments ++ instrument ∷ [] }
+with_declaration d (declaration.Instrument label instrument) = with_instrument d label instrument
 with_declaration d (declaration.View view) = record d { views = d.views ++ view ∷ [] }
-with_declaration d (declaration.Writer label id start) = record d { writer_labels = d.writer_labels ++ label ∷ []; writers = d.writers ++ (id, start) ∷ [] }
+with_declaration d (declaration.Writer label id start) = with_writer d label id start
 with_declaration d (declaration.Gateway id) = record d { gateways = d.gateways ++ id ∷ [] }
 with_declaration d (declaration.Limit limit) = record d { limit = Some limit }

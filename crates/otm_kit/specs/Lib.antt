@@ -11,3 +11,4 @@ pub mod Effects
 pub mod Says
 pub mod Places
 pub mod Standing
+pub mod Ends

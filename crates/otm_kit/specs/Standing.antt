@@ -1,6 +1,7 @@
 -- What the parts of a running script stand for.
 use Rattle.std.specs.Prelude.{◌≡◌, ℕ, List, [], ◌∷◌, ◌++◌, true, false, Option, None, Some, Result, Ok, Err, IfSome, String, string_bytes}
 use Rattle.std.specs.Io.KnownBytes.{Appends}
+use Rattle.script_kit.specs.Bytes.{AppendsFront}
 use Rattle.script_kit.specs.Lines.{line_of}
 use Rattle.script_kit.specs.Reasons.{sentence_of}
 use Rattle.script_kit.specs.declared.line.Command.{Command}
@@ -13,7 +14,7 @@ use Rattle.otm_kit.specs.Declarations.{Declared, declared_by, gateway_place}
 use Rattle.otm_kit.specs.Effects.{Effect, done, bad, effect_of, has_begun}
 use Rattle.otm_kit.specs.Events.{commands, happened}
 use Rattle.otm_kit.specs.Places.{Knows}
-use Rattle.otm_kit.specs.Says.{piece_effect, reason_of, sentence_for}
+use Rattle.otm_kit.specs.Says.{effect_text, piece_effect, reason_of, sentence_for}
 use Rattle.otm_kit.specs.declared.desk.Desk.{Desk}
 use Rattle.otm_kit.specs.declared.desk.Outcome.{Outcome}
 use Rattle.otm_kit.specs.declared.desk.Outcome.TheVariants as out
@@ -91,6 +92,18 @@ pub record Fails (before : List Line) (piece : List ℕ) (old new : Option (List
   pub tells : Tells end piece why
   pub effect : piece_effect before piece ≡ bad printed why
   pub appends : Appends old new printed
+
+-- a desk stands for lines, and behind them a piece is done
+abbrev pub DoesNext : Desk → List ℕ → Option (List ℕ) → Option (List ℕ) → Desk → Type 0
+DoesNext desk piece old new after = (before : List Line) → IsAfter before desk → Does before piece old new after
+
+-- behind them a piece is bad
+abbrev pub FailsNext : Desk → List ℕ → Option (List ℕ) → Option (List ℕ) → Ended → Type 0
+FailsNext desk piece old new end = (before : List Line) → IsAfter before desk → Fails before piece old new end
+
+-- a front is written of what a piece prints behind them
+abbrev pub BreaksOff : Desk → List ℕ → Option (List ℕ) → Option (List ℕ) → Type 0
+BreaksOff desk piece old new = (before : List Line) → IsAfter before desk → AppendsFront old new (effect_text (piece_effect before piece))
 
 -- a text is printed, or a line is bad; of want of memory nothing is said
 abbrev pub Prints : {Z : Type 0} → Result (String Z) Stop → Result (List ℕ) Reason → Type 0

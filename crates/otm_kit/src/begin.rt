@@ -1,9 +1,7 @@
 //! How a script begins.
 ghost use Rattle.std.specs.Prelude.{◌≡◌, ◌≢◌, [], map, IfOk, IfErr, OnOk, None, Some};
-ghost use Rattle.std.specs.Option.{option_map};
-ghost use Rattle.otm_kit.specs.Begin.{begin_fault, setup_of, with_plan};
+ghost use Rattle.otm_kit.specs.Begin.{begin_fault, plan_refusal, with_plan, world_refusal};
 ghost use Rattle.otm_kit.specs.Standing.{Runs};
-ghost use Rattle.otm_kit.specs.declared.begin.BeginFault.TheVariants as faults;
 ghost use Rattle.plan_kit.specs.Feeds.{plan_of};
 ghost use Rattle.plan_kit.specs.PlanFaults.{plan_fault};
 ghost use Rattle.world_kit.specs.Building.{setup_fault};
@@ -96,7 +94,8 @@ pub(crate) fn begin(alloc: Global, draft: Draft) -> Result<Running, BeginFault>
     )?;
     let gateway_ids = GatewayIds::build(alloc, gateways.as_slice())?;
     let writers = writers_of(alloc, &plan, writers)?;
-    let world = world(alloc, writers, Seq::from_vec(gateways))?;
+    let gateways = Seq::from_vec(gateways);
+    let world = world(alloc, Setup { writers, gateways })?;
     Ok(Running {
         world,
         instruments: instrument_labels,
@@ -113,7 +112,7 @@ fn plan(
 ) -> Result<Plan, BeginFault>
     ensures ok { OnOk result (plan_fault instruments views limit ≡ None) }
     ensures value { IfOk result (λ plan. plan ≡ plan_of instruments views limit) }
-    ensures err { IfErr result (λ fault. fault ≢ BeginFault.NoMemory → option_map (λ f. faults.Plan f) (plan_fault instruments views limit) ≡ Some fault) }
+    ensures err { IfErr result (λ fault. fault ≢ BeginFault.NoMemory → plan_refusal instruments views limit ≡ Some fault) }
 {
     match Plan::build(alloc, instruments, views, limit) {
         Ok(plan) => Ok(plan),
@@ -141,12 +140,12 @@ fn writers_of(
     Ok(Seq::from_vec(setups))
 }
 
-fn world(alloc: Global, writers: Seq<WriterSetup>, gateways: Seq<u32>) -> Result<World, BeginFault>
-    ensures ok { OnOk result (setup_fault (record { writers = writers; gateways = gateways }) ≡ None) }
-    ensures value { IfOk result (λ world. Stands (record { writers = writers; gateways = gateways }) [] world) }
-    ensures err { IfErr result (λ fault. fault ≢ BeginFault.NoMemory → option_map (λ f. faults.World f) (setup_fault (record { writers = writers; gateways = gateways })) ≡ Some fault) }
+fn world(alloc: Global, setup: Setup) -> Result<World, BeginFault>
+    ensures ok { OnOk result (setup_fault setup ≡ None) }
+    ensures value { IfOk result (λ world. Stands setup [] world) }
+    ensures err { IfErr result (λ fault. fault ≢ BeginFault.NoMemory → world_refusal setup ≡ Some fault) }
 {
-    match World::new(alloc, Setup { writers, gateways }) {
+    match World::new(alloc, setup) {
         Ok(world) => Ok(world),
         Err(SetupFault::NoMemory) => Err(BeginFault::NoMemory),
         Err(fault) => Err(BeginFault::World(fault)),

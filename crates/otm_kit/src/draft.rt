@@ -1,6 +1,6 @@
 //! What a script declared so far.
-ghost use Rattle.std.specs.Prelude.{◌≡◌, ◌++◌, ◌∷◌, [], IfOk, not, is_none, if◌then◌else◌};
-ghost use Rattle.otm_kit.specs.Declarations.{declared_by, is_taken, label_place, named_at, with_declaration};
+ghost use Rattle.std.specs.Prelude.{◌≡◌, [], IfOk, not, is_none, if◌then◌else◌};
+ghost use Rattle.otm_kit.specs.Declarations.{declared_by, is_taken, label_place, named_at, with_declaration, with_instrument, with_writer};
 
 use crate::labels::Labels;
 use attr_kit::{NoMemory, Txt};
@@ -94,7 +94,7 @@ impl Draft {
 
     fn declare_instrument(&mut self, label: Txt, instrument: Instrument) -> Result<bool, NoMemory>
         ensures added { IfOk result (λ added. added ≡ is_none (label_place self.old.instrument_labels label)) }
-        ensures value { IfOk result (λ added. self.new ≡ (if added then record self.old { instrument_labels = self.old.instrument_labels ++ label ∷ []; instruments = self.old.instruments ++ instrument ∷ [] } else self.old)) }
+        ensures value { IfOk result (λ added. self.new ≡ (if added then with_instrument self.old label instrument else self.old)) }
     {
         if !self.instrument_labels.add(label)? {
             return Ok(false);
@@ -105,7 +105,7 @@ impl Draft {
 
     fn declare_writer(&mut self, label: Txt, id: WriterId, start: u64) -> Result<bool, NoMemory>
         ensures added { IfOk result (λ added. added ≡ is_none (label_place self.old.writer_labels label)) }
-        ensures value { IfOk result (λ added. self.new ≡ (if added then record self.old { writer_labels = self.old.writer_labels ++ label ∷ []; writers = self.old.writers ++ (id, start) ∷ [] } else self.old)) }
+        ensures value { IfOk result (λ added. self.new ≡ (if added then with_writer self.old label id start else self.old)) }
     {
         if !self.writer_labels.add(label)? {
             return Ok(false);

@@ -1,11 +1,11 @@
 //! The totals of a fleet.
-ghost use Rattle.std.specs.Prelude.{◌≡◌, ◌≤◌, ◌*◌, IfOk, IsErrOf, OnErr, OnOk, string_bytes};
+ghost use Rattle.std.specs.Prelude.{◌≡◌, ◌≤◌, IfOk, IsErrOf, OnErr, OnOk, string_bytes};
 ghost use Rattle.std.specs.Io.KnownBytes.{Appends};
 ghost use Rattle.std.specs.List.{flat_map};
 ghost use Rattle.rollup_kit.specs.Rollups.{rollup_rows};
 ghost use Rattle.script_kit.specs.Bytes.{AppendsFront};
 ghost use Rattle.otm_kit.specs.Asked.{IsCount};
-ghost use Rattle.otm_kit.specs.FleetTexts.{fleet_text, sum_in, total_line};
+ghost use Rattle.otm_kit.specs.FleetTexts.{answer_line, report, sum_in, total_line};
 
 use crate::FleetEnd;
 use crate::fleet_setup::{ask, setup};
@@ -52,7 +52,7 @@ fn line(alloc: Global, id: u32, sum: i128) -> Result<String, NoMemory>
 
 // A line for each gateway.
 fn lines(alloc: Global, gateways: &[Gateway], ask: &Ask) -> Result<String, NoMemory>
-    ensures { IfOk result (λ text. string_bytes text ≡ flat_map (λ g. total_line g.id (sum_in (rollup_rows ask.now g.points))) gateways.now) }
+    ensures { IfOk result (λ text. string_bytes text ≡ flat_map (answer_line ask.now) gateways.now) }
 {
     let mut text = String::new(alloc);
     for gateway in gateways {
@@ -71,7 +71,7 @@ fn told<R: Threads + Wait + Sync>(
     each: u64,
     gateways: u8,
 ) -> Result<String, FleetEnd>
-    ensures ok { IfOk result (λ text. string_bytes text ≡ fleet_text gateways (writers * recorders * each)) }
+    ensures value { IfOk result (λ text. string_bytes text ≡ report writers recorders each gateways) }
     ensures unwritten { IsErrOf result FleetEnd.WriteFault → ⊥ }
 {
     let setup = setup(alloc, writers, recorders, each, gateways)?;
@@ -101,8 +101,8 @@ pub fn fleet_report<R: Threads + Wait + Sync, W: Write>(
     requires recorders { IsCount recorders }
     requires each { each ≤ 1000000 }
     requires gateways { IsCount gateways }
-    ensures ok { OnOk result (Appends (W.contents writer.old) (W.contents writer.new) (fleet_text gateways (writers * recorders * each))) }
-    ensures front { OnErr result (AppendsFront (W.contents writer.old) (W.contents writer.new) (fleet_text gateways (writers * recorders * each))) }
+    ensures ok { OnOk result (Appends (W.contents writer.old) (W.contents writer.new) (report writers recorders each gateways)) }
+    ensures front { OnErr result (AppendsFront (W.contents writer.old) (W.contents writer.new) (report writers recorders each gateways)) }
 {
     let text = told(rt, alloc, writers, recorders, each, gateways)?;
     match write_text(writer, text.as_bytes()) {

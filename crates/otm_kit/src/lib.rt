@@ -1,13 +1,18 @@
 //! The program of scripts: what a command line asks for, and what a script does.
 //!
-//! `run_script` reads a script of instruments, views, writers and gateways, of events and of queries, and writes what it
-//! says; `command_line::asked` reads the words of a command line. What a script says is a definition (specs `Says`): the
-//! effect of each line is read off the lines before it (specs `Declarations`, `Events`, `Effects`, `Answers`, `Texts`), and
-//! the world of the script is that of its accepted events (`world_kit`). Every line of the grammar of `script_kit` is done;
-//! mails carry what changed, and a delta is answered by a mail.
-//! `fleet_report` runs a fleet of threads and writes the total of each gateway, which is the number of all recordings (specs
-//! `FleetSetups`, `FleetTexts`).
-//! Scripts and fleets are the kit's own; the OpenTelemetry specification has neither.
+//! - [`run_script`] reads a script and writes what its lines say. [`run_script_told`] tells besides, in an [`Ended`], why a bad
+//!   line is bad.
+//! - [`command_line::asked`] reads the words of a command line: what is [`Asked`], or a [`LineFault`].
+//! - [`fleet_report`] runs a fleet of threads and writes the total of each gateway, which is the number of all recordings. A
+//!   [`FleetEnd`] says why it wrote none.
+//!
+//!     run_script(alloc, &mut reader, &mut writer)?;
+//!
+//! What a script says is a definition (specs `Says`): the effect of each line is read off the lines before it (specs
+//! `Declarations`, `Events`, `Effects`, `Answers`, `Texts`), and the world of the script is that of its accepted events
+//! (`world_kit`). Every line of the grammar of `script_kit` is done; mails carry what changed, and a delta is answered by a mail.
+//! What contracts cite besides stands in `Ends` (what a run has written where it ends), `FleetSetups` and `FleetTexts`. Scripts
+//! and fleets are the kit's own; the OpenTelemetry specification has neither.
 #![tactic(auto)]
 
 mod answers;

@@ -1,9 +1,11 @@
 //! Scripts from their first line to their last.
-ghost use Rattle.std.specs.Prelude.{◌≡◌, ◌+◌, ◌<◌, ◌≤◌, length, IfErr, OnOk, OnErr, IfSome, IsErrOf, None, Some, string_bytes};
+ghost use Rattle.std.specs.Prelude.{◌≡◌, ◌+◌, ◌≤◌, length, IfErr, OnOk, OnErr, IfSome, IsErrOf, None, Some};
 ghost use Rattle.std.specs.Io.KnownBytes.{Appends, Keeps};
 ghost use Rattle.script_kit.specs.Bytes.{AppendsFront, ReadsUpTo};
-ghost use Rattle.otm_kit.specs.Says.{bad_line_of, effect_text, piece_effect, reason_of, says, sentence_for};
-ghost use Rattle.otm_kit.specs.Standing.{Does, Fails, IsAfter, Tells, TellsOf};
+ghost use Rattle.script_kit.specs.declared.fault.ScriptFault.TheVariants.{BadLine};
+ghost use Rattle.otm_kit.specs.Ends.{AtBadLine, HasAtMost, HasMoreThan, Writes, WritesFront};
+ghost use Rattle.otm_kit.specs.Says.{bad_line_of, says};
+ghost use Rattle.otm_kit.specs.Standing.{BreaksOff, DoesNext, FailsNext, Tells, TellsOf};
 
 use crate::desk::{Desk, Outcome};
 use crate::ended::Ended;
@@ -33,10 +35,10 @@ fn do_line<W: Write>(
     text: &[u8],
     writer: &mut W,
 ) -> Result<(), Ended>
-    ensures ok { OnOk result ((before : _) → IsAfter before desk.old → Does before text.now (W.contents writer.old) (W.contents writer.new) desk.new) }
-    ensures number { IfErr result (λ end. (n : _) → end.fault ≡ ScriptFault.BadLine n → n ≡ number) }
-    ensures bad { IfErr result (λ end. (n : _) → end.fault ≡ ScriptFault.BadLine n → (before : _) → IsAfter before desk.old → Fails before text.now (W.contents writer.old) (W.contents writer.new) end) }
-    ensures front { OnErr result ((before : _) → IsAfter before desk.old → AppendsFront (W.contents writer.old) (W.contents writer.new) (effect_text (piece_effect before text.now))) }
+    ensures ok { OnOk result (DoesNext desk.old text.now (W.contents writer.old) (W.contents writer.new) desk.new) }
+    ensures number { AtBadLine result (λ _ n. n ≡ number) }
+    ensures bad { AtBadLine result (λ end _. FailsNext desk.old text.now (W.contents writer.old) (W.contents writer.new) end) }
+    ensures front { OnErr result (BreaksOff desk.old text.now (W.contents writer.old) (W.contents writer.new)) }
     ensures read_fault { IfErr result (λ end. end.fault ≡ ScriptFault.ReadFault → ⊥) }
     ensures too_long { IfErr result (λ end. end.fault ≡ ScriptFault.TooLong → ⊥) }
 {
@@ -63,9 +65,9 @@ fn run_lines<W: Write>(alloc: Global, script: &[u8], writer: &mut W) -> Result<(
     requires { length script.now ≤ MAX_BYTES }
     ensures ok { OnOk result (Appends (W.contents writer.old) (W.contents writer.new) (says script.now)) }
     ensures whole { OnOk result (bad_line_of script.now ≡ None) }
-    ensures bad { IfErr result (λ end. (n : _) → end.fault ≡ ScriptFault.BadLine n → Appends (W.contents writer.old) (W.contents writer.new) (says script.now)) }
-    ensures bad_line { IfErr result (λ end. (n : _) → end.fault ≡ ScriptFault.BadLine n → bad_line_of script.now ≡ Some n) }
-    ensures tells { IfErr result (λ end. (n : _) → end.fault ≡ ScriptFault.BadLine n → TellsOf end script.now) }
+    ensures bad { AtBadLine result (λ _ _. Appends (W.contents writer.old) (W.contents writer.new) (says script.now)) }
+    ensures bad_line { AtBadLine result (λ _ n. bad_line_of script.now ≡ Some n) }
+    ensures tells { AtBadLine result (λ end _. TellsOf end script.now) }
     ensures front { OnErr result (AppendsFront (W.contents writer.old) (W.contents writer.new) (says script.now)) }
     ensures read_fault { IfErr result (λ end. end.fault ≡ ScriptFault.ReadFault → ⊥) }
     ensures too_long { IfErr result (λ end. end.fault ≡ ScriptFault.TooLong → ⊥) }
@@ -95,21 +97,21 @@ pub fn run_script_told<R: Read, W: Write>(
     reader: &mut R,
     writer: &mut W,
 ) -> Result<(), Ended>
-    ensures ok { OnOk result (IfSome (R.remaining reader.old) (λ script. Appends (W.contents writer.old) (W.contents writer.new) (says script))) }
+    ensures ok { OnOk result (Writes (R.remaining reader.old) (W.contents writer.old) (W.contents writer.new)) }
     ensures whole { OnOk result (IfSome (R.remaining reader.old) (λ script. bad_line_of script ≡ None)) }
-    ensures bad { IfErr result (λ end. (n : _) → end.fault ≡ ScriptFault.BadLine n → IfSome (R.remaining reader.old) (λ script. Appends (W.contents writer.old) (W.contents writer.new) (says script))) }
-    ensures bad_line { IfErr result (λ end. (n : _) → end.fault ≡ ScriptFault.BadLine n → IfSome (R.remaining reader.old) (λ script. bad_line_of script ≡ Some n)) }
-    ensures tells { IfErr result (λ end. (n : _) → end.fault ≡ ScriptFault.BadLine n → IfSome (R.remaining reader.old) (TellsOf end)) }
-    ensures front { OnErr result (IfSome (R.remaining reader.old) (λ script. AppendsFront (W.contents writer.old) (W.contents writer.new) (says script))) }
+    ensures bad { AtBadLine result (λ _ _. Writes (R.remaining reader.old) (W.contents writer.old) (W.contents writer.new)) }
+    ensures bad_line { AtBadLine result (λ _ n. IfSome (R.remaining reader.old) (λ script. bad_line_of script ≡ Some n)) }
+    ensures tells { AtBadLine result (λ end _. IfSome (R.remaining reader.old) (TellsOf end)) }
+    ensures front { OnErr result (WritesFront (R.remaining reader.old) (W.contents writer.old) (W.contents writer.new)) }
     ensures unread { IfErr result (λ end. end.fault ≡ ScriptFault.ReadFault → Keeps (W.contents writer.old) (W.contents writer.new)) }
     ensures long { IfErr result (λ end. end.fault ≡ ScriptFault.TooLong → Keeps (W.contents writer.old) (W.contents writer.new)) }
-    ensures too_long { IfErr result (λ end. end.fault ≡ ScriptFault.TooLong → IfSome (R.remaining reader.old) (λ script. MAX_BYTES < length script)) }
+    ensures too_long { IfErr result (λ end. end.fault ≡ ScriptFault.TooLong → HasMoreThan MAX_BYTES (R.remaining reader.old)) }
 
     // No more is read than a byte past the greatest length, and no line of a longer script is done.
     ensures few { ReadsUpTo (R.remaining reader.old) (R.remaining reader.new) (MAX_BYTES + 1) }
-    ensures small { OnOk result (IfSome (R.remaining reader.old) (λ script. length script ≤ MAX_BYTES)) }
-    ensures bad_small { IfErr result (λ end. (n : _) → end.fault ≡ ScriptFault.BadLine n → IfSome (R.remaining reader.old) (λ script. length script ≤ MAX_BYTES)) }
-    ensures cut_small { IfErr result (λ end. end.fault ≡ ScriptFault.WriteFault → IfSome (R.remaining reader.old) (λ script. length script ≤ MAX_BYTES)) }
+    ensures small { OnOk result (HasAtMost MAX_BYTES (R.remaining reader.old)) }
+    ensures bad_small { AtBadLine result (λ _ _. HasAtMost MAX_BYTES (R.remaining reader.old)) }
+    ensures cut_small { IfErr result (λ end. end.fault ≡ ScriptFault.WriteFault → HasAtMost MAX_BYTES (R.remaining reader.old)) }
 {
     let script = read_script(alloc, reader)?;
     run_lines(alloc, script.as_slice(), writer)
@@ -128,20 +130,20 @@ pub fn run_script<R: Read, W: Write>(
     reader: &mut R,
     writer: &mut W,
 ) -> Result<(), ScriptFault>
-    ensures ok { OnOk result (IfSome (R.remaining reader.old) (λ script. Appends (W.contents writer.old) (W.contents writer.new) (says script))) }
+    ensures ok { OnOk result (Writes (R.remaining reader.old) (W.contents writer.old) (W.contents writer.new)) }
     ensures whole { OnOk result (IfSome (R.remaining reader.old) (λ script. bad_line_of script ≡ None)) }
-    ensures bad { (n : _) → IsErrOf result (ScriptFault.BadLine n) → IfSome (R.remaining reader.old) (λ script. Appends (W.contents writer.old) (W.contents writer.new) (says script)) }
-    ensures bad_line { (n : _) → IsErrOf result (ScriptFault.BadLine n) → IfSome (R.remaining reader.old) (λ script. bad_line_of script ≡ Some n) }
-    ensures front { OnErr result (IfSome (R.remaining reader.old) (λ script. AppendsFront (W.contents writer.old) (W.contents writer.new) (says script))) }
+    ensures bad { (n : _) → IsErrOf result (BadLine n) → Writes (R.remaining reader.old) (W.contents writer.old) (W.contents writer.new) }
+    ensures bad_line { (n : _) → IsErrOf result (BadLine n) → IfSome (R.remaining reader.old) (λ script. bad_line_of script ≡ Some n) }
+    ensures front { OnErr result (WritesFront (R.remaining reader.old) (W.contents writer.old) (W.contents writer.new)) }
     ensures unread { IsErrOf result ScriptFault.ReadFault → Keeps (W.contents writer.old) (W.contents writer.new) }
     ensures long { IsErrOf result ScriptFault.TooLong → Keeps (W.contents writer.old) (W.contents writer.new) }
-    ensures too_long { IsErrOf result ScriptFault.TooLong → IfSome (R.remaining reader.old) (λ script. MAX_BYTES < length script) }
+    ensures too_long { IsErrOf result ScriptFault.TooLong → HasMoreThan MAX_BYTES (R.remaining reader.old) }
 
     // No more is read than a byte past the greatest length, and no line of a longer script is done.
     ensures few { ReadsUpTo (R.remaining reader.old) (R.remaining reader.new) (MAX_BYTES + 1) }
-    ensures small { OnOk result (IfSome (R.remaining reader.old) (λ script. length script ≤ MAX_BYTES)) }
-    ensures bad_small { (n : _) → IsErrOf result (ScriptFault.BadLine n) → IfSome (R.remaining reader.old) (λ script. length script ≤ MAX_BYTES) }
-    ensures cut_small { IsErrOf result ScriptFault.WriteFault → IfSome (R.remaining reader.old) (λ script. length script ≤ MAX_BYTES) }
+    ensures small { OnOk result (HasAtMost MAX_BYTES (R.remaining reader.old)) }
+    ensures bad_small { (n : _) → IsErrOf result (BadLine n) → HasAtMost MAX_BYTES (R.remaining reader.old) }
+    ensures cut_small { IsErrOf result ScriptFault.WriteFault → HasAtMost MAX_BYTES (R.remaining reader.old) }
 {
     match run_script_told(alloc, reader, writer) {
         Ok(()) => Ok(()),

@@ -41,7 +41,7 @@ module _ {K V : Type 0} {R : K → K → Ordering} (o : IsTotalOrder R) (anti : 
   present z None h = absurd (true≢false (sym h))
   present z (Some v) h = refl
 
-  absent : (x : Option V) → is_some x ≡ false → x ≡ None
+  pub absent : (x : Option V) → is_some x ≡ false → x ≡ None
   absent None h = refl
   absent (Some v) h = absurd (true≢false h)
 

@@ -2,12 +2,9 @@
 use Rattle.std.proofs.Common.{◌≡◌, ℕ, ℤ, Bool, true, false, cond, ◌&&◌, T, List, [], ◌∷◌, map, filter, Option, Some, None, refl, sym, ap, subst, ◌∙◌}
 use Rattle.std.specs.BTreeMap.{is_at}
 use Rattle.std.specs.Cmp.{IsTotalOrder, Equal-is}
-use Rattle.std.specs.List.{AllByRecursion}
-use Rattle.std.specs.List.Sorted.{IsStrictlySortedBy}
-use Rattle.std.specs.Map.{keys_of, lookup}
+use Rattle.std.specs.Map.{lookup}
 use Rattle.std.specs.Option.{option_map}
 use Rattle.std.specs.declared.cmp.Ordering.{Ordering}
-use Rattle.std.specs.declared.cmp.Ordering.TheVariants.{Less}
 use Rattle.std.specs.Ordering.{eq_by_cmp, is_lt}
 use Rattle.std.specs.FinMap as finmap
 use Rattle.std.specs.FinMap.{FinMap, IsAntisymmetric, entries, entries_sorted, from_sorted, entries-from_sorted, get-from_sorted, get-from_entries, get-entries, same_map}
@@ -26,32 +23,18 @@ use Rattle.rollup_kit.specs.Rollups.{newest, total_of, row_of, rollup_rows}
 use Rattle.rollup_kit.specs.Standing.{grouped, row_among, is_row, Stands}
 use Rattle.rollup_kit.specs.Walks.{Rows, buckets_of, total_read, row_read}
 use Rattle.rollup_kit.specs.declared.ask.Ask.{Ask}
-use Rattle.rollup_kit.specs.declared.row.Row.{Row}
 use Rattle.rollup_kit.proofs.SetOrders.{sets_total, sets_exact}
-
-both_true : (a b : Bool) → a ≡ true → b ≡ true → (a && b) ≡ true
-both_true true b p q = q
-both_true false b p q = p
 
 as_T : {b : Bool} → b ≡ true → T b
 as_T e = subst T (sym e) tt
 
-so : (b : Bool) → T b → b ≡ true
+pub so : (b : Bool) → T b → b ≡ true
 so true h = refl
 so false h = absurd h
 
--- entries that an ordered tree holds
+-- a look-up by an order
 module _ {K V : Type 0} (R : K → K → Ordering) where
-  all_below : (x : K) (es : List (K × V)) → AllByRecursion (λ y. R x y ≡ Less) (keys_of es) → below_all R x es ≡ true
-  all_below x [] h = refl
-  all_below x (e ∷ es) h = both_true _ _ (ap is_lt h.0) (all_below x es h.1)
-
-  in_order : (es : List (K × V)) → IsStrictlySortedBy R (keys_of es) → is_sorted R es ≡ true
-  unfolding IsStrictlySortedBy
-  in_order [] h = refl
-  in_order (e ∷ es) h = both_true _ _ (all_below e.0 es h.0) (in_order es h.1)
-
-  find-lookup : (q : K) (es : List (K × V)) → find R q es ≡ lookup (is_at (R q)) es
+  pub find-lookup : (q : K) (es : List (K × V)) → find R q es ≡ lookup (is_at (R q)) es
   find-lookup q [] = refl
   find-lookup q (e ∷ es) = ap (cond (is_at (R q) e.0) (Some e.1)) (find-lookup q es)
 
@@ -96,7 +79,7 @@ total_same (shapes.Histogram bounds) row value = refl
 map_same : {A B : Type 0} (f g : A → B) → ((x : A) → f x ≡ g x) → (xs : List A) → map f xs ≡ map g xs
 map_same f g h xs = λ i. map (λ x. h x i) xs
 
-pub answered : (ask : Ask) (state : FinMap key_cmp (Cell Payload)) (groups : Rows) → IsStrictlySortedBy attributes_cmp (keys_of groups) → Stands ask (buckets_of ask.stream.shape) (entries state) groups
+pub answered : (ask : Ask) (state : FinMap key_cmp (Cell Payload)) (groups : Rows) → is_sorted attributes_cmp groups ≡ true → Stands ask (buckets_of ask.stream.shape) (entries state) groups
     → map (λ e. row_read ask.stream.shape e.0 e.1) groups ≡ rollup_rows ask state
 unfolding rollup_rows
 answered ask state groups ordered stands =
@@ -109,7 +92,7 @@ answered ask state groups ordered stands =
     find-lookup attributes_cmp q groups ∙ stands q
     ∙ elim (is_row ask cells q) as (λ b. cond b (Some (grouped n (row_among ask cells q) (newest ask cells q))) None ≡ option_map (read q) (cond b (Some (row_among ask cells q)) None)) [ true ↦ refl | false ↦ refl ]
     ∙ sym (ap (option_map (read q)) (has q)) in
-    ap (map (λ e. row_read ask.stream.shape e.0 e.1)) (mapped_entries sets_total sets_exact read groups m (in_order attributes_cmp groups ordered) found)
+    ap (map (λ e. row_read ask.stream.shape e.0 e.1)) (mapped_entries sets_total sets_exact read groups m ordered found)
     ∙ map-reads sets_total sets_exact read (row_read ask.stream.shape) (entries m)
     ∙ map_same (λ e. row_read ask.stream.shape e.0 (read e.0 e.1)) (λ e. row_of ask e.0 e.1 (newest ask cells e.0))
     (λ e i. record { attrs = e.0; total = total_same ask.stream.shape e.1 (newest ask cells e.0) i; points = e.1.points; conflicts = e.1.conflicts }) (entries m)

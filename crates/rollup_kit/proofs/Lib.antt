@@ -9,6 +9,7 @@ pub mod FedMixed
 pub mod FedPast
 pub mod Filtered
 pub mod Fleets
+pub mod Indexed
 mod Joined
 pub mod Missing
 pub mod NamedValues
@@ -25,6 +26,7 @@ pub mod RowsMixed
 pub mod SetOrders
 pub mod Shown
 pub mod Snoc
+pub mod SortedRows
 pub mod Steps
 pub mod ValueLaws
 pub mod Walked

@@ -1,5 +1,5 @@
 -- A group that is found at its place.
-use Rattle.std.proofs.Common.{◌≡◌, ℕ, true, cond, ◌&&◌, List, map, Option, Some, is_some, unwrap_or, slice_get, sym, ap, subst, ◌∙◌}
+use Rattle.std.proofs.Common.{◌≡◌, ℕ, true, cond, ◌&&◌, List, map, Some, is_some, unwrap_or, slice_get, sym, ap, subst, ◌∙◌}
 use Rattle.std.proofs.lemmas.Map.Entries.{hash_map_get_place}
 use Rattle.std.proofs.lemmas.Option.{slice_get-map}
 use Rattle.std.specs.Map.{values_of}

@@ -13,6 +13,7 @@ pub mod Asks
 pub mod Counts
 pub mod Fleets
 pub mod Groups
+pub mod Indexed
 pub mod Limits
 pub mod Naming
 pub mod Newest

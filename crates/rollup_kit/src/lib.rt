@@ -17,8 +17,8 @@ mod ask;
 mod buckets;
 mod group;
 mod groups;
-mod guesses;
 mod kept;
+mod kept_rows;
 mod laws;
 mod query;
 mod quote;
@@ -29,6 +29,7 @@ mod span;
 mod table_text;
 #[cfg(test)]
 mod tests;
+mod whole_rows;
 
 pub use ask::Ask;
 pub use laws::{fleets_answer_for_jobs, points_add_up, rows_are_recorded, rows_go_by_entries};

@@ -9,7 +9,7 @@ ghost use Rattle.rollup_kit.specs.Standing.{StandsFor};
 ghost use Rattle.rollup_kit.specs.Walks.{Rows};
 ghost use Rattle.rollup_kit.specs.Rollups.{rollup_rows};
 
-use crate::groups::groups_of;
+use crate::groups::{groups_of, in_order};
 use crate::rows::{buckets_for, rows_of};
 use crate::{Ask, Row};
 use attr_kit::{NoMemory, Seq};
@@ -48,5 +48,5 @@ pub fn rollup(alloc: Global, gateway: &Gateway, ask: &Ask) -> Result<Seq<Row>, N
     let _points = gateway.len();
     let buckets = buckets_for(&ask.stream.shape);
     let groups = groups_of(alloc, buckets, ask, asked_points(gateway, ask))?;
-    rows_of(alloc, &ask.stream.shape, groups)
+    rows_of(alloc, &ask.stream.shape, in_order(groups)?)
 }

@@ -1,7 +1,5 @@
 //! The rows of a roll-up, of its groups.
 ghost use Rattle.std.specs.Prelude.{◌≡◌, IfOk, map};
-ghost use Rattle.std.specs.BTreeMap.{IsOrdered};
-ghost use Rattle.rollup_kit.specs.Asks.{attributes_cmp};
 ghost use Rattle.rollup_kit.specs.Walks.{buckets_of, row_read};
 
 use crate::Row;
@@ -9,7 +7,6 @@ use crate::group::Group;
 use attr_kit::{AttrSet, NoMemory, Seq};
 use point_kit::Shape;
 use std::alloc::Global;
-use std::collections::BTreeMap;
 
 /// How many buckets a row has: for a histogram one more than bounds.
 pub(crate) fn buckets_for(shape: &Shape) -> usize
@@ -21,14 +18,13 @@ pub(crate) fn buckets_for(shape: &Shape) -> usize
     }
 }
 
-/// The groups as rows, in the order of their sets.
+/// The groups as rows, in their order.
 pub(crate) fn rows_of(
     alloc: Global,
     shape: &Shape,
-    groups: BTreeMap<AttrSet, Group>,
+    groups: Vec<(AttrSet, Group)>,
 ) -> Result<Seq<Row>, NoMemory>
-    ensures ordered { IsOrdered attributes_cmp groups }
-    ensures value { IfOk result (λ rows. rows ≡ map (λ e. row_read shape.now e.0 e.1) groups.entries) }
+    ensures { IfOk result (λ rows. rows ≡ map (λ e. row_read shape.now e.0 e.1) groups.items) }
 {
     let mut rows = Vec::with_capacity(alloc, groups.len())?;
     for (attrs, group) in groups {

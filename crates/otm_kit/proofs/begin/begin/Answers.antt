@@ -1,63 +1,42 @@
 use Rattle.std.proofs.Common.{◌≡◌, ◌∙◌, sym, ap, Some, ℕ, List, subst}
-use Rattle.std.specs.Prelude.{unwrap_or}
 use Rattle.std.proofs.lemmas.Result.{err_from_is_err_and}
-use Rattle.otm_kit.specs.Begin.{setup_of}
 use Rattle.otm_kit.specs.Declarations.{Declared}
 use Rattle.otm_kit.specs.Places.{Knows}
-use Rattle.otm_kit.proofs.Beginning.{AreOf, begin_from_plan, begin_from_world, begin_sound, setup_is, stands_first}
+use Rattle.otm_kit.proofs.Beginning.{are_of, begin_from_plan, begin_from_world, begin_sound, setup_is, stands_first}
 use Rattle.otm_kit.proofs.begin.begin.Goals as goal
 
 pub returns-in_err-plan-clause-err : goal.returns-in_err-plan-clause-err
 returns-in_err-plan-clause-err c =
     let dv = c.draft.view_is in
-    let of : AreOf c.args.draft c.from_vec.result c.from_vec-2.result c.unwrap_or.result = record {
-      instruments = c.from_vec.ensures ∙ ap (λ (d : Declared). d.instruments) dv;
-      views = c.from_vec-2.ensures ∙ ap (λ (d : Declared). d.views) dv;
-      limited = c.unwrap_or.ensures ∙ ap (λ (d : Declared). unwrap_or d.limit 2000) dv;
-    } in
+    let of = are_of c.args.draft _ _ _ _ dv c.from_vec.ensures c.from_vec-2.ensures c.unwrap_or.ensures in
     let p = err_from_is_err_and c.from_residual.result c.from_residual.ensures.1 in
     let told : c.in_err-plan.field-0.0 ≡ p.0 = cc in
-    rw p.1 (λ differs. begin_from_plan c.args.draft c.from_vec.result c.from_vec-2.result c.unwrap_or.result p.0 of (c.in_err-plan.ensures.err (λ e. differs (sym told ∙ e)) ∙ ap (λ f. Some f) told))
+    rw p.1 (λ differs. begin_from_plan c.args.draft _ _ _ p.0 of (c.in_err-plan.ensures.err (λ e. differs (sym told ∙ e)) ∙ ap (λ f. Some f) told))
 
 pub returns-in_err-world-clause-err : goal.returns-in_err-world-clause-err
 returns-in_err-world-clause-err c =
     let dv = c.draft.view_is in
-    let of : AreOf c.args.draft c.from_vec.result c.from_vec-2.result c.unwrap_or.result = record {
-      instruments = c.from_vec.ensures ∙ ap (λ (d : Declared). d.instruments) dv;
-      views = c.from_vec-2.ensures ∙ ap (λ (d : Declared). d.views) dv;
-      limited = c.unwrap_or.ensures ∙ ap (λ (d : Declared). unwrap_or d.limit 2000) dv;
-    } in
-    let gateways = c.from_vec-3.ensures ∙ ap (λ (d : Declared). d.gateways) dv in
-    let same : record { writers = c.in_ok-writers.writers; gateways = c.from_vec-3.result } ≡ setup_of c.args.draft =
-    setup_is c.args.draft c.from_vec.result c.from_vec-2.result c.unwrap_or.result c.in_ok-plan.plan c.draft.inside.writers.items c.in_ok-writers.writers c.from_vec-3.result of c.in_ok-plan.ensures.value c.in_ok-writers.ensures (ap (λ (d : Declared). d.writers) dv) gateways in
+    let of = are_of c.args.draft _ _ _ _ dv c.from_vec.ensures c.from_vec-2.ensures c.unwrap_or.ensures in
+    let gateways = c.from_vec-gateways.ensures ∙ ap (λ (d : Declared). d.gateways) dv in
+    let same = setup_is c.args.draft _ _ _ _ _ _ _ of c.in_ok-plan.ensures.value c.in_ok-writers.ensures (ap (λ (d : Declared). d.writers) dv) gateways in
     let p = err_from_is_err_and c.from_residual-in_err-world.result c.from_residual-in_err-world.ensures.1 in
     let told : c.in_err-world.field-0.0 ≡ p.0 = cc in
-    rw p.1 (λ differs. begin_from_world c.args.draft c.from_vec.result c.from_vec-2.result c.unwrap_or.result _ p.0 of c.in_ok-plan.ensures.ok same (c.in_err-world.ensures.err (λ e. differs (sym told ∙ e)) ∙ ap (λ f. Some f) told))
+    rw p.1 (λ differs. begin_from_world c.args.draft _ _ _ _ p.0 of c.in_ok-plan.ensures.ok same (c.in_err-world.ensures.err (λ e. differs (sym told ∙ e)) ∙ ap (λ f. Some f) told))
 
 pub returns-clause-ok : goal.returns-clause-ok
 returns-clause-ok c =
     let dv = c.draft.view_is in
-    let of : AreOf c.args.draft c.from_vec.result c.from_vec-2.result c.unwrap_or.result = record {
-      instruments = c.from_vec.ensures ∙ ap (λ (d : Declared). d.instruments) dv;
-      views = c.from_vec-2.ensures ∙ ap (λ (d : Declared). d.views) dv;
-      limited = c.unwrap_or.ensures ∙ ap (λ (d : Declared). unwrap_or d.limit 2000) dv;
-    } in
-    let gateways = c.from_vec-3.ensures ∙ ap (λ (d : Declared). d.gateways) dv in
-    let same : record { writers = c.in_ok-writers.writers; gateways = c.from_vec-3.result } ≡ setup_of c.args.draft =
-    setup_is c.args.draft c.from_vec.result c.from_vec-2.result c.unwrap_or.result c.in_ok-plan.plan c.draft.inside.writers.items c.in_ok-writers.writers c.from_vec-3.result of c.in_ok-plan.ensures.value c.in_ok-writers.ensures (ap (λ (d : Declared). d.writers) dv) gateways in
-    begin_sound c.args.draft c.from_vec.result c.from_vec-2.result c.unwrap_or.result _ of c.in_ok-plan.ensures.ok same c.in_ok-world.ensures.ok
+    let of = are_of c.args.draft _ _ _ _ dv c.from_vec.ensures c.from_vec-2.ensures c.unwrap_or.ensures in
+    let gateways = c.from_vec-gateways.ensures ∙ ap (λ (d : Declared). d.gateways) dv in
+    let same = setup_is c.args.draft _ _ _ _ _ _ _ of c.in_ok-plan.ensures.value c.in_ok-writers.ensures (ap (λ (d : Declared). d.writers) dv) gateways in
+    begin_sound c.args.draft _ _ _ _ of c.in_ok-plan.ensures.ok same c.in_ok-world.ensures.ok
 
 pub returns-clause-value : goal.returns-clause-value
 returns-clause-value c =
     let dv = c.draft.view_is in
-    let of : AreOf c.args.draft c.from_vec.result c.from_vec-2.result c.unwrap_or.result = record {
-      instruments = c.from_vec.ensures ∙ ap (λ (d : Declared). d.instruments) dv;
-      views = c.from_vec-2.ensures ∙ ap (λ (d : Declared). d.views) dv;
-      limited = c.unwrap_or.ensures ∙ ap (λ (d : Declared). unwrap_or d.limit 2000) dv;
-    } in
-    let gateways = c.from_vec-3.ensures ∙ ap (λ (d : Declared). d.gateways) dv in
-    let same : record { writers = c.in_ok-writers.writers; gateways = c.from_vec-3.result } ≡ setup_of c.args.draft =
-    setup_is c.args.draft c.from_vec.result c.from_vec-2.result c.unwrap_or.result c.in_ok-plan.plan c.draft.inside.writers.items c.in_ok-writers.writers c.from_vec-3.result of c.in_ok-plan.ensures.value c.in_ok-writers.ensures (ap (λ (d : Declared). d.writers) dv) gateways in
+    let of = are_of c.args.draft _ _ _ _ dv c.from_vec.ensures c.from_vec-2.ensures c.unwrap_or.ensures in
+    let gateways = c.from_vec-gateways.ensures ∙ ap (λ (d : Declared). d.gateways) dv in
+    let same = setup_is c.args.draft _ _ _ _ _ _ _ of c.in_ok-plan.ensures.value c.in_ok-writers.ensures (ap (λ (d : Declared). d.writers) dv) gateways in
     record {
       instruments = ap (λ (d : Declared). d.instrument_labels) dv;
       writers = ap (λ (d : Declared). d.writer_labels) dv;

@@ -3,13 +3,13 @@ use Rattle.gateway_kit.specs.View.{View}
 use Rattle.rollup_kit.specs.Rollups.{rollup_rows}
 use Rattle.rollup_kit.specs.declared.ask.Ask.{Ask}
 use Rattle.otm_kit.specs.FleetSetups.{fleet_ask}
-use Rattle.otm_kit.specs.FleetTexts.{fleet_text, sum_in, total_line}
+use Rattle.otm_kit.specs.FleetTexts.{answer_line, fleet_text, sum_in, total_line}
 use Rattle.otm_kit.proofs.FleetRows.{lines_are, total_is}
 use Rattle.otm_kit.proofs.fleet.told.Goals as goal
 
-pub returns-clause-ok : goal.returns-clause-ok
+pub returns-clause-value : goal.returns-clause-value
 unfolding fleet_text
-returns-clause-ok g c =
+returns-clause-value g c =
     let setup = c.in_ok-setup.ensures in
     let gateways = c.in_ok-gateways.gateways.items in
     let total = c.args.writers * c.args.recorders * c.args.each in
@@ -17,7 +17,7 @@ returns-clause-ok g c =
     let all : (k : ℕ) (v : View) → slice_get gateways k ≡ Some v → sum v ≡ pos total = λ k v at.
     ap sum_in (c.in_ok-gateways.ensures.rows k v at fleet_ask tt (inr (record { keep = refl; only = refl }))) ∙ total_is c.args.writers c.args.recorders c.args.each c.args.gateways c.in_ok-setup.setup setup in
     c.in_ok-lines.ensures
-    ∙ ap (λ (vs : List View). flat_map (λ v. total_line v.id (sum_in (rollup_rows c.in_ok-ask.ask v.points))) vs) c.as_slice.ensures.value
-    ∙ ap (λ (ask : Ask). flat_map (λ v. total_line v.id (sum_in (rollup_rows ask v.points))) gateways) c.in_ok-ask.ensures
+    ∙ ap (λ (vs : List View). flat_map (answer_line c.in_ok-ask.ask) vs) c.as_slice.ensures.value
+    ∙ ap (λ (ask : Ask). flat_map (answer_line ask) gateways) c.in_ok-ask.ensures
     ∙ lines_are sum total gateways all
     ∙ ap (flat_map (λ id. total_line id (pos total))) (c.in_ok-gateways.ensures.ids ∙ setup.gateways)

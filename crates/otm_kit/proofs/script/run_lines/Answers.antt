@@ -1,12 +1,10 @@
-use Rattle.std.proofs.Common.{◌≡◌, ◌∙◌, ap, sym, arith, rules, ℕ, Some, true, false, [], append-nil, subst}
+use Rattle.std.proofs.Common.{◌≡◌, ◌∙◌, ap, sym, arith, rules, ℕ, Some, true, false, [], append-nil}
 use Rattle.std.specs.Option.{option_map}
 use Rattle.std.proofs.lemmas.Result.{err_from_is_err_and}
 use Rattle.script_kit.specs.Words.{is_filled}
 use Rattle.script_kit.specs.declared.fault.ScriptFault.TheVariants as faults
 use Rattle.otm_kit.specs.Says.{Wrong, says, lines_of}
-use Rattle.otm_kit.specs.Standing.{TellsOf}
-use Rattle.otm_kit.specs.declared.ended.Ended.{Ended}
-use Rattle.otm_kit.proofs.Telling.{told_none, told_more, told_bad, told_front, told_end, told_cut, tells_of}
+use Rattle.otm_kit.proofs.Telling.{ends_bad, told_none, told_more, told_front, told_end, told_cut, tells_of}
 use Rattle.otm_kit.proofs.script.run_lines.Goals as goal
 
 pub loop-text-init : goal.loop-text-init
@@ -15,35 +13,23 @@ loop-text-init g c = record { few = omega arith; told = told_none c.args.script.
 pub returns-in_err-do_line-clause-bad : goal.returns-in_err-do_line-clause-bad
 returns-in_err-do_line-clause-bad g c =
     let p = err_from_is_err_and c.from_residual.result c.from_residual.ensures.1 in
+    let its = c.in_err-do_line.ensures in
     let told : c.in_err-do_line.field-0.0 ≡ p.0 = cc in
-    rw p.1 (λ n is.
-    let t = c.loop-text.invariant.told in
-    let fault : c.in_err-do_line.field-0.0.fault ≡ faults.BadLine n = ap (λ (e : Ended). e.fault) told ∙ is in
-    let fails = c.in_err-do_line.ensures.bad n fault (lines_of t.before) t.stands in
-    let wrong = told_bad _ _ _ _ _ _ _ c.in-Some.text.now c.in-Some.after.now t c.in-Some.ensures.some _ fails in
-    wrong.0)
+    rw p.1 (λ n is. (ends_bad _ _ _ _ _ _ _ c.in-Some.text.now c.in-Some.after.now _ _ n c.loop-text.invariant.told c.in-Some.ensures.some told its.number its.bad is).said)
 
 pub returns-in_err-do_line-clause-bad_line : goal.returns-in_err-do_line-clause-bad_line
 returns-in_err-do_line-clause-bad_line g c =
     let p = err_from_is_err_and c.from_residual.result c.from_residual.ensures.1 in
+    let its = c.in_err-do_line.ensures in
     let told : c.in_err-do_line.field-0.0 ≡ p.0 = cc in
-    rw p.1 (λ n is.
-    let t = c.loop-text.invariant.told in
-    let fault : c.in_err-do_line.field-0.0.fault ≡ faults.BadLine n = ap (λ (e : Ended). e.fault) told ∙ is in
-    let fails = c.in_err-do_line.ensures.bad n fault (lines_of t.before) t.stands in
-    let wrong = told_bad _ _ _ _ _ _ _ c.in-Some.text.now c.in-Some.after.now t c.in-Some.ensures.some _ fails in
-    ap (option_map (λ (w : Wrong). w.number)) wrong.1 ∙ ap (λ (k : ℕ). Some k) (sym (c.in_err-do_line.ensures.number n fault)))
+    rw p.1 (λ n is. (ends_bad _ _ _ _ _ _ _ c.in-Some.text.now c.in-Some.after.now _ _ n c.loop-text.invariant.told c.in-Some.ensures.some told its.number its.bad is).at)
 
 pub returns-in_err-do_line-clause-tells : goal.returns-in_err-do_line-clause-tells
 returns-in_err-do_line-clause-tells g c =
     let p = err_from_is_err_and c.from_residual.result c.from_residual.ensures.1 in
+    let its = c.in_err-do_line.ensures in
     let told : c.in_err-do_line.field-0.0 ≡ p.0 = cc in
-    rw p.1 (λ n is.
-    let t = c.loop-text.invariant.told in
-    let fault : c.in_err-do_line.field-0.0.fault ≡ faults.BadLine n = ap (λ (e : Ended). e.fault) told ∙ is in
-    let fails = c.in_err-do_line.ensures.bad n fault (lines_of t.before) t.stands in
-    let wrong = told_bad _ _ _ _ _ _ _ c.in-Some.text.now c.in-Some.after.now t c.in-Some.ensures.some _ fails in
-    subst (λ (e : Ended). TellsOf e c.args.script.now) told (tells_of c.args.script.now _ _ wrong.1 fails.tells))
+    rw p.1 (λ n is. (ends_bad _ _ _ _ _ _ _ c.in-Some.text.now c.in-Some.after.now _ _ n c.loop-text.invariant.told c.in-Some.ensures.some told its.number its.bad is).tells)
 
 pub returns-in_err-do_line-clause-front : goal.returns-in_err-do_line-clause-front
 returns-in_err-do_line-clause-front g c =

@@ -3,8 +3,8 @@ use Rattle.gateway_kit.specs.Walks.{entry_of_ref, points_left}
 use Rattle.rollup_kit.proofs.Walked.{has_room, more_seen, few_seen, stands_next}
 use Rattle.rollup_kit.proofs.groups.gather.Goals as goal
 
-pub add_point-requires : goal.add_point-requires
-add_point-requires c =
+pub add_point-requires-clause-room : goal.add_point-requires-clause-room
+add_point-requires-clause-room c =
     has_room c.args.ask.now c.args.buckets (map entry_of_ref c.loop-point.yielded) c.loop-point.rows.entries c.loop-point.invariant.3
     (few_seen entry_of_ref (points_left c.args.points) c.loop-point.yielded c.in-Some.point (points_left c.loop-point.point-iterator) (points_left c.next.new.self) c.loop-point.invariant.2 c.in-Some.ensures.steps c.requires.few)
 

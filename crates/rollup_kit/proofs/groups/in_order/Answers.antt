@@ -1,17 +1,19 @@
-use Rattle.std.proofs.Common.{◌∙◌, ℕ, None, Ok, sym}
-use Rattle.std.proofs.lemmas.Iterator.Adapters.{fact_from_collect}
-use Rattle.std.proofs.lemmas.Iterator.Consumers.{YieldsList-from_rest}
-use Rattle.std.proofs.lemmas.Map.Made.{update_all_none}
-use Rattle.std.specs.BTreeMap.{IsFromIterResult}
-use Rattle.std.specs.Ordering.{eq_by_cmp}
-use Rattle.attr_kit.specs.contracts.attr_set.AttrSetEq.TheImpl.Laws as set_laws
-use Rattle.rollup_kit.specs.Asks.{attributes_cmp}
-use Rattle.rollup_kit.proofs.SetOrders.{ties, by_order}
+use Rattle.std.proofs.Common.{◌≡◌, rules, ap}
+use Rattle.std.specs.Ordering.{is_lt}
+use Rattle.std.proofs.lemmas.Fn.{always_returns_same}
+use Rattle.std.proofs.lemmas.List.Sorted.{ranks_by}
+use Rattle.rollup_kit.specs.Asks.{Attributes, attributes_cmp}
+use Rattle.rollup_kit.specs.Groups.{Grouped}
+use Rattle.rollup_kit.proofs.SetOrders.{sets_total}
+use Rattle.rollup_kit.proofs.SortedRows.{lower, rows_sorted, rows_found}
 use Rattle.rollup_kit.proofs.groups.in_order.Goals as goal
 
-pub returns : goal.returns
-returns c = λ q.
-    let gives = c.into_iter.ensures.into_iter_gives in
-    let rows = c.args.rows.entries in
-    let made = fact_from_collect {E = ℕ} (IsFromIterResult attributes_cmp) (Ok c.in_ok-collect.field-0) c.in_ok-collect.ensures.ran (YieldsList-from_rest rows gives.0) in
-    made.0 q ∙ update_all_none set_laws.laws-law (eq_by_cmp attributes_cmp) (λ x y. sym (ties x y)) rows q gives.4 ∙ by_order rows q
+pub returns-clause-sorted : goal.returns-clause-sorted
+returns-clause-sorted c =
+    rows_sorted c.args.groups.items c.sort_by.new.self.items c.in_ok-sort_by.ensures.permutation c.requires
+    (c.in_ok-sort_by.ensures.sorted lower (ranks_by sets_total (λ (e : Attributes × Grouped). e.0)) (always_returns_same _ _ _ (λ a r q k. let e : r ≡ attributes_cmp a.0.now.0 a.1.0.now.0 = search rules in (ap is_lt e, search rules))))
+
+pub returns-clause-same : goal.returns-clause-same
+returns-clause-same c =
+    rows_found c.args.groups.items c.sort_by.new.self.items
+    (c.in_ok-sort_by.ensures.stable lower (ranks_by sets_total (λ (e : Attributes × Grouped). e.0)) (always_returns_same _ _ _ (λ a r q k. let e : r ≡ attributes_cmp a.0.now.0 a.1.0.now.0 = search rules in (ap is_lt e, search rules))))

@@ -9,9 +9,10 @@ pub returns : goal.returns
 returns c =
     let ask = c.args.ask.now in
     let state = c.args.gateway.now.points in
-    let groups = c.in_ok-groups.groups.entries in
-    let stands : Stands ask c.buckets_for-buckets.result (entries state) groups = c.asked_points.ensures.whole c.buckets_for-buckets.result groups c.in_ok-groups.ensures in
+    let groups = c.in_ok-in_order.field-0.items in
+    let stands : Stands ask c.buckets_for-buckets.result (entries state) c.in_ok-groups.groups.items = c.asked_points.ensures.whole c.buckets_for-buckets.result c.in_ok-groups.groups.items c.in_ok-groups.ensures.stands in
+    let ordered : Stands ask c.buckets_for-buckets.result (entries state) groups = λ q. c.in_ok-in_order.ensures.same q ∙ stands q in
     record {
-      value = IfOk-weaker c.rows_of.result _ _ (λ rows is. is ∙ answered ask state groups c.rows_of.ensures.ordered
-          (subst (λ (n : ℕ). Stands ask n (entries state) groups) c.buckets_for-buckets.ensures stands)) c.rows_of.ensures.value;
+      value = IfOk-weaker c.rows_of.result _ _ (λ rows is. is ∙ answered ask state groups c.in_ok-in_order.ensures.sorted
+          (subst (λ (n : ℕ). Stands ask n (entries state) groups) c.buckets_for-buckets.ensures ordered)) c.rows_of.ensures;
     }
