@@ -117,10 +117,7 @@ impl UpDownCounter {
 
     /// As `Counter::with`.
     pub fn with(&self, attributes: &Attributes) -> Result<BoundUpDownCounter, Error> {
-        Ok(BoundUpDownCounter(
-            self.0.clone(),
-            self.0.hold(attributes)?,
-        ))
+        Ok(BoundUpDownCounter(self.0.clone(), self.0.hold(attributes)?))
     }
 }
 
