@@ -558,7 +558,7 @@ static void encodings(kit_handle *plan, kit_handle *none) {
     CHECK(kit_export_decode(&read, bytes, len, &place) == KIT_BAD_CHECKSUM && place == len - 4 && !read.full);
     uint8_t first = bytes[6];
     place = 77, bytes[6] = 0xff; /* (in the service) */
-    CHECK(kit_export_decode(&read, bytes, len, &place) == KIT_NOT_TEXT && place == 6 && !read.full);
+    CHECK(kit_export_decode(&read, bytes, len, &place) == KIT_NOT_TEXT && place == 5 && !read.full);
     place = 77, bytes[6] = first, bytes[len - 5] = 13; /* (-7, of a sum that only rises) */
     checksum(bytes, len - 4);
     CHECK(kit_export_decode(&read, bytes, len, &place) == KIT_BAD_EXPORT && place == 77 && !read.full);
