@@ -21,7 +21,7 @@
 enum { ROUNDS = 25, TIMES = 400000, THREADS = 4, COUNTER = 0, HISTOGRAM = 1 };
 
 static kit_handle plan, writer, none, four, seats[THREADS];
-static size_t number;
+static size_t number, empty;
 static uint64_t place;
 
 static double now(void) {
@@ -52,6 +52,14 @@ static void held(int times) {
 
 static void by_number(int times) {
     for (int i = 0; i < times; i++) MUST(kit_writer_measure_held(&writer, COUNTER, number, 1, &place));
+}
+
+static void without_by_number(int times) {
+    for (int i = 0; i < times; i++) MUST(kit_writer_measure_held(&writer, COUNTER, empty, 1, &place));
+}
+
+static void histogram_by_number(int times) {
+    for (int i = 0; i < times; i++) MUST(kit_writer_measure_held(&writer, HISTOGRAM, number, 1, &place));
 }
 
 static void histogram(int times) {
@@ -105,10 +113,13 @@ int main(void) {
     MUST(kit_attributes_make(&none, &pairs, &place));
     make(&four);
     MUST(kit_writer_hold(&writer, &four, &number));
-    tell("C: no attributes", without, TIMES, TIMES);
+    MUST(kit_writer_hold(&writer, &none, &empty));
+    tell("C: no attributes, a held set", without, TIMES, TIMES);
+    tell("C: no attributes, by number", without_by_number, TIMES, TIMES);
     tell("C: 4 attributes, a held set", held, TIMES, TIMES);
     tell("C: 4 attributes, by number", by_number, TIMES, TIMES);
-    tell("C: 4 attributes, a histogram", histogram, TIMES, TIMES);
+    tell("C: 4 attributes, a held set, a histogram", histogram, TIMES, TIMES);
+    tell("C: 4 attributes, by number, a histogram", histogram_by_number, TIMES, TIMES);
     tell("C: 4 attributes, made anew", anew, TIMES / 8, TIMES / 8);
     MUST(kit_writer_share(&writer));
     seats[0] = writer, writer = KIT_EMPTY;

@@ -1,6 +1,6 @@
-/* Every refusal, raised once: what it answers, the place that it tells, and that it leaves all as it was. Then the growths of each
- * call that takes memory, refused one after the other (linked with --wrap=malloc,--wrap=realloc). Prints the first check that does
- * not hold and exits with 1, or exits with 0. */
+/* Every refusal, raised once: what it answers, the place that it tells, and that it leaves all as it was; but for KIT_EXHAUSTED, for which
+ * 2^62 changes are wanting. Growths of calls refused one after the other (linked with --wrap=malloc,--wrap=realloc). Prints the first
+ * check that does not hold and exits with 1, or exits with 0. handles.c has what each call makes of handles. */
 #include <kotskhin.h>
 #include <stdio.h>
 #include <stdlib.h>
@@ -23,7 +23,26 @@ static unsigned refused = 0;
 
 static bool refuses(void) { return refused && !--refused; }
 
-void *__wrap_malloc(size_t size) { return refuses() ? NULL : __real_malloc(size); }
+/* The seat that records and splits in the midst of another's call, and what it is answered. */
+static kit_handle *meddles = NULL;
+static int32_t meddled[3];
+
+static void meddle(void) {
+    kit_handle *seat = meddles, made = KIT_EMPTY, collected = KIT_EMPTY;
+    uint64_t place = 77;
+    unsigned after = refused;
+    meddles = NULL, refused = 0;
+    meddled[0] = kit_seat_measure_held(seat, 0, 0, 1, &place);
+    meddled[1] = kit_seat_collect(seat, 300, &collected, &place);
+    meddled[2] = kit_seat_split(seat, &made);
+    CHECK(place == 77 && !made.full && !collected.full);
+    refused = after;
+}
+
+void *__wrap_malloc(size_t size) {
+    if (meddles) meddle();
+    return refuses() ? NULL : __real_malloc(size);
+}
 
 void *__wrap_realloc(void *at, size_t size) { return refuses() ? NULL : __real_realloc(at, size); }
 
@@ -188,8 +207,11 @@ static void writers(kit_handle *plan, kit_handle *none, kit_handle *four) {
     EACH_GROWTH(kit_writer_measure(&writer, 0, none, 3, &place), writer.full && none->full);
     EACH_GROWTH(kit_writer_hold(&writer, none, &number), number == 77);
     CHECK(number == 0);
-    refused = 1; /* (a set that was recorded before takes no memory) */
-    CHECK(!kit_writer_measure_held(&writer, 0, number, 4, &place) && refused == 1);
+    refused = 1; /* (where the point can't be kept the value is recorded all the same) */
+    CHECK(!kit_writer_measure_held(&writer, 0, number, 1, &place) && refused == 0);
+    CHECK(!kit_writer_measure_held(&writer, 0, number, 1, &place));
+    refused = 1; /* (a point that is kept takes no memory) */
+    CHECK(!kit_writer_measure_held(&writer, 0, number, 2, &place) && refused == 1);
     refused = 0;
 
     CHECK(kit_writer_measure(&writer, 2, none, 1, &place) == KIT_NO_INSTRUMENT);
@@ -439,6 +461,19 @@ static void nodes(kit_handle *plan, kit_handle *none) {
     }
 }
 
+/* A seat is its writer's alone: two shared writers, of which each has what its own seats recorded. */
+static void writers_apart(kit_handle *plan, kit_handle *none) {
+    kit_handle seats[2] = {KIT_EMPTY, KIT_EMPTY}, made[2] = {KIT_EMPTY, KIT_EMPTY}, collected = KIT_EMPTY, gateway = KIT_EMPTY;
+    for (uint64_t i = 0; i < 2; i++) {
+        CHECK(!kit_writer_start(&seats[i], plan, TEXT("shop"), 0, i + 1, 100) && !kit_writer_share(&seats[i]));
+        CHECK(!kit_seat_split(&seats[i], &made[i]) && !kit_seat_measure(&seats[i], 0, none, i ? 7 : 1, &place));
+    }
+    CHECK(!kit_seat_measure(&made[0], 0, none, 1, &place) && !kit_gateway_open(&gateway, 1));
+    CHECK(!kit_seat_collect(&made[1], 200, &collected, &place) && !kit_gateway_take(&gateway, &collected, &changed) && tells(&gateway, SEVEN));
+    for (int i = 0; i < 2; i++) kit_free(&seats[i]), kit_free(&made[i]);
+    kit_free(&collected), kit_free(&gateway);
+}
+
 /* Seats at one writer, in one thread: what each refuses, and that all of them record into it. */
 static void seats(kit_handle *plan, kit_handle *none) {
     kit_handle seat = KIT_EMPTY, more = KIT_EMPTY, nothing = KIT_EMPTY, collected = KIT_EMPTY, gateway = KIT_EMPTY;
@@ -464,6 +499,13 @@ static void seats(kit_handle *plan, kit_handle *none) {
     CHECK(kit_seat_collect(&seat, 200, none, &place) == KIT_FULL && kit_seat_collect(&nothing, 200, &collected, &place) == KIT_NOTHING);
     CHECK(kit_seat_collect(plan, 200, &collected, &place) == KIT_WRONG_KIND && !collected.full);
     CHECK(kit_seat_collect(&seat, 100, &collected, &place) == KIT_TIME_NOT_AFTER && place == 100 && !collected.full);
+    /* Each growth of a collection is in the midst of it, where another seat's calls are to find the writer in use. */
+    for (int i = 0; i < 3; i++) meddled[i] = KIT_OK;
+    meddles = &seat;
+    refused = 3;
+    CHECK(kit_seat_collect(&more, 200, &collected, &place) == KIT_NO_MEMORY && !meddles);
+    refused = 0;
+    CHECK(meddled[0] == KIT_BUSY && meddled[1] == KIT_BUSY && meddled[2] == KIT_BUSY && seat.full);
     EACH_GROWTH(kit_seat_collect(&more, 200, &collected, &place), !collected.full && more.full);
     kit_free(&more);
     CHECK(!kit_gateway_open(&gateway, 1) && !kit_gateway_take(&gateway, &collected, &changed) && tells(&gateway, SEVEN));
@@ -475,6 +517,13 @@ static void seats(kit_handle *plan, kit_handle *none) {
     }
     CHECK(code == KIT_SEATS_FULL && made == 4096 && !more.full && !kit_seat_measure_held(&seat, 0, number, 1, &place));
     kit_free(&seat), kit_free(&collected), kit_free(&gateway);
+}
+
+/* Puts the checksum of bytes behind them (Adler-32: RFC 1950, section 8.2). */
+static void checksum(uint8_t *bytes, size_t len) {
+    uint32_t sum = 1, sums = 0;
+    for (size_t i = 0; i < len; i++) sum = (sum + bytes[i]) % 65521, sums = (sums + sum) % 65521;
+    for (int i = 0; i < 4; i++) bytes[len + i] = (uint8_t)((sums << 16 | sum) >> (24 - 8 * i));
 }
 
 /* An export as bytes, and each way in which bytes are none. */
@@ -507,6 +556,12 @@ static void encodings(kit_handle *plan, kit_handle *none) {
     CHECK(kit_export_decode(&read, bytes, len, &place) == KIT_BAD_VERSION && place == 4);
     bytes[4] ^= 0x40, bytes[len - 1] ^= 1;
     CHECK(kit_export_decode(&read, bytes, len, &place) == KIT_BAD_CHECKSUM && place == len - 4 && !read.full);
+    uint8_t first = bytes[6];
+    place = 77, bytes[6] = 0xff; /* (in the service) */
+    CHECK(kit_export_decode(&read, bytes, len, &place) == KIT_NOT_TEXT && place == 5 && !read.full);
+    place = 77, bytes[6] = first, bytes[len - 5] = 13; /* (-7, of a sum that only rises) */
+    checksum(bytes, len - 4);
+    CHECK(kit_export_decode(&read, bytes, len, &place) == KIT_BAD_EXPORT && place == 77 && !read.full);
     kit_free(&writer), kit_free(&collected), kit_free(&made), kit_free(&gateway);
 }
 
@@ -521,6 +576,7 @@ int main(void) {
     histograms();
     nodes(&plan, &none);
     seats(&plan, &none);
+    writers_apart(&plan, &none);
     encodings(&plan, &none);
     kit_free(&plan), kit_free(&none), kit_free(&four);
     return 0;

@@ -67,7 +67,15 @@ class Run:
         if self.run(f"{what}: compiled", compiler, *flags, self.linked[0], source, *libraries, "-o", program):
             self.run(what, program, prints=prints, env={**os.environ, "ASAN_OPTIONS": "detect_leaks=1"})
 
+    def covered(self):
+        """Whether handles.c has a row for each call that the header has."""
+        names = re.compile(r"int32_t kit_(\w+)\(")
+        wanted = set(names.findall((EMBED / "c" / "kotskhin.h").read_text(encoding="utf-8")))
+        rows = set(re.findall(r"ROW\((\w+),", (HERE / "handles.c").read_text(encoding="utf-8"))) - {"name"}
+        self.say("C: handles.c has each call", f"not {sorted(wanted ^ rows)}" if wanted != rows else None)
+
     def c(self):
+        self.covered()
         for compiler in ("gcc", "clang"):
             if not shutil.which(compiler):
                 print(f"C: there is no {compiler}")
@@ -75,6 +83,7 @@ class Run:
             for how, flags in (("", ["-O2"]), (" under AddressSanitizer", ASAN)):
                 self.compiled(f"C, {compiler}{how}: the first script", compiler, EMBED / "c" / "first.c", C + flags, WANTED)
                 self.compiled(f"C, {compiler}{how}: refusals", compiler, HERE / "refusals.c", C + flags + WRAPPED)
+                self.compiled(f"C, {compiler}{how}: handles", compiler, HERE / "handles.c", C + flags + WRAPPED)
                 self.compiled(f"C, {compiler}{how}: threads", compiler, HERE / "threads.c", C + flags)
             self.installed(compiler)
 

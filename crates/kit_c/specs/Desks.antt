@@ -11,7 +11,7 @@ use Rattle.writer_kit.specs.declared.shared.change.WriterChange.{WriterChange}
 use Rattle.writer_kit.specs.declared.shared.change.WriterChange.TheVariants.{Measured, Collected}
 use Rattle.kit_c.specs.Codes.{code_of}
 use Rattle.kit_c.specs.Places.{place_of}
-use Rattle.kit_c.specs.Writers.{IsCollection}
+use Rattle.kit_c.specs.Writers.{HasExport}
 use Rattle.kit_c.specs.declared.desk.Desk as desks
 use Rattle.kit_c.specs.declared.fault.Fault.{Fault}
 use Rattle.kit_c.specs.declared.fault.Fault.TheVariants as faults
@@ -20,7 +20,7 @@ use Rattle.kit_c.specs.declared.held.Held.TheVariants.{Attributes, Desk, Writer}
 
 -- a thing is no writer that could be shared
 abbrev pub sharing_fault : Held → Option Fault
-sharing_fault (Writer w ss) = None
+sharing_fault (Writer w) = None
 sharing_fault h = Some faults.WrongKind
 
 -- a place at a writer is the first one, and holds these sets
@@ -31,7 +31,7 @@ pub record IsFirstPlace (w : Written) (ss : List AttrSet) (d : desks.Desk) : Typ
   pub sets : d.sets ≡ ss
 
 abbrev pub HasShared : Option Held → Option Held → Type 0
-HasShared (Some (Writer w ss)) (Some (Desk d)) = IsFirstPlace w ss d
+HasShared (Some (Writer h)) (Some (Desk d)) = IsFirstPlace h.writer h.sets d
 HasShared m n = ⊥
 
 -- a place is at the writer that it was at, and holds the sets that it held
@@ -95,7 +95,7 @@ SplitRefused h k f = (k ≡ h) × (f ≡ faults.WrongKind)
 -- a collection was accepted at a place, and the third handle has its export
 abbrev pub HasCollected : ℕ → Option Held → Option Held → Option Held → Type 0
 HasCollected time (Some (Desk d)) (Some (Desk e)) made =
-    Stays d e × Accepts (arc_value d.writer) (Collected time) (λ w. IsCollection time (Some (Writer w [])) made) d.seat e.seat
+    Stays d e × Accepts (arc_value d.writer) (Collected time) (λ w. HasExport w time made) d.seat e.seat
 HasCollected time m n made = ⊥
 
 -- why a collection is refused at a place

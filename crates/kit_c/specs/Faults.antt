@@ -27,8 +27,8 @@ text_fault bytes = when (not (is_utf8 bytes)) faults.NotText
 
 -- a recording, of the things
 abbrev pub recording_fault : ℕ → ℤ → Held → Held → Option Fault
-recording_fault i x (Writer w ss) (Attributes a) = option_map (λ f. faults.Measure f) (fault_now w (entry_of i a x))
-recording_fault i x h other = Some faults.WrongKind
+recording_fault i x (Writer h) (Attributes a) = option_map (λ f. faults.Measure f) (fault_now h.writer (entry_of i a x))
+recording_fault i x it other = Some faults.WrongKind
 
 -- a handle that is to be filled has something
 abbrev pub full_fault : Option Held → Option Fault
@@ -52,8 +52,8 @@ starting_fault h = Some faults.WrongKind
 
 -- a collection at a time
 abbrev pub collection_fault : ℕ → Held → Option Fault
-collection_fault time (Writer w ss) = option_map (λ f. faults.Collect f) (collect_fault w time)
-collection_fault time h = Some faults.WrongKind
+collection_fault time (Writer h) = option_map (λ f. faults.Collect f) (collect_fault h.writer time)
+collection_fault time it = Some faults.WrongKind
 
 -- the same of handles, of which the second is to be filled
 abbrev pub collecting_fault : ℕ → Option Held → Option Held → Option Fault
@@ -61,8 +61,8 @@ collecting_fault time writer export = first (full_fault export ∷ of_one writer
 
 -- a restart under a start
 abbrev pub restarting_fault : ℕ → Held → Option Fault
-restarting_fault start (Writer w ss) = option_map (λ f. faults.Restart f) (restart_fault w start)
-restarting_fault start h = Some faults.WrongKind
+restarting_fault start (Writer h) = option_map (λ f. faults.Restart f) (restart_fault h.writer start)
+restarting_fault start it = Some faults.WrongKind
 
 -- a thing is no text
 abbrev pub copying_fault : Held → Option Fault

@@ -8,8 +8,8 @@ use Rattle.kit_c.specs.declared.held.Held.TheVariants.{Attributes, Pairs, Text, 
 
 -- a writer with a recording of the value x, by the instrument i, at the attributes that the second has
 abbrev pub after_recording : ℕ → ℤ → Held → Held → Held
-after_recording i x (Writer w ss) (Attributes a) = Writer (recorded w (entry_of i a x)) ss
-after_recording i x h other = h
+after_recording i x (Writer h) (Attributes a) = Writer (record h { writer = recorded h.writer (entry_of i a x) })
+after_recording i x it other = it
 
 -- the same of handles, of which one may have nothing
 abbrev pub in_first : (Held → Held → Held) → Option Held → Option Held → Option Held
@@ -28,13 +28,13 @@ in_one change None = None
 
 -- a writer after a collection, which closes it or not
 abbrev pub after_collection : ℕ → Bool → Held → Held
-after_collection time closing (Writer w ss) = Writer (after_collect w time closing) ss
-after_collection time closing h = h
+after_collection time closing (Writer h) = Writer (record h { writer = after_collect h.writer time closing })
+after_collection time closing it = it
 
 -- a writer after a restart
 abbrev pub after_restarting : ℕ → Held → Held
-after_restarting start (Writer w ss) = Writer (after_restart w start) ss
-after_restarting start h = h
+after_restarting start (Writer h) = Writer (record h { writer = after_restart h.writer start })
+after_restarting start it = it
 
 -- the bytes of a text
 abbrev pub bytes_of : Held → List ℕ

@@ -6,6 +6,7 @@ pub mod Faults
 pub mod Gateways
 pub mod Handles
 pub mod Histograms
+pub mod Holdings
 pub mod Keys
 pub mod Kinds
 pub mod Nodes

@@ -13,18 +13,18 @@ use Rattle.kit_c.specs.declared.held.Held.TheVariants.{Attributes, Writer}
 
 -- the first can't hold the second: writers hold sets
 abbrev pub holding_fault : Held → Held → Option Fault
-holding_fault (Writer w ss) (Attributes a) = None
+holding_fault (Writer w) (Attributes a) = None
 holding_fault h other = Some faults.WrongKind
 
 -- a writer that holds one set more
 abbrev pub after_holding : Held → Held → Held
-after_holding (Writer w ss) (Attributes a) = Writer w (ss ++ a ∷ [])
-after_holding h other = h
+after_holding (Writer h) (Attributes a) = Writer (record h { sets = h.sets ++ a ∷ [] })
+after_holding it other = it
 
 -- how many sets a writer holds
 abbrev pub sets_len : Held → ℕ
-sets_len (Writer w ss) = length ss
-sets_len h = 0
+sets_len (Writer h) = length h.sets
+sets_len it = 0
 
 -- a recording at a set that there may not be
 abbrev pub set_fault : ℕ → ℤ → Written → Option AttrSet → Option Fault
@@ -37,9 +37,9 @@ recorded_at i x w None = w
 
 -- a recording at the set of a number
 abbrev pub numbered_fault : ℕ → ℕ → ℤ → Held → Option Fault
-numbered_fault i n x (Writer w ss) = set_fault i x w (slice_get ss n)
-numbered_fault i n x h = Some faults.WrongKind
+numbered_fault i n x (Writer h) = set_fault i x h.writer (slice_get h.sets n)
+numbered_fault i n x it = Some faults.WrongKind
 
 abbrev pub after_numbered : ℕ → ℕ → ℤ → Held → Held
-after_numbered i n x (Writer w ss) = Writer (recorded_at i x w (slice_get ss n)) ss
-after_numbered i n x h = h
+after_numbered i n x (Writer h) = Writer (record h { writer = recorded_at i x h.writer (slice_get h.sets n) })
+after_numbered i n x it = it

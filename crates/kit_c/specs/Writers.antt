@@ -16,7 +16,8 @@ instance_of high low = to_be_bytes w128 (high * 2 ^ 64 + low)
 -- a handle has the writer of an identity, which counts from a start on under the plan that another has, has recorded
 -- nothing and holds no set
 abbrev pub HasStarted : WriterId → ℕ → Option Held → Option Held → Type 0
-HasStarted id start (Some (things.Plan p)) (Some (things.Writer w ss)) = (ss ≡ []) × (w.id ≡ id) × (w.tally.plan ≡ p) × Follows start [] w
+HasStarted id start (Some (things.Plan p)) (Some (things.Writer h)) =
+    (h.sets ≡ []) × (h.writer.id ≡ id) × (h.writer.tally.plan ≡ p) × Follows start [] h.writer
 HasStarted id start m n = ⊥
 
 -- an export is of a writer's points at a time
@@ -26,7 +27,12 @@ pub record Exports (w : Written) (time : ℕ) (e : Export) : Type 0 where
   pub taken_at : e.time ≡ time
   pub points : e.points ≡ points_of w.tally.plan.streams w.tally.series
 
--- the same of handles: the first has the writer, and the second the export
+-- a handle has it
+abbrev pub HasExport : Written → ℕ → Option Held → Type 0
+HasExport w time (Some (things.Export e)) = Exports w time e
+HasExport w time n = ⊥
+
+-- the same where the first handle has the writer
 abbrev pub IsCollection : ℕ → Option Held → Option Held → Type 0
-IsCollection time (Some (things.Writer w ss)) (Some (things.Export e)) = Exports w time e
+IsCollection time (Some (things.Writer h)) n = HasExport h.writer time n
 IsCollection time m n = ⊥

@@ -94,6 +94,16 @@ impl<T: Drop> From<AllocFailed<T>> for Fault {
     }
 }
 
+impl From<MeasureFault> for Fault {
+    ghost use Rattle.kit_c.specs.declared.fault.Fault.TheVariants as faults;
+
+    ghost from_gives = { λ fault e. e ≡ faults.Measure fault };
+
+    fn from(fault: MeasureFault) -> Fault {
+        Fault::Measure(fault)
+    }
+}
+
 fn of_recording(fault: &MeasureFault) -> i32
     ensures code { result ≡ recording_code fault.now }
     ensures refused { result ≢ pos 0 }

@@ -1,12 +1,12 @@
 //! What a handle can have.
 use crate::desk::Desk;
+use crate::holding::HoldingWriter;
 use attr_kit::{AttrSet, AttrValue, Seq, Txt};
 use gateway_kit::Gateway;
 use gossip_kit::{Message, Node};
 use plan_kit::{Instrument, Plan, View};
 use point_kit::Export;
 use rollup_kit::{Ask, Row};
-use writer_kit::Writer;
 
 /// What a handle can have.
 #[derive(Drop)]
@@ -21,8 +21,8 @@ pub enum Held {
     /// Keys that are written down.
     Keys(Seq<Txt>),
     Plan(Plan),
-    /// A writer, and beside it the sets that it holds by number.
-    Writer(Writer, Seq<AttrSet>),
+    /// A writer, with the sets that it holds by number.
+    Writer(HoldingWriter),
     Export(Export),
     Gateway(Gateway),
     /// A gateway that sends messages and takes them in.

@@ -10,6 +10,7 @@ mod gateway;
 mod handle;
 mod held;
 mod histograms;
+mod holding;
 mod inner;
 mod instruments;
 mod keys;

@@ -4,7 +4,7 @@ ghost use Rattle.std.specs.Prelude.{◌≡◌, ◌≢◌, [], pos, slice_get, No
 ghost use Rattle.kit_c.specs.Codes.{code_of, no_memory};
 ghost use Rattle.kit_c.specs.Desks.{CollectRefused, HasCollected, HasMeasured, HasMeasuredAt, HasShared, HasSplit, MeasureRefused, NumberRefused, OneRefused, PlainRefused, SplitRefused, TwoRefused, sharing_fault};
 ghost use Rattle.kit_c.specs.Faults.{full_fault, of_one};
-ghost use Rattle.kit_c.specs.Writers.{IsCollection};
+ghost use Rattle.kit_c.specs.Writers.{HasExport};
 ghost use Rattle.kit_c.specs.declared.fault.Fault.TheVariants as faults;
 ghost use Rattle.kit_c.specs.declared.held.Held.TheVariants as things;
 ghost use Rattle.writer_kit.specs.Shared.{MayRefuseRound};
@@ -30,11 +30,12 @@ fn shared(alloc: Global, held: &Held) -> Result<Box<Held>, Fault>
     ensures value { IfOk result (λ made. HasShared (Some held.now) (Some made.value)) }
     ensures err { IfErr result (λ f. code_of f ≢ no_memory → sharing_fault held.now ≡ Some f) }
 {
-    let Held::Writer(writer, sets) = held else {
+    let Held::Writer(holder) = held else {
         return Err(Fault::WrongKind);
     };
-    let sets = sets.try_copy()?;
-    let Ok((writer, seat)) = SharedWriter::new(alloc, writer.try_copy()?, MOST_CHANGES) else {
+    let sets = holder.copied_sets()?;
+    let writer = holder.writer().try_copy()?;
+    let Ok((writer, seat)) = SharedWriter::new(alloc, writer, MOST_CHANGES) else {
         return Err(Fault::NoMemory);
     };
     let writer = Arc::new(alloc, writer.into_quiet())?;
@@ -267,7 +268,7 @@ impl Step<Writer> for Collect {
 
     ghost entry = { λ c. Collected c.time };
 
-    ghost replies = { λ c w made. IsCollection c.time (Some (things.Writer w [])) (Some made.value) };
+    ghost replies = { λ c w made. HasExport w c.time (Some made.value) };
 
     ghost refuses = { λ c w f. MayRefuseRound w c.time f };
 

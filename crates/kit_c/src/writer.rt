@@ -13,24 +13,24 @@ ghost use Rattle.kit_c.specs.Writers.{HasStarted, IsCollection, instance_of};
 use crate::fault::{FULL, Fault, NOTHING, OK, refused};
 use crate::handle::KitHandle;
 use crate::held::Held;
-use crate::list::push;
+use crate::holding::HoldingWriter;
 use crate::text::text_of;
-use attr_kit::Seq;
 use bumpalo::Bump;
 use point_kit::WriterId;
 use std::alloc::Global;
 use uuid::Uuid;
 use writer_kit::Writer;
 
-fn started(alloc: Global, id: WriterId, held: &Held, start: u64) -> Result<Writer, Fault>
+fn started(alloc: Global, id: WriterId, held: &Held, start: u64) -> Result<HoldingWriter, Fault>
     ensures ok { OnOk result (starting_fault held.now ≡ None) }
-    ensures value { IfOk result (λ w. HasStarted id start (Some held.now) (Some (things.Writer w []))) }
+    ensures value { IfOk result (λ h. HasStarted id start (Some held.now) (Some (things.Writer h))) }
     ensures err { IfErr result (λ f. code_of f ≢ no_memory → starting_fault held.now ≡ Some f) }
 {
     let Held::Plan(plan) = held else {
         return Err(Fault::WrongKind);
     };
-    Ok(Writer::start(alloc, id, plan.try_copy()?, start)?)
+    let writer = Writer::start(alloc, id, plan.try_copy()?, start)?;
+    Ok(HoldingWriter::new(alloc, writer))
 }
 
 /// Starts a writer, which counts from a start on, under a copy of a plan. The instance is a UUID as two numbers. Times are
@@ -73,7 +73,7 @@ pub extern "C" fn kit_writer_start(
     let made = started(alloc, id, &held, start);
     plan.put(held);
     match made {
-        Ok(made) => writer.filled(alloc, Held::Writer(made, Seq::new(alloc))),
+        Ok(made) => writer.filled(alloc, Held::Writer(made)),
         Err(fault) => fault.code(),
     }
 }
@@ -84,7 +84,7 @@ fn recorded(held: &mut Held, instrument: usize, set: &Held, value: i64) -> Resul
     ensures err { IfErr result (λ f. code_of f ≢ no_memory → recording_fault instrument value held.old set.now ≡ Some f) }
     ensures unchanged { OnErr result (held.new ≡ held.old) }
 {
-    let Held::Writer(writer, _) = held else {
+    let Held::Writer(writer) = held else {
         return Err(Fault::WrongKind);
     };
     let Held::Attributes(attributes) = set else {
@@ -136,23 +136,20 @@ pub extern "C" fn kit_writer_measure(
     }
 }
 
-fn held_too(alloc: Global, held: &mut Held, set: &Held) -> Result<usize, Fault>
+fn held_too(held: &mut Held, set: &Held) -> Result<usize, Fault>
     ensures ok { OnOk result (holding_fault held.old set.now ≡ None) }
     ensures value { OnOk result (held.new ≡ after_holding held.old set.now) }
     ensures number { IfOk result (λ n. n ≡ sets_len held.old) }
     ensures err { IfErr result (λ f. code_of f ≢ no_memory → holding_fault held.old set.now ≡ Some f) }
     ensures unchanged { OnErr result (held.new ≡ held.old) }
 {
-    let Held::Writer(_, sets) = held else {
+    let Held::Writer(writer) = held else {
         return Err(Fault::WrongKind);
     };
     let Held::Attributes(attributes) = set else {
         return Err(Fault::WrongKind);
     };
-    let copy = attributes.try_copy()?;
-    let number = sets.len();
-    push(alloc, sets, copy)?;
-    Ok(number)
+    Ok(writer.hold(attributes.try_copy()?)?)
 }
 
 /// Holds a copy of an attribute set beside the writer, and tells its number: sets are numbered from 0, and held as long as the
@@ -183,7 +180,7 @@ pub extern "C" fn kit_writer_hold(
         writer.put(held);
         return NOTHING;
     };
-    let outcome = held_too(alloc, &mut held, &set);
+    let outcome = held_too(&mut held, &set);
     writer.put(held);
     attributes.put(set);
     match outcome {
@@ -206,16 +203,10 @@ fn recorded_by_number(
     ensures err { IfErr result (λ f. code_of f ≢ no_memory → numbered_fault instrument number value held.old ≡ Some f) }
     ensures unchanged { OnErr result (held.new ≡ held.old) }
 {
-    let Held::Writer(writer, sets) = held else {
+    let Held::Writer(writer) = held else {
         return Err(Fault::WrongKind);
     };
-    let Some(set) = sets.get(number) else {
-        return Err(Fault::NoSet);
-    };
-    match writer.measure(instrument, set, value) {
-        Ok(()) => Ok(()),
-        Err(fault) => Err(Fault::Measure(fault)),
-    }
+    writer.measure_held(instrument, number, value)
 }
 
 /// Records a value of an instrument at the attribute set of a number, which `kit_writer_hold` told.
@@ -259,15 +250,15 @@ fn collected(alloc: Global, held: &mut Held, time: u64, closing: bool) -> Result
     ensures err { IfErr result (λ f. code_of f ≢ no_memory → collection_fault time held.old ≡ Some f) }
     ensures unchanged { OnErr result (held.new ≡ held.old) }
 {
-    let Held::Writer(writer, _) = held else {
+    let Held::Writer(writer) = held else {
         return Err(Fault::WrongKind);
     };
     let arena = Bump::new(alloc);
-    let round = match writer.look_round(&arena, time) {
+    let round = match writer.writer().look_round(&arena, time) {
         Ok(round) => round,
         Err(fault) => return Err(Fault::Collect(fault)),
     };
-    let export = round.copy_out(alloc, writer.id())?;
+    let export = round.copy_out(alloc, writer.writer().id())?;
     let made = Box::new(alloc, Held::Export(export))?;
     writer.mark(time, closing);
     Ok(made)
@@ -357,7 +348,7 @@ fn restarted(held: &mut Held, start: u64) -> Result<(), Fault>
     ensures err { IfErr result (λ f. code_of f ≢ no_memory → restarting_fault start held.old ≡ Some f) }
     ensures unchanged { OnErr result (held.new ≡ held.old) }
 {
-    let Held::Writer(writer, _) = held else {
+    let Held::Writer(writer) = held else {
         return Err(Fault::WrongKind);
     };
     match writer.restart(start) {

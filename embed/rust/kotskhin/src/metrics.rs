@@ -96,7 +96,7 @@ impl Counter {
     }
 }
 
-/// A counter at one set of attributes: recording looks up no handle of a set.
+/// A counter at one set of attributes: from the second value on, recording hashes and compares no set.
 #[derive(Clone)]
 pub struct BoundCounter(Instrument, SetNumber);
 
@@ -114,6 +114,21 @@ impl UpDownCounter {
     pub fn add(&self, value: i64, attributes: &Attributes) -> Result<(), Error> {
         self.0.measure(value, attributes)
     }
+
+    /// As `Counter::with`.
+    pub fn with(&self, attributes: &Attributes) -> Result<BoundUpDownCounter, Error> {
+        Ok(BoundUpDownCounter(self.0.clone(), self.0.hold(attributes)?))
+    }
+}
+
+/// An up-down counter at one set of attributes.
+#[derive(Clone)]
+pub struct BoundUpDownCounter(Instrument, SetNumber);
+
+impl BoundUpDownCounter {
+    pub fn add(&self, value: i64) -> Result<(), Error> {
+        self.0.measure_held(value, self.1)
+    }
 }
 
 /// Values of which the last one counts.
@@ -124,6 +139,21 @@ impl Gauge {
     pub fn record(&self, value: i64, attributes: &Attributes) -> Result<(), Error> {
         self.0.measure(value, attributes)
     }
+
+    /// As `Counter::with`.
+    pub fn with(&self, attributes: &Attributes) -> Result<BoundGauge, Error> {
+        Ok(BoundGauge(self.0.clone(), self.0.hold(attributes)?))
+    }
+}
+
+/// A gauge at one set of attributes.
+#[derive(Clone)]
+pub struct BoundGauge(Instrument, SetNumber);
+
+impl BoundGauge {
+    pub fn record(&self, value: i64) -> Result<(), Error> {
+        self.0.measure_held(value, self.1)
+    }
 }
 
 /// Values of at least 0 whose distribution counts.
@@ -133,6 +163,21 @@ pub struct Histogram(Instrument);
 impl Histogram {
     pub fn record(&self, value: u64, attributes: &Attributes) -> Result<(), Error> {
         self.0.measure(whole(value)?, attributes)
+    }
+
+    /// As `Counter::with`.
+    pub fn with(&self, attributes: &Attributes) -> Result<BoundHistogram, Error> {
+        Ok(BoundHistogram(self.0.clone(), self.0.hold(attributes)?))
+    }
+}
+
+/// A histogram at one set of attributes.
+#[derive(Clone)]
+pub struct BoundHistogram(Instrument, SetNumber);
+
+impl BoundHistogram {
+    pub fn record(&self, value: u64) -> Result<(), Error> {
+        self.0.measure_held(whole(value)?, self.1)
     }
 }
 

@@ -206,6 +206,45 @@ fn threads_share_a_meter() -> Result<(), Error> {
     Ok(())
 }
 
+// Each kind of instrument at one set, the first value at the set itself and the later ones at the bound point.
+#[test]
+fn instruments_are_bound_to_sets() -> Result<(), Error> {
+    let (meter, (requests, open, depth, sizes)) = Meter::start("shop", 1, "app", 100, |m| {
+        Ok((
+            m.counter("requests", "1")?,
+            m.up_down_counter("open", "1")?,
+            m.gauge("depth", "1")?,
+            m.histogram("size", "By")?,
+        ))
+    })?;
+    let set = Attributes::new([("route", "/")])?;
+    let (bound, open) = (requests.with(&set)?, open.with(&set)?);
+    let (depth, sizes) = (depth.with(&set)?, sizes.with(&set)?);
+    requests.add(1, &set)?;
+    for value in [1, 2, 3] {
+        bound.add(value)?;
+        open.add(-(value as i64))?;
+        depth.record(value as i64)?;
+        sizes.record(value)?;
+    }
+    let mut gateway = Gateway::open(1)?;
+    gateway.take(&meter.collect(200)?)?;
+    let told = |ask: &Ask| gateway.rows(ask);
+    assert_eq!(told(&self::requests()?)?.sum(0), Ok(7));
+    assert_eq!(told(&Ask::sum("app", "open", "1", false)?)?.sum(0), Ok(-6));
+    assert_eq!(
+        told(&Ask::gauge("app", "depth", "1")?)?.gauge(0),
+        Ok((200, 3))
+    );
+    // OpenTelemetry's bounds, which a histogram has where no view says others.
+    let bounds = [
+        0, 5, 10, 25, 50, 75, 100, 250, 500, 750, 1000, 2500, 5000, 7500, 10000,
+    ];
+    let sizes = told(&Ask::histogram("app", "size", "By", &bounds)?)?;
+    assert_eq!(sizes.histogram(0), Ok((3, 6, bounds.len() + 1)));
+    Ok(())
+}
+
 // Each thread has a writer of its own, which then goes to the thread that collects: no lock at all.
 #[test]
 fn threads_have_writers() -> Result<(), Error> {
