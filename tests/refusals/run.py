@@ -4,7 +4,7 @@
 The proved program `refusals` makes one call a run, and says when the call begins and ends. Between the two each growth is
 refused, alone and then with all that follow it: the call must answer the want of memory that is its own, leave all as it was,
 and where it is made again answer as it does with ample memory. A call of which nothing was refused, though it takes memory,
-fails, and so does one that takes memory though it should not.
+fails, and so does one that takes memory though it should not. A few calls are only made, and what they print is compared.
 
 `otm run` is then given the scripts of examples/, and each growth is refused from the first of the process on: it must end with
 status 3, `no memory` and before that a front of what the script prints, or do the whole script where that growth was not
@@ -33,6 +33,10 @@ EXPORT = ("Err(ExportRefused) | as before",)
 PUSHED = ("Err(NoMemory) | as before", "Err(ExportRefused) | collected")
 HANDED_BACK = ("NoMemory | as before",)
 NO_MEMORY_TAKEN = ()
+
+# What one schedule replies at one writer of two instruments and one gateway: to recordings at a second writer and a third
+# instrument, to deliveries at a second gateway and of a first export, to a merge of the gateway with itself, and to a mail to itself.
+REPLIES = "[Refused(NoWriter), Refused(NoInstrument), Refused(NoGateway), Refused(NoExport), Changed(0), Sent(1), Handed(Some(2))]"
 
 FLEET = ("fleet", "--recorders", "3", "--each", "5")
 TOTALS = b"gateway 1 total 30\ngateway 2 total 30\n"
@@ -117,6 +121,21 @@ CALLS = [
     ("World::apply, Send", "Ok(Sent(2)) | as before | Ok(Sent(3))", KEPT),
     ("World::apply, Hand", "Ok(Handed(Some(2))) | changed | Ok(Handed(Some(3)))", KEPT),
     ("replay", "Ok", tuple(f"Err(NoMemory({done}))" for done in range(4))),
+]
+
+# Calls of which no growth is refused here, and what they print: the replies of one schedule, what is wrong with the parts of
+# histograms, and texts that no script prints.
+PRINTED = [
+    ("replay, all replies", REPLIES),
+    (
+        "Export::build, histograms",
+        "None\nSome(CountMismatch(0))\nNone\nSome(BadRange(0))\nSome(BadRange(0))\nSome(BucketCount(0))\nSome(WrongShape(0))",
+    ),
+    (
+        "texts",
+        "the key of pair 1 is empty; no memory\npoint 2 has the key of an earlier point\n"
+        'Txt { text: "shop" }; Some(ShortText { text: "shop" })\n1',
+    ),
 ]
 
 
@@ -219,6 +238,9 @@ def refuse_calls(library, pool):
             total += growths
             text = f"{growths} growths refused in turn" if lines else "no growth"
             failed |= say(f"{program.name}: {call}", text, wrong)
+        for call, wanted in PRINTED:
+            printed = told(faults.run(library, [program, call]))
+            failed |= say(f"{program.name}: {call}", "printed", [] if printed == wanted else [printed])
     return failed, total
 
 

@@ -1,8 +1,8 @@
 //! Calls of exports, and copies of their parts.
 use crate::start::{START, export, gateway, id, requests, set};
 use crate::telling::{call_begins, call_ends, tell_made};
-use attr_kit::Seq;
-use point_kit::{Cell, Export, ExportPoint, Held, Key, Payload, SharedStream};
+use attr_kit::{AttrSet, Seq};
+use point_kit::{Cell, Export, ExportFault, ExportPoint, Held, Key, Payload, Shape, SharedStream};
 use std::alloc::Global;
 
 fn point(alloc: Global, stream: &SharedStream, shard: i64) -> anyhow::Result<ExportPoint> {
@@ -30,6 +30,45 @@ fn build(rt: &HostRuntime) -> anyhow::Result<()> {
     let answer = Export::build(alloc, writer, START, 200, Seq::from_vec(points));
     call_ends(rt);
     tell_made(rt, answer)
+}
+
+// Why an export of one point, of a histogram of the bound 10, is refused.
+fn fault_of(alloc: Global, payload: Payload) -> anyhow::Result<Option<ExportFault>> {
+    let mut stream = requests(alloc)?;
+    stream.shape = Shape::Histogram {
+        bounds: Seq::from_vec([10].to_vec(alloc)?),
+    };
+    let mut points = Vec::new(alloc);
+    points.push(ExportPoint {
+        stream: SharedStream::new(alloc, stream)?,
+        attrs: AttrSet::empty(alloc),
+        payload,
+    })?;
+    let answer = Export::build(alloc, id(alloc, 1)?, START, 200, Seq::from_vec(points));
+    Ok(answer.err())
+}
+
+// Whether their parts fit one another.
+fn histograms(rt: &HostRuntime) -> anyhow::Result<()> {
+    let cases = [
+        (2, [1, 1].as_slice(), None),
+        (3, [1, 1].as_slice(), None),
+        (2, [1, 1].as_slice(), Some((2, 3))),
+        (2, [1, 1].as_slice(), Some((3, 2))),
+        (0, [0, 0].as_slice(), Some((1, 1))),
+        (2, [2].as_slice(), None),
+    ];
+    for (count, buckets, range) in cases {
+        let payload = Payload::Hist {
+            count,
+            sum: 5,
+            buckets: Seq::from_vec(buckets.to_vec(rt.alloc())?),
+            range,
+        };
+        println!(rt; "{:?}", fault_of(rt.alloc(), payload)?)?;
+    }
+    println!(rt; "{:?}", fault_of(rt.alloc(), Payload::Sum(1))?)?;
+    Ok(())
 }
 
 fn shared(rt: &HostRuntime) -> anyhow::Result<()> {
@@ -91,6 +130,7 @@ fn copied_gateway(rt: &HostRuntime) -> anyhow::Result<()> {
 pub fn made(rt: &HostRuntime, call: &str) -> anyhow::Result<bool> {
     match call {
         "Export::build" => build(rt)?,
+        "Export::build, histograms" => histograms(rt)?,
         "Export::try_copy" => copied(rt)?,
         "SharedStream::new" => shared(rt)?,
         "Key::try_copy" => copied_key(rt)?,

@@ -1,7 +1,8 @@
-//! Calls of attribute sets.
-use crate::start::{pairs, route, set};
+//! Calls of attribute sets, and texts of data that no script prints.
+use crate::start::{id, pairs, route, set};
 use crate::telling::{call_begins, call_ends, tell_made};
-use attr_kit::AttrSet;
+use attr_kit::{AttrFault, AttrSet, NoMemory, Txt};
+use point_kit::ExportFault;
 
 fn from_pairs(rt: &HostRuntime) -> anyhow::Result<()> {
     let mut twice = pairs(rt.alloc(), 1)?;
@@ -29,12 +30,22 @@ fn copied(rt: &HostRuntime) -> anyhow::Result<()> {
     tell_made(rt, answer)
 }
 
+fn texts(rt: &HostRuntime) -> anyhow::Result<()> {
+    println!(rt; "{}; {NoMemory}", AttrFault::EmptyKey(1))?;
+    println!(rt; "{}", ExportFault::KeyTwice(2))?;
+    let text = Txt::from_str(rt.alloc(), "shop")?;
+    println!(rt; "{text:?}; {:?}", text.short())?;
+    println!(rt; "{}", id(rt.alloc(), 1)?.instance_number())?;
+    Ok(())
+}
+
 /// Makes a call of an attribute set, if this is the name of one.
 pub fn made(rt: &HostRuntime, call: &str) -> anyhow::Result<bool> {
     match call {
         "AttrSet::from_pairs" => from_pairs(rt)?,
         "AttrSet::kept" => kept(rt)?,
         "AttrSet::try_copy" => copied(rt)?,
+        "texts" => texts(rt)?,
         _ => return Ok(false),
     }
     Ok(true)

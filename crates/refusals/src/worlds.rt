@@ -6,8 +6,8 @@ use attr_kit::Seq;
 use std::alloc::Global;
 use world_kit::{Event, Setup, World, WriterSetup, replay};
 
-// A writer and two gateways.
-fn setup(alloc: Global) -> anyhow::Result<Setup> {
+// A writer, and gateways of these ids.
+fn setup(alloc: Global, gateways: &[u32]) -> anyhow::Result<Setup> {
     let mut writers = Vec::new(alloc);
     writers.push(WriterSetup {
         id: id(alloc, 1)?,
@@ -16,14 +16,23 @@ fn setup(alloc: Global) -> anyhow::Result<Setup> {
     })?;
     Ok(Setup {
         writers: Seq::from_vec(writers),
-        gateways: Seq::from_vec([1, 2].to_vec(alloc)?),
+        gateways: Seq::from_vec(gateways.to_vec(alloc)?),
     })
 }
 
 fn measure(alloc: Global, shard: i64) -> anyhow::Result<Event> {
+    measure_at(alloc, 0, 0, shard)
+}
+
+fn measure_at(
+    alloc: Global,
+    writer: usize,
+    instrument: usize,
+    shard: i64,
+) -> anyhow::Result<Event> {
     Ok(Event::Measure {
-        writer: 0,
-        instrument: 0,
+        writer,
+        instrument,
         attrs: set(alloc, shard)?,
         value: 5,
     })
@@ -47,7 +56,7 @@ fn past(alloc: Global) -> anyhow::Result<[Event; 4]> {
 
 // A world with this past.
 fn world(alloc: Global) -> anyhow::Result<World> {
-    let (world, _) = replay(alloc, setup(alloc)?, &past(alloc)?)?;
+    let (world, _) = replay(alloc, setup(alloc, &[1, 2])?, &past(alloc)?)?;
     Ok(world)
 }
 
@@ -82,7 +91,7 @@ fn apply(rt: &HostRuntime, event: Event) -> anyhow::Result<()> {
 }
 
 fn new(rt: &HostRuntime) -> anyhow::Result<()> {
-    let setup = setup(rt.alloc())?;
+    let setup = setup(rt.alloc(), &[1, 2])?;
     call_begins(rt);
     let answer = World::new(rt.alloc(), setup);
     call_ends(rt);
@@ -90,12 +99,42 @@ fn new(rt: &HostRuntime) -> anyhow::Result<()> {
 }
 
 fn replayed(rt: &HostRuntime) -> anyhow::Result<()> {
-    let setup = setup(rt.alloc())?;
+    let setup = setup(rt.alloc(), &[1, 2])?;
     let events = past(rt.alloc())?;
     call_begins(rt);
     let answer = replay(rt.alloc(), setup, &events);
     call_ends(rt);
     tell_made(rt, answer)
+}
+
+// At one writer of two instruments and one gateway: a writer, an instrument, a gateway and an export that are not there; a gateway
+// merged with itself, and a mail to itself that is handed.
+fn at_the_edges(alloc: Global) -> anyhow::Result<[Event; 7]> {
+    Ok([
+        measure_at(alloc, 1, 0, 1)?,
+        measure_at(alloc, 0, 2, 1)?,
+        Event::Deliver {
+            export: 1,
+            gateway: 1,
+        },
+        Event::Deliver {
+            export: 1,
+            gateway: 0,
+        },
+        Event::Merge { into: 0, from: 0 },
+        Event::Send { from: 0, to: 0 },
+        Event::Hand {
+            mail: 1,
+            gateway: 0,
+        },
+    ])
+}
+
+// What one schedule replies to these.
+fn replies(rt: &HostRuntime) -> anyhow::Result<()> {
+    let events = at_the_edges(rt.alloc())?;
+    let (_, replies) = replay(rt.alloc(), setup(rt.alloc(), &[1])?, &events)?;
+    Ok(println!(rt; "{:?}", replies.as_slice())?)
 }
 
 // The event of a name.
@@ -144,6 +183,7 @@ pub fn made(rt: &HostRuntime, call: &str) -> anyhow::Result<bool> {
     match call {
         "World::new" => new(rt)?,
         "replay" => replayed(rt)?,
+        "replay, all replies" => replies(rt)?,
         _ => {
             return match call.strip_prefix("World::apply, ") {
                 Some(name) => applied(rt, name),
