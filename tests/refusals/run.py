@@ -43,11 +43,14 @@ TOTALS = b"gateway 1 total 30\ngateway 2 total 30\n"
 FLEET_FAULTS = ((3, re.compile(rb"no memory\n")), (1, re.compile(rb"fleet failed\n|missing gateway [12] writer [01]\n")))
 
 # Calls of which one growth alone may be spared: an arena asks for half of a piece that it is refused, and a list that is
-# collected grows as it goes where room for all of it is refused. A take that brings in new keys sets its guesses at places right
-# where there is memory for that, and else leaves them.
+# collected grows as it goes where room for all of it is refused.
 SPARING = ("place", "Writer::look_round", "Writer::collect", "Writer::shutdown", "SharedWriter::try_collect", "SharedWriter::collect")
 SPARING += ("Periodic::tick", "Periodic::flush", "World::apply, Collect", "World::apply, Shutdown", "replay", "Plan::build", "rollup")
-SPARING += ("Gateway::take, a new writer", "SharedGateway::try_take", "SharedGateway::take", "Node::take", "World::apply, Deliver")
+# A take that brings in new keys sets its guesses at places right where there is memory for it, and else leaves them.
+SPARING += ("World::apply, Deliver",)
+
+# Takes whose last growth is that of the guesses: it may be spared alone and with all that follow.
+GUESSING = ("Gateway::take, a new writer", "SharedGateway::try_take", "SharedGateway::take", "Node::take")
 
 # The calls. What each prints with ample memory: the answer, and of a call that changes something what it left and what it
 # answers when it is made again; and what a refused growth makes of the first two, each of which must come. The third is then
@@ -160,8 +163,9 @@ def call_faults(library, program, call, ample, heads):
         for refused in (f"{number}-{number}", f"{number}-"):
             line = told(faults.run(library, [program, call], marked=1, growths=refused))
             came.add(line)
-            spared = line == ample and refused == f"{number}-{number}" and call.startswith(SPARING)
-            if line not in lines and not spared:
+            spared = refused == f"{number}-{number}" and call.startswith(SPARING)
+            spared |= number == whole.growths and call.startswith(GUESSING)
+            if line not in lines and not (spared and line == ample):
                 wrong.append(f"growth {refused} of {whole.growths}: {line}")
     wrong += [f"never answered: {line}" for line in lines if line not in came]
     return whole.growths, wrong
