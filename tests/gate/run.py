@@ -205,6 +205,9 @@ def edits_alone(names):
 
 
 def main(words):
+    if words and words[0] != "edits":
+        print(__doc__)
+        return 0 if words[0] in ("-h", "--help") else 2
     os.chdir(TOP)
     with tempfile.TemporaryDirectory(prefix="gate-") as room:
         ledger = f"{room}/ledger"
