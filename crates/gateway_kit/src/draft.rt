@@ -23,7 +23,6 @@ use crate::weave::Keyed;
 use attr_kit::{AttrSet, NoMemory, TryCopy};
 use point_kit::{Cell, Export, Held, Payload, SharedStream, Stream};
 use std::alloc::Global;
-use std::cmp::Ordering;
 use std::mem;
 
 // The payload, or that there are several.
@@ -141,10 +140,8 @@ pub(crate) fn place_near(
     requires { IsTrue (is_sorted item_cmp (map entry_of items.now)) }
     ensures { IsPlace item_cmp (map entry_of items.now) (stream.now, attrs.now) result }
 {
-    if guess < items.len() {
-        if let Ordering::Equal = items[guess].order(stream, attrs) {
-            return Ok(guess);
-        }
+    if guess < items.len() && items[guess].is_of(stream, attrs) {
+        return Ok(guess);
     }
     place_of(items, stream, attrs)
 }

@@ -120,8 +120,11 @@ impl Gateway {
 
     /// The cells of the keys numbered above a number, as a gateway of the same id that has no numbers.
     ///
-    /// An incarnation whose greatest number is not above it is passed over in constant time: O(m + k) of m incarnations,
-    /// and of k points in the others. Refused with `NoMemory` where a growth was refused.
+    /// O(m + c + n / 512) of m incarnations, of c cells that are numbered so, and of n points in the incarnations that have
+    /// such cells. Others are passed over by one look, and of these each span of 512 points; in what is left each block of
+    /// 16, and only blocks with such a cell are walked over. A copy of a gateway, and an incarnation that came whole by a
+    /// merge, has no such spans until its next numbered change: there all points are looked at. Refused with `NoMemory`
+    /// where a growth was refused.
     pub fn since(&self, alloc: Global, number: u64) -> Result<Gateway, NoMemory>
         ensures id { IfOk result (λ recent. recent.id ≡ self.now.id) }
         ensures value { IfOk result (λ recent. recent.points ≡ retain_keys self.now.points (λ k. nat_lt number (number_of self.now k))) }
