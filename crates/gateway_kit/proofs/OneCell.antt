@@ -1,6 +1,6 @@
 -- One cell joined into the entries of an incarnation.
-use Rattle.std.proofs.Common.{◌≡◌, ℕ, zero, suc, ◌≤◌, max, true, false, cond, List, [], ◌∷◌, map, length, get_or, Option, Some, None, is_some, Result, Ok, Err, IfOk, refl, sym, ap, subst, ◌∙◌, arith}
-use Rattle.std.specs.Prelude.{T, slice_get, slice_set, OnOk}
+use Rattle.std.proofs.Common.{◌≡◌, ℕ, zero, suc, ◌≤◌, max, true, false, cond, List, [], ◌∷◌, map, length, get_or, Some, None, refl, sym, ap, subst, ◌∙◌, arith}
+use Rattle.std.specs.Prelude.{T, slice_get}
 use Rattle.std.specs.Cmp.{Equal-is}
 use Rattle.std.specs.FinMap.{entries, from_sorted, entries-from_sorted}
 use Rattle.std.specs.FinMap.Entries.{find, is_sorted, put, find-put, is_sorted-put}
@@ -14,14 +14,13 @@ use Rattle.point_kit.specs.declared.writer_id.WriterId.{WriterId}
 use Rattle.gateway_kit.specs.Amending.{amend}
 use Rattle.gateway_kit.specs.Changing.{Entry, Drafts, replaced}
 use Rattle.gateway_kit.specs.Growth.{Joins}
-use Rattle.gateway_kit.specs.Keys.{PartKey, ItemKey, part_cmp, item_cmp, entry_of, numbered}
+use Rattle.gateway_kit.specs.Keys.{ItemKey, item_cmp, entry_of, numbered}
 use Rattle.gateway_kit.specs.Part.{Part}
-use Rattle.gateway_kit.specs.Parts.{IsWhole, part_of, has_some}
 use Rattle.gateway_kit.specs.Places.{IsAt, IsGap}
 use Rattle.gateway_kit.specs.Times.{latest}
 use Rattle.gateway_kit.specs.declared.part_item.PartItem.{PartItem}
 use Rattle.gateway_kit.proofs.Drafting.{found_place, drafts_none, drafts_kept, drafts_changed, drafts_fresh}
-use Rattle.gateway_kit.proofs.Entries.{as_T, as_true, itself}
+use Rattle.gateway_kit.proofs.Entries.{as_T, as_true}
 use Rattle.gateway_kit.proofs.Growing.{map-insert}
 use Rattle.gateway_kit.proofs.Joining.{unjoined}
 use Rattle.gateway_kit.proofs.KeyOrders.{item_total, item_exact}

@@ -2,6 +2,7 @@ pub use Rattle.point_kit.specs.Equality
 pub use Rattle.point_kit.specs.Exports
 pub use Rattle.point_kit.specs.Orders
 pub mod Amending
+pub mod Bounding
 pub mod Bringing
 pub mod Changing
 pub mod Growth

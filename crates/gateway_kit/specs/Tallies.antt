@@ -5,10 +5,12 @@ use Rattle.std.specs.FinMap.{entries}
 use Rattle.std.specs.FinMap.Entries.{is_sorted}
 use Rattle.point_kit.specs.declared.cell.Cell.{Cell}
 use Rattle.point_kit.specs.declared.payload.Payload.{Payload}
+use Rattle.gateway_kit.specs.Bounding.{AreBounds}
 use Rattle.gateway_kit.specs.Keys.{ItemKey, entry_of, item_cmp}
 use Rattle.gateway_kit.specs.Part.{Part}
 use Rattle.gateway_kit.specs.Queries.{has_conflict}
 use Rattle.gateway_kit.specs.Times.{latest}
+use Rattle.gateway_kit.specs.declared.bounds.Bounds.{Bounds}
 use Rattle.gateway_kit.specs.declared.part_item.PartItem.{PartItem}
 use Rattle.gateway_kit.specs.declared.tally.Tally.{Tally}
 
@@ -33,11 +35,12 @@ pub record IsTally (es : List (ItemKey × Cell Payload)) (tally : Tally) : Type 
 abbrev pub are_up_to : ℕ → List PartItem → Bool
 are_up_to number items = list_all (λ i. nat_le i.number number) items
 
--- items in the order of their keys, their tally, and a number that none exceeds
-pub record IsKept (items : List PartItem) (tally : Tally) (number : ℕ) : Type 0 where
+-- items in the order of their keys, their tally, a number that none exceeds, and bounds by their places
+pub record IsKept (items : List PartItem) (tally : Tally) (number : ℕ) (bounds : Bounds) : Type 0 where
   pub sorted : IsTrue (is_sorted item_cmp (map entry_of items))
   pub tallied : IsTally (map entry_of items) tally
   pub up_to : IsTrue (are_up_to number items)
+  pub bounded : AreBounds bounds items
 
 -- how many cells of a part are conflicts
 abbrev pub part_conflicts : Part → ℕ

@@ -59,7 +59,14 @@ impl Incarnation {
                 after: before,
             };
         };
-        self.tally = put_cell(&mut self.items, self.tally, 0, place, cell);
+        self.tally = put_cell(
+            &mut self.items,
+            &mut self.bounds,
+            self.tally,
+            0,
+            place,
+            cell,
+        );
         Growth {
             more: 0,
             changed: 1,
@@ -68,7 +75,7 @@ impl Incarnation {
         }
     }
 
-    // Puts a new item in where it belongs.
+    // Puts a new item in where it belongs. Places move, so their bounds are gone.
     fn join_new(&mut self, place: usize, item: PartItem) -> Result<(), NoMemory>
         requires gap { IsGap item_cmp (entries self.old.cells) (item.stream, item.attrs) place }
         requires no_number { item.number ≡ 0 }
@@ -79,6 +86,7 @@ impl Incarnation {
     {
         let tally = self.tally.and(&item.cell);
         self.items.insert(place, item)?;
+        self.bounds.clear();
         self.tally = tally;
         Ok(())
     }

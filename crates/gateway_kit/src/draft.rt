@@ -4,6 +4,7 @@ ghost use Rattle.std.specs.FinMap.Entries.{find, is_sorted};
 ghost use Rattle.point_kit.specs.Join.{join_held};
 ghost use Rattle.point_kit.specs.Equality.{payload_eq};
 ghost use Rattle.gateway_kit.specs.Amending.{amend, amended};
+ghost use Rattle.gateway_kit.specs.Bounding.{AreBounds};
 ghost use Rattle.gateway_kit.specs.Changing.{Entry, Drafts, Finishes, IsUpdate, TakesIn, held_as, replaced};
 ghost use Rattle.std.specs.List.{IsDistinct};
 ghost use Rattle.std.specs.Ordering.{eq_by_cmp};
@@ -12,6 +13,7 @@ ghost use Rattle.gateway_kit.specs.Places.{IsPlace};
 ghost use Rattle.gateway_kit.specs.Numbers.{ItemsMove};
 ghost use Rattle.gateway_kit.specs.Tallies.{IsTally, are_up_to};
 
+use crate::bounds::Bounds;
 use crate::changes::Changes;
 use crate::hint::Hint;
 use crate::part_item::PartItem;
@@ -21,7 +23,6 @@ use crate::weave::Keyed;
 use attr_kit::{AttrSet, NoMemory, TryCopy};
 use point_kit::{Cell, Export, Held, Payload, SharedStream, Stream};
 use std::alloc::Global;
-use std::cmp::Ordering;
 use std::mem;
 
 // The payload, or that there are several.
@@ -66,9 +67,10 @@ fn update_of(mine: &Cell, time: u64, payload: Option<&Payload>) -> Result<Option
 }
 
 // Puts a new cell at a place, where it is further than the one that stands there; past the end nothing. Its key gets the
-// number. Of the tally before it makes the one after.
+// number, and the bounds of its place rise to it. Of the tally before it makes the one after.
 pub(crate) fn put_cell(
     items: &mut Vec<PartItem>,
+    bounds: &mut Bounds,
     tally: Tally,
     number: u64,
     place: usize,
@@ -79,6 +81,7 @@ pub(crate) fn put_cell(
     ensures tally { IsTally (map entry_of items.new.items) result }
     ensures moves { ItemsMove number items.old.items items.new.items }
     ensures up_to { (n : ℕ) → number ≤ n → IsTrue (are_up_to n items.old.items) → IsTrue (are_up_to n items.new.items) }
+    ensures bounded { AreBounds bounds.old items.old.items → AreBounds bounds.new items.new.items }
 {
     if place >= items.len() {
         return tally;
@@ -91,6 +94,7 @@ pub(crate) fn put_cell(
         newest: tally.newest.max(cell.time),
         conflicts: tally.conflicts + conflict_of(&cell) - conflict_of(held),
     };
+    bounds.raise(place, number);
     items[place].put(number, cell);
     tally
 }
@@ -98,6 +102,7 @@ pub(crate) fn put_cell(
 // Puts the new cells at their places, and numbers their keys. Of the tally before it makes the one after.
 pub(crate) fn put_cells(
     items: &mut Vec<PartItem>,
+    bounds: &mut Bounds,
     tally: Tally,
     number: u64,
     updates: Vec<(usize, Cell)>,
@@ -107,10 +112,11 @@ pub(crate) fn put_cells(
     ensures tally { IsTally (map entry_of items.new.items) result }
     ensures moves { ItemsMove number items.old.items items.new.items }
     ensures up_to { (n : ℕ) → number ≤ n → IsTrue (are_up_to n items.old.items) → IsTrue (are_up_to n items.new.items) }
+    ensures bounded { AreBounds bounds.old items.old.items → AreBounds bounds.new items.new.items }
 {
     let mut tally = tally;
     for (place, cell) in updates {
-        tally = put_cell(items, tally, number, place, cell);
+        tally = put_cell(items, bounds, tally, number, place, cell);
     }
     tally
 }
@@ -134,10 +140,8 @@ pub(crate) fn place_near(
     requires { IsTrue (is_sorted item_cmp (map entry_of items.now)) }
     ensures { IsPlace item_cmp (map entry_of items.now) (stream.now, attrs.now) result }
 {
-    if guess < items.len() {
-        if let Ordering::Equal = items[guess].order(stream, attrs) {
-            return Ok(guess);
-        }
+    if guess < items.len() && items[guess].is_of(stream, attrs) {
+        return Ok(guess);
     }
     place_of(items, stream, attrs)
 }

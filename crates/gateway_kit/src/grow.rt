@@ -3,6 +3,7 @@ ghost use Rattle.std.specs.Prelude.{◌≡◌, ℕ, ◌^◌, IsTrue, IfOk, OnOk,
 ghost use Rattle.std.specs.FinMap as finite;
 ghost use Rattle.std.specs.FinMap.{entries, from_sorted};
 ghost use Rattle.std.specs.FinMap.Entries.{is_sorted};
+ghost use Rattle.gateway_kit.specs.Bounding.{AreBounds};
 ghost use Rattle.gateway_kit.specs.Changing.{Prepares, entries_of, grown, held_as, woven_items};
 ghost use Rattle.gateway_kit.specs.Growth.{PartJoins};
 ghost use Rattle.gateway_kit.specs.Keys.{entry_of, item_cmp, part_cmp};
@@ -14,6 +15,7 @@ ghost use Rattle.gateway_kit.specs.Times.{latest};
 ghost use Rattle.std.specs.declared.cmp.Ordering.{Ordering};
 ghost use Rattle.gateway_kit.specs.declared.part_item.PartItem.{PartItem};
 
+use crate::bounds::Bounds;
 use crate::changes::Changes;
 use crate::draft::{Draft, place_of, put_cells};
 use crate::incarnation::Incarnation;
@@ -40,9 +42,11 @@ pub(crate) fn number_all(items: &mut Vec<PartItem>, number: u64)
     }
 }
 
-// Weaves new items in where there is room for them, all under one number. Of the tally before it makes the one after.
+// Weaves new items in where there is room for them, all under one number. Places move then, so their bounds are gone. Of the
+// tally before it makes the one after.
 fn put_items(
     items: &mut Vec<PartItem>,
+    bounds: &mut Bounds,
     tally: Tally,
     number: u64,
     mut fresh: Vec<PartItem>,
@@ -55,6 +59,7 @@ fn put_items(
     ensures tally { IsTally (map entry_of items.new.items) result }
     ensures moves { ItemsMove number items.old.items items.new.items }
     ensures up_to { (n : ℕ) → number ≤ n → IsTrue (are_up_to n items.old.items) → IsTrue (are_up_to n items.new.items) }
+    ensures bounded { AreBounds bounds.old items.old.items → AreBounds bounds.new items.new.items }
     ensures woven { map entry_of items.new.items ≡ woven_items items.old.items fresh.items (vec_capacity room) }
 {
     if !fresh.is_empty() && fresh.len() <= room.capacity().saturating_sub(items.len()) {
@@ -62,6 +67,7 @@ fn put_items(
         let alloc = *items.allocator();
         let mine = mem::replace(items, Vec::new(alloc));
         *items = woven(mine, fresh, room);
+        bounds.clear();
         follow_all(items);
         tally_of(items.as_slice())
     } else {
@@ -82,6 +88,7 @@ impl Incarnation {
             items: Vec::new(alloc),
             tally: Tally::NONE,
             number: 0,
+            bounds: Bounds::none(alloc),
         }
     }
 
@@ -117,6 +124,16 @@ impl Incarnation {
         }
     }
 
+    /// Makes room for the bounds of so many items more, where a change has a number.
+    pub(crate) fn reserve(&mut self, number: u64, more: usize) -> Result<(), NoMemory>
+        ensures { self.new ≡ self.old }
+    {
+        if number > 0 {
+            self.bounds.reserve(self.items.len().saturating_add(more))?;
+        }
+        Ok(())
+    }
+
     // What the points of an export, which is of this incarnation, change.
     fn changes_by(&mut self, alloc: Global, export: &Export) -> Result<Changes, NoMemory>
         ensures prepares { IfOk result (λ c. Prepares (entries self.old.cells) (entries_of export.now) c) }
@@ -149,6 +166,7 @@ impl Incarnation {
         if more > MOST_POINTS - len {
             return Err(NoMemory);
         }
+        self.reserve(number, more)?;
         let before = self.conflicts();
         self.install(number, changes);
         Ok(Growth {
@@ -196,9 +214,23 @@ impl Incarnation {
             fresh,
             room,
         } = changes;
-        let tally = put_cells(&mut self.items, self.tally, number, updates);
-        self.tally = put_items(&mut self.items, tally, number, fresh, room);
+        let tally = put_cells(
+            &mut self.items,
+            &mut self.bounds,
+            self.tally,
+            number,
+            updates,
+        );
+        self.tally = put_items(
+            &mut self.items,
+            &mut self.bounds,
+            tally,
+            number,
+            fresh,
+            room,
+        );
         self.number = self.number.max(number);
+        self.bounds.complete(number, self.items.as_slice());
     }
 }
 
@@ -213,6 +245,7 @@ impl Incarnation {
         }
         number_all(&mut self.items, number);
         self.number = number;
+        self.bounds.clear();
     }
 }
 
@@ -244,12 +277,14 @@ impl Keyed for Incarnation {
 
 impl TryCopy for Incarnation {
     fn try_copy(&self) -> Result<Incarnation, NoMemory> {
+        let alloc = *self.items.allocator();
         Ok(Incarnation {
             writer: self.writer.try_copy()?,
             start: self.start,
             items: copy_all(&self.items)?,
             tally: self.tally,
             number: self.number,
+            bounds: Bounds::none(alloc),
         })
     }
 }

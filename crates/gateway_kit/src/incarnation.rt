@@ -1,4 +1,5 @@
 //! What is held of one incarnation of a writer.
+use crate::bounds::Bounds;
 use crate::part_item::PartItem;
 use crate::tally::Tally;
 use point_kit::WriterId;
@@ -13,6 +14,8 @@ pub(crate) struct Incarnation {
     pub(crate) tally: Tally,
     /// No key has a greater number.
     pub(crate) number: u64,
+    /// Nor has one at a place than the bounds that are known of it.
+    pub(crate) bounds: Bounds,
 }
 
 impl Model for Incarnation {
@@ -29,5 +32,5 @@ impl Model for Incarnation {
 
     ghost view = { λ i. record { writer = i.writer; start = i.start; cells = from_sorted {R = item_cmp} (map entry_of i.items.items); numbers = from_sorted {R = item_cmp} (map numbered i.items.items) } };
 
-    ghost invariant = { λ i. IsKept i.items.items i.tally i.number };
+    ghost invariant = { λ i. IsKept i.items.items i.tally i.number i.bounds };
 }

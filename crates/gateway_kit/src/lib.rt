@@ -13,6 +13,7 @@
 //! gateway), `Queries`, `Numbers` and `Numbering`, `Recent`, `Shared`; joins are those of `point_kit`.
 #![tactic(auto)]
 
+mod bounds;
 mod calls;
 mod cell_joins;
 mod changes;

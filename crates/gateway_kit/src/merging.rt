@@ -19,6 +19,35 @@ use attr_kit::NoMemory;
 use std::alloc::{AllocError, Global};
 use std::mem;
 
+// Makes room for the bounds of so many items more of the incarnation at a place; past the end none.
+fn reserve_part(
+    incarnations: &mut Vec<Incarnation>,
+    number: u64,
+    place: usize,
+    more: usize,
+) -> Result<(), NoMemory>
+    ensures { incarnations.new.items ≡ incarnations.old.items }
+{
+    if place < incarnations.len() {
+        incarnations[place].reserve(number, more)?;
+    }
+    Ok(())
+}
+
+// Makes room for the bounds of the items of all incarnations that are to change.
+fn reserve_parts(
+    incarnations: &mut Vec<Incarnation>,
+    number: u64,
+    updates: &[(usize, Changes)],
+) -> Result<(), NoMemory>
+    ensures { incarnations.new.items ≡ incarnations.old.items }
+{
+    for (place, changes) in updates {
+        reserve_part(incarnations, number, *place, changes.fresh.len())?;
+    }
+    Ok(())
+}
+
 // Makes the changes of the incarnation at a place, and numbers the keys that change; past the end nothing.
 fn put_part(incarnations: &mut Vec<Incarnation>, number: u64, place: usize, changes: Changes)
     ensures change { map part_of incarnations.new.items ≡ amend made (map part_of incarnations.old.items) place changes }
@@ -107,6 +136,7 @@ pub(crate) fn merged(
     } else {
         Vec::with_capacity(alloc, incarnations.len() + fresh.len())?
     };
+    reserve_parts(incarnations, number, &updates)?;
     let before = all_conflicts(incarnations.as_slice());
     put_parts(incarnations, number, updates);
     put_new(incarnations, number, fresh, room);

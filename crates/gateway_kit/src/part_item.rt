@@ -1,6 +1,6 @@
 //! One point of an incarnation.
-ghost use Rattle.std.specs.Prelude.{◌≡◌, IfOk};
-ghost use Rattle.gateway_kit.specs.Keys.{entry_of, item_cmp};
+ghost use Rattle.std.specs.Prelude.{◌≡◌, IfOk, IsTrue};
+ghost use Rattle.gateway_kit.specs.Keys.{ItemKey, entry_of, item_cmp};
 ghost use Rattle.gateway_kit.specs.Numbers.{given};
 
 use crate::hint::Hint;
@@ -30,6 +30,17 @@ impl PartItem {
             .get()
             .cmp(stream)
             .then_with(|| self.attrs.cmp(attrs))
+    }
+
+    /// Whether it is of this key.
+    #[tactic(auto, using(crate::proofs::KeyOrders::item_exact))]
+    pub(crate) fn is_of(&self, stream: &Stream, attrs: &AttrSet) -> bool
+        ensures { IsTrue result → ◌≡◌ {A = ItemKey} (self.now.stream, self.now.attrs) (stream.now, attrs.now) }
+    {
+        match self.order(stream, attrs) {
+            Ordering::Equal => true,
+            _ => false,
+        }
     }
 
     /// Puts another cell in, of a change of this number: of 0 the key keeps the number that it has.

@@ -133,8 +133,9 @@ impl Node {
     ///
     /// It is a delta: it carries the cells of the keys numbered above the greatest number that that node acknowledged, or
     /// all where it acknowledged none, and asks for an Ack of the change number of this node. Where numbers ended it
-    /// carries all and asks for none. A delta takes a look at each incarnation, a walk over the points of those in which a
-    /// key changed since, and a copy of each cell that it carries. Else all cells are copied.
+    /// carries all and asks for none. A delta costs what `Gateway::since` does: a copy of each cell that it carries and a
+    /// walk over that cell's block, a look at each incarnation, and one for each 512 keys of those in which a key changed
+    /// since. Else all cells are copied.
     pub fn send(&self, to: u32) -> Result<Message, NoMemory>
         ensures from { IfOk result (λ message. message.from ≡ self.now.gateway.id) }
         ensures to { IfOk result (λ message. message.to ≡ to) }

@@ -2,6 +2,7 @@ use Rattle.std.proofs.Common.{◌≡◌, ◌<◌, true, false, cond, map, length
 use Rattle.std.specs.Prelude.{slice_set}
 use Rattle.gateway_kit.specs.Changing.{replaced}
 use Rattle.gateway_kit.specs.Keys.{entry_of}
+use Rattle.gateway_kit.proofs.Bounded.{put_bounded}
 use Rattle.gateway_kit.proofs.Moved.{kept_amend, past_amend}
 use Rattle.gateway_kit.proofs.Tallies.{put_under, written_conflicts}
 use Rattle.gateway_kit.specs.Numbers.{given}
@@ -69,3 +70,9 @@ pub returns-clause-up_to : goal.returns-clause-up_to
 returns-clause-up_to c =
     let within : c.args.place < length c.args.items.now.items = search rules in
     put_up_to c.args.number c.args.items.now.items c.args.place c.index_mut.result.now c.put.new.self c.args.cell within c.index_mut.ensures.value c.put.ensures
+
+pub returns-clause-bounded : goal.returns-clause-bounded
+returns-clause-bounded c =
+    let within : c.args.place < length c.args.items.now.items = search rules in
+    let told = ap (λ (i : PartItem). i.number) c.put.ensures in
+    put_bounded c.args.bounds.now c.raise.new.self c.args.items.now.items c.args.place c.args.number c.index_mut.result.now c.put.new.self within c.index_mut.ensures.value told c.raise.ensures.kept c.raise.ensures.here

@@ -8,7 +8,7 @@ use Rattle.gateway_kit.proofs.KeyOrders.{item_total}
 use Rattle.gateway_kit.proofs.draft.put_cells.Goals as goal
 
 pub loop-place-init : goal.loop-place-init
-loop-place-init c = record { put = refl; tally = c.requires; moves = items_stay c.args.number c.args.items.now.items; up_to = λ n g h. h }
+loop-place-init c = record { put = refl; tally = c.requires; moves = items_stay c.args.number c.args.items.now.items; bounded = λ h. h; up_to = λ n g h. h }
 
 pub loop-place-preserved : goal.loop-place-preserved
 loop-place-preserved c = record {
@@ -18,5 +18,6 @@ loop-place-preserved c = record {
       ∙ sym (amended-push item_total replaced (map entry_of c.args.items.now.items) c.loop-place.yielded c.in-Some.place c.in-Some.cell);
   tally = c.put_cell-tally.ensures.tally;
   moves = items_then c.args.number c.args.items.now.items c.loop-place.items.items c.put_cell-tally.new.items.items c.loop-place.invariant.moves c.put_cell-tally.ensures.moves;
+  bounded = λ h. c.put_cell-tally.ensures.bounded (c.loop-place.invariant.bounded h);
   up_to = λ n g h. c.put_cell-tally.ensures.up_to n g (c.loop-place.invariant.up_to n g h);
 }

@@ -1,5 +1,6 @@
 use Rattle.std.proofs.Common.{◌≡◌, ◌≤◌, ℕ, true, map}
 use Rattle.gateway_kit.specs.Amending.{amended}
+use Rattle.gateway_kit.specs.Bounding.{AreBounds}
 use Rattle.gateway_kit.specs.Changing.{replaced}
 use Rattle.gateway_kit.specs.Keys.{entry_of}
 use Rattle.gateway_kit.specs.Numbers.{ItemsMove}
@@ -12,5 +13,6 @@ invariant-loop-place l = record {
   put : map entry_of l.items.items ≡ amended replaced (map entry_of l.fn.items.items) l.yielded;
   tally : IsTally (map entry_of l.items.items) l.tally;
   moves : ItemsMove l.number l.fn.items.items l.items.items;
+  bounded : AreBounds l.fn.bounds l.fn.items.items → AreBounds l.bounds l.items.items;
   up_to : (n : ℕ) → l.number ≤ n → are_up_to n l.fn.items.items ≡ true → are_up_to n l.items.items ≡ true;
 }

@@ -1,7 +1,6 @@
 use Rattle.std.proofs.Common.{◌≡◌, List, ap, ◌∙◌}
 use Rattle.std.specs.FinMap.{entries}
 use Rattle.gateway_kit.specs.Changing.{Entry, entries_of}
-use Rattle.gateway_kit.specs.Keys.{PartKey}
 use Rattle.gateway_kit.specs.Part.{Part, Cells}
 use Rattle.gateway_kit.specs.Parts.{part_of}
 use Rattle.gateway_kit.specs.Tallies.{conflicts_in}

@@ -4,7 +4,7 @@ use Rattle.std.proofs.lemmas.List.{take-map}
 use Rattle.std.proofs.lemmas.Result.{IfOk-weaker}
 use Rattle.std.specs.List.{IsDistinct}
 use Rattle.std.specs.Ordering.{eq_by_cmp}
-use Rattle.gateway_kit.specs.Changing.{Entry, Drafts, Prepares, entries_of}
+use Rattle.gateway_kit.specs.Changing.{Drafts, Prepares, entries_of}
 use Rattle.gateway_kit.specs.Keys.{ItemKey, entry_of, item_cmp}
 use Rattle.gateway_kit.specs.declared.changes.Changes.{Changes}
 use Rattle.gateway_kit.specs.declared.part_item.PartItem.{PartItem}

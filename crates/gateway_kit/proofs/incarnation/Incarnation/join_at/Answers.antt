@@ -36,6 +36,7 @@ pub invariant_of-self : goal.invariant_of-self
 invariant_of-self c = record {
   sorted = ap (is_sorted item_cmp) c.put_cell-self-inside.ensures.put ∙ is_sorted-amend item_total replaced (map entry_of c.self.inside.items.items) c.args.place c.in-Some.cell ∙ c.self.invariant.sorted;
   tallied = c.put_cell-self-inside.ensures.tally;
+  bounded = c.put_cell-self-inside.ensures.bounded c.self.invariant.bounded;
   up_to = c.put_cell-self-inside.ensures.up_to c.self.inside.number (omega arith) c.self.invariant.up_to;
 }
 

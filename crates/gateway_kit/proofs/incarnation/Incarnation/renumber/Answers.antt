@@ -11,6 +11,7 @@ pub invariant_of-self : goal.invariant_of-self
 invariant_of-self c = record {
   sorted = ap (is_sorted item_cmp) c.number_all.ensures.entries ∙ c.self.invariant.sorted;
   tallied = subst (λ (es : List Entry). IsTally es c.self.inside.tally) (sym c.number_all.ensures.entries) c.self.invariant.tallied;
+  bounded = c.clear.ensures c.number_all.new.items.items;
   up_to = all_up_to c.args.number c.number_all.new.items.items c.number_all.ensures.numbers c.args.number (omega arith);
 }
 

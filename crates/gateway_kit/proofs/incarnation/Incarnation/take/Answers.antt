@@ -11,7 +11,7 @@ pub returns-clause-joins : goal.returns-clause-joins
 returns-clause-joins c =
     let changes = c.in_ok-changes.changes in
     let cells : Cells = c.install.new.self.cells in
-    let is : cells ≡ from_sorted {R = item_cmp} (grown (entries c.args.self.now.cells) changes) = ap (λ (e : PartKey × Cells). e.1) c.install.ensures.cells ∙ ap (λ (p : Part). from_sorted {R = item_cmp} (grown (entries p.cells) changes)) c.in_ok-changes.ensures.unchanged in
+    let is : cells ≡ from_sorted {R = item_cmp} (grown (entries c.args.self.now.cells) changes) = ap (λ (e : PartKey × Cells). e.1) c.install.ensures.cells ∙ ap (λ (p : Part). from_sorted {R = item_cmp} (grown (entries p.cells) changes)) (c.reserve.ensures ∙ c.in_ok-changes.ensures.unchanged) in
     let more : c.len-more.result ≡ length changes.fresh.items = search rules in
     let changed : c.len.result + c.len-more.result ≡ length changes.updates.items + length changes.fresh.items = grind (arith, common_steps) in
     grown_joins c.args.self.now cells (entries_of c.args.export.now) changes c.len-more.result (c.len.result + c.len-more.result) c.in_ok-changes.ensures.prepares is more changed
