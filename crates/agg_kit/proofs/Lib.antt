@@ -21,3 +21,4 @@ pub mod Rounds
 pub mod SeriesLaws
 pub mod Sound
 pub mod Steps
+pub mod Taken

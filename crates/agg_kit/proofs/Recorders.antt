@@ -35,7 +35,7 @@ use Rattle.agg_kit.proofs.Steps.{place-held, place-room}
 
 -- ---- the round without a limit
 
-length-whole : (p : Planned) (h : List Entry) → length (whole_round p h) ≡ length p.streams
+pub length-whole : (p : Planned) (h : List Entry) → length (whole_round p h) ≡ length p.streams
 unfolding whole_round
 length-whole p h = length-map (enumerate_from 0 p.streams) (λ s. points_of s.1.shape (arrivals p s.0 h)) ∙ length-enumerate_from 0 p.streams
 
@@ -72,18 +72,18 @@ rises-none p m h = ap (λ ss. series_at ss m) (round-none p) ∙ none-at (length
 
 -- ---- one more recording
 
-both : (b c : Bool) → (b && c) ≡ true → (b ≡ true) × (c ≡ true)
+pub both : (b c : Bool) → (b && c) ≡ true → (b ≡ true) × (c ≡ true)
 both true c h = (refl, h)
 both false c h = absurd (true≢false (sym h))
 
-keeps-first : (p : Planned) (a : AttrSet) (ss : List Points) (f : Feed) (fs : List Feed) → list_all (keeps_set p a ss) (f ∷ fs) ≡ true → keeps_set p a ss f ≡ true
+pub keeps-first : (p : Planned) (a : AttrSet) (ss : List Points) (f : Feed) (fs : List Feed) → list_all (keeps_set p a ss) (f ∷ fs) ≡ true → keeps_set p a ss f ≡ true
 keeps-first p a ss f fs h = (both (keeps_set p a ss f) (list_all (keeps_set p a ss) fs) h).0
 
 keeps-rest : (p : Planned) (a : AttrSet) (ss : List Points) (f : Feed) (fs : List Feed) → list_all (keeps_set p a ss) (f ∷ fs) ≡ true → list_all (keeps_set p a ss) fs ≡ true
 keeps-rest p a ss f fs h = (both (keeps_set p a ss f) (list_all (keeps_set p a ss) fs) h).1
 
 -- the parts of what a feed keeps
-keeps-rises : (p : Planned) (a : AttrSet) (ss : List Points) (f : Feed) → keeps_set p a ss f ≡ true → rises (shape_at p f.stream) ≡ true
+pub keeps-rises : (p : Planned) (a : AttrSet) (ss : List Points) (f : Feed) → keeps_set p a ss f ≡ true → rises (shape_at p f.stream) ≡ true
 keeps-rises p a ss f h = (both (rises (shape_at p f.stream)) (set_eq (place p.limit (series_at ss f.stream) (kept f.keep a)) (kept f.keep a)) h).0
 
 keeps-place : (p : Planned) (a : AttrSet) (ss : List Points) (f : Feed) → keeps_set p a ss f ≡ true → place p.limit (series_at ss f.stream) (kept f.keep a) ≡ kept f.keep a
@@ -122,7 +122,7 @@ more-held p n m ss xs (f ∷ fs) a v fit at keeps = by (f.stream == m) refl (mor
         (ap (λ (b : AttrSet). add_under shape (points_of shape xs) b v) (goes is) ∙ sym (points-push shape xs set v))
     by false e rest = rest
 
-keeps-all : (r : Tallied) (e : Entry) → record_fault_of r e ≡ None → keeps_sets r e ≡ true
+pub keeps-all : (r : Tallied) (e : Entry) → record_fault_of r e ≡ None → keeps_sets r e ≡ true
 keeps-all r e = by (keeps_sets r e)
   where
     by : (b : Bool) → (if b then option_map told (fault_of r e) else Some record_faults.Full) ≡ None → b ≡ true
@@ -239,13 +239,13 @@ length-absorbed limit [] mss = refl
 length-absorbed limit (es ∷ ess) [] = refl
 length-absorbed limit (es ∷ ess) (ms ∷ mss) = ap suc (length-absorbed limit ess mss)
 
-at-absorbed : (limit : ℕ) (ess mss : List Points) (m : ℕ) → m < length ess → m < length mss → series_at (absorbed limit ess mss) m ≡ absorb limit (series_at ess m) (series_at mss m)
+pub at-absorbed : (limit : ℕ) (ess mss : List Points) (m : ℕ) → m < length ess → m < length mss → series_at (absorbed limit ess mss) m ≡ absorb limit (series_at ess m) (series_at mss m)
 at-absorbed limit [] mss m k l = absurd (omega (arith, k))
 at-absorbed limit (es ∷ ess) [] m k l = absurd (omega (arith, l))
 at-absorbed limit (es ∷ ess) (ms ∷ mss) zero k l = refl
 at-absorbed limit (es ∷ ess) (ms ∷ mss) (suc m) k l = at-absorbed limit ess mss m (omega (arith, k)) (omega (arith, l))
 
-at-stream : (p : Planned) (h : List Entry) (m : ℕ) (s : Stream) → stream_of p m ≡ Some s → series_at (round p h) m ≡ points_of s.shape (placed p.limit (arrivals p m h))
+pub at-stream : (p : Planned) (h : List Entry) (m : ℕ) (s : Stream) → stream_of p m ≡ Some s → series_at (round p h) m ≡ points_of s.shape (placed p.limit (arrivals p m h))
 unfolding fed
 at-stream p h m s e = got (round p h) m _ [] (round-at p h m s e)
 

@@ -17,4 +17,5 @@ pub mod Refusals
 pub mod Rounds
 pub mod Sound
 pub mod Steps
+pub mod Taken
 pub mod Tallies

@@ -10,6 +10,7 @@ ghost use Rattle.agg_kit.specs.Measuring.{after_measure, early_fault_of, empty_t
 ghost use Rattle.agg_kit.specs.Recorders.{Holds, RecordersHold, AbsorbingIsRecording};
 ghost use Rattle.agg_kit.specs.Refusals.{refused};
 ghost use Rattle.agg_kit.specs.Rounds.{StandsFor};
+ghost use Rattle.agg_kit.specs.Taken.{AbsorbedAreTaken, HasRecorded, RecordersHave};
 ghost use Rattle.agg_kit.specs.Tallies.{Tallied};
 
 /// The steps of a tally are recordings: one without points stands for none of them, one that stands for a list stands after
@@ -58,4 +59,14 @@ pub fn absorbing_is_recording()
     ensures empty { (p : Planned) → Holds (empty_tally p) [] }
     ensures holds { RecordersHold }
     ensures stands { AbsorbingIsRecording }
+{}
+
+/// What a recorder accepted would have been accepted: where a tally that stands for accepted recordings takes it in, each of its
+/// recordings fits there after those before it, and the tally stands for all of them. That each feed of the plan has a stream of
+/// its own, `Plan::streams_len` says.
+#[tactic(auto, using(crate::proofs::Taken::recorded_none))]
+pub fn recorded_is_accepted()
+    ensures empty { (p : Planned) → HasRecorded (empty_tally p) [] }
+    ensures records { RecordersHave }
+    ensures accepted { AbsorbedAreTaken }
 {}

@@ -34,8 +34,8 @@ mod tally;
 pub use bound::Bound;
 pub use fault::{MeasureFault, RecordFault};
 pub use laws::{
-    absorbing_is_recording, bound_points_stay, points_are_absorbed, rounds_have_what_was_fed,
-    steps_are_recordings,
+    absorbing_is_recording, bound_points_stay, points_are_absorbed, recorded_is_accepted,
+    rounds_have_what_was_fed, steps_are_recordings,
 };
 pub use recorder::Recorder;
 pub use tally::Tally;

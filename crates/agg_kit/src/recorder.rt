@@ -1,11 +1,12 @@
 //! Recorders: a thread's own tally, which another tally takes in.
-ghost use Rattle.std.specs.Prelude.{◌≡◌, ◌≢◌, ◌↔◌, length, Some, None, IfOk, IfErr, OnOk, OnErr, IsOk, IsTrue};
+ghost use Rattle.std.specs.Prelude.{◌≡◌, ◌≢◌, ◌↔◌, ◌∷◌, ◌++◌, [], List, length, Some, None, IfOk, IfErr, OnOk, OnErr, IsOk, IsTrue};
 ghost use Rattle.plan_kit.specs.Plans.{AreFeeds, rises};
-ghost use Rattle.agg_kit.specs.Entries.{entry_of};
+ghost use Rattle.agg_kit.specs.Entries.{Entry, entry_of};
 ghost use Rattle.agg_kit.specs.Feeding.{overflow_set};
 ghost use Rattle.agg_kit.specs.Feeds.{IsHeld, AreHeld};
 ghost use Rattle.agg_kit.specs.Measuring.{after_measure, empty_tally};
 ghost use Rattle.agg_kit.specs.Recorders.{keep_sets, record_fault_of, OnlyRises};
+ghost use Rattle.agg_kit.specs.Taken.{HasRecorded};
 
 use crate::recording::{chosen, restricted, shape_of};
 use crate::series::Series;
@@ -43,6 +44,7 @@ impl Recorder {
     /// A recorder of a plan, which holds nothing. O(size of the plan).
     pub fn new(alloc: Global, plan: &Plan) -> Result<Recorder, NoMemory>
         ensures value { IfOk result (λ recorder. recorder ≡ empty_tally plan.now) }
+        ensures empty { IfOk result (λ recorder. HasRecorded recorder []) }
     {
         let tally = Tally::new(alloc, plan.try_copy()?)?;
         Ok(Recorder { tally })
@@ -60,6 +62,8 @@ impl Recorder {
     ) -> Result<(), RecordFault>
         ensures ok { OnOk result (record_fault_of self.old (entry_of instrument attrs.now value) ≡ None) }
         ensures value { OnOk result (self.new ≡ after_measure self.old (entry_of instrument attrs.now value)) }
+        // What it has accepted since it was empty, and this recording.
+        ensures recorded { OnOk result ((k : List Entry) → HasRecorded self.old k → HasRecorded self.new (k ++ entry_of instrument attrs.now value ∷ [])) }
         ensures err { IfErr result (λ f. f ≢ RecordFault.NoMemory → record_fault_of self.old (entry_of instrument attrs.now value) ≡ Some f) }
         ensures held { IsHeld self.old (entry_of instrument attrs.now value) → IfErr result (λ f. f ≢ RecordFault.NoMemory) }
         ensures unchanged { OnErr result (self.new ≡ self.old) }

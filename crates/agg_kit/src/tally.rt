@@ -12,7 +12,8 @@ ghost use Rattle.agg_kit.specs.Recorders.{absorb_fault, keeps_sets, with_recorde
 ghost use Rattle.agg_kit.specs.Refusals.{is_negative_for};
 ghost use Rattle.agg_kit.specs.declared.fault.MeasureFault.TheVariants as faults;
 ghost use Rattle.agg_kit.specs.Sound.{AllSound};
-ghost use Rattle.plan_kit.specs.Plans.{feeds_of};
+ghost use Rattle.plan_kit.specs.Plans.{feeds_of, kind_of, AllRise};
+ghost use Rattle.plan_kit.specs.declared.instrument.Kind.{Kind};
 
 use crate::absorbing::absorb_into;
 use crate::bound::places_of;
@@ -202,6 +203,7 @@ impl Tally {
     // Whether each feed of an instrument leads to a stream that only rises, with a point of its own for the set, or room for one.
     pub(crate) fn keeps_sets(&self, instrument: usize, attrs: &AttrSet) -> Result<bool, NoMemory>
         ensures value { IfOk result (λ keeps. (v : ℤ) → keeps ≡ keeps_sets self.now (entry_of instrument attrs.now v)) }
+        ensures rising { (k : Kind) → kind_of self.now.plan instrument ≡ Some k → AllRise self.now.plan k (feeds_of self.now.plan instrument) }
         ensures held { (v : ℤ) → IsHeld self.now (entry_of instrument attrs.now v) → IsOk result }
     {
         match self.plan.feeds(instrument) {

@@ -1,0 +1,491 @@
+-- Each recording of a recorder that is taken in would have been accepted, one after the other.
+use Rattle.std.proofs.Common.{◌≡◌, ◌≢◌, ◌∙◌, ◌⊎◌, inl, inr, ℕ, ℤ, pos, ◌+◌, ◌+ℤ◌, ◌<◌, ◌≤◌, ◌^◌, ◌==◌, ◌||◌, ◌&&◌, not, cond, Bool, true, false, List, [], ◌∷◌, ◌++◌, Option, None, Some, length, map, filter, find, fold, is_none, if◌then◌else◌, int_lt, nat_le, refl, sym, ap, subst, arith, suc, zero, true≢false, append-nil, append_assoc, FitsSigned, w64}
+use Rattle.std.specs.Cmp.{unsigned_Decides}
+use Rattle.std.specs.List.{list_all}
+use Rattle.std.specs.Map.{lookup}
+use Rattle.std.specs.Option.{option_map, option_map_or}
+use Rattle.std.proofs.lemmas.Bool.Decides.{nat_tests}
+use Rattle.std.proofs.lemmas.Int.{ints}
+use Rattle.std.proofs.lemmas.List.{map-append, length-append}
+use Rattle.indexmap.specs.IndexMap.{insert_entry}
+use Rattle.attr_kit.specs.declared.attr_set.AttrSet.{AttrSet}
+use Rattle.attr_kit.specs.Keeping.{kept}
+use Rattle.attr_kit.specs.Refusing.{first, when}
+use Rattle.point_kit.specs.declared.payload.Payload.{Payload}
+use Rattle.point_kit.specs.declared.shape.Shape.{Shape}
+use Rattle.point_kit.specs.declared.shape.Shape.TheVariants as shapes
+use Rattle.point_kit.specs.declared.stream.Stream.{Stream}
+use Rattle.plan_kit.specs.Plans.{Planned, AllRise, AreFeeds, feeds_of, kind_of, only_rises, rises, stream_of}
+use Rattle.plan_kit.specs.declared.instrument.Kind.{Kind}
+use Rattle.plan_kit.specs.declared.feed.Feed.{Feed}
+use Rattle.agg_kit.specs.Absorbs.{absorb, fits, merged, met}
+use Rattle.agg_kit.specs.Entries.{Entry, Arrivals, arrivals, brought}
+use Rattle.agg_kit.specs.Feeding.{set_eq, own_sets, goes_to, placed, fed}
+use Rattle.agg_kit.specs.Feeds.{series_at, shape_at}
+use Rattle.agg_kit.specs.Measuring.{after_measure, empty_tally, fault_of, is_over}
+use Rattle.agg_kit.specs.Payloads.{total, fits_sum, is_out_of_range, payload_of}
+use Rattle.agg_kit.specs.Recorders.{Holds, OnlyRises, keeps_set, keeps_sets, record_fault_of, told, absorbed, with_recorder, first_unfit, absorb_fault}
+use Rattle.agg_kit.specs.Refusals.{is_negative_for, overflows, refused}
+use Rattle.agg_kit.specs.Rounds.{values_of, points_of, round, StandsFor}
+use Rattle.agg_kit.specs.Steps.{place, payload_at}
+use Rattle.agg_kit.specs.Tallies.{Points, Tallied}
+use Rattle.agg_kit.specs.Taken.{AreTaken, Rises, AreRecorded, HasRecorded, RecordersHave, AbsorbedAreTaken}
+use Rattle.agg_kit.specs.declared.fault.MeasureFault.{MeasureFault}
+use Rattle.agg_kit.specs.declared.fault.MeasureFault.TheVariants as faults
+use Rattle.agg_kit.specs.declared.fault.RecordFault.{RecordFault}
+use Rattle.agg_kit.specs.declared.fault.RecordFault.TheVariants as record_faults
+use Rattle.agg_kit.proofs.Distinct.{or-no, same}
+use Rattle.agg_kit.proofs.Inserts.{lookup-here, lookup-other}
+use Rattle.agg_kit.proofs.Limits.{not-true, not-false, moved, same-fed, placed-push}
+use Rattle.agg_kit.proofs.Parts.{fits-signed, signed-fits}
+use Rattle.agg_kit.proofs.Payloads.{total-push}
+use Rattle.agg_kit.proofs.Points.{payload-is, values-push}
+use Rattle.agg_kit.proofs.Recorders.{holds-none, rises-none, rises-still, recorders_hold, absorbing_is_recording, keeps-all, at-absorbed, at-stream, length-whole, both, keeps-first, keeps-rises}
+use Rattle.agg_kit.proofs.Refusals.{Every}
+use Rattle.agg_kit.proofs.RoundLaws.{grown, goes-on}
+use Rattle.agg_kit.proofs.Rounds.{within, length-round, arrivals-append, arrivals-push, brought-none}
+
+-- ---- values that are not below 0
+
+abbrev NoneBelow : List ℤ → Type 0
+NoneBelow [] = Unit {0}
+NoneBelow (v ∷ vs) = (int_lt v (pos 0) ≡ false) × NoneBelow vs
+
+abbrev AreRising : Arrivals → Type 0
+AreRising [] = Unit {0}
+AreRising (x ∷ xs) = (int_lt x.1 (pos 0) ≡ false) × AreRising xs
+
+values-rise : (xs : Arrivals) (a : AttrSet) → AreRising xs → NoneBelow (values_of xs a)
+values-rise [] a r = tt
+values-rise (x ∷ xs) a r = by (set_eq a x.0) (values-rise xs a r.1)
+  where
+    by : (t : Bool) → NoneBelow (values_of xs a) → NoneBelow (map (λ (x : AttrSet × ℤ). x.1) (cond t (x ∷ filter (λ x. set_eq a x.0) xs) (filter (λ x. set_eq a x.0) xs)))
+    by true k = (r.0, k)
+    by false k = k
+
+moved-rise : (h : AttrSet → AttrSet) (xs : Arrivals) → AreRising xs → AreRising (moved h xs)
+moved-rise h [] r = tt
+moved-rise h (x ∷ xs) r = (r.0, moved-rise h xs r.1)
+
+append-rise : (xs ys : Arrivals) → AreRising xs → AreRising ys → AreRising (xs ++ ys)
+append-rise [] ys r s = s
+append-rise (x ∷ xs) ys r s = (r.0, append-rise xs ys r.1 s)
+
+all-rise : (a : AttrSet) (v : ℤ) → int_lt v (pos 0) ≡ false → (fs : List Feed) → AreRising (map (λ f. (kept f.keep a, v)) fs)
+all-rise a v h [] = tt
+all-rise a v h (f ∷ fs) = (h, all-rise a v h fs)
+
+not-empty : (f : Feed) (fs : List Feed) → f ∷ fs ≢ []
+not-empty f fs e = cc
+
+brought-rise : (m : ℕ) (fs : List Feed) (a : AttrSet) (v : ℤ) → (fs ≢ [] → int_lt v (pos 0) ≡ false) → AreRising (brought m fs a v)
+brought-rise m [] a v h = tt
+brought-rise m (f ∷ fs) a v h = all-rise a v (h (not-empty f fs)) (filter (λ f. f.stream == m) (f ∷ fs))
+
+recorded-rise : (p : Planned) (r : Tallied) (k : List Entry) (m : ℕ) → r.plan ≡ p → AreRecorded r k → AreRising (arrivals p m k)
+recorded-rise p r [] m is rec = tt
+recorded-rise p r (e ∷ k) m is rec =
+    append-rise (brought m (feeds_of p e.instrument) e.attrs e.value) (arrivals p m k)
+    (brought-rise m (feeds_of p e.instrument) e.attrs e.value (subst (λ (q : Planned). Rises q e) is rec.1))
+    (recorded-rise p (after_measure r e) k m is rec.2)
+
+total-append : (vs ws : List ℤ) → total (vs ++ ws) ≡ total vs +ℤ total ws
+total-append vs = grown (λ ws. total (vs ++ ws) ≡ total vs +ℤ total ws) (ap total (append-nil vs) ∙ omega (arith, ints)) push
+  where
+    push : (ws : List ℤ) (w : ℤ) → total (vs ++ ws) ≡ total vs +ℤ total ws → total (vs ++ (ws ++ w ∷ [])) ≡ total vs +ℤ total (ws ++ w ∷ [])
+    push ws w h =
+        let a : total ((vs ++ ws) ++ w ∷ []) ≡ total (vs ++ ws) +ℤ w = total-push (vs ++ ws) w in
+        let b : total (ws ++ w ∷ []) ≡ total ws +ℤ w = total-push ws w in
+        ap total (sym (append_assoc vs ws (w ∷ []))) ∙ omega (arith, ints)
+
+total-cons : (w : ℤ) (vs : List ℤ) → total (w ∷ vs) ≡ w +ℤ total vs
+total-cons w = grown (λ vs. total (w ∷ vs) ≡ w +ℤ total vs) (omega (arith, ints)) (λ vs v h. let a = total-push (w ∷ vs) v in let b = total-push vs v in omega (arith, ints))
+
+not-below : (s v : ℤ) → int_lt s (pos 0) ≡ false → int_lt v (pos 0) ≡ false → int_lt (s +ℤ v) (pos 0) ≡ false
+not-below s v h k = grind (arith, ints)
+
+total-rise : (vs : List ℤ) → NoneBelow vs → int_lt (total vs) (pos 0) ≡ false
+total-rise [] r = refl
+total-rise (v ∷ vs) r = subst (λ (n : ℤ). int_lt n (pos 0) ≡ false) (sym (total-cons v vs)) (not-below v (total vs) r.0 (total-rise vs r.1))
+
+-- ---- a payload between two that are in range
+
+fits-between : (n m k : ℤ) → int_lt m (pos 0) ≡ false → int_lt k (pos 0) ≡ false → FitsSigned w64 n → FitsSigned w64 ((n +ℤ m) +ℤ k) → FitsSigned w64 (n +ℤ m)
+fits-between n m k h g low high = grind (arith, ints)
+
+sum-between : (vs ws us : List ℤ) → NoneBelow ws → NoneBelow us → not (fits_sum (total vs)) ≡ false → not (fits_sum (total ((vs ++ ws) ++ us))) ≡ false → not (fits_sum (total (vs ++ ws))) ≡ false
+sum-between vs ws us r s low high =
+    let n = total vs in
+    let m = total ws in
+    let k = total us in
+    let a : FitsSigned w64 n = fits-signed n (not-false (fits_sum n) low) in
+    let z : total ((vs ++ ws) ++ us) ≡ (n +ℤ m) +ℤ k = total-append (vs ++ ws) us ∙ ap (λ (x : ℤ). x +ℤ k) (total-append vs ws) in
+    let b : FitsSigned w64 ((n +ℤ m) +ℤ k) = fits-signed ((n +ℤ m) +ℤ k) (ap fits_sum (sym z) ∙ not-false (fits_sum (total ((vs ++ ws) ++ us))) high) in
+    ap (λ (x : ℤ). not (fits_sum x)) (total-append vs ws) ∙ ap not (signed-fits (n +ℤ m) (fits-between n m k (total-rise ws r) (total-rise us s) a b))
+
+count-less : (m n : ℕ) → nat_le (2 ^ 64) (m + n) ≡ false → nat_le (2 ^ 64) m ≡ false
+count-less m n h = grind (arith, nat_tests)
+
+payload-between : (shape : Shape) (vs ws us : List ℤ) → NoneBelow ws → NoneBelow us → is_out_of_range (payload_of shape vs) ≡ false → is_out_of_range (payload_of shape ((vs ++ ws) ++ us)) ≡ false
+    → is_out_of_range (payload_of shape (vs ++ ws)) ≡ false
+payload-between (shapes.Sum m) vs ws us r s low high = sum-between vs ws us r s low high
+payload-between shapes.Gauge vs ws us r s low high = refl
+payload-between (shapes.Histogram bounds) vs ws us r s low high =
+    let l = or-no (not (fits_sum (total vs))) (nat_le (2 ^ 64) (length vs)) low in
+    let h = or-no (not (fits_sum (total ((vs ++ ws) ++ us)))) (nat_le (2 ^ 64) (length ((vs ++ ws) ++ us))) high in
+    neither _ _ (sum-between vs ws us r s l.0 h.0) (count-less (length (vs ++ ws)) (length us) (ap (nat_le (2 ^ 64)) (sym (length-append (vs ++ ws) us)) ∙ h.1))
+  where
+    neither : (p q : Bool) → p ≡ false → q ≡ false → (p || q) ≡ false
+    neither true q h k = h
+    neither false q h k = k
+
+-- ---- what lists bring, one after the other
+
+values-append : (xs ys : Arrivals) (a : AttrSet) → values_of (xs ++ ys) a ≡ values_of xs a ++ values_of ys a
+values-append [] ys a = refl
+values-append (x ∷ xs) ys a = by (set_eq a x.0) (values-append xs ys a)
+  where
+    by : (t : Bool) → values_of (xs ++ ys) a ≡ values_of xs a ++ values_of ys a
+        → map (λ (x : AttrSet × ℤ). x.1) (cond t (x ∷ filter (λ x. set_eq a x.0) (xs ++ ys)) (filter (λ x. set_eq a x.0) (xs ++ ys)))
+        ≡ map (λ (x : AttrSet × ℤ). x.1) (cond t (x ∷ filter (λ x. set_eq a x.0) xs) (filter (λ x. set_eq a x.0) xs)) ++ values_of ys a
+    by true h = ap (λ l. x.1 ∷ l) h
+    by false h = h
+
+-- what was fed before, and what is fed after
+fed-later : (limit : ℕ) (xs ys : Arrivals) → placed limit (xs ++ ys) ≡ placed limit xs ++ moved (goes_to (own_sets limit (xs ++ ys))) ys
+fed-later limit xs ys =
+    let now = goes_to (own_sets limit (xs ++ ys)) in
+    map-append (λ (x : AttrSet × ℤ). let p : AttrSet × ℤ = (now x.0, x.1) in p) xs ys
+    ∙ ap (λ l. l ++ moved now ys) (same-fed xs now (goes_to (own_sets limit xs)) (goes-on limit xs ys))
+
+fed-between : (shape : Shape) (limit : ℕ) (xs ys zs : Arrivals) (a : AttrSet) → AreRising ys → AreRising zs → is_out_of_range (payload_of shape (values_of (placed limit xs) a)) ≡ false
+    → is_out_of_range (payload_of shape (values_of (placed limit ((xs ++ ys) ++ zs)) a)) ≡ false → is_out_of_range (payload_of shape (values_of (placed limit (xs ++ ys)) a)) ≡ false
+fed-between shape limit xs ys zs a r s low high =
+    let vs = values_of (placed limit xs) a in
+    let g = goes_to (own_sets limit (xs ++ ys)) in
+    let f = goes_to (own_sets limit ((xs ++ ys) ++ zs)) in
+    let ws = values_of (moved g ys) a in
+    let us = values_of (moved f zs) a in
+    let one : values_of (placed limit (xs ++ ys)) a ≡ vs ++ ws = ap (λ l. values_of l a) (fed-later limit xs ys) ∙ values-append (placed limit xs) (moved g ys) a in
+    let two : values_of (placed limit ((xs ++ ys) ++ zs)) a ≡ (vs ++ ws) ++ us =
+    ap (λ l. values_of l a) (fed-later limit (xs ++ ys) zs) ∙ values-append (placed limit (xs ++ ys)) (moved f zs) a ∙ ap (λ l. l ++ us) one in
+    ap (λ l. is_out_of_range (payload_of shape l)) one
+    ∙ payload-between shape vs ws us (values-rise (moved g ys) a (moved-rise g ys r)) (values-rise (moved f zs) a (moved-rise f zs s)) low (ap (λ l. is_out_of_range (payload_of shape l)) (sym two) ∙ high)
+
+-- every point that recordings come to is in range
+abbrev InRange : Planned → List Entry → Type 0
+InRange p h = (m : ℕ) (s : Stream) (a : AttrSet) → stream_of p m ≡ Some s → is_out_of_range (payload_of s.shape (values_of (placed p.limit (arrivals p m h)) a)) ≡ false
+
+range-between : (p : Planned) (h : List Entry) (e : Entry) (k : List Entry) → ((m : ℕ) → AreRising (brought m (feeds_of p e.instrument) e.attrs e.value)) → ((m : ℕ) → AreRising (arrivals p m k))
+    → InRange p h → InRange p ((h ++ e ∷ []) ++ k) → InRange p (h ++ e ∷ [])
+range-between p h e k one more low high m s a at =
+    let xs = arrivals p m h in
+    let ys = brought m (feeds_of p e.instrument) e.attrs e.value in
+    let zs = arrivals p m k in
+    ap (λ l. is_out_of_range (payload_of s.shape (values_of (placed p.limit l) a))) (arrivals-push p m h e)
+    ∙ fed-between s.shape p.limit xs ys zs a (one m) (more m) (low m s a at)
+    (ap (λ l. is_out_of_range (payload_of s.shape (values_of (placed p.limit l) a))) (sym (arrivals-append p m (h ++ e ∷ []) k ∙ ap (λ l. l ++ zs) (arrivals-push p m h e))) ∙ high m s a at)
+
+-- ---- one recording that is accepted
+
+find-none : {X : Type 0} (q : X → Bool) (xs : List X) → Every (λ x. q x ≡ false) xs → find q xs ≡ None
+find-none q [] h = refl
+find-none q (x ∷ xs) h = ap (λ b. cond b (Some x) (find q xs)) h.0 ∙ find-none q xs h.1
+
+every-all : {X : Type 0} (P : X → Type 0) → ((x : X) → P x) → (xs : List X) → Every P xs
+every-all P h [] = tt
+every-all P h (x ∷ xs) = (h x, every-all P h xs)
+
+overflows-none : (p : Planned) (h : List Entry) (a : AttrSet) (f : Feed) → InRange p h → overflows p h a f ≡ false
+unfolding fed
+overflows-none p h a f range = by (stream_of p f.stream) refl
+  where
+    set : AttrSet
+    set = goes_to (own_sets p.limit (arrivals p f.stream h)) (kept f.keep a)
+
+    by : (o : Option Stream) → stream_of p f.stream ≡ o → option_map_or (λ (s : Stream). is_out_of_range (payload_of s.shape (values_of (placed p.limit (arrivals p f.stream h)) set))) o false ≡ false
+    by None e = refl
+    by (Some s) e = range f.stream s set e
+
+accepted : (p : Planned) (h : List Entry) (e : Entry) → is_none (kind_of p e.instrument) ≡ false → is_negative_for (kind_of p e.instrument) e.value ≡ false → InRange p (h ++ e ∷ []) → refused p h e ≡ None
+unfolding refused
+accepted p h e n b range =
+    let none : find (overflows p (h ++ e ∷ []) e.attrs) (feeds_of p e.instrument) ≡ None =
+    find-none (overflows p (h ++ e ∷ []) e.attrs) (feeds_of p e.instrument) (every-all (λ f. overflows p (h ++ e ∷ []) e.attrs f ≡ false) (λ f. overflows-none p (h ++ e ∷ []) e.attrs f range) (feeds_of p e.instrument)) in
+    rw (n, b, none) refl
+
+-- what a recorder accepted has an instrument, and is not below 0 where that takes no such values
+told-none : (o : Option MeasureFault) → option_map told o ≡ None → o ≡ None
+told-none None h = refl
+told-none (Some f) h = absurd (cc)
+
+record-none : (r : Tallied) (e : Entry) → record_fault_of r e ≡ None → fault_of r e ≡ None
+record-none r e h = told-none (fault_of r e) (ap (λ b. if b then option_map told (fault_of r e) else Some record_faults.Full) (sym (keeps-all r e h)) ∙ h)
+
+neither : {F : Type 0} (b c : Bool) (f g : F) (o : Option F) → first (when b f ∷ when c g ∷ o ∷ []) ≡ None → (b ≡ false) × (c ≡ false)
+neither true c f g o e = absurd (cc)
+neither false true f g o e = absurd (cc)
+neither false false f g o e = (refl, refl)
+
+fits-instrument : (r : Tallied) (e : Entry) → fault_of r e ≡ None → (is_none (kind_of r.plan e.instrument) ≡ false) × (is_negative_for (kind_of r.plan e.instrument) e.value ≡ false)
+unfolding fault_of
+fits-instrument r e h =
+    neither (is_none (kind_of r.plan e.instrument)) (is_negative_for (kind_of r.plan e.instrument) e.value) faults.NoInstrument faults.Negative
+    (option_map (λ (f : Feed). faults.Overflow f.stream) (find (is_over (after_measure r e) e.attrs) (feeds_of r.plan e.instrument))) h
+
+-- ---- all of them
+
+taken-all : (p : Planned) (h k : List Entry) (r : Tallied) → r.plan ≡ p → AreRecorded r k → InRange p h → InRange p (h ++ k) → AreTaken p h k
+taken-all p h [] r is rec low high = tt
+taken-all p h (e ∷ k) r is rec low high =
+    let whole : InRange p ((h ++ e ∷ []) ++ k) = subst (InRange p) (sym (append_assoc h (e ∷ []) k)) high in
+    let one : (m : ℕ) → AreRising (brought m (feeds_of p e.instrument) e.attrs e.value) =
+    λ m. brought-rise m (feeds_of p e.instrument) e.attrs e.value (subst (λ (q : Planned). Rises q e) is rec.1) in
+    let middle : InRange p (h ++ e ∷ []) = range-between p h e k one (λ m. recorded-rise p (after_measure r e) k m is rec.2) low whole in
+    let parts : (is_none (kind_of p e.instrument) ≡ false) × (is_negative_for (kind_of p e.instrument) e.value ≡ false) =
+    subst (λ (q : Planned). (is_none (kind_of q e.instrument) ≡ false) × (is_negative_for (kind_of q e.instrument) e.value ≡ false)) is (fits-instrument r e (record-none r e rec.0)) in
+    (accepted p h e parts.0 parts.1 middle, taken-all p (h ++ e ∷ []) k (after_measure r e) is rec.2 middle whole)
+
+-- ---- accepted recordings come to points in range
+
+every-found : {X : Type 0} (q : X → Bool) (xs : List X) → find q xs ≡ None → Every (λ x. q x ≡ false) xs
+every-found q [] h = tt
+every-found q (x ∷ xs) h = by (λ n. every-found q xs n) (q x) refl h
+  where
+    by : (find q xs ≡ None → Every (λ x. q x ≡ false) xs) → (b : Bool) → q x ≡ b → cond b (Some x) (find q xs) ≡ None → (q x ≡ false) × Every (λ x. q x ≡ false) xs
+    by rest true e n = absurd (cc)
+    by rest false e n = (e, rest n)
+
+no-overflow : (p : Planned) (h : List Entry) (e : Entry) → refused p h e ≡ None → Every (λ f. overflows p (h ++ e ∷ []) e.attrs f ≡ false) (feeds_of p e.instrument)
+unfolding refused
+no-overflow p h e none =
+    every-found (overflows p (h ++ e ∷ []) e.attrs) (feeds_of p e.instrument)
+    (by (is_none (kind_of p e.instrument)) (is_negative_for (kind_of p e.instrument) e.value) (find (overflows p (h ++ e ∷ []) e.attrs) (feeds_of p e.instrument)) none)
+  where
+    by : (b c : Bool) (o : Option Feed) → first (when b faults.NoInstrument ∷ when c faults.Negative ∷ option_map (λ (f : Feed). faults.Overflow f.stream) o ∷ []) ≡ None → o ≡ None
+    by true c o n = absurd (cc)
+    by false true o n = absurd (cc)
+    by false false None n = refl
+    by false false (Some f) n = absurd (cc)
+
+-- a recording brings a stream nothing, or its value by one feed
+abbrev Brings : (Feed → Type 0) → ℕ → List Feed → AttrSet → ℤ → Type 0
+Brings P m fs a v = (brought m fs a v ≡ []) ⊎ ((f : Feed) × P f × (f.stream ≡ m) × (brought m fs a v ≡ (kept f.keep a, v) ∷ []))
+
+brings : (P : Feed → Type 0) (n m : ℕ) (fs : List Feed) (a : AttrSet) (v : ℤ) → AreFeeds n fs → Every P fs → Brings P m fs a v
+brings P n m [] a v fit h = inl refl
+brings P n m (f ∷ fs) a v fit h = by (f.stream == m) refl (brings P n m fs a v fit.2 h.1)
+  where
+    all : Bool → Arrivals
+    all b = map (λ f. (kept f.keep a, v)) (cond b (f ∷ filter (λ f. f.stream == m) fs) (filter (λ f. f.stream == m) fs))
+
+    by : (b : Bool) → (f.stream == m) ≡ b → Brings P m fs a v → (all b ≡ []) ⊎ ((g : Feed) × P g × (g.stream ≡ m) × (all b ≡ (kept g.keep a, v) ∷ []))
+    by true e rest =
+        let is : f.stream ≡ m = (unsigned_Decides f.stream m).0 e in
+        let none : brought m fs a v ≡ [] = subst (λ (k : ℕ). brought k fs a v ≡ []) is (brought-none f.stream fs a v fit.1) in
+        inr (f, h.0, is, ap (λ l. (kept f.keep a, v) ∷ l) none)
+    by false e rest = rest
+
+-- one more value leaves the point that it feeds in range if that point is, and others as they were
+at-set : (shape : Shape) (limit : ℕ) (xs : Arrivals) (b a : AttrSet) (v : ℤ) → is_out_of_range (payload_of shape (values_of (placed limit xs) a)) ≡ false
+    → is_out_of_range (payload_of shape (values_of (placed limit (xs ++ (b, v) ∷ [])) (goes_to (own_sets limit (xs ++ (b, v) ∷ [])) b))) ≡ false
+    → is_out_of_range (payload_of shape (values_of (placed limit (xs ++ (b, v) ∷ [])) a)) ≡ false
+at-set shape limit xs b a v low over = by (set_eq a c) refl
+  where
+    now : Arrivals
+    now = xs ++ (b, v) ∷ []
+
+    c : AttrSet
+    c = goes_to (own_sets limit now) b
+
+    by : (t : Bool) → set_eq a c ≡ t → is_out_of_range (payload_of shape (values_of (placed limit now) a)) ≡ false
+    by true e = ap (λ (x : AttrSet). is_out_of_range (payload_of shape (values_of (placed limit now) x))) (same a c e) ∙ over
+    by false e =
+        ap (λ l. is_out_of_range (payload_of shape (values_of l a))) (placed-push limit xs b v)
+        ∙ ap (λ l. is_out_of_range (payload_of shape l)) (values-push (placed limit xs) c v a ∙ ap (λ t. cond t (values_of (placed limit xs) a ++ v ∷ []) (values_of (placed limit xs) a)) e)
+        ∙ low
+
+-- the point that a feed brings a value to, where it does not overflow
+fed-in : (p : Planned) (h : List Entry) (a : AttrSet) (f : Feed) (m : ℕ) (s : Stream) (now : Arrivals) → overflows p h a f ≡ false → f.stream ≡ m → stream_of p m ≡ Some s → arrivals p m h ≡ now
+    → is_out_of_range (payload_of s.shape (values_of (placed p.limit now) (goes_to (own_sets p.limit now) (kept f.keep a)))) ≡ false
+unfolding fed
+fed-in p h a f m s now none is at there =
+    ap (λ l. is_out_of_range (payload_of s.shape (values_of (placed p.limit l) (goes_to (own_sets p.limit l) (kept f.keep a))))) (sym there)
+    ∙ sym (ap (λ o. option_map_or (λ (x : Stream). is_out_of_range (payload_of x.shape (values_of (placed p.limit (arrivals p m h)) (goes_to (own_sets p.limit (arrivals p m h)) (kept f.keep a))))) o false) at)
+    ∙ subst (λ (n : ℕ). option_map_or (λ (x : Stream). is_out_of_range (payload_of x.shape (values_of (placed p.limit (arrivals p n h)) (goes_to (own_sets p.limit (arrivals p n h)) (kept f.keep a))))) (stream_of p n) false ≡ false) is none
+
+range-push : (p : Planned) (h : List Entry) (e : Entry) → AreFeeds (length p.streams) (feeds_of p e.instrument) → InRange p h → refused p h e ≡ None → InRange p (h ++ e ∷ [])
+range-push p h e fit low none m s a at =
+    ap (λ l. is_out_of_range (payload_of s.shape (values_of (placed p.limit l) a))) (arrivals-push p m h e)
+    ∙ by (brought m (feeds_of p e.instrument) e.attrs e.value) refl (brings (λ f. overflows p (h ++ e ∷ []) e.attrs f ≡ false) (length p.streams) m (feeds_of p e.instrument) e.attrs e.value fit (no-overflow p h e none))
+  where
+    xs : Arrivals
+    xs = arrivals p m h
+
+    by : (ys : Arrivals) → brought m (feeds_of p e.instrument) e.attrs e.value ≡ ys
+        → (ys ≡ []) ⊎ ((f : Feed) × (overflows p (h ++ e ∷ []) e.attrs f ≡ false) × (f.stream ≡ m) × (ys ≡ (kept f.keep e.attrs, e.value) ∷ []))
+        → is_out_of_range (payload_of s.shape (values_of (placed p.limit (xs ++ ys)) a)) ≡ false
+    by ys was (inl nothing) = ap (λ l. is_out_of_range (payload_of s.shape (values_of (placed p.limit l) a))) (ap (λ l. xs ++ l) nothing ∙ append-nil xs) ∙ low m s a at
+    by ys was (inr one) =
+        let b = kept one.0.keep e.attrs in
+        let now = xs ++ (b, e.value) ∷ [] in
+        let there : arrivals p m (h ++ e ∷ []) ≡ now = arrivals-push p m h e ∙ ap (λ l. xs ++ l) (was ∙ one.3) in
+        ap (λ l. is_out_of_range (payload_of s.shape (values_of (placed p.limit (xs ++ l)) a))) one.3
+        ∙ at-set s.shape p.limit xs b a e.value (low m s a at) (fed-in p (h ++ e ∷ []) e.attrs one.0 m s now one.1 one.2 at there)
+
+none-in : (shape : Shape) → is_out_of_range (payload_of shape []) ≡ false
+none-in (shapes.Sum m) = refl
+none-in shapes.Gauge = refl
+none-in (shapes.Histogram bounds) = refl
+
+taken-in : (p : Planned) → ((i : ℕ) → AreFeeds (length p.streams) (feeds_of p i)) → (h k : List Entry) → InRange p h → AreTaken p h k → InRange p (h ++ k)
+taken-in p fit h [] low t = subst (InRange p) (sym (append-nil h)) low
+taken-in p fit h (e ∷ k) low t = subst (InRange p) (append_assoc h (e ∷ []) k) (taken-in p fit (h ++ e ∷ []) k (range-push p h e (fit e.instrument) low t.0) t.1)
+
+-- ---- points that are taken in stay in range
+
+abbrev InPoints : Points → Type 0
+InPoints es = (a : AttrSet) (q : Payload) → lookup (set_eq a) es ≡ Some q → is_out_of_range q ≡ false
+
+some-is : (x y : Payload) → Some x ≡ Some y → x ≡ y
+some-is x y e = ap (λ (o : Option Payload). option_map_or (λ t. t) o x) e
+
+put-in : (es : Points) (b : AttrSet) (q : Payload) → InPoints es → is_out_of_range q ≡ false → InPoints (insert_entry set_eq es b q)
+put-in es b q all fine a x is = by (set_eq a b) refl
+  where
+    by : (t : Bool) → set_eq a b ≡ t → is_out_of_range x ≡ false
+    by true e = ap (λ (y : Payload). is_out_of_range y) (sym (some-is q x (sym (lookup-here es b q) ∙ ap (λ (c : AttrSet). lookup (set_eq c) (insert_entry set_eq es b q)) (sym (same a b e)) ∙ is))) ∙ fine
+    by false e = all a x (sym (lookup-other es a b q e) ∙ is)
+
+fits-in : (limit : ℕ) (es ms : Points) → InPoints es → fits limit es ms ≡ true → InPoints (absorb limit es ms)
+fits-in limit es [] all h = all
+fits-in limit es (e ∷ ms) all h =
+    let b = place limit es e.0 in
+    let k = both (not (is_out_of_range (met es b e.1))) (fits limit (merged limit es e) ms) h in
+    fits-in limit (merged limit es e) ms (put-in es b (met es b e.1) all (not-true (is_out_of_range (met es b e.1)) k.0)) k.1
+
+points-in : (shape : Shape) (ps : Arrivals) → ((a : AttrSet) → is_out_of_range (payload_of shape (values_of ps a)) ≡ false) → InPoints (points_of shape ps)
+points-in shape ps all a q is =
+    ap (λ (x : Payload). is_out_of_range x) (ap (λ o. option_map_or (λ t. t) o (payload_of shape [])) (sym is) ∙ payload-is shape ps a) ∙ all a
+
+values-in : (shape : Shape) (ps : Arrivals) (a : AttrSet) → InPoints (points_of shape ps) → is_out_of_range (payload_of shape (values_of ps a)) ≡ false
+values-in shape ps a all = ap (λ (x : Payload). is_out_of_range x) (sym (payload-is shape ps a)) ∙ by (lookup (set_eq a) (points_of shape ps)) refl
+  where
+    by : (o : Option Payload) → lookup (set_eq a) (points_of shape ps) ≡ o → is_out_of_range (option_map_or (λ t. t) o (payload_of shape [])) ≡ false
+    by None e = none-in shape
+    by (Some q) e = all a q e
+
+unfit-none : (n limit : ℕ) (ess mss : List Points) (m : ℕ) → first_unfit n limit ess mss ≡ None → m < length ess → m < length mss → fits limit (series_at ess m) (series_at mss m) ≡ true
+unfit-none n limit [] mss m h k l = absurd (omega (arith, k))
+unfit-none n limit (es ∷ ess) [] m h k l = absurd (omega (arith, l))
+unfit-none n limit (es ∷ ess) (ms ∷ mss) m h k l = at (λ m rest k l. unfit-none (n + 1) limit ess mss m rest k l) m k l (first-fits (fits limit es ms) refl h)
+  where
+    first-fits : (b : Bool) → fits limit es ms ≡ b → (if b then first_unfit (n + 1) limit ess mss else Some n) ≡ None → (fits limit es ms ≡ true) × (first_unfit (n + 1) limit ess mss ≡ None)
+    first-fits true f rest = (f, rest)
+    first-fits false f rest = absurd (cc)
+
+    at : ((m : ℕ) → first_unfit (n + 1) limit ess mss ≡ None → m < length ess → m < length mss → fits limit (series_at ess m) (series_at mss m) ≡ true)
+        → (m : ℕ) → m < suc (length ess) → m < suc (length mss) → (fits limit es ms ≡ true) × (first_unfit (n + 1) limit ess mss ≡ None) → fits limit (series_at (es ∷ ess) m) (series_at (ms ∷ mss) m) ≡ true
+    at go zero k l f = f.0
+    at go (suc m) k l f = go m f.1 (omega (arith, k)) (omega (arith, l))
+
+absorb-none : (o : Option ℕ) → option_map (λ (m : ℕ). faults.Overflow m) o ≡ None → o ≡ None
+absorb-none None h = refl
+absorb-none (Some m) h = absurd (cc)
+
+whole-in : (t r : Tallied) (h k : List Entry) → r.plan ≡ t.plan → length r.series ≡ length t.plan.streams → StandsFor t h → InRange t.plan h → absorb_fault t r ≡ None
+    → StandsFor (with_recorder t r) (h ++ k) → InRange t.plan (h ++ k)
+whole-in t r h k alike long stands low fits_all after m s a at =
+    let p = t.plan in
+    let less : m < length p.streams = within p.streams m s at in
+    let here : m < length t.series = subst (λ (n : ℕ). m < n) (sym (ap length stands ∙ length-round p h)) less in
+    let other : m < length r.series = subst (λ (n : ℕ). m < n) (sym long) less in
+    let fine : fits p.limit (series_at t.series m) (series_at r.series m) ≡ true =
+    unfit-none 0 p.limit t.series r.series m (absorb-none (first_unfit 0 p.limit t.series r.series) fits_all) here other in
+    let was : series_at t.series m ≡ points_of s.shape (placed p.limit (arrivals p m h)) = ap (λ l. series_at l m) stands ∙ at-stream p h m s at in
+    let is : absorb p.limit (series_at t.series m) (series_at r.series m) ≡ points_of s.shape (placed p.limit (arrivals p m (h ++ k))) =
+    sym (at-absorbed p.limit t.series r.series m here other) ∙ ap (λ l. series_at l m) after ∙ at-stream p (h ++ k) m s at in
+    let start : InPoints (series_at t.series m) = subst InPoints (sym was) (points-in s.shape (placed p.limit (arrivals p m h)) (λ b. low m s b at)) in
+    values-in s.shape (placed p.limit (arrivals p m (h ++ k))) a (subst InPoints is (fits-in p.limit (series_at t.series m) (series_at r.series m) start fine))
+
+-- ---- what a recorder recorded
+
+held-all : (p : Planned) → ((i : ℕ) → AreFeeds (length p.streams) (feeds_of p i)) → (r : Tallied) (h k : List Entry) → r.plan ≡ p → Holds r h → AreRecorded r k → Holds (fold after_measure r k) (h ++ k)
+held-all p fit r h [] is holds rec = subst (Holds r) (sym (append-nil h)) holds
+held-all p fit r h (e ∷ k) is holds rec =
+    let feeds : AreFeeds (length r.plan.streams) (feeds_of r.plan e.instrument) = subst (λ (q : Planned). AreFeeds (length q.streams) (feeds_of q e.instrument)) (sym is) (fit e.instrument) in
+    subst (Holds (fold after_measure (after_measure r e) k)) (append_assoc h (e ∷ []) k) (held-all p fit (after_measure r e) (h ++ e ∷ []) k is (recorders_hold r h e feeds holds rec.0) rec.2)
+
+rising-all : (r : Tallied) (k : List Entry) → OnlyRises r → AreRecorded r k → OnlyRises (fold after_measure r k)
+rising-all r [] only rec = only
+rising-all r (e ∷ k) only rec = rising-all (after_measure r e) k (rises-still r e (keeps-all r e rec.0) only) rec.2
+
+recorded-push : (r : Tallied) (k : List Entry) (e : Entry) → AreRecorded r k → record_fault_of (fold after_measure r k) e ≡ None → Rises r.plan e → AreRecorded r (k ++ e ∷ [])
+recorded-push r [] e rec none up = (none, up, tt)
+recorded-push r (x ∷ k) e rec none up = (rec.0, rec.1, recorded-push (after_measure r x) k e rec.2 none up)
+
+fold-push : (r : Tallied) (k : List Entry) (e : Entry) → fold after_measure r (k ++ e ∷ []) ≡ after_measure (fold after_measure r k) e
+fold-push r [] e = refl
+fold-push r (x ∷ k) e = fold-push (after_measure r x) k e
+
+pub recorders_have : RecordersHave
+recorders_have r k e has none up = record {
+  each = recorded-push (empty_tally r.plan) k e has.each (subst (λ (x : Tallied). record_fault_of x e ≡ None) (sym has.all) none) up;
+  all = fold-push (empty_tally r.plan) k e ∙ ap (λ (x : Tallied). after_measure x e) has.all;
+}
+
+pub recorded_none : (p : Planned) → HasRecorded (empty_tally p) []
+recorded_none p = record { each = tt; all = refl }
+
+-- nothing is out of range where nothing is recorded
+range-none : (p : Planned) → InRange p []
+range-none p m s a at = none-in s.shape
+
+pub absorbed_taken : AbsorbedAreTaken
+absorbed_taken t r h k alike fit stands taken has fits_all =
+    let p = t.plan in
+    let holds : Holds r k =
+    subst (λ (x : Tallied). Holds x k) has.all (held-all p fit (empty_tally r.plan) [] k alike (holds-none r.plan) has.each) in
+    let only : OnlyRises r = subst OnlyRises has.all (rising-all (empty_tally r.plan) k (rises-none r.plan) has.each) in
+    let after : StandsFor (with_recorder t r) (h ++ k) = absorbing_is_recording t r h k alike only stands holds in
+    let low : InRange p h = taken-in p fit [] h (range-none p) taken in
+    let long : length r.series ≡ length p.streams = ap length holds ∙ length-whole r.plan k ∙ ap (λ (q : Planned). length q.streams) alike in
+    let high : InRange p (h ++ k) = whole-in t r h k alike long stands low fits_all after in
+    (taken-all p h k (empty_tally r.plan) alike has.each low high, after)
+
+-- where a feed's stream only rises, its instrument takes no value below 0
+pub accepted-rises : (r : Tallied) (e : Entry) → ((k : Kind) → kind_of r.plan e.instrument ≡ Some k → AllRise r.plan k (feeds_of r.plan e.instrument)) → record_fault_of r e ≡ None → Rises r.plan e
+accepted-rises r e all none some = by (feeds_of r.plan e.instrument) refl some
+  where
+    p : Planned
+    p = r.plan
+
+    parts : (is_none (kind_of p e.instrument) ≡ false) × (is_negative_for (kind_of p e.instrument) e.value ≡ false)
+    parts = fits-instrument r e (record-none r e none)
+
+    not-negative : (b : Bool) → b ≡ true → (b && int_lt e.value (pos 0)) ≡ false → int_lt e.value (pos 0) ≡ false
+    not-negative true h n = n
+    not-negative false h n = absurd (true≢false (sym h))
+
+    at-stream-of : (o : Option Stream) (m : ℕ) (k : Kind) → stream_of p m ≡ o → rises (option_map_or (λ (s : Stream). s.shape) o shapes.Gauge) ≡ true
+        → ((s : Stream) → stream_of p m ≡ Some s → rises s.shape ≡ true → only_rises k ≡ true) → only_rises k ≡ true
+    at-stream-of None m k at up h = absurd (true≢false (sym up))
+    at-stream-of (Some s) m k at up h = h s at up
+
+    at-kind : (o : Option Kind) (f : Feed) (fs : List Feed) → kind_of p e.instrument ≡ o → feeds_of p e.instrument ≡ f ∷ fs → is_none o ≡ false → is_negative_for o e.value ≡ false → int_lt e.value (pos 0) ≡ false
+    at-kind None f fs is feeds n b = absurd (true≢false n)
+    at-kind (Some k) f fs is feeds n b =
+        let up : rises (shape_at p f.stream) ≡ true = keeps-rises p e.attrs r.series f (keeps-first p e.attrs r.series f fs (ap (λ l. list_all (keeps_set p e.attrs r.series) l) (sym feeds) ∙ keeps-all r e none)) in
+        let rise : AllRise p k (f ∷ fs) = subst (AllRise p k) feeds (all k is) in
+        not-negative (only_rises k) (at-stream-of (stream_of p f.stream) f.stream k refl up rise.0) b
+
+    by : (fs : List Feed) → feeds_of p e.instrument ≡ fs → feeds_of p e.instrument ≢ [] → int_lt e.value (pos 0) ≡ false
+    by [] is ne = absurd (ne is)
+    by (f ∷ fs) is ne = at-kind (kind_of p e.instrument) f fs refl is parts.0 parts.1
+
+-- a recorder that accepts a recording, seen by the tally inside
+pub has-more : (was now inside after : Tallied) (e : Entry) → inside ≡ was → after ≡ now → ((k : Kind) → kind_of inside.plan e.instrument ≡ Some k → AllRise inside.plan k (feeds_of inside.plan e.instrument))
+    → record_fault_of inside e ≡ None → after ≡ after_measure inside e → (k : List Entry) → HasRecorded was k → HasRecorded now (k ++ e ∷ [])
+has-more was now inside after e old new all none step k has =
+    subst (λ (r : Tallied). HasRecorded r (k ++ e ∷ [])) (sym step ∙ new)
+    (recorders_have inside k e (subst (λ (r : Tallied). HasRecorded r k) (sym old) has) none (accepted-rises inside e all none))

@@ -1,0 +1,38 @@
+-- Recordings that are accepted one after the other, and those that a recorder accepted.
+use Rattle.std.specs.Prelude.{◌≡◌, ◌≢◌, ℕ, pos, int_lt, false, length, List, [], ◌∷◌, ◌++◌, None, fold}
+use Rattle.plan_kit.specs.Plans.{Planned, AreFeeds, feeds_of}
+use Rattle.agg_kit.specs.Entries.{Entry}
+use Rattle.agg_kit.specs.Measuring.{after_measure, empty_tally}
+use Rattle.agg_kit.specs.Recorders.{record_fault_of, absorb_fault, with_recorder}
+use Rattle.agg_kit.specs.Refusals.{refused}
+use Rattle.agg_kit.specs.Rounds.{StandsFor}
+use Rattle.agg_kit.specs.Tallies.{Tallied}
+
+-- each of the recordings k is accepted after the recordings h and those of k before it
+abbrev pub AreTaken : Planned → List Entry → List Entry → Type 0
+AreTaken p h [] = Unit {0}
+AreTaken p h (e ∷ k) = (refused p h e ≡ None) × AreTaken p (h ++ e ∷ []) k
+
+-- a recording that feeds a stream is not below 0
+abbrev pub Rises : Planned → Entry → Type 0
+Rises p e = feeds_of p e.instrument ≢ [] → int_lt e.value (pos 0) ≡ false
+
+-- a recorder accepts each of the recordings, and none that feeds a stream is below 0
+abbrev pub AreRecorded : Tallied → List Entry → Type 0
+AreRecorded r [] = Unit {0}
+AreRecorded r (e ∷ k) = (record_fault_of r e ≡ None) × Rises r.plan e × AreRecorded (after_measure r e) k
+
+-- since it was empty, a recorder has accepted these recordings
+pub record HasRecorded (r : Tallied) (k : List Entry) : Type 0 where
+  pub each : AreRecorded (empty_tally r.plan) k
+  pub all : fold after_measure (empty_tally r.plan) k ≡ r
+
+-- a recorder that accepts one more recording has accepted it too
+abbrev pub RecordersHave : Type 0
+RecordersHave = (r : Tallied) (k : List Entry) (e : Entry) → HasRecorded r k → record_fault_of r e ≡ None → Rises r.plan e → HasRecorded (after_measure r e) (k ++ e ∷ [])
+
+-- Where a tally that stands for accepted recordings takes a recorder in, each of the recorder's recordings would have been accepted there, one after the
+-- other, and the tally stands for its recordings and then these.
+abbrev pub AbsorbedAreTaken : Type 0
+AbsorbedAreTaken = (t r : Tallied) (h k : List Entry) → r.plan ≡ t.plan → ((i : ℕ) → AreFeeds (length t.plan.streams) (feeds_of t.plan i))
+    → StandsFor t h → AreTaken t.plan [] h → HasRecorded r k → absorb_fault t r ≡ None → AreTaken t.plan h k × StandsFor (with_recorder t r) (h ++ k)
