@@ -25,7 +25,7 @@ is_still_open : (acts : List (Act Entry)) (closed : Bool) → closed ≡ false �
 is_still_open acts closed e o = sym o ∙ ap not e
 
 -- the entries of the running incarnation, and one more
-runs : (first : ℕ) (acts : List (Act Entry)) (e : Entry) → running first (Measured e ∷ acts) ≡ running first acts ++ e ∷ []
+pub runs : (first : ℕ) (acts : List (Act Entry)) (e : Entry) → running first (Measured e ∷ acts) ≡ running first acts ++ e ∷ []
 runs first acts e = rw (eq-eqb (start_of first acts) (start_of first acts) refl) refl
 
 -- a tally without points

@@ -1,3 +1,4 @@
+pub mod Absorbing
 pub mod Following
 pub mod Refusals
 pub mod Sharing

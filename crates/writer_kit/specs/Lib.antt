@@ -1,3 +1,4 @@
+pub mod Absorbing
 pub mod BoundPoints
 pub mod Following
 pub mod Pacing

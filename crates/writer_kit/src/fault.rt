@@ -30,6 +30,17 @@ pub enum BoundFault {
     Refused(TallyFault),
 }
 
+/// Why a recorder is not taken in, in the order in which it is looked for.
+#[derive(Debug, PartialEq, Eq, Drop, Error)]
+pub enum AbsorbFault {
+    /// The writer was shut down, and not restarted since.
+    #[error("the writer is closed")]
+    Closed,
+    /// The tally of the writer refuses the recorder: a total of a stream would be out of range, or no memory.
+    #[error("the recorder is refused: {0}")]
+    Refused(TallyFault),
+}
+
 /// Why a collection is refused, in the order in which it is looked for.
 #[derive(Debug, PartialEq, Eq, Drop, Error)]
 pub enum CollectFault {

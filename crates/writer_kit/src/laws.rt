@@ -6,6 +6,7 @@ ghost use Rattle.agg_kit.specs.Rounds.{StandsFor};
 ghost use Rattle.plan_kit.specs.Plans.{Planned, feeds_of};
 ghost use Rattle.point_kit.specs.declared.writer_id.WriterId.{WriterId};
 ghost use Rattle.schedule_kit.specs.Schedule.Act.{Measured, Collected, Restarted};
+ghost use Rattle.writer_kit.specs.Absorbing.{AbsorbingAppends, AbsorbingIsMeasuring};
 ghost use Rattle.writer_kit.specs.Following.{Follows, round_of};
 ghost use Rattle.writer_kit.specs.Recording.{new_writer, recorded, after_collect, after_restart, round_now};
 ghost use Rattle.writer_kit.specs.Refusals.{measure_fault, fault_now, early_fault, collect_fault, restart_fault};
@@ -33,4 +34,12 @@ pub fn steps_are_events()
 pub fn refusals_are_of_recordings()
     ensures refused { (w : Written) (h : List Entry) (e : Entry) → StandsFor w.tally h → fault_now w e ≡ measure_fault w h e }
     ensures whole { (w : Written) (e : Entry) → AllWhole (feeds_of w.tally.plan e.instrument) → early_fault w e ≡ fault_now w e }
+{}
+
+/// Taking a recorder in is measuring what it holds: the writer stands for what it stood for, followed by the recorder's recordings
+/// in their order, and where these are accepted events one after the other it follows them.
+#[tactic(auto, using(crate::proofs::Absorbing::absorbing_appends, crate::proofs::Absorbing::absorbing_is_measuring))]
+pub fn absorbing_is_measuring()
+    ensures appends { AbsorbingAppends }
+    ensures follows { AbsorbingIsMeasuring }
 {}

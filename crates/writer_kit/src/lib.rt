@@ -9,6 +9,9 @@
 //! `Writer::bind` looks the points of an instrument and a set up once; `Writer::measure_bound` records at such a [`BoundPoint`]
 //! with no look, and refuses one of another incarnation.
 //!
+//! `Writer::recorder` makes a [`Recorder`](agg_kit::Recorder) of the writer's plan, with which a thread records by itself; `Writer::absorb`
+//! takes it in as if each of its recordings had been measured at the writer, one after the other ([`absorbing_is_measuring`]).
+//!
 //! A [`SharedWriter`] is a writer that threads record with and collect from, each by a seat of its own. Whatever they do at
 //! once, there is one history, and each round is that of all that the history has before it.
 //!
@@ -18,7 +21,7 @@
 //!
 //! Times are nanoseconds since the Unix epoch. What contracts cite stands in `specs/`: `Written` (what contracts see of a
 //! writer), `Refusals`, `BoundPoints`, `Recording` (what accepted calls make of it), `Schedules` (the events that a writer accepts, and what is read off them), `Following`
-//! (what a writer is after them), `Shared` (the history of a shared writer), `Pacing`.
+//! (what a writer is after them), `Absorbing` (recorders that a writer takes in), `Shared` (the history of a shared writer), `Pacing`.
 #![tactic(auto)]
 
 mod bound;
@@ -29,8 +32,8 @@ mod shared;
 mod writer;
 
 pub use bound::BoundPoint;
-pub use fault::{BoundFault, CollectFault, MeasureFault, RestartFault};
-pub use laws::{refusals_are_of_recordings, steps_are_events};
+pub use fault::{AbsorbFault, BoundFault, CollectFault, MeasureFault, RestartFault};
+pub use laws::{absorbing_is_measuring, refusals_are_of_recordings, steps_are_events};
 pub use pace::{DEFAULT_INTERVAL, Pace};
 pub use shared::{SeatsOut, SharedWriter, WriterChange};
 pub use writer::Writer;

@@ -3,14 +3,16 @@ ghost use Rattle.std.specs.Prelude.{◌≡◌, ◌≢◌, ◌<◌, ◌≤◌, []
 ghost use Rattle.agg_kit.specs.Entries.{entry_of};
 ghost use Rattle.agg_kit.specs.Feeds.{IsHeld};
 ghost use Rattle.agg_kit.specs.Rounds.{StandsFor};
+ghost use Rattle.agg_kit.specs.Measuring.{empty_tally};
 ghost use Rattle.agg_kit.specs.BoundPoints.{HasInstrument, LacksInstrument, entry_at};
+ghost use Rattle.writer_kit.specs.Absorbing.{absorb_fault, no_memory_for, with_recordings};
 ghost use Rattle.writer_kit.specs.BoundPoints.{IsAtHome, RefusesAt};
 ghost use Rattle.writer_kit.specs.Following.{Follows};
 ghost use Rattle.writer_kit.specs.Recording.{recorded, after_collect, after_restart, round_now};
 ghost use Rattle.writer_kit.specs.Refusals.{no_memory, fault_now, early_fault, collect_fault, restart_fault};
 
-use crate::{BoundFault, BoundPoint, CollectFault, MeasureFault, RestartFault};
-use agg_kit::{MeasureFault as TallyFault, Tally};
+use crate::{AbsorbFault, BoundFault, BoundPoint, CollectFault, MeasureFault, RestartFault};
+use agg_kit::{MeasureFault as TallyFault, Recorder, Tally};
 use attr_kit::{AttrSet, NoMemory};
 use bumpalo::Bump;
 use plan_kit::Plan;
@@ -190,6 +192,41 @@ impl Writer {
             return Err(BoundFault::Refused(fault));
         }
         Ok(())
+    }
+
+    /// A recorder of the writer's plan, which holds nothing: a thread records with it by itself, and `absorb` takes it in.
+    ///
+    /// Refuses with `NoMemory` alone. O(size of the plan).
+    pub fn recorder(&self, alloc: Global) -> Result<Recorder, NoMemory>
+        ensures value { IfOk result (λ r. r ≡ empty_tally self.now.tally.plan) }
+    {
+        Recorder::new(alloc, self.tally.plan())
+    }
+
+    /// Takes in what a recorder of the writer's plan holds, as if each of its recordings had been measured here, one after the
+    /// other, and leaves the recorder empty. The sets are moved where there is no point for them.
+    ///
+    /// Refuses, in this order: `Closed`; `Refused` with what the tally refuses, `Overflow` with the first stream of which a point
+    /// would leave its range, or `NoMemory`. A refusal leaves writer and recorder as they were. O(streams, and points of the
+    /// recorder).
+    #[tactic(auto, using(crate::proofs::Absorbing::absorb_closed, crate::proofs::Absorbing::absorb_refused, crate::proofs::Absorbing::absorb_accepted))]
+    pub fn absorb(&mut self, recorder: &mut Recorder) -> Result<(), AbsorbFault>
+        requires { recorder.old.plan ≡ self.old.tally.plan }
+        ensures ok { OnOk result (absorb_fault self.old recorder.old ≡ None) }
+        ensures value { OnOk result (self.new ≡ with_recordings self.old recorder.old) }
+        ensures emptied { OnOk result (recorder.new ≡ empty_tally recorder.old.plan) }
+        ensures err { IfErr result (λ f. f ≢ no_memory_for → absorb_fault self.old recorder.old ≡ Some f) }
+        ensures no_memory { IfErr result (λ f. f ≡ no_memory_for → self.old.closed ≡ false) }
+        ensures unchanged { OnErr result (self.new ≡ self.old) }
+        ensures kept { OnErr result (recorder.new ≡ recorder.old) }
+    {
+        if self.closed {
+            return Err(AbsorbFault::Closed);
+        }
+        match self.tally.absorb(recorder) {
+            Ok(()) => Ok(()),
+            Err(fault) => Err(AbsorbFault::Refused(fault)),
+        }
     }
 
     /// The points since the start, in an arena, as of a time. The writer stays as it is.

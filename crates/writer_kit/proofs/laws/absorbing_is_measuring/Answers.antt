@@ -1,0 +1,5 @@
+use Rattle.writer_kit.proofs.Absorbing.{absorbing_is_measuring}
+use Rattle.writer_kit.proofs.laws.absorbing_is_measuring.Goals as goal
+
+pub returns-clause-follows : goal.returns-clause-follows
+returns-clause-follows c = absorbing_is_measuring
