@@ -1,15 +1,22 @@
 -- A writer that takes a recorder in follows its recordings.
-use Rattle.std.proofs.Common.{◌≡◌, ◌∙◌, ℕ, Bool, true, false, not, List, [], ◌∷◌, ◌++◌, Option, None, Some, refl, sym, ap, subst, append_assoc, append-nil}
+use Rattle.std.proofs.Common.{◌≡◌, ◌∙◌, ℕ, Bool, true, false, not, is_none, List, [], ◌∷◌, ◌++◌, Option, None, Some, refl, sym, ap, subst, append_assoc, append-nil}
+use Rattle.std.specs.Option.{option_map}
 use Rattle.agg_kit.proofs.Recorders.{absorbing_is_recording}
+use Rattle.agg_kit.proofs.Taken.{absorbed_taken}
 use Rattle.agg_kit.specs.Entries.{Entry}
 use Rattle.agg_kit.specs.Recorders as recorders
+use Rattle.agg_kit.specs.Refusals.{refused}
 use Rattle.agg_kit.specs.Rounds.{StandsFor}
+use Rattle.agg_kit.specs.Taken.{AreTaken, HasRecorded}
 use Rattle.agg_kit.specs.Tallies.{Tallied}
 use Rattle.agg_kit.specs.declared.fault.MeasureFault.{MeasureFault}
+use Rattle.plan_kit.specs.Plans.{Planned}
+use Rattle.attr_kit.specs.Refusing.{first, when}
+use Rattle.schedule_kit.proofs.History.{none_yet}
 use Rattle.schedule_kit.specs.Schedule.{Act, start_of, last_of, is_open, running, AreAccepted}
-use Rattle.schedule_kit.specs.Schedule.Act.{Measured}
-use Rattle.writer_kit.proofs.Following.{runs}
-use Rattle.writer_kit.specs.Absorbing.{absorb_fault, measured_after, with_recordings, AbsorbingAppends, AbsorbingIsMeasuring}
+use Rattle.schedule_kit.specs.Schedule.Act.{Measured, Collected, Restarted}
+use Rattle.writer_kit.proofs.Following.{is_still_open, runs}
+use Rattle.writer_kit.specs.Absorbing.{absorb_fault, measured_after, with_recordings, AbsorbingAppends, AbsorbingIsMeasuring, RecordersAreEvents}
 use Rattle.writer_kit.specs.Following.{Follows, fits}
 use Rattle.writer_kit.specs.Written.{Written}
 use Rattle.writer_kit.specs.declared.fault.AbsorbFault.TheVariants as absorb
@@ -58,4 +65,48 @@ absorbing_is_measuring first acts w r k plan rises holds accepted f =
       last = f.last ∙ sym (lasts_still first acts k);
       opened = f.opened ∙ sym (opens_still acts k);
       points = subst (StandsFor (with_recordings w r).tally) (sym (runs_on first acts k)) (absorbing_appends w r (running first acts) k plan rises holds f.points);
+    }
+
+pub absorb_open : (w : Written) (r : Tallied) → absorb_fault w r ≡ None → (w.closed ≡ false) × (recorders.absorb_fault w.tally r ≡ None)
+unfolding absorb_fault
+absorb_open w r none = by w.closed (recorders.absorb_fault w.tally r) none
+  where
+    by : (b : Bool) (o : Option MeasureFault) → first (when b absorb.Closed ∷ option_map (λ f. absorb.Refused f) o ∷ []) ≡ None → (b ≡ false) × (o ≡ None)
+    by true o e = cc
+    by false (Some f) e = cc
+    by false None e = (refl, refl)
+
+-- ---- recordings that are accepted, one after the other
+
+taken-push : (p : Planned) (h k : List Entry) (e : Entry) → AreTaken p h k → refused p (h ++ k) e ≡ None → AreTaken p h (k ++ e ∷ [])
+taken-push p h [] e t none = (ap (λ l. refused p l e) (sym (append-nil h)) ∙ none, tt)
+taken-push p h (x ∷ k) e t none = (t.0, taken-push p (h ++ x ∷ []) k e t.1 (ap (λ l. refused p l e) (append_assoc h (x ∷ []) k) ∙ none))
+
+none-of : (o : Option MeasureFault) → is_none o ≡ true → o ≡ None
+none-of None h = refl
+none-of (Some f) h = absurd (cc)
+
+-- what the running incarnation of accepted events recorded was accepted, one after the other
+running-taken : (p : Planned) (first : ℕ) (acts : List (Act Entry)) → AreAccepted (fits p) first acts → AreTaken p [] (running first acts)
+running-taken p first [] a = tt
+running-taken p first (Measured e ∷ acts) a =
+    subst (AreTaken p []) (sym (runs first acts e)) (taken-push p [] (running first acts) e (running-taken p first acts a.1) (none-of (refused p (running first acts) e) a.0.1))
+running-taken p first (Collected time closing ∷ acts) a = running-taken p first acts a.1
+running-taken p first (Restarted start ∷ acts) a = subst (AreTaken p []) (sym (none_yet first (fits p) acts a.1 start a.0)) tt
+
+accepts-all : (p : Planned) (first : ℕ) (acts : List (Act Entry)) (k : List Entry) → AreAccepted (fits p) first acts → is_open acts ≡ true → AreTaken p (running first acts) k → AreAccepted (fits p) first (measured_after acts k)
+accepts-all p first acts [] a o t = a
+accepts-all p first acts (e ∷ k) a o t =
+    accepts-all p first (Measured e ∷ acts) k ((o, ap is_none t.0), a) o (subst (λ l. AreTaken p l k) (sym (runs first acts e)) t.1)
+
+pub recorders_are_events : RecordersAreEvents
+recorders_are_events first acts w r k alike feeds has f none =
+    let open_ = absorb_open w r none in
+    let all = absorbed_taken w.tally r (running first acts) k alike feeds f.points (running-taken w.tally.plan first acts f.accepted) has open_.1 in
+    record {
+      accepted = accepts-all w.tally.plan first acts k f.accepted (is_still_open acts w.closed open_.0 f.opened) all.0;
+      start = f.start ∙ sym (starts_still first acts k);
+      last = f.last ∙ sym (lasts_still first acts k);
+      opened = f.opened ∙ sym (opens_still acts k);
+      points = subst (StandsFor (with_recordings w r).tally) (sym (runs_on first acts k)) all.1;
     }

@@ -21,7 +21,7 @@ use Rattle.writer_kit.specs.Recording.{new_writer, recorded, after_collect, afte
 use Rattle.writer_kit.specs.Refusals.{fault_now, collect_fault, restart_fault}
 use Rattle.writer_kit.specs.Written.{Written}
 
-is_still_open : (acts : List (Act Entry)) (closed : Bool) → closed ≡ false → not closed ≡ is_open acts → is_open acts ≡ true
+pub is_still_open : (acts : List (Act Entry)) (closed : Bool) → closed ≡ false → not closed ≡ is_open acts → is_open acts ≡ true
 is_still_open acts closed e o = sym o ∙ ap not e
 
 -- the entries of the running incarnation, and one more

@@ -1,15 +1,17 @@
 -- Recorders that a writer takes in.
-use Rattle.std.specs.Prelude.{◌≡◌, ℕ, List, [], ◌∷◌, ◌++◌, Option}
+use Rattle.std.specs.Prelude.{◌≡◌, ℕ, List, [], ◌∷◌, ◌++◌, Option, None}
 use Rattle.std.specs.Option.{option_map}
 use Rattle.attr_kit.specs.Refusing.{first, when}
 use Rattle.agg_kit.specs.Entries.{Entry}
 use Rattle.agg_kit.specs.Recorders.{with_recorder, Holds, OnlyRises}
 use Rattle.agg_kit.specs.Recorders as recorders
 use Rattle.agg_kit.specs.Rounds.{StandsFor}
+use Rattle.agg_kit.specs.Taken.{HasRecorded}
 use Rattle.agg_kit.specs.Tallies.{Tallied}
 use Rattle.agg_kit.specs.declared.fault.MeasureFault.TheVariants as tallies
 use Rattle.schedule_kit.specs.Schedule.{Act, AreAccepted}
 use Rattle.writer_kit.specs.Following.{Follows, fits}
+use Rattle.writer_kit.specs.PlanFeeds.{AllFeeds}
 use Rattle.writer_kit.specs.Written.{Written}
 use Rattle.writer_kit.specs.declared.fault.AbsorbFault.{AbsorbFault}
 use Rattle.writer_kit.specs.declared.fault.AbsorbFault.TheVariants as absorb
@@ -39,3 +41,9 @@ AbsorbingAppends = (w : Written) (r : Tallied) (h k : List Entry) → r.plan ≡
 abbrev pub AbsorbingIsMeasuring : Type 0
 AbsorbingIsMeasuring = (first : ℕ) (acts : List (Act Entry)) (w : Written) (r : Tallied) (k : List Entry) → r.plan ≡ w.tally.plan → OnlyRises r → Holds r k
     → AreAccepted (fits w.tally.plan) first (measured_after acts k) → Follows first acts w → Follows first (measured_after acts k) (with_recordings w r)
+
+-- A writer that follows events and takes a recorder in follows then these events and each recording that the recorder accepted since it was empty, in their
+-- order: each of them is an accepted event.
+abbrev pub RecordersAreEvents : Type 0
+RecordersAreEvents = (first : ℕ) (acts : List (Act Entry)) (w : Written) (r : Tallied) (k : List Entry) → r.plan ≡ w.tally.plan → AllFeeds w.tally.plan
+    → HasRecorded r k → Follows first acts w → absorb_fault w r ≡ None → Follows first (measured_after acts k) (with_recordings w r)
