@@ -16,7 +16,7 @@ use Rattle.schedule_kit.proofs.History.{none_yet}
 use Rattle.schedule_kit.specs.Schedule.{Act, start_of, last_of, is_open, running, AreAccepted}
 use Rattle.schedule_kit.specs.Schedule.Act.{Measured, Collected, Restarted}
 use Rattle.writer_kit.proofs.Following.{is_still_open, runs}
-use Rattle.writer_kit.specs.Absorbing.{absorb_fault, measured_after, with_recordings, AbsorbingAppends, AbsorbingIsMeasuring, RecordersAreEvents}
+use Rattle.writer_kit.specs.Absorbing.{absorb_fault, measured_after, with_recordings, AbsorbingAppends, RecordersAreEvents}
 use Rattle.writer_kit.specs.Following.{Follows, fits}
 use Rattle.writer_kit.specs.Written.{Written}
 use Rattle.writer_kit.specs.declared.fault.AbsorbFault.TheVariants as absorb
@@ -56,16 +56,6 @@ runs_on first acts (e ∷ es) = runs_on first (Measured e ∷ acts) es ∙ ap (�
 
 pub absorbing_appends : AbsorbingAppends
 absorbing_appends w r h k plan rises holds stands = absorbing_is_recording w.tally r h k plan rises stands holds
-
-pub absorbing_is_measuring : AbsorbingIsMeasuring
-absorbing_is_measuring first acts w r k plan rises holds accepted f =
-    record {
-      accepted = accepted;
-      start = f.start ∙ sym (starts_still first acts k);
-      last = f.last ∙ sym (lasts_still first acts k);
-      opened = f.opened ∙ sym (opens_still acts k);
-      points = subst (StandsFor (with_recordings w r).tally) (sym (runs_on first acts k)) (absorbing_appends w r (running first acts) k plan rises holds f.points);
-    }
 
 pub absorb_open : (w : Written) (r : Tallied) → absorb_fault w r ≡ None → (w.closed ≡ false) × (recorders.absorb_fault w.tally r ≡ None)
 unfolding absorb_fault

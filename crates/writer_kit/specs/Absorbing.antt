@@ -9,8 +9,8 @@ use Rattle.agg_kit.specs.Rounds.{StandsFor}
 use Rattle.agg_kit.specs.Taken.{HasRecorded}
 use Rattle.agg_kit.specs.Tallies.{Tallied}
 use Rattle.agg_kit.specs.declared.fault.MeasureFault.TheVariants as tallies
-use Rattle.schedule_kit.specs.Schedule.{Act, AreAccepted}
-use Rattle.writer_kit.specs.Following.{Follows, fits}
+use Rattle.schedule_kit.specs.Schedule.{Act}
+use Rattle.writer_kit.specs.Following.{Follows}
 use Rattle.writer_kit.specs.PlanFeeds.{AllFeeds}
 use Rattle.writer_kit.specs.Written.{Written}
 use Rattle.writer_kit.specs.declared.fault.AbsorbFault.{AbsorbFault}
@@ -36,11 +36,6 @@ measured_after acts (e ∷ es) = measured_after (Act.Measured e ∷ acts) es
 -- a writer with what a recorder holds stands for what it stood for, followed by the recorder's recordings in their order
 abbrev pub AbsorbingAppends : Type 0
 AbsorbingAppends = (w : Written) (r : Tallied) (h k : List Entry) → r.plan ≡ w.tally.plan → OnlyRises r → Holds r k → StandsFor w.tally h → StandsFor (with_recordings w r).tally (h ++ k)
-
--- where the recorder's recordings are accepted one after the other, the writer that takes it in follows them as measured events in their order
-abbrev pub AbsorbingIsMeasuring : Type 0
-AbsorbingIsMeasuring = (first : ℕ) (acts : List (Act Entry)) (w : Written) (r : Tallied) (k : List Entry) → r.plan ≡ w.tally.plan → OnlyRises r → Holds r k
-    → AreAccepted (fits w.tally.plan) first (measured_after acts k) → Follows first acts w → Follows first (measured_after acts k) (with_recordings w r)
 
 -- A writer that follows events and takes a recorder in follows then these events and each recording that the recorder accepted since it was empty, in their
 -- order: each of them is an accepted event.

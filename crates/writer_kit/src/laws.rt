@@ -6,7 +6,7 @@ ghost use Rattle.agg_kit.specs.Rounds.{StandsFor};
 ghost use Rattle.plan_kit.specs.Plans.{Planned, feeds_of};
 ghost use Rattle.point_kit.specs.declared.writer_id.WriterId.{WriterId};
 ghost use Rattle.schedule_kit.specs.Schedule.Act.{Measured, Collected, Restarted};
-ghost use Rattle.writer_kit.specs.Absorbing.{AbsorbingAppends, AbsorbingIsMeasuring, RecordersAreEvents};
+ghost use Rattle.writer_kit.specs.Absorbing.{AbsorbingAppends, RecordersAreEvents};
 ghost use Rattle.writer_kit.specs.Following.{Follows, round_of};
 ghost use Rattle.writer_kit.specs.Recording.{new_writer, recorded, after_collect, after_restart, round_now};
 ghost use Rattle.writer_kit.specs.Refusals.{measure_fault, fault_now, early_fault, collect_fault, restart_fault};
@@ -39,9 +39,8 @@ pub fn refusals_are_of_recordings()
 /// Taking a recorder in is measuring what it holds: the writer stands for what it stood for, followed by the recorder's recordings
 /// in their order. What the recorder accepted since it was empty are accepted events of the writer's schedule, one after the
 /// other, and the writer follows them. That each feed of the plan has a stream of its own, `Plan::streams_len` says.
-#[tactic(auto, using(crate::proofs::Absorbing::absorbing_appends, crate::proofs::Absorbing::absorbing_is_measuring))]
+#[tactic(auto, using(crate::proofs::Absorbing::absorbing_appends))]
 pub fn absorbing_is_measuring()
     ensures appends { AbsorbingAppends }
-    ensures follows { AbsorbingIsMeasuring }
     ensures events { RecordersAreEvents }
 {}
