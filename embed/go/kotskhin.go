@@ -343,11 +343,6 @@ func (g Gateway) Sum(scope, name, unit string, monotonic bool) (string, error) {
 	if err := with(rows, table, func(*C.uint64_t) C.int32_t { return C.kit_rows_table(&rows.raw, &table.raw) }); err != nil {
 		return "", err
 	}
-	return copied(made)
-}
-
-// copied gives the bytes that a handle has.
-func copied(made *handle) ([]byte, error) {
 	for room := make([]byte, 1024); ; {
 		var length C.size_t
 		if err := with(table, table, func(*C.uint64_t) C.int32_t {
