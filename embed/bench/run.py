@@ -1,5 +1,5 @@
 #!/usr/bin/env python3
-"""What a recording costs from other languages, in one run; docs/EMBEDDING.md has the figures.
+"""What a recording costs from other languages, and what exports as bytes cost, in one run; docs/EMBEDDING.md has the figures.
 
     run.py FOLDER        FOLDER is what embed/build made
 
@@ -48,10 +48,11 @@ def main():
     with tempfile.TemporaryDirectory() as made:
         room = pathlib.Path(made)
         compiler = shutil.which("clang") or "cc"
-        run(compiler, "-O2", f"-I{kit}/include", HERE / "bench.c", f"-L{kit}/lib", "-lkotskhin", "-pthread", "-o", room / "bench")
+        for name in ("bench", "bytes"):
+            run(compiler, "-O2", f"-I{kit}/include", HERE / f"{name}.c", f"-L{kit}/lib", "-lkotskhin", "-pthread", "-o", room / name)
         given = {**os.environ, "KOTSKHIN_LIB": f"{kit}/lib", "CARGO_TARGET_DIR": f"{room}/rust"}
         run("cargo", "build", "-q", "--release", "--offline", "--locked", "--example", "bench", cwd=HERE.parent / "rust", env=given)
-        programs = [room / "bench", room / "rust/release/examples/bench"]
+        programs = [room / "bench", room / "bytes", room / "rust/release/examples/bench"]
         if list(CRATES.glob("prometheus-*")):
             shutil.copytree(HERE / "prometheus", room / "prometheus")
             there = ["--config", 'source.crates-io.replace-with="debian"', "--config", f'source.debian.directory="{CRATES}"']

@@ -71,12 +71,12 @@ enum {
 
     KIT_NOT_ADDRESSED = 50,   /* the message goes to another id */
 
-    KIT_TRUNCATED = 60,       /* bytes end within the export: * their number */
-    KIT_BAD_MAGIC = 61,       /* bytes do not begin as an export does: * the byte */
+    KIT_TRUNCATED = 60,       /* bytes end within what they begin: * their number */
+    KIT_BAD_MAGIC = 61,       /* bytes do not begin as an export, or a message, does: * the byte */
     KIT_BAD_VERSION = 62,     /* the version is not one that is known: * the byte */
     KIT_NOT_CANONICAL = 63,   /* a value is not in its one form: * its byte */
     KIT_BAD_CHECKSUM = 64,    /* the checksum is not that of the bytes before it: * its byte */
-    KIT_BAD_EXPORT = 65,      /* the values make no export */
+    KIT_BAD_EXPORT = 65,      /* the values make no export, or a message has a point that no export brings */
 };
 
 /* Kinds of instruments. */
@@ -189,6 +189,9 @@ int32_t kit_node_send(kit_handle *node, uint32_t to, kit_handle *message);
 int32_t kit_node_hand(kit_handle *node, kit_handle *message, kit_handle *answer, bool *answered);
 /* From which id to which a message goes, and how many points it carries: an answer carries none. */
 int32_t kit_message_read(kit_handle *message, uint32_t *from, uint32_t *to, size_t *points);
+/* The bytes of a message, for a node in another process, as of exports above; kit_bytes_copy copies them. */
+int32_t kit_message_encode(kit_handle *message, kit_handle *bytes);
+int32_t kit_message_decode(kit_handle *message, const uint8_t *bytes, size_t bytes_len, uint64_t *place);
 
 /* Asks of a stream: all its points, a row for each attribute set. */
 int32_t kit_ask_sum(kit_handle *ask, const uint8_t *scope, size_t scope_len, const uint8_t *name, size_t name_len,

@@ -46,6 +46,18 @@ public:
     kit_handle *at() { return &raw; }
 };
 
+// The bytes that a handle has.
+inline std::vector<uint8_t> copied(Handle &bytes) {
+    std::vector<uint8_t> made(1024);
+    size_t len = 0;
+    do {
+        if (len > made.size()) made.resize(len);
+        checked(kit_bytes_copy(bytes.at(), made.data(), made.size(), &len));
+    } while (len > made.size());
+    made.resize(len);
+    return made;
+}
+
 class Attributes {
     friend class Seat;
     friend class Writer;
@@ -96,14 +108,7 @@ public:
     std::vector<uint8_t> encode() {
         Handle bytes;
         checked(kit_export_encode(handle.at(), bytes.at()));
-        std::vector<uint8_t> made(1024);
-        size_t len = 0;
-        do {
-            if (len > made.size()) made.resize(len);
-            checked(kit_bytes_copy(bytes.at(), made.data(), made.size(), &len));
-        } while (len > made.size());
-        made.resize(len);
-        return made;
+        return copied(bytes);
     }
     static Export decode(const std::vector<uint8_t> &bytes) {
         Export made;
@@ -229,6 +234,19 @@ public:
         Envelope told{};
         checked(kit_message_read(handle.at(), &told.from, &told.to, &told.points));
         return told;
+    }
+    // Its bytes, for a node in another process.
+    std::vector<uint8_t> encode() {
+        Handle bytes;
+        checked(kit_message_encode(handle.at(), bytes.at()));
+        return copied(bytes);
+    }
+    static Message decode(const std::vector<uint8_t> &bytes) {
+        Message made;
+        const uint8_t none = 0;
+        uint64_t place = 0;
+        checked(kit_message_decode(made.handle.at(), bytes.empty() ? &none : bytes.data(), bytes.size(), &place), place);
+        return made;
     }
 };
 

@@ -212,6 +212,11 @@ func (e Export) Encode() ([]byte, error) {
 	if err := with(e.h, made, func(*C.uint64_t) C.int32_t { return C.kit_export_encode(&e.h.raw, &made.raw) }); err != nil {
 		return nil, err
 	}
+	return copied(made)
+}
+
+// copied gives the bytes that a handle has.
+func copied(made *handle) ([]byte, error) {
 	for room := make([]byte, 1024); ; {
 		var length C.size_t
 		if err := with(made, made, func(*C.uint64_t) C.int32_t {
@@ -232,6 +237,24 @@ func DecodeExport(bytes []byte) (Export, error) {
 	at, length := text(string(bytes))
 	return Export{h}, with(h, h, func(place *C.uint64_t) C.int32_t {
 		return C.kit_export_decode(&h.raw, at, length, place)
+	})
+}
+
+// Encode gives the bytes of the message, for a node in another process.
+func (m Message) Encode() ([]byte, error) {
+	made := newHandle()
+	if err := with(m.h, made, func(*C.uint64_t) C.int32_t { return C.kit_message_encode(&m.h.raw, &made.raw) }); err != nil {
+		return nil, err
+	}
+	return copied(made)
+}
+
+// DecodeMessage gives the message of bytes that Encode made.
+func DecodeMessage(bytes []byte) (Message, error) {
+	h := newHandle()
+	at, length := text(string(bytes))
+	return Message{h}, with(h, h, func(place *C.uint64_t) C.int32_t {
+		return C.kit_message_decode(&h.raw, at, length, place)
 	})
 }
 

@@ -87,7 +87,10 @@ func TestNodesTellEachOther(t *testing.T) {
 	one := must[Node](t)(OpenNode(must[Gateway](t)(OpenGateway(1))))
 	other := must[Node](t)(OpenNode(must[Gateway](t)(OpenGateway(2))))
 	must[uint64](t)(one.Take(must[Export](t)(w.Collect(200))))
-	answer, answered, err := other.Hand(must[Message](t)(one.Send(2)))
+	bytes := must[[]byte](t)(must[Message](t)(one.Send(2)).Encode())
+	_, err := DecodeMessage(nil)
+	refused(t, err, codeTruncated, 0)
+	answer, answered, err := other.Hand(must[Message](t)(DecodeMessage(bytes)))
 	if err != nil || !answered {
 		t.Fatal(answered, err)
 	}

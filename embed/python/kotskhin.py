@@ -48,6 +48,8 @@ _TYPES = {
     "kit_message_read": [_HANDLE, POINTER(c_uint32), POINTER(c_uint32), POINTER(c_size_t)],
     "kit_export_encode": [_HANDLE, _HANDLE],
     "kit_export_decode": [_HANDLE, *_TEXT, POINTER(c_uint64)],
+    "kit_message_encode": [_HANDLE, _HANDLE],
+    "kit_message_decode": [_HANDLE, *_TEXT, POINTER(c_uint64)],
     "kit_bytes_copy": [_HANDLE, c_char_p, c_size_t, POINTER(c_size_t)],
 }
 _library = ctypes.CDLL(os.environ["KOTSKHIN_SO"])
@@ -244,6 +246,19 @@ class Message(_Handle):
         sender, receiver, points = c_uint32(), c_uint32(), c_size_t()
         _call("kit_message_read", self._at, byref(sender), byref(receiver), byref(points))
         return sender.value, receiver.value, points.value
+
+    def encode(self):
+        """Its bytes, for a node in another process."""
+        made = _Handle()
+        _call("kit_message_encode", self._at, made._at)
+        return _copied("kit_bytes_copy", made._at)
+
+    @staticmethod
+    def decode(encoded):
+        """The message of bytes that encode made."""
+        made, place = Message(), c_uint64()
+        _call("kit_message_decode", made._at, encoded, len(encoded), byref(place), place=place)
+        return made
 
 
 class Node(_Handle):

@@ -8,7 +8,7 @@ that it may come twice, and late, is what a gateway does not mind. Lists lose wh
 
 The broker runs on a free port of the loopback, keeps nothing on disk, and is stopped at the end. In the middle worker 3 dies and comes
 back, as a later incarnation; gateway 3 is killed and comes back as gateway 4, since an id is that of one gateway's state. Exports
-and what gateways tell each other come twice and out of order. At the end each gateway prints its table: they must be the same, and
+and the messages by which gateways tell each other come twice and out of order. At the end each gateway prints its table: they must be the same, and
 their total what the workers counted."""
 import contextlib
 import pathlib

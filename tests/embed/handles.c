@@ -56,8 +56,9 @@ static int64_t number;
 static bool truth;
 static uint32_t id;
 static uint8_t room[256];
-static uint8_t encoded[1024];
-static size_t encoded_len;
+/* The bytes of an export, and of a message. */
+static uint8_t encoded[1024], told[1024];
+static size_t encoded_len, told_len;
 
 /* A thing of a kind in an empty handle: of the scope app the counter requests, at no attributes 7, from shop since 100 at 200. */
 static void make(enum kind kind, kit_handle *it) {
@@ -190,6 +191,8 @@ CALL(node_merge, h[0], h[1], &place)
 CALL(node_send, h[0], 5, h[1])
 CALL(node_hand, h[0], h[1], h[2], &truth)
 CALL(message_read, h[0], &id, &id, &size)
+CALL(message_encode, h[0], h[1])
+CALL(message_decode, h[0], told, told_len, &place)
 CALL(ask_sum, h[0], TEXT("app"), TEXT("requests"), TEXT("1"), true)
 CALL(ask_gauge, h[0], TEXT("app"), TEXT("depth"), TEXT("1"))
 CALL(ask_histogram, h[0], TEXT("app"), TEXT("size"), TEXT("By"), bounds, 2)
@@ -226,7 +229,8 @@ static const struct row CALLS[] = {
     ROW(gateway_same, {THERE, GATEWAY}, {THERE, GATEWAY}), ROW(node_open, {FILLED, NODE}, {THERE, GATEWAY}),
     ROW(node_gateway, {THERE, NODE}, {FILLED, GATEWAY}), ROW(node_take, {THERE, NODE}, {THERE, EXPORT}),
     ROW(node_merge, {THERE, NODE}, {THERE, GATEWAY}), ROW(node_send, {THERE, NODE}, {FILLED, MESSAGE}),
-    ROW(node_hand, {THERE, NODE}, {THERE, MESSAGE}, {FILLED, MESSAGE}), ROW(message_read, {THERE, MESSAGE}), ROW(ask_sum, {FILLED, ASK}),
+    ROW(node_hand, {THERE, NODE}, {THERE, MESSAGE}, {FILLED, MESSAGE}), ROW(message_read, {THERE, MESSAGE}),
+    ROW(message_encode, {THERE, MESSAGE}, {FILLED, BYTES}), ROW(message_decode, {FILLED, MESSAGE}), ROW(ask_sum, {FILLED, ASK}),
     ROW(ask_gauge, {FILLED, ASK}), ROW(ask_histogram, {FILLED, ASK}), ROW(ask_service, {THERE, ASK}),
     ROW(ask_only, {THERE, ASK}, {OPENS, PAIRS}), ROW(ask_keep, {THERE, ASK}, {OPENS, KEYS}),
     ROW(gateway_rows, {THERE, GATEWAY}, {THERE, ASK}, {FILLED, SUM_ROWS}), ROW(rows_table, {THERE, ROWS}, {FILLED, TOLD_TEXT}),
@@ -332,10 +336,12 @@ static void given_twice(const struct row *row, int hand, int other) {
 }
 
 int main(void) {
-    kit_handle bytes = KIT_EMPTY;
-    make(BYTES, &bytes);
+    kit_handle bytes = KIT_EMPTY, message = KIT_EMPTY;
+    make(BYTES, &bytes), make(MESSAGE, &message);
     MUST(kit_bytes_copy(&bytes, encoded, sizeof encoded, &encoded_len) || encoded_len > sizeof encoded);
     kit_free(&bytes);
+    MUST(kit_message_encode(&message, &bytes) || kit_bytes_copy(&bytes, told, sizeof told, &told_len) || told_len > sizeof told);
+    kit_free(&bytes), kit_free(&message);
     for (size_t i = 0; i < sizeof CALLS / sizeof *CALLS; i++) {
         const struct row *row = &CALLS[i];
         grows(row);

@@ -565,6 +565,42 @@ static void encodings(kit_handle *plan, kit_handle *none) {
     kit_free(&writer), kit_free(&collected), kit_free(&made), kit_free(&gateway);
 }
 
+/* A message as bytes: they come to a node as the message itself does. */
+static void told(kit_handle *plan, kit_handle *none) {
+    kit_handle writer = KIT_EMPTY, collected = KIT_EMPTY, gateway = KIT_EMPTY, one = KIT_EMPTY, other = KIT_EMPTY, far = KIT_EMPTY;
+    kit_handle sent = KIT_EMPTY, made = KIT_EMPTY, read = KIT_EMPTY, answer = KIT_EMPTY;
+    uint8_t bytes[1024];
+    size_t len = 77;
+    bool answered = false;
+    CHECK(!kit_writer_start(&writer, plan, TEXT("shop"), 0, 1, 100) && !kit_writer_measure(&writer, 0, none, 7, &place));
+    CHECK(!kit_writer_collect(&writer, 200, &collected, &place) && !kit_gateway_open(&gateway, 1) && !kit_gateway_open(&far, 2));
+    CHECK(!kit_node_open(&one, &gateway) && !kit_node_open(&other, &far) && !kit_node_take(&one, &collected, &changed));
+    CHECK(!kit_node_send(&one, 2, &sent));
+    CHECK(kit_message_encode(&made, &read) == KIT_NOTHING && kit_message_encode(&collected, &made) == KIT_WRONG_KIND && !made.full);
+    CHECK(kit_export_encode(&sent, &made) == KIT_WRONG_KIND && kit_message_encode(&sent, none) == KIT_FULL && sent.full);
+    EACH_GROWTH(kit_message_encode(&sent, &made), !made.full && sent.full);
+    CHECK(!kit_bytes_copy(&made, bytes, sizeof bytes, &len) && len < sizeof bytes);
+
+    CHECK(kit_message_decode(none, bytes, len, &place) == KIT_FULL && none->full);
+    EACH_GROWTH(kit_message_decode(&read, bytes, len, &place), !read.full);
+    CHECK(!kit_node_hand(&other, &read, &answer, &answered) && answered && holds(&other, SEVEN));
+    kit_free(&read), kit_free(&made);
+    CHECK(!kit_node_hand(&one, &answer, &read, &answered) && !answered && !read.full);
+    for (size_t short_of = 0; short_of < len; short_of++) {
+        CHECK(kit_message_decode(&read, bytes, short_of, &place) == KIT_TRUNCATED && place == short_of && !read.full);
+    }
+    CHECK(kit_export_decode(&read, bytes, len, &place) == KIT_BAD_MAGIC && place == 3 && !read.full);
+    bytes[len - 1] ^= 1;
+    CHECK(kit_message_decode(&read, bytes, len, &place) == KIT_BAD_CHECKSUM && place == len - 4 && !read.full);
+    place = 77, bytes[len - 5] = 13; /* (-7, of a sum that only rises) */
+    checksum(bytes, len - 4);
+    CHECK(kit_message_decode(&read, bytes, len, &place) == KIT_BAD_EXPORT && place == 77 && !read.full);
+    kit_handle *all[] = {&writer, &collected, &gateway, &one, &other, &far, &sent, &made, &read, &answer};
+    for (size_t i = 0; i < sizeof all / sizeof *all; i++) {
+        kit_free(all[i]);
+    }
+}
+
 int main(void) {
     kit_handle plan = KIT_EMPTY, none = KIT_EMPTY, four = KIT_EMPTY;
     views();
@@ -578,6 +614,7 @@ int main(void) {
     seats(&plan, &none);
     writers_apart(&plan, &none);
     encodings(&plan, &none);
+    told(&plan, &none);
     kit_free(&plan), kit_free(&none), kit_free(&four);
     return 0;
 }

@@ -6,7 +6,8 @@
 The archive is crates/kit_c/out/libkit_c.a, which `rt lib` builds in crates/kit_c, and the gate before it calls this: nothing is
 proved here. The declarations are held to the exports (embed/build). Then the first script, in C and C++ under each
 compiler that is there, in Rust, Go and Python: each must print examples/first.out. In C every refusal is raised once, each growth of
-each call is refused in turn, and threads record, each plainly and under AddressSanitizer with its leak check. In Rust and Go the tests
+each call is refused in turn, threads record, and exports go as bytes, which are then changed, cut and made up, each plainly and under
+AddressSanitizer with its leak check. In Rust and Go the tests
 run, and callers in Rust that misuse the types must not compile. Then exports between processes: examples/pipe, a writer in C and a gateway in
 Rust, and examples/broker, where there is a redis-server. What the machine has not is told and passed over.
 
@@ -29,6 +30,7 @@ PIPE, BROKER = TOP / "examples" / "pipe", TOP / "examples" / "broker"
 C = ["-std=c11", "-Wall", "-Wextra", "-Werror"]
 CPP = ["-std=c++17", "-Wall", "-Wextra", "-Werror"]
 ASAN = ["-g", "-fsanitize=address", "-fno-omit-frame-pointer"]
+FEW = ("2000", "50000")
 WRAPPED = ["-Wl,--wrap=malloc,--wrap=realloc"]
 ERROR = re.compile(r"^// (error\[E\d+\])$", re.M)
 
@@ -60,12 +62,12 @@ class Run:
         self.say(what, fault)
         return not fault
 
-    def compiled(self, what, compiler, source, flags, prints=None):
+    def compiled(self, what, compiler, source, flags, prints=None, words=()):
         """Compiles one file over the kit, and runs it."""
         program = self.room / "program"
         libraries = [it for it in self.linked if not it.startswith("-I")]
         if self.run(f"{what}: compiled", compiler, *flags, self.linked[0], source, *libraries, "-o", program):
-            self.run(what, program, prints=prints, env={**os.environ, "ASAN_OPTIONS": "detect_leaks=1"})
+            self.run(what, program, *words, prints=prints, env={**os.environ, "ASAN_OPTIONS": "detect_leaks=1"})
 
     def covered(self):
         """Whether handles.c has a row for each call that the header has."""
@@ -85,6 +87,7 @@ class Run:
                 self.compiled(f"C, {compiler}{how}: refusals", compiler, HERE / "refusals.c", C + flags + WRAPPED)
                 self.compiled(f"C, {compiler}{how}: handles", compiler, HERE / "handles.c", C + flags + WRAPPED)
                 self.compiled(f"C, {compiler}{how}: threads", compiler, HERE / "threads.c", C + flags)
+                self.compiled(f"C, {compiler}{how}: bytes", compiler, HERE / "mutated.c", C + flags + WRAPPED, words=FEW if how else ())
             self.installed(compiler)
 
     def installed(self, compiler):

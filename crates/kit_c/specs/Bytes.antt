@@ -1,11 +1,14 @@
--- Exports as bytes, behind handles.
+-- Exports and messages as bytes, behind handles.
 use Rattle.std.specs.Prelude.{◌≡◌, ℕ, List, [], Option, Some, None}
-use Rattle.bytes_kit.specs.Explaining.{Explains}
+use Rattle.bytes_kit.specs.Explaining.{Explains, ExplainsMessage}
+use Rattle.bytes_kit.specs.Fits.{IsExport}
 use Rattle.bytes_kit.specs.Format.{bytes_of}
+use Rattle.bytes_kit.specs.MessageFits.{IsMessage, IsSoundPoints}
+use Rattle.bytes_kit.specs.Messages.{bytes_of_message}
 use Rattle.kit_c.specs.declared.fault.Fault.{Fault}
 use Rattle.kit_c.specs.declared.fault.Fault.TheVariants as faults
 use Rattle.kit_c.specs.declared.held.Held.{Held}
-use Rattle.kit_c.specs.declared.held.Held.TheVariants.{Bytes, Export}
+use Rattle.kit_c.specs.declared.held.Held.TheVariants.{Bytes, Export, Message}
 
 -- a thing is no export
 abbrev pub export_fault : Held → Option Fault
@@ -36,3 +39,24 @@ IsReadFrom bytes m = ⊥
 abbrev pub IsDecodeFault : List ℕ → Fault → Type 0
 IsDecodeFault bytes (faults.Decode f) = Explains bytes f
 IsDecodeFault bytes other = ⊥
+
+-- the bytes of a message
+abbrev pub encoded_message : Held → List ℕ
+encoded_message (Message m) = bytes_of_message m
+encoded_message h = []
+
+-- an export or a message whose numbers are of the sizes that its bytes have: what reading them asks for
+abbrev pub HasForm : Option Held → Type 0
+HasForm (Some (Export e)) = IsExport e
+HasForm (Some (Message m)) = IsMessage m
+HasForm m = ⊥
+
+-- a handle has the message of these bytes, whose cells are such as exports bring
+abbrev pub IsMessageOf : List ℕ → Option Held → Type 0
+IsMessageOf bytes (Some (Message m)) = (bytes_of_message m ≡ bytes) × IsSoundPoints m.points
+IsMessageOf bytes m = ⊥
+
+-- why bytes are no message
+abbrev pub IsMessageFault : List ℕ → Fault → Type 0
+IsMessageFault bytes (faults.Decode f) = ExplainsMessage bytes f
+IsMessageFault bytes other = ⊥

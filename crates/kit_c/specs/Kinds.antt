@@ -8,7 +8,8 @@ use Rattle.kit_c.specs.declared.fault.Fault.TheVariants.{BadNumber}
 
 -- the kind that a number stands for
 abbrev pub numbered_kind : ℕ → Option Kind
-numbered_kind n = cond (n == 0) (Some Counter) (cond (n == 1) (Some UpDown) (cond (n == 2) (Some Gauge) (cond (n == 3) (Some Histogram) None)))
+numbered_kind n = cond (n == 0) (Some Counter)
+    (cond (n == 1) (Some UpDown) (cond (n == 2) (Some Gauge) (cond (n == 3) (Some Histogram) None)))
 
 -- a number that stands for none
 abbrev pub kind_fault : ℕ → Option Fault

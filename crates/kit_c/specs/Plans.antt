@@ -14,7 +14,8 @@ use Rattle.kit_c.specs.declared.held.Held.TheVariants.{Instruments, Views}
 
 -- the instrument of these texts and of the kind of a number
 abbrev pub instrument_of : List ℕ → List ℕ → List ℕ → ℕ → Option Instrument
-instrument_of scope name unit number = option_map (λ kind. record { scope = scope; name = name; unit = unit; kind = kind }) (numbered_kind number)
+instrument_of scope name unit number
+    = option_map (λ kind. record { scope = scope; name = name; unit = unit; kind = kind }) (numbered_kind number)
 
 -- why there is none
 abbrev pub instruments_fault : List ℕ → List ℕ → List ℕ → ℕ → Option Fault

@@ -49,7 +49,8 @@ with_aggregation a h = h
 
 -- the aggregation that a number stands for
 abbrev pub numbered_aggregation : ℕ → Option Aggregation
-numbered_aggregation n = cond (n == 0) (Some aggregations.Default) (cond (n == 1) (Some aggregations.Sum) (cond (n == 2) (Some aggregations.LastValue) (cond (n == 3) (Some aggregations.Drop) None)))
+numbered_aggregation n = cond (n == 0) (Some aggregations.Default) (cond (n == 1) (Some aggregations.Sum)
+    (cond (n == 2) (Some aggregations.LastValue) (cond (n == 3) (Some aggregations.Drop) None)))
 
 -- a number that stands for none
 abbrev pub aggregation_fault : ℕ → Option Fault

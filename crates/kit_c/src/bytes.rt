@@ -4,7 +4,7 @@ ghost use Rattle.std.specs.Prelude.{◌≡◌, ◌≢◌, ◌++◌, ◌∷◌, [
 ghost use Rattle.attr_kit.specs.Refusing.{first};
 ghost use Rattle.bytes_kit.specs.Fits.{IsExport};
 ghost use Rattle.bytes_kit.specs.Format.{bytes_of};
-ghost use Rattle.kit_c.specs.Bytes.{IsDecodeFault, IsReadFrom, bytes_fault, bytes_in, encoded, export_fault};
+ghost use Rattle.kit_c.specs.Bytes.{HasForm, IsDecodeFault, IsReadFrom, bytes_fault, bytes_in, encoded, export_fault};
 ghost use Rattle.kit_c.specs.Codes.{code_of, no_memory};
 ghost use Rattle.kit_c.specs.Faults.{full_fault, of_one};
 ghost use Rattle.kit_c.specs.Places.{place_of};
@@ -22,6 +22,7 @@ use std::alloc::Global;
 fn encode(alloc: Global, held: &Held) -> Result<Seq<u8>, Fault>
     ensures ok { OnOk result (export_fault held.now ≡ None) }
     ensures value { IfOk result (λ b. b ≡ encoded held.now) }
+    ensures form { OnOk result (HasForm (Some held.now)) }
     ensures err { IfErr result (λ f. code_of f ≢ no_memory → export_fault held.now ≡ Some f) }
 {
     let Held::Export(export) = held else {
@@ -43,6 +44,7 @@ pub extern "C" fn kit_export_encode(
         → first (full_fault bytes.old.inner.value ∷ of_one export.old.inner.value export_fault ∷ []) ≡ None }
     ensures value { result ≡ pos 0 → (e : _) → export.old.inner.value ≡ Some e
         → bytes.new.inner.value ≡ Some (things.Bytes (encoded e)) }
+    ensures form { result ≡ pos 0 → HasForm export.old.inner.value }
     ensures err { result ≢ pos 0 → result ≢ no_memory → option_map code_of
         (first (full_fault bytes.old.inner.value ∷ of_one export.old.inner.value export_fault ∷ [])) ≡ Some result }
     ensures unchanged { result ≢ pos 0 → bytes.new.inner.value ≡ bytes.old.inner.value }

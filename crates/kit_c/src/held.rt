@@ -33,7 +33,7 @@ pub enum Held {
     Ask(Ask),
     Rows(Seq<Row>),
     Text(Txt),
-    /// An export as bytes.
+    /// An export or a message as bytes.
     Bytes(Seq<u8>),
 }
 

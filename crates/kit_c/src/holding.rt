@@ -101,8 +101,10 @@ fn measured_by_number(
 ) -> Result<(), Fault>
     requires { All (KnowsPoints writer.old) sets.old.items }
     ensures ok { OnOk result (set_fault instrument value writer.old (slice_get (map attrs_of sets.old.items) number) ≡ None) }
-    ensures value { OnOk result (writer.new ≡ recorded_at instrument value writer.old (slice_get (map attrs_of sets.old.items) number)) }
-    ensures err { IfErr result (λ f. code_of f ≢ refused_memory → set_fault instrument value writer.old (slice_get (map attrs_of sets.old.items) number) ≡ Some f) }
+    ensures value { OnOk result (writer.new
+        ≡ recorded_at instrument value writer.old (slice_get (map attrs_of sets.old.items) number)) }
+    ensures err { IfErr result (λ f. code_of f ≢ refused_memory
+        → set_fault instrument value writer.old (slice_get (map attrs_of sets.old.items) number) ≡ Some f) }
     ensures unchanged { OnErr result (writer.new ≡ writer.old) }
     ensures sets { map attrs_of sets.new.items ≡ map attrs_of sets.old.items }
     ensures knows { All (KnowsPoints writer.new) sets.new.items }
@@ -167,7 +169,8 @@ impl HoldingWriter {
         value: i64,
     ) -> Result<(), MeasureFault>
         ensures ok { OnOk result (fault_now self.old.writer (entry_of instrument attrs.now value) ≡ None) }
-        ensures value { OnOk result (self.new ≡ record self.old { writer = recorded self.old.writer (entry_of instrument attrs.now value) }) }
+        ensures value { OnOk result (self.new
+            ≡ record self.old { writer = recorded self.old.writer (entry_of instrument attrs.now value) }) }
         ensures err { IfErr result (λ f. f ≢ no_memory → fault_now self.old.writer (entry_of instrument attrs.now value) ≡ Some f) }
         ensures unchanged { OnErr result (self.new ≡ self.old) }
     {
@@ -196,8 +199,10 @@ impl HoldingWriter {
         value: i64,
     ) -> Result<(), Fault>
         ensures ok { OnOk result (set_fault instrument value self.old.writer (slice_get self.old.sets number) ≡ None) }
-        ensures value { OnOk result (self.new ≡ record self.old { writer = recorded_at instrument value self.old.writer (slice_get self.old.sets number) }) }
-        ensures err { IfErr result (λ f. code_of f ≢ refused_memory → set_fault instrument value self.old.writer (slice_get self.old.sets number) ≡ Some f) }
+        ensures value { OnOk result (self.new ≡ record self.old
+            { writer = recorded_at instrument value self.old.writer (slice_get self.old.sets number) }) }
+        ensures err { IfErr result (λ f. code_of f ≢ refused_memory
+            → set_fault instrument value self.old.writer (slice_get self.old.sets number) ≡ Some f) }
         ensures unchanged { OnErr result (self.new ≡ self.old) }
     {
         measured_by_number(&mut self.writer, &mut self.sets, instrument, number, value)

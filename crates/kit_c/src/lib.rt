@@ -16,11 +16,10 @@ mod instruments;
 mod keys;
 mod list;
 mod loose;
+mod messages;
 mod nodes;
 mod rows;
 mod seats;
-#[cfg(test)]
-mod tests;
 mod text;
 mod views;
 mod writer;

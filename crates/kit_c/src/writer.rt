@@ -264,6 +264,42 @@ fn collected(alloc: Global, held: &mut Held, time: u64, closing: bool) -> Result
     Ok(made)
 }
 
+// Collects into a handle that is to be empty.
+fn collected_into(
+    alloc: Global,
+    writer: &mut KitHandle,
+    time: u64,
+    closing: bool,
+    export: &mut KitHandle,
+    place: &mut u64,
+) -> i32
+    ensures ok { result ≡ pos 0 → collecting_fault time writer.old.inner.value export.old.inner.value ≡ None }
+    ensures value { result ≡ pos 0 → writer.new.inner.value ≡ in_one (after_collection time closing) writer.old.inner.value }
+    ensures export { result ≡ pos 0 → IsCollection time writer.old.inner.value export.new.inner.value }
+    ensures err { result ≢ pos 0 → result ≢ no_memory
+        → option_map code_of (collecting_fault time writer.old.inner.value export.old.inner.value) ≡ Some result }
+    ensures place { result ≢ no_memory
+        → place.new ≡ place_after (collecting_fault time writer.old.inner.value export.old.inner.value) place.old }
+    ensures unchanged { result ≢ pos 0 → writer.new.inner.value ≡ writer.old.inner.value }
+    ensures held { result ≢ pos 0 → export.new.inner.value ≡ export.old.inner.value }
+{
+    if export.full {
+        return FULL;
+    }
+    let Some(mut held) = writer.take(alloc) else {
+        return NOTHING;
+    };
+    let made = collected(alloc, &mut held, time, closing);
+    writer.put(held);
+    match made {
+        Ok(made) => {
+            export.put(made);
+            OK
+        }
+        Err(fault) => refused(fault, place),
+    }
+}
+
 /// Collects the points since the start, as an export. Exports are cumulative, so a lost one is covered by the next (OpenTelemetry
 /// Metrics SDK, "MetricReader", Collect). The time is in nanoseconds since the Unix epoch.
 ///
@@ -287,21 +323,7 @@ pub extern "C" fn kit_writer_collect(
     ensures unchanged { result ≢ pos 0 → writer.new.inner.value ≡ writer.old.inner.value }
     ensures held { result ≢ pos 0 → export.new.inner.value ≡ export.old.inner.value }
 {
-    if export.full {
-        return FULL;
-    }
-    let Some(mut held) = writer.take(alloc) else {
-        return NOTHING;
-    };
-    let made = collected(alloc, &mut held, time, false);
-    writer.put(held);
-    match made {
-        Ok(made) => {
-            export.put(made);
-            OK
-        }
-        Err(fault) => refused(fault, place),
-    }
+    collected_into(alloc, writer, time, false, export, place)
 }
 
 /// Collects for the last time, and closes the writer (OpenTelemetry Metrics SDK, "MetricReader", Shutdown).
@@ -325,21 +347,7 @@ pub extern "C" fn kit_writer_shutdown(
     ensures unchanged { result ≢ pos 0 → writer.new.inner.value ≡ writer.old.inner.value }
     ensures held { result ≢ pos 0 → export.new.inner.value ≡ export.old.inner.value }
 {
-    if export.full {
-        return FULL;
-    }
-    let Some(mut held) = writer.take(alloc) else {
-        return NOTHING;
-    };
-    let made = collected(alloc, &mut held, time, true);
-    writer.put(held);
-    match made {
-        Ok(made) => {
-            export.put(made);
-            OK
-        }
-        Err(fault) => refused(fault, place),
-    }
+    collected_into(alloc, writer, time, true, export, place)
 }
 
 fn restarted(held: &mut Held, start: u64) -> Result<(), Fault>

@@ -228,6 +228,13 @@ unsafe extern "C" {
         to: *mut u32,
         points: *mut usize,
     ) -> i32;
+    pub fn kit_message_encode(message: *mut Handle, bytes: *mut Handle) -> i32;
+    pub fn kit_message_decode(
+        message: *mut Handle,
+        bytes: *const u8,
+        bytes_len: usize,
+        place: *mut u64,
+    ) -> i32;
     pub fn kit_rows_histogram(
         rows: *mut Handle,
         number: usize,

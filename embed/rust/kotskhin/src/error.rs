@@ -56,9 +56,9 @@ pub enum Error {
     SameStream { first: u64, second: u64 },
     /// The limit is 0.
     BadLimit,
-    /// The bytes end at this place, within the export.
+    /// The bytes end at this place, within the export or the message.
     Truncated { at: u64 },
-    /// The byte at this place is not that of an export.
+    /// The byte at this place is not that of an export, or of a message.
     BadMagic { at: u64 },
     /// The version at this place is not known.
     BadVersion { at: u64 },
@@ -68,7 +68,7 @@ pub enum Error {
     NotText { at: u64 },
     /// The checksum at this place is not that of the bytes before it.
     BadChecksum { at: u64 },
-    /// The values of the bytes make no export.
+    /// The values of the bytes make no export, or a point of a message is none that an export brings.
     BadExport,
     /// A code that these types make impossible: `NOTHING`, `WRONG_KIND`, `FULL`, `BAD_NUMBER`, or none of the kit's.
     Unexpected(i32),
@@ -193,8 +193,8 @@ impl fmt::Display for Error {
                 write!(f, "instruments {first} and {second} feed one stream")
             }
             Error::BadLimit => write!(f, "the limit is 0"),
-            Error::Truncated { at } => write!(f, "the bytes end at {at}, within the export"),
-            Error::BadMagic { at } => write!(f, "byte {at} is not that of an export"),
+            Error::Truncated { at } => write!(f, "the bytes end at {at}, too early"),
+            Error::BadMagic { at } => write!(f, "byte {at} is not the one wanted there"),
             Error::BadVersion { at } => write!(f, "the version at byte {at} is not known"),
             Error::NotCanonical { at } => {
                 write!(f, "the value at byte {at} is not in its one form")

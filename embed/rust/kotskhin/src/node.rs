@@ -1,11 +1,11 @@
 //! Gateways that tell each other what changed.
-use crate::error::{Error, checked};
-use crate::export::Export;
+use crate::error::{Error, checked, checked_at};
+use crate::export::{Export, copied};
 use crate::gateway::Gateway;
 use crate::handle::Handle;
 use kotskhin_sys::{
-    kit_message_read, kit_node_gateway, kit_node_hand, kit_node_merge, kit_node_open,
-    kit_node_send, kit_node_take,
+    kit_message_decode, kit_message_encode, kit_message_read, kit_node_gateway, kit_node_hand,
+    kit_node_merge, kit_node_open, kit_node_send, kit_node_take,
 };
 
 /// A gateway that sends messages and takes them in. The ids of nodes that exchange messages are distinct.
@@ -80,6 +80,26 @@ impl Node {
 }
 
 impl Message {
+    /// Its bytes, for a node in another process: each message has one form. Refused: `NoMemory`.
+    pub fn encode(&self) -> Result<Vec<u8>, Error> {
+        let mut made = Handle::empty();
+        // SAFETY: the message stays on this thread, and the bytes are ours alone; they are two.
+        checked(unsafe { kit_message_encode(self.0.read(), made.change()) })?;
+        copied(&mut made)
+    }
+
+    /// The message of bytes that `encode` made. Refused as `Export::decode` is, `BadExport` where a point is none that an export
+    /// brings.
+    pub fn decode(bytes: &[u8]) -> Result<Message, Error> {
+        let (mut message, mut place) = (Handle::empty(), 0);
+        // SAFETY: the handle is ours alone, and the bytes are a slice's pointer and length.
+        let code = unsafe {
+            kit_message_decode(message.change(), bytes.as_ptr(), bytes.len(), &mut place)
+        };
+        checked_at(code, place)?;
+        Ok(Message(message))
+    }
+
     /// What stands on it.
     pub fn envelope(&self) -> Result<Envelope, Error> {
         let (mut from, mut to, mut points) = (0, 0, 0);

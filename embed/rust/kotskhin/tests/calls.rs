@@ -3,7 +3,7 @@
 use kotskhin::metrics::{Counter, Meter};
 use kotskhin::{
     Aggregation, Ask, AttributeValue, Attributes, DEFAULT_LIMIT, Envelope, Error, Export, Gateway,
-    Instruments, Kind, Node, Plan, Seat, View, Views, Writer,
+    Instruments, Kind, Message, Node, Plan, Seat, View, Views, Writer,
 };
 use std::thread;
 
@@ -393,6 +393,31 @@ fn exports_go_to_other_processes() -> Result<(), Error> {
     assert_eq!(
         Export::decode(&bytes).err(),
         Some(Error::BadMagic { at: 0 })
+    );
+    Ok(())
+}
+
+#[test]
+fn messages_go_to_other_processes() -> Result<(), Error> {
+    let (mut writer, none) = (writer(1)?, Attributes::none()?);
+    writer.measure(0, &none, 7)?;
+    let mut one = Node::open(&Gateway::open(1)?)?;
+    let mut other = Node::open(&Gateway::open(2)?)?;
+    one.take(&writer.collect(200)?)?;
+    let bytes = one.send(2)?.encode()?;
+    let read = Message::decode(&bytes)?;
+    assert_eq!(read.envelope(), one.send(2)?.envelope());
+    assert_eq!(read.encode()?, bytes);
+    let answer = other.hand(&read)?.expect("it is answered").encode()?;
+    assert!(one.hand(&Message::decode(&answer)?)?.is_none());
+    assert_eq!(other.gateway()?.table(&requests()?)?, TOTAL_OF_7);
+    assert_eq!(
+        Message::decode(&bytes[..3]).err(),
+        Some(Error::Truncated { at: 3 })
+    );
+    assert_eq!(
+        Export::decode(&bytes).err(),
+        Some(Error::BadMagic { at: 3 })
     );
     Ok(())
 }
