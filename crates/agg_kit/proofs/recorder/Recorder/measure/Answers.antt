@@ -1,4 +1,4 @@
-use Rattle.std.proofs.Common.{◌≡◌, ◌∙◌, ◌≢◌, Some, None, true, sym, ap, subst, true≢false, FitsSigned, w64}
+use Rattle.std.proofs.Common.{◌∙◌, ◌≢◌, Some, None, sym, ap, subst, true≢false, FitsSigned, w64}
 use Rattle.std.proofs.lemmas.Int.{to_z-of_z}
 use Rattle.agg_kit.specs.Entries.{Entry, entry_of}
 use Rattle.agg_kit.specs.Feeds.{IsHeld}
