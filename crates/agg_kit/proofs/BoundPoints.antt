@@ -129,17 +129,17 @@ position-once q xs x i h = by (has_set xs x)
     by true = h
     by false = position-push q xs x i h
 
-held-at : (es : Points) (b : AttrSet) (i : ℕ) → position (set_eq b) (keys_of es) ≡ Some i → held es b ≡ true
+pub held-at : (es : Points) (b : AttrSet) (i : ℕ) → position (set_eq b) (keys_of es) ≡ Some i → held es b ≡ true
 held-at es b i h = ap is_some ((Found-position (set_eq b) es i h).value ∙ (valued es i (within-held es b i h)).1)
 
-place-kept : (limit : ℕ) (es : Points) (b a : AttrSet) (w : Payload) → held es (place limit es b) ≡ true → place limit (put es (place limit es a) w) b ≡ place limit es b
+pub place-kept : (limit : ℕ) (es : Points) (b a : AttrSet) (w : Payload) → held es (place limit es b) ≡ true → place limit (put es (place limit es a) w) b ≡ place limit es b
 place-kept limit es b a w there = by (set_eq b a) refl
   where
     by : (t : Bool) → set_eq b a ≡ t → place limit (put es (place limit es a) w) b ≡ place limit es b
     by true e = ap (λ (c : AttrSet). place limit (put es (place limit es c) w) b) (sym (same b a e)) ∙ place-now limit es b w
     by false e = place-stays limit es b a w e there
 
-step-stays : (shape : Shape) (limit : ℕ) (es : Points) (a b : AttrSet) (v : ℤ) (i : ℕ) → place_of limit es b ≡ Some i → place_of limit (step shape limit es a v) b ≡ Some i
+pub step-stays : (shape : Shape) (limit : ℕ) (es : Points) (a b : AttrSet) (v : ℤ) (i : ℕ) → place_of limit es b ≡ Some i → place_of limit (step shape limit es a v) b ≡ Some i
 step-stays shape limit es a b v i h =
     let c = place limit es b in
     let w = payload_after shape es (place limit es a) v in

@@ -1,11 +1,11 @@
 -- Points as later ones come in: what stays sound, and what a walk over them knows.
-use Rattle.std.proofs.Common.{◌≡◌, ℕ, ℤ, pos, ◌+◌, ◌+ℤ◌, ◌<◌, ◌≤◌, ◌||◌, ◌&&◌, Bool, true, false, cond, not, List, [], ◌∷◌, ◌++◌, Option, None, Some, length, is_some, fold, take, drop, reverse, replicate, slice_get, position, refl, sym, ap, subst, ◌∙◌, arith, suc, zero, if◌then◌else◌, true≢false, nat_lt, ltb-true, ltb-false, lt-ltb, le-ltb}
+use Rattle.std.proofs.Common.{◌≡◌, ℕ, ℤ, pos, ◌+◌, ◌+ℤ◌, ◌<◌, ◌≤◌, ◌||◌, ◌&&◌, Bool, true, false, cond, not, List, [], ◌∷◌, ◌++◌, Option, None, Some, length, is_some, take, drop, reverse, replicate, slice_get, position, refl, sym, ap, subst, ◌∙◌, arith, suc, zero, if◌then◌else◌, true≢false, nat_lt, ltb-true, ltb-false}
 use Rattle.std.specs.Map.{keys_of, values_of, lookup}
 use Rattle.std.specs.Option.{option_map_or}
 use Rattle.std.proofs.lemmas.Int.{ints}
 use Rattle.std.proofs.lemmas.List.{length-map, reverse-append}
 use Rattle.std.proofs.lemmas.List.Sums.{fold_push}
-use Rattle.indexmap.specs.IndexMap.{insert_entry, set_value_at}
+use Rattle.indexmap.specs.IndexMap.{set_value_at}
 use Rattle.indexmap.proofs.MapLemmas.{Found-position, Found, insert_entry-first, insert_entry-absent, absent_from_lookup}
 use Rattle.attr_kit.specs.declared.attr_set.AttrSet.{AttrSet}
 use Rattle.point_kit.specs.declared.payload.Payload.{Payload}
@@ -20,12 +20,12 @@ use Rattle.agg_kit.specs.Parts.{count_of}
 use Rattle.agg_kit.specs.Payloads.{payload_of, is_out_of_range}
 use Rattle.agg_kit.specs.Recorders.{absorbed}
 use Rattle.agg_kit.specs.Sound.{IsSound, AreSound, AreOnce, AllSound}
-use Rattle.agg_kit.specs.Steps.{Stored, own_count, held, place, payload_at}
+use Rattle.agg_kit.specs.Steps.{Stored, own_count, held, place}
 use Rattle.agg_kit.specs.Tallies.{Points}
 use Rattle.agg_kit.specs.declared.absorbing.Walk.{Walk}
 use Rattle.agg_kit.specs.declared.joining.Extent.{Extent}
 use Rattle.agg_kit.proofs.Copies.{take-push}
-use Rattle.agg_kit.proofs.Distinct.{or-no, same, itself, turn, once-add}
+use Rattle.agg_kit.proofs.Distinct.{or-no, itself, turn, once-add}
 use Rattle.agg_kit.proofs.Inserts.{put, lookup-here, lookup-other, held-here, held-still, count-held, Way, There, Room, Full, way}
 use Rattle.agg_kit.proofs.JoinedParts.{past-is, total-joined, count-joined, sound-joined}
 use Rattle.agg_kit.proofs.Records.{sound-length}

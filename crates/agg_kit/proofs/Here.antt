@@ -1,23 +1,21 @@
 -- A recording at one feed and at those that follow it.
-use Rattle.std.proofs.Common.{◌≡◌, ℕ, ℤ, ◌<◌, ◌∙◌, ◌∷◌, Bool, true, false, not, List, Option, Some, None, length, get_or, set, slice_get, position, refl, sym, ap, subst, FitsSigned, w64}
+use Rattle.std.proofs.Common.{◌≡◌, ℕ, ℤ, ◌<◌, ◌∙◌, ◌∷◌, true, false, List, Option, Some, None, length, get_or, set, slice_get, position, refl, sym, ap, subst, FitsSigned, w64}
 use Rattle.std.proofs.lemmas.List.{length-set}
 use Rattle.std.specs.Map.{keys_of, lookup}
 use Rattle.attr_kit.specs.declared.attr_set.AttrSet.{AttrSet}
 use Rattle.attr_kit.specs.Keeping.{kept}
 use Rattle.attr_kit.specs.declared.keep.Keep.{Keep}
-use Rattle.point_kit.specs.declared.shape.Shape.{Shape}
 use Rattle.plan_kit.specs.Plans.{Planned, AreFeeds}
 use Rattle.plan_kit.specs.declared.feed.Feed.{Feed}
 use Rattle.agg_kit.specs.Feeding.{set_eq}
-use Rattle.agg_kit.specs.Feeds.{entries_of, series_at, shape_at, first_out, whole_first, AllHeld}
-use Rattle.agg_kit.specs.FreshPoints.{payload_in, payload_with, add_at}
+use Rattle.agg_kit.specs.Feeds.{entries_of, shape_at, first_out, whole_first, AllHeld}
+use Rattle.agg_kit.specs.FreshPoints.{payload_with, add_at}
 use Rattle.agg_kit.specs.Payloads.{is_out_of_range}
-use Rattle.agg_kit.specs.Sound.{AreSound, AllSound}
-use Rattle.agg_kit.specs.Steps.{Stored, held, place, payload_after, step}
+use Rattle.agg_kit.specs.Sound.{AllSound}
+use Rattle.agg_kit.specs.Steps.{Stored, held, place, step}
 use Rattle.agg_kit.specs.Tallies.{Points}
-use Rattle.agg_kit.specs.declared.fault.MeasureFault.{MeasureFault}
 use Rattle.agg_kit.specs.declared.fault.MeasureFault.TheVariants as faults
-use Rattle.agg_kit.proofs.Records.{entries-read, first-here, first-rest, found-at, leaves-here, new-fits, new-gone, same_entries, set-here, sound-shape, stored-length, unmoved, whole-rest}
+use Rattle.agg_kit.proofs.Records.{entries-read, first-here, first-rest, found-at, leaves-here, new-fits, new-gone, same_entries, set-here, unmoved, whole-rest}
 use Rattle.agg_kit.proofs.Steps.{absent, add_under-held, range-there, within-held}
 
 -- the first feed of all, whose stream is read as `old`

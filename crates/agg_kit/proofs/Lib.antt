@@ -10,6 +10,7 @@ pub mod Inserts
 pub mod JoinedParts
 pub mod Joins
 pub mod Limits
+pub mod OwnPoints
 pub mod Parts
 pub mod Payloads
 pub mod Points

@@ -19,12 +19,11 @@ use Rattle.agg_kit.specs.Feeds.{entries_of, series_at, shape_at}
 use Rattle.agg_kit.specs.Laws.{is_gauge}
 use Rattle.agg_kit.specs.Measuring.{after_measure, empty_tally, fault_of, points_after, series_after}
 use Rattle.agg_kit.specs.Recorders.{whole_round, Holds, OnlyRises, keeps_set, keeps_sets, keep_sets, record_fault_of, told, absorbed, AreApart, RecordersHold, AbsorbingIsRecording}
-use Rattle.agg_kit.specs.Rounds.{points_of, round, StandsFor}
+use Rattle.agg_kit.specs.Rounds.{points_of, round}
 use Rattle.agg_kit.specs.Sound.{AreOnce}
 use Rattle.agg_kit.specs.Steps.{Stored, own_count, held, place, add_under, step}
 use Rattle.agg_kit.specs.Tallies.{Points, Tallied}
 use Rattle.agg_kit.specs.declared.fault.MeasureFault.{MeasureFault}
-use Rattle.agg_kit.specs.declared.fault.RecordFault.{RecordFault}
 use Rattle.agg_kit.specs.declared.fault.RecordFault.TheVariants as record_faults
 use Rattle.agg_kit.proofs.Absorbs.{points_absorbed}
 use Rattle.agg_kit.proofs.Distinct.{same, itself}

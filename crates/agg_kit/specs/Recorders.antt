@@ -1,5 +1,5 @@
 -- Recorders: what one stands for, why it refuses a recording, and what a tally is that takes it in.
-use Rattle.std.specs.Prelude.{◌≡◌, ◌+◌, ◌&&◌, ℕ, Bool, false, true, List, [], ◌∷◌, ◌++◌, Option, None, Some, length, map, if◌then◌else◌}
+use Rattle.std.specs.Prelude.{◌≡◌, ◌+◌, ◌&&◌, ◌⊎◌, ℕ, pos, Bool, false, true, List, [], ◌∷◌, ◌++◌, Option, None, Some, length, map, if◌then◌else◌}
 use Rattle.std.specs.List.{enumerate_from, list_all}
 use Rattle.std.specs.Option.{option_map}
 use Rattle.attr_kit.specs.declared.attr_set.AttrSet.{AttrSet}
@@ -8,15 +8,17 @@ use Rattle.point_kit.specs.declared.stream.Stream.{Stream}
 use Rattle.plan_kit.specs.Plans.{Planned, AreFeeds, feeds_of, rises, stream_of}
 use Rattle.plan_kit.specs.declared.feed.Feed.{Feed}
 use Rattle.agg_kit.specs.Absorbs.{absorb, fits, places}
+use Rattle.agg_kit.specs.BoundPoints.{IsBound, entry_at}
 use Rattle.agg_kit.specs.Entries.{Entry, arrivals}
 use Rattle.agg_kit.specs.Feeding.{set_eq}
 use Rattle.agg_kit.specs.Feeds.{entries_of, series_at, shape_at}
 use Rattle.agg_kit.specs.Laws.{is_gauge}
-use Rattle.agg_kit.specs.Measuring.{after_measure, empty_tally, fault_of}
-use Rattle.agg_kit.specs.Rounds.{points_of, round, StandsFor}
+use Rattle.agg_kit.specs.Measuring.{after_measure, fault_of}
+use Rattle.agg_kit.specs.Rounds.{points_of, StandsFor}
 use Rattle.agg_kit.specs.Sound.{AreOnce}
 use Rattle.agg_kit.specs.Steps.{Stored, place}
 use Rattle.agg_kit.specs.Tallies.{Points, Tallied}
+use Rattle.agg_kit.specs.declared.bound.Bound.{Bound}
 use Rattle.agg_kit.specs.declared.fault.MeasureFault.{MeasureFault}
 use Rattle.agg_kit.specs.declared.fault.MeasureFault.TheVariants as faults
 use Rattle.agg_kit.specs.declared.fault.RecordFault.{RecordFault}
@@ -41,6 +43,10 @@ keeps_set p a ss f = let es = series_at ss f.stream in rises (shape_at p f.strea
 -- and so it is at each feed of a recording
 abbrev pub keeps_sets : Tallied → Entry → Bool
 keeps_sets r e = list_all (keeps_set r.plan e.attrs r.series) (feeds_of r.plan e.instrument)
+
+-- a bound point is at home in a recorder: what it knows of places is true there, and each is that of a set's own point
+abbrev pub IsOwnBound : Tallied → Bound → Type 0
+IsOwnBound r b = IsBound r b × ((b.places.items ≡ []) ⊎ (keeps_sets r (entry_at b (pos 0)) ≡ true))
 
 -- a tally's refusal as a recorder's: a sum that would leave its range is one that the recorder cannot hold
 abbrev pub told : MeasureFault → RecordFault
@@ -81,6 +87,11 @@ AreApart p ess mss = (m : ℕ) (s : Stream) → stream_of p m ≡ Some s → is_
 abbrev pub RecordersHold : Type 0
 RecordersHold = (r : Tallied) (k : List Entry) (e : Entry) → AreFeeds (length r.plan.streams) (feeds_of r.plan e.instrument)
     → Holds r k → record_fault_of r e ≡ None → Holds (after_measure r e) (k ++ e ∷ [])
+
+-- a bound point stays at home in a recorder, whatever is recorded
+abbrev pub OwnBoundPointsStay : Type 0
+OwnBoundPointsStay = (r : Tallied) (e : Entry) (b : Bound) → AreFeeds (length r.plan.streams) (feeds_of r.plan b.instrument)
+    → IsOwnBound r b → IsOwnBound (after_measure r e) b
 
 -- a tally with what a recorder holds stands for its recordings and then the recorder's, in their order
 abbrev pub AbsorbingIsRecording : Type 0

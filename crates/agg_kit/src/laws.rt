@@ -7,7 +7,7 @@ ghost use Rattle.agg_kit.specs.Entries.{Entry};
 ghost use Rattle.agg_kit.specs.Feeds.{AllWhole};
 ghost use Rattle.agg_kit.specs.Laws.{SumsAddUp, CountsAddUp, IsLimited, OwnPointsStay, FedGrows, RoundsHaveFed};
 ghost use Rattle.agg_kit.specs.Measuring.{after_measure, early_fault_of, empty_tally, fault_of};
-ghost use Rattle.agg_kit.specs.Recorders.{Holds, RecordersHold, AbsorbingIsRecording};
+ghost use Rattle.agg_kit.specs.Recorders.{Holds, RecordersHold, AbsorbingIsRecording, OwnBoundPointsStay};
 ghost use Rattle.agg_kit.specs.Refusals.{refused};
 ghost use Rattle.agg_kit.specs.Rounds.{StandsFor};
 ghost use Rattle.agg_kit.specs.Taken.{AbsorbedAreTaken, HasRecorded, RecordersHave};
@@ -40,6 +40,11 @@ pub fn rounds_have_what_was_fed()
 #[tactic(auto, using(crate::proofs::BoundPoints::bound_stays))]
 pub fn bound_points_stay()
     ensures { BoundPointsStay }
+{}
+
+/// A bound point that is at home in a recorder is so after any recording: where it knows places, its sets have points of their own.
+pub fn own_bound_points_stay()
+    ensures { OwnBoundPointsStay }
 {}
 
 /// Points that another tally has of later values, taken in one after the other, are as if each of their values had been recorded;

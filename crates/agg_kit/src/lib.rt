@@ -14,6 +14,7 @@
 //!
 //! A [`Recorder`] is a thread's own tally of counters and histograms: it records with no lock, and `Tally::absorb` takes it in as if
 //! each of its recordings had been measured in the tally, one after the other ([`absorbing_is_recording`]).
+//! It has bound points of its own: `Recorder::bind`, `Recorder::measure_bound` ([`own_bound_points_stay`]).
 //!
 //! What a tally stands for is a list of recordings: [`steps_are_recordings`] and [`rounds_have_what_was_fed`] are the laws.
 //! What contracts cite stands in `specs/`: `Tallies` (what contracts see of one), `Measuring` (a step and its refusals),
@@ -34,8 +35,8 @@ mod tally;
 pub use bound::Bound;
 pub use fault::{MeasureFault, RecordFault};
 pub use laws::{
-    absorbing_is_recording, bound_points_stay, points_are_absorbed, recorded_is_accepted,
-    rounds_have_what_was_fed, steps_are_recordings,
+    absorbing_is_recording, bound_points_stay, own_bound_points_stay, points_are_absorbed,
+    recorded_is_accepted, rounds_have_what_was_fed, steps_are_recordings,
 };
 pub use recorder::Recorder;
 pub use tally::Tally;

@@ -1,16 +1,18 @@
 //! Recorders: a thread's own tally, which another tally takes in.
-ghost use Rattle.std.specs.Prelude.{◌≡◌, ◌≢◌, ◌↔◌, ◌∷◌, ◌++◌, [], List, length, Some, None, IfOk, IfErr, OnOk, OnErr, IsOk, IsTrue};
+ghost use Rattle.std.specs.Prelude.{◌≡◌, ◌≢◌, ◌↔◌, ◌∷◌, ◌++◌, [], pos, true, List, length, Some, None, IfOk, IfErr, OnOk, OnErr, IsOk, IsTrue};
 ghost use Rattle.plan_kit.specs.Plans.{AreFeeds, rises};
+ghost use Rattle.agg_kit.specs.BoundPoints.{HasInstrument, IsBound, LacksInstrument, entry_at};
 ghost use Rattle.agg_kit.specs.Entries.{Entry, entry_of};
 ghost use Rattle.agg_kit.specs.Feeding.{overflow_set};
 ghost use Rattle.agg_kit.specs.Feeds.{IsHeld, AreHeld};
-ghost use Rattle.agg_kit.specs.Measuring.{after_measure, empty_tally};
-ghost use Rattle.agg_kit.specs.Recorders.{keep_sets, record_fault_of, OnlyRises};
+ghost use Rattle.agg_kit.specs.Measuring.{after_measure, empty_tally, fault_of};
+ghost use Rattle.agg_kit.specs.Recorders.{keep_sets, keeps_sets, record_fault_of, IsOwnBound, OnlyRises};
 ghost use Rattle.agg_kit.specs.Taken.{HasRecorded};
+ghost use Rattle.agg_kit.specs.declared.fault.MeasureFault.TheVariants as faults;
 
 use crate::recording::{chosen, restricted, shape_of};
 use crate::series::Series;
-use crate::{RecordFault, Tally};
+use crate::{Bound, MeasureFault, RecordFault, Tally};
 use attr_kit::{AttrSet, NoMemory};
 use plan_kit::{Feed, Plan};
 use point_kit::Shape;
@@ -24,6 +26,9 @@ use std::marker::Model;
 /// the limit says, it refuses another by `Full`, and so it does where a sum of its own would leave its range and for
 /// instruments with a stream that does not only rise. Whoever gets `Full` has a tally absorb the recorder and records again; where
 /// the recorder is empty it measures at the tally itself. A recorder that is dropped loses what it holds.
+///
+/// Once a tally has taken it in, its bound points know places that are gone. Release each ([`Bound::release`]): it is looked up
+/// again at its first value.
 #[derive(Drop)]
 pub struct Recorder {
     pub(crate) tally: Tally,
@@ -75,6 +80,92 @@ impl Recorder {
             Ok(()) => Ok(()),
             Err(fault) => Err(RecordFault::from(fault)),
         }
+    }
+
+    /// An instrument and a set whose points are looked up once, as `Tally::bind` does. It knows no places where a set has no point
+    /// of its own here, or memory is refused.
+    ///
+    /// Refuses, in this order: `NoInstrument`, `NoMemory`. O(feeds of the instrument times the size of the attributes).
+    pub fn bind(&self, instrument: usize, attrs: &AttrSet) -> Result<Bound, RecordFault>
+        ensures ok { OnOk result (HasInstrument self.now instrument) }
+        ensures value { IfOk result (λ b. (b.instrument ≡ instrument) × (b.attrs ≡ attrs.now)) }
+        ensures bound { IfOk result (λ b. IsOwnBound self.now b) }
+        ensures err { IfErr result (λ f. f ≢ RecordFault.NoMemory → f ≡ RecordFault.NoInstrument) }
+        ensures lacks { IfErr result (λ f. f ≢ RecordFault.NoMemory → LacksInstrument self.now instrument) }
+        ensures no_memory { IfErr result (λ f. f ≡ RecordFault.NoMemory → HasInstrument self.now instrument) }
+    {
+        let mut bound = self.tally.bind(instrument, attrs)?;
+        self.keep_own(&mut bound);
+        Ok(bound)
+    }
+
+    /// Looks the points of a bound point up again, whatever tally or recorder it was bound by: it is at home in this one then.
+    /// O(feeds of the instrument times the size of the attributes).
+    pub fn rebind(&self, bound: &mut Bound)
+        ensures instrument { bound.new.instrument ≡ bound.old.instrument }
+        ensures attrs { bound.new.attrs ≡ bound.old.attrs }
+        ensures bound { IsOwnBound self.now bound.new }
+    {
+        self.tally.rebind(bound);
+        self.keep_own(bound);
+    }
+
+    // Lets a bound point forget its places, but where each is that of a set's own point.
+    fn keep_own(&self, bound: &mut Bound)
+        requires { IsBound self.now bound.old }
+        ensures instrument { bound.new.instrument ≡ bound.old.instrument }
+        ensures attrs { bound.new.attrs ≡ bound.old.attrs }
+        ensures bound { IsOwnBound self.now bound.new }
+    {
+        match self.tally.keeps_sets(bound.instrument, &bound.attrs) {
+            Ok(true) => {}
+            _ => bound.release(),
+        }
+    }
+
+    /// Records a value as `measure` does with the bound point's instrument and attributes, and looks up no set where it knows the
+    /// places. Else it knows them after the first value that is recorded, if memory is not refused.
+    ///
+    /// The bound point is at home in this recorder: it was bound or bound again by it since a tally took it in, or is released.
+    /// Refuses as `measure` does, but for want of memory, which never comes where the places are known. O(feeds of the instrument).
+    pub fn measure_bound(&mut self, bound: &mut Bound, value: i64) -> Result<(), RecordFault>
+        requires { IsOwnBound self.old bound.old }
+        ensures ok { OnOk result (record_fault_of self.old (entry_at bound.old value) ≡ None) }
+        ensures value { OnOk result (self.new ≡ after_measure self.old (entry_at bound.old value)) }
+        ensures err { IfErr result (λ f. f ≢ RecordFault.NoMemory → record_fault_of self.old (entry_at bound.old value) ≡ Some f) }
+        ensures held { IsHeld self.old (entry_at bound.old value) → IfErr result (λ f. f ≢ RecordFault.NoMemory) }
+        ensures known { bound.old.places.items ≢ [] → IfErr result (λ f. f ≢ RecordFault.NoMemory) }
+        ensures unchanged { OnErr result (self.new ≡ self.old) }
+        ensures instrument { bound.new.instrument ≡ bound.old.instrument }
+        ensures attrs { bound.new.attrs ≡ bound.old.attrs }
+        ensures bound { IsOwnBound self.new bound.new }
+    {
+        if bound.places.is_empty() {
+            self.measure(bound.instrument, &bound.attrs, value)?;
+            self.rebind(bound);
+            return Ok(());
+        }
+        self.measure_known(bound, value)?;
+        Ok(())
+    }
+
+    // Records a value at a bound point that knows its places, each of a set's own point.
+    fn measure_known(&mut self, bound: &mut Bound, value: i64) -> Result<(), MeasureFault>
+        requires bound { IsBound self.old bound.old }
+        requires known { bound.old.places.items ≢ [] }
+        requires keeps { keeps_sets self.old (entry_at bound.old (pos 0)) ≡ true }
+        ensures ok { OnOk result (fault_of self.old (entry_at bound.old value) ≡ None) }
+        ensures value { OnOk result (self.new ≡ after_measure self.old (entry_at bound.old value)) }
+        ensures err { IfErr result (λ f. f ≢ faults.NoMemory → fault_of self.old (entry_at bound.old value) ≡ Some f) }
+        ensures known { IfErr result (λ f. f ≢ faults.NoMemory) }
+        ensures unchanged { OnErr result (self.new ≡ self.old) }
+        ensures instrument { bound.new.instrument ≡ bound.old.instrument }
+        ensures attrs { bound.new.attrs ≡ bound.old.attrs }
+        ensures bound { IsOwnBound self.new bound.new }
+    {
+        // What the plan says of the feeds of all its instruments.
+        let _ = self.tally.plan().streams_len();
+        self.tally.measure_bound(bound, value)
     }
 
     /// Whether it holds no recordings. O(streams), takes no memory.

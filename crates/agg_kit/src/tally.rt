@@ -213,7 +213,8 @@ impl Tally {
     }
 
     /// Takes in what a recorder of the same plan holds, as if each of its recordings had been measured here, one after the other,
-    /// and leaves the recorder empty, with its room. The sets are moved where there is no point for them.
+    /// and leaves the recorder empty. The sets are moved where there is no point for them. No clause says what room the recorder
+    /// has then, and its bound points are to be released or bound again.
     ///
     /// Refuses, and leaves both as they were: `Overflow` with the first stream of which a point would leave its range, `NoMemory`.
     /// O(streams, and points of the recorder).

@@ -1,4 +1,4 @@
-use Rattle.std.proofs.Common.{◌≡◌, ◌∙◌, ◌∷◌, List, length, sym, ap, subst, arith, rules}
+use Rattle.std.proofs.Common.{◌∙◌, ◌∷◌, List, length, sym, ap, subst, arith, rules}
 use Rattle.agg_kit.specs.Absorbing.{AreAllSound, AreBothSound}
 use Rattle.agg_kit.specs.Feeds.{entries_of}
 use Rattle.agg_kit.specs.Steps.{Stored}

@@ -1,5 +1,4 @@
-use Rattle.std.proofs.Common.{◌≡◌, ◌∙◌, ◌+◌, ◌<◌, ℕ, List, length, get_or, set, take, ap, sym, subst, arith, rules}
-use Rattle.agg_kit.specs.Absorbs.{added}
+use Rattle.std.proofs.Common.{◌≡◌, ◌∙◌, ◌+◌, ◌<◌, ℕ, List, length, get_or, set, take, ap, arith, rules}
 use Rattle.agg_kit.proofs.JoinedParts.{added-nil, added-more, added-before}
 use Rattle.agg_kit.proofs.Joins.{length-added}
 use Rattle.agg_kit.proofs.joining.add_each.Goals as goal

@@ -1,12 +1,9 @@
-use Rattle.std.proofs.Common.{◌≡◌, ◌∙◌, ◌∷◌, ◌<◌, ℕ, Bool, ◌||◌, List, length, sym, ap, subst, true}
+use Rattle.std.proofs.Common.{◌≡◌, ◌∙◌, ◌∷◌, ◌<◌, ℕ, Bool, ◌||◌, length, sym, ap, subst, true}
 use Rattle.attr_kit.specs.Keeping.{kept}
 use Rattle.attr_kit.specs.declared.attr_set.AttrSet.{AttrSet}
-use Rattle.point_kit.specs.declared.shape.Shape.{Shape}
 use Rattle.plan_kit.specs.Plans.{AreFeeds, rises}
-use Rattle.plan_kit.specs.declared.feed.Feed.{Feed}
 use Rattle.agg_kit.specs.Feeding.{set_eq, overflow_set}
 use Rattle.agg_kit.specs.Feeds.{shape_at}
-use Rattle.agg_kit.specs.Recorders.{keep_sets}
 use Rattle.agg_kit.specs.Steps.{own_count, held, place}
 use Rattle.agg_kit.specs.Tallies.{Points}
 use Rattle.agg_kit.proofs.Recorders.{if_ok, keeps-here, keeps-more, place-own, place-roomy}

@@ -1,4 +1,4 @@
-use Rattle.std.proofs.Common.{◌≡◌, ◌∙◌, ◌<◌, [], length, sym, ap, true≢false}
+use Rattle.std.proofs.Common.{◌∙◌, length, sym, ap, true≢false}
 use Rattle.agg_kit.specs.Feeds.{entries_of, series_at}
 use Rattle.agg_kit.proofs.Records.{entries-read}
 use Rattle.agg_kit.proofs.Recorders.{none-at}

@@ -1,12 +1,12 @@
-use Rattle.std.proofs.Common.{◌≡◌, ◌∙◌, ◌<◌, None, Some, not, ap, sym, subst, true, false, true≢false, is_some}
-use Rattle.std.specs.Map.{keys_of, lookup}
+use Rattle.std.proofs.Common.{◌≡◌, ◌∙◌, None, not, ap, sym, subst, true≢false, is_some}
+use Rattle.std.specs.Map.{lookup}
 use Rattle.indexmap.specs.IndexMap.{set_value_at}
 use Rattle.attr_kit.specs.declared.attr_set.AttrSet.{AttrSet}
 use Rattle.point_kit.specs.declared.payload.Payload.{Payload}
 use Rattle.agg_kit.specs.Absorbs.{met}
 use Rattle.agg_kit.specs.Feeding.{set_eq, overflow_set}
 use Rattle.agg_kit.specs.Payloads.{is_out_of_range}
-use Rattle.agg_kit.specs.Steps.{held, own_count, place}
+use Rattle.agg_kit.specs.Steps.{place}
 use Rattle.agg_kit.proofs.ComingIn.{met-there, put-there, new-merged, lacks-before, over-place, held-over, over-own}
 use Rattle.agg_kit.proofs.Recorders.{place-roomy}
 use Rattle.agg_kit.proofs.Steps.{absent}

@@ -1,7 +1,6 @@
-use Rattle.std.proofs.Common.{◌≡◌, ◌∙◌, ◌<◌, [], ℕ, List, length, refl, sym, subst, ap, true, true≢false}
+use Rattle.std.proofs.Common.{◌∙◌, ℕ, length, sym, subst, ap, true≢false}
 use Rattle.std.specs.List.{list_all}
-use Rattle.plan_kit.specs.Plans.{AreFeeds, feeds_of}
-use Rattle.plan_kit.specs.declared.feed.Feed.{Feed}
+use Rattle.plan_kit.specs.Plans.{AreFeeds}
 use Rattle.agg_kit.specs.Entries.{entry_of}
 use Rattle.agg_kit.specs.Feeds.{entries_of}
 use Rattle.agg_kit.specs.Recorders.{keeps_set, keeps_sets}
