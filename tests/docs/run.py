@@ -11,6 +11,8 @@ In PAGES each file of the repository that is named in code letters is there, and
 files of specs/ that DEFINITIONS names exist. README's table has each crate once, and ARCHITECTURE's has what crates.txt says. In READ_PAGES
 no sentence has more than MOST_WORDS words, code in letters counted as one; a heading, a cell of a table and a list's item stand by themselves.
 
+Each public type of a library that Rattle calls is imported by a caller in crates/uses, but for those of NO_CALLER, which have none.
+
     tests/docs/run.py [FOLDER]      FOLDER in place of this repository
 
 This ends with a status other than 0 where one of these does not hold, and names each place."""
@@ -26,6 +28,23 @@ READ_PAGES = ["README.md", "docs/GUIDE.md", "docs/SCRIPTS.md"]
 MOST_WORDS = 29
 # Names in code letters that are none of the kit's.
 FOREIGN = {"arrayvec::ArrayString", "Equivalent", "clap"}
+# The public types, by their crates, that no caller in crates/uses imports.
+NO_CALLER = {
+    "agg_kit": {"Bound", "MeasureFault", "RecordFault", "Recorder"},
+    "attr_kit": {"Exact", "ShortText", "TryCopy"},
+    "fleet_kit": {"FleetFault"},
+    "gateway_kit": {"GatewayChange", "Points", "SeatsOut"},
+    "gossip_kit": {"Body"},
+    "otm_kit": {"Asked", "Ended", "FleetEnd", "LineFault"},
+    "plan_kit": {"PlanFault"},
+    "point_kit": {"Ordered"},
+    "round_kit": {"RoundHistogram", "RoundSet", "RoundShape", "RoundStream", "RoundText", "RoundValue"},
+    "script_kit": {"Command", "Declaration", "Form", "Line", "Noun", "Query", "Reason", "Report", "ScriptFault", "Stop"},
+    "test_kit": {"FailingExporter"},
+    "turn_kit": {"Busy", "SeatsOut", "SplitFault", "Waking"},
+    "world_kit": {"ReplayFault", "SetupFault", "World"},
+    "writer_kit": {"BoundFault", "BoundPoint", "SeatsOut", "WriterChange"},
+}
 FN = re.compile(r"( *)(?:pub(?:\(crate\))? )?(?:unsafe )?(?:extern \"C\" )?fn (\w+)")
 OWNER = re.compile(r"(?:pub(?:\(crate\))? )?(?:unsafe )?(?:impl|trait)\b(?:<[^{]*?> )? ?(?:[\w:<>, &']+ for )?&?(?:\w+::)*(\w+)")
 SPAN = r"`[^`\n]+`"
@@ -229,6 +248,24 @@ class Docs:
             if crate not in drawn or wrong:
                 self.fault("docs/ARCHITECTURE.md", f"{crate} is not drawn as crates.txt has it: {', '.join(sorted(wrong)) or 'missing'}")
 
+    def check_callers(self):
+        """What a library re-exports in its lib.rt and defines as a type has a caller, or is one of NO_CALLER and has none."""
+        imports = [it for file in TOP.glob("crates/uses/src/**/*.rt") for it in re.findall(r"^use (\w+)::([^;]*);", text_of(file), re.M)]
+        called = {(crate, name) for crate, names in imports for name in re.findall(r"\w+", names)}
+        for crate in self.crates:
+            folder = TOP / "crates" / crate / "src"
+            if crate in ("uses", "kit_c") or not (folder / "lib.rt").is_file():
+                continue
+            exported = set(re.findall(r"\w+", " ".join(re.findall(r"^pub use ([^;]*);", text_of(folder / "lib.rt"), re.M))))
+            for file in sorted(folder.glob("**/*.rt")):
+                for name in re.findall(r"^pub (?:struct|enum|trait) (\w+)", text_of(file), re.M):
+                    self.claims += 1
+                    is_called, is_known = (crate, name) in called, name in NO_CALLER.get(crate, ())
+                    if name in exported and not is_called and not is_known:
+                        self.fault(file.relative_to(TOP), f"no caller in crates/uses has the public type {name}")
+                    elif is_known and (is_called or name not in exported):
+                        self.fault("NO_CALLER", f"{name} of {crate} has a caller, or is not public: it is to go from this table")
+
     def check(self):
         for page in ("README.md", "docs/PROMISES.md"):
             self.check_rows(page)
@@ -238,6 +275,7 @@ class Docs:
             self.check_sentences(page)
         self.check_definitions()
         self.check_tables()
+        self.check_callers()
 
 
 def main():
