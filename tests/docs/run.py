@@ -43,7 +43,7 @@ NO_CALLER = {
     "test_kit": {"FailingExporter"},
     "turn_kit": {"Busy", "SeatsOut", "SplitFault", "Waking"},
     "world_kit": {"ReplayFault", "SetupFault", "World"},
-    "writer_kit": {"BoundFault", "BoundPoint", "SeatsOut", "WriterChange"},
+    "writer_kit": {"AbsorbFault", "BoundFault", "BoundPoint", "SeatsOut", "WriterChange"},
 }
 FN = re.compile(r"( *)(?:pub(?:\(crate\))? )?(?:unsafe )?(?:extern \"C\" )?fn (\w+)")
 OWNER = re.compile(r"(?:pub(?:\(crate\))? )?(?:unsafe )?(?:impl|trait)\b(?:<[^{]*?> )? ?(?:[\w:<>, &']+ for )?&?(?:\w+::)*(\w+)")
