@@ -30,20 +30,15 @@ MOST_WORDS = 29
 FOREIGN = {"arrayvec::ArrayString", "Equivalent", "clap"}
 # The public types, by their crates, that no caller in crates/uses imports.
 NO_CALLER = {
-    "agg_kit": {"Bound", "MeasureFault", "RecordFault", "Recorder"},
-    "attr_kit": {"Exact", "ShortText", "TryCopy"},
-    "fleet_kit": {"FleetFault"},
-    "gateway_kit": {"GatewayChange", "Points", "SeatsOut"},
+    "agg_kit": {"RecordFault", "Recorder"},
+    "attr_kit": {"Exact"},
+    "gateway_kit": {"GatewayChange"},
     "gossip_kit": {"Body"},
-    "otm_kit": {"Asked", "Ended", "FleetEnd", "LineFault"},
-    "plan_kit": {"PlanFault"},
+    "otm_kit": {"Asked", "FleetEnd", "LineFault"},
     "point_kit": {"Ordered"},
-    "round_kit": {"RoundHistogram", "RoundSet", "RoundShape", "RoundStream", "RoundText", "RoundValue"},
-    "script_kit": {"Command", "Declaration", "Form", "Line", "Noun", "Query", "Reason", "Report", "ScriptFault", "Stop"},
+    "script_kit": {"Command", "Declaration", "Form", "Line", "Noun", "Query", "Report", "ScriptFault"},
     "test_kit": {"FailingExporter"},
-    "turn_kit": {"Busy", "SeatsOut", "SplitFault", "Waking"},
-    "world_kit": {"ReplayFault", "SetupFault", "World"},
-    "writer_kit": {"AbsorbFault", "BoundFault", "BoundPoint", "SeatsOut", "WriterChange"},
+    "writer_kit": {"AbsorbFault", "WriterChange"},
 }
 FN = re.compile(r"( *)(?:pub(?:\(crate\))? )?(?:unsafe )?(?:extern \"C\" )?fn (\w+)")
 OWNER = re.compile(r"(?:pub(?:\(crate\))? )?(?:unsafe )?(?:impl|trait)\b(?:<[^{]*?> )? ?(?:[\w:<>, &']+ for )?&?(?:\w+::)*(\w+)")

@@ -1,9 +1,9 @@
 //! Attributes of a recording.
-ghost use Rattle.std.specs.Prelude.{◌≡◌, ◌∷◌, [], Some, IfOk, codes};
+ghost use Rattle.std.specs.Prelude.{◌≡◌, ◌∷◌, ◌<◌, [], None, Some, IfOk, IfSome, codes, length};
 ghost use Rattle.attr_kit.specs.Putting.{value_of};
 ghost use Rattle.attr_kit.specs.declared.attr_value.AttrValue.TheVariants as values;
 
-use attr_kit::{AttrFault, AttrSet, AttrValue, NoMemory, Txt};
+use attr_kit::{AttrFault, AttrSet, AttrValue, NoMemory, Seq, ShortText, TryCopy, Txt};
 use std::alloc::Global;
 
 // The pairs of a request, in the order in which a caller has them.
@@ -22,4 +22,19 @@ pub fn of_request(alloc: Global, status: i64, route: Txt) -> Result<AttrSet, Att
     ensures route { IfOk result (λ set. value_of (codes "route") set ≡ Some (values.Text route)) }
 {
     AttrSet::from_pairs(pairs_of(alloc, status, route)?)
+}
+
+/// A second list of the same texts, with memory of its own.
+pub fn copy_of(texts: &Seq<Txt>) -> Result<Seq<Txt>, NoMemory>
+    ensures { IfOk result (λ copy. copy ≡ texts.now) }
+{
+    texts.try_copy()
+}
+
+/// A text that takes no memory of its own; none where it has more than 30 bytes.
+pub fn in_place(text: &Txt) -> Option<&ShortText>
+    ensures same { IfSome result (λ short. short.now ≡ text.now) }
+    ensures long { result ≡ None → 30 < length text.now }
+{
+    text.short()
 }

@@ -1,11 +1,12 @@
 //! A fleet of threads, and what its gateways answer.
 ghost use Rattle.std.specs.Prelude.{◌≡◌, ◌⊎◌, ◌∷◌, [], IfOk, IfSome};
 ghost use Rattle.fleet_kit.specs.Setups.{recorded, writers_of};
+ghost use Rattle.fleet_kit.specs.declared.fault.FleetFault.TheVariants as faults;
 ghost use Rattle.rollup_kit.specs.Rollups.{AddsUp};
 ghost use Rattle.rollup_kit.specs.Writers.{AllWithin, IsRegrouped, rows_of};
 
 use attr_kit::{AttrSet, NoMemory, Seq};
-use fleet_kit::{FleetSetup, Gate, Job, run_fleet};
+use fleet_kit::{FleetFault, FleetSetup, Gate, Job, run_fleet};
 use rollup_kit::{Ask, Row, rollup};
 use std::alloc::Global;
 use std::sync::Wait;
@@ -33,6 +34,16 @@ pub fn one_recording(
     let mut entries = Vec::new(alloc);
     entries.push((0, attrs, value))?;
     Ok(Job { writer, entries })
+}
+
+/// The job and its entry that a fleet's writer refused; none where the fleet ended for another cause.
+pub fn refused_entry(fault: &FleetFault) -> Option<(usize, usize)>
+    ensures { IfSome result (λ at. fault.now ≡ faults.Refused at.0 at.1) }
+{
+    match fault {
+        FleetFault::Refused { job, entry } => Some((*job, *entry)),
+        _ => None,
+    }
 }
 
 /// Runs a fleet, and asks its first gateway, if it has one. The rows of a sum or a histogram are those of what the jobs recorded,

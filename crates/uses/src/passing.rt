@@ -7,7 +7,7 @@ ghost use Rattle.point_kit.specs.declared.export.Export.{Export};
 ghost use Rattle.point_kit.specs.declared.payload.Payload.TheVariants as payloads;
 
 use attr_kit::{AttrSet, NoMemory, Seq};
-use bytes_kit::{DecodeFault, decode_export};
+use bytes_kit::{DecodeFault, decode_export, encode_export};
 use gateway_kit::Gateway;
 use point_kit::{Export, ExportFault, ExportPoint, Payload, SharedStream, Stream, WriterId};
 use std::alloc::Global;
@@ -52,4 +52,12 @@ pub fn take_bytes(alloc: Global, gateway: &mut Gateway, bytes: &[u8]) -> Result<
 {
     let export = decode_export(alloc, bytes)?;
     Ok(gateway.take(&export)?)
+}
+
+/// The bytes of an export, in the one form that it has: what a gateway elsewhere takes.
+pub fn give_bytes(alloc: Global, export: &Export) -> Result<Vec<u8>, NoMemory>
+    ensures form { IfOk result (λ bytes. bytes.items ≡ bytes_of export.now) }
+    ensures sound { OnOk result (IsExport export.now) }
+{
+    encode_export(alloc, export)
 }

@@ -1,18 +1,28 @@
 //! What the kit hands out, read without a table.
-ghost use Rattle.std.specs.Prelude.{◌≡◌, ◌∷◌, [], List, None, IfSome};
+ghost use Rattle.std.specs.Prelude.{◌≡◌, ◌∷◌, [], List, None, Some, true, IfSome, IsTrue};
+ghost use Rattle.std.specs.Borrow.{Bor};
 ghost use Rattle.std.specs.FinMap.{entries};
+ghost use Rattle.std.specs.Map.{values_of};
+ghost use Rattle.attr_kit.specs.declared.attr_value.AttrValue.TheVariants as values;
 ghost use Rattle.gateway_kit.specs.Walks.{entry_of_ref};
 ghost use Rattle.plan_kit.specs.Plans.{feeds_of};
 ghost use Rattle.plan_kit.specs.declared.feed.Feed.{Feed};
 ghost use Rattle.point_kit.specs.declared.payload.Payload.TheVariants as payloads;
+ghost use Rattle.point_kit.specs.declared.shape.Shape.TheVariants as shapes;
 ghost use Rattle.rollup_kit.specs.declared.row.Row.{Row};
 ghost use Rattle.rollup_kit.specs.declared.row.Total.TheVariants as totals;
+ghost use Rattle.round_kit.specs.Placed.{stream_of};
 ghost use Rattle.round_kit.specs.Rounds.{point_of};
+ghost use Rattle.round_kit.specs.declared.payload.RoundHistogram.{RoundHistogram};
+ghost use Rattle.round_kit.specs.declared.payload.RoundPayload.TheVariants as parts;
 
-use gateway_kit::{Gateway, PointRef};
+use gateway_kit::{Gateway, PointRef, Points};
 use plan_kit::{Feed, Plan};
 use rollup_kit::{Row, Total};
-use round_kit::{RoundPayload, RoundPoint};
+use round_kit::{
+    RoundHistogram, RoundPayload, RoundPoint, RoundSet, RoundShape, RoundStream, RoundText,
+    RoundValue,
+};
 
 /// The sum of the only row; none where there is no row or more than one, or where it is of a gauge or a histogram.
 pub fn only_sum(rows: &[Row]) -> Option<i128>
@@ -39,12 +49,59 @@ pub fn sum_of_point(point: &RoundPoint<'_>) -> Option<i64>
     }
 }
 
+/// The least and the greatest value of a histogram in a round; none where it has no values, or the point is no histogram.
+pub fn range_of_point(point: &RoundPoint<'_>) -> Option<(i64, i64)>
+    ensures { IfSome result (λ range. (h : Bor RoundHistogram) × (point.now.payload ≡ parts.Hist h) × (h.now.range ≡ Some range)) }
+{
+    match point.payload {
+        RoundPayload::Hist(RoundHistogram { range, .. }) => *range,
+        RoundPayload::Sum(_) | RoundPayload::Gauge(_) => None,
+    }
+}
+
+/// Whether the points of a stream are those of a counter.
+pub fn is_of_counter(stream: &RoundStream<'_>) -> bool
+    ensures { IsTrue result → (stream_of stream.now).shape ≡ shapes.Sum true }
+{
+    match stream.shape {
+        RoundShape::Sum { monotonic } => monotonic,
+        RoundShape::Gauge | RoundShape::Histogram { .. } => false,
+    }
+}
+
+/// The number of the only attribute of a set in a round; none where it is no number, or the set has more or none.
+pub fn only_number(set: &RoundSet<'_>) -> Option<i64>
+    ensures { IfSome result (λ n. values_of set.now ≡ values.Whole n ∷ []) }
+{
+    match set.values() {
+        [value] => match value {
+            RoundValue::Whole(number) => Some(*number),
+            _ => None,
+        },
+        _ => None,
+    }
+}
+
+/// The text of the only attribute of a set in a round; none where it is no text, or the set has more or none.
+pub fn only_text<'s>(set: &'s RoundSet<'_>) -> Option<&'s str>
+    ensures { IfSome result (λ text. values_of set.now ≡ values.Text text.now ∷ []) }
+{
+    match set.values() {
+        [value] => match value {
+            RoundValue::Short(text) => Some(RoundText::as_str(text)),
+            RoundValue::Long(text) => Some(*text),
+            RoundValue::Truth(_) | RoundValue::Whole(_) => None,
+        },
+        _ => None,
+    }
+}
+
 /// The first point of a gateway, in the order of keys; none where the gateway holds nothing.
 pub fn first_point(gateway: &Gateway) -> Option<PointRef<'_>>
     ensures nothing { result ≡ None → entries gateway.now.points ≡ [] }
     ensures first { IfSome result (λ point. (rest : List _) × (entries gateway.now.points ≡ entry_of_ref point ∷ rest)) }
 {
-    let mut points = gateway.points();
+    let mut points: Points<'_> = gateway.points();
     points.next()
 }
 

@@ -1,15 +1,33 @@
 //! What becomes of a service where a call is refused.
-ghost use Rattle.std.specs.Prelude.{◌≡◌, ◌<◌, MatchBool, Some, None, IfOk, IfSome, OnOk, OnErr, false};
+ghost use Rattle.std.specs.Prelude.{◌≡◌, ◌↔◌, ◌<◌, MatchBool, Some, None, IfOk, IfSome, IsTrue, OnOk, OnErr, false};
 ghost use Rattle.agg_kit.specs.Entries.{entry_of};
 ghost use Rattle.gossip_kit.specs.Gossip.{hand_fault};
 ghost use Rattle.gossip_kit.specs.declared.fault.HandFault.TheVariants as hands;
+ghost use Rattle.plan_kit.specs.PlanFaults.{plan_fault};
 ghost use Rattle.writer_kit.specs.Recording.{recorded, round_now};
 
-use attr_kit::{AttrSet, NoMemory};
+use attr_kit::{AttrSet, NoMemory, Seq};
 use bumpalo::Bump;
 use gossip_kit::{HandFault, Message, Node};
+use plan_kit::{DEFAULT_LIMIT, Instrument, Plan, PlanFault, View};
 use round_kit::Round;
+use std::alloc::Global;
 use writer_kit::{CollectFault, MeasureFault, RestartFault, Writer};
+
+/// Whether instruments and views fit together: no name, unit or bound is refused, and no two of them feed one stream.
+pub fn fit_together(
+    alloc: Global,
+    instruments: Seq<Instrument>,
+    views: Seq<View>,
+) -> Result<bool, NoMemory>
+    ensures { IfOk result (λ fit. IsTrue fit ↔ (plan_fault instruments views 2000 ≡ None)) }
+{
+    match Plan::build(alloc, instruments, views, DEFAULT_LIMIT) {
+        Ok(_plan) => Ok(true),
+        Err(PlanFault::NoMemory) => Err(NoMemory),
+        Err(_) => Ok(false),
+    }
+}
 
 /// Records a value, and says whether it was recorded; refused where the writer is closed. What was not recorded leaves the writer
 /// as it was.

@@ -1,15 +1,18 @@
 //! A schedule of writers and gateways, tried without threads.
-ghost use Rattle.std.specs.Prelude.{◌≡◌, ◌∷◌, [], true, IfOk, IfSome};
+ghost use Rattle.std.specs.Prelude.{◌≡◌, ◌↔◌, ◌∷◌, [], true, None, IfOk, IfSome, IsTrue};
 ghost use Rattle.schedule_kit.specs.Deeds.{TookSame};
 ghost use Rattle.schedule_kit.specs.Deeds.Holder.{AtGateway};
+ghost use Rattle.world_kit.specs.Building.{replies, setup_fault};
 ghost use Rattle.world_kit.specs.Judged.{deeds};
 ghost use Rattle.world_kit.specs.declared.event.Reply.TheVariants as answers;
 
-use attr_kit::Seq;
+use attr_kit::{NoMemory, Seq};
 use plan_kit::Plan;
 use point_kit::WriterId;
 use std::alloc::Global;
-use world_kit::{Event, Refusal, Reply, Setup, WriterSetup, replay};
+use world_kit::{
+    Event, Refusal, ReplayFault, Reply, Setup, SetupFault, World, WriterSetup, replay,
+};
 
 /// A setup of one writer, which starts at 100, and of one gateway, whose id is 1.
 pub fn one_of_each(alloc: Global, id: WriterId, plan: Plan) -> anyhow::Result<Setup>
@@ -28,6 +31,25 @@ pub fn one_of_each(alloc: Global, id: WriterId, plan: Plan) -> anyhow::Result<Se
         writers: Seq::from_vec(writers),
         gateways: Seq::from_vec(gateways),
     })
+}
+
+/// Whether a setup makes a world: no two of its gateways have one id.
+pub fn makes_a_world(alloc: Global, setup: Setup) -> Result<bool, NoMemory>
+    ensures { IfOk result (λ made. IsTrue made ↔ (setup_fault setup ≡ None)) }
+{
+    match World::new(alloc, setup) {
+        Ok(_world) => Ok(true),
+        Err(SetupFault::SameGateway(_, _)) => Ok(false),
+        Err(SetupFault::NoMemory) => Err(NoMemory),
+    }
+}
+
+/// What is replied to each event, in order.
+pub fn replies_to(alloc: Global, setup: Setup, events: &[Event]) -> Result<Seq<Reply>, ReplayFault>
+    ensures { IfOk result (λ said. said ≡ replies setup events.now) }
+{
+    let (_world, said) = replay(alloc, setup, events)?;
+    Ok(said)
 }
 
 /// Why an event was refused; none where it was accepted.

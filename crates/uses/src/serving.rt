@@ -7,7 +7,7 @@ ghost use Rattle.turn_kit.specs.Public.{seen};
 ghost use Rattle.uses.specs.Serving.{conflicts_in};
 
 use attr_kit::NoMemory;
-use gateway_kit::{Gateway, SharedGateway};
+use gateway_kit::{Gateway, SeatsOut, SharedGateway};
 use point_kit::Export;
 use std::sync::Wait;
 use turn_kit::{ChangeFault, Look, Note, Seat};
@@ -69,6 +69,6 @@ pub fn close(shared: SharedGateway, seat: Seat<Gateway>) -> Result<Gateway, u64>
 {
     match shared.close(seat) {
         Ok(gateway) => Ok(gateway),
-        Err(left) => Err(left.out),
+        Err(SeatsOut { out, .. }) => Err(out),
     }
 }

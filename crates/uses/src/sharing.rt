@@ -12,7 +12,7 @@ use std::alloc::Global;
 use std::sync::Wait;
 use std::thread::{Threads, join};
 use turn_kit::Seat;
-use writer_kit::{SharedWriter, Writer};
+use writer_kit::{SeatsOut, SharedWriter, Writer};
 
 /// More changes than a run makes.
 const MOST_CHANGES: u64 = 1 << 62;
@@ -100,6 +100,6 @@ pub fn record_in_two_threads<R: Threads + Wait + Sync>(
     let seat = record_both(rt, &shared, first, second, here, there)?;
     match shared.close(seat) {
         Ok(writer) => Some(writer),
-        Err(_out) => None,
+        Err(SeatsOut { .. }) => None,
     }
 }

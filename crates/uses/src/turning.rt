@@ -1,12 +1,15 @@
 //! A machine of one's own under a turn: threads share it, and each change stands in one history.
-ghost use Rattle.std.specs.Prelude.{◌≡◌, ◌≤◌, ℕ, IfOk, IfErr};
-ghost use Rattle.turn_kit.specs.Public.{IsOf, IsLeft, Enters, Refuses, AtBusy, AtRefused, opening, limit_of};
+ghost use Rattle.std.specs.Prelude.{◌≡◌, ◌≤◌, ◌<◌, ℕ, None, IfOk, IfErr, IfSome, OnErr};
+ghost use Rattle.turn_kit.specs.Public.{IsOf, IsLeft, IsFull, Closes, Enters, Refuses, AtBusy, AtRefused, opening, limit_of};
 ghost use Rattle.uses.specs.Turning.{raised};
 
 use std::alloc::Global;
 use std::marker::Model;
 use std::sync::Wait;
-use turn_kit::{ChangeFault, GiveBack, Machine, Quiet, Seat, Step, Turn, TurnFault};
+use turn_kit::{
+    Busy, ChangeFault, GiveBack, Machine, Quiet, Seat, SeatsOut, SplitFault, Step, Turn, TurnFault,
+    Waking,
+};
 
 /// A mark that only rises.
 #[derive(Drop)]
@@ -102,4 +105,42 @@ pub fn raise_at_once<G: GiveBack>(
     ensures busy { IfErr result (AtBusy (IsLeft seat.old seat.new)) }
 {
     turn.try_change(seat, Raise { to })
+}
+
+/// A seat for another thread, without waiting; none where the turn has made 4,096. Refused where the turn is held, and the seat is
+/// then as it was.
+pub fn another_seat<G: GiveBack>(
+    turn: &Turn<Mark, G>,
+    seat: &mut Seat<Mark>,
+) -> Result<Option<Seat<Mark>>, Busy>
+    requires { IsOf turn.now seat.old }
+    ensures seat { IsOf turn.now seat.new }
+    ensures new { IfOk result (λ made. IfSome made (λ other. IsOf turn.now other)) }
+    ensures full { IfOk result (λ made. made ≡ None → IsFull seat.old seat.new) }
+    ensures busy { OnErr result (IsLeft seat.old seat.new) }
+{
+    match turn.try_split(seat) {
+        Ok(other) => Ok(Some(other)),
+        Err(SplitFault::SeatsFull) => Ok(None),
+        Err(SplitFault::Busy) => Err(Busy),
+    }
+}
+
+/// The mark's height in the end, once every other seat was joined into this one: what the one history makes of the first height. Where
+/// seats are out, how many.
+pub fn last_height(turn: Turn<Mark, Waking>, seat: Seat<Mark>) -> Result<u64, u64>
+    requires { IsOf turn seat }
+    ensures height { IfOk result (Closes (λ m. m) raised (opening turn) seat) }
+    ensures out { IfErr result (λ out. 0 < out) }
+{
+    match turn.close(seat) {
+        Ok(mark) => Ok(mark.height),
+        Err(
+            SeatsOut {
+                turn: _turn,
+                seat: _seat,
+                out,
+            },
+        ) => Err(out),
+    }
 }
