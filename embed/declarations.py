@@ -53,7 +53,7 @@ def codes():
     """The codes by their names, as C spells them."""
     text = (CRATE / "specs" / "Codes.antt").read_text(encoding="utf-8")
     told = {("OK", 0)}
-    told.add(("NO_MEMORY", int(re.search(r"^no_memory = pos (\d+)$", text, re.M)[1])))
+    told |= {(name.upper(), int(number)) for name, number in re.findall(r"^(\w+) = pos (\d+)$", text, re.M)}
     for name, number in CODE.findall(text):
         told.add((re.sub(r"(?<=[a-z])(?=[A-Z])", "_", name).upper(), int(number)))
     return told

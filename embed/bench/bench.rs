@@ -87,6 +87,27 @@ fn main() -> Done {
         times(TIMES / 8, || requests.add(1, &four()?)),
     )?;
 
+    let mut recorders = Vec::new();
+    while recorders.len() < THREADS {
+        recorders.push(writer.recorder()?);
+    }
+    tell(
+        "Rust: 4 attributes, by number, Recorder",
+        TIMES,
+        times(TIMES, || recorders[0].measure_held(0, number, 1)),
+    )?;
+    tell(
+        "Rust: 4 attributes, by number, 4 threads by recorders",
+        THREADS * TIMES,
+        || {
+            by_threads(&mut recorders, |recorder| {
+                recorder.measure_held(0, number, 1)
+            })
+        },
+    )?;
+    for recorder in &mut recorders {
+        writer.absorb(recorder)?;
+    }
     let mut seats = vec![writer.share().map_err(|(_, error)| error)?];
     while seats.len() < THREADS {
         let next = seats[0].split()?;

@@ -77,6 +77,9 @@ enum {
     KIT_NOT_CANONICAL = 63,   /* a value is not in its one form: * its byte */
     KIT_BAD_CHECKSUM = 64,    /* the checksum is not that of the bytes before it: * its byte */
     KIT_BAD_EXPORT = 65,      /* the values make no export, or a message has a point that no export brings */
+
+    KIT_RECORDER_FULL = 70,   /* a recorder may not hold this by itself: a writer takes it in first, or the recording itself */
+    KIT_OTHER_PLAN = 71,      /* the recorder is of another plan than the writer */
 };
 
 /* Kinds of instruments. */
@@ -156,6 +159,17 @@ int32_t kit_seat_split(kit_handle *seat, kit_handle *made);
 int32_t kit_seat_measure(kit_handle *seat, size_t instrument, kit_handle *attributes, int64_t value, uint64_t *place);
 int32_t kit_seat_measure_held(kit_handle *seat, size_t instrument, size_t number, int64_t value, uint64_t *place);
 int32_t kit_seat_collect(kit_handle *seat, uint64_t time, kit_handle *export_, uint64_t *place);
+
+/* Recorders are threads' own: each thread records with its own, which meets no other, and a writer takes in what it holds. A recorder has
+ * the writer's plan, and the sets that the writer held, by their numbers; it may be the recorder of any writer of an equal plan. Where it
+ * is full (KIT_RECORDER_FULL) a writer absorbs it, and the recording is made again; what an empty recorder refuses so, as a gauge's
+ * values, the writer records. A recorder that is freed loses what it holds. */
+int32_t kit_recorder_open(kit_handle *recorder, kit_handle *writer);
+int32_t kit_recorder_measure(kit_handle *recorder, size_t instrument, kit_handle *attributes, int64_t value);
+int32_t kit_recorder_measure_held(kit_handle *recorder, size_t instrument, size_t number, int64_t value);
+int32_t kit_recorder_is_empty(kit_handle *recorder, bool *empty);
+/* The writer as if it had recorded each of the recorder's recordings. The recorder holds nothing then, and goes on. */
+int32_t kit_writer_absorb(kit_handle *writer, kit_handle *recorder, uint64_t *place);
 
 /* The bytes of an export, which may go to another process, and the export of such bytes. Each export has one form, and no other bytes
  * are read. kit_bytes_copy copies the front of bytes that has room, and tells how many there are. */

@@ -59,6 +59,7 @@ inline std::vector<uint8_t> copied(Handle &bytes) {
 }
 
 class Attributes {
+    friend class Recorder;
     friend class Seat;
     friend class Writer;
     Handle handle;
@@ -147,7 +148,29 @@ public:
     }
 };
 
-// One thread at a time has a writer: share it by seats, put a lock of yours round it, or give each thread one of its own.
+// A thread's own recorder of a writer's plan: it meets no other thread, and Writer::absorb takes in what it holds. KIT_RECORDER_FULL says
+// that a writer is to absorb it first; what it says so of while it is empty is for the writer.
+class Recorder {
+    friend class Writer;
+    Handle handle;
+    Recorder() = default;
+
+public:
+    void measure(size_t instrument, Attributes &attributes, int64_t value) {
+        checked(kit_recorder_measure(handle.at(), instrument, attributes.handle.at(), value));
+    }
+    void measure_held(size_t instrument, size_t number, int64_t value) {
+        checked(kit_recorder_measure_held(handle.at(), instrument, number, value));
+    }
+    bool is_empty() {
+        bool empty = false;
+        checked(kit_recorder_is_empty(handle.at(), &empty));
+        return empty;
+    }
+};
+
+// One thread at a time has a writer: give threads recorders that it absorbs, share it by seats, put a lock of yours round it, or give
+// each thread one of its own.
 class Writer {
     Handle handle;
 
@@ -173,6 +196,17 @@ public:
         uint64_t place = 0;
         checked(kit_writer_collect(handle.at(), time, made.handle.at(), &place), place);
         return made;
+    }
+    // A recorder for one thread, with the sets that the writer holds.
+    Recorder recorder() {
+        Recorder made;
+        checked(kit_recorder_open(made.handle.at(), handle.at()));
+        return made;
+    }
+    // As if each of its recordings had been made here. It holds nothing then, and goes on.
+    void absorb(Recorder &recorder) {
+        uint64_t place = 0;
+        checked(kit_writer_absorb(handle.at(), recorder.handle.at(), &place), place);
     }
     // The first seat at the writer, which is then moved from.
     Seat share() && {

@@ -91,6 +91,7 @@ type (
 	Export     struct{ h *handle }
 	Gateway    struct{ h *handle }
 	Seat       struct{ h *handle }
+	Recorder   struct{ h *handle }
 	Node       struct{ h *handle }
 	Message    struct{ h *handle }
 )
@@ -178,6 +179,39 @@ func (w Writer) Shutdown(time uint64) (Export, error) {
 // Restart begins anew under a later start: the writer is open and has recorded nothing.
 func (w Writer) Restart(start uint64) error {
 	return with(w.h, w.h, func(place *C.uint64_t) C.int32_t { return C.kit_writer_restart(&w.h.raw, C.uint64_t(start), place) })
+}
+
+// Recorder opens a recorder of the writer's plan, for one goroutine, with the sets that the writer holds: it has recorded nothing.
+func (w Writer) Recorder() (Recorder, error) {
+	h := newHandle()
+	return Recorder{h}, with(h, w.h, func(*C.uint64_t) C.int32_t { return C.kit_recorder_open(&h.raw, &w.h.raw) })
+}
+
+// Absorb takes in what a recorder holds, as if each of its recordings had been made here. The recorder holds nothing then, and goes on.
+func (w Writer) Absorb(r Recorder) error {
+	return with(w.h, r.h, func(place *C.uint64_t) C.int32_t { return C.kit_writer_absorb(&w.h.raw, &r.h.raw, place) })
+}
+
+// Measure records a value, and meets no other goroutine. With the code KIT_RECORDER_FULL, 70, a writer is to absorb the recorder first;
+// what it refuses so while it is empty is for the writer.
+func (r Recorder) Measure(instrument int, a Attributes, value int64) error {
+	return with(r.h, a.h, func(*C.uint64_t) C.int32_t {
+		return C.kit_recorder_measure(&r.h.raw, C.size_t(instrument), &a.h.raw, C.int64_t(value))
+	})
+}
+
+// MeasureHeld records a value at a set that the writer held when the recorder was opened: the shortest way for goroutines.
+func (r Recorder) MeasureHeld(instrument, number int, value int64) error {
+	return with(r.h, r.h, func(*C.uint64_t) C.int32_t {
+		return C.kit_recorder_measure_held(&r.h.raw, C.size_t(instrument), C.size_t(number), C.int64_t(value))
+	})
+}
+
+// IsEmpty tells whether the recorder holds no recordings.
+func (r Recorder) IsEmpty() (bool, error) {
+	var empty C.bool
+	err := with(r.h, r.h, func(*C.uint64_t) C.int32_t { return C.kit_recorder_is_empty(&r.h.raw, &empty) })
+	return bool(empty), err
 }
 
 // Share shares the writer: what w has is the first seat at it from then on.

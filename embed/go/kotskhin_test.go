@@ -9,6 +9,7 @@ import (
 )
 
 const codeBusy, codeNoPoint, codeNegative, codeClosed, codeStartNotAfter, codeTruncated = 16, 9, 12, 10, 15, 60
+const codeRecorderFull, codeOtherPlan = 70, 71
 
 func must[T any](t *testing.T) func(made T, err error) T {
 	return func(made T, err error) T {
@@ -155,4 +156,46 @@ func TestGoroutinesHaveSeats(t *testing.T) {
 	if total(t, g) != "4000" {
 		t.Fatal(total(t, g))
 	}
+}
+
+// Each goroutine records by a recorder of its own, which the writer absorbs.
+func TestGoroutinesHaveRecorders(t *testing.T) {
+	w := newWriter(t, 1)
+	none := must[Attributes](t)(NewAttributes())
+	number := must[int](t)(w.Hold(none))
+	var hands sync.WaitGroup
+	for i := 0; i < 4; i++ {
+		recorder := must[Recorder](t)(w.Recorder())
+		hands.Add(1)
+		go func() {
+			defer hands.Done()
+			for i := 0; i < 1000; i++ {
+				if err := recorder.MeasureHeld(0, number, 1); err != nil {
+					t.Error(err)
+				}
+				if i%100 == 99 {
+					if err := w.Absorb(recorder); err != nil {
+						t.Error(err)
+					}
+				}
+			}
+			if empty, err := recorder.IsEmpty(); err != nil || !empty {
+				t.Error(empty, err)
+			}
+		}()
+	}
+	hands.Wait()
+	runtime.GC()
+	g := must[Gateway](t)(OpenGateway(1))
+	must[uint64](t)(g.Take(must[Export](t)(w.Collect(200))))
+	if total(t, g) != "4000" {
+		t.Fatal(total(t, g))
+	}
+	recorder := must[Recorder](t)(w.Recorder())
+	if err := recorder.Measure(0, none, 7); err != nil {
+		t.Fatal(err)
+	}
+	refused(t, recorder.Measure(0, none, 1<<63-1), codeRecorderFull, 0)
+	plan := must[Plan](t)(NewPlan(Instrument{Scope: "app", Name: "requests", Unit: "By", Kind: Counter}))
+	refused(t, must[Writer](t)(StartWriter(plan, "shop", 0, 2, 100)).Absorb(recorder), codeOtherPlan, 0)
 }

@@ -39,6 +39,11 @@ _TYPES = {
     "kit_seat_split": [_HANDLE, _HANDLE],
     "kit_seat_measure": [_HANDLE, c_size_t, _HANDLE, c_int64, POINTER(c_uint64)],
     "kit_seat_collect": [_HANDLE, c_uint64, _HANDLE, POINTER(c_uint64)],
+    "kit_recorder_open": [_HANDLE, _HANDLE],
+    "kit_recorder_measure": [_HANDLE, c_size_t, _HANDLE, c_int64],
+    "kit_recorder_measure_held": [_HANDLE, c_size_t, c_size_t, c_int64],
+    "kit_recorder_is_empty": [_HANDLE, POINTER(c_bool)],
+    "kit_writer_absorb": [_HANDLE, _HANDLE, POINTER(c_uint64)],
     "kit_node_open": [_HANDLE, _HANDLE],
     "kit_node_gateway": [_HANDLE, _HANDLE],
     "kit_node_take": [_HANDLE, _HANDLE, POINTER(c_uint64)],
@@ -163,6 +168,22 @@ class Seat(_Handle):
         return made
 
 
+class Recorder(_Handle):
+    """A thread's own recorder of a writer's plan, which the writer absorbs. The code 70 says that it is to be absorbed first."""
+
+    def measure(self, instrument, attributes, value):
+        _call("kit_recorder_measure", self._at, instrument, attributes._at, value)
+
+    def measure_held(self, instrument, number, value):
+        """Records at a set that the writer held when the recorder was opened."""
+        _call("kit_recorder_measure_held", self._at, instrument, number, value)
+
+    def is_empty(self):
+        empty = c_bool()
+        _call("kit_recorder_is_empty", self._at, byref(empty))
+        return empty.value
+
+
 class Writer(_Handle):
     def __init__(self, plan, service, instance, start):
         super().__init__()
@@ -198,6 +219,17 @@ class Writer(_Handle):
         """Begins anew under a later start: the writer is open and has recorded nothing."""
         place = c_uint64()
         _call("kit_writer_restart", self._at, start, byref(place), place=place)
+
+    def recorder(self):
+        """A recorder for one thread, with the sets that the writer holds."""
+        made = Recorder()
+        _call("kit_recorder_open", made._at, self._at)
+        return made
+
+    def absorb(self, recorder):
+        """Takes in what a recorder holds, as if each of its recordings had been made here."""
+        place = c_uint64()
+        _call("kit_writer_absorb", self._at, recorder._at, byref(place), place=place)
 
     def share(self):
         """The first seat at the writer, which is none of its own from then on."""

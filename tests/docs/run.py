@@ -11,7 +11,11 @@ In PAGES each file of the repository that is named in code letters is there, and
 files of specs/ that DEFINITIONS names exist. README's table has each crate once, and ARCHITECTURE's has what crates.txt says. In READ_PAGES
 no sentence has more than MOST_WORDS words, code in letters counted as one; a heading, a cell of a table and a list's item stand by themselves.
 
-Each public type of a library that Rattle calls is imported by a caller in crates/uses, but for those of NO_CALLER, which have none.
+The page of each library, the first comment of its lib.rt, names the file of its caller, whose lines it shows; but for PAGES_ALONE. Each name that it
+links stands in the crate, and each file of specs/ that it names.
+
+Each public type of a library that Rattle calls is imported by a caller in crates/uses. Of those of OF_CONTRACTS no value is made, so a clause of a
+caller names them.
 
     tests/docs/run.py [FOLDER]      FOLDER in place of this repository
 
@@ -28,18 +32,10 @@ READ_PAGES = ["README.md", "docs/GUIDE.md", "docs/SCRIPTS.md"]
 MOST_WORDS = 29
 # Names in code letters that are none of the kit's.
 FOREIGN = {"arrayvec::ArrayString", "Equivalent", "clap"}
-# The public types, by their crates, that no caller in crates/uses imports.
-NO_CALLER = {
-    "agg_kit": {"RecordFault", "Recorder"},
-    "attr_kit": {"Exact"},
-    "gateway_kit": {"GatewayChange"},
-    "gossip_kit": {"Body"},
-    "otm_kit": {"Asked", "FleetEnd", "LineFault"},
-    "point_kit": {"Ordered"},
-    "script_kit": {"Command", "Declaration", "Form", "Line", "Noun", "Query", "Report", "ScriptFault"},
-    "test_kit": {"FailingExporter"},
-    "writer_kit": {"AbsorbFault", "WriterChange"},
-}
+# Libraries whose pages show no caller: laws without calls, and the callers themselves.
+PAGES_ALONE = {"schedule_kit", "uses"}
+# The public types, by their crates, that contracts speak of and that no code makes.
+OF_CONTRACTS = {"gateway_kit": {"GatewayChange"}, "writer_kit": {"WriterChange"}}
 FN = re.compile(r"( *)(?:pub(?:\(crate\))? )?(?:unsafe )?(?:extern \"C\" )?fn (\w+)")
 OWNER = re.compile(r"(?:pub(?:\(crate\))? )?(?:unsafe )?(?:impl|trait)\b(?:<[^{]*?> )? ?(?:[\w:<>, &']+ for )?&?(?:\w+::)*(\w+)")
 SPAN = r"`[^`\n]+`"
@@ -243,10 +239,36 @@ class Docs:
             if crate not in drawn or wrong:
                 self.fault("docs/ARCHITECTURE.md", f"{crate} is not drawn as crates.txt has it: {', '.join(sorted(wrong)) or 'missing'}")
 
+    def check_library_pages(self):
+        for crate in self.crates:
+            file = TOP / "crates" / crate / "src" / "lib.rt"
+            if not file.is_file():
+                continue
+            page = [it.removeprefix("//!").removeprefix(" ") for it in text_of(file).splitlines() if it.startswith("//!")]
+            shown = [it.strip() for it in page if it.startswith("    ")]
+            named = re.findall(r"`((?:crates|embed)/[\w/]+\.\w+)`", "\n".join(page))
+            lines = {it.strip() for name in named if (TOP / name).is_file() for it in text_of(TOP / name).splitlines()}
+            self.claims += len(shown)
+            if not shown and crate not in PAGES_ALONE:
+                self.fault(file.relative_to(TOP), "the page shows no caller")
+            for line in shown:
+                if line not in lines:
+                    self.fault(file.relative_to(TOP), f"the page shows a line that its caller has not: {line}")
+            for link in re.findall(r"\[`(\w+(?:::\w+)*)`\]", "\n".join(page)):
+                if not any(link.rpartition("::")[2] in text_of(it) for it in file.parent.glob("**/*.rt") if it != file):
+                    self.fault(file.relative_to(TOP), f"the page links {link}, which stands nowhere in the crate")
+            for told in re.findall(r"\bspecs\b[^.]*\.(?!\w)", "\n".join(page).replace("specs/", "specs")):
+                for name in re.findall(r"(?<!\[)`([A-Z]\w+)`", told):
+                    self.claims += 1
+                    if not (TOP / "crates" / crate / "specs" / f"{name}.antt").is_file():
+                        self.fault(file.relative_to(TOP), f"the page names {name}, no file of its specs")
+
     def check_callers(self):
-        """What a library re-exports in its lib.rt and defines as a type has a caller, or is one of NO_CALLER and has none."""
-        imports = [it for file in TOP.glob("crates/uses/src/**/*.rt") for it in re.findall(r"^use (\w+)::([^;]*);", text_of(file), re.M)]
+        """What a library re-exports in its lib.rt and defines as a type has a caller: one that imports it, or whose clauses name it."""
+        texts = [text_of(it) for it in TOP.glob("crates/uses/src/**/*.rt")]
+        imports = [it for text in texts for it in re.findall(r"^use (\w+)::([^;]*);", text, re.M)]
         called = {(crate, name) for crate, names in imports for name in re.findall(r"\w+", names)}
+        cited = {it for text in texts for it in re.findall(r"^ghost use Rattle\.(\w+)\.specs\.declared\.[\w.]*?(\w+)(?:\.TheVariants)?(?:\.\{| as )", text, re.M)}
         for crate in self.crates:
             folder = TOP / "crates" / crate / "src"
             if crate in ("uses", "kit_c") or not (folder / "lib.rt").is_file():
@@ -255,11 +277,9 @@ class Docs:
             for file in sorted(folder.glob("**/*.rt")):
                 for name in re.findall(r"^pub (?:struct|enum|trait) (\w+)", text_of(file), re.M):
                     self.claims += 1
-                    is_called, is_known = (crate, name) in called, name in NO_CALLER.get(crate, ())
-                    if name in exported and not is_called and not is_known:
+                    found = cited if name in OF_CONTRACTS.get(crate, ()) else called
+                    if name in exported and (crate, name) not in found:
                         self.fault(file.relative_to(TOP), f"no caller in crates/uses has the public type {name}")
-                    elif is_known and (is_called or name not in exported):
-                        self.fault("NO_CALLER", f"{name} of {crate} has a caller, or is not public: it is to go from this table")
 
     def check(self):
         for page in ("README.md", "docs/PROMISES.md"):
@@ -270,6 +290,7 @@ class Docs:
             self.check_sentences(page)
         self.check_definitions()
         self.check_tables()
+        self.check_library_pages()
         self.check_callers()
 
 

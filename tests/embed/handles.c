@@ -29,8 +29,8 @@ void *__wrap_realloc(void *at, size_t size) { return refuses() ? NULL : __real_r
 
 /* What a handle can have. */
 enum kind {
-    NOTHING, PAIRS, ATTRIBUTES, INSTRUMENTS, VIEW, VIEWS, KEYS, PLAN, WRITER, EXPORT, GATEWAY, NODE, MESSAGE, SEAT, ASK, TOLD_TEXT, BYTES,
-    SUM_ROWS, GAUGE_ROWS, HISTOGRAM_ROWS, KINDS, ROWS /* of any shape */
+    NOTHING, PAIRS, ATTRIBUTES, INSTRUMENTS, VIEW, VIEWS, KEYS, PLAN, WRITER, EXPORT, GATEWAY, NODE, MESSAGE, SEAT, RECORDER,
+    ASK, TOLD_TEXT, BYTES, SUM_ROWS, GAUGE_ROWS, HISTOGRAM_ROWS, KINDS, ROWS /* of any shape */
 };
 
 /* How a call has a handle: something must be there, or may be, or it is empty and is filled. */
@@ -114,6 +114,11 @@ static void make(enum kind kind, kit_handle *it) {
         make(WRITER, it);
         MUST(kit_writer_share(it));
         break;
+    case RECORDER:
+        make(WRITER, &one), make(ATTRIBUTES, &two);
+        MUST(kit_recorder_open(it, &one));
+        MUST(kit_recorder_measure(it, 2, &two, 7));
+        break;
     case ASK: MUST(kit_ask_sum(it, TEXT("app"), TEXT("requests"), TEXT("1"), true)); break;
     case TOLD_TEXT:
         make(ROWS, &one);
@@ -175,6 +180,11 @@ CALL(seat_split, h[0], h[1])
 CALL(seat_measure, h[0], 0, h[1], 1, &place)
 CALL(seat_measure_held, h[0], 0, 0, 1, &place)
 CALL(seat_collect, h[0], 300, h[1], &place)
+CALL(recorder_open, h[0], h[1])
+CALL(recorder_measure, h[0], 0, h[1], 1)
+CALL(recorder_measure_held, h[0], 0, 0, 1)
+CALL(recorder_is_empty, h[0], &truth)
+CALL(writer_absorb, h[0], h[1], &place)
 CALL(export_encode, h[0], h[1])
 CALL(export_decode, h[0], encoded, encoded_len, &place)
 CALL(bytes_copy, h[0], room, sizeof room, &size)
@@ -223,6 +233,9 @@ static const struct row CALLS[] = {
     ROW(writer_shutdown, {THERE, WRITER}, {FILLED, EXPORT}), ROW(writer_restart, {THERE, WRITER}), ROW(writer_share, {THERE, WRITER}),
     ROW(seat_split, {THERE, SEAT}, {FILLED, SEAT}), ROW(seat_measure, {THERE, SEAT}, {THERE, ATTRIBUTES}),
     ROW(seat_measure_held, {THERE, SEAT}), ROW(seat_collect, {THERE, SEAT}, {FILLED, EXPORT}),
+    ROW(recorder_open, {FILLED, RECORDER}, {THERE, WRITER}), ROW(recorder_measure, {THERE, RECORDER}, {THERE, ATTRIBUTES}),
+    ROW(recorder_measure_held, {THERE, RECORDER}), ROW(recorder_is_empty, {THERE, RECORDER}),
+    ROW(writer_absorb, {THERE, WRITER}, {THERE, RECORDER}),
     ROW(export_encode, {THERE, EXPORT}, {FILLED, BYTES}), ROW(export_decode, {FILLED, EXPORT}), ROW(bytes_copy, {THERE, BYTES}),
     ROW(gateway_open, {FILLED, GATEWAY}), ROW(gateway_take, {THERE, GATEWAY}, {THERE, EXPORT}),
     ROW(gateway_merge, {THERE, GATEWAY}, {THERE, GATEWAY}), ROW(gateway_conflicts, {THERE, GATEWAY}), ROW(gateway_newest, {THERE, GATEWAY}),

@@ -256,7 +256,7 @@ static void fits(const struct form *form, kit_handle *read, const uint8_t *bytes
         case KIT_NO_MEMORY: CHECK(wanting); break;
         case KIT_TRUNCATED: CHECK(place == len); break;
         case KIT_BAD_MAGIC: CHECK(place < 4 && bytes[place] != form->magic[place]); break;
-        case KIT_BAD_VERSION: CHECK(place == 4 && bytes[4] != 1); break;
+        case KIT_BAD_VERSION: CHECK(place == 4 && bytes[4] != 2); break;
         case KIT_BAD_CHECKSUM: CHECK(place + 4 <= len); break;
         case KIT_NOT_CANONICAL:
         case KIT_NOT_TEXT: CHECK(place <= len); break;

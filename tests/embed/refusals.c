@@ -519,6 +519,90 @@ static void seats(kit_handle *plan, kit_handle *none) {
     kit_free(&seat), kit_free(&collected), kit_free(&gateway);
 }
 
+/* A plan of one counter requests and one instrument of a kind, under a limit. */
+static void plan_under(kit_handle *plan, uint8_t kind, uint64_t limit) {
+    kit_handle instruments = KIT_EMPTY, views = KIT_EMPTY;
+    CHECK(!kit_instruments_add(&instruments, TEXT("app"), TEXT("requests"), TEXT("1"), KIT_COUNTER));
+    CHECK(!kit_instruments_add(&instruments, TEXT("app"), TEXT("size"), TEXT("By"), kind));
+    CHECK(!kit_plan_build(plan, &instruments, &views, limit, &place, &second));
+    kit_free(&instruments);
+}
+
+/* Whether a recorder holds nothing. */
+static bool is_empty(kit_handle *recorder) {
+    bool empty = false;
+    return !kit_recorder_is_empty(recorder, &empty) && empty;
+}
+
+/* A recorder takes what it has room for, and no more before a writer took that in; gauges are none of its own. */
+static void recorders_full(kit_handle *none, kit_handle *four) {
+    kit_handle plan = KIT_EMPTY, writer = KIT_EMPTY, recorder = KIT_EMPTY;
+    plan_under(&plan, KIT_GAUGE, 1);
+    CHECK(!kit_writer_start(&writer, &plan, TEXT("shop"), 0, 1, 100) && !kit_recorder_open(&recorder, &writer));
+    CHECK(kit_recorder_measure(&recorder, 1, none, 1) == KIT_RECORDER_FULL && is_empty(&recorder));
+    CHECK(!kit_recorder_measure(&recorder, 0, none, 7) && kit_recorder_measure(&recorder, 0, four, 1) == KIT_RECORDER_FULL);
+    CHECK(kit_recorder_measure(&recorder, 0, none, INT64_MAX) == KIT_RECORDER_FULL);
+    CHECK(!kit_writer_absorb(&writer, &recorder, &place) && is_empty(&recorder) && has_seven(&writer, 150));
+    CHECK(!kit_recorder_measure(&recorder, 0, four, 1) && !kit_writer_absorb(&writer, &recorder, &place));
+    CHECK(!has_seven(&writer, 200)); /* (the set of four is the overflow set's there) */
+    kit_free(&plan), kit_free(&writer), kit_free(&recorder);
+}
+
+/* A recorder of a writer: what each of its calls refuses, and that a writer of its plan, and no other, takes in what it holds. */
+static void recorders(kit_handle *plan, kit_handle *none) {
+    kit_handle writer = KIT_EMPTY, recorder = KIT_EMPTY, nothing = KIT_EMPTY, collected = KIT_EMPTY;
+    kit_handle other = KIT_EMPTY, limited = KIT_EMPTY;
+    size_t number = 77;
+    bool empty = true;
+    CHECK(!kit_writer_start(&writer, plan, TEXT("shop"), 0, 1, 100) && !kit_writer_hold(&writer, none, &number));
+    CHECK(kit_recorder_open(&recorder, &nothing) == KIT_NOTHING && kit_recorder_open(&recorder, plan) == KIT_WRONG_KIND && !recorder.full);
+    EACH_GROWTH(kit_recorder_open(&recorder, &writer), !recorder.full && writer.full);
+    CHECK(kit_recorder_open(&recorder, &writer) == KIT_FULL && is_empty(&recorder));
+
+    EACH_GROWTH(kit_recorder_measure(&recorder, 0, none, 1), is_empty(&recorder));
+    CHECK(!kit_recorder_is_empty(&recorder, &empty) && !empty);
+    CHECK(kit_recorder_is_empty(&nothing, &empty) == KIT_NOTHING && kit_recorder_is_empty(&writer, &empty) == KIT_WRONG_KIND && !empty);
+    refused = 1; /* (where the point can't be kept the value is recorded all the same) */
+    CHECK(!kit_recorder_measure_held(&recorder, 0, number, 1) && refused == 0);
+    CHECK(!kit_recorder_measure_held(&recorder, 0, number, 1));
+    refused = 1; /* (a point that is kept takes no memory) */
+    CHECK(!kit_recorder_measure_held(&recorder, 0, number, 2) && refused == 1);
+    refused = 0;
+    CHECK(kit_recorder_measure_held(&recorder, 0, 1, 1) == KIT_NO_SET && kit_recorder_measure(&recorder, 2, none, 1) == KIT_NO_INSTRUMENT);
+    CHECK(kit_recorder_measure(&recorder, 0, none, -1) == KIT_NEGATIVE);
+    CHECK(kit_recorder_measure_held(&recorder, 0, number, -1) == KIT_NEGATIVE);
+    CHECK(kit_recorder_measure(&recorder, 0, none, INT64_MAX) == KIT_RECORDER_FULL);
+    CHECK(kit_recorder_measure(&nothing, 0, none, 1) == KIT_NOTHING && kit_recorder_measure(&recorder, 0, &nothing, 1) == KIT_NOTHING);
+    CHECK(kit_recorder_measure(&writer, 0, none, 1) == KIT_WRONG_KIND && kit_recorder_measure(&recorder, 0, plan, 1) == KIT_WRONG_KIND);
+    CHECK(kit_recorder_measure_held(&nothing, 0, 0, 1) == KIT_NOTHING && kit_recorder_measure_held(&writer, 0, 0, 1) == KIT_WRONG_KIND);
+    CHECK(kit_writer_measure(&recorder, 0, none, 1, &place) == KIT_WRONG_KIND && recorder.full);
+
+    CHECK(kit_writer_absorb(&nothing, &recorder, &place) == KIT_NOTHING && kit_writer_absorb(&writer, &nothing, &place) == KIT_NOTHING);
+    CHECK(kit_writer_absorb(plan, &recorder, &place) == KIT_WRONG_KIND && kit_writer_absorb(&writer, plan, &place) == KIT_WRONG_KIND);
+    plan_under(&limited, KIT_HISTOGRAM, 7);
+    CHECK(!kit_writer_start(&other, &limited, TEXT("shop"), 0, 2, 100));
+    CHECK(kit_writer_absorb(&other, &recorder, &place) == KIT_OTHER_PLAN && !is_empty(&recorder) && other.full);
+    kit_free(&limited), kit_free(&other);
+    CHECK(!kit_writer_measure_held(&writer, 0, number, 1, &place) && !kit_writer_measure_held(&writer, 0, number, 0, &place));
+    EACH_GROWTH(kit_writer_absorb(&writer, &recorder, &place), !kit_recorder_is_empty(&recorder, &empty) && !empty);
+    CHECK(is_empty(&recorder) && !kit_writer_absorb(&writer, &recorder, &place) && is_empty(&recorder));
+    CHECK(!kit_recorder_measure_held(&recorder, 0, number, 1) && !kit_writer_absorb(&writer, &recorder, &place));
+    CHECK(!kit_writer_measure_held(&writer, 0, number, 0, &place) && has_seven(&writer, 150));
+
+    CHECK(!kit_recorder_measure_held(&recorder, 0, number, INT64_MAX));
+    place = 77;
+    CHECK(kit_writer_absorb(&writer, &recorder, &place) == KIT_OVERFLOW && place == 0 && !is_empty(&recorder) && has_seven(&writer, 160));
+    CHECK(!kit_writer_shutdown(&writer, 200, &collected, &place));
+    CHECK(kit_writer_absorb(&writer, &recorder, &place) == KIT_CLOSED && !is_empty(&recorder));
+    plan_under(&limited, KIT_HISTOGRAM, KIT_DEFAULT_LIMIT); /* (an equal plan, made anew) */
+    CHECK(!kit_writer_start(&other, &limited, TEXT("shop"), 0, 2, 100) && !kit_writer_absorb(&other, &recorder, &place));
+    CHECK(is_empty(&recorder) && kit_writer_measure(&other, 0, none, 1, &place) == KIT_OVERFLOW);
+    kit_handle *all[] = {&writer, &recorder, &nothing, &collected, &other, &limited};
+    for (size_t i = 0; i < sizeof all / sizeof *all; i++) {
+        kit_free(all[i]);
+    }
+}
+
 /* Puts the checksum of bytes behind them (Adler-32: RFC 1950, section 8.2). */
 static void checksum(uint8_t *bytes, size_t len) {
     uint32_t sum = 1, sums = 0;
@@ -556,10 +640,10 @@ static void encodings(kit_handle *plan, kit_handle *none) {
     CHECK(kit_export_decode(&read, bytes, len, &place) == KIT_BAD_VERSION && place == 4);
     bytes[4] ^= 0x40, bytes[len - 1] ^= 1;
     CHECK(kit_export_decode(&read, bytes, len, &place) == KIT_BAD_CHECKSUM && place == len - 4 && !read.full);
-    uint8_t first = bytes[6];
-    place = 77, bytes[6] = 0xff; /* (in the service) */
-    CHECK(kit_export_decode(&read, bytes, len, &place) == KIT_NOT_TEXT && place == 5 && !read.full);
-    place = 77, bytes[6] = first, bytes[len - 5] = 13; /* (-7, of a sum that only rises) */
+    uint8_t first = bytes[7];
+    place = 77, bytes[7] = 0xff; /* (in the service) */
+    CHECK(kit_export_decode(&read, bytes, len, &place) == KIT_NOT_TEXT && place == 6 && !read.full);
+    place = 77, bytes[7] = first, bytes[len - 5] = 13; /* (-7, of a sum that only rises) */
     checksum(bytes, len - 4);
     CHECK(kit_export_decode(&read, bytes, len, &place) == KIT_BAD_EXPORT && place == 77 && !read.full);
     kit_free(&writer), kit_free(&collected), kit_free(&made), kit_free(&gateway);
@@ -613,6 +697,8 @@ int main(void) {
     nodes(&plan, &none);
     seats(&plan, &none);
     writers_apart(&plan, &none);
+    recorders(&plan, &none);
+    recorders_full(&none, &four);
     encodings(&plan, &none);
     told(&plan, &none);
     kit_free(&plan), kit_free(&none), kit_free(&four);

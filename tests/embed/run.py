@@ -108,6 +108,7 @@ class Run:
                 continue
             for how, flags in (("", ["-O2"]), (" under AddressSanitizer", ASAN)):
                 self.compiled(f"C++, {compiler}{how}: the first script", compiler, EMBED / "cpp" / "first.cpp", CPP + flags, WANTED)
+                self.compiled(f"C++, {compiler}{how}: recorders", compiler, HERE / "recorders.cpp", CPP + flags)
 
     def rust(self):
         if not shutil.which("cargo") or not self.works("cargo"):
@@ -152,6 +153,7 @@ class Run:
         if self.run("Python: the shared library", compiler, "-shared", "-o", shared, *whole):
             given = {**os.environ, "KOTSKHIN_SO": str(shared)}
             self.run("Python: the first script", sys.executable, "-B", EMBED / "python" / "first.py", prints=WANTED, env=given)
+            self.run("Python: recorders", sys.executable, "-B", HERE / "recorders.py", env=given)
             self.broker(given)
 
     def broker(self, given):

@@ -1,5 +1,6 @@
-/* One writer under a lock of the host, one writer for each thread, and one writer with a seat for each: each comes to all recordings,
- * and no collection that is made meanwhile has fewer than one before. Exits with the number of the first check that fails, or 0. */
+/* One writer under a lock of the host, one writer for each thread, one writer with a seat for each, and one that takes in a recorder of
+ * each now and then: each comes to all recordings, and no collection that is made meanwhile has fewer than one before. Exits with the
+ * number of the first check that fails, or 0. */
 #include <kotskhin.h>
 #include <pthread.h>
 #include <sched.h>
@@ -7,13 +8,24 @@
 #include <string.h>
 
 #define TEXT(s) (const uint8_t *)(s), sizeof(s) - 1
-enum { THREADS = 4, TIMES = 25000 };
+enum { THREADS = 4, TIMES = 25000, OFTEN = 1000 };
 
 static pthread_mutex_t lock = PTHREAD_MUTEX_INITIALIZER;
-static kit_handle plan, shared, own[THREADS], seats[THREADS];
+static pthread_mutex_t gathered_lock = PTHREAD_MUTEX_INITIALIZER;
+static kit_handle plan, shared, gathered, own[THREADS], seats[THREADS], recorders[THREADS];
+
+/* The writer that gathers takes in what a recorder holds. */
+static int32_t gather(kit_handle *recorder) {
+    uint64_t place = 0;
+    pthread_mutex_lock(&gathered_lock);
+    int32_t code = kit_writer_absorb(&gathered, recorder, &place);
+    pthread_mutex_unlock(&gathered_lock);
+    return code;
+}
 
 static void *work(void *at) {
-    kit_handle *mine = at, *seat = &seats[mine - own], pairs = KIT_EMPTY, none = KIT_EMPTY; /* attributes are this thread's own */
+    kit_handle *mine = at, *seat = &seats[mine - own], *recorder = &recorders[mine - own];
+    kit_handle pairs = KIT_EMPTY, none = KIT_EMPTY; /* attributes are this thread's own */
     uint64_t place = 0;
     if (kit_attributes_make(&none, &pairs, &place)) return "attributes";
     for (int i = 0; i < TIMES; i++) {
@@ -25,6 +37,8 @@ static void *work(void *at) {
             sched_yield();
         }
         if (code) return "seat";
+        if (kit_recorder_measure_held(recorder, 0, 0, 1)) return "recorder";
+        if (i % OFTEN == OFTEN - 1 && gather(recorder)) return "absorb";
     }
     kit_free(&none);
     return NULL;
@@ -36,6 +50,18 @@ static int bring(kit_handle *writer, kit_handle *gateway) {
     int32_t code = kit_writer_collect(writer, 200, &collected, &place);
     code = code ? code : kit_gateway_take(gateway, &collected, &changed);
     kit_free(&collected), kit_free(writer);
+    return code;
+}
+
+/* Collects from the writer that gathers, and brings the points. */
+static int bring_gathered(uint64_t time, kit_handle *gateway) {
+    kit_handle collected = KIT_EMPTY;
+    uint64_t place = 0, changed = 0;
+    pthread_mutex_lock(&gathered_lock);
+    int32_t code = kit_writer_collect(&gathered, time, &collected, &place);
+    pthread_mutex_unlock(&gathered_lock);
+    code = code ? code : kit_gateway_take(gateway, &collected, &changed);
+    kit_free(&collected);
     return code;
 }
 
@@ -79,6 +105,8 @@ static bool tells(kit_handle *gateway, const char *end) {
 
 int main(void) {
     kit_handle one = KIT_EMPTY, four = KIT_EMPTY, seated = KIT_EMPTY, first = KIT_EMPTY, instruments = KIT_EMPTY, views = KIT_EMPTY;
+    kit_handle whole = KIT_EMPTY, none = KIT_EMPTY;
+    size_t number = 0;
     pthread_t threads[THREADS];
     uint64_t place = 0, second = 0;
     if (kit_instruments_add(&instruments, TEXT("app"), TEXT("requests"), TEXT("1"), KIT_COUNTER)) return 1;
@@ -93,15 +121,24 @@ int main(void) {
     for (int i = 0; i < THREADS; i++) {
         if (kit_seat_split(&first, &seats[i])) return 13;
     }
+    if (kit_writer_start(&gathered, &plan, TEXT("shop"), 0, 98, 100) || kit_gateway_open(&whole, 4)) return 17;
+    if (kit_attributes_make(&none, &views, &place) || kit_writer_hold(&gathered, &none, &number) || number) return 18;
+    for (int i = 0; i < THREADS; i++) {
+        if (kit_recorder_open(&recorders[i], &gathered)) return 19;
+    }
     for (int i = 0; i < THREADS; i++) {
         if (pthread_create(&threads[i], NULL, work, &own[i])) return 6;
     }
-    int64_t before = 0;
+    int64_t before = 0, gathered_before = 0;
     for (uint64_t time = 101; time < 120; time++) {
         if (bring_by_seat(&first, time, &seated)) return 14;
         int64_t now = total(&seated);
         if (now < before) return 15;
         before = now;
+        if (bring_gathered(time, &whole)) return 20;
+        now = total(&whole);
+        if (now < gathered_before || now % OFTEN) return 21; /* (each was taken in whole) */
+        gathered_before = now;
     }
     for (int i = 0; i < THREADS; i++) {
         void *why = NULL;
@@ -113,7 +150,12 @@ int main(void) {
     if (!tells(&four, "  4          0  100000\n")) return 11;
     for (int i = 0; i < THREADS; i++) {
         kit_free(&seats[i]);
+        bool empty = false;
+        if (kit_recorder_is_empty(&recorders[i], &empty) || !empty) return 22;
+        kit_free(&recorders[i]);
     }
+    if (bring_gathered(200, &whole) || total(&whole) != 100000) return 23;
+    kit_free(&gathered), kit_free(&whole), kit_free(&none);
     if (bring_by_seat(&first, 200, &seated) || total(&seated) != 100000) return 16;
     kit_free(&first), kit_free(&seated), kit_free(&plan);
     return 0;

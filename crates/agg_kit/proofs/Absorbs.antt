@@ -9,18 +9,18 @@ use Rattle.attr_kit.specs.declared.attr_set.AttrSet.{AttrSet}
 use Rattle.point_kit.specs.declared.payload.Payload.{Payload}
 use Rattle.point_kit.specs.declared.shape.Shape.{Shape}
 use Rattle.point_kit.specs.declared.shape.Shape.TheVariants as shapes
-use Rattle.agg_kit.specs.Absorbs.{joined, met, merged, absorb, places, gone, AreAlike, PointsAreAbsorbed, PlacesAreKept, OthersAreAbsorbed}
+use Rattle.agg_kit.specs.Absorbs.{payload_of_both, point_with, with_point, absorb, places, sets_gone_to, AreAlike, PointsAreAbsorbed, PlacesAreKept, OthersAreAbsorbed}
 use Rattle.agg_kit.specs.Entries.{Arrivals}
-use Rattle.agg_kit.specs.Feeding.{set_eq, overflow_set, is_own, has_set, add_once, sets_of, distinct, own_sets, goes_to, placed}
+use Rattle.agg_kit.specs.Feeding.{set_eq, overflow_set, is_own, has_set, add_once, sets_of, distinct, own_sets, goes_to, placements}
 use Rattle.agg_kit.specs.Laws.{is_gauge}
 use Rattle.agg_kit.specs.Payloads.{payload_of}
 use Rattle.agg_kit.specs.Rounds.{values_of, points_of}
 use Rattle.agg_kit.specs.Sound.{AreOnce}
-use Rattle.agg_kit.specs.Steps.{bounds_of, own_count, held, place, payload_at, recorded, add_under, step}
+use Rattle.agg_kit.specs.Steps.{bounds_of, own_count, has_point, place, payload_at, payload_with_value, add_under, step}
 use Rattle.agg_kit.specs.Tallies.{Points}
 use Rattle.agg_kit.proofs.Distinct.{or-no, same, itself, turn, has-push, has-distinct}
-use Rattle.agg_kit.proofs.Inserts.{put, put-yes, put-no, look-yes, look-no, lookup-here, lookup-other, put-twice, put-swap, held-here, held-still, place-under, Way, There, Room, Full, way, place-now, place-stays}
-use Rattle.agg_kit.proofs.Joins.{IsShaped, shaped-values, shaped-joined, joined-new, joined-after, joined-before, joined-first}
+use Rattle.agg_kit.proofs.Inserts.{put, put-yes, put-no, look-yes, look-no, lookup-here, lookup-other, put-twice, put-swap, has_point-here, has_point-still, place-under, Way, There, Room, Full, way, place-now, place-stays}
+use Rattle.agg_kit.proofs.Joins.{IsShaped, shaped-values, shaped-payload_of_both, payload_of_both-new, payload_of_both-after, payload_of_both-before, payload_of_both-first}
 use Rattle.agg_kit.proofs.RoundLaws.{grown, keys-with, once-points}
 use Rattle.agg_kit.proofs.Limits.{stays}
 use Rattle.agg_kit.proofs.Points.{points-push, sets-push, with}
@@ -94,7 +94,7 @@ once-front (d ∷ ds) b o = (first (has_set ds d) (set_eq d b) (sym (has-push ds
     first s t h = (or-no s t h).0
 
 -- where no two sets go under one, that was so before the last value
-pub once-before : (limit : ℕ) (xs ys : Arrivals) (y : AttrSet × ℤ) → AreOnce (gone limit xs (ys ++ y ∷ [])) → AreOnce (gone limit xs ys)
+pub once-before : (limit : ℕ) (xs ys : Arrivals) (y : AttrSet × ℤ) → AreOnce (sets_gone_to limit xs (ys ++ y ∷ [])) → AreOnce (sets_gone_to limit xs ys)
 once-before limit xs ys y o = by (has_set ds y.0) refl
   where
     ds : List AttrSet
@@ -111,18 +111,18 @@ once-before limit xs ys y o = by (has_set ds y.0) refl
     there : AreOnce (map now (if has_set ds y.0 then ds else ds ++ y.0 ∷ []))
     there = subst (λ l. AreOnce (map now l)) (sets-push ys y.0 y.1) o
 
-    by : (t : Bool) → has_set ds y.0 ≡ t → AreOnce (gone limit xs ys)
+    by : (t : Bool) → has_set ds y.0 ≡ t → AreOnce (sets_gone_to limit xs ys)
     by true h = subst AreOnce (same-map ds now (goes_to (own_sets limit (xs ++ ys))) at) (subst (λ (t : Bool). AreOnce (map now (if t then ds else ds ++ y.0 ∷ []))) h there)
     by false h =
         subst AreOnce (same-map ds now (goes_to (own_sets limit (xs ++ ys))) at)
         (once-front (map now ds) (now y.0) (subst AreOnce (map-append now ds (y.0 ∷ [])) (subst (λ (t : Bool). AreOnce (map now (if t then ds else ds ++ y.0 ∷ []))) h there)))
 
 -- the sets of points
-pub held-keys : (es : Points) (a : AttrSet) → held es a ≡ has_set (keys_of es) a
-held-keys [] a = refl
-held-keys (e ∷ es) a = by (set_eq a e.0) (held-keys es a)
+pub has_point-keys : (es : Points) (a : AttrSet) → has_point es a ≡ has_set (keys_of es) a
+has_point-keys [] a = refl
+has_point-keys (e ∷ es) a = by (set_eq a e.0) (has_point-keys es a)
   where
-    by : (t : Bool) → held es a ≡ has_set (keys_of es) a → is_some (cond t (Some e.1) (lookup (set_eq a) es)) ≡ (t || has_set (keys_of es) a)
+    by : (t : Bool) → has_point es a ≡ has_set (keys_of es) a → is_some (cond t (Some e.1) (lookup (set_eq a) es)) ≡ (t || has_set (keys_of es) a)
     by true h = refl
     by false h = h
 
@@ -141,38 +141,38 @@ own_count-keys es ms k = own_count-of es ∙ ap (λ l. length (filter is_own l))
 
 place-keys : (limit : ℕ) (es ms : Points) (a : AttrSet) → keys_of es ≡ keys_of ms → place limit es a ≡ place limit ms a
 place-keys limit es ms a k =
-    ap (λ h. if h || nat_lt (own_count es) limit then a else overflow_set) (held-keys es a ∙ ap (λ l. has_set l a) k ∙ sym (held-keys ms a))
-    ∙ ap (λ n. if held ms a || nat_lt n limit then a else overflow_set) (own_count-keys es ms k)
+    ap (λ h. if h || nat_lt (own_count es) limit then a else overflow_set) (has_point-keys es a ∙ ap (λ l. has_set l a) k ∙ sym (has_point-keys ms a))
+    ∙ ap (λ n. if has_point ms a || nat_lt n limit then a else overflow_set) (own_count-keys es ms k)
 
-merged-keys : (limit : ℕ) (es ms : Points) (e m : AttrSet × Payload) → keys_of es ≡ keys_of ms → e.0 ≡ m.0 → keys_of (merged limit es e) ≡ keys_of (merged limit ms m)
-merged-keys limit es ms e m k s =
+with_point-keys : (limit : ℕ) (es ms : Points) (e m : AttrSet × Payload) → keys_of es ≡ keys_of ms → e.0 ≡ m.0 → keys_of (with_point limit es e) ≡ keys_of (with_point limit ms m)
+with_point-keys limit es ms e m k s =
     keys-insert es (place limit es e.0) _
     ∙ (λ i. add_once (k i) ((ap (place limit es) s ∙ place-keys limit es ms m.0 k) i))
     ∙ sym (keys-insert ms (place limit ms m.0) _)
 
 module _ (shape : Shape) (limit : ℕ) where
   abbrev more : Payload → ℤ → Payload
-  more q v = recorded (bounds_of shape) q v
+  more q v = payload_with_value (bounds_of shape) q v
 
   abbrev at : Points → AttrSet → Payload
   at es b = payload_at shape es b
 
   -- one point taken in, with the payload of no values where its set is new
   abbrev take : Points → AttrSet × Payload → Points
-  take es e = put es (place limit es e.0) (joined (at es (place limit es e.0)) e.1)
+  take es e = put es (place limit es e.0) (payload_of_both (at es (place limit es e.0)) e.1)
 
   abbrev taken : Points → Points → Points
   taken es ms = fold take es ms
 
   -- as the definition has it
-  met-at : (es : Points) (b : AttrSet) (p : Payload) → IsShaped shape p → met es b p ≡ joined (at es b) p
+  met-at : (es : Points) (b : AttrSet) (p : Payload) → IsShaped shape p → point_with es b p ≡ payload_of_both (at es b) p
   met-at es b p s = by (lookup (set_eq b) es)
     where
-      by : (o : Option Payload) → option_map_or (λ q. joined q p) o p ≡ joined (option_map_or (λ t. t) o (payload_of shape [])) p
-      by None = sym (joined-new shape p s)
+      by : (o : Option Payload) → option_map_or (λ q. payload_of_both q p) o p ≡ payload_of_both (option_map_or (λ t. t) o (payload_of shape [])) p
+      by None = sym (payload_of_both-new shape p s)
       by (Some q) = refl
 
-  merged-take : (es : Points) (e : AttrSet × Payload) → IsShaped shape e.1 → merged limit es e ≡ take es e
+  merged-take : (es : Points) (e : AttrSet × Payload) → IsShaped shape e.1 → with_point limit es e ≡ take es e
   merged-take es e s = ap (put es (place limit es e.0)) (met-at es (place limit es e.0) e.1 s)
 
   absorb-taken : (es ms : Points) → AreShaped shape ms → absorb limit es ms ≡ taken es ms
@@ -180,18 +180,18 @@ module _ (shape : Shape) (limit : ℕ) where
   absorb-taken es (m ∷ ms) s = ap (λ l. absorb limit l ms) (merged-take es m s.0) ∙ absorb-taken (take es m) ms s.1
 
   shaped-take : (es : Points) (e : AttrSet × Payload) → AreShaped shape es → IsShaped shape e.1 → AreShaped shape (take es e)
-  shaped-take es e s k = shaped-put shape es (place limit es e.0) _ s (shaped-joined shape (at es (place limit es e.0)) e.1 (shaped-at shape es (place limit es e.0) s) k)
+  shaped-take es e s k = shaped-put shape es (place limit es e.0) _ s (shaped-payload_of_both shape (at es (place limit es e.0)) e.1 (shaped-at shape es (place limit es e.0) s) k)
 
   shaped-taken : (es ms : Points) → AreShaped shape es → AreShaped shape ms → AreShaped shape (taken es ms)
   shaped-taken es [] s k = s
   shaped-taken es (m ∷ ms) s k = shaped-taken (take es m) ms (shaped-take es m s k.0) k.1
 
   -- one more value under a set, before a point is taken in and after
-  take-after : (es : Points) (b : AttrSet) (v : ℤ) (e : AttrSet × Payload) → held es b ≡ true → AreShaped shape es → IsShaped shape e.1
+  take-after : (es : Points) (b : AttrSet) (v : ℤ) (e : AttrSet × Payload) → has_point es b ≡ true → AreShaped shape es → IsShaped shape e.1
       → (set_eq (place limit es e.0) b ≡ true → is_gauge shape ≡ false)
       → take (add_under shape es b v) e ≡ add_under shape (take es e) b v
   take-after es b v e h s k g =
-      ap (λ c. put (add_under shape es b v) c (joined (at (add_under shape es b v) c) e.1)) (place-under limit es b e.0 _ h) ∙ by (set_eq d b) refl
+      ap (λ c. put (add_under shape es b v) c (payload_of_both (at (add_under shape es b v) c) e.1)) (place-under limit es b e.0 _ h) ∙ by (set_eq d b) refl
     where
       d : AttrSet
       d = place limit es e.0
@@ -199,44 +199,44 @@ module _ (shape : Shape) (limit : ℕ) where
       q : Payload
       q = at es b
 
-      here : set_eq d b ≡ true → d ≡ b → put (put es b (more q v)) d (joined (at (put es b (more q v)) d) e.1) ≡ put (put es d (joined (at es d) e.1)) b (more (at (put es d (joined (at es d) e.1)) b) v)
+      here : set_eq d b ≡ true → d ≡ b → put (put es b (more q v)) d (payload_of_both (at (put es b (more q v)) d) e.1) ≡ put (put es d (payload_of_both (at es d) e.1)) b (more (at (put es d (payload_of_both (at es d) e.1)) b) v)
       here t i =
-          ap (λ c. put (put es b (more q v)) c (joined (at (put es b (more q v)) c) e.1)) i
+          ap (λ c. put (put es b (more q v)) c (payload_of_both (at (put es b (more q v)) c) e.1)) i
           ∙ put-twice es b (more q v) _
-          ∙ ap (λ p. put es b (joined p e.1)) (at-here shape es b (more q v))
-          ∙ ap (put es b) (joined-before shape q e.1 v (g t) (shaped-at shape es b s) k)
+          ∙ ap (λ p. put es b (payload_of_both p e.1)) (at-here shape es b (more q v))
+          ∙ ap (put es b) (payload_of_both-before shape q e.1 v (g t) (shaped-at shape es b s) k)
           ∙ sym (
-          ap (λ c. put (put es c (joined (at es c) e.1)) b (more (at (put es c (joined (at es c) e.1)) b) v)) i
-          ∙ put-twice es b (joined q e.1) _
-          ∙ ap (λ p. put es b (more p v)) (at-here shape es b (joined q e.1)))
+          ap (λ c. put (put es c (payload_of_both (at es c) e.1)) b (more (at (put es c (payload_of_both (at es c) e.1)) b) v)) i
+          ∙ put-twice es b (payload_of_both q e.1) _
+          ∙ ap (λ p. put es b (more p v)) (at-here shape es b (payload_of_both q e.1)))
 
-      by : (t : Bool) → set_eq d b ≡ t → put (put es b (more q v)) d (joined (at (put es b (more q v)) d) e.1) ≡ put (put es d (joined (at es d) e.1)) b (more (at (put es d (joined (at es d) e.1)) b) v)
+      by : (t : Bool) → set_eq d b ≡ t → put (put es b (more q v)) d (payload_of_both (at (put es b (more q v)) d) e.1) ≡ put (put es d (payload_of_both (at es d) e.1)) b (more (at (put es d (payload_of_both (at es d) e.1)) b) v)
       by true t = here t (same d b t)
       by false t =
-          ap (λ p. put (put es b (more q v)) d (joined p e.1)) (at-other shape es d b (more q v) t)
-          ∙ put-swap es b d (more q v) (joined (at es d) e.1) t h
-          ∙ ap (λ p. put (put es d (joined (at es d) e.1)) b (more p v)) (sym (at-other shape es b d (joined (at es d) e.1) (turn d b t)))
+          ap (λ p. put (put es b (more q v)) d (payload_of_both p e.1)) (at-other shape es d b (more q v) t)
+          ∙ put-swap es b d (more q v) (payload_of_both (at es d) e.1) t h
+          ∙ ap (λ p. put (put es d (payload_of_both (at es d) e.1)) b (more p v)) (sym (at-other shape es b d (payload_of_both (at es d) e.1) (turn d b t)))
 
   -- no point that is taken in goes under the set, or the stream is no gauge
   abbrev IsFree : AttrSet → Points → Points → Type 0
   IsFree b es [] = Unit {0}
   IsFree b es (m ∷ ms) = (set_eq (place limit es m.0) b ≡ true → is_gauge shape ≡ false) × IsFree b (take es m) ms
 
-  taken-after : (es ms : Points) (b : AttrSet) (v : ℤ) → held es b ≡ true → AreShaped shape es → AreShaped shape ms → IsFree b es ms
+  taken-after : (es ms : Points) (b : AttrSet) (v : ℤ) → has_point es b ≡ true → AreShaped shape es → AreShaped shape ms → IsFree b es ms
       → taken (add_under shape es b v) ms ≡ add_under shape (taken es ms) b v
   taken-after es [] b v h s k f = refl
   taken-after es (m ∷ ms) b v h s k f =
       ap (λ l. taken l ms) (take-after es b v m h s k.0 f.0)
-      ∙ taken-after (take es m) ms b v (held-still es b (place limit es m.0) _ h) (shaped-take es m s k.0) k.1 f.1
+      ∙ taken-after (take es m) ms b v (has_point-still es b (place limit es m.0) _ h) (shaped-take es m s k.0) k.1 f.1
 
   -- a set goes where it went, once others are taken in
-  taken-stays : (es ms : Points) (a : AttrSet) → has_set (keys_of ms) a ≡ false → held es (place limit es a) ≡ true → place limit (taken es ms) a ≡ place limit es a
+  taken-stays : (es ms : Points) (a : AttrSet) → has_set (keys_of ms) a ≡ false → has_point es (place limit es a) ≡ true → place limit (taken es ms) a ≡ place limit es a
   taken-stays es [] a n h = refl
   taken-stays es (m ∷ ms) a n h =
       let o = or-no (set_eq a m.0) (has_set (keys_of ms) a) n in
-      let x = joined (at es (place limit es m.0)) m.1 in
+      let x = payload_of_both (at es (place limit es m.0)) m.1 in
       let stays : place limit (take es m) a ≡ place limit es a = place-stays limit es a m.0 x o.0 h in
-      taken-stays (take es m) ms a o.1 (ap (held (take es m)) stays ∙ held-still es (place limit es a) (place limit es m.0) x h) ∙ stays
+      taken-stays (take es m) ms a o.1 (ap (has_point (take es m)) stays ∙ has_point-still es (place limit es a) (place limit es m.0) x h) ∙ stays
 
   -- none of the points shares its place with another, or the stream is no gauge
   abbrev AreFree : Points → Points → Type 0
@@ -249,16 +249,16 @@ module _ (shape : Shape) (limit : ℕ) where
   take-more es m v s k =
       let b = place limit es m.0 in
       let q = at es b in
-      ap (put es b) (joined-after shape q m.1 v (shaped-at shape es b s) k)
-      ∙ ap (λ p. put es b (more p v)) (sym (at-here shape es b (joined q m.1)))
-      ∙ sym (put-twice es b (joined q m.1) _)
+      ap (put es b) (payload_of_both-after shape q m.1 v (shaped-at shape es b s) k)
+      ∙ ap (λ p. put es b (more p v)) (sym (at-here shape es b (payload_of_both q m.1)))
+      ∙ sym (put-twice es b (payload_of_both q m.1) _)
 
-  held-taken : (es ms : Points) (b : AttrSet) → held es b ≡ true → held (taken es ms) b ≡ true
+  held-taken : (es ms : Points) (b : AttrSet) → has_point es b ≡ true → has_point (taken es ms) b ≡ true
   held-taken es [] b h = h
-  held-taken es (m ∷ ms) b h = held-taken (take es m) ms b (held-still es b (place limit es m.0) _ h)
+  held-taken es (m ∷ ms) b h = held-taken (take es m) ms b (has_point-still es b (place limit es m.0) _ h)
 
   -- one more value in a point that is taken in
-  taken-more : (es ms : Points) (a : AttrSet) (v : ℤ) → AreOnce (keys_of ms) → held ms a ≡ true → AreShaped shape es → AreShaped shape ms → AreFree es ms
+  taken-more : (es ms : Points) (a : AttrSet) (v : ℤ) → AreOnce (keys_of ms) → has_point ms a ≡ true → AreShaped shape es → AreShaped shape ms → AreFree es ms
       → taken es (add_under shape ms a v) ≡ add_under shape (taken es ms) (place limit (taken es ms) a) v
   taken-more es [] a v o h s k f = absurd (true≢false (sym h))
   taken-more es (m ∷ ms) a v o h s k f = by (λ l t. taken-more (take es m) ms a v o.1 l t k.1 f.1) (set_eq a m.0) refl
@@ -271,9 +271,9 @@ module _ (shape : Shape) (limit : ℕ) where
 
       there : a ≡ m.0 → place limit (taken (take es m) ms) a ≡ b
       there e =
-          let now : place limit (take es m) m.0 ≡ b = place-now limit es m.0 (joined q m.1) in
+          let now : place limit (take es m) m.0 ≡ b = place-now limit es m.0 (payload_of_both q m.1) in
           ap (λ c. place limit (taken (take es m) ms) c) e
-          ∙ taken-stays (take es m) ms m.0 o.0 (ap (held (take es m)) now ∙ held-here es b (joined q m.1))
+          ∙ taken-stays (take es m) ms m.0 o.0 (ap (has_point (take es m)) now ∙ has_point-here es b (payload_of_both q m.1))
           ∙ now
 
       at-first : set_eq a m.0 ≡ true → at (m ∷ ms) a ≡ m.1
@@ -282,36 +282,36 @@ module _ (shape : Shape) (limit : ℕ) where
       at-later : set_eq a m.0 ≡ false → at (m ∷ ms) a ≡ at ms a
       at-later t = ap (λ o. option_map_or (λ t. t) o (payload_of shape [])) (look-no m ms a t)
 
-      by : (held ms a ≡ true → AreShaped shape (take es m) → taken (take es m) (add_under shape ms a v) ≡ add_under shape (taken (take es m) ms) (place limit (taken (take es m) ms) a) v)
+      by : (has_point ms a ≡ true → AreShaped shape (take es m) → taken (take es m) (add_under shape ms a v) ≡ add_under shape (taken (take es m) ms) (place limit (taken (take es m) ms) a) v)
           → (t : Bool) → set_eq a m.0 ≡ t → taken es (add_under shape (m ∷ ms) a v) ≡ add_under shape (taken (take es m) ms) (place limit (taken (take es m) ms) a) v
       by go true t =
           ap (taken es) (put-yes m ms a (more (at (m ∷ ms) a) v) t ∙ ap (λ p. (m.0, more p v) ∷ ms) (at-first t))
           ∙ ap (λ l. taken l ms) (take-more es m v s k.0)
-          ∙ taken-after (take es m) ms b v (held-here es b (joined q m.1)) (shaped-take es m s k.0) k.1 f.0
+          ∙ taken-after (take es m) ms b v (has_point-here es b (payload_of_both q m.1)) (shaped-take es m s k.0) k.1 f.0
           ∙ ap (λ c. add_under shape (taken (take es m) ms) c v) (sym (there (same a m.0 t)))
       by go false t =
           ap (taken es) (put-no m ms a (more (at (m ∷ ms) a) v) t ∙ ap (λ p. m ∷ put ms a (more p v)) (at-later t))
           ∙ go (ap is_some (sym (look-no m ms a t)) ∙ h) (shaped-take es m s k.0)
 
   -- a point of one value
-  taken-first : (es ms : Points) (a : AttrSet) (v : ℤ) → held ms a ≡ false → AreShaped shape (taken es ms)
+  taken-first : (es ms : Points) (a : AttrSet) (v : ℤ) → has_point ms a ≡ false → AreShaped shape (taken es ms)
       → taken es (add_under shape ms a v) ≡ step shape limit (taken es ms) a v
   taken-first es ms a v h s =
       let p = more (payload_of shape []) v in
       let b = place limit (taken es ms) a in
       ap (taken es) (sym (add_under-new shape ms a v (none (lookup (set_eq a) ms) h)))
       ∙ fold_push take es ms (a, p)
-      ∙ ap (put (taken es ms) b) (joined-first shape (at (taken es ms) b) v (shaped-at shape (taken es ms) b s))
+      ∙ ap (put (taken es ms) b) (payload_of_both-first shape (at (taken es ms) b) v (shaped-at shape (taken es ms) b s))
 
   -- so one more value is a step, as it is of the whole
   taken-step : (es : Points) (ys : Arrivals) (a : AttrSet) (v : ℤ) → AreShaped shape es → AreFree es (points_of shape ys)
       → taken es (points_of shape (ys ++ (a, v) ∷ [])) ≡ step shape limit (taken es (points_of shape ys)) a v
-  taken-step es ys a v s f = ap (taken es) (points-push shape ys a v) ∙ by (held ms a) refl
+  taken-step es ys a v s f = ap (taken es) (points-push shape ys a v) ∙ by (has_point ms a) refl
     where
       ms : Points
       ms = points_of shape ys
 
-      by : (t : Bool) → held ms a ≡ t → taken es (add_under shape ms a v) ≡ step shape limit (taken es ms) a v
+      by : (t : Bool) → has_point ms a ≡ t → taken es (add_under shape ms a v) ≡ step shape limit (taken es ms) a v
       by true h = taken-more es ms a v (once-points shape ys) h s (shaped-points shape ys) f
       by false h = taken-first es ms a v h (shaped-taken es ms s (shaped-points shape ys))
 
@@ -319,9 +319,9 @@ module _ (shape : Shape) (limit : ℕ) where
   first-stays : (es : Points) (m : AttrSet × Payload) (ms : Points) → has_set (keys_of ms) m.0 ≡ false → place limit (taken (take es m) ms) m.0 ≡ place limit es m.0
   first-stays es m ms n =
       let b = place limit es m.0 in
-      let x = joined (at es b) m.1 in
+      let x = payload_of_both (at es b) m.1 in
       let now : place limit (take es m) m.0 ≡ b = place-now limit es m.0 x in
-      taken-stays (take es m) ms m.0 n (ap (held (take es m)) now ∙ held-here es b x) ∙ now
+      taken-stays (take es m) ms m.0 n (ap (has_point (take es m)) now ∙ has_point-here es b x) ∙ now
 
   abbrev spots : Points → Points → List AttrSet
   spots es [] = []
@@ -355,14 +355,14 @@ module _ (shape : Shape) (limit : ℕ) where
   are-free g es (m ∷ ms) = (all-free g (place limit es m.0) (take es m) ms, are-free g (take es m) ms)
 
   -- where the sets go, by the points of all values
-  spots-gone : (xs ys : Arrivals) → taken (series_of shape limit xs) (points_of shape ys) ≡ series_of shape limit (xs ++ ys) → spots (series_of shape limit xs) (points_of shape ys) ≡ gone limit xs ys
+  spots-gone : (xs ys : Arrivals) → taken (series_of shape limit xs) (points_of shape ys) ≡ series_of shape limit (xs ++ ys) → spots (series_of shape limit xs) (points_of shape ys) ≡ sets_gone_to limit xs ys
   spots-gone xs ys h =
       spots-last (series_of shape limit xs) (points_of shape ys) (once-points shape ys)
       ∙ ap (λ l. map (place limit l) (keys_of (points_of shape ys))) h
       ∙ ap (map (place limit (series_of shape limit (xs ++ ys)))) (keys-with (λ a. payload_of shape (values_of ys a)) (distinct (sets_of ys)))
       ∙ same-map (distinct (sets_of ys)) _ _ (λ a k. place-goes shape limit (xs ++ ys) a (has-later xs ys a (sym (has-distinct (sets_of ys) a) ∙ k)))
 
-  free : (xs ys : Arrivals) → (is_gauge shape ≡ true → AreOnce (gone limit xs ys)) → taken (series_of shape limit xs) (points_of shape ys) ≡ series_of shape limit (xs ++ ys)
+  free : (xs ys : Arrivals) → (is_gauge shape ≡ true → AreOnce (sets_gone_to limit xs ys)) → taken (series_of shape limit xs) (points_of shape ys) ≡ series_of shape limit (xs ++ ys)
       → AreFree (series_of shape limit xs) (points_of shape ys)
   free xs ys o h = by (is_gauge shape) refl
     where
@@ -370,17 +370,17 @@ module _ (shape : Shape) (limit : ℕ) where
       by true g = once-free (series_of shape limit xs) (points_of shape ys) (subst AreOnce (sym (spots-gone xs ys h)) (o g))
       by false g = are-free g (series_of shape limit xs) (points_of shape ys)
 
-  pub all-taken : (xs ys : Arrivals) → (is_gauge shape ≡ true → AreOnce (gone limit xs ys)) → taken (series_of shape limit xs) (points_of shape ys) ≡ series_of shape limit (xs ++ ys)
-  all-taken xs = grown (λ ys. (is_gauge shape ≡ true → AreOnce (gone limit xs ys)) → taken (series_of shape limit xs) (points_of shape ys) ≡ series_of shape limit (xs ++ ys)) (λ o. ap (series_of shape limit) (sym (append-nil xs))) push
+  pub all-taken : (xs ys : Arrivals) → (is_gauge shape ≡ true → AreOnce (sets_gone_to limit xs ys)) → taken (series_of shape limit xs) (points_of shape ys) ≡ series_of shape limit (xs ++ ys)
+  all-taken xs = grown (λ ys. (is_gauge shape ≡ true → AreOnce (sets_gone_to limit xs ys)) → taken (series_of shape limit xs) (points_of shape ys) ≡ series_of shape limit (xs ++ ys)) (λ o. ap (series_of shape limit) (sym (append-nil xs))) push
     where
       es : Points
       es = series_of shape limit xs
 
-      push : (ys : Arrivals) (y : AttrSet × ℤ) → ((is_gauge shape ≡ true → AreOnce (gone limit xs ys)) → taken es (points_of shape ys) ≡ series_of shape limit (xs ++ ys))
-          → (is_gauge shape ≡ true → AreOnce (gone limit xs (ys ++ y ∷ []))) → taken es (points_of shape (ys ++ y ∷ [])) ≡ series_of shape limit (xs ++ (ys ++ y ∷ []))
+      push : (ys : Arrivals) (y : AttrSet × ℤ) → ((is_gauge shape ≡ true → AreOnce (sets_gone_to limit xs ys)) → taken es (points_of shape ys) ≡ series_of shape limit (xs ++ ys))
+          → (is_gauge shape ≡ true → AreOnce (sets_gone_to limit xs (ys ++ y ∷ []))) → taken es (points_of shape (ys ++ y ∷ [])) ≡ series_of shape limit (xs ++ (ys ++ y ∷ []))
       push ys y h o =
-          let before : is_gauge shape ≡ true → AreOnce (gone limit xs ys) = λ g. once-before limit xs ys y (o g) in
-          taken-step es ys y.0 y.1 (shaped-points shape (placed limit xs)) (free xs ys before (h before))
+          let before : is_gauge shape ≡ true → AreOnce (sets_gone_to limit xs ys) = λ g. once-before limit xs ys y (o g) in
+          taken-step es ys y.0 y.1 (shaped-points shape (placements limit xs)) (free xs ys before (h before))
           ∙ ap (λ l. step shape limit l y.0 y.1) (h before)
           ∙ sym (series-push shape limit (xs ++ ys) y.0 y.1)
           ∙ ap (series_of shape limit) (append_assoc xs ys (y ∷ []))
@@ -410,9 +410,9 @@ module _ (shape : Shape) (limit : ℕ) where
   alike-take : (es ms : Points) (e : AttrSet × Payload) → AreAlike es ms → AreAlike (take es e) (take ms e)
   alike-take es ms e a =
       let d = place limit es e.0 in
-      alike-trans (take es e) (put ms d (joined (at ms d) e.1)) (take ms e)
-      (alike-put es ms d (joined (at es d) e.1) (joined (at ms d) e.1) a (λ o. ap (λ p. joined p e.1) (alike-at es ms d a o)))
-      (alike-same (put ms d (joined (at ms d) e.1)) (take ms e) (ap (λ c. put ms c (joined (at ms c) e.1)) (place-keys limit es ms e.0 a.0)))
+      alike-trans (take es e) (put ms d (payload_of_both (at ms d) e.1)) (take ms e)
+      (alike-put es ms d (payload_of_both (at es d) e.1) (payload_of_both (at ms d) e.1) a (λ o. ap (λ p. payload_of_both p e.1) (alike-at es ms d a o)))
+      (alike-same (put ms d (payload_of_both (at ms d) e.1)) (take ms e) (ap (λ c. put ms c (payload_of_both (at ms c) e.1)) (place-keys limit es ms e.0 a.0)))
 
   alike-taken : (es ms ns : Points) → AreAlike es ms → AreAlike (taken es ns) (taken ms ns)
   alike-taken es ms [] a = a
@@ -426,9 +426,9 @@ module _ (shape : Shape) (limit : ℕ) where
       (alike-same (add_under shape ms d v) (step shape limit ms a v) (ap (λ c. add_under shape ms c v) (place-keys limit es ms a h.0)))
 
   -- one more value in an overflow point that is there
-  alike-over : (es : Points) (b : AttrSet) (x : Payload) → held es b ≡ true → is_own b ≡ false → AreAlike (put es b x) es
+  alike-over : (es : Points) (b : AttrSet) (x : Payload) → has_point es b ≡ true → is_own b ≡ false → AreAlike (put es b x) es
   alike-over es b x h n = (
-    keys-insert es b x ∙ ap (λ t. if t then keys_of es else keys_of es ++ b ∷ []) (sym (held-keys es b) ∙ h),
+    keys-insert es b x ∙ ap (λ t. if t then keys_of es else keys_of es ++ b ∷ []) (sym (has_point-keys es b) ∙ h),
     λ c o. lookup-other es c b x (off c o (set_eq c b) refl),
   )
     where
@@ -460,7 +460,7 @@ module _ (shape : Shape) (limit : ℕ) where
       by (Full _ _ e) = absurd (true≢false (sym o ∙ ap is_own e ∙ ap not (itself overflow_set)))
 
   -- one more value in a point that is taken in, of a gauge too
-  alike-more : (es ms : Points) (a : AttrSet) (v : ℤ) → AreOnce (keys_of ms) → held ms a ≡ true → AreShaped shape es → AreShaped shape ms
+  alike-more : (es ms : Points) (a : AttrSet) (v : ℤ) → AreOnce (keys_of ms) → has_point ms a ≡ true → AreShaped shape es → AreShaped shape ms
       → AreAlike (taken es (add_under shape ms a v)) (add_under shape (taken es ms) (place limit (taken es ms) a) v)
   alike-more es [] a v o h s k = absurd (true≢false (sym h))
   alike-more es (m ∷ ms) a v o h s k = by (λ l t. alike-more (take es m) ms a v o.1 l t k.1) (set_eq a m.0) refl
@@ -488,15 +488,15 @@ module _ (shape : Shape) (limit : ℕ) where
       first true i =
           let e : b ≡ m.0 = place-own es m.0 i in
           alike-same (taken (add_under shape (take es m) b v) ms) (add_under shape all b v)
-          (taken-after (take es m) ms b v (held-here es b (joined q m.1)) (shaped-take es m s k.0) k.1
+          (taken-after (take es m) ms b v (has_point-here es b (payload_of_both q m.1)) (shaped-take es m s k.0) k.1
           (free-own b (take es m) ms i (ap (has_set (keys_of ms)) e ∙ o.0)))
       first false i =
-          let h = held-here es b (joined q m.1) in
+          let h = has_point-here es b (payload_of_both q m.1) in
           alike-trans (taken (add_under shape (take es m) b v) ms) all (add_under shape all b v)
           (alike-taken (add_under shape (take es m) b v) (take es m) ms (alike-over (take es m) b _ h i))
           (alike-turned (add_under shape all b v) all (alike-over all b _ (held-taken (take es m) ms b h) i))
 
-      by : (held ms a ≡ true → AreShaped shape (take es m) → AreAlike (taken (take es m) (add_under shape ms a v)) (add_under shape all (place limit all a) v))
+      by : (has_point ms a ≡ true → AreShaped shape (take es m) → AreAlike (taken (take es m) (add_under shape ms a v)) (add_under shape all (place limit all a) v))
           → (t : Bool) → set_eq a m.0 ≡ t → AreAlike (taken es (add_under shape (m ∷ ms) a v)) (add_under shape all (place limit all a) v)
       by go true t =
           alike-trans (taken es (add_under shape (m ∷ ms) a v)) (taken (add_under shape (take es m) b v) ms) (add_under shape all (place limit all a) v)
@@ -513,12 +513,12 @@ module _ (shape : Shape) (limit : ℕ) where
       → AreAlike (taken es (points_of shape (ys ++ (a, v) ∷ []))) (step shape limit (taken es (points_of shape ys)) a v)
   alike-push es ys a v s =
       alike-trans (taken es (points_of shape (ys ++ (a, v) ∷ []))) (taken es (add_under shape ms a v)) (step shape limit (taken es ms) a v)
-      (alike-same _ _ (ap (taken es) (points-push shape ys a v))) (by (held ms a) refl)
+      (alike-same _ _ (ap (taken es) (points-push shape ys a v))) (by (has_point ms a) refl)
     where
       ms : Points
       ms = points_of shape ys
 
-      by : (t : Bool) → held ms a ≡ t → AreAlike (taken es (add_under shape ms a v)) (step shape limit (taken es ms) a v)
+      by : (t : Bool) → has_point ms a ≡ t → AreAlike (taken es (add_under shape ms a v)) (step shape limit (taken es ms) a v)
       by true h = alike-more es ms a v (once-points shape ys) h s (shaped-points shape ys)
       by false h = alike-same _ _ (taken-first es ms a v h (shaped-taken es ms s (shaped-points shape ys)))
 
@@ -531,7 +531,7 @@ module _ (shape : Shape) (limit : ℕ) where
       push : (ys : Arrivals) (y : AttrSet × ℤ) → AreAlike (taken es (points_of shape ys)) (series_of shape limit (xs ++ ys)) → AreAlike (taken es (points_of shape (ys ++ y ∷ []))) (series_of shape limit (xs ++ (ys ++ y ∷ [])))
       push ys y h =
           alike-trans (taken es (points_of shape (ys ++ y ∷ []))) (step shape limit (taken es (points_of shape ys)) y.0 y.1) (series_of shape limit (xs ++ (ys ++ y ∷ [])))
-          (alike-push es ys y.0 y.1 (shaped-points shape (placed limit xs)))
+          (alike-push es ys y.0 y.1 (shaped-points shape (placements limit xs)))
           (alike-trans (step shape limit (taken es (points_of shape ys)) y.0 y.1) (step shape limit (series_of shape limit (xs ++ ys)) y.0 y.1) (series_of shape limit (xs ++ (ys ++ y ∷ [])))
           (alike-step (taken es (points_of shape ys)) (series_of shape limit (xs ++ ys)) y.0 y.1 h)
           (alike-same _ _ (sym (series-push shape limit (xs ++ ys) y.0 y.1) ∙ ap (series_of shape limit) (append_assoc xs ys (y ∷ [])))))
@@ -543,11 +543,11 @@ places-keys limit es ms (d ∷ ds) [] k l = cc
 places-keys limit es ms (d ∷ ds) (n ∷ ns) k l =
     let e : d.0 ≡ n.0 = cc in
     let r : keys_of ds ≡ keys_of ns = cc in
-    λ i. (ap (place limit es) e ∙ place-keys limit es ms n.0 k) i ∷ places-keys limit (merged limit es d) (merged limit ms n) ds ns (merged-keys limit es ms d n k e) r i
+    λ i. (ap (place limit es) e ∙ place-keys limit es ms n.0 k) i ∷ places-keys limit (with_point limit es d) (with_point limit ms n) ds ns (with_point-keys limit es ms d n k e) r i
 
 pub places_kept : PlacesAreKept
 places_kept shape limit xs ys =
-    places-keys limit (series_of shape limit xs) (series_of sums limit xs) (points_of shape ys) (points_of sums ys) (same-keys (placed limit xs)) (same-keys ys)
+    places-keys limit (series_of shape limit xs) (series_of sums limit xs) (points_of shape ys) (points_of sums ys) (same-keys (placements limit xs)) (same-keys ys)
     ∙ spots-places sums limit (series_of sums limit xs) (points_of sums ys) (shaped-points sums ys)
     ∙ spots-gone sums limit xs ys (all-taken sums limit xs ys (λ g. absurd (true≢false (sym g))))
   where

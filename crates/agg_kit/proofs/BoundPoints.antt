@@ -10,23 +10,23 @@ use Rattle.point_kit.specs.declared.shape.Shape.{Shape}
 use Rattle.plan_kit.specs.Plans.{Planned, AreFeeds, feeds_of}
 use Rattle.plan_kit.specs.declared.feed.Feed.{Feed}
 use Rattle.agg_kit.specs.BoundPoints.{place_of, AreAt, AreKnown, IsBound, MayGive}
-use Rattle.agg_kit.specs.Entries.{Entry, Arrivals, brought}
+use Rattle.agg_kit.specs.Entries.{Entry, Arrivals, arrivals_from}
 use Rattle.agg_kit.specs.Feeding.{set_eq, has_set, add_once}
 use Rattle.agg_kit.specs.Feeds.{entries_of, series_at, shape_at, first_out}
 use Rattle.agg_kit.specs.FreshPoints.{payload_with, add_at}
 use Rattle.agg_kit.specs.Kept.{whole_feed}
 use Rattle.agg_kit.specs.Measuring.{points_after, series_after, after_measure}
 use Rattle.agg_kit.specs.Payloads.{is_out_of_range}
-use Rattle.agg_kit.specs.Steps.{Stored, held, place, payload_after, step}
+use Rattle.agg_kit.specs.Steps.{Stored, has_point, place, payload_after, step}
 use Rattle.agg_kit.specs.Tallies.{Points, Tallied}
 use Rattle.agg_kit.specs.declared.bound.Bound.{Bound}
-use Rattle.agg_kit.specs.declared.fault.MeasureFault.TheVariants as faults
+use Rattle.agg_kit.specs.declared.fault.TallyFault.TheVariants as faults
 use Rattle.agg_kit.proofs.Distinct.{same}
 use Rattle.agg_kit.proofs.Inserts.{put, place-now, place-stays}
 use Rattle.agg_kit.proofs.Records.{entries-read, first-here, first-kept, leaves-here, read, read-there}
 use Rattle.agg_kit.proofs.Rounds.{at-after}
 use Rattle.agg_kit.proofs.Sound.{keys-insert}
-use Rattle.agg_kit.proofs.Steps.{valued, within-held, add_under-held, range-there}
+use Rattle.agg_kit.proofs.Steps.{valued, within-has_point, add_under-has_point, range-there}
 
 -- what is known is there where something is known
 pub known-at : (p : Planned) (fs : List Feed) (is : List ℕ) (a : AttrSet) (ss : List Points) → AreKnown p fs is a ss → 0 < length is → AreAt p fs is a ss
@@ -63,10 +63,10 @@ module _ (p : Planned) (a : AttrSet) (v : ℤ) (ss : List Stored) (feed : Feed) 
   here = sym (ap (λ (es : Points). place_of p.limit es (kept feed.keep a)) (entries-read ss feed.stream old fit.0 was)) ∙ stand.0
 
   pub here-within : i < length old.entries
-  here-within = within-held old.entries set i here
+  here-within = within-has_point old.entries set i here
 
   pub here-added : add_at (shape_at p feed.stream) old.entries i v ≡ step (shape_at p feed.stream) p.limit old.entries (kept feed.keep a) v
-  here-added = add_under-held (shape_at p feed.stream) old.entries set v i here
+  here-added = add_under-has_point (shape_at p feed.stream) old.entries set v i here
 
   pub here-out : is_out_of_range (payload_with (shape_at p feed.stream) old.entries i v) ≡ true → first_out p a v (entries_of ss) all ≡ Some (faults.Overflow feed.stream)
   here-out out =
@@ -129,10 +129,10 @@ position-once q xs x i h = by (has_set xs x)
     by true = h
     by false = position-push q xs x i h
 
-pub held-at : (es : Points) (b : AttrSet) (i : ℕ) → position (set_eq b) (keys_of es) ≡ Some i → held es b ≡ true
-held-at es b i h = ap is_some ((Found-position (set_eq b) es i h).value ∙ (valued es i (within-held es b i h)).1)
+pub has_point-at : (es : Points) (b : AttrSet) (i : ℕ) → position (set_eq b) (keys_of es) ≡ Some i → has_point es b ≡ true
+has_point-at es b i h = ap is_some ((Found-position (set_eq b) es i h).value ∙ (valued es i (within-has_point es b i h)).1)
 
-pub place-kept : (limit : ℕ) (es : Points) (b a : AttrSet) (w : Payload) → held es (place limit es b) ≡ true → place limit (put es (place limit es a) w) b ≡ place limit es b
+pub place-kept : (limit : ℕ) (es : Points) (b a : AttrSet) (w : Payload) → has_point es (place limit es b) ≡ true → place limit (put es (place limit es a) w) b ≡ place limit es b
 place-kept limit es b a w there = by (set_eq b a) refl
   where
     by : (t : Bool) → set_eq b a ≡ t → place limit (put es (place limit es a) w) b ≡ place limit es b
@@ -143,7 +143,7 @@ pub step-stays : (shape : Shape) (limit : ℕ) (es : Points) (a b : AttrSet) (v 
 step-stays shape limit es a b v i h =
     let c = place limit es b in
     let w = payload_after shape es (place limit es a) v in
-    ap (λ (x : AttrSet). position (set_eq x) (keys_of (put es (place limit es a) w))) (place-kept limit es b a w (held-at es c i h))
+    ap (λ (x : AttrSet). position (set_eq x) (keys_of (put es (place limit es a) w))) (place-kept limit es b a w (has_point-at es c i h))
     ∙ ap (position (set_eq c)) (keys-insert es (place limit es a) w)
     ∙ position-once (set_eq c) (keys_of es) (place limit es a) i h
 
@@ -157,7 +157,7 @@ at-stays t e [] (i ∷ is) a fits h = h
 at-stays t e (f ∷ fs) [] a fits h = h
 at-stays t e (f ∷ fs) (i ∷ is) a fits h = (
   ap (λ (es : Points). place_of t.plan.limit es (kept f.keep a)) (at-after t e f.stream fits.0)
-      ∙ all-stay (shape_at t.plan f.stream) t.plan.limit (series_at t.series f.stream) (brought f.stream (feeds_of t.plan e.instrument) e.attrs e.value) (kept f.keep a) i h.0,
+      ∙ all-stay (shape_at t.plan f.stream) t.plan.limit (series_at t.series f.stream) (arrivals_from f.stream (feeds_of t.plan e.instrument) e.attrs e.value) (kept f.keep a) i h.0,
   at-stays t e fs is a fits.2 h.1,
 )
 

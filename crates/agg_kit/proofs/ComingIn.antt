@@ -12,70 +12,70 @@ use Rattle.point_kit.specs.declared.payload.Payload.{Payload}
 use Rattle.point_kit.specs.declared.shape.Shape.{Shape}
 use Rattle.point_kit.specs.declared.stream.Stream.{Stream}
 use Rattle.agg_kit.specs.Absorbing.{count_at, total_at, payload_joined, AreAllSound, AreBothSound, Knows, TakesSound, Walks}
-use Rattle.agg_kit.specs.Absorbs.{joined, met, merged, absorb, fits}
+use Rattle.agg_kit.specs.Absorbs.{payload_of_both, point_with, with_point, absorb, fits}
 use Rattle.agg_kit.specs.Feeding.{set_eq, has_set, overflow_set, is_own}
 use Rattle.agg_kit.specs.Feeds.{entries_of}
 use Rattle.agg_kit.specs.Joins.{total_of, is_past}
 use Rattle.agg_kit.specs.Parts.{count_of}
 use Rattle.agg_kit.specs.Payloads.{payload_of, is_out_of_range}
-use Rattle.agg_kit.specs.Recorders.{absorbed}
+use Rattle.agg_kit.specs.Recorders.{series_with}
 use Rattle.agg_kit.specs.Sound.{IsSound, AreSound, AreOnce, AllSound}
-use Rattle.agg_kit.specs.Steps.{Stored, own_count, held, place}
+use Rattle.agg_kit.specs.Steps.{Stored, own_count, has_point, place}
 use Rattle.agg_kit.specs.Tallies.{Points}
 use Rattle.agg_kit.specs.declared.absorbing.Walk.{Walk}
-use Rattle.agg_kit.specs.declared.joining.Extent.{Extent}
+use Rattle.agg_kit.specs.declared.joining.Amount.{Amount}
 use Rattle.agg_kit.proofs.Copies.{take-push}
 use Rattle.agg_kit.proofs.Distinct.{or-no, itself, turn, once-add}
-use Rattle.agg_kit.proofs.Inserts.{put, lookup-here, lookup-other, held-here, held-still, count-held, Way, There, Room, Full, way}
-use Rattle.agg_kit.proofs.JoinedParts.{past-is, total-joined, count-joined, sound-joined}
+use Rattle.agg_kit.proofs.Inserts.{put, lookup-here, lookup-other, has_point-here, has_point-still, count-has_point, Way, There, Room, Full, way}
+use Rattle.agg_kit.proofs.JoinedParts.{past-is, total-payload_of_both, count-payload_of_both, sound-payload_of_both}
 use Rattle.agg_kit.proofs.Records.{sound-length}
 use Rattle.agg_kit.proofs.Rounds.{got}
 use Rattle.agg_kit.proofs.Sound.{sound-insert, sound-lookup, keys-insert}
-use Rattle.agg_kit.proofs.Steps.{none, own_count-push, place-held, place-room, place-full, valued, within-held}
+use Rattle.agg_kit.proofs.Steps.{none, own_count-push, place-has_point, place-room, place-full, valued, within-has_point}
 
 -- ---- what stays sound
 
 at-lookup : (shape : Shape) (es : Points) (b : AttrSet) (q : Payload) → AreSound shape es → lookup (set_eq b) es ≡ Some q → IsSound shape q
 at-lookup shape es b q s e = subst (IsSound shape) (ap (λ o. option_map_or (λ (t : Payload). t) o (payload_of shape [])) e) (sound-lookup shape es b s)
 
-sound-met : (shape : Shape) (es : Points) (b : AttrSet) (p : Payload) → AreSound shape es → IsSound shape p → IsSound shape (met es b p)
-sound-met shape es b p s t = by (lookup (set_eq b) es) refl
+sound-point_with : (shape : Shape) (es : Points) (b : AttrSet) (p : Payload) → AreSound shape es → IsSound shape p → IsSound shape (point_with es b p)
+sound-point_with shape es b p s t = by (lookup (set_eq b) es) refl
   where
-    by : (o : Option Payload) → lookup (set_eq b) es ≡ o → IsSound shape (option_map_or (λ q. joined q p) o p)
+    by : (o : Option Payload) → lookup (set_eq b) es ≡ o → IsSound shape (option_map_or (λ q. payload_of_both q p) o p)
     by None e = t
-    by (Some q) e = sound-joined shape q p (at-lookup shape es b q s e) t
+    by (Some q) e = sound-payload_of_both shape q p (at-lookup shape es b q s e) t
 
-pub sound-merged : (shape : Shape) (limit : ℕ) (es : Points) (e : AttrSet × Payload) → AreSound shape es → IsSound shape e.1 → AreSound shape (merged limit es e)
-sound-merged shape limit es e s t = sound-insert shape es (place limit es e.0) (met es (place limit es e.0) e.1) s (sound-met shape es (place limit es e.0) e.1 s t)
+pub sound-with_point : (shape : Shape) (limit : ℕ) (es : Points) (e : AttrSet × Payload) → AreSound shape es → IsSound shape e.1 → AreSound shape (with_point limit es e)
+sound-with_point shape limit es e s t = sound-insert shape es (place limit es e.0) (point_with es (place limit es e.0) e.1) s (sound-point_with shape es (place limit es e.0) e.1 s t)
 
 pub sound-absorb : (shape : Shape) (limit : ℕ) (es ms : Points) → AreSound shape es → AreSound shape ms → AreSound shape (absorb limit es ms)
 sound-absorb shape limit es [] s t = s
-sound-absorb shape limit es (e ∷ ms) s t = sound-absorb shape limit (merged limit es e) ms (sound-merged shape limit es e s t.0) t.1
+sound-absorb shape limit es (e ∷ ms) s t = sound-absorb shape limit (with_point limit es e) ms (sound-with_point shape limit es e s t.0) t.1
 
 once-absorb : (limit : ℕ) (es ms : Points) → AreOnce (keys_of es) → AreOnce (keys_of (absorb limit es ms))
 once-absorb limit es [] o = o
 once-absorb limit es (e ∷ ms) o =
     let b = place limit es e.0 in
-    once-absorb limit (merged limit es e) ms (subst AreOnce (sym (keys-insert es b (met es b e.1))) (once-add (keys_of es) b o))
+    once-absorb limit (with_point limit es e) ms (subst AreOnce (sym (keys-insert es b (point_with es b e.1))) (once-add (keys_of es) b o))
 
-pub all-absorbed : (limit : ℕ) (ss : List Stream) (ess mss : List Points) → AllSound ss ess → AllSound ss mss → AllSound ss (absorbed limit ess mss)
-all-absorbed limit [] [] mss s t = tt
-all-absorbed limit [] (es ∷ ess) mss s t = absurd s
-all-absorbed limit (x ∷ ss) [] mss s t = absurd s
-all-absorbed limit (x ∷ ss) (es ∷ ess) [] s t = absurd t
-all-absorbed limit (x ∷ ss) (es ∷ ess) (ms ∷ mss) s t = (sound-absorb x.shape limit es ms s.0 t.0, once-absorb limit es ms s.1, all-absorbed limit ss ess mss s.2 t.2)
+pub all-series_with : (limit : ℕ) (ss : List Stream) (ess mss : List Points) → AllSound ss ess → AllSound ss mss → AllSound ss (series_with limit ess mss)
+all-series_with limit [] [] mss s t = tt
+all-series_with limit [] (es ∷ ess) mss s t = absurd s
+all-series_with limit (x ∷ ss) [] mss s t = absurd s
+all-series_with limit (x ∷ ss) (es ∷ ess) [] s t = absurd t
+all-series_with limit (x ∷ ss) (es ∷ ess) (ms ∷ mss) s t = (sound-absorb x.shape limit es ms s.0 t.0, once-absorb limit es ms s.1, all-series_with limit ss ess mss s.2 t.2)
 
 -- ---- one point more
 
-pub absorb-push : (limit : ℕ) (es ms : Points) (e : AttrSet × Payload) → absorb limit es (ms ++ e ∷ []) ≡ merged limit (absorb limit es ms) e
-absorb-push limit es ms e = fold_push (merged limit) es ms e
+pub absorb-push : (limit : ℕ) (es ms : Points) (e : AttrSet × Payload) → absorb limit es (ms ++ e ∷ []) ≡ with_point limit (absorb limit es ms) e
+absorb-push limit es ms e = fold_push (with_point limit) es ms e
 
 -- a set of its own that is not among the later ones keeps what it had
 pub untouched : (limit : ℕ) (es ms : Points) (a : AttrSet) → is_own a ≡ true → has_set (keys_of ms) a ≡ false → lookup (set_eq a) (absorb limit es ms) ≡ lookup (set_eq a) es
 untouched limit es [] a o n = refl
 untouched limit es (e ∷ ms) a o n =
     let k = or-no (set_eq a e.0) (has_set (keys_of ms) a) n in
-    untouched limit (merged limit es e) ms a o k.1 ∙ lookup-other es a (place limit es e.0) (met es (place limit es e.0) e.1) (apart k.0 (way limit es e.0))
+    untouched limit (with_point limit es e) ms a o k.1 ∙ lookup-other es a (place limit es e.0) (point_with es (place limit es e.0) e.1) (apart k.0 (way limit es e.0))
   where
     not-over : (b : Bool) → not b ≡ true → b ≡ false
     not-over true h = absurd (true≢false (sym h))
@@ -86,11 +86,11 @@ untouched limit es (e ∷ ms) a o n =
     apart k (Room h l at) = ap (set_eq a) at ∙ k
     apart k (Full h l at) = ap (set_eq a) at ∙ not-over (set_eq a overflow_set) o
 
--- ---- the extent of a point that a later one comes to
+-- ---- the amount of a point that a later one comes to
 
-past-met : (shape : Shape) (es : Points) (b : AttrSet) (p : Payload) → AreSound shape es → IsSound shape p
-    → (total_of (met es b p) ≡ total_at es b +ℤ total_of p) × (count_of (met es b p) ≡ count_at es b + count_of p)
-past-met shape es b p s t = by (lookup (set_eq b) es) refl
+past-point_with : (shape : Shape) (es : Points) (b : AttrSet) (p : Payload) → AreSound shape es → IsSound shape p
+    → (total_of (point_with es b p) ≡ total_at es b +ℤ total_of p) × (count_of (point_with es b p) ≡ count_at es b + count_of p)
+past-point_with shape es b p s t = by (lookup (set_eq b) es) refl
   where
     zero-plus : (n : ℤ) → n ≡ pos 0 +ℤ n
     zero-plus n = omega (arith, ints)
@@ -99,30 +99,30 @@ past-met shape es b p s t = by (lookup (set_eq b) es) refl
     none-plus n = omega arith
 
     by : (o : Option Payload) → lookup (set_eq b) es ≡ o
-        → (total_of (option_map_or (λ q. joined q p) o p) ≡ option_map_or total_of o (pos 0) +ℤ total_of p) × (count_of (option_map_or (λ q. joined q p) o p) ≡ option_map_or count_of o 0 + count_of p)
+        → (total_of (option_map_or (λ q. payload_of_both q p) o p) ≡ option_map_or total_of o (pos 0) +ℤ total_of p) × (count_of (option_map_or (λ q. payload_of_both q p) o p) ≡ option_map_or count_of o 0 + count_of p)
     by None e = (zero-plus (total_of p), none-plus (count_of p))
-    by (Some q) e = let u = at-lookup shape es b q s e in (total-joined shape q p u t, count-joined shape q p u t)
+    by (Some q) e = let u = at-lookup shape es b q s e in (total-payload_of_both shape q p u t, count-payload_of_both shape q p u t)
 
-pub out-met : (shape : Shape) (es : Points) (b : AttrSet) (p : Payload) → AreSound shape es → IsSound shape p
-    → is_out_of_range (met es b p) ≡ is_past (total_at es b +ℤ total_of p) (count_at es b + count_of p)
-out-met shape es b p s t = past-is (met es b p) ∙ (λ i. let x = past-met shape es b p s t in is_past (x.0 i) (x.1 i))
+pub out-point_with : (shape : Shape) (es : Points) (b : AttrSet) (p : Payload) → AreSound shape es → IsSound shape p
+    → is_out_of_range (point_with es b p) ≡ is_past (total_at es b +ℤ total_of p) (count_at es b + count_of p)
+out-point_with shape es b p s t = past-is (point_with es b p) ∙ (λ i. let x = past-point_with shape es b p s t in is_past (x.0 i) (x.1 i))
 
 -- ---- how many sets have their own point
 
-count-put-new : (es : Points) (b : AttrSet) (x : Payload) → held es b ≡ false → own_count (put es b x) ≡ own_count es + cond (is_own b) 1 0
+count-put-new : (es : Points) (b : AttrSet) (x : Payload) → has_point es b ≡ false → own_count (put es b x) ≡ own_count es + cond (is_own b) 1 0
 count-put-new es b x h = ap own_count (insert_entry-absent set_eq b x es (absent_from_lookup (set_eq b) es (none (lookup (set_eq b) es) h))) ∙ own_count-push es b x
 
 over-not-own : is_own overflow_set ≡ false
 over-not-own = ap not (itself overflow_set)
 
 count-over : (es : Points) (x : Payload) → own_count (put es overflow_set x) ≡ own_count es
-count-over es x = by (held es overflow_set) refl
+count-over es x = by (has_point es overflow_set) refl
   where
     plus-none : (n : ℕ) → n + 0 ≡ n
     plus-none n = omega arith
 
-    by : (b : Bool) → held es overflow_set ≡ b → own_count (put es overflow_set x) ≡ own_count es
-    by true h = count-held es overflow_set x h
+    by : (b : Bool) → has_point es overflow_set ≡ b → own_count (put es overflow_set x) ≡ own_count es
+    by true h = count-has_point es overflow_set x h
     by false h = count-put-new es overflow_set x h ∙ ap (λ b. own_count es + cond b 1 0) over-not-own ∙ plus-none (own_count es)
 
 own-apart : (a : AttrSet) → is_own a ≡ true → set_eq overflow_set a ≡ false
@@ -136,89 +136,96 @@ own-apart a o = turn a overflow_set (by (set_eq a overflow_set) o)
 
 module _ (w n : Walk) (es : Points) (limit : ℕ) (a : AttrSet) (p : Payload) (k : Knows w es) where
   -- a set of its own that is there
-  pub knows-there : is_own a ≡ true → held es a ≡ true → n ≡ w → Knows n (merged limit es (a, p))
+  pub knows-there : is_own a ≡ true → has_point es a ≡ true → n ≡ w → Knows n (with_point limit es (a, p))
   knows-there o h e =
       let b = place limit es a in
-      let at : b ≡ a = place-held limit es a h in
-      let x = met es b p in
+      let at : b ≡ a = place-has_point limit es a h in
+      let x = point_with es b p in
       let over : lookup (set_eq overflow_set) (put es b x) ≡ lookup (set_eq overflow_set) es = lookup-other es overflow_set b x (ap (set_eq overflow_set) at ∙ own-apart a o) in
       record {
-        own = ap (λ (v : Walk). v.own) e ∙ k.own ∙ sym (count-held es b x (ap (held es) at ∙ h));
+        own = ap (λ (v : Walk). v.own) e ∙ k.own ∙ sym (count-has_point es b x (ap (has_point es) at ∙ h));
         count = ap (λ (v : Walk). v.over.count) e ∙ k.count ∙ sym (ap (λ o. option_map_or count_of o 0) over);
         sum = ap (λ (v : Walk). v.over.sum) e ∙ k.sum ∙ sym (ap (λ o. option_map_or total_of o (pos 0)) over);
       }
 
   -- one that is new, and that there is room for
-  pub knows-new : is_own a ≡ true → held es a ≡ false → own_count es < limit → n.own ≡ w.own + 1 → n.over ≡ w.over → Knows n (merged limit es (a, p))
+  pub knows-new : is_own a ≡ true → has_point es a ≡ false → own_count es < limit → n.own ≡ w.own + 1 → n.over ≡ w.over → Knows n (with_point limit es (a, p))
   knows-new o h l e f =
       let b = place limit es a in
       let at : b ≡ a = place-room limit es a h l in
-      let x = met es b p in
+      let x = point_with es b p in
       let over : lookup (set_eq overflow_set) (put es b x) ≡ lookup (set_eq overflow_set) es = lookup-other es overflow_set b x (ap (set_eq overflow_set) at ∙ own-apart a o) in
       record {
-        own = e ∙ ap (λ m. m + 1) k.own ∙ sym (count-put-new es b x (ap (held es) at ∙ h) ∙ ap (λ (c : AttrSet). own_count es + cond (is_own c) 1 0) at ∙ ap (λ t. own_count es + cond t 1 0) o);
-        count = ap (λ (v : Extent). v.count) f ∙ k.count ∙ sym (ap (λ o. option_map_or count_of o 0) over);
-        sum = ap (λ (v : Extent). v.sum) f ∙ k.sum ∙ sym (ap (λ o. option_map_or total_of o (pos 0)) over);
+        own = e ∙ ap (λ m. m + 1) k.own ∙ sym (count-put-new es b x (ap (has_point es) at ∙ h) ∙ ap (λ (c : AttrSet). own_count es + cond (is_own c) 1 0) at ∙ ap (λ t. own_count es + cond t 1 0) o);
+        count = ap (λ (v : Amount). v.count) f ∙ k.count ∙ sym (ap (λ o. option_map_or count_of o 0) over);
+        sum = ap (λ (v : Amount). v.sum) f ∙ k.sum ∙ sym (ap (λ o. option_map_or total_of o (pos 0)) over);
       }
 
   -- one that goes to the overflow set
   pub knows-over : (shape : Shape) → AreSound shape es → IsSound shape p → place limit es a ≡ overflow_set
-      → n.own ≡ w.own → n.over.count ≡ w.over.count + count_of p → n.over.sum ≡ w.over.sum +ℤ total_of p → Knows n (merged limit es (a, p))
+      → n.own ≡ w.own → n.over.count ≡ w.over.count + count_of p → n.over.sum ≡ w.over.sum +ℤ total_of p → Knows n (with_point limit es (a, p))
   knows-over shape s t at e c f =
       let b = place limit es a in
-      let x = met es b p in
-      let put-there : put es b x ≡ put es overflow_set (met es overflow_set p) = ap (λ (b : AttrSet). put es b (met es b p)) at in
-      let here : lookup (set_eq overflow_set) (put es b x) ≡ Some (met es overflow_set p) = ap (lookup (set_eq overflow_set)) put-there ∙ lookup-here es overflow_set (met es overflow_set p) in
-      let extent = past-met shape es overflow_set p s t in
+      let x = point_with es b p in
+      let put-there : put es b x ≡ put es overflow_set (point_with es overflow_set p) = ap (λ (b : AttrSet). put es b (point_with es b p)) at in
+      let here : lookup (set_eq overflow_set) (put es b x) ≡ Some (point_with es overflow_set p) = ap (lookup (set_eq overflow_set)) put-there ∙ lookup-here es overflow_set (point_with es overflow_set p) in
+      let amount = past-point_with shape es overflow_set p s t in
       record {
-        own = e ∙ k.own ∙ sym (ap own_count put-there ∙ count-over es (met es overflow_set p));
-        count = c ∙ ap (λ m. m + count_of p) k.count ∙ sym (ap (λ o. option_map_or count_of o 0) here ∙ extent.1);
-        sum = f ∙ ap (λ m. m +ℤ total_of p) k.sum ∙ sym (ap (λ o. option_map_or total_of o (pos 0)) here ∙ extent.0);
+        own = e ∙ k.own ∙ sym (ap own_count put-there ∙ count-over es (point_with es overflow_set p));
+        count = c ∙ ap (λ m. m + count_of p) k.count ∙ sym (ap (λ o. option_map_or count_of o 0) here ∙ amount.1);
+        sum = f ∙ ap (λ m. m +ℤ total_of p) k.sum ∙ sym (ap (λ o. option_map_or total_of o (pos 0)) here ∙ amount.0);
       }
 
--- ---- whether a point stays in range, by the extents that the walk reads
+-- ---- whether a point stays in range, by the amounts that the walk reads
 
-module _ (w : Walk) (before es : Points) (limit : ℕ) (a : AttrSet) (p : Payload) (k : Walks w before es a) (sound : TakesSound es p) (m : Extent) (mc : m.count ≡ count_of p) (ms : m.sum ≡ total_of p) where
-  pub held-before : is_own a ≡ true → held es a ≡ held before a
-  held-before o = ap is_some (k.1 o)
+-- a point that comes in, what the walk knows before it, and its amount
+pub record ComesIn (w : Walk) (before es : Points) (a : AttrSet) (p : Payload) : Type 0 where
+  pub walks : Walks w before es a
+  pub sound : TakesSound es p
+  pub amount : Amount
+  pub count : amount.count ≡ count_of p
+  pub sum : amount.sum ≡ total_of p
 
-  pub own-fits : (x : Extent) (b : Bool) → is_own a ≡ true → place limit es a ≡ a → x.count ≡ count_at before a → x.sum ≡ total_at before a → is_past (x.sum +ℤ m.sum) (x.count + m.count) ≡ b
-      → is_out_of_range (met es (place limit es a) p) ≡ b
-  own-fits x b o at xc xs told =
-      let c : count_at es (place limit es a) ≡ x.count = ap (count_at es) at ∙ ap (λ o. option_map_or count_of o 0) (k.1 o) ∙ sym xc in
-      let s : total_at es (place limit es a) ≡ x.sum = ap (total_at es) at ∙ ap (λ o. option_map_or total_of o (pos 0)) (k.1 o) ∙ sym xs in
-      out-met sound.0 es (place limit es a) p sound.1 sound.2 ∙ (λ i. is_past (s i +ℤ sym ms i) (c i + sym mc i)) ∙ told
+module _ {w : Walk} {before es : Points} {a : AttrSet} {p : Payload} (c : ComesIn w before es a p) (limit : ℕ) where
+  out-joined : (n : ℕ) (x : ℤ) (b : Bool) → count_at es (place limit es a) ≡ n → total_at es (place limit es a) ≡ x → is_past (x +ℤ c.amount.sum) (n + c.amount.count) ≡ b → is_out_of_range (point_with es (place limit es a) p) ≡ b
+  out-joined n x b count sum told = out-point_with c.sound.0 es (place limit es a) p c.sound.1 c.sound.2 ∙ (λ i. is_past (sum i +ℤ sym c.sum i) (count i + sym c.count i)) ∙ told
 
-  pub over-fits : (b : Bool) → place limit es a ≡ overflow_set → is_past (w.over.sum +ℤ m.sum) (w.over.count + m.count) ≡ b → is_out_of_range (met es (place limit es a) p) ≡ b
-  over-fits b at told =
-      let c : count_at es (place limit es a) ≡ w.over.count = ap (count_at es) at ∙ sym k.0.count in
-      let s : total_at es (place limit es a) ≡ w.over.sum = ap (total_at es) at ∙ sym k.0.sum in
-      out-met sound.0 es (place limit es a) p sound.1 sound.2 ∙ (λ i. is_past (s i +ℤ sym ms i) (c i + sym mc i)) ∙ told
+  -- a set of its own has the point that it had before the walk
+  pub held-before : (inside : Points) (has b : Bool) → is_own a ≡ true → inside ≡ before → has ≡ has_point inside a → has ≡ b → has_point es a ≡ b
+  held-before inside has b own view is h = ap is_some (c.walks.1 own) ∙ sym (ap (λ (x : Points). has_point x a) view) ∙ sym is ∙ h
+
+  pub own-fits : (x : Amount) (b : Bool) → is_own a ≡ true → place limit es a ≡ a → x.count ≡ count_at before a → x.sum ≡ total_at before a → is_past (x.sum +ℤ c.amount.sum) (x.count + c.amount.count) ≡ b
+      → is_out_of_range (point_with es (place limit es a) p) ≡ b
+  own-fits x b own at count sum =
+      out-joined x.count x.sum b (ap (count_at es) at ∙ ap (λ o. option_map_or count_of o 0) (c.walks.1 own) ∙ sym count) (ap (total_at es) at ∙ ap (λ o. option_map_or total_of o (pos 0)) (c.walks.1 own) ∙ sym sum)
+
+  pub over-fits : (b : Bool) → place limit es a ≡ overflow_set → is_past (w.over.sum +ℤ c.amount.sum) (w.over.count + c.amount.count) ≡ b → is_out_of_range (point_with es (place limit es a) p) ≡ b
+  over-fits b at = out-joined w.over.count w.over.sum b (ap (count_at es) at ∙ sym c.walks.0.count) (ap (total_at es) at ∙ sym c.walks.0.sum)
 
 -- ---- one point as it is put there
 
-pub met-there : (es : Points) (b : AttrSet) (p : Payload) (i : ℕ) → position (set_eq b) (keys_of es) ≡ Some i → payload_joined es i p ≡ met es b p
-met-there es b p i at =
-    let t = valued es i (within-held es b i at) in
-    ap (λ q. joined q p) (got (values_of es) i t.0 p t.1) ∙ sym (ap (λ o. option_map_or (λ q. joined q p) o p) ((Found-position (set_eq b) es i at).value ∙ t.1))
+pub point_with-there : (es : Points) (b : AttrSet) (p : Payload) (i : ℕ) → position (set_eq b) (keys_of es) ≡ Some i → payload_joined es i p ≡ point_with es b p
+point_with-there es b p i at =
+    let t = valued es i (within-has_point es b i at) in
+    ap (λ q. payload_of_both q p) (got (values_of es) i t.0 p t.1) ∙ sym (ap (λ o. option_map_or (λ q. payload_of_both q p) o p) ((Found-position (set_eq b) es i at).value ∙ t.1))
 
 pub put-there : (es : Points) (b : AttrSet) (x : Payload) (i : ℕ) → position (set_eq b) (keys_of es) ≡ Some i → set_value_at es i x ≡ put es b x
 put-there es b x i at =
     let f : Found (set_eq b) es i = Found-position (set_eq b) es i at in
     sym (insert_entry-first set_eq b x es i f.first)
 
-pub new-merged : (limit : ℕ) (es : Points) (a k : AttrSet) (p : Payload) → lookup (set_eq (place limit es a)) es ≡ None → k ≡ place limit es a → es ++ (k, p) ∷ [] ≡ merged limit es (a, p)
-new-merged limit es a k p gone at =
+pub new-with_point : (limit : ℕ) (es : Points) (a k : AttrSet) (p : Payload) → lookup (set_eq (place limit es a)) es ≡ None → k ≡ place limit es a → es ++ (k, p) ∷ [] ≡ with_point limit es (a, p)
+new-with_point limit es a k p gone at =
     let b = place limit es a in
     ap (λ (c : AttrSet). es ++ (c, p) ∷ []) at
     ∙ sym (insert_entry-absent set_eq b p es (absent_from_lookup (set_eq b) es gone))
-    ∙ ap (λ x. put es b x) (sym (ap (λ o. option_map_or (λ q. joined q p) o p) gone))
+    ∙ ap (λ x. put es b x) (sym (ap (λ o. option_map_or (λ q. payload_of_both q p) o p) gone))
 
-pub lacks-before : (limit : ℕ) (es ns : Points) (a : AttrSet) (p : Payload) → ns ≡ merged limit es (a, p) → held ns overflow_set ≡ false → held es overflow_set ≡ false
-lacks-before limit es ns a p e n = by (held es overflow_set) refl
+pub lacks-before : (limit : ℕ) (es ns : Points) (a : AttrSet) (p : Payload) → ns ≡ with_point limit es (a, p) → has_point ns overflow_set ≡ false → has_point es overflow_set ≡ false
+lacks-before limit es ns a p e n = by (has_point es overflow_set) refl
   where
-    by : (b : Bool) → held es overflow_set ≡ b → b ≡ false
-    by true h = absurd (true≢false (sym (held-still es overflow_set (place limit es a) (met es (place limit es a) p) h) ∙ ap (λ (es : Points). held es overflow_set) (sym e) ∙ n))
+    by : (b : Bool) → has_point es overflow_set ≡ b → b ≡ false
+    by true h = absurd (true≢false (sym (has_point-still es overflow_set (place limit es a) (point_with es (place limit es a) p) h) ∙ ap (λ (es : Points). has_point es overflow_set) (sym e) ∙ n))
     by false h = refl
 
 pub not-less : (n limit : ℕ) → (n < limit → ⊥) → limit ≤ n
@@ -230,14 +237,14 @@ not-less n limit f = by (nat_lt n limit) refl
 
 -- a set without a point goes to the overflow set, once there is no room
 pub over-place : (limit : ℕ) (es : Points) (a : AttrSet) → lookup (set_eq (place limit es a)) es ≡ None → (own_count es < limit → ⊥) → place limit es a ≡ overflow_set
-over-place limit es a gone f = by (held es a) refl
+over-place limit es a gone f = by (has_point es a) refl
   where
-    by : (b : Bool) → held es a ≡ b → place limit es a ≡ overflow_set
-    by true h = absurd (true≢false (sym h ∙ ap (held es) (sym (place-held limit es a h)) ∙ ap is_some gone))
+    by : (b : Bool) → has_point es a ≡ b → place limit es a ≡ overflow_set
+    by true h = absurd (true≢false (sym h ∙ ap (has_point es) (sym (place-has_point limit es a h)) ∙ ap is_some gone))
     by false h = place-full limit es a h (not-less (own_count es) limit f)
 
-pub held-over : (limit : ℕ) (es ns : Points) (a : AttrSet) (p : Payload) → ns ≡ merged limit es (a, p) → place limit es a ≡ overflow_set → held ns overflow_set ≡ true
-held-over limit es ns a p e at = ap (λ (es : Points). held es overflow_set) e ∙ ap (held (merged limit es (a, p))) (sym at) ∙ held-here es (place limit es a) (met es (place limit es a) p)
+pub has_point-over : (limit : ℕ) (es ns : Points) (a : AttrSet) (p : Payload) → ns ≡ with_point limit es (a, p) → place limit es a ≡ overflow_set → has_point ns overflow_set ≡ true
+has_point-over limit es ns a p e at = ap (λ (es : Points). has_point es overflow_set) e ∙ ap (has_point (with_point limit es (a, p))) (sym at) ∙ has_point-here es (place limit es a) (point_with es (place limit es a) p)
 
 pub over-own : (a : AttrSet) → a ≡ overflow_set → false ≡ is_own a
 over-own a e = sym (ap is_own e ∙ over-not-own)
@@ -247,25 +254,25 @@ over-own a e = sym (ap is_own e ∙ over-not-own)
 pub popped : (os ns : Points) (e : AttrSet × Payload) → os ≡ ns ++ e ∷ [] → reverse os ≡ e ∷ reverse ns
 popped os ns e h = ap reverse h ∙ reverse-append ns (e ∷ [])
 
-pub fits-first : (limit : ℕ) (es ms more : Points) (e : AttrSet × Payload) → ms ≡ e ∷ more → fits limit es ms ≡ true → is_out_of_range (met es (place limit es e.0) e.1) ≡ false
-fits-first limit es ms more e is h = by (is_out_of_range (met es (place limit es e.0) e.1)) (ap (fits limit es) (sym is) ∙ h)
+pub fits-first : (limit : ℕ) (es ms more : Points) (e : AttrSet × Payload) → ms ≡ e ∷ more → fits limit es ms ≡ true → is_out_of_range (point_with es (place limit es e.0) e.1) ≡ false
+fits-first limit es ms more e is h = by (is_out_of_range (point_with es (place limit es e.0) e.1)) (ap (fits limit es) (sym is) ∙ h)
   where
-    by : (b : Bool) → (not b && fits limit (merged limit es e) more) ≡ true → b ≡ false
+    by : (b : Bool) → (not b && fits limit (with_point limit es e) more) ≡ true → b ≡ false
     by true h = absurd (true≢false (sym h))
     by false h = refl
 
-pub fits-rest : (limit : ℕ) (es ns ms more : Points) (e : AttrSet × Payload) → ms ≡ e ∷ more → ns ≡ merged limit es e → fits limit es ms ≡ true → fits limit ns more ≡ true
+pub fits-rest : (limit : ℕ) (es ns ms more : Points) (e : AttrSet × Payload) → ms ≡ e ∷ more → ns ≡ with_point limit es e → fits limit es ms ≡ true → fits limit ns more ≡ true
 fits-rest limit es ns ms more e is new h =
-    ap (λ (es : Points). fits limit es more) new ∙ by (is_out_of_range (met es (place limit es e.0) e.1)) (ap (fits limit es) (sym is) ∙ h)
+    ap (λ (es : Points). fits limit es more) new ∙ by (is_out_of_range (point_with es (place limit es e.0) e.1)) (ap (fits limit es) (sym is) ∙ h)
   where
-    by : (b : Bool) → (not b && fits limit (merged limit es e) more) ≡ true → fits limit (merged limit es e) more ≡ true
+    by : (b : Bool) → (not b && fits limit (with_point limit es e) more) ≡ true → fits limit (with_point limit es e) more ≡ true
     by true h = absurd (true≢false (sym h))
     by false h = h
 
-pub both-rest : (limit : ℕ) (es ns ms more : Points) (e : AttrSet × Payload) → ms ≡ e ∷ more → ns ≡ merged limit es e → AreBothSound es ms → AreBothSound ns more
+pub both-rest : (limit : ℕ) (es ns ms more : Points) (e : AttrSet × Payload) → ms ≡ e ∷ more → ns ≡ with_point limit es e → AreBothSound es ms → AreBothSound ns more
 both-rest limit es ns ms more e is new s =
     let t : AreSound s.0 (e ∷ more) = subst (AreSound s.0) is s.2 in
-    (s.0, subst (AreSound s.0) (sym new) (sound-merged s.0 limit es e s.1 t.0), t.1)
+    (s.0, subst (AreSound s.0) (sym new) (sound-with_point s.0 limit es e s.1 t.0), t.1)
 
 pub both-first : (es ms more : Points) (e : AttrSet × Payload) → ms ≡ e ∷ more → AreBothSound es ms → TakesSound es e.1
 both-first es ms more e is s =
@@ -330,7 +337,7 @@ module _ (limit : ℕ) (es ms : Points) (i : ℕ) (e : AttrSet × Payload) (ther
           other (x ∷ ms) zero at n = let same : x ≡ e = cc in turn m.0 e.0 (ap (λ (y : AttrSet × Payload). set_eq m.0 y.0) (sym same) ∙ (or-no (set_eq m.0 x.0) (has_set (keys_of ms) m.0) n).0)
           other (x ∷ ms) (suc i) at n = other ms i at (or-no (set_eq m.0 x.0) (has_set (keys_of ms) m.0) n).1
 
-  pub seen-more : absorb limit es (take (i + 1) ms) ≡ merged limit (absorb limit es (take i ms)) e
+  pub seen-more : absorb limit es (take (i + 1) ms) ≡ with_point limit (absorb limit es (take i ms)) e
   seen-more = ap (absorb limit es) taken ∙ absorb-push limit es (take i ms) e
 
   pub walks-there : (w : Walk) → AreOnce (keys_of ms) → Knows w (absorb limit es (take i ms)) → Walks w es (absorb limit es (take i ms)) e.0
@@ -346,19 +353,19 @@ module _ (limit : ℕ) (es ms : Points) (i : ℕ) (e : AttrSet × Payload) (ther
 
   -- the rest stays in range where all does
   pub fits-more : fits limit es ms ≡ fits limit (absorb limit es (take i ms)) (drop i ms)
-      → is_out_of_range (met (absorb limit es (take i ms)) (place limit (absorb limit es (take i ms)) e.0) e.1) ≡ false
+      → is_out_of_range (point_with (absorb limit es (take i ms)) (place limit (absorb limit es (take i ms)) e.0) e.1) ≡ false
       → fits limit es ms ≡ fits limit (absorb limit es (take (i + 1) ms)) (drop (i + 1) ms)
   fits-more h fine =
       h ∙ ap (fits limit (absorb limit es (take i ms))) left
-      ∙ ap (λ b. not b && fits limit (merged limit (absorb limit es (take i ms)) e) (drop (i + 1) ms)) fine
+      ∙ ap (λ b. not b && fits limit (with_point limit (absorb limit es (take i ms)) e) (drop (i + 1) ms)) fine
       ∙ ap (λ (ns : Points). fits limit ns (drop (i + 1) ms)) (sym seen-more)
 
   pub fits-not : fits limit es ms ≡ fits limit (absorb limit es (take i ms)) (drop i ms)
-      → is_out_of_range (met (absorb limit es (take i ms)) (place limit (absorb limit es (take i ms)) e.0) e.1) ≡ true
+      → is_out_of_range (point_with (absorb limit es (take i ms)) (place limit (absorb limit es (take i ms)) e.0) e.1) ≡ true
       → fits limit es ms ≡ false
   fits-not h out =
       h ∙ ap (fits limit (absorb limit es (take i ms))) left
-      ∙ ap (λ b. not b && fits limit (merged limit (absorb limit es (take i ms)) e) (drop (i + 1) ms)) out
+      ∙ ap (λ b. not b && fits limit (with_point limit (absorb limit es (take i ms)) e) (drop (i + 1) ms)) out
 
   pub sound-there : AreBothSound es ms → TakesSound (absorb limit es (take i ms)) e.1
   sound-there s = (s.0, sound-absorb s.0 limit es (take i ms) s.1 (part ms i s.2), at ms i there s.2)
@@ -376,7 +383,7 @@ module _ (limit : ℕ) (es ms : Points) (i : ℕ) (e : AttrSet × Payload) (ther
 
 -- the overflow set goes to itself
 pub place-over : (limit : ℕ) (es : Points) → place limit es overflow_set ≡ overflow_set
-place-over limit es = by (held es overflow_set || nat_lt (own_count es) limit)
+place-over limit es = by (has_point es overflow_set || nat_lt (own_count es) limit)
   where
     by : (b : Bool) → (if b then overflow_set else overflow_set) ≡ overflow_set
     by true = refl

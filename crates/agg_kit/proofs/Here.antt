@@ -12,11 +12,11 @@ use Rattle.agg_kit.specs.Feeds.{entries_of, shape_at, first_out, whole_first, Al
 use Rattle.agg_kit.specs.FreshPoints.{payload_with, add_at}
 use Rattle.agg_kit.specs.Payloads.{is_out_of_range}
 use Rattle.agg_kit.specs.Sound.{AllSound}
-use Rattle.agg_kit.specs.Steps.{Stored, held, place, step}
+use Rattle.agg_kit.specs.Steps.{Stored, has_point, place, step}
 use Rattle.agg_kit.specs.Tallies.{Points}
-use Rattle.agg_kit.specs.declared.fault.MeasureFault.TheVariants as faults
+use Rattle.agg_kit.specs.declared.fault.TallyFault.TheVariants as faults
 use Rattle.agg_kit.proofs.Records.{entries-read, first-here, first-rest, found-at, leaves-here, new-fits, new-gone, same_entries, set-here, unmoved, whole-rest}
-use Rattle.agg_kit.proofs.Steps.{absent, add_under-held, range-there, within-held}
+use Rattle.agg_kit.proofs.Steps.{absent, add_under-has_point, range-there, within-has_point}
 
 -- the first feed of all, whose stream is read as `old`
 module _ (p : Planned) (a : AttrSet) (v : ℤ) (ss : List Stored) (feed : Feed) (rest all : List Feed) (is : all ≡ feed ∷ rest) (feeds : AreFeeds (length ss) all)
@@ -56,7 +56,7 @@ module _ (p : Planned) (a : AttrSet) (v : ℤ) (ss : List Stored) (feed : Feed) 
       pub absent-held : AllHeld p all a (entries_of ss) → ⊥
       absent-held all-held =
           let all' : AllHeld p (feed ∷ rest) a (entries_of ss) = subst (λ (fs : List Feed). AllHeld p fs a (entries_of ss)) is all-held in
-          let here : held old.entries (place p.limit old.entries a) ≡ true = subst (λ (es : Points). held es (place p.limit es a) ≡ true) (entries-read ss feed.stream old fits.0 was) all'.1 in
+          let here : has_point old.entries (place p.limit old.entries a) ≡ true = subst (λ (es : Points). has_point es (place p.limit es a) ≡ true) (entries-read ss feed.stream old fits.0 was) all'.1 in
           let gone' : lookup (set_eq (place p.limit old.entries a)) old.entries ≡ None = subst (λ (k : Keep). lookup (set_eq (place p.limit old.entries (kept k a))) old.entries ≡ None) all'.0 gone in
           new-gone old.entries (place p.limit old.entries a) gone' here
 
@@ -66,10 +66,10 @@ module _ (p : Planned) (a : AttrSet) (v : ℤ) (ss : List Stored) (feed : Feed) 
       at = found-in (Some i) there
 
       pub there-within : i < length old.entries
-      there-within = within-held old.entries reached i at
+      there-within = within-has_point old.entries reached i at
 
       pub there-added : add_at (shape_at p feed.stream) old.entries i v ≡ step (shape_at p feed.stream) p.limit old.entries (kept feed.keep a) v
-      there-added = add_under-held (shape_at p feed.stream) old.entries reached v i at
+      there-added = add_under-has_point (shape_at p feed.stream) old.entries reached v i at
 
       -- it is out of range
       pub there-out : is_out_of_range (payload_with (shape_at p feed.stream) old.entries i v) ≡ true → first_out p a v (entries_of ss) all ≡ Some (faults.Overflow feed.stream)

@@ -9,27 +9,27 @@ use Rattle.point_kit.specs.declared.payload.Payload.{Payload}
 use Rattle.point_kit.specs.declared.payload.Payload.TheVariants as payloads
 use Rattle.point_kit.specs.declared.shape.Shape.{Shape}
 use Rattle.point_kit.specs.declared.shape.Shape.TheVariants as shapes
-use Rattle.agg_kit.specs.Absorbs.{added, spanned, joined}
+use Rattle.agg_kit.specs.Absorbs.{bucket_sums, range_of_both, payload_of_both}
 use Rattle.agg_kit.specs.Joins.{total_of, is_past, counted_by}
-use Rattle.agg_kit.specs.Parts.{count_of, buckets_of, totalled}
+use Rattle.agg_kit.specs.Parts.{count_of, buckets_of, with_total}
 use Rattle.agg_kit.specs.Payloads.{fits_sum, is_out_of_range}
 use Rattle.agg_kit.specs.Sound.{IsSound}
 use Rattle.agg_kit.proofs.Distinct.{or-no}
-use Rattle.agg_kit.proofs.Joins.{length-added}
+use Rattle.agg_kit.proofs.Joins.{length-bucket_sums}
 use Rattle.agg_kit.proofs.Sound.{same_number, number_same, not-below}
 
 -- ---- buckets
 
-sum-added : (bs cs : List ℕ) → length bs ≡ length cs → sum (added bs cs) ≡ sum bs + sum cs
-sum-added [] [] e = refl
-sum-added [] (c ∷ cs) e = absurd (omega (arith, e))
-sum-added (b ∷ bs) [] e = absurd (omega (arith, e))
-sum-added (b ∷ bs) (c ∷ cs) e =
-    let rest : sum (added bs cs) ≡ sum bs + sum cs = sum-added bs cs (omega (arith, e)) in
-    let x : sum ((b + c) ∷ added bs cs) ≡ (b + c) + sum (added bs cs) = sum_by-cons (λ x. x) (b + c) (added bs cs) in
+sum-bucket_sums : (bs cs : List ℕ) → length bs ≡ length cs → sum (bucket_sums bs cs) ≡ sum bs + sum cs
+sum-bucket_sums [] [] e = refl
+sum-bucket_sums [] (c ∷ cs) e = absurd (omega (arith, e))
+sum-bucket_sums (b ∷ bs) [] e = absurd (omega (arith, e))
+sum-bucket_sums (b ∷ bs) (c ∷ cs) e =
+    let rest : sum (bucket_sums bs cs) ≡ sum bs + sum cs = sum-bucket_sums bs cs (omega (arith, e)) in
+    let x : sum ((b + c) ∷ bucket_sums bs cs) ≡ (b + c) + sum (bucket_sums bs cs) = sum_by-cons (λ x. x) (b + c) (bucket_sums bs cs) in
     let y : sum (b ∷ bs) ≡ b + sum bs = sum_by-cons (λ x. x) b bs in
     let z : sum (c ∷ cs) ≡ c + sum cs = sum_by-cons (λ x. x) c cs in
-    let all : (b + c) + sum (added bs cs) ≡ (b + sum bs) + (c + sum cs) = omega arith in
+    let all : (b + c) + sum (bucket_sums bs cs) ≡ (b + sum bs) + (c + sum cs) = omega arith in
     x ∙ all ∙ (λ i. sym y i + sym z i)
 
 below-sum : (bs : List ℕ) (j : ℕ) → get_or bs j 0 ≤ sum bs
@@ -44,27 +44,27 @@ below-sum (b ∷ bs) (suc j) =
     let h : get_or bs j 0 ≤ sum (b ∷ bs) = omega arith in
     h
 
-pub added-nil : (bs : List ℕ) → bs ≡ added bs []
-added-nil [] = refl
-added-nil (b ∷ bs) = refl
+pub bucket_sums-nil : (bs : List ℕ) → bs ≡ bucket_sums bs []
+bucket_sums-nil [] = refl
+bucket_sums-nil (b ∷ bs) = refl
 
 -- one bucket more of both
-pub added-more : (bs cs : List ℕ) (i : ℕ) → length bs ≡ length cs → i < length cs
-    → set (added bs (take i cs)) i (get_or (added bs (take i cs)) i 0 + get_or cs i 0) ≡ added bs (take (i + 1) cs)
-added-more bs [] i e l = absurd (omega (arith, l))
-added-more [] (c ∷ cs) i e l = absurd (omega (arith, e))
-added-more (b ∷ bs) (c ∷ cs) zero e l = ap (λ x. (b + c) ∷ x) (added-nil bs)
-added-more (b ∷ bs) (c ∷ cs) (suc i) e l =
+pub bucket_sums-more : (bs cs : List ℕ) (i : ℕ) → length bs ≡ length cs → i < length cs
+    → set (bucket_sums bs (take i cs)) i (get_or (bucket_sums bs (take i cs)) i 0 + get_or cs i 0) ≡ bucket_sums bs (take (i + 1) cs)
+bucket_sums-more bs [] i e l = absurd (omega (arith, l))
+bucket_sums-more [] (c ∷ cs) i e l = absurd (omega (arith, e))
+bucket_sums-more (b ∷ bs) (c ∷ cs) zero e l = ap (λ x. (b + c) ∷ x) (bucket_sums-nil bs)
+bucket_sums-more (b ∷ bs) (c ∷ cs) (suc i) e l =
     let z : suc i + 1 ≡ suc (i + 1) = omega arith in
-    ap (λ x. (b + c) ∷ x) (added-more bs cs i (omega (arith, e)) (omega (arith, l))) ∙ ap (λ n. added (b ∷ bs) (take n (c ∷ cs))) (sym z)
+    ap (λ x. (b + c) ∷ x) (bucket_sums-more bs cs i (omega (arith, e)) (omega (arith, l))) ∙ ap (λ n. bucket_sums (b ∷ bs) (take n (c ∷ cs))) (sym z)
 
 -- what is there before one more is added
-pub added-before : (bs cs : List ℕ) (i : ℕ) → get_or (added bs (take i cs)) i 0 ≡ get_or bs i 0
-added-before [] cs i = refl
-added-before (b ∷ bs) [] zero = refl
-added-before (b ∷ bs) [] (suc i) = refl
-added-before (b ∷ bs) (c ∷ cs) zero = refl
-added-before (b ∷ bs) (c ∷ cs) (suc i) = added-before bs cs i
+pub bucket_sums-before : (bs cs : List ℕ) (i : ℕ) → get_or (bucket_sums bs (take i cs)) i 0 ≡ get_or bs i 0
+bucket_sums-before [] cs i = refl
+bucket_sums-before (b ∷ bs) [] zero = refl
+bucket_sums-before (b ∷ bs) [] (suc i) = refl
+bucket_sums-before (b ∷ bs) (c ∷ cs) zero = refl
+bucket_sums-before (b ∷ bs) (c ∷ cs) (suc i) = bucket_sums-before bs cs i
 
 -- ---- the range
 
@@ -98,9 +98,9 @@ module _ (shape : Shape) where
         by (shapes.Histogram bounds) (payloads.Gauge k) s t = absurd (true≢false s.shaped)
         by (shapes.Histogram bounds) (payloads.Hist d k cs w) s t = f d k cs w bounds s t
 
-    pub hist-room : (q : Payload) → IsSound shape q → IsSound shape later → is_out_of_range (joined q later) ≡ false
-        → (v : ℤ) (j : ℕ) → get_or (buckets_of (counted_by (totalled q v) c)) j 0 + get_or bs j 0 < 2 ^ 64
-    hist-room = is-hist (λ q. is_out_of_range (joined q later) ≡ false → (v : ℤ) (j : ℕ) → get_or (buckets_of (counted_by (totalled q v) c)) j 0 + get_or bs j 0 < 2 ^ 64)
+    pub hist-room : (q : Payload) → IsSound shape q → IsSound shape later → is_out_of_range (payload_of_both q later) ≡ false
+        → (v : ℤ) (j : ℕ) → get_or (buckets_of (counted_by (with_total q v) c)) j 0 + get_or bs j 0 < 2 ^ 64
+    hist-room = is-hist (λ q. is_out_of_range (payload_of_both q later) ≡ false → (v : ℤ) (j : ℕ) → get_or (buckets_of (counted_by (with_total q v) c)) j 0 + get_or bs j 0 < 2 ^ 64)
         (λ d k cs w bounds s t h v j.
         let a = below-sum cs j in
         let b = below-sum bs j in
@@ -109,40 +109,40 @@ module _ (shape : Shape) where
         let z = below-past (d + c) (or-no (not (fits_sum (k +ℤ n))) (nat_le (2 ^ 64) (d + c)) h).1 in
         omega arith)
 
--- the extent of both
-pub total-joined : (shape : Shape) (q p : Payload) → IsSound shape q → IsSound shape p → total_of (joined q p) ≡ total_of q +ℤ total_of p
-total-joined (shapes.Sum m) (payloads.Sum n) (payloads.Sum k) s t = refl
-total-joined (shapes.Sum m) (payloads.Sum n) (payloads.Gauge k) s t = absurd (true≢false t.shaped)
-total-joined (shapes.Sum m) (payloads.Sum n) (payloads.Hist c k bs r) s t = absurd (true≢false t.shaped)
-total-joined (shapes.Sum m) (payloads.Gauge n) p s t = absurd (true≢false s.shaped)
-total-joined (shapes.Sum m) (payloads.Hist d n cs w) p s t = absurd (true≢false s.shaped)
-total-joined shapes.Gauge (payloads.Sum n) p s t = absurd (true≢false s.shaped)
-total-joined shapes.Gauge (payloads.Gauge n) (payloads.Sum k) s t = absurd (true≢false t.shaped)
-total-joined shapes.Gauge (payloads.Gauge n) (payloads.Gauge k) s t = refl
-total-joined shapes.Gauge (payloads.Gauge n) (payloads.Hist c k bs r) s t = absurd (true≢false t.shaped)
-total-joined shapes.Gauge (payloads.Hist d n cs w) p s t = absurd (true≢false s.shaped)
-total-joined (shapes.Histogram bounds) (payloads.Sum n) p s t = absurd (true≢false s.shaped)
-total-joined (shapes.Histogram bounds) (payloads.Gauge n) p s t = absurd (true≢false s.shaped)
-total-joined (shapes.Histogram bounds) (payloads.Hist d n cs w) (payloads.Sum k) s t = absurd (true≢false t.shaped)
-total-joined (shapes.Histogram bounds) (payloads.Hist d n cs w) (payloads.Gauge k) s t = absurd (true≢false t.shaped)
-total-joined (shapes.Histogram bounds) (payloads.Hist d n cs w) (payloads.Hist c k bs r) s t = refl
+-- the amount of both
+pub total-payload_of_both : (shape : Shape) (q p : Payload) → IsSound shape q → IsSound shape p → total_of (payload_of_both q p) ≡ total_of q +ℤ total_of p
+total-payload_of_both (shapes.Sum m) (payloads.Sum n) (payloads.Sum k) s t = refl
+total-payload_of_both (shapes.Sum m) (payloads.Sum n) (payloads.Gauge k) s t = absurd (true≢false t.shaped)
+total-payload_of_both (shapes.Sum m) (payloads.Sum n) (payloads.Hist c k bs r) s t = absurd (true≢false t.shaped)
+total-payload_of_both (shapes.Sum m) (payloads.Gauge n) p s t = absurd (true≢false s.shaped)
+total-payload_of_both (shapes.Sum m) (payloads.Hist d n cs w) p s t = absurd (true≢false s.shaped)
+total-payload_of_both shapes.Gauge (payloads.Sum n) p s t = absurd (true≢false s.shaped)
+total-payload_of_both shapes.Gauge (payloads.Gauge n) (payloads.Sum k) s t = absurd (true≢false t.shaped)
+total-payload_of_both shapes.Gauge (payloads.Gauge n) (payloads.Gauge k) s t = refl
+total-payload_of_both shapes.Gauge (payloads.Gauge n) (payloads.Hist c k bs r) s t = absurd (true≢false t.shaped)
+total-payload_of_both shapes.Gauge (payloads.Hist d n cs w) p s t = absurd (true≢false s.shaped)
+total-payload_of_both (shapes.Histogram bounds) (payloads.Sum n) p s t = absurd (true≢false s.shaped)
+total-payload_of_both (shapes.Histogram bounds) (payloads.Gauge n) p s t = absurd (true≢false s.shaped)
+total-payload_of_both (shapes.Histogram bounds) (payloads.Hist d n cs w) (payloads.Sum k) s t = absurd (true≢false t.shaped)
+total-payload_of_both (shapes.Histogram bounds) (payloads.Hist d n cs w) (payloads.Gauge k) s t = absurd (true≢false t.shaped)
+total-payload_of_both (shapes.Histogram bounds) (payloads.Hist d n cs w) (payloads.Hist c k bs r) s t = refl
 
-pub count-joined : (shape : Shape) (q p : Payload) → IsSound shape q → IsSound shape p → count_of (joined q p) ≡ count_of q + count_of p
-count-joined (shapes.Sum m) (payloads.Sum n) (payloads.Sum k) s t = refl
-count-joined (shapes.Sum m) (payloads.Sum n) (payloads.Gauge k) s t = absurd (true≢false t.shaped)
-count-joined (shapes.Sum m) (payloads.Sum n) (payloads.Hist c k bs r) s t = absurd (true≢false t.shaped)
-count-joined (shapes.Sum m) (payloads.Gauge n) p s t = absurd (true≢false s.shaped)
-count-joined (shapes.Sum m) (payloads.Hist d n cs w) p s t = absurd (true≢false s.shaped)
-count-joined shapes.Gauge (payloads.Sum n) p s t = absurd (true≢false s.shaped)
-count-joined shapes.Gauge (payloads.Gauge n) (payloads.Sum k) s t = absurd (true≢false t.shaped)
-count-joined shapes.Gauge (payloads.Gauge n) (payloads.Gauge k) s t = refl
-count-joined shapes.Gauge (payloads.Gauge n) (payloads.Hist c k bs r) s t = absurd (true≢false t.shaped)
-count-joined shapes.Gauge (payloads.Hist d n cs w) p s t = absurd (true≢false s.shaped)
-count-joined (shapes.Histogram bounds) (payloads.Sum n) p s t = absurd (true≢false s.shaped)
-count-joined (shapes.Histogram bounds) (payloads.Gauge n) p s t = absurd (true≢false s.shaped)
-count-joined (shapes.Histogram bounds) (payloads.Hist d n cs w) (payloads.Sum k) s t = absurd (true≢false t.shaped)
-count-joined (shapes.Histogram bounds) (payloads.Hist d n cs w) (payloads.Gauge k) s t = absurd (true≢false t.shaped)
-count-joined (shapes.Histogram bounds) (payloads.Hist d n cs w) (payloads.Hist c k bs r) s t = refl
+pub count-payload_of_both : (shape : Shape) (q p : Payload) → IsSound shape q → IsSound shape p → count_of (payload_of_both q p) ≡ count_of q + count_of p
+count-payload_of_both (shapes.Sum m) (payloads.Sum n) (payloads.Sum k) s t = refl
+count-payload_of_both (shapes.Sum m) (payloads.Sum n) (payloads.Gauge k) s t = absurd (true≢false t.shaped)
+count-payload_of_both (shapes.Sum m) (payloads.Sum n) (payloads.Hist c k bs r) s t = absurd (true≢false t.shaped)
+count-payload_of_both (shapes.Sum m) (payloads.Gauge n) p s t = absurd (true≢false s.shaped)
+count-payload_of_both (shapes.Sum m) (payloads.Hist d n cs w) p s t = absurd (true≢false s.shaped)
+count-payload_of_both shapes.Gauge (payloads.Sum n) p s t = absurd (true≢false s.shaped)
+count-payload_of_both shapes.Gauge (payloads.Gauge n) (payloads.Sum k) s t = absurd (true≢false t.shaped)
+count-payload_of_both shapes.Gauge (payloads.Gauge n) (payloads.Gauge k) s t = refl
+count-payload_of_both shapes.Gauge (payloads.Gauge n) (payloads.Hist c k bs r) s t = absurd (true≢false t.shaped)
+count-payload_of_both shapes.Gauge (payloads.Hist d n cs w) p s t = absurd (true≢false s.shaped)
+count-payload_of_both (shapes.Histogram bounds) (payloads.Sum n) p s t = absurd (true≢false s.shaped)
+count-payload_of_both (shapes.Histogram bounds) (payloads.Gauge n) p s t = absurd (true≢false s.shaped)
+count-payload_of_both (shapes.Histogram bounds) (payloads.Hist d n cs w) (payloads.Sum k) s t = absurd (true≢false t.shaped)
+count-payload_of_both (shapes.Histogram bounds) (payloads.Hist d n cs w) (payloads.Gauge k) s t = absurd (true≢false t.shaped)
+count-payload_of_both (shapes.Histogram bounds) (payloads.Hist d n cs w) (payloads.Hist c k bs r) s t = refl
 
 -- ---- what an export asks
 
@@ -155,7 +155,7 @@ counted-other d c h = grind (arith, nat_tests)
 still-ranged : (a b x y : ℤ) → int_lt b a ≡ false → int_lt y x ≡ false → int_lt (int_max b y) (int_min a x) ≡ false
 still-ranged a b x y h k = grind (arith, ints)
 
-wide : (d c : ℕ) (k n : ℤ) (cs bs es : List ℕ) (w r : Option (ℤ × ℤ)) → wrong_range (payloads.Hist d k cs w) ≡ false → wrong_range (payloads.Hist c n bs r) ≡ false → wrong_range (payloads.Hist (d + c) (k +ℤ n) es (spanned w r)) ≡ false
+wide : (d c : ℕ) (k n : ℤ) (cs bs es : List ℕ) (w r : Option (ℤ × ℤ)) → wrong_range (payloads.Hist d k cs w) ≡ false → wrong_range (payloads.Hist c n bs r) ≡ false → wrong_range (payloads.Hist (d + c) (k +ℤ n) es (range_of_both w r)) ≡ false
 wide d c k n cs bs es None None h g = refl
 wide d c k n cs bs es None (Some r) h g =
     let o = or-no (c == 0) (int_lt r.1 r.0) g in
@@ -168,32 +168,32 @@ wide d c k n cs bs es (Some w) (Some r) h g =
     let u = or-no (c == 0) (int_lt r.1 r.0) g in
     ap (λ b. b || int_lt (int_max w.1 r.1) (int_min w.0 r.0)) (counted-either d c o.0) ∙ still-ranged w.0 w.1 r.0 r.1 o.1 u.1
 
-pub sound-joined : (shape : Shape) (q p : Payload) → IsSound shape q → IsSound shape p → IsSound shape (joined q p)
-sound-joined (shapes.Sum m) (payloads.Sum n) (payloads.Sum k) s t = record { shaped = refl; bucketed = refl; counted = refl; risen = by m s.risen t.risen; ranged = refl }
+pub sound-payload_of_both : (shape : Shape) (q p : Payload) → IsSound shape q → IsSound shape p → IsSound shape (payload_of_both q p)
+sound-payload_of_both (shapes.Sum m) (payloads.Sum n) (payloads.Sum k) s t = record { shaped = refl; bucketed = refl; counted = refl; risen = by m s.risen t.risen; ranged = refl }
   where
     by : (b : Bool) → (b && int_lt n (pos 0)) ≡ false → (b && int_lt k (pos 0)) ≡ false → (b && int_lt (n +ℤ k) (pos 0)) ≡ false
     by true h g = not-below n k h g
     by false h g = refl
-sound-joined (shapes.Sum m) (payloads.Sum n) (payloads.Gauge k) s t = absurd (true≢false t.shaped)
-sound-joined (shapes.Sum m) (payloads.Sum n) (payloads.Hist c k bs r) s t = absurd (true≢false t.shaped)
-sound-joined (shapes.Sum m) (payloads.Gauge n) p s t = absurd (true≢false s.shaped)
-sound-joined (shapes.Sum m) (payloads.Hist d n cs w) p s t = absurd (true≢false s.shaped)
-sound-joined shapes.Gauge (payloads.Sum n) p s t = absurd (true≢false s.shaped)
-sound-joined shapes.Gauge (payloads.Gauge n) p s t = t
-sound-joined shapes.Gauge (payloads.Hist d n cs w) p s t = absurd (true≢false s.shaped)
-sound-joined (shapes.Histogram bounds) (payloads.Sum n) p s t = absurd (true≢false s.shaped)
-sound-joined (shapes.Histogram bounds) (payloads.Gauge n) p s t = absurd (true≢false s.shaped)
-sound-joined (shapes.Histogram bounds) (payloads.Hist d k cs w) (payloads.Sum n) s t = absurd (true≢false t.shaped)
-sound-joined (shapes.Histogram bounds) (payloads.Hist d k cs w) (payloads.Gauge n) s t = absurd (true≢false t.shaped)
-sound-joined (shapes.Histogram bounds) (payloads.Hist d k cs w) (payloads.Hist c n bs r) s t =
+sound-payload_of_both (shapes.Sum m) (payloads.Sum n) (payloads.Gauge k) s t = absurd (true≢false t.shaped)
+sound-payload_of_both (shapes.Sum m) (payloads.Sum n) (payloads.Hist c k bs r) s t = absurd (true≢false t.shaped)
+sound-payload_of_both (shapes.Sum m) (payloads.Gauge n) p s t = absurd (true≢false s.shaped)
+sound-payload_of_both (shapes.Sum m) (payloads.Hist d n cs w) p s t = absurd (true≢false s.shaped)
+sound-payload_of_both shapes.Gauge (payloads.Sum n) p s t = absurd (true≢false s.shaped)
+sound-payload_of_both shapes.Gauge (payloads.Gauge n) p s t = t
+sound-payload_of_both shapes.Gauge (payloads.Hist d n cs w) p s t = absurd (true≢false s.shaped)
+sound-payload_of_both (shapes.Histogram bounds) (payloads.Sum n) p s t = absurd (true≢false s.shaped)
+sound-payload_of_both (shapes.Histogram bounds) (payloads.Gauge n) p s t = absurd (true≢false s.shaped)
+sound-payload_of_both (shapes.Histogram bounds) (payloads.Hist d k cs w) (payloads.Sum n) s t = absurd (true≢false t.shaped)
+sound-payload_of_both (shapes.Histogram bounds) (payloads.Hist d k cs w) (payloads.Gauge n) s t = absurd (true≢false t.shaped)
+sound-payload_of_both (shapes.Histogram bounds) (payloads.Hist d k cs w) (payloads.Hist c n bs r) s t =
     let long : length cs ≡ length bounds + 1 = same_number (length cs) (length bounds + 1) s.bucketed in
     let wider : length bs ≡ length bounds + 1 = same_number (length bs) (length bounds + 1) t.bucketed in
     let x : sum cs ≡ d = same_number (sum cs) d s.counted in
     let y : sum bs ≡ c = same_number (sum bs) c t.counted in
     record {
       shaped = refl;
-      bucketed = number_same (length (added cs bs)) (length bounds + 1) (length-added cs bs ∙ long);
-      counted = number_same (sum (added cs bs)) (d + c) (sum-added cs bs (long ∙ sym wider) ∙ (λ i. x i + y i));
+      bucketed = number_same (length (bucket_sums cs bs)) (length bounds + 1) (length-bucket_sums cs bs ∙ long);
+      counted = number_same (sum (bucket_sums cs bs)) (d + c) (sum-bucket_sums cs bs (long ∙ sym wider) ∙ (λ i. x i + y i));
       risen = not-below k n s.risen t.risen;
-      ranged = wide d c k n cs bs (added cs bs) w r s.ranged t.ranged;
+      ranged = wide d c k n cs bs (bucket_sums cs bs) w r s.ranged t.ranged;
     }

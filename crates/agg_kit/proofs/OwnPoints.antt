@@ -7,7 +7,7 @@ use Rattle.point_kit.specs.declared.shape.Shape.{Shape}
 use Rattle.plan_kit.specs.Plans.{AreFeeds, feeds_of, rises}
 use Rattle.plan_kit.specs.declared.feed.Feed.{Feed}
 use Rattle.agg_kit.specs.BoundPoints.{place_of, AreAt, IsBound, entry_at}
-use Rattle.agg_kit.specs.Entries.{Entry, Arrivals, brought, entry_of}
+use Rattle.agg_kit.specs.Entries.{Entry, Arrivals, arrivals_from, entry_of}
 use Rattle.agg_kit.specs.Feeding.{set_eq}
 use Rattle.agg_kit.specs.Feeds.{series_at, shape_at}
 use Rattle.agg_kit.specs.Measuring.{points_after, series_after, after_measure}
@@ -15,7 +15,7 @@ use Rattle.agg_kit.specs.Recorders.{keeps_set, keeps_sets, OwnBoundPointsStay}
 use Rattle.agg_kit.specs.Steps.{place, payload_after, step}
 use Rattle.agg_kit.specs.Tallies.{Points, Tallied}
 use Rattle.agg_kit.specs.declared.bound.Bound.{Bound}
-use Rattle.agg_kit.proofs.BoundPoints.{bound_stays, held-at, place-kept, step-stays}
+use Rattle.agg_kit.proofs.BoundPoints.{bound_stays, has_point-at, place-kept, step-stays}
 use Rattle.agg_kit.proofs.Rounds.{at-after}
 
 -- a set whose point is there goes where it went
@@ -23,7 +23,7 @@ place-still : (shape : Shape) (limit : ℕ) (es : Points) (xs : Arrivals) (b : A
 place-still shape limit es [] b i h = refl
 place-still shape limit es (x ∷ xs) b i h =
     place-still shape limit (step shape limit es x.0 x.1) xs b i (step-stays shape limit es x.0 b x.1 i h)
-    ∙ place-kept limit es b x.0 (payload_after shape es (place limit es x.0) x.1) (held-at es (place limit es b) i h)
+    ∙ place-kept limit es b x.0 (payload_after shape es (place limit es x.0) x.1) (has_point-at es (place limit es b) i h)
 
 -- so a recorder keeps the sets whose points are there
 keeps-still : (t : Tallied) (e : Entry) (fs : List Feed) (is : List ℕ) (a : AttrSet) → AreFeeds (length t.plan.streams) fs → AreAt t.plan fs is a t.series
@@ -35,7 +35,7 @@ keeps-still t e (f ∷ fs) (i ∷ is) a fits h =
     let here : keeps_set t.plan a (series_after t e) f ≡ keeps_set t.plan a t.series f =
     ap (λ (es : Points). rises (shape_at t.plan f.stream) && set_eq (place t.plan.limit es k) k) (at-after t e f.stream fits.0)
     ∙ ap (λ (x : AttrSet). rises (shape_at t.plan f.stream) && set_eq x k)
-    (place-still (shape_at t.plan f.stream) t.plan.limit (series_at t.series f.stream) (brought f.stream (feeds_of t.plan e.instrument) e.attrs e.value) k i h.0) in
+    (place-still (shape_at t.plan f.stream) t.plan.limit (series_at t.series f.stream) (arrivals_from f.stream (feeds_of t.plan e.instrument) e.attrs e.value) k i h.0) in
     (λ j. here j && keeps-still t e fs is a fits.2 h.1 j)
 
 pub own_bound_stays : OwnBoundPointsStay

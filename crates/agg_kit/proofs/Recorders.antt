@@ -13,24 +13,24 @@ use Rattle.point_kit.specs.declared.stream.Stream.{Stream}
 use Rattle.plan_kit.specs.Plans.{Planned, Source, AreFeeds, feeds_of, rises, stream_of}
 use Rattle.plan_kit.specs.declared.feed.Feed.{Feed}
 use Rattle.agg_kit.specs.Absorbs.{absorb, places}
-use Rattle.agg_kit.specs.Entries.{Entry, Arrivals, arrivals, brought}
-use Rattle.agg_kit.specs.Feeding.{set_eq, overflow_set, placed, fed}
+use Rattle.agg_kit.specs.Entries.{Entry, Arrivals, arrivals, arrivals_from}
+use Rattle.agg_kit.specs.Feeding.{set_eq, overflow_set, placements, fed}
 use Rattle.agg_kit.specs.Feeds.{entries_of, series_at, shape_at}
 use Rattle.agg_kit.specs.Laws.{is_gauge}
 use Rattle.agg_kit.specs.Measuring.{after_measure, empty_tally, fault_of, points_after, series_after}
-use Rattle.agg_kit.specs.Recorders.{whole_round, Holds, OnlyRises, keeps_set, keeps_sets, keep_sets, record_fault_of, told, absorbed, AreApart, RecordersHold, AbsorbingIsRecording}
+use Rattle.agg_kit.specs.Recorders.{whole_round, Holds, OnlyRises, keeps_set, keeps_sets, keep_sets, record_fault_of, as_record_fault, series_with, AreApart, RecordersHold, AbsorbingIsRecording}
 use Rattle.agg_kit.specs.Rounds.{points_of, round}
 use Rattle.agg_kit.specs.Sound.{AreOnce}
-use Rattle.agg_kit.specs.Steps.{Stored, own_count, held, place, add_under, step}
+use Rattle.agg_kit.specs.Steps.{Stored, own_count, has_point, place, add_under, step}
 use Rattle.agg_kit.specs.Tallies.{Points, Tallied}
-use Rattle.agg_kit.specs.declared.fault.MeasureFault.{MeasureFault}
+use Rattle.agg_kit.specs.declared.fault.TallyFault.{TallyFault}
 use Rattle.agg_kit.specs.declared.fault.RecordFault.TheVariants as record_faults
 use Rattle.agg_kit.proofs.Absorbs.{points_absorbed}
 use Rattle.agg_kit.proofs.Distinct.{same, itself}
 use Rattle.agg_kit.proofs.Points.{points-push}
 use Rattle.agg_kit.proofs.Records.{entries-read}
-use Rattle.agg_kit.proofs.Rounds.{got, there, within, at-enumerated, length-round, round-at, round-none, shape-is, arrivals-append, arrivals-push, brought-none, length-after, at-after}
-use Rattle.agg_kit.proofs.Steps.{place-held, place-room}
+use Rattle.agg_kit.proofs.Rounds.{got, there, within, at-enumerated, length-round, round-at, round-none, shape-is, arrivals-append, arrivals-push, arrivals_from-none, length-after, at-after}
+use Rattle.agg_kit.proofs.Steps.{place-has_point, place-room}
 
 -- ---- the round without a limit
 
@@ -91,14 +91,14 @@ keeps-place p a ss f h =
     (both (rises (shape_at p f.stream)) (set_eq (place p.limit (series_at ss f.stream) (kept f.keep a)) (kept f.keep a)) h).1
 
 -- what a feed with a stream of its own brings to the points of a list
-more-held : (p : Planned) (n m : ℕ) (ss : List Points) (xs : Arrivals) (fs : List Feed) (a : AttrSet) (v : ℤ) → AreFeeds n fs → series_at ss m ≡ points_of (shape_at p m) xs → list_all (keeps_set p a ss) fs ≡ true
-    → points_after (shape_at p m) p.limit (points_of (shape_at p m) xs) (brought m fs a v) ≡ points_of (shape_at p m) (xs ++ brought m fs a v)
-more-held p n m ss xs [] a v fit at keeps = ap (points_of (shape_at p m)) (nil xs)
+more-has_point : (p : Planned) (n m : ℕ) (ss : List Points) (xs : Arrivals) (fs : List Feed) (a : AttrSet) (v : ℤ) → AreFeeds n fs → series_at ss m ≡ points_of (shape_at p m) xs → list_all (keeps_set p a ss) fs ≡ true
+    → points_after (shape_at p m) p.limit (points_of (shape_at p m) xs) (arrivals_from m fs a v) ≡ points_of (shape_at p m) (xs ++ arrivals_from m fs a v)
+more-has_point p n m ss xs [] a v fit at keeps = ap (points_of (shape_at p m)) (nil xs)
   where
     nil : (xs : Arrivals) → xs ≡ xs ++ []
     nil [] = refl
     nil (x ∷ xs) = ap (λ l. x ∷ l) (nil xs)
-more-held p n m ss xs (f ∷ fs) a v fit at keeps = by (f.stream == m) refl (more-held p n m ss xs fs a v fit.2 at (keeps-rest p a ss f fs keeps))
+more-has_point p n m ss xs (f ∷ fs) a v fit at keeps = by (f.stream == m) refl (more-has_point p n m ss xs fs a v fit.2 at (keeps-rest p a ss f fs keeps))
   where
     shape : Shape
     shape = shape_at p m
@@ -112,11 +112,11 @@ more-held p n m ss xs (f ∷ fs) a v fit at keeps = by (f.stream == m) refl (mor
     goes : f.stream ≡ m → place p.limit (points_of shape xs) set ≡ set
     goes e = ap (λ (es : Points). place p.limit es set) (sym (ap (series_at ss) e ∙ at)) ∙ keeps-place p a ss f (keeps-first p a ss f fs keeps)
 
-    by : (b : Bool) → (f.stream == m) ≡ b → points_after shape p.limit (points_of shape xs) (brought m fs a v) ≡ points_of shape (xs ++ brought m fs a v)
+    by : (b : Bool) → (f.stream == m) ≡ b → points_after shape p.limit (points_of shape xs) (arrivals_from m fs a v) ≡ points_of shape (xs ++ arrivals_from m fs a v)
         → points_after shape p.limit (points_of shape xs) (all b) ≡ points_of shape (xs ++ all b)
     by true e rest =
         let is : f.stream ≡ m = (unsigned_Decides f.stream m).0 e in
-        let none : brought m fs a v ≡ [] = subst (λ (k : ℕ). brought k fs a v ≡ []) is (brought-none f.stream fs a v fit.1) in
+        let none : arrivals_from m fs a v ≡ [] = subst (λ (k : ℕ). arrivals_from k fs a v ≡ []) is (arrivals_from-none f.stream fs a v fit.1) in
         subst (λ (l : Arrivals). points_after shape p.limit (step shape p.limit (points_of shape xs) set v) l ≡ points_of shape (xs ++ (set, v) ∷ l)) (sym none)
         (ap (λ (b : AttrSet). add_under shape (points_of shape xs) b v) (goes is) ∙ sym (points-push shape xs set v))
     by false e rest = rest
@@ -124,7 +124,7 @@ more-held p n m ss xs (f ∷ fs) a v fit at keeps = by (f.stream == m) refl (mor
 pub keeps-all : (r : Tallied) (e : Entry) → record_fault_of r e ≡ None → keeps_sets r e ≡ true
 keeps-all r e = by (keeps_sets r e)
   where
-    by : (b : Bool) → (if b then option_map told (fault_of r e) else Some record_faults.Full) ≡ None → b ≡ true
+    by : (b : Bool) → (if b then option_map as_record_fault (fault_of r e) else Some record_faults.Full) ≡ None → b ≡ true
     by true h = refl
     by false h = absurd (cc)
 
@@ -137,20 +137,20 @@ recorders_hold r k e fit holds fine =
     let l' : m < length p.streams = subst (λ (n : ℕ). m < n) (length-after r e) l in
     let at : series_at r.series m ≡ points_of (shape_at p m) (arrivals p m k) = ap (λ ss. series_at ss m) holds ∙ whole-at p k m l' in
     at-after r e m l'
-    ∙ ap (λ (es : Points). points_after (shape_at p m) p.limit es (brought m (feeds_of p e.instrument) e.attrs e.value)) at
-    ∙ more-held p (length p.streams) m r.series (arrivals p m k) (feeds_of p e.instrument) e.attrs e.value fit at (keeps-all r e fine)
+    ∙ ap (λ (es : Points). points_after (shape_at p m) p.limit es (arrivals_from m (feeds_of p e.instrument) e.attrs e.value)) at
+    ∙ more-has_point p (length p.streams) m r.series (arrivals p m k) (feeds_of p e.instrument) e.attrs e.value fit at (keeps-all r e fine)
     ∙ ap (points_of (shape_at p m)) (sym (arrivals-push p m k e))
     ∙ sym (whole-at p (k ++ e ∷ []) m l'))
 
 -- a stream that does not only rise takes none
-falls-none : (p : Planned) (m : ℕ) (ss : List Points) (fs : List Feed) (a : AttrSet) (v : ℤ) → list_all (keeps_set p a ss) fs ≡ true → rises (shape_at p m) ≡ false → brought m fs a v ≡ []
+falls-none : (p : Planned) (m : ℕ) (ss : List Points) (fs : List Feed) (a : AttrSet) (v : ℤ) → list_all (keeps_set p a ss) fs ≡ true → rises (shape_at p m) ≡ false → arrivals_from m fs a v ≡ []
 falls-none p m ss [] a v keeps h = refl
 falls-none p m ss (f ∷ fs) a v keeps h = by (f.stream == m) refl (falls-none p m ss fs a v (keeps-rest p a ss f fs keeps) h)
   where
     all : Bool → Arrivals
     all b = map (λ f. (kept f.keep a, v)) (cond b (f ∷ filter (λ f. f.stream == m) fs) (filter (λ f. f.stream == m) fs))
 
-    by : (b : Bool) → (f.stream == m) ≡ b → brought m fs a v ≡ [] → all b ≡ []
+    by : (b : Bool) → (f.stream == m) ≡ b → arrivals_from m fs a v ≡ [] → all b ≡ []
     by true e rest = absurd (true≢false (sym (keeps-rises p a ss f (keeps-first p a ss f fs keeps)) ∙ ap (λ n. rises (shape_at p n)) ((unsigned_Decides f.stream m).0 e) ∙ h))
     by false e rest = rest
 
@@ -185,22 +185,22 @@ rises-emptied (Err x) t n now was only = subst OnlyRises (sym was) only
 
 -- a set goes to its own point where there is room, and where it has one or is the overflow set
 pub place-roomy : (limit : ℕ) (es : Points) (a : AttrSet) → own_count es < limit → place limit es a ≡ a
-place-roomy limit es a l = by (held es a) refl
+place-roomy limit es a l = by (has_point es a) refl
   where
-    by : (b : Bool) → held es a ≡ b → place limit es a ≡ a
-    by true h = place-held limit es a h
+    by : (b : Bool) → has_point es a ≡ b → place limit es a ≡ a
+    by true h = place-has_point limit es a h
     by false h = place-room limit es a h l
 
-pub place-own : (limit : ℕ) (es : Points) (a : AttrSet) → (held es a || set_eq overflow_set a) ≡ true → place limit es a ≡ a
-place-own limit es a h = by (held es a) refl h
+pub place-own : (limit : ℕ) (es : Points) (a : AttrSet) → (has_point es a || set_eq overflow_set a) ≡ true → place limit es a ≡ a
+place-own limit es a h = by (has_point es a) refl h
   where
     either : (b : Bool) → overflow_set ≡ a → (if b then a else overflow_set) ≡ a
     either true e = refl
     either false e = e
 
-    by : (b : Bool) → held es a ≡ b → (b || set_eq overflow_set a) ≡ true → place limit es a ≡ a
-    by true k o = place-held limit es a k
-    by false k o = either (held es a || nat_lt (own_count es) limit) (same overflow_set a o)
+    by : (b : Bool) → has_point es a ≡ b → (b || set_eq overflow_set a) ≡ true → place limit es a ≡ a
+    by true k o = place-has_point limit es a k
+    by false k o = either (has_point es a || nat_lt (own_count es) limit) (same overflow_set a o)
 
 -- a feed keeps its set, by the points of its stream as they were read
 pub keeps-here : (p : Planned) (f : Feed) (a : AttrSet) (ss : List Stored) (s : Stored) → f.stream < length ss → s ≡ get_or ss f.stream s → rises (shape_at p f.stream) ≡ true
@@ -226,52 +226,52 @@ feeds-gone p i n = by (slice_get p.instruments i) refl
     by (Some s) e = absurd (n (within p.instruments i s e))
 
 pub record-full : (r : Tallied) (e : Entry) → keeps_sets r e ≡ false → record_fault_of r e ≡ Some record_faults.Full
-record-full r e h = ap (λ b. if b then option_map told (fault_of r e) else Some record_faults.Full) h
+record-full r e h = ap (λ b. if b then option_map as_record_fault (fault_of r e) else Some record_faults.Full) h
 
-pub record-told : (r : Tallied) (e : Entry) (o : Option MeasureFault) → keeps_sets r e ≡ true → fault_of r e ≡ o → record_fault_of r e ≡ option_map told o
-record-told r e o h f = ap (λ b. if b then option_map told (fault_of r e) else Some record_faults.Full) h ∙ ap (option_map told) f
+pub record-as_record_fault : (r : Tallied) (e : Entry) (o : Option TallyFault) → keeps_sets r e ≡ true → fault_of r e ≡ o → record_fault_of r e ≡ option_map as_record_fault o
+record-as_record_fault r e o h f = ap (λ b. if b then option_map as_record_fault (fault_of r e) else Some record_faults.Full) h ∙ ap (option_map as_record_fault) f
 
 -- ---- a tally that takes a recorder in
 
-length-absorbed : (limit : ℕ) (ess mss : List Points) → length (absorbed limit ess mss) ≡ length ess
-length-absorbed limit [] mss = refl
-length-absorbed limit (es ∷ ess) [] = refl
-length-absorbed limit (es ∷ ess) (ms ∷ mss) = ap suc (length-absorbed limit ess mss)
+length-series_with : (limit : ℕ) (ess mss : List Points) → length (series_with limit ess mss) ≡ length ess
+length-series_with limit [] mss = refl
+length-series_with limit (es ∷ ess) [] = refl
+length-series_with limit (es ∷ ess) (ms ∷ mss) = ap suc (length-series_with limit ess mss)
 
-pub at-absorbed : (limit : ℕ) (ess mss : List Points) (m : ℕ) → m < length ess → m < length mss → series_at (absorbed limit ess mss) m ≡ absorb limit (series_at ess m) (series_at mss m)
-at-absorbed limit [] mss m k l = absurd (omega (arith, k))
-at-absorbed limit (es ∷ ess) [] m k l = absurd (omega (arith, l))
-at-absorbed limit (es ∷ ess) (ms ∷ mss) zero k l = refl
-at-absorbed limit (es ∷ ess) (ms ∷ mss) (suc m) k l = at-absorbed limit ess mss m (omega (arith, k)) (omega (arith, l))
+pub at-series_with : (limit : ℕ) (ess mss : List Points) (m : ℕ) → m < length ess → m < length mss → series_at (series_with limit ess mss) m ≡ absorb limit (series_at ess m) (series_at mss m)
+at-series_with limit [] mss m k l = absurd (omega (arith, k))
+at-series_with limit (es ∷ ess) [] m k l = absurd (omega (arith, l))
+at-series_with limit (es ∷ ess) (ms ∷ mss) zero k l = refl
+at-series_with limit (es ∷ ess) (ms ∷ mss) (suc m) k l = at-series_with limit ess mss m (omega (arith, k)) (omega (arith, l))
 
-pub at-stream : (p : Planned) (h : List Entry) (m : ℕ) (s : Stream) → stream_of p m ≡ Some s → series_at (round p h) m ≡ points_of s.shape (placed p.limit (arrivals p m h))
+pub at-stream : (p : Planned) (h : List Entry) (m : ℕ) (s : Stream) → stream_of p m ≡ Some s → series_at (round p h) m ≡ points_of s.shape (placements p.limit (arrivals p m h))
 unfolding fed
 at-stream p h m s e = got (round p h) m _ [] (round-at p h m s e)
 
 -- each stream by itself
-stream-absorbed : (p : Planned) (ess mss : List Points) (h k : List Entry) (m : ℕ) (s : Stream) → stream_of p m ≡ Some s → ess ≡ round p h → mss ≡ whole_round p k → AreApart p ess mss
+stream-series_with : (p : Planned) (ess mss : List Points) (h k : List Entry) (m : ℕ) (s : Stream) → stream_of p m ≡ Some s → ess ≡ round p h → mss ≡ whole_round p k → AreApart p ess mss
     → absorb p.limit (series_at ess m) (series_at mss m) ≡ series_at (round p (h ++ k)) m
-stream-absorbed p ess mss h k m s e x y o =
-    let a : series_at ess m ≡ points_of s.shape (placed p.limit (arrivals p m h)) = ap (λ l. series_at l m) x ∙ at-stream p h m s e in
+stream-series_with p ess mss h k m s e x y o =
+    let a : series_at ess m ≡ points_of s.shape (placements p.limit (arrivals p m h)) = ap (λ l. series_at l m) x ∙ at-stream p h m s e in
     let b : series_at mss m ≡ points_of s.shape (arrivals p m k) = ap (λ l. series_at l m) y ∙ at-whole p k m s e in
     (λ i. absorb p.limit (a i) (b i))
     ∙ points_absorbed s.shape p.limit (arrivals p m h) (arrivals p m k) (λ g. subst AreOnce (λ i. places p.limit (a i) (b i)) (o m s e g))
-    ∙ ap (λ l. points_of s.shape (placed p.limit l)) (sym (arrivals-append p m h k))
+    ∙ ap (λ l. points_of s.shape (placements p.limit l)) (sym (arrivals-append p m h k))
     ∙ sym (at-stream p (h ++ k) m s e)
 
-all-absorbed : (p : Planned) (ess mss : List Points) (h k : List Entry) → ess ≡ round p h → mss ≡ whole_round p k → AreApart p ess mss → absorbed p.limit ess mss ≡ round p (h ++ k)
-all-absorbed p ess mss h k x y o =
+all-series_with : (p : Planned) (ess mss : List Points) (h k : List Entry) → ess ≡ round p h → mss ≡ whole_round p k → AreApart p ess mss → series_with p.limit ess mss ≡ round p (h ++ k)
+all-series_with p ess mss h k x y o =
     let long : length ess ≡ length p.streams = ap length x ∙ length-round p h in
     let wide : length mss ≡ length p.streams = ap length y ∙ length-whole p k in
-    let all = length-absorbed p.limit ess mss in
-    ext_get_or [] (absorbed p.limit ess mss) (round p (h ++ k))
+    let all = length-series_with p.limit ess mss in
+    ext_get_or [] (series_with p.limit ess mss) (round p (h ++ k))
     (all ∙ long ∙ sym (length-round p (h ++ k)))
     (λ m l.
     let l' : m < length ess = subst (λ (n : ℕ). m < n) all l in
     let l'' : m < length p.streams = subst (λ (n : ℕ). m < n) long l' in
     let s = there p.streams m l'' in
-    at-absorbed p.limit ess mss m l' (subst (λ (n : ℕ). m < n) (sym wide) l'')
-    ∙ stream-absorbed p ess mss h k m s.0 s.1 x y o)
+    at-series_with p.limit ess mss m l' (subst (λ (n : ℕ). m < n) (sym wide) l'')
+    ∙ stream-series_with p ess mss h k m s.0 s.1 x y o)
 
 gauges-fall : (shape : Shape) → is_gauge shape ≡ true → rises shape ≡ false
 gauges-fall (shapes.Sum m) h = absurd (true≢false (sym h))
@@ -280,7 +280,7 @@ gauges-fall (shapes.Histogram bounds) h = absurd (true≢false (sym h))
 
 pub absorbing_is_recording : AbsorbingIsRecording
 absorbing_is_recording t r h k alike only stands holds =
-    all-absorbed t.plan t.series r.series h k stands (holds ∙ ap (λ (p : Planned). whole_round p k) alike)
+    all-series_with t.plan t.series r.series h k stands (holds ∙ ap (λ (p : Planned). whole_round p k) alike)
     (λ m s e g.
     let falls : rises (shape_at r.plan m) ≡ false = ap (λ (p : Planned). rises (shape_at p m)) alike ∙ ap rises (shape-is t.plan m s e) ∙ gauges-fall s.shape g in
     subst (λ ms. AreOnce (places t.plan.limit (series_at t.series m) ms)) (sym (only m falls)) tt)

@@ -15,13 +15,13 @@ use Rattle.plan_kit.specs.Plans.{Planned, feeds_of, AreFeeds, AllRise, rises, on
 use Rattle.plan_kit.specs.declared.instrument.Kind.{Kind}
 use Rattle.plan_kit.specs.declared.feed.Feed.{Feed}
 use Rattle.agg_kit.specs.Feeding.{set_eq}
-use Rattle.agg_kit.specs.Feeds.{entries_of, series_at, shape_at, leaves_range, first_out, applied, keeps_all, whole_first}
+use Rattle.agg_kit.specs.Feeds.{entries_of, series_at, shape_at, leaves_range, first_out, after_feeds, keeps_all, whole_first}
 use Rattle.agg_kit.specs.Kept.{whole_feed, AreLone}
 use Rattle.agg_kit.specs.Payloads.{is_out_of_range}
 use Rattle.agg_kit.specs.Sound.{AreSound, AreOnce, AllSound}
-use Rattle.agg_kit.specs.Steps.{Stored, bounds_of, held, place, payload_after, recorded, step}
+use Rattle.agg_kit.specs.Steps.{Stored, bounds_of, has_point, place, payload_after, payload_with_value, step}
 use Rattle.agg_kit.specs.Tallies.{Points}
-use Rattle.agg_kit.specs.declared.fault.MeasureFault.TheVariants as faults
+use Rattle.agg_kit.specs.declared.fault.TallyFault.TheVariants as faults
 use Rattle.agg_kit.proofs.Refusals.{Every}
 use Rattle.agg_kit.proofs.Rounds.{there, shape-is}
 use Rattle.agg_kit.proofs.Sound.{first-fits, sound-step, once-step}
@@ -151,9 +151,9 @@ step-along es xs v s s' n n' b b' e f g h = h ∙ ap (λ x. step x n es b v) e �
 
 -- a set that has no point is not held, and its first value is in range
 pub new-fits : (shape : Shape) (es : Points) (b : AttrSet) (v : ℤ) → FitsSigned w64 v → lookup (set_eq b) es ≡ None → is_out_of_range (payload_after shape es b v) ≡ false
-new-fits shape es b v f n = ap (λ (t : Payload). is_out_of_range (recorded (bounds_of shape) t v)) (payload-new shape es b n) ∙ first-fits shape v f
+new-fits shape es b v f n = ap (λ (t : Payload). is_out_of_range (payload_with_value (bounds_of shape) t v)) (payload-new shape es b n) ∙ first-fits shape v f
 
-pub new-gone : (es : Points) (b : AttrSet) → lookup (set_eq b) es ≡ None → held es b ≡ true → ⊥
+pub new-gone : (es : Points) (b : AttrSet) → lookup (set_eq b) es ≡ None → has_point es b ≡ true → ⊥
 new-gone es b n h = true≢false (sym h ∙ ap is_some n)
 
 -- a feed's stream, read once the other feeds have taken their recording
@@ -164,10 +164,10 @@ module _ (p : Planned) (f : Feed) (fs : List Feed) (a : AttrSet) (v : ℤ) (ss n
   pub unmoved : now ≡ q
   unmoved = read ns f.stream q now stays read-now
 
-  pub recorded-here : entries_of ns ≡ applied p fs a v (entries_of ss)
+  pub recorded-here : entries_of ns ≡ after_feeds p fs a v (entries_of ss)
       → done old.entries ≡ step (shape_at p f.stream) p.limit old.entries (kept f.keep a) v
       → x.entries ≡ done now.entries
-      → entries_of (set ns f.stream x) ≡ applied p (f ∷ fs) a v (entries_of ss)
+      → entries_of (set ns f.stream x) ≡ after_feeds p (f ∷ fs) a v (entries_of ss)
   recorded-here rest steps after =
       let mid : now.entries ≡ old.entries = ap (λ (s : Stored). s.entries) unmoved ∙ same in
       let at : old.entries ≡ series_at (entries_of ns) f.stream = sym (entries-at ns f.stream q stays ∙ same) in
@@ -185,6 +185,12 @@ read-there (y ∷ xs) (suc i) x l e = read-there xs i x (omega arith) e
 pub same-read : {X : Type 0} (xs : List X) (i : ℕ) (x y : X) → i < length xs → x ≡ get_or xs i x → y ≡ get_or xs i y → y ≡ x
 same-read xs i x y l e h = read xs i x y (read-there xs i x l e) h
 
+-- where the point of a set is in a stream that is read again, by where it was found as the stream was read first
+pub found-again : (p : Planned) (b : AttrSet) (ss : List Stored) (m : ℕ) (first again : Stored) (limit : ℕ) (set : AttrSet) (found : Option ℕ) (i : ℕ) → m < length ss → first ≡ get_or ss m first → again ≡ get_or ss m again
+    → limit ≡ p.limit → set ≡ b → found ≡ Some i → found ≡ position (set_eq (place limit first.entries set)) (keys_of first.entries) → position (set_eq (place p.limit again.entries b)) (keys_of again.entries) ≡ Some i
+found-again p b ss m first again limit set found i l was now e f is h =
+    subst (λ (s : Stored). position (set_eq (place p.limit s.entries b)) (keys_of s.entries) ≡ Some i) (sym (same-read ss m first again l was now)) (found-at p b first.entries limit set found (Some i) e f is h)
+
 -- a list of no feeds
 pub no-feeds : (fs : List Feed) → (length fs == 0) ≡ true → fs ≡ []
 no-feeds [] h = refl
@@ -193,6 +199,9 @@ no-feeds (f ∷ fs) h = let k = (unsigned_Decides (length (f ∷ fs)) 0).0 h in 
 -- the one feed whose stream is known
 pub lone-is : (o : Option ℕ) (m : ℕ) (fs : List Feed) → o ≡ Some m → IfSome o (λ m. fs ≡ whole_feed m ∷ []) → fs ≡ whole_feed m ∷ []
 lone-is o m fs e h = subst (λ (o : Option ℕ). IfSome o (λ m. fs ≡ whole_feed m ∷ [])) e h
+
+pub lone-within : (n : ℕ) (o : Option ℕ) (m : ℕ) (fs : List Feed) → o ≡ Some m → IfSome o (λ m. fs ≡ whole_feed m ∷ []) → AreFeeds n fs → m < n
+lone-within n o m fs e h feeds = (subst (AreFeeds n) (lone-is o m fs e h) feeds).0
 
 -- its stream is that of a feed which has no other beside it, and keeps all keys
 pub lone-here : (fs rest : List Feed) (f : Feed) → fs ≡ f ∷ rest → (length rest == 0) ≡ true → f.keep ≡ All → fs ≡ whole_feed f.stream ∷ []
@@ -266,14 +275,14 @@ sound-set (t ∷ ss) [] m s x a e k o = absurd a
 sound-set (t ∷ ss) (y ∷ xs) zero s x a e k o = let same : t ≡ s = cc in (subst (λ (u : Stream). AreSound u.shape x) (sym same) k, o, a.2)
 sound-set (t ∷ ss) (y ∷ xs) (suc m) s x a e k o = (a.0, a.1, sound-set ss xs m s x a.2 e k o)
 
-pub sound-applied : (p : Planned) (n : ℕ) (fs : List Feed) (a : AttrSet) (v : ℤ) (xs : List Points) → n ≡ length p.streams → AreFeeds n fs
-    → Every (λ f. rises (shape_at p f.stream) ≡ true → int_lt v (pos 0) ≡ false) fs → AllSound p.streams xs → AllSound p.streams (applied p fs a v xs)
-sound-applied p n [] a v xs e fit r s = s
-sound-applied p n (f ∷ fs) a v xs e fit r s =
+pub sound-after_feeds : (p : Planned) (n : ℕ) (fs : List Feed) (a : AttrSet) (v : ℤ) (xs : List Points) → n ≡ length p.streams → AreFeeds n fs
+    → Every (λ f. rises (shape_at p f.stream) ≡ true → int_lt v (pos 0) ≡ false) fs → AllSound p.streams xs → AllSound p.streams (after_feeds p fs a v xs)
+sound-after_feeds p n [] a v xs e fit r s = s
+sound-after_feeds p n (f ∷ fs) a v xs e fit r s =
     let l : f.stream < length p.streams = subst (λ (k : ℕ). f.stream < k) e fit.0 in
     let t = there p.streams f.stream l in
-    let after = applied p fs a v xs in
-    let sound = sound-applied p n fs a v xs e fit.2 r.1 s in
+    let after = after_feeds p fs a v xs in
+    let sound = sound-after_feeds p n fs a v xs e fit.2 r.1 s in
     let here = sound-step (shape_at p f.stream) p.limit (series_at after f.stream) (kept f.keep a) v (sound-shape p after f.stream l sound) r.0 in
     sound-set p.streams after f.stream t.0 (step (shape_at p f.stream) p.limit (series_at after f.stream) (kept f.keep a) v) sound t.1
     (subst (λ (s : Shape). AreSound s (step (shape_at p f.stream) p.limit (series_at after f.stream) (kept f.keep a) v)) (shape-is p f.stream t.0 t.1) here)

@@ -9,22 +9,22 @@ use Rattle.point_kit.specs.declared.shape.Shape.{Shape}
 use Rattle.point_kit.specs.declared.stream.Stream.{Stream}
 use Rattle.plan_kit.specs.Plans.{Planned, Source, feeds_of, kind_of, stream_of, lacks, AreFeeds}
 use Rattle.plan_kit.specs.declared.feed.Feed.{Feed}
-use Rattle.agg_kit.specs.Entries.{Entry, Arrivals, brought, arrivals}
-use Rattle.agg_kit.specs.Feeding.{set_eq, overflow_set, is_own, has_set, own_sets, goes_to, placed, fed}
+use Rattle.agg_kit.specs.Entries.{Entry, Arrivals, arrivals_from, arrivals}
+use Rattle.agg_kit.specs.Feeding.{set_eq, overflow_set, is_own, has_set, own_sets, goes_to, placements, fed}
 use Rattle.agg_kit.specs.Feeds.{series_at, leaves_range, first_out, keeps_all, whole_first, AllWhole}
 use Rattle.agg_kit.specs.Measuring.{points_after, series_after, after_measure, counted_under, is_over, fault_into, fault_of, early_fault_of}
 use Rattle.agg_kit.specs.Payloads.{payload_of, is_out_of_range}
-use Rattle.agg_kit.specs.Refusals.{is_negative_for, overflows, refused}
+use Rattle.agg_kit.specs.Refusals.{is_negative_for, overflows, first_refusal}
 use Rattle.agg_kit.specs.Rounds.{values_of, round, StandsFor}
-use Rattle.agg_kit.specs.Steps.{held, place, payload_at, payload_after, step}
+use Rattle.agg_kit.specs.Steps.{has_point, place, payload_at, payload_after, step}
 use Rattle.agg_kit.specs.Tallies.{Points, Tallied}
-use Rattle.agg_kit.specs.declared.fault.MeasureFault.{MeasureFault}
-use Rattle.agg_kit.specs.declared.fault.MeasureFault.TheVariants as faults
+use Rattle.agg_kit.specs.declared.fault.TallyFault.{TallyFault}
+use Rattle.agg_kit.specs.declared.fault.TallyFault.TheVariants as faults
 use Rattle.agg_kit.proofs.Distinct.{same}
 use Rattle.agg_kit.proofs.Limits.{not-false}
 use Rattle.agg_kit.proofs.Points.{payload-is}
-use Rattle.agg_kit.proofs.SeriesLaws.{series_of, held-own}
-use Rattle.agg_kit.proofs.Rounds.{got, there, within, round-at, shape-is, brought-none, at-after, stands-push}
+use Rattle.agg_kit.proofs.SeriesLaws.{series_of, has_point-own}
+use Rattle.agg_kit.proofs.Rounds.{got, there, within, round-at, shape-is, arrivals_from-none, at-after, stands-push}
 use Rattle.agg_kit.proofs.Steps.{payload-put, counted-step}
 
 -- what holds of each feed of a list
@@ -46,7 +46,7 @@ find-same p q (x ∷ xs) h = λ i. cond (h.0 i) (Some x) (find-same p q xs h.1 i
 
 -- a feed brings one value to its stream
 abbrev BringsOne : List Feed → AttrSet → ℤ → Feed → Type 0
-BringsOne fs a v f = brought f.stream fs a v ≡ (kept f.keep a, v) ∷ []
+BringsOne fs a v f = arrivals_from f.stream fs a v ≡ (kept f.keep a, v) ∷ []
 
 apart : (m n : ℕ) → (m ≢ n) → (m == n) ≡ false
 apart m n h = by (m == n) refl
@@ -66,7 +66,7 @@ bring-one : (n : ℕ) (fs : List Feed) (a : AttrSet) (v : ℤ) → AreFeeds n fs
 bring-one n [] a v fit = tt
 bring-one n (f ∷ fs) a v fit = (
   ap (λ b. map (λ (f : Feed). let p : AttrSet × ℤ = (kept f.keep a, v) in p) (cond b (f ∷ filter (λ g. g.stream == f.stream) fs) (filter (λ g. g.stream == f.stream) fs))) ((unsigned_Decides f.stream f.stream).1 refl)
-      ∙ ap (λ l. (kept f.keep a, v) ∷ l) (brought-none f.stream fs a v fit.1),
+      ∙ ap (λ l. (kept f.keep a, v) ∷ l) (arrivals_from-none f.stream fs a v fit.1),
   others-bring f fs fs a v fit.1 (bring-one n fs a v fit.2),
 )
 
@@ -85,8 +85,8 @@ counted-is shape limit hs a = by (is_own a) refl
     either false false e = refl
 
     by : (b : Bool) → is_own a ≡ b → counted_under (series_of shape limit hs) a ≡ goes_to (own_sets limit hs) a
-    by true i = ap (λ t. if t then a else overflow_set) (held-own shape limit hs a (has_set (own_sets limit hs) a) i refl)
-    by false i = either (held (series_of shape limit hs) a) (has_set (own_sets limit hs) a) (not-false (set_eq a overflow_set) i)
+    by true i = ap (λ t. if t then a else overflow_set) (has_point-own shape limit hs a (has_set (own_sets limit hs) a) i refl)
+    by false i = either (has_point (series_of shape limit hs) a) (has_set (own_sets limit hs) a) (not-false (set_eq a overflow_set) i)
 
 -- whether the point that a feed reaches is out of range, by the points of a tally that stands for the recordings
 over-is : (t : Tallied) (h : List Entry) (a : AttrSet) (f : Feed) → StandsFor t h → is_over t a f ≡ overflows t.plan h a f
@@ -107,18 +107,18 @@ over-is t h a f s = by (stream_of p m) refl
 
     by : (o : Option Stream) → stream_of p m ≡ o
         → option_map_or (λ (s : Stream). is_out_of_range (payload_at s.shape (series_at t.series m) (counted_under (series_at t.series m) b))) o false
-        ≡ option_map_or (λ (s : Stream). is_out_of_range (payload_of s.shape (values_of (placed p.limit hs) (goes_to (own_sets p.limit hs) b)))) o false
+        ≡ option_map_or (λ (s : Stream). is_out_of_range (payload_of s.shape (values_of (placements p.limit hs) (goes_to (own_sets p.limit hs) b)))) o false
     by None e = refl
     by (Some x) e =
         let points : series_at t.series m ≡ series_of x.shape p.limit hs = ap (λ ss. series_at ss m) s ∙ got (round p h) m _ [] (round-at p h m x e) in
         ap (λ (es : Points). is_out_of_range (payload_at x.shape es (counted_under es b))) points
         ∙ ap (λ (c : AttrSet). is_out_of_range (payload_at x.shape (series_of x.shape p.limit hs) c)) (counted-is x.shape p.limit hs b)
-        ∙ ap is_out_of_range (payload-is x.shape (placed p.limit hs) (goes_to (own_sets p.limit hs) b))
+        ∙ ap is_out_of_range (payload-is x.shape (placements p.limit hs) (goes_to (own_sets p.limit hs) b))
 
 -- the refusal by the points of a tally is that by the recordings for which it stands
-pub refused-is : (t : Tallied) (h : List Entry) (e : Entry) → StandsFor t h → fault_of t e ≡ refused t.plan h e
-unfolding refused fault_of
-refused-is t h e s =
+pub first_refusal-is : (t : Tallied) (h : List Entry) (e : Entry) → StandsFor t h → fault_of t e ≡ first_refusal t.plan h e
+unfolding first_refusal fault_of
+first_refusal-is t h e s =
     let k = h ++ e ∷ [] in
     ap (λ (q : Feed → Bool). first (when (is_none (kind_of t.plan e.instrument)) faults.NoInstrument ∷ when (is_negative_for (kind_of t.plan e.instrument) e.value) faults.Negative ∷ option_map (λ (f : Feed). faults.Overflow f.stream) (find q (feeds_of t.plan e.instrument)) ∷ []))
     (λ i f. over-is (after_measure t e) k e.attrs f (stands-push t h e s) i)
@@ -166,7 +166,7 @@ leaves-is t e f l one =
     now : series_at (series_after t e) m ≡ step shape p.limit es b e.value
     now =
         at-after t e m l
-        ∙ ap (λ (y : Shape). points_after y p.limit es (brought m (feeds_of p e.instrument) e.attrs e.value)) (shape-is p m x.0 x.1)
+        ∙ ap (λ (y : Shape). points_after y p.limit es (arrivals_from m (feeds_of p e.instrument) e.attrs e.value)) (shape-is p m x.0 x.1)
         ∙ ap (points_after shape p.limit es) one
 
 -- a part of the feeds, of which each has what all have
@@ -209,7 +209,7 @@ or-nothing : {X : Type 0} (o : Option X) → option_or o None ≡ o
 or-nothing None = refl
 or-nothing (Some x) = refl
 
-abbrev over : Tallied → Entry → List Feed → Option MeasureFault
+abbrev over : Tallied → Entry → List Feed → Option TallyFault
 over t e fs = option_map (λ f. faults.Overflow f.stream) (find (is_over (after_measure t e) e.attrs) fs)
 
 -- no instrument, and a value below 0

@@ -13,9 +13,9 @@ use Rattle.point_kit.specs.declared.shape.Shape.TheVariants as shapes
 use Rattle.point_kit.specs.declared.stream.Stream.{Stream}
 use Rattle.plan_kit.specs.Plans.{Planned, feeds_of, stream_of, lacks, AreFeeds}
 use Rattle.plan_kit.specs.declared.feed.Feed.{Feed}
-use Rattle.agg_kit.specs.Entries.{Entry, Arrivals, brought, arrivals}
-use Rattle.agg_kit.specs.Feeding.{fed, placed}
-use Rattle.agg_kit.specs.Feeds.{series_at, shape_at, applied}
+use Rattle.agg_kit.specs.Entries.{Entry, Arrivals, arrivals_from, arrivals}
+use Rattle.agg_kit.specs.Feeding.{fed, placements}
+use Rattle.agg_kit.specs.Feeds.{series_at, shape_at, after_feeds}
 use Rattle.agg_kit.specs.Measuring.{empty_tally, points_after, series_after}
 use Rattle.agg_kit.specs.Rounds.{points_of, round, StandsFor}
 use Rattle.agg_kit.specs.Steps.{step}
@@ -88,49 +88,49 @@ abbrev steps : Shape → ℕ → Points → Arrivals → Points
 steps shape limit s [] = s
 steps shape limit s (h ∷ hs) = step shape limit (steps shape limit s hs) h.0 h.1
 
-pub length-applied : (p : Planned) (fs : List Feed) (a : AttrSet) (v : ℤ) (ss : List Points) → length (applied p fs a v ss) ≡ length ss
-length-applied p [] a v ss = refl
-length-applied p (f ∷ fs) a v ss = length-set _ _ _ ∙ length-applied p fs a v ss
+pub length-after_feeds : (p : Planned) (fs : List Feed) (a : AttrSet) (v : ℤ) (ss : List Points) → length (after_feeds p fs a v ss) ≡ length ss
+length-after_feeds p [] a v ss = refl
+length-after_feeds p (f ∷ fs) a v ss = length-set _ _ _ ∙ length-after_feeds p fs a v ss
 
-at-applied : (p : Planned) (fs : List Feed) (a : AttrSet) (v : ℤ) (ss : List Points) (m : ℕ) → m < length ss
-    → series_at (applied p fs a v ss) m ≡ steps (shape_at p m) p.limit (series_at ss m) (brought m fs a v)
-at-applied p [] a v ss m h = refl
-at-applied p (f ∷ fs) a v ss m h =
-    at-set (applied p fs a v ss) f.stream m (step (shape_at p f.stream) p.limit (series_at (applied p fs a v ss) f.stream) (kept f.keep a) v) (subst (λ (n : ℕ). m < n) (sym (length-applied p fs a v ss)) h)
-    ∙ by (at-applied p fs a v ss m h) (f.stream == m) refl
+at-after_feeds : (p : Planned) (fs : List Feed) (a : AttrSet) (v : ℤ) (ss : List Points) (m : ℕ) → m < length ss
+    → series_at (after_feeds p fs a v ss) m ≡ steps (shape_at p m) p.limit (series_at ss m) (arrivals_from m fs a v)
+at-after_feeds p [] a v ss m h = refl
+at-after_feeds p (f ∷ fs) a v ss m h =
+    at-set (after_feeds p fs a v ss) f.stream m (step (shape_at p f.stream) p.limit (series_at (after_feeds p fs a v ss) f.stream) (kept f.keep a) v) (subst (λ (n : ℕ). m < n) (sym (length-after_feeds p fs a v ss)) h)
+    ∙ by (at-after_feeds p fs a v ss m h) (f.stream == m) refl
   where
-    by : series_at (applied p fs a v ss) m ≡ steps (shape_at p m) p.limit (series_at ss m) (brought m fs a v) → (b : Bool) → (f.stream == m) ≡ b
-        → cond b (step (shape_at p f.stream) p.limit (series_at (applied p fs a v ss) f.stream) (kept f.keep a) v) (series_at (applied p fs a v ss) m)
+    by : series_at (after_feeds p fs a v ss) m ≡ steps (shape_at p m) p.limit (series_at ss m) (arrivals_from m fs a v) → (b : Bool) → (f.stream == m) ≡ b
+        → cond b (step (shape_at p f.stream) p.limit (series_at (after_feeds p fs a v ss) f.stream) (kept f.keep a) v) (series_at (after_feeds p fs a v ss) m)
         ≡ steps (shape_at p m) p.limit (series_at ss m) (map (λ f. (kept f.keep a, v)) (cond b (f ∷ filter (λ f. f.stream == m) fs) (filter (λ f. f.stream == m) fs)))
-    by go true e = ap (λ n. step (shape_at p n) p.limit (series_at (applied p fs a v ss) n) (kept f.keep a) v) ((unsigned_Decides f.stream m).0 e) ∙ ap (λ s. step (shape_at p m) p.limit s (kept f.keep a) v) go
+    by go true e = ap (λ n. step (shape_at p n) p.limit (series_at (after_feeds p fs a v ss) n) (kept f.keep a) v) ((unsigned_Decides f.stream m).0 e) ∙ ap (λ s. step (shape_at p m) p.limit s (kept f.keep a) v) go
     by go false e = go
 
-pub brought-none : (m : ℕ) (fs : List Feed) (a : AttrSet) (v : ℤ) → lacks m fs → brought m fs a v ≡ []
-brought-none m [] a v l = refl
-brought-none m (f ∷ fs) a v l =
-    ap (λ b. map (λ (f : Feed). let p : AttrSet × ℤ = (kept f.keep a, v) in p) (cond b (f ∷ filter (λ f. f.stream == m) fs) (filter (λ f. f.stream == m) fs))) (apart m f.stream l.0) ∙ brought-none m fs a v l.1
+pub arrivals_from-none : (m : ℕ) (fs : List Feed) (a : AttrSet) (v : ℤ) → lacks m fs → arrivals_from m fs a v ≡ []
+arrivals_from-none m [] a v l = refl
+arrivals_from-none m (f ∷ fs) a v l =
+    ap (λ b. map (λ (f : Feed). let p : AttrSet × ℤ = (kept f.keep a, v) in p) (cond b (f ∷ filter (λ f. f.stream == m) fs) (filter (λ f. f.stream == m) fs))) (apart m f.stream l.0) ∙ arrivals_from-none m fs a v l.1
 
-steps-brought : (shape : Shape) (limit n m : ℕ) (es : Points) (fs : List Feed) (a : AttrSet) (v : ℤ) → AreFeeds n fs
-    → steps shape limit es (brought m fs a v) ≡ points_after shape limit es (brought m fs a v)
-steps-brought shape limit n m es [] a v fit = refl
-steps-brought shape limit n m es (f ∷ fs) a v fit = by (steps-brought shape limit n m es fs a v fit.2) (f.stream == m) refl
+steps-arrivals_from : (shape : Shape) (limit n m : ℕ) (es : Points) (fs : List Feed) (a : AttrSet) (v : ℤ) → AreFeeds n fs
+    → steps shape limit es (arrivals_from m fs a v) ≡ points_after shape limit es (arrivals_from m fs a v)
+steps-arrivals_from shape limit n m es [] a v fit = refl
+steps-arrivals_from shape limit n m es (f ∷ fs) a v fit = by (steps-arrivals_from shape limit n m es fs a v fit.2) (f.stream == m) refl
   where
     all : Bool → Arrivals
     all b = map (λ f. (kept f.keep a, v)) (cond b (f ∷ filter (λ f. f.stream == m) fs) (filter (λ f. f.stream == m) fs))
 
-    by : steps shape limit es (brought m fs a v) ≡ points_after shape limit es (brought m fs a v) → (b : Bool) → (f.stream == m) ≡ b
+    by : steps shape limit es (arrivals_from m fs a v) ≡ points_after shape limit es (arrivals_from m fs a v) → (b : Bool) → (f.stream == m) ≡ b
         → steps shape limit es (all b) ≡ points_after shape limit es (all b)
     by go true e =
-        let none : brought m fs a v ≡ [] = subst (λ (k : ℕ). brought k fs a v ≡ []) ((unsigned_Decides f.stream m).0 e) (brought-none f.stream fs a v fit.1) in
+        let none : arrivals_from m fs a v ≡ [] = subst (λ (k : ℕ). arrivals_from k fs a v ≡ []) ((unsigned_Decides f.stream m).0 e) (arrivals_from-none f.stream fs a v fit.1) in
         subst (λ (l : Arrivals). step shape limit (steps shape limit es l) (kept f.keep a) v ≡ points_after shape limit (step shape limit es (kept f.keep a) v) l) (sym none) refl
     by go false e = go
 
 -- what lists one after the other bring
 pub arrivals-append : (p : Planned) (m : ℕ) (h k : List Entry) → arrivals p m (h ++ k) ≡ arrivals p m h ++ arrivals p m k
-arrivals-append p m h k = flat_map-append (λ e. brought m (feeds_of p e.instrument) e.attrs e.value) h k
+arrivals-append p m h k = flat_map-append (λ e. arrivals_from m (feeds_of p e.instrument) e.attrs e.value) h k
 
-pub arrivals-push : (p : Planned) (m : ℕ) (h : List Entry) (e : Entry) → arrivals p m (h ++ e ∷ []) ≡ arrivals p m h ++ brought m (feeds_of p e.instrument) e.attrs e.value
-arrivals-push p m h e = arrivals-append p m h (e ∷ []) ∙ ap (λ l. arrivals p m h ++ l) (append-nil (brought m (feeds_of p e.instrument) e.attrs e.value))
+pub arrivals-push : (p : Planned) (m : ℕ) (h : List Entry) (e : Entry) → arrivals p m (h ++ e ∷ []) ≡ arrivals p m h ++ arrivals_from m (feeds_of p e.instrument) e.attrs e.value
+arrivals-push p m h e = arrivals-append p m h (e ∷ []) ∙ ap (λ l. arrivals p m h ++ l) (append-nil (arrivals_from m (feeds_of p e.instrument) e.attrs e.value))
 
 -- what a tally that stands for h has for a stream
 pub stands-at : (t : Tallied) (h : List Entry) (m : ℕ) → m < length t.plan.streams → StandsFor t h → series_at t.series m ≡ series_of (shape_at t.plan m) t.plan.limit (arrivals t.plan m h)
@@ -140,17 +140,17 @@ stands-at t h m l s = ap (λ ss. series_at ss m) s ∙ at-round t.plan h m l
 pub length-after : (t : Tallied) (e : Entry) → length (series_after t e) ≡ length t.plan.streams
 unfolding series_after
 length-after t e =
-    length-map (enumerate_from 0 t.plan.streams) (λ s. points_after s.1.shape t.plan.limit (series_at t.series s.0) (brought s.0 (feeds_of t.plan e.instrument) e.attrs e.value)) ∙ length-enumerate_from 0 t.plan.streams
+    length-map (enumerate_from 0 t.plan.streams) (λ s. points_after s.1.shape t.plan.limit (series_at t.series s.0) (arrivals_from s.0 (feeds_of t.plan e.instrument) e.attrs e.value)) ∙ length-enumerate_from 0 t.plan.streams
 
 pub at-after : (t : Tallied) (e : Entry) (m : ℕ) → m < length t.plan.streams
-    → series_at (series_after t e) m ≡ points_after (shape_at t.plan m) t.plan.limit (series_at t.series m) (brought m (feeds_of t.plan e.instrument) e.attrs e.value)
+    → series_at (series_after t e) m ≡ points_after (shape_at t.plan m) t.plan.limit (series_at t.series m) (arrivals_from m (feeds_of t.plan e.instrument) e.attrs e.value)
 unfolding series_after
 at-after t e m l =
     let z : 0 + m ≡ m = omega arith in
     let s = there t.plan.streams m l in
-    let F : ℕ × Stream → Points = λ s. points_after s.1.shape t.plan.limit (series_at t.series s.0) (brought s.0 (feeds_of t.plan e.instrument) e.attrs e.value) in
+    let F : ℕ × Stream → Points = λ s. points_after s.1.shape t.plan.limit (series_at t.series s.0) (arrivals_from s.0 (feeds_of t.plan e.instrument) e.attrs e.value) in
     got (series_after t e) m (F (m, s.0)) [] (at-enumerated F 0 t.plan.streams m s.0 s.1 ∙ ap (λ k. Some (F (k, s.0))) z)
-    ∙ ap (λ (x : Shape). points_after x t.plan.limit (series_at t.series m) (brought m (feeds_of t.plan e.instrument) e.attrs e.value)) (sym (shape-is t.plan m s.0 s.1))
+    ∙ ap (λ (x : Shape). points_after x t.plan.limit (series_at t.series m) (arrivals_from m (feeds_of t.plan e.instrument) e.attrs e.value)) (sym (shape-is t.plan m s.0 s.1))
 
 series-more : (shape : Shape) (limit : ℕ) (hs xs : Arrivals) → points_after shape limit (series_of shape limit hs) xs ≡ series_of shape limit (hs ++ xs)
 series-more shape limit hs [] = ap (series_of shape limit) (sym (append-nil hs))
@@ -169,24 +169,24 @@ stands-push t h e s =
     (λ m k.
     let l : m < length p.streams = subst (λ (n : ℕ). m < n) (length-after t e) k in
     at-after t e m l
-    ∙ ap (λ (x : Points). points_after (shape_at p m) p.limit x (brought m fs e.attrs e.value)) (stands-at t h m l s)
-    ∙ series-more (shape_at p m) p.limit (arrivals p m h) (brought m fs e.attrs e.value)
+    ∙ ap (λ (x : Points). points_after (shape_at p m) p.limit x (arrivals_from m fs e.attrs e.value)) (stands-at t h m l s)
+    ∙ series-more (shape_at p m) p.limit (arrivals p m h) (arrivals_from m fs e.attrs e.value)
     ∙ ap (series_of (shape_at p m) p.limit) (sym (arrivals-push p m h e))
     ∙ sym (at-round p (h ++ e ∷ []) m l))
 
 -- feeds with streams of their own, one after the other, make the same
-pub applied-is : (t : Tallied) (e : Entry) (fs : List Feed) → fs ≡ feeds_of t.plan e.instrument → AreFeeds (length t.plan.streams) fs → length t.series ≡ length t.plan.streams
-    → applied t.plan fs e.attrs e.value t.series ≡ series_after t e
-applied-is t e fs is fit long =
+pub after_feeds-is : (t : Tallied) (e : Entry) (fs : List Feed) → fs ≡ feeds_of t.plan e.instrument → AreFeeds (length t.plan.streams) fs → length t.series ≡ length t.plan.streams
+    → after_feeds t.plan fs e.attrs e.value t.series ≡ series_after t e
+after_feeds-is t e fs is fit long =
     let p = t.plan in
-    ext_get_or [] (applied p fs e.attrs e.value t.series) (series_after t e)
-    (length-applied p fs e.attrs e.value t.series ∙ long ∙ sym (length-after t e))
+    ext_get_or [] (after_feeds p fs e.attrs e.value t.series) (series_after t e)
+    (length-after_feeds p fs e.attrs e.value t.series ∙ long ∙ sym (length-after t e))
     (λ m k.
-    let k' : m < length t.series = subst (λ (n : ℕ). m < n) (length-applied p fs e.attrs e.value t.series) k in
+    let k' : m < length t.series = subst (λ (n : ℕ). m < n) (length-after_feeds p fs e.attrs e.value t.series) k in
     let l : m < length p.streams = subst (λ (n : ℕ). m < n) long k' in
-    at-applied p fs e.attrs e.value t.series m k'
-    ∙ steps-brought (shape_at p m) p.limit (length p.streams) m (series_at t.series m) fs e.attrs e.value fit
-    ∙ ap (λ (gs : List Feed). points_after (shape_at p m) p.limit (series_at t.series m) (brought m gs e.attrs e.value)) is
+    at-after_feeds p fs e.attrs e.value t.series m k'
+    ∙ steps-arrivals_from (shape_at p m) p.limit (length p.streams) m (series_at t.series m) fs e.attrs e.value fit
+    ∙ ap (λ (gs : List Feed). points_after (shape_at p m) p.limit (series_at t.series m) (arrivals_from m gs e.attrs e.value)) is
     ∙ sym (at-after t e m l))
 
 -- no recordings come to no points
@@ -194,7 +194,7 @@ pub round-none : (p : Planned) → round p [] ≡ replicate (length p.streams) [
 unfolding round fed
 round-none p = each p.streams 0
   where
-    each : (ss : List Stream) (n : ℕ) → map (λ s. points_of s.1.shape (placed p.limit (arrivals p s.0 []))) (enumerate_from n ss) ≡ replicate (length ss) []
+    each : (ss : List Stream) (n : ℕ) → map (λ s. points_of s.1.shape (placements p.limit (arrivals p s.0 []))) (enumerate_from n ss) ≡ replicate (length ss) []
     each [] n = refl
     each (s ∷ ss) n = ap (λ l. [] ∷ l) (each ss (n + 1))
 

@@ -18,32 +18,32 @@ use Rattle.point_kit.specs.declared.stream.Stream.{Stream}
 use Rattle.plan_kit.specs.Plans.{Planned, AllRise, AreFeeds, feeds_of, kind_of, only_rises, rises, stream_of}
 use Rattle.plan_kit.specs.declared.instrument.Kind.{Kind}
 use Rattle.plan_kit.specs.declared.feed.Feed.{Feed}
-use Rattle.agg_kit.specs.Absorbs.{absorb, fits, merged, met}
-use Rattle.agg_kit.specs.Entries.{Entry, Arrivals, arrivals, brought}
-use Rattle.agg_kit.specs.Feeding.{set_eq, own_sets, goes_to, placed, fed}
+use Rattle.agg_kit.specs.Absorbs.{absorb, fits, with_point, point_with}
+use Rattle.agg_kit.specs.Entries.{Entry, Arrivals, arrivals, arrivals_from}
+use Rattle.agg_kit.specs.Feeding.{set_eq, own_sets, goes_to, placements, fed}
 use Rattle.agg_kit.specs.Feeds.{series_at, shape_at}
 use Rattle.agg_kit.specs.Measuring.{after_measure, empty_tally, fault_of, is_over}
 use Rattle.agg_kit.specs.Payloads.{total, fits_sum, is_out_of_range, payload_of}
-use Rattle.agg_kit.specs.Recorders.{Holds, OnlyRises, keeps_set, keeps_sets, record_fault_of, told, absorbed, with_recorder, first_unfit, absorb_fault}
-use Rattle.agg_kit.specs.Refusals.{is_negative_for, overflows, refused}
+use Rattle.agg_kit.specs.Recorders.{Holds, OnlyRises, keeps_set, keeps_sets, record_fault_of, as_record_fault, series_with, with_recorder, first_unfit, absorb_fault}
+use Rattle.agg_kit.specs.Refusals.{is_negative_for, overflows, first_refusal}
 use Rattle.agg_kit.specs.Rounds.{values_of, points_of, round, StandsFor}
 use Rattle.agg_kit.specs.Steps.{place, payload_at}
 use Rattle.agg_kit.specs.Tallies.{Points, Tallied}
 use Rattle.agg_kit.specs.Taken.{AreTaken, Rises, AreRecorded, HasRecorded, RecordersHave, AbsorbedAreTaken}
-use Rattle.agg_kit.specs.declared.fault.MeasureFault.{MeasureFault}
-use Rattle.agg_kit.specs.declared.fault.MeasureFault.TheVariants as faults
+use Rattle.agg_kit.specs.declared.fault.TallyFault.{TallyFault}
+use Rattle.agg_kit.specs.declared.fault.TallyFault.TheVariants as faults
 use Rattle.agg_kit.specs.declared.fault.RecordFault.{RecordFault}
 use Rattle.agg_kit.specs.declared.fault.RecordFault.TheVariants as record_faults
 use Rattle.agg_kit.proofs.Distinct.{or-no, same}
 use Rattle.agg_kit.proofs.Inserts.{lookup-here, lookup-other}
-use Rattle.agg_kit.proofs.Limits.{not-true, not-false, moved, same-fed, placed-push}
+use Rattle.agg_kit.proofs.Limits.{not-true, not-false, moved, same-fed, placements-push}
 use Rattle.agg_kit.proofs.Parts.{fits-signed, signed-fits}
 use Rattle.agg_kit.proofs.Payloads.{total-push}
 use Rattle.agg_kit.proofs.Points.{payload-is, values-push}
-use Rattle.agg_kit.proofs.Recorders.{holds-none, rises-none, rises-still, recorders_hold, absorbing_is_recording, keeps-all, at-absorbed, at-stream, length-whole, both, keeps-first, keeps-rises}
+use Rattle.agg_kit.proofs.Recorders.{holds-none, rises-none, rises-still, recorders_hold, absorbing_is_recording, keeps-all, at-series_with, at-stream, length-whole, both, keeps-first, keeps-rises}
 use Rattle.agg_kit.proofs.Refusals.{Every}
 use Rattle.agg_kit.proofs.RoundLaws.{grown, goes-on}
-use Rattle.agg_kit.proofs.Rounds.{within, length-round, arrivals-append, arrivals-push, brought-none}
+use Rattle.agg_kit.proofs.Rounds.{within, length-round, arrivals-append, arrivals-push, arrivals_from-none}
 
 -- ---- values that are not below 0
 
@@ -78,15 +78,15 @@ all-rise a v h (f ∷ fs) = (h, all-rise a v h fs)
 not-empty : (f : Feed) (fs : List Feed) → f ∷ fs ≢ []
 not-empty f fs e = cc
 
-brought-rise : (m : ℕ) (fs : List Feed) (a : AttrSet) (v : ℤ) → (fs ≢ [] → int_lt v (pos 0) ≡ false) → AreRising (brought m fs a v)
-brought-rise m [] a v h = tt
-brought-rise m (f ∷ fs) a v h = all-rise a v (h (not-empty f fs)) (filter (λ f. f.stream == m) (f ∷ fs))
+arrivals_from-rise : (m : ℕ) (fs : List Feed) (a : AttrSet) (v : ℤ) → (fs ≢ [] → int_lt v (pos 0) ≡ false) → AreRising (arrivals_from m fs a v)
+arrivals_from-rise m [] a v h = tt
+arrivals_from-rise m (f ∷ fs) a v h = all-rise a v (h (not-empty f fs)) (filter (λ f. f.stream == m) (f ∷ fs))
 
 recorded-rise : (p : Planned) (r : Tallied) (k : List Entry) (m : ℕ) → r.plan ≡ p → AreRecorded r k → AreRising (arrivals p m k)
 recorded-rise p r [] m is rec = tt
 recorded-rise p r (e ∷ k) m is rec =
-    append-rise (brought m (feeds_of p e.instrument) e.attrs e.value) (arrivals p m k)
-    (brought-rise m (feeds_of p e.instrument) e.attrs e.value (subst (λ (q : Planned). Rises q e) is rec.1))
+    append-rise (arrivals_from m (feeds_of p e.instrument) e.attrs e.value) (arrivals p m k)
+    (arrivals_from-rise m (feeds_of p e.instrument) e.attrs e.value (subst (λ (q : Planned). Rises q e) is rec.1))
     (recorded-rise p (after_measure r e) k m is rec.2)
 
 total-append : (vs ws : List ℤ) → total (vs ++ ws) ≡ total vs +ℤ total ws
@@ -152,39 +152,39 @@ values-append (x ∷ xs) ys a = by (set_eq a x.0) (values-append xs ys a)
     by false h = h
 
 -- what was fed before, and what is fed after
-fed-later : (limit : ℕ) (xs ys : Arrivals) → placed limit (xs ++ ys) ≡ placed limit xs ++ moved (goes_to (own_sets limit (xs ++ ys))) ys
+fed-later : (limit : ℕ) (xs ys : Arrivals) → placements limit (xs ++ ys) ≡ placements limit xs ++ moved (goes_to (own_sets limit (xs ++ ys))) ys
 fed-later limit xs ys =
     let now = goes_to (own_sets limit (xs ++ ys)) in
     map-append (λ (x : AttrSet × ℤ). let p : AttrSet × ℤ = (now x.0, x.1) in p) xs ys
     ∙ ap (λ l. l ++ moved now ys) (same-fed xs now (goes_to (own_sets limit xs)) (goes-on limit xs ys))
 
-fed-between : (shape : Shape) (limit : ℕ) (xs ys zs : Arrivals) (a : AttrSet) → AreRising ys → AreRising zs → is_out_of_range (payload_of shape (values_of (placed limit xs) a)) ≡ false
-    → is_out_of_range (payload_of shape (values_of (placed limit ((xs ++ ys) ++ zs)) a)) ≡ false → is_out_of_range (payload_of shape (values_of (placed limit (xs ++ ys)) a)) ≡ false
+fed-between : (shape : Shape) (limit : ℕ) (xs ys zs : Arrivals) (a : AttrSet) → AreRising ys → AreRising zs → is_out_of_range (payload_of shape (values_of (placements limit xs) a)) ≡ false
+    → is_out_of_range (payload_of shape (values_of (placements limit ((xs ++ ys) ++ zs)) a)) ≡ false → is_out_of_range (payload_of shape (values_of (placements limit (xs ++ ys)) a)) ≡ false
 fed-between shape limit xs ys zs a r s low high =
-    let vs = values_of (placed limit xs) a in
+    let vs = values_of (placements limit xs) a in
     let g = goes_to (own_sets limit (xs ++ ys)) in
     let f = goes_to (own_sets limit ((xs ++ ys) ++ zs)) in
     let ws = values_of (moved g ys) a in
     let us = values_of (moved f zs) a in
-    let one : values_of (placed limit (xs ++ ys)) a ≡ vs ++ ws = ap (λ l. values_of l a) (fed-later limit xs ys) ∙ values-append (placed limit xs) (moved g ys) a in
-    let two : values_of (placed limit ((xs ++ ys) ++ zs)) a ≡ (vs ++ ws) ++ us =
-    ap (λ l. values_of l a) (fed-later limit (xs ++ ys) zs) ∙ values-append (placed limit (xs ++ ys)) (moved f zs) a ∙ ap (λ l. l ++ us) one in
+    let one : values_of (placements limit (xs ++ ys)) a ≡ vs ++ ws = ap (λ l. values_of l a) (fed-later limit xs ys) ∙ values-append (placements limit xs) (moved g ys) a in
+    let two : values_of (placements limit ((xs ++ ys) ++ zs)) a ≡ (vs ++ ws) ++ us =
+    ap (λ l. values_of l a) (fed-later limit (xs ++ ys) zs) ∙ values-append (placements limit (xs ++ ys)) (moved f zs) a ∙ ap (λ l. l ++ us) one in
     ap (λ l. is_out_of_range (payload_of shape l)) one
     ∙ payload-between shape vs ws us (values-rise (moved g ys) a (moved-rise g ys r)) (values-rise (moved f zs) a (moved-rise f zs s)) low (ap (λ l. is_out_of_range (payload_of shape l)) (sym two) ∙ high)
 
 -- every point that recordings come to is in range
 abbrev InRange : Planned → List Entry → Type 0
-InRange p h = (m : ℕ) (s : Stream) (a : AttrSet) → stream_of p m ≡ Some s → is_out_of_range (payload_of s.shape (values_of (placed p.limit (arrivals p m h)) a)) ≡ false
+InRange p h = (m : ℕ) (s : Stream) (a : AttrSet) → stream_of p m ≡ Some s → is_out_of_range (payload_of s.shape (values_of (placements p.limit (arrivals p m h)) a)) ≡ false
 
-range-between : (p : Planned) (h : List Entry) (e : Entry) (k : List Entry) → ((m : ℕ) → AreRising (brought m (feeds_of p e.instrument) e.attrs e.value)) → ((m : ℕ) → AreRising (arrivals p m k))
+range-between : (p : Planned) (h : List Entry) (e : Entry) (k : List Entry) → ((m : ℕ) → AreRising (arrivals_from m (feeds_of p e.instrument) e.attrs e.value)) → ((m : ℕ) → AreRising (arrivals p m k))
     → InRange p h → InRange p ((h ++ e ∷ []) ++ k) → InRange p (h ++ e ∷ [])
 range-between p h e k one more low high m s a at =
     let xs = arrivals p m h in
-    let ys = brought m (feeds_of p e.instrument) e.attrs e.value in
+    let ys = arrivals_from m (feeds_of p e.instrument) e.attrs e.value in
     let zs = arrivals p m k in
-    ap (λ l. is_out_of_range (payload_of s.shape (values_of (placed p.limit l) a))) (arrivals-push p m h e)
+    ap (λ l. is_out_of_range (payload_of s.shape (values_of (placements p.limit l) a))) (arrivals-push p m h e)
     ∙ fed-between s.shape p.limit xs ys zs a (one m) (more m) (low m s a at)
-    (ap (λ l. is_out_of_range (payload_of s.shape (values_of (placed p.limit l) a))) (sym (arrivals-append p m (h ++ e ∷ []) k ∙ ap (λ l. l ++ zs) (arrivals-push p m h e))) ∙ high m s a at)
+    (ap (λ l. is_out_of_range (payload_of s.shape (values_of (placements p.limit l) a))) (sym (arrivals-append p m (h ++ e ∷ []) k ∙ ap (λ l. l ++ zs) (arrivals-push p m h e))) ∙ high m s a at)
 
 -- ---- one recording that is accepted
 
@@ -203,24 +203,24 @@ overflows-none p h a f range = by (stream_of p f.stream) refl
     set : AttrSet
     set = goes_to (own_sets p.limit (arrivals p f.stream h)) (kept f.keep a)
 
-    by : (o : Option Stream) → stream_of p f.stream ≡ o → option_map_or (λ (s : Stream). is_out_of_range (payload_of s.shape (values_of (placed p.limit (arrivals p f.stream h)) set))) o false ≡ false
+    by : (o : Option Stream) → stream_of p f.stream ≡ o → option_map_or (λ (s : Stream). is_out_of_range (payload_of s.shape (values_of (placements p.limit (arrivals p f.stream h)) set))) o false ≡ false
     by None e = refl
     by (Some s) e = range f.stream s set e
 
-accepted : (p : Planned) (h : List Entry) (e : Entry) → is_none (kind_of p e.instrument) ≡ false → is_negative_for (kind_of p e.instrument) e.value ≡ false → InRange p (h ++ e ∷ []) → refused p h e ≡ None
-unfolding refused
+accepted : (p : Planned) (h : List Entry) (e : Entry) → is_none (kind_of p e.instrument) ≡ false → is_negative_for (kind_of p e.instrument) e.value ≡ false → InRange p (h ++ e ∷ []) → first_refusal p h e ≡ None
+unfolding first_refusal
 accepted p h e n b range =
     let none : find (overflows p (h ++ e ∷ []) e.attrs) (feeds_of p e.instrument) ≡ None =
     find-none (overflows p (h ++ e ∷ []) e.attrs) (feeds_of p e.instrument) (every-all (λ f. overflows p (h ++ e ∷ []) e.attrs f ≡ false) (λ f. overflows-none p (h ++ e ∷ []) e.attrs f range) (feeds_of p e.instrument)) in
     rw (n, b, none) refl
 
 -- what a recorder accepted has an instrument, and is not below 0 where that takes no such values
-told-none : (o : Option MeasureFault) → option_map told o ≡ None → o ≡ None
-told-none None h = refl
-told-none (Some f) h = absurd (cc)
+as_record_fault-none : (o : Option TallyFault) → option_map as_record_fault o ≡ None → o ≡ None
+as_record_fault-none None h = refl
+as_record_fault-none (Some f) h = absurd (cc)
 
 record-none : (r : Tallied) (e : Entry) → record_fault_of r e ≡ None → fault_of r e ≡ None
-record-none r e h = told-none (fault_of r e) (ap (λ b. if b then option_map told (fault_of r e) else Some record_faults.Full) (sym (keeps-all r e h)) ∙ h)
+record-none r e h = as_record_fault-none (fault_of r e) (ap (λ b. if b then option_map as_record_fault (fault_of r e) else Some record_faults.Full) (sym (keeps-all r e h)) ∙ h)
 
 neither : {F : Type 0} (b c : Bool) (f g : F) (o : Option F) → first (when b f ∷ when c g ∷ o ∷ []) ≡ None → (b ≡ false) × (c ≡ false)
 neither true c f g o e = absurd (cc)
@@ -239,8 +239,8 @@ taken-all : (p : Planned) (h k : List Entry) (r : Tallied) → r.plan ≡ p → 
 taken-all p h [] r is rec low high = tt
 taken-all p h (e ∷ k) r is rec low high =
     let whole : InRange p ((h ++ e ∷ []) ++ k) = subst (InRange p) (sym (append_assoc h (e ∷ []) k)) high in
-    let one : (m : ℕ) → AreRising (brought m (feeds_of p e.instrument) e.attrs e.value) =
-    λ m. brought-rise m (feeds_of p e.instrument) e.attrs e.value (subst (λ (q : Planned). Rises q e) is rec.1) in
+    let one : (m : ℕ) → AreRising (arrivals_from m (feeds_of p e.instrument) e.attrs e.value) =
+    λ m. arrivals_from-rise m (feeds_of p e.instrument) e.attrs e.value (subst (λ (q : Planned). Rises q e) is rec.1) in
     let middle : InRange p (h ++ e ∷ []) = range-between p h e k one (λ m. recorded-rise p (after_measure r e) k m is rec.2) low whole in
     let parts : (is_none (kind_of p e.instrument) ≡ false) × (is_negative_for (kind_of p e.instrument) e.value ≡ false) =
     subst (λ (q : Planned). (is_none (kind_of q e.instrument) ≡ false) × (is_negative_for (kind_of q e.instrument) e.value ≡ false)) is (fits-instrument r e (record-none r e rec.0)) in
@@ -256,8 +256,8 @@ every-found q (x ∷ xs) h = by (λ n. every-found q xs n) (q x) refl h
     by rest true e n = absurd (cc)
     by rest false e n = (e, rest n)
 
-no-overflow : (p : Planned) (h : List Entry) (e : Entry) → refused p h e ≡ None → Every (λ f. overflows p (h ++ e ∷ []) e.attrs f ≡ false) (feeds_of p e.instrument)
-unfolding refused
+no-overflow : (p : Planned) (h : List Entry) (e : Entry) → first_refusal p h e ≡ None → Every (λ f. overflows p (h ++ e ∷ []) e.attrs f ≡ false) (feeds_of p e.instrument)
+unfolding first_refusal
 no-overflow p h e none =
     every-found (overflows p (h ++ e ∷ []) e.attrs) (feeds_of p e.instrument)
     (by (is_none (kind_of p e.instrument)) (is_negative_for (kind_of p e.instrument) e.value) (find (overflows p (h ++ e ∷ []) e.attrs) (feeds_of p e.instrument)) none)
@@ -270,7 +270,7 @@ no-overflow p h e none =
 
 -- a recording brings a stream nothing, or its value by one feed
 abbrev Brings : (Feed → Type 0) → ℕ → List Feed → AttrSet → ℤ → Type 0
-Brings P m fs a v = (brought m fs a v ≡ []) ⊎ ((f : Feed) × P f × (f.stream ≡ m) × (brought m fs a v ≡ (kept f.keep a, v) ∷ []))
+Brings P m fs a v = (arrivals_from m fs a v ≡ []) ⊎ ((f : Feed) × P f × (f.stream ≡ m) × (arrivals_from m fs a v ≡ (kept f.keep a, v) ∷ []))
 
 brings : (P : Feed → Type 0) (n m : ℕ) (fs : List Feed) (a : AttrSet) (v : ℤ) → AreFeeds n fs → Every P fs → Brings P m fs a v
 brings P n m [] a v fit h = inl refl
@@ -282,14 +282,14 @@ brings P n m (f ∷ fs) a v fit h = by (f.stream == m) refl (brings P n m fs a v
     by : (b : Bool) → (f.stream == m) ≡ b → Brings P m fs a v → (all b ≡ []) ⊎ ((g : Feed) × P g × (g.stream ≡ m) × (all b ≡ (kept g.keep a, v) ∷ []))
     by true e rest =
         let is : f.stream ≡ m = (unsigned_Decides f.stream m).0 e in
-        let none : brought m fs a v ≡ [] = subst (λ (k : ℕ). brought k fs a v ≡ []) is (brought-none f.stream fs a v fit.1) in
+        let none : arrivals_from m fs a v ≡ [] = subst (λ (k : ℕ). arrivals_from k fs a v ≡ []) is (arrivals_from-none f.stream fs a v fit.1) in
         inr (f, h.0, is, ap (λ l. (kept f.keep a, v) ∷ l) none)
     by false e rest = rest
 
 -- one more value leaves the point that it feeds in range if that point is, and others as they were
-at-set : (shape : Shape) (limit : ℕ) (xs : Arrivals) (b a : AttrSet) (v : ℤ) → is_out_of_range (payload_of shape (values_of (placed limit xs) a)) ≡ false
-    → is_out_of_range (payload_of shape (values_of (placed limit (xs ++ (b, v) ∷ [])) (goes_to (own_sets limit (xs ++ (b, v) ∷ [])) b))) ≡ false
-    → is_out_of_range (payload_of shape (values_of (placed limit (xs ++ (b, v) ∷ [])) a)) ≡ false
+at-set : (shape : Shape) (limit : ℕ) (xs : Arrivals) (b a : AttrSet) (v : ℤ) → is_out_of_range (payload_of shape (values_of (placements limit xs) a)) ≡ false
+    → is_out_of_range (payload_of shape (values_of (placements limit (xs ++ (b, v) ∷ [])) (goes_to (own_sets limit (xs ++ (b, v) ∷ [])) b))) ≡ false
+    → is_out_of_range (payload_of shape (values_of (placements limit (xs ++ (b, v) ∷ [])) a)) ≡ false
 at-set shape limit xs b a v low over = by (set_eq a c) refl
   where
     now : Arrivals
@@ -298,39 +298,39 @@ at-set shape limit xs b a v low over = by (set_eq a c) refl
     c : AttrSet
     c = goes_to (own_sets limit now) b
 
-    by : (t : Bool) → set_eq a c ≡ t → is_out_of_range (payload_of shape (values_of (placed limit now) a)) ≡ false
-    by true e = ap (λ (x : AttrSet). is_out_of_range (payload_of shape (values_of (placed limit now) x))) (same a c e) ∙ over
+    by : (t : Bool) → set_eq a c ≡ t → is_out_of_range (payload_of shape (values_of (placements limit now) a)) ≡ false
+    by true e = ap (λ (x : AttrSet). is_out_of_range (payload_of shape (values_of (placements limit now) x))) (same a c e) ∙ over
     by false e =
-        ap (λ l. is_out_of_range (payload_of shape (values_of l a))) (placed-push limit xs b v)
-        ∙ ap (λ l. is_out_of_range (payload_of shape l)) (values-push (placed limit xs) c v a ∙ ap (λ t. cond t (values_of (placed limit xs) a ++ v ∷ []) (values_of (placed limit xs) a)) e)
+        ap (λ l. is_out_of_range (payload_of shape (values_of l a))) (placements-push limit xs b v)
+        ∙ ap (λ l. is_out_of_range (payload_of shape l)) (values-push (placements limit xs) c v a ∙ ap (λ t. cond t (values_of (placements limit xs) a ++ v ∷ []) (values_of (placements limit xs) a)) e)
         ∙ low
 
 -- the point that a feed brings a value to, where it does not overflow
 fed-in : (p : Planned) (h : List Entry) (a : AttrSet) (f : Feed) (m : ℕ) (s : Stream) (now : Arrivals) → overflows p h a f ≡ false → f.stream ≡ m → stream_of p m ≡ Some s → arrivals p m h ≡ now
-    → is_out_of_range (payload_of s.shape (values_of (placed p.limit now) (goes_to (own_sets p.limit now) (kept f.keep a)))) ≡ false
+    → is_out_of_range (payload_of s.shape (values_of (placements p.limit now) (goes_to (own_sets p.limit now) (kept f.keep a)))) ≡ false
 unfolding fed
 fed-in p h a f m s now none is at there =
-    ap (λ l. is_out_of_range (payload_of s.shape (values_of (placed p.limit l) (goes_to (own_sets p.limit l) (kept f.keep a))))) (sym there)
-    ∙ sym (ap (λ o. option_map_or (λ (x : Stream). is_out_of_range (payload_of x.shape (values_of (placed p.limit (arrivals p m h)) (goes_to (own_sets p.limit (arrivals p m h)) (kept f.keep a))))) o false) at)
-    ∙ subst (λ (n : ℕ). option_map_or (λ (x : Stream). is_out_of_range (payload_of x.shape (values_of (placed p.limit (arrivals p n h)) (goes_to (own_sets p.limit (arrivals p n h)) (kept f.keep a))))) (stream_of p n) false ≡ false) is none
+    ap (λ l. is_out_of_range (payload_of s.shape (values_of (placements p.limit l) (goes_to (own_sets p.limit l) (kept f.keep a))))) (sym there)
+    ∙ sym (ap (λ o. option_map_or (λ (x : Stream). is_out_of_range (payload_of x.shape (values_of (placements p.limit (arrivals p m h)) (goes_to (own_sets p.limit (arrivals p m h)) (kept f.keep a))))) o false) at)
+    ∙ subst (λ (n : ℕ). option_map_or (λ (x : Stream). is_out_of_range (payload_of x.shape (values_of (placements p.limit (arrivals p n h)) (goes_to (own_sets p.limit (arrivals p n h)) (kept f.keep a))))) (stream_of p n) false ≡ false) is none
 
-range-push : (p : Planned) (h : List Entry) (e : Entry) → AreFeeds (length p.streams) (feeds_of p e.instrument) → InRange p h → refused p h e ≡ None → InRange p (h ++ e ∷ [])
+range-push : (p : Planned) (h : List Entry) (e : Entry) → AreFeeds (length p.streams) (feeds_of p e.instrument) → InRange p h → first_refusal p h e ≡ None → InRange p (h ++ e ∷ [])
 range-push p h e fit low none m s a at =
-    ap (λ l. is_out_of_range (payload_of s.shape (values_of (placed p.limit l) a))) (arrivals-push p m h e)
-    ∙ by (brought m (feeds_of p e.instrument) e.attrs e.value) refl (brings (λ f. overflows p (h ++ e ∷ []) e.attrs f ≡ false) (length p.streams) m (feeds_of p e.instrument) e.attrs e.value fit (no-overflow p h e none))
+    ap (λ l. is_out_of_range (payload_of s.shape (values_of (placements p.limit l) a))) (arrivals-push p m h e)
+    ∙ by (arrivals_from m (feeds_of p e.instrument) e.attrs e.value) refl (brings (λ f. overflows p (h ++ e ∷ []) e.attrs f ≡ false) (length p.streams) m (feeds_of p e.instrument) e.attrs e.value fit (no-overflow p h e none))
   where
     xs : Arrivals
     xs = arrivals p m h
 
-    by : (ys : Arrivals) → brought m (feeds_of p e.instrument) e.attrs e.value ≡ ys
+    by : (ys : Arrivals) → arrivals_from m (feeds_of p e.instrument) e.attrs e.value ≡ ys
         → (ys ≡ []) ⊎ ((f : Feed) × (overflows p (h ++ e ∷ []) e.attrs f ≡ false) × (f.stream ≡ m) × (ys ≡ (kept f.keep e.attrs, e.value) ∷ []))
-        → is_out_of_range (payload_of s.shape (values_of (placed p.limit (xs ++ ys)) a)) ≡ false
-    by ys was (inl nothing) = ap (λ l. is_out_of_range (payload_of s.shape (values_of (placed p.limit l) a))) (ap (λ l. xs ++ l) nothing ∙ append-nil xs) ∙ low m s a at
+        → is_out_of_range (payload_of s.shape (values_of (placements p.limit (xs ++ ys)) a)) ≡ false
+    by ys was (inl nothing) = ap (λ l. is_out_of_range (payload_of s.shape (values_of (placements p.limit l) a))) (ap (λ l. xs ++ l) nothing ∙ append-nil xs) ∙ low m s a at
     by ys was (inr one) =
         let b = kept one.0.keep e.attrs in
         let now = xs ++ (b, e.value) ∷ [] in
         let there : arrivals p m (h ++ e ∷ []) ≡ now = arrivals-push p m h e ∙ ap (λ l. xs ++ l) (was ∙ one.3) in
-        ap (λ l. is_out_of_range (payload_of s.shape (values_of (placed p.limit (xs ++ l)) a))) one.3
+        ap (λ l. is_out_of_range (payload_of s.shape (values_of (placements p.limit (xs ++ l)) a))) one.3
         ∙ at-set s.shape p.limit xs b a e.value (low m s a at) (fed-in p (h ++ e ∷ []) e.attrs one.0 m s now one.1 one.2 at there)
 
 none-in : (shape : Shape) → is_out_of_range (payload_of shape []) ≡ false
@@ -361,8 +361,8 @@ fits-in : (limit : ℕ) (es ms : Points) → InPoints es → fits limit es ms �
 fits-in limit es [] all h = all
 fits-in limit es (e ∷ ms) all h =
     let b = place limit es e.0 in
-    let k = both (not (is_out_of_range (met es b e.1))) (fits limit (merged limit es e) ms) h in
-    fits-in limit (merged limit es e) ms (put-in es b (met es b e.1) all (not-true (is_out_of_range (met es b e.1)) k.0)) k.1
+    let k = both (not (is_out_of_range (point_with es b e.1))) (fits limit (with_point limit es e) ms) h in
+    fits-in limit (with_point limit es e) ms (put-in es b (point_with es b e.1) all (not-true (is_out_of_range (point_with es b e.1)) k.0)) k.1
 
 points-in : (shape : Shape) (ps : Arrivals) → ((a : AttrSet) → is_out_of_range (payload_of shape (values_of ps a)) ≡ false) → InPoints (points_of shape ps)
 points-in shape ps all a q is =
@@ -402,11 +402,11 @@ whole-in t r h k alike long stands low fits_all after m s a at =
     let other : m < length r.series = subst (λ (n : ℕ). m < n) (sym long) less in
     let fine : fits p.limit (series_at t.series m) (series_at r.series m) ≡ true =
     unfit-none 0 p.limit t.series r.series m (absorb-none (first_unfit 0 p.limit t.series r.series) fits_all) here other in
-    let was : series_at t.series m ≡ points_of s.shape (placed p.limit (arrivals p m h)) = ap (λ l. series_at l m) stands ∙ at-stream p h m s at in
-    let is : absorb p.limit (series_at t.series m) (series_at r.series m) ≡ points_of s.shape (placed p.limit (arrivals p m (h ++ k))) =
-    sym (at-absorbed p.limit t.series r.series m here other) ∙ ap (λ l. series_at l m) after ∙ at-stream p (h ++ k) m s at in
-    let start : InPoints (series_at t.series m) = subst InPoints (sym was) (points-in s.shape (placed p.limit (arrivals p m h)) (λ b. low m s b at)) in
-    values-in s.shape (placed p.limit (arrivals p m (h ++ k))) a (subst InPoints is (fits-in p.limit (series_at t.series m) (series_at r.series m) start fine))
+    let was : series_at t.series m ≡ points_of s.shape (placements p.limit (arrivals p m h)) = ap (λ l. series_at l m) stands ∙ at-stream p h m s at in
+    let is : absorb p.limit (series_at t.series m) (series_at r.series m) ≡ points_of s.shape (placements p.limit (arrivals p m (h ++ k))) =
+    sym (at-series_with p.limit t.series r.series m here other) ∙ ap (λ l. series_at l m) after ∙ at-stream p (h ++ k) m s at in
+    let start : InPoints (series_at t.series m) = subst InPoints (sym was) (points-in s.shape (placements p.limit (arrivals p m h)) (λ b. low m s b at)) in
+    values-in s.shape (placements p.limit (arrivals p m (h ++ k))) a (subst InPoints is (fits-in p.limit (series_at t.series m) (series_at r.series m) start fine))
 
 -- ---- what a recorder recorded
 
@@ -441,8 +441,8 @@ recorded_none p = record { each = tt; all = refl }
 range-none : (p : Planned) → InRange p []
 range-none p m s a at = none-in s.shape
 
-pub absorbed_taken : AbsorbedAreTaken
-absorbed_taken t r h k alike fit stands taken has fits_all =
+pub series_with_taken : AbsorbedAreTaken
+series_with_taken t r h k alike fit stands taken has fits_all =
     let p = t.plan in
     let holds : Holds r k =
     subst (λ (x : Tallied). Holds x k) has.all (held-all p fit (empty_tally r.plan) [] k alike (holds-none r.plan) has.each) in

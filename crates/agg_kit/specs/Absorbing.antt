@@ -6,7 +6,7 @@ use Rattle.attr_kit.specs.declared.attr_set.AttrSet.{AttrSet}
 use Rattle.point_kit.specs.declared.payload.Payload.{Payload}
 use Rattle.point_kit.specs.declared.shape.Shape.{Shape}
 use Rattle.point_kit.specs.declared.stream.Stream.{Stream}
-use Rattle.agg_kit.specs.Absorbs.{joined}
+use Rattle.agg_kit.specs.Absorbs.{payload_of_both}
 use Rattle.agg_kit.specs.Feeding.{set_eq, overflow_set, is_own}
 use Rattle.agg_kit.specs.Joins.{total_of}
 use Rattle.agg_kit.specs.Parts.{count_of}
@@ -24,7 +24,7 @@ total_at es b = option_map_or total_of (lookup (set_eq b) es) (pos 0)
 
 -- the payload of the point at a place, with a later one
 abbrev pub payload_joined : Points → ℕ → Payload → Payload
-payload_joined es i p = joined (slice_index_or (values_of es) i p) p
+payload_joined es i p = payload_of_both (slice_index_or (values_of es) i p) p
 
 -- points and a payload of one shape
 abbrev pub TakesSound : Points → Payload → Type 0
@@ -38,7 +38,7 @@ AreBothSound es ms = (shape : Shape) × AreSound shape es × AreSound shape ms
 abbrev pub AreAllSound : List Points → List Points → Type 0
 AreAllSound ess mss = (streams : List Stream) × AllSound streams ess × AllSound streams mss
 
--- a walk that has come to these points knows how many sets have their own, and the extent of the overflow set's
+-- a walk that has come to these points knows how many sets have their own, and the amount of the overflow set's
 pub record Knows (w : Walk) (es : Points) : Type 0 where
   pub own : w.own ≡ own_count es
   pub count : w.over.count ≡ count_at es overflow_set

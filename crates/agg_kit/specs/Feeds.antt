@@ -11,10 +11,10 @@ use Rattle.plan_kit.specs.Plans.{Planned, feeds_of, stream_of}
 use Rattle.plan_kit.specs.declared.feed.Feed.{Feed}
 use Rattle.agg_kit.specs.Entries.{Entry}
 use Rattle.agg_kit.specs.Payloads.{is_out_of_range}
-use Rattle.agg_kit.specs.Steps.{Stored, held, place, payload_after, step}
+use Rattle.agg_kit.specs.Steps.{Stored, has_point, place, payload_after, step}
 use Rattle.agg_kit.specs.Tallies.{Points, Tallied}
-use Rattle.agg_kit.specs.declared.fault.MeasureFault.{MeasureFault}
-use Rattle.agg_kit.specs.declared.fault.MeasureFault.TheVariants as faults
+use Rattle.agg_kit.specs.declared.fault.TallyFault.{TallyFault}
+use Rattle.agg_kit.specs.declared.fault.TallyFault.TheVariants as faults
 
 abbrev pub entries_of : List Stored → List Points
 entries_of = map (λ s. s.entries)
@@ -34,14 +34,14 @@ leaves_range p a v ss f =
     is_out_of_range (payload_after (shape_at p f.stream) es (place p.limit es (kept f.keep a)) v)
 
 -- the refusal of the first feed whose point would be out of range
-abbrev pub first_out : Planned → AttrSet → ℤ → List Points → List Feed → Option MeasureFault
+abbrev pub first_out : Planned → AttrSet → ℤ → List Points → List Feed → Option TallyFault
 first_out p a v ss fs = option_map (λ f. faults.Overflow f.stream) (find (leaves_range p a v ss) fs)
 
 -- the points after a recording, which each feed takes under the keys that it keeps
-abbrev pub applied : Planned → List Feed → AttrSet → ℤ → List Points → List Points
-applied p [] a v ss = ss
-applied p (f ∷ fs) a v ss =
-    let after = applied p fs a v ss in
+abbrev pub after_feeds : Planned → List Feed → AttrSet → ℤ → List Points → List Points
+after_feeds p [] a v ss = ss
+after_feeds p (f ∷ fs) a v ss =
+    let after = after_feeds p fs a v ss in
     slice_set after f.stream (step (shape_at p f.stream) p.limit (series_at after f.stream) (kept f.keep a) v)
 
 -- whether all keys are kept
@@ -63,7 +63,7 @@ AllWhole (f ∷ fs) = (f.keep ≡ All) × AllWhole fs
 abbrev pub AllHeld : Planned → List Feed → AttrSet → List Points → Type 0
 AllHeld p [] a ss = Unit {0}
 AllHeld p (f ∷ fs) a ss =
-    (f.keep ≡ All) × (held (series_at ss f.stream) (place p.limit (series_at ss f.stream) a) ≡ true) × AllHeld p fs a ss
+    (f.keep ≡ All) × (has_point (series_at ss f.stream) (place p.limit (series_at ss f.stream) a) ≡ true) × AllHeld p fs a ss
 
 -- no recording like this one takes memory: each feed of its instrument keeps all keys, and its stream has the point
 abbrev pub IsHeld : Tallied → Entry → Type 0
@@ -72,12 +72,12 @@ IsHeld t e = AllHeld t.plan (feeds_of t.plan e.instrument) e.attrs t.series
 -- ---- of series in memory
 
 abbrev pub points_with : Planned → List Feed → AttrSet → ℤ → List Stored → List Points
-points_with p fs a v ss = applied p fs a v (entries_of ss)
+points_with p fs a v ss = after_feeds p fs a v (entries_of ss)
 
-abbrev pub out_at : Planned → AttrSet → ℤ → List Stored → List Feed → Option MeasureFault
+abbrev pub out_at : Planned → AttrSet → ℤ → List Stored → List Feed → Option TallyFault
 out_at p a v ss fs = first_out p a v (entries_of ss) fs
 
-abbrev pub early_out_at : Planned → AttrSet → ℤ → List Stored → List Feed → Option MeasureFault
+abbrev pub early_out_at : Planned → AttrSet → ℤ → List Stored → List Feed → Option TallyFault
 early_out_at p a v ss fs = out_at p a v ss (whole_first fs)
 
 abbrev pub AreHeld : Planned → List Feed → AttrSet → List Stored → Type 0

@@ -3,7 +3,7 @@ use Rattle.std.specs.Prelude.{ℕ, ℤ, pos, ◌+◌, ◌^◌, ◌||◌, not, Bo
 use Rattle.point_kit.specs.declared.payload.Payload.{Payload}
 use Rattle.point_kit.specs.declared.payload.Payload.TheVariants as payloads
 use Rattle.point_kit.specs.declared.shape.Shape.{Shape}
-use Rattle.agg_kit.specs.Absorbs.{added, spanned}
+use Rattle.agg_kit.specs.Absorbs.{bucket_sums, range_of_both}
 use Rattle.agg_kit.specs.Payloads.{fits_sum}
 use Rattle.agg_kit.specs.Sound.{IsSound}
 
@@ -31,10 +31,10 @@ counted_by (payloads.Hist count sum bs range) more = payloads.Hist (count + more
 abbrev pub filled_by : Payload → List ℕ → Payload
 filled_by (payloads.Sum n) more = payloads.Sum n
 filled_by (payloads.Gauge v) more = payloads.Gauge v
-filled_by (payloads.Hist count sum bs range) more = payloads.Hist count sum (added bs more) range
+filled_by (payloads.Hist count sum bs range) more = payloads.Hist count sum (bucket_sums bs more) range
 
 -- a wider range of it
 abbrev pub ranged_by : Payload → Option (ℤ × ℤ) → Payload
 ranged_by (payloads.Sum n) more = payloads.Sum n
 ranged_by (payloads.Gauge v) more = payloads.Gauge v
-ranged_by (payloads.Hist count sum bs range) more = payloads.Hist count sum bs (spanned range more)
+ranged_by (payloads.Hist count sum bs range) more = payloads.Hist count sum bs (range_of_both range more)

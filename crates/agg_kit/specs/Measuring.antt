@@ -8,16 +8,16 @@ use Rattle.attr_kit.specs.Refusing.{first, when}
 use Rattle.point_kit.specs.declared.shape.Shape.{Shape}
 use Rattle.plan_kit.specs.Plans.{Planned, feeds_of, kind_of, stream_of}
 use Rattle.plan_kit.specs.declared.feed.Feed.{Feed}
-use Rattle.agg_kit.specs.Entries.{Entry, Arrivals, brought}
+use Rattle.agg_kit.specs.Entries.{Entry, Arrivals, arrivals_from}
 use Rattle.agg_kit.specs.Feeding.{overflow_set}
 use Rattle.agg_kit.specs.Feeds.{series_at, whole_first}
 use Rattle.agg_kit.specs.Payloads.{is_out_of_range}
 use Rattle.agg_kit.specs.Refusals.{is_negative_for}
 use Rattle.agg_kit.specs.Rounds.{round}
-use Rattle.agg_kit.specs.Steps.{held, payload_at, step}
+use Rattle.agg_kit.specs.Steps.{has_point, payload_at, step}
 use Rattle.agg_kit.specs.Tallies.{Points, Tallied}
-use Rattle.agg_kit.specs.declared.fault.MeasureFault.{MeasureFault}
-use Rattle.agg_kit.specs.declared.fault.MeasureFault.TheVariants as faults
+use Rattle.agg_kit.specs.declared.fault.TallyFault.{TallyFault}
+use Rattle.agg_kit.specs.declared.fault.TallyFault.TheVariants as faults
 
 -- a tally without points
 abbrev pub empty_tally : Planned → Tallied
@@ -29,7 +29,7 @@ points_after shape limit es xs = fold (λ es x. step shape limit es x.0 x.1) es 
 
 -- the points of each stream after what a recording's feeds bring there
 unfoldable pub series_after : Tallied → Entry → List Points
-series_after t e = map (λ s. points_after s.1.shape t.plan.limit (series_at t.series s.0) (brought s.0 (feeds_of t.plan e.instrument) e.attrs e.value)) (enumerate_from 0 t.plan.streams)
+series_after t e = map (λ s. points_after s.1.shape t.plan.limit (series_at t.series s.0) (arrivals_from s.0 (feeds_of t.plan e.instrument) e.attrs e.value)) (enumerate_from 0 t.plan.streams)
 
 -- a tally after a recording
 abbrev pub after_measure : Tallied → Entry → Tallied
@@ -37,7 +37,7 @@ after_measure t e = record t { series = series_after t e }
 
 -- the set under whose point a set is counted: its own where it has one, else the overflow set
 abbrev pub counted_under : Points → AttrSet → AttrSet
-counted_under es a = if held es a then a else overflow_set
+counted_under es a = if has_point es a then a else overflow_set
 
 -- whether the point that a feed brings attributes to is out of range
 abbrev pub is_over : Tallied → AttrSet → Feed → Bool
@@ -46,7 +46,7 @@ is_over t a f =
     option_map_or (λ s. is_out_of_range (payload_at s.shape es (counted_under es (kept f.keep a)))) (stream_of t.plan f.stream) false
 
 -- why a recording into these feeds is refused: there is no instrument, or it takes no such value, or after it the point of a feed would be out of range, the first of these feeds
-abbrev pub fault_into : Tallied → Entry → List Feed → Option MeasureFault
+abbrev pub fault_into : Tallied → Entry → List Feed → Option TallyFault
 fault_into t e fs =
     first
     (when (is_none (kind_of t.plan e.instrument)) faults.NoInstrument
@@ -55,9 +55,9 @@ fault_into t e fs =
     ∷ [])
 
 -- why a recording is refused, memory aside
-unfoldable pub fault_of : Tallied → Entry → Option MeasureFault
+unfoldable pub fault_of : Tallied → Entry → Option TallyFault
 fault_of t e = fault_into t e (feeds_of t.plan e.instrument)
 
 -- the same of the feeds before the first that keeps a list of keys: what is looked for before memory is wanted
-unfoldable pub early_fault_of : Tallied → Entry → Option MeasureFault
+unfoldable pub early_fault_of : Tallied → Entry → Option TallyFault
 early_fault_of t e = fault_into t e (whole_first (feeds_of t.plan e.instrument))

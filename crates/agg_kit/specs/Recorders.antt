@@ -19,8 +19,8 @@ use Rattle.agg_kit.specs.Sound.{AreOnce}
 use Rattle.agg_kit.specs.Steps.{Stored, place}
 use Rattle.agg_kit.specs.Tallies.{Points, Tallied}
 use Rattle.agg_kit.specs.declared.bound.Bound.{Bound}
-use Rattle.agg_kit.specs.declared.fault.MeasureFault.{MeasureFault}
-use Rattle.agg_kit.specs.declared.fault.MeasureFault.TheVariants as faults
+use Rattle.agg_kit.specs.declared.fault.TallyFault.{TallyFault}
+use Rattle.agg_kit.specs.declared.fault.TallyFault.TheVariants as faults
 use Rattle.agg_kit.specs.declared.fault.RecordFault.{RecordFault}
 use Rattle.agg_kit.specs.declared.fault.RecordFault.TheVariants as record_faults
 
@@ -49,25 +49,25 @@ abbrev pub IsOwnBound : Tallied → Bound → Type 0
 IsOwnBound r b = IsBound r b × ((b.places.items ≡ []) ⊎ (keeps_sets r (entry_at b (pos 0)) ≡ true))
 
 -- a tally's refusal as a recorder's: a sum that would leave its range is one that the recorder cannot hold
-abbrev pub told : MeasureFault → RecordFault
-told faults.NoInstrument = record_faults.NoInstrument
-told faults.Negative = record_faults.Negative
-told (faults.Overflow m) = record_faults.Full
-told faults.NoMemory = record_faults.NoMemory
+abbrev pub as_record_fault : TallyFault → RecordFault
+as_record_fault faults.NoInstrument = record_faults.NoInstrument
+as_record_fault faults.Negative = record_faults.Negative
+as_record_fault (faults.Overflow m) = record_faults.Full
+as_record_fault faults.NoMemory = record_faults.NoMemory
 
 -- why a recorder refuses a recording, memory aside
 abbrev pub record_fault_of : Tallied → Entry → Option RecordFault
-record_fault_of r e = if keeps_sets r e then option_map told (fault_of r e) else Some record_faults.Full
+record_fault_of r e = if keeps_sets r e then option_map as_record_fault (fault_of r e) else Some record_faults.Full
 
 -- the points of each stream, with those of another tally
-abbrev pub absorbed : ℕ → List Points → List Points → List Points
-absorbed limit [] more = []
-absorbed limit (es ∷ ess) [] = es ∷ ess
-absorbed limit (es ∷ ess) (ms ∷ mss) = absorb limit es ms ∷ absorbed limit ess mss
+abbrev pub series_with : ℕ → List Points → List Points → List Points
+series_with limit [] more = []
+series_with limit (es ∷ ess) [] = es ∷ ess
+series_with limit (es ∷ ess) (ms ∷ mss) = absorb limit es ms ∷ series_with limit ess mss
 
 -- a tally with what a recorder holds
 abbrev pub with_recorder : Tallied → Tallied → Tallied
-with_recorder t r = record t { series = absorbed t.plan.limit t.series r.series }
+with_recorder t r = record t { series = series_with t.plan.limit t.series r.series }
 
 -- the first of the streams, counted from n, of which a point would leave its range
 abbrev pub first_unfit : ℕ → ℕ → List Points → List Points → Option ℕ
@@ -76,7 +76,7 @@ first_unfit n limit (es ∷ ess) [] = None
 first_unfit n limit (es ∷ ess) (ms ∷ mss) = if fits limit es ms then first_unfit (n + 1) limit ess mss else Some n
 
 -- why a tally refuses to take a recorder in, memory aside
-abbrev pub absorb_fault : Tallied → Tallied → Option MeasureFault
+abbrev pub absorb_fault : Tallied → Tallied → Option TallyFault
 absorb_fault t r = option_map (λ m. faults.Overflow m) (first_unfit 0 t.plan.limit t.series r.series)
 
 -- of no gauge do two sets go under one

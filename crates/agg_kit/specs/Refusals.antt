@@ -11,8 +11,8 @@ use Rattle.agg_kit.specs.Entries.{Entry, arrivals}
 use Rattle.agg_kit.specs.Feeding.{own_sets, goes_to, fed}
 use Rattle.agg_kit.specs.Payloads.{payload_of, is_out_of_range}
 use Rattle.agg_kit.specs.Rounds.{values_of}
-use Rattle.agg_kit.specs.declared.fault.MeasureFault.{MeasureFault}
-use Rattle.agg_kit.specs.declared.fault.MeasureFault.TheVariants as faults
+use Rattle.agg_kit.specs.declared.fault.TallyFault.{TallyFault}
+use Rattle.agg_kit.specs.declared.fault.TallyFault.TheVariants as faults
 
 -- whether a value is below 0 where the instrument takes none
 abbrev pub is_negative_for : Option Kind → ℤ → Bool
@@ -26,7 +26,7 @@ overflows p h a f =
     option_map_or (λ s. is_out_of_range (payload_of s.shape (values_of (fed p f.stream h) set))) (stream_of p f.stream) false
 
 -- the refusals in the order of their numbers; of the feeds, the first whose point would be out of range with this recording
-abbrev pub measure_faults : Planned → List Entry → Entry → List (Option MeasureFault)
+abbrev pub measure_faults : Planned → List Entry → Entry → List (Option TallyFault)
 measure_faults p h e =
     (when (is_none (kind_of p e.instrument)) faults.NoInstrument
     ∷ when (is_negative_for (kind_of p e.instrument) e.value) faults.Negative
@@ -34,5 +34,5 @@ measure_faults p h e =
     ∷ [])
 
 -- the first refusal that fits a recording after the recordings h
-unfoldable pub refused : Planned → List Entry → Entry → Option MeasureFault
-refused p h e = first (measure_faults p h e)
+unfoldable pub first_refusal : Planned → List Entry → Entry → Option TallyFault
+first_refusal p h e = first (measure_faults p h e)

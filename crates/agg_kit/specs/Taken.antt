@@ -4,14 +4,14 @@ use Rattle.plan_kit.specs.Plans.{Planned, AreFeeds, feeds_of}
 use Rattle.agg_kit.specs.Entries.{Entry}
 use Rattle.agg_kit.specs.Measuring.{after_measure, empty_tally}
 use Rattle.agg_kit.specs.Recorders.{record_fault_of, absorb_fault, with_recorder}
-use Rattle.agg_kit.specs.Refusals.{refused}
+use Rattle.agg_kit.specs.Refusals.{first_refusal}
 use Rattle.agg_kit.specs.Rounds.{StandsFor}
 use Rattle.agg_kit.specs.Tallies.{Tallied}
 
 -- each of the recordings k is accepted after the recordings h and those of k before it
 abbrev pub AreTaken : Planned → List Entry → List Entry → Type 0
 AreTaken p h [] = Unit {0}
-AreTaken p h (e ∷ k) = (refused p h e ≡ None) × AreTaken p (h ++ e ∷ []) k
+AreTaken p h (e ∷ k) = (first_refusal p h e ≡ None) × AreTaken p (h ++ e ∷ []) k
 
 -- a recording that feeds a stream is not below 0
 abbrev pub Rises : Planned → Entry → Type 0
@@ -26,6 +26,10 @@ AreRecorded r (e ∷ k) = (record_fault_of r e ≡ None) × Rises r.plan e × Ar
 pub record HasRecorded (r : Tallied) (k : List Entry) : Type 0 where
   pub each : AreRecorded (empty_tally r.plan) k
   pub all : fold after_measure (empty_tally r.plan) k ≡ r
+
+-- what a recorder has recorded, with one recording more: whatever lists it may have accepted
+abbrev pub RecordsAlso : Tallied → Entry → Tallied → Type 0
+RecordsAlso r e s = (k : List Entry) → HasRecorded r k → HasRecorded s (k ++ e ∷ [])
 
 -- a recorder that accepts one more recording has accepted it too
 abbrev pub RecordersHave : Type 0

@@ -4,18 +4,18 @@ ghost use Rattle.std.specs.Option.{option_map};
 ghost use Rattle.std.specs.Map.{keys_of};
 ghost use Rattle.indexmap.specs.IndexMap.{set_value_at};
 ghost use Rattle.agg_kit.specs.Absorbing.{count_at, total_at, payload_joined, AreAllSound, AreBothSound, Knows, TakesSound, Walks};
-ghost use Rattle.agg_kit.specs.Absorbs.{absorb, fits, merged, met};
+ghost use Rattle.agg_kit.specs.Absorbs.{absorb, fits, with_point, point_with};
 ghost use Rattle.agg_kit.specs.Feeding.{overflow_set};
 ghost use Rattle.agg_kit.specs.Feeds.{entries_of};
 ghost use Rattle.agg_kit.specs.Payloads.{is_out_of_range};
-ghost use Rattle.agg_kit.specs.Recorders.{absorbed, first_unfit};
+ghost use Rattle.agg_kit.specs.Recorders.{series_with, first_unfit};
 ghost use Rattle.agg_kit.specs.Sound.{AreOnce};
-ghost use Rattle.agg_kit.specs.Steps.{held, place};
+ghost use Rattle.agg_kit.specs.Steps.{has_point, place};
 ghost use Rattle.agg_kit.specs.Tallies.{Points};
-ghost use Rattle.agg_kit.specs.declared.fault.MeasureFault.TheVariants as faults;
+ghost use Rattle.agg_kit.specs.declared.fault.TallyFault.TheVariants as faults;
 
-use crate::MeasureFault;
-use crate::joining::{Extent, extent_in, join};
+use crate::TallyFault;
+use crate::joining::{Amount, amount_in, join};
 use crate::series::{Fresh, Series};
 use attr_kit::{AttrSet, NoMemory};
 use indexmap::IndexMap;
@@ -23,22 +23,22 @@ use point_kit::Payload;
 use std::mem;
 
 /// What a walk over later points knows of the points that they have come to: how many sets have a point of their own, and the
-/// extent of the overflow set's.
+/// amount of the overflow set's.
 #[derive(Clone, Copy)]
 struct Walk {
     own: u64,
-    over: Extent,
+    over: Amount,
 }
 
 impl Series {
-    // The extent of the point of a set, that of no values where there is none.
-    fn extent_of(&self, set: &AttrSet) -> Extent
+    // The amount of the point of a set, that of no values where there is none.
+    fn amount_of(&self, set: &AttrSet) -> Amount
         ensures count { result.count ≡ count_at self.now.entries set.now }
         ensures sum { result.sum ≡ total_at self.now.entries set.now }
     {
         match self.points.get(set) {
-            Some(payload) => extent_in(payload),
-            None => Extent { count: 0, sum: 0 },
+            Some(payload) => amount_in(payload),
+            None => Amount { count: 0, sum: 0 },
         }
     }
 
@@ -52,17 +52,19 @@ impl Series {
         payload: &Payload,
     ) -> bool
         requires { overflow.now ≡ overflow_set }
-        ensures fits { (es : Points) → Walks walk.old self.now.entries es set.now → TakesSound es payload.now → is_out_of_range (met es (place limit es set.now) payload.now) ≡ not result }
-        ensures goes { (es : Points) → Walks walk.old self.now.entries es set.now → TakesSound es payload.now → result ≡ true → Knows walk.new (merged limit es (set.now, payload.now)) }
+        ensures fits { (es : Points) → Walks walk.old self.now.entries es set.now → TakesSound es payload.now
+            → is_out_of_range (point_with es (place limit es set.now) payload.now) ≡ not result }
+        ensures goes { (es : Points) → Walks walk.old self.now.entries es set.now → TakesSound es payload.now → result ≡ true
+            → Knows walk.new (with_point limit es (set.now, payload.now)) }
     {
-        let more = extent_in(payload);
+        let more = amount_in(payload);
         if *set != *overflow {
             if self.points.contains_key(set) {
-                return self.extent_of(set).plus(more).is_some();
+                return self.amount_of(set).plus(more).is_some();
             }
             if walk.own < limit {
                 walk.own += 1;
-                return self.extent_of(set).plus(more).is_some();
+                return self.amount_of(set).plus(more).is_some();
             }
         }
         match walk.over.plus(more) {
@@ -83,7 +85,7 @@ impl Series {
     {
         let mut walk = Walk {
             own: self.own,
-            over: self.extent_of(overflow),
+            over: self.amount_of(overflow),
         };
         for place in 0..later.points.len() {
             if let Some((set, payload)) = later.points.get_index(place) {
@@ -126,13 +128,13 @@ impl Series {
         payload: Payload,
     )
         requires overflow { overflow.now ≡ overflow_set }
-        requires spare { held self.old.entries overflow_set ≡ false → spare.old ≡ overflow_set }
+        requires spare { has_point self.old.entries overflow_set ≡ false → spare.old ≡ overflow_set }
         requires room { 0 < self.old.room }
         requires sound { TakesSound self.old.entries payload }
-        requires fits { is_out_of_range (met self.old.entries (place limit self.old.entries set) payload) ≡ false }
-        ensures value { self.new.entries ≡ merged limit self.old.entries (set, payload) }
+        requires fits { is_out_of_range (point_with self.old.entries (place limit self.old.entries set) payload) ≡ false }
+        ensures value { self.new.entries ≡ with_point limit self.old.entries (set, payload) }
         ensures room { self.old.room ≤ self.new.room + 1 }
-        ensures spare { held self.new.entries overflow_set ≡ false → spare.new ≡ overflow_set }
+        ensures spare { has_point self.new.entries overflow_set ≡ false → spare.new ≡ overflow_set }
     {
         if let Some(index) = self.find(limit, overflow, &set) {
             self.join_at(index, &payload);
@@ -201,14 +203,15 @@ pub(crate) fn absorb_each(
     series: &mut [Series],
     later: &mut [Series],
     number: usize,
-) -> Result<(), MeasureFault>
+) -> Result<(), TallyFault>
     requires overflow { overflow.now ≡ overflow_set }
     requires sound { AreAllSound (entries_of series.old) (entries_of later.old) }
     requires bound { number + length series.old < 2 ^ 64 }
-    ensures value { OnOk result (entries_of series.new ≡ absorbed limit (entries_of series.old) (entries_of later.old)) }
+    ensures value { OnOk result (entries_of series.new ≡ series_with limit (entries_of series.old) (entries_of later.old)) }
     ensures emptied { OnOk result (entries_of later.new ≡ replicate (length later.old) []) }
     ensures ok { OnOk result (first_unfit number limit (entries_of series.old) (entries_of later.old) ≡ None) }
-    ensures err { IfErr result (λ f. f ≢ faults.NoMemory → option_map (λ m. faults.Overflow m) (first_unfit number limit (entries_of series.old) (entries_of later.old)) ≡ Some f) }
+    ensures err { IfErr result (λ f. f ≢ faults.NoMemory
+        → option_map (λ m. faults.Overflow m) (first_unfit number limit (entries_of series.old) (entries_of later.old)) ≡ Some f) }
     ensures unchanged { OnErr result (entries_of series.new ≡ entries_of series.old) }
     ensures kept { OnErr result (entries_of later.new ≡ entries_of later.old) }
 {
@@ -221,7 +224,7 @@ pub(crate) fn absorb_each(
     let spare = overflow.try_copy()?;
     points.reserve_for(more)?;
     if !points.fits(limit, overflow, more) {
-        return Err(MeasureFault::Overflow(number));
+        return Err(TallyFault::Overflow(number));
     }
     absorb_each(limit, overflow, rest, others, number + 1)?;
     points.take_in(limit, overflow, spare, more);
@@ -234,13 +237,15 @@ pub(crate) fn absorb_into(
     overflow: &AttrSet,
     series: &mut Vec<Series>,
     later: &mut Vec<Series>,
-) -> Result<(), MeasureFault>
+) -> Result<(), TallyFault>
     requires overflow { overflow.now ≡ overflow_set }
     requires sound { AreAllSound (entries_of series.old.items) (entries_of later.old.items) }
-    ensures value { OnOk result (entries_of series.new.items ≡ absorbed limit (entries_of series.old.items) (entries_of later.old.items)) }
+    ensures value { OnOk result (entries_of series.new.items
+        ≡ series_with limit (entries_of series.old.items) (entries_of later.old.items)) }
     ensures emptied { OnOk result (entries_of later.new.items ≡ replicate (length later.old.items) []) }
     ensures ok { OnOk result (first_unfit 0 limit (entries_of series.old.items) (entries_of later.old.items) ≡ None) }
-    ensures err { IfErr result (λ f. f ≢ faults.NoMemory → option_map (λ m. faults.Overflow m) (first_unfit 0 limit (entries_of series.old.items) (entries_of later.old.items)) ≡ Some f) }
+    ensures err { IfErr result (λ f. f ≢ faults.NoMemory
+        → option_map (λ m. faults.Overflow m) (first_unfit 0 limit (entries_of series.old.items) (entries_of later.old.items)) ≡ Some f) }
     ensures unchanged { OnErr result (entries_of series.new.items ≡ entries_of series.old.items) }
     ensures kept { OnErr result (entries_of later.new.items ≡ entries_of later.old.items) }
 {

@@ -4,7 +4,7 @@ ghost use Rattle.agg_kit.specs.BoundPoints.{KnowPlaces};
 ghost use Rattle.agg_kit.specs.Feeding.{overflow_set};
 ghost use Rattle.plan_kit.specs.Plans.{AreFeeds};
 
-use crate::recording::{chosen, restricted};
+use crate::recording::{kept_set, set_or};
 use crate::series::Series;
 use attr_kit::{AttrSet, NoMemory};
 use plan_kit::{Feed, Plan};
@@ -64,8 +64,8 @@ pub(crate) fn places_of(
     let limit = plan.limit();
     let mut places = Vec::with_capacity(alloc, feeds.len())?;
     for feed in feeds {
-        let only = restricted(attrs, &feed.keep)?;
-        let set = chosen(&only, attrs);
+        let only = kept_set(attrs, &feed.keep)?;
+        let set = set_or(&only, attrs);
         match series[feed.stream].find(limit, overflow, set) {
             Some(place) => places.push(place)?,
             None => return Ok(Vec::new(alloc)),

@@ -6,7 +6,7 @@ use thiserror::Error;
 
 /// Why a recording is refused, in the order in which it is looked for.
 #[derive(Debug, PartialEq, Eq, Drop, Error)]
-pub enum MeasureFault {
+pub enum TallyFault {
     /// The plan has no instrument of this number.
     #[error("there is no such instrument")]
     NoInstrument,
@@ -21,13 +21,13 @@ pub enum MeasureFault {
     NoMemory,
 }
 
-impl From<NoMemory> for MeasureFault {
-    ghost use Rattle.agg_kit.specs.declared.fault.MeasureFault.TheVariants as faults;
+impl From<NoMemory> for TallyFault {
+    ghost use Rattle.agg_kit.specs.declared.fault.TallyFault.TheVariants as faults;
 
     ghost from_gives = { λ _ e. e ≡ faults.NoMemory };
 
-    fn from(_error: NoMemory) -> MeasureFault {
-        MeasureFault::NoMemory
+    fn from(_error: NoMemory) -> TallyFault {
+        TallyFault::NoMemory
     }
 }
 
@@ -48,17 +48,17 @@ pub enum RecordFault {
     NoMemory,
 }
 
-impl From<MeasureFault> for RecordFault {
-    ghost use Rattle.agg_kit.specs.Recorders.{told};
+impl From<TallyFault> for RecordFault {
+    ghost use Rattle.agg_kit.specs.Recorders.{as_record_fault};
 
-    ghost from_gives = { λ f e. e ≡ told f };
+    ghost from_gives = { λ f e. e ≡ as_record_fault f };
 
-    fn from(fault: MeasureFault) -> RecordFault {
+    fn from(fault: TallyFault) -> RecordFault {
         match fault {
-            MeasureFault::NoInstrument => RecordFault::NoInstrument,
-            MeasureFault::Negative => RecordFault::Negative,
-            MeasureFault::Overflow(_) => RecordFault::Full,
-            MeasureFault::NoMemory => RecordFault::NoMemory,
+            TallyFault::NoInstrument => RecordFault::NoInstrument,
+            TallyFault::Negative => RecordFault::Negative,
+            TallyFault::Overflow(_) => RecordFault::Full,
+            TallyFault::NoMemory => RecordFault::NoMemory,
         }
     }
 }

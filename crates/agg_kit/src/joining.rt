@@ -1,6 +1,6 @@
 //! Payloads that are joined: an earlier one and a later one of the same shape.
 ghost use Rattle.std.specs.Prelude.{◌≡◌, ◌+◌, ◌+ℤ◌, ◌<◌, ◌^◌, ℕ, false, not, length, is_some, IfSome, slice_index};
-ghost use Rattle.agg_kit.specs.Absorbs.{added, spanned, joined};
+ghost use Rattle.agg_kit.specs.Absorbs.{bucket_sums, range_of_both, payload_of_both};
 ghost use Rattle.agg_kit.specs.Joins.{total_of, is_past, counted_by, filled_by, ranged_by, ShareShape};
 ghost use Rattle.agg_kit.specs.Parts.{count_of, buckets_of};
 ghost use Rattle.agg_kit.specs.Payloads.{is_out_of_range};
@@ -11,47 +11,47 @@ use point_kit::Payload;
 
 /// How far a payload is in its range: its count, and its sum. Of a gauge, whose values do not add up, both are 0.
 #[derive(Clone, Copy)]
-pub(crate) struct Extent {
+pub(crate) struct Amount {
     pub(crate) count: u64,
     pub(crate) sum: i64,
 }
 
-/// The extent of a payload.
-pub(crate) fn extent_in(payload: &Payload) -> Extent
+/// The amount of a payload.
+pub(crate) fn amount_in(payload: &Payload) -> Amount
     ensures count { result.count ≡ count_of payload.now }
     ensures sum { result.sum ≡ total_of payload.now }
 {
     match payload {
-        Payload::Sum(sum) => Extent {
+        Payload::Sum(sum) => Amount {
             count: 0,
             sum: *sum,
         },
-        Payload::Gauge(_) => Extent { count: 0, sum: 0 },
-        Payload::Hist { count, sum, .. } => Extent {
+        Payload::Gauge(_) => Amount { count: 0, sum: 0 },
+        Payload::Hist { count, sum, .. } => Amount {
             count: *count,
             sum: *sum,
         },
     }
 }
 
-impl Extent {
-    /// The extent of both, where it stays in range.
-    pub(crate) fn plus(self, later: Extent) -> Option<Extent>
+impl Amount {
+    /// The amount of both, where it stays in range.
+    pub(crate) fn plus(self, later: Amount) -> Option<Amount>
         ensures count { IfSome result (λ e. e.count ≡ self.count + later.count) }
         ensures sum { IfSome result (λ e. e.sum ≡ self.sum +ℤ later.sum) }
         ensures fits { is_past (self.sum +ℤ later.sum) (self.count + later.count) ≡ not (is_some result) }
     {
         let sum = self.sum.checked_add(later.sum)?;
         let count = self.count.checked_add(later.count)?;
-        Some(Extent { count, sum })
+        Some(Amount { count, sum })
     }
 }
 
 /// Joins a later payload to this one, in place.
 pub(crate) fn join(payload: &mut Payload, later: &Payload)
     requires alike { ShareShape payload.old later.now }
-    requires in_range { is_out_of_range (joined payload.old later.now) ≡ false }
-    ensures { payload.new ≡ joined payload.old later.now }
+    requires in_range { is_out_of_range (payload_of_both payload.old later.now) ≡ false }
+    ensures { payload.new ≡ payload_of_both payload.old later.now }
 {
     match later {
         Payload::Sum(sum) => add_to_total(payload, *sum),
@@ -104,7 +104,7 @@ fn widen_by(payload: &mut Payload, more: Option<(i64, i64)>)
 fn add_each(buckets: &mut Seq<u64>, more: &Seq<u64>)
     requires long { length buckets.old ≡ length more.now }
     requires room { (j : ℕ) → slice_index buckets.old j + slice_index more.now j < 2 ^ 64 }
-    ensures { buckets.new ≡ added buckets.old more.now }
+    ensures { buckets.new ≡ bucket_sums buckets.old more.now }
 {
     for place in 0..more.len() {
         let count = buckets.as_slice()[place];
@@ -115,7 +115,7 @@ fn add_each(buckets: &mut Seq<u64>, more: &Seq<u64>)
 
 // The range of both.
 fn spanned_range(range: Option<(i64, i64)>, more: Option<(i64, i64)>) -> Option<(i64, i64)>
-    ensures { result ≡ spanned range more }
+    ensures { result ≡ range_of_both range more }
 {
     let Some((least, greatest)) = range else {
         return more;

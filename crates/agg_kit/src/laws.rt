@@ -8,7 +8,7 @@ ghost use Rattle.agg_kit.specs.Feeds.{AllWhole};
 ghost use Rattle.agg_kit.specs.Laws.{SumsAddUp, CountsAddUp, IsLimited, OwnPointsStay, FedGrows, RoundsHaveFed};
 ghost use Rattle.agg_kit.specs.Measuring.{after_measure, early_fault_of, empty_tally, fault_of};
 ghost use Rattle.agg_kit.specs.Recorders.{Holds, RecordersHold, AbsorbingIsRecording, OwnBoundPointsStay};
-ghost use Rattle.agg_kit.specs.Refusals.{refused};
+ghost use Rattle.agg_kit.specs.Refusals.{first_refusal};
 ghost use Rattle.agg_kit.specs.Rounds.{StandsFor};
 ghost use Rattle.agg_kit.specs.Taken.{AbsorbedAreTaken, HasRecorded, RecordersHave};
 ghost use Rattle.agg_kit.specs.Tallies.{Tallied};
@@ -19,7 +19,7 @@ ghost use Rattle.agg_kit.specs.Tallies.{Tallied};
 pub fn steps_are_recordings()
     ensures empty { (p : Planned) → StandsFor (empty_tally p) [] }
     ensures stands { (t : Tallied) (h : List Entry) (e : Entry) → StandsFor t h → StandsFor (after_measure t e) (h ++ e ∷ []) }
-    ensures refused { (t : Tallied) (h : List Entry) (e : Entry) → StandsFor t h → fault_of t e ≡ refused t.plan h e }
+    ensures refused { (t : Tallied) (h : List Entry) (e : Entry) → StandsFor t h → fault_of t e ≡ first_refusal t.plan h e }
     ensures whole { (t : Tallied) (e : Entry) → AllWhole (feeds_of t.plan e.instrument) → early_fault_of t e ≡ fault_of t e }
 {}
 

@@ -1,18 +1,18 @@
 //! Recorders: a thread's own tally, which another tally takes in.
-ghost use Rattle.std.specs.Prelude.{◌≡◌, ◌≢◌, ◌↔◌, ◌∷◌, ◌++◌, [], pos, true, List, length, Some, None, IfOk, IfErr, OnOk, OnErr, IsOk, IsTrue};
+ghost use Rattle.std.specs.Prelude.{◌≡◌, ◌≢◌, ◌↔◌, [], pos, true, length, Some, None, IfOk, IfErr, OnOk, OnErr, IsOk, IsTrue};
 ghost use Rattle.plan_kit.specs.Plans.{AreFeeds, rises};
 ghost use Rattle.agg_kit.specs.BoundPoints.{HasInstrument, IsBound, LacksInstrument, entry_at};
-ghost use Rattle.agg_kit.specs.Entries.{Entry, entry_of};
+ghost use Rattle.agg_kit.specs.Entries.{entry_of};
 ghost use Rattle.agg_kit.specs.Feeding.{overflow_set};
 ghost use Rattle.agg_kit.specs.Feeds.{IsHeld, AreHeld};
 ghost use Rattle.agg_kit.specs.Measuring.{after_measure, empty_tally, fault_of};
 ghost use Rattle.agg_kit.specs.Recorders.{keep_sets, keeps_sets, record_fault_of, IsOwnBound, OnlyRises};
-ghost use Rattle.agg_kit.specs.Taken.{HasRecorded};
-ghost use Rattle.agg_kit.specs.declared.fault.MeasureFault.TheVariants as faults;
+ghost use Rattle.agg_kit.specs.Taken.{HasRecorded, RecordsAlso};
+ghost use Rattle.agg_kit.specs.declared.fault.TallyFault.TheVariants as faults;
 
-use crate::recording::{chosen, restricted, shape_of};
+use crate::recording::{kept_set, set_or, shape_of};
 use crate::series::Series;
-use crate::{Bound, MeasureFault, RecordFault, Tally};
+use crate::{Bound, RecordFault, Tally, TallyFault};
 use attr_kit::{AttrSet, NoMemory};
 use plan_kit::{Feed, Plan};
 use point_kit::Shape;
@@ -68,8 +68,9 @@ impl Recorder {
         ensures ok { OnOk result (record_fault_of self.old (entry_of instrument attrs.now value) ≡ None) }
         ensures value { OnOk result (self.new ≡ after_measure self.old (entry_of instrument attrs.now value)) }
         // What it has accepted since it was empty, and this recording.
-        ensures recorded { OnOk result ((k : List Entry) → HasRecorded self.old k → HasRecorded self.new (k ++ entry_of instrument attrs.now value ∷ [])) }
-        ensures err { IfErr result (λ f. f ≢ RecordFault.NoMemory → record_fault_of self.old (entry_of instrument attrs.now value) ≡ Some f) }
+        ensures recorded { OnOk result (RecordsAlso self.old (entry_of instrument attrs.now value) self.new) }
+        ensures err { IfErr result (λ f. f ≢ RecordFault.NoMemory
+            → record_fault_of self.old (entry_of instrument attrs.now value) ≡ Some f) }
         ensures held { IsHeld self.old (entry_of instrument attrs.now value) → IfErr result (λ f. f ≢ RecordFault.NoMemory) }
         ensures unchanged { OnErr result (self.new ≡ self.old) }
     {
@@ -150,7 +151,7 @@ impl Recorder {
     }
 
     // Records a value at a bound point that knows its places, each of a set's own point.
-    fn measure_known(&mut self, bound: &mut Bound, value: i64) -> Result<(), MeasureFault>
+    fn measure_known(&mut self, bound: &mut Bound, value: i64) -> Result<(), TallyFault>
         requires bound { IsBound self.old bound.old }
         requires known { bound.old.places.items ≢ [] }
         requires keeps { keeps_sets self.old (entry_at bound.old (pos 0)) ≡ true }
@@ -218,8 +219,8 @@ pub(crate) fn keep_each(
     }
     let points = &series[feed.stream];
     if !points.has_room(plan.limit()) {
-        let only = restricted(attrs, &feed.keep)?;
-        if !points.has_own(overflow, chosen(&only, attrs)) {
+        let only = kept_set(attrs, &feed.keep)?;
+        if !points.has_own(overflow, set_or(&only, attrs)) {
             return Ok(false);
         }
     }

@@ -9,9 +9,9 @@ ghost use Rattle.agg_kit.specs.Feeding.{overflow_set};
 ghost use Rattle.agg_kit.specs.Feeds.{entries_of, shape_at, early_out_at, out_at, points_with, AreHeld};
 ghost use Rattle.agg_kit.specs.Kept.{whole_feed};
 ghost use Rattle.agg_kit.specs.Sound.{AllSound};
-ghost use Rattle.agg_kit.specs.declared.fault.MeasureFault.TheVariants as faults;
+ghost use Rattle.agg_kit.specs.declared.fault.TallyFault.TheVariants as faults;
 
-use crate::MeasureFault;
+use crate::TallyFault;
 use crate::series::Series;
 use attr_kit::{AttrSet, Keep, NoMemory};
 use plan_kit::{Feed, Plan};
@@ -35,7 +35,7 @@ pub(crate) fn shape_of(plan: &Plan, stream: usize) -> &Shape
 }
 
 // The set that a feed keeps of the attributes, or none where it keeps them all: they are not copied.
-pub(crate) fn restricted(attrs: &AttrSet, keep: &Keep) -> Result<Option<AttrSet>, NoMemory>
+pub(crate) fn kept_set(attrs: &AttrSet, keep: &Keep) -> Result<Option<AttrSet>, NoMemory>
     ensures value { IfOk result (λ set. unwrap_or set attrs.now ≡ kept keep.now attrs.now) }
     ensures no_memory { OnErr result (keep.now ≢ keeps.All) }
 {
@@ -46,7 +46,7 @@ pub(crate) fn restricted(attrs: &AttrSet, keep: &Keep) -> Result<Option<AttrSet>
 }
 
 // That set, or the attributes where there is none.
-pub(crate) fn chosen<'a>(only: &'a Option<AttrSet>, attrs: &'a AttrSet) -> &'a AttrSet
+pub(crate) fn set_or<'a>(only: &'a Option<AttrSet>, attrs: &'a AttrSet) -> &'a AttrSet
     ensures { result.now ≡ unwrap_or only.now attrs.now }
 {
     match only {
@@ -87,7 +87,7 @@ pub(crate) fn record(
     attrs: &AttrSet,
     places: &[usize],
     value: i64,
-) -> Result<(), MeasureFault>
+) -> Result<(), TallyFault>
     requires overflow { overflow.now ≡ overflow_set }
     requires lone { IfSome lone (λ m. feeds.now ≡ whole_feed m ∷ []) }
     requires feeds { AreFeeds (length series.old.items) feeds.now }
@@ -107,7 +107,7 @@ pub(crate) fn record(
         let shape = shape_of(plan, stream);
         let points = &mut series[stream];
         if !points.try_add(place, shape, value) {
-            return Err(MeasureFault::Overflow(stream));
+            return Err(TallyFault::Overflow(stream));
         }
         return Ok(());
     }
@@ -126,7 +126,7 @@ fn record_at(
     attrs: &AttrSet,
     places: &[usize],
     value: i64,
-) -> Result<(), MeasureFault>
+) -> Result<(), TallyFault>
     requires feeds { AreFeeds (length series.old.items) feeds.now }
     requires sound { AllSound plan.now.streams (entries_of series.old.items) }
     requires at { StandAt plan.now feeds.now places.now attrs.now series.old.items }
@@ -145,7 +145,7 @@ fn record_at(
     let shape = shape_of(plan, feed.stream);
     let points = &series[feed.stream];
     if !points.takes(*place, value) {
-        return Err(MeasureFault::Overflow(feed.stream));
+        return Err(TallyFault::Overflow(feed.stream));
     }
     record_at(plan, series, rest, attrs, later, value)?;
     series[feed.stream].add(*place, shape, value);
@@ -161,7 +161,7 @@ fn record_each(
     attrs: &AttrSet,
     value: i64,
     memory: Memory,
-) -> Result<(), MeasureFault>
+) -> Result<(), TallyFault>
     requires overflow { overflow.now ≡ overflow_set }
     requires feeds { AreFeeds (length series.old.items) feeds.now }
     requires sound { AllSound plan.now.streams (entries_of series.old.items) }
@@ -178,11 +178,11 @@ fn record_each(
     let Some((feed, rest)) = feeds.split_first() else {
         return match memory {
             Memory::Found => Ok(()),
-            Memory::Short => Err(MeasureFault::NoMemory),
+            Memory::Short => Err(TallyFault::NoMemory),
         };
     };
-    let only = restricted(attrs, &feed.keep)?;
-    let set = chosen(&only, attrs);
+    let only = kept_set(attrs, &feed.keep)?;
+    let set = set_or(&only, attrs);
     let limit = plan.limit();
     let shape = shape_of(plan, feed.stream);
     let points = &mut series[feed.stream];
@@ -196,7 +196,7 @@ fn record_each(
         return Ok(());
     };
     if !points.takes(place, value) {
-        return Err(MeasureFault::Overflow(feed.stream));
+        return Err(TallyFault::Overflow(feed.stream));
     }
     record_each(plan, overflow, series, rest, attrs, value, memory)?;
     series[feed.stream].add(place, shape, value);

@@ -10,7 +10,7 @@ ghost use Rattle.agg_kit.specs.Kept.{whole_feed, AreLone};
 ghost use Rattle.agg_kit.specs.Measuring.{after_measure, early_fault_of, empty_tally, fault_of};
 ghost use Rattle.agg_kit.specs.Recorders.{absorb_fault, keeps_sets, with_recorder};
 ghost use Rattle.agg_kit.specs.Refusals.{is_negative_for};
-ghost use Rattle.agg_kit.specs.declared.fault.MeasureFault.TheVariants as faults;
+ghost use Rattle.agg_kit.specs.declared.fault.TallyFault.TheVariants as faults;
 ghost use Rattle.agg_kit.specs.Sound.{AllSound};
 ghost use Rattle.plan_kit.specs.Plans.{feeds_of, kind_of, AllRise};
 ghost use Rattle.plan_kit.specs.declared.instrument.Kind.{Kind};
@@ -20,7 +20,7 @@ use crate::bound::places_of;
 use crate::recorder::keep_each;
 use crate::recording::record;
 use crate::series::Series;
-use crate::{Bound, MeasureFault, Recorder};
+use crate::{Bound, Recorder, TallyFault};
 use attr_kit::{AttrSet, AttrValue, Keep, NoMemory, Txt};
 use plan_kit::{Feed, Kind, Plan};
 use point_kit::Payload;
@@ -71,14 +71,14 @@ impl Tally {
         instrument: usize,
         attrs: &AttrSet,
         value: i64,
-    ) -> Result<(), MeasureFault>
+    ) -> Result<(), TallyFault>
         ensures ok { OnOk result (fault_of self.old (entry_of instrument attrs.now value) ≡ None) }
         ensures value { OnOk result (self.new ≡ after_measure self.old (entry_of instrument attrs.now value)) }
-        ensures err { IfErr result (λ f. f ≢ MeasureFault.NoMemory → fault_of self.old (entry_of instrument attrs.now value) ≡ Some f) }
+        ensures err { IfErr result (λ f. f ≢ TallyFault.NoMemory → fault_of self.old (entry_of instrument attrs.now value) ≡ Some f) }
         // Where a feed keeps a list of keys, what it keeps takes memory; the feeds before the first such feed are in range.
         ensures no_memory { IfErr result (λ f. f ≡ faults.NoMemory → early_fault_of self.old (entry_of instrument attrs.now value) ≡ None) }
         // Points that are there take no memory where every feed keeps all keys.
-        ensures held { IsHeld self.old (entry_of instrument attrs.now value) → IfErr result (λ f. f ≢ MeasureFault.NoMemory) }
+        ensures held { IsHeld self.old (entry_of instrument attrs.now value) → IfErr result (λ f. f ≢ TallyFault.NoMemory) }
         ensures unchanged { OnErr result (self.new ≡ self.old) }
     {
         self.measure_at(instrument, attrs, &[], value)
@@ -88,15 +88,16 @@ impl Tally {
     /// Nothing is recorded, and no point appears before a value comes.
     ///
     /// Refuses, in this order: `NoInstrument`, `NoMemory`. O(feeds of the instrument times the size of the attributes).
-    pub fn bind(&self, instrument: usize, attrs: &AttrSet) -> Result<Bound, MeasureFault>
+    pub fn bind(&self, instrument: usize, attrs: &AttrSet) -> Result<Bound, TallyFault>
         ensures ok { OnOk result (HasInstrument self.now instrument) }
         ensures value { IfOk result (λ b. (b.instrument ≡ instrument) × (b.attrs ≡ attrs.now)) }
         ensures bound { IfOk result (λ b. IsBound self.now b) }
-        ensures err { IfErr result (λ f. f ≢ MeasureFault.NoMemory → (f ≡ MeasureFault.NoInstrument) × LacksInstrument self.now instrument) }
-        ensures no_memory { IfErr result (λ f. f ≡ MeasureFault.NoMemory → HasInstrument self.now instrument) }
+        ensures err { IfErr result (λ f. f ≢ TallyFault.NoMemory
+            → (f ≡ TallyFault.NoInstrument) × LacksInstrument self.now instrument) }
+        ensures no_memory { IfErr result (λ f. f ≡ TallyFault.NoMemory → HasInstrument self.now instrument) }
     {
         let Some(feeds) = self.plan.feeds(instrument) else {
-            return Err(MeasureFault::NoInstrument);
+            return Err(TallyFault::NoInstrument);
         };
         let alloc = *self.series.allocator();
         Ok(Bound {
@@ -141,14 +142,14 @@ impl Tally {
     ///
     /// The bound point is at home in this tally: it was bound or bound again by this tally since its start, or is released. Refuses
     /// as `measure` does, but for want of memory, which never comes where the places are known. O(feeds of the instrument).
-    pub fn measure_bound(&mut self, bound: &mut Bound, value: i64) -> Result<(), MeasureFault>
+    pub fn measure_bound(&mut self, bound: &mut Bound, value: i64) -> Result<(), TallyFault>
         requires { IsBound self.old bound.old }
         ensures ok { OnOk result (fault_of self.old (entry_at bound.old value) ≡ None) }
         ensures value { OnOk result (self.new ≡ after_measure self.old (entry_at bound.old value)) }
-        ensures err { IfErr result (λ f. f ≢ MeasureFault.NoMemory → fault_of self.old (entry_at bound.old value) ≡ Some f) }
+        ensures err { IfErr result (λ f. f ≢ TallyFault.NoMemory → fault_of self.old (entry_at bound.old value) ≡ Some f) }
         ensures no_memory { IfErr result (λ f. f ≡ faults.NoMemory → early_fault_of self.old (entry_at bound.old value) ≡ None) }
-        ensures held { IsHeld self.old (entry_at bound.old value) → IfErr result (λ f. f ≢ MeasureFault.NoMemory) }
-        ensures known { bound.old.places.items ≢ [] → IfErr result (λ f. f ≢ MeasureFault.NoMemory) }
+        ensures held { IsHeld self.old (entry_at bound.old value) → IfErr result (λ f. f ≢ TallyFault.NoMemory) }
+        ensures known { bound.old.places.items ≢ [] → IfErr result (λ f. f ≢ TallyFault.NoMemory) }
         ensures unchanged { OnErr result (self.new ≡ self.old) }
         ensures instrument { bound.new.instrument ≡ bound.old.instrument }
         ensures attrs { bound.new.attrs ≡ bound.old.attrs }
@@ -172,21 +173,21 @@ impl Tally {
         attrs: &AttrSet,
         places: &[usize],
         value: i64,
-    ) -> Result<(), MeasureFault>
+    ) -> Result<(), TallyFault>
         requires { AreKnown self.old.plan (feeds_of self.old.plan instrument) places.now attrs.now self.old.series }
         ensures ok { OnOk result (fault_of self.old (entry_of instrument attrs.now value) ≡ None) }
         ensures value { OnOk result (self.new ≡ after_measure self.old (entry_of instrument attrs.now value)) }
-        ensures err { IfErr result (λ f. f ≢ MeasureFault.NoMemory → fault_of self.old (entry_of instrument attrs.now value) ≡ Some f) }
+        ensures err { IfErr result (λ f. f ≢ TallyFault.NoMemory → fault_of self.old (entry_of instrument attrs.now value) ≡ Some f) }
         ensures no_memory { IfErr result (λ f. f ≡ faults.NoMemory → early_fault_of self.old (entry_of instrument attrs.now value) ≡ None) }
-        ensures held { IsHeld self.old (entry_of instrument attrs.now value) → IfErr result (λ f. f ≢ MeasureFault.NoMemory) }
-        ensures known { places.now ≢ [] → IfErr result (λ f. f ≢ MeasureFault.NoMemory) }
+        ensures held { IsHeld self.old (entry_of instrument attrs.now value) → IfErr result (λ f. f ≢ TallyFault.NoMemory) }
+        ensures known { places.now ≢ [] → IfErr result (λ f. f ≢ TallyFault.NoMemory) }
         ensures unchanged { OnErr result (self.new ≡ self.old) }
     {
         let Some(feeds) = self.plan.feeds(instrument) else {
-            return Err(MeasureFault::NoInstrument);
+            return Err(TallyFault::NoInstrument);
         };
         if is_negative(self.plan.kind(instrument), value) {
-            return Err(MeasureFault::Negative);
+            return Err(TallyFault::Negative);
         }
         record(
             &self.plan,
@@ -203,7 +204,8 @@ impl Tally {
     // Whether each feed of an instrument leads to a stream that only rises, with a point of its own for the set, or room for one.
     pub(crate) fn keeps_sets(&self, instrument: usize, attrs: &AttrSet) -> Result<bool, NoMemory>
         ensures value { IfOk result (λ keeps. (v : ℤ) → keeps ≡ keeps_sets self.now (entry_of instrument attrs.now v)) }
-        ensures rising { (k : Kind) → kind_of self.now.plan instrument ≡ Some k → AllRise self.now.plan k (feeds_of self.now.plan instrument) }
+        ensures rising { (k : Kind) → kind_of self.now.plan instrument ≡ Some k
+            → AllRise self.now.plan k (feeds_of self.now.plan instrument) }
         ensures held { (v : ℤ) → IsHeld self.now (entry_of instrument attrs.now v) → IsOk result }
     {
         match self.plan.feeds(instrument) {
@@ -218,12 +220,12 @@ impl Tally {
     ///
     /// Refuses, and leaves both as they were: `Overflow` with the first stream of which a point would leave its range, `NoMemory`.
     /// O(streams, and points of the recorder).
-    pub fn absorb(&mut self, recorder: &mut Recorder) -> Result<(), MeasureFault>
+    pub fn absorb(&mut self, recorder: &mut Recorder) -> Result<(), TallyFault>
         requires { recorder.old.plan ≡ self.old.plan }
         ensures ok { OnOk result (absorb_fault self.old recorder.old ≡ None) }
         ensures value { OnOk result (self.new ≡ with_recorder self.old recorder.old) }
         ensures emptied { OnOk result (recorder.new ≡ empty_tally recorder.old.plan) }
-        ensures err { IfErr result (λ f. f ≢ MeasureFault.NoMemory → absorb_fault self.old recorder.old ≡ Some f) }
+        ensures err { IfErr result (λ f. f ≢ TallyFault.NoMemory → absorb_fault self.old recorder.old ≡ Some f) }
         ensures unchanged { OnErr result (self.new ≡ self.old) }
         ensures kept { OnErr result (recorder.new ≡ recorder.old) }
     {
@@ -231,12 +233,12 @@ impl Tally {
     }
 
     // The same of a tally of the same plan, in which each set has a point of its own.
-    fn take_from(&mut self, other: &mut Tally) -> Result<(), MeasureFault>
+    fn take_from(&mut self, other: &mut Tally) -> Result<(), TallyFault>
         requires { other.old.plan ≡ self.old.plan }
         ensures ok { OnOk result (absorb_fault self.old other.old ≡ None) }
         ensures value { OnOk result (self.new ≡ with_recorder self.old other.old) }
         ensures emptied { OnOk result (other.new ≡ empty_tally other.old.plan) }
-        ensures err { IfErr result (λ f. f ≢ MeasureFault.NoMemory → absorb_fault self.old other.old ≡ Some f) }
+        ensures err { IfErr result (λ f. f ≢ TallyFault.NoMemory → absorb_fault self.old other.old ≡ Some f) }
         ensures unchanged { OnErr result (self.new ≡ self.old) }
         ensures kept { OnErr result (other.new ≡ other.old) }
     {

@@ -5,27 +5,27 @@ use Rattle.std.specs.Cmp.Lexicographic.{slice_cmp, pointwise, nat_list_cmp_total
 use Rattle.std.specs.List.{list_any}
 use Rattle.std.specs.Ordering.{nat_cmp, match_ordering}
 use Rattle.std.specs.declared.cmp.Ordering.TheVariants.{Less, Equal, Greater}
-use Rattle.attr_kit.specs.AllowLists.{allowed, is_listed, is_rising}
+use Rattle.attr_kit.specs.AllowLists.{listed_keys, is_listed, is_rising}
 use Rattle.attr_kit.specs.OrderLaws.{text_apart}
 use Rattle.attr_kit.proofs.Rising.{rising_fold}
 
-pub allowed_none : allowed [] ≡ []
-unfolding allowed
-allowed_none = refl
+pub listed_keys_none : listed_keys [] ≡ []
+unfolding listed_keys
+listed_keys_none = refl
 
 fold_push : {A B : Type 0} (f : B → A → B) (b : B) (xs : List A) (x : A) → fold f b (xs ++ x ∷ []) ≡ f (fold f b xs) x
 fold_push f b [] x = refl
 fold_push f b (y ∷ ys) x = fold_push f (f b y) ys x
 
 -- one key more
-pub allowed_push : (keys set new : List (List ℕ)) (key : List ℕ) → set ≡ allowed keys → new ≡ insert_key (slice_cmp nat_cmp) set key → new ≡ allowed (keys ++ key ∷ [])
-unfolding allowed
-allowed_push keys set new key h n = n ∙ ap (λ s. insert_key (slice_cmp nat_cmp) s key) h ∙ sym (fold_push (λ listed key. insert_key (slice_cmp nat_cmp) listed key) [] keys key)
+pub listed_keys_push : (keys set new : List (List ℕ)) (key : List ℕ) → set ≡ listed_keys keys → new ≡ insert_key (slice_cmp nat_cmp) set key → new ≡ listed_keys (keys ++ key ∷ [])
+unfolding listed_keys
+listed_keys_push keys set new key h n = n ∙ ap (λ s. insert_key (slice_cmp nat_cmp) s key) h ∙ sym (fold_push (λ listed key. insert_key (slice_cmp nat_cmp) listed key) [] keys key)
 
 -- an allow-list rises
-pub allowed_rising : (keys : List (List ℕ)) → is_rising (slice_cmp nat_cmp) (allowed keys) ≡ true
-unfolding allowed
-allowed_rising keys = rising_fold (slice_cmp nat_cmp) nat_list_cmp_total [] keys refl
+pub listed_keys_rising : (keys : List (List ℕ)) → is_rising (slice_cmp nat_cmp) (listed_keys keys) ≡ true
+unfolding listed_keys
+listed_keys_rising keys = rising_fold (slice_cmp nat_cmp) nat_list_cmp_total [] keys refl
 
 swap_or : (a b c : Bool) → (a || (b || c)) ≡ (b || (a || c))
 swap_or true true c = refl
@@ -59,9 +59,9 @@ module _ (test : List ℕ → Bool) where
       or_assoc false b c = refl
 
 -- an allow-list lists the keys that it was made of
-pub is_listed-allowed : (keys : List (List ℕ)) (key : List ℕ) → is_listed (allowed keys) key ≡ is_listed keys key
-unfolding allowed
-is_listed-allowed keys key = any_fold (pointwise nat_eq key) [] keys ∙ or_false (list_any (pointwise nat_eq key) keys)
+pub is_listed-listed_keys : (keys : List (List ℕ)) (key : List ℕ) → is_listed (listed_keys keys) key ≡ is_listed keys key
+unfolding listed_keys
+is_listed-listed_keys keys key = any_fold (pointwise nat_eq key) [] keys ∙ or_false (list_any (pointwise nat_eq key) keys)
   where
     or_false : (a : Bool) → (a || false) ≡ a
     or_false true = refl

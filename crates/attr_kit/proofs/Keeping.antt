@@ -7,14 +7,14 @@ use Rattle.std.specs.List.{list_all}
 use Rattle.std.specs.Ordering.{nat_cmp}
 use Rattle.attr_kit.specs.Attributes.{AreAttributes, has_text}
 use Rattle.attr_kit.specs.declared.attr_value.AttrValue.{AttrValue}
-use Rattle.attr_kit.specs.AllowLists.{allowed, is_listed}
+use Rattle.attr_kit.specs.AllowLists.{listed_keys, is_listed}
 use Rattle.attr_kit.specs.Keeping.{keeps, kept}
 use Rattle.attr_kit.specs.OrderLaws.{text_apart}
 use Rattle.attr_kit.specs.Orders.{text_cmp}
 use Rattle.attr_kit.specs.Putting.{value_of}
 use Rattle.attr_kit.specs.declared.keep.Keep.{Keep}
 use Rattle.attr_kit.specs.declared.keep.Keep.TheVariants.{All, Only}
-use Rattle.attr_kit.proofs.Allowing.{is_listed-allowed}
+use Rattle.attr_kit.proofs.Allowing.{is_listed-listed_keys}
 use Rattle.attr_kit.proofs.Rising.{both, left, right}
 
 passed : (b : Bool) → T b → b ≡ true
@@ -54,8 +54,8 @@ value_kept All key ps = refl
 value_kept (Only keys) key ps = find-where_key text_cmp (is_listed keys) key (λ x e. ap (is_listed keys) (sym (text_apart key x e))) ps
 
 -- what is kept by an allow-list is what has one of the keys that it was made of
-pub kept-allowed : (keys : List (List ℕ)) (ps : List (List ℕ × AttrValue)) → kept (Only (allowed keys)) ps ≡ filter (λ p. is_listed keys p.0) ps
-kept-allowed keys ps = λ i. filter (λ p. is_listed-allowed keys p.0 i) ps
+pub kept-listed_keys : (keys : List (List ℕ)) (ps : List (List ℕ × AttrValue)) → kept (Only (listed_keys keys)) ps ≡ filter (λ p. is_listed keys p.0) ps
+kept-listed_keys keys ps = λ i. filter (λ p. is_listed-listed_keys keys p.0 i) ps
 
 -- the pairs that are kept are a set
 pub attributes_kept : (keep : Keep) (ps : List (List ℕ × AttrValue)) → AreAttributes ps → AreAttributes (kept keep ps)

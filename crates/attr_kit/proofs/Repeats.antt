@@ -61,13 +61,13 @@ module _ {A : Type 0} (eq : A → A → Bool) where
   abbrev Tied : List A → ℕ → List A → A → ℕ → Type 0
   Tied before b xs d j = (i : ℕ) × (j ≡ b + i) × (i < length xs) × (list_any (eq (get_or xs i d)) (before ++ take i xs) ≡ true) × (repeat_from eq before b (take i xs) ≡ None)
 
-  tied_from : (before : List A) (b : ℕ) (xs : List A) (d : A) (j : ℕ) → repeat_from eq before b xs ≡ Some j → Tied before b xs d j
-  tied_from before b [] d j e = cc
-  tied_from before b (x ∷ xs) d j e =
+  first_tie_from : (before : List A) (b : ℕ) (xs : List A) (d : A) (j : ℕ) → repeat_from eq before b xs ≡ Some j → Tied before b xs d j
+  first_tie_from before b [] d j e = cc
+  first_tie_from before b (x ∷ xs) d j e =
       elim (list_any (eq x) before) as (λ t. list_any (eq x) before ≡ t → cond t (Some b) (repeat_from eq (before ++ x ∷ []) (b + 1) xs) ≡ Some j → Tied before b (x ∷ xs) d j) [
         | true ↦ λ t s. (0, here b j (ap (λ o. unwrap_or o b) s), omega arith, ap (list_any (eq x)) (append-nil before) ∙ t, refl)
         | false ↦ λ t s.
-            let r = tied_from (before ++ x ∷ []) (b + 1) xs d j s in
+            let r = first_tie_from (before ++ x ∷ []) (b + 1) xs d j s in
             (suc r.0, omega (arith, r.1), omega (arith, r.2), ap (list_any (eq (get_or xs r.0 d))) (sym (append_assoc before (x ∷ []) (take r.0 xs))) ∙ r.3, ap (λ t. cond t (Some b) (repeat_from eq (before ++ x ∷ []) (b + 1) (take r.0 xs))) t ∙ r.4)
       ] refl e
     where
@@ -77,7 +77,7 @@ module _ {A : Type 0} (eq : A → A → Bool) where
   -- the element that is found ties with an earlier one, and the earlier ones have no repeat
   pub repeat_some : (xs : List A) (d : A) (i : ℕ) → repeat eq xs ≡ Some i → (i < length xs) × (list_any (eq (get_or xs i d)) (take i xs) ≡ true) × (repeat eq (take i xs) ≡ None)
   repeat_some xs d i e =
-      let r = tied_from [] 0 xs d i e in
+      let r = first_tie_from [] 0 xs d i e in
       let at : r.0 ≡ i = omega (arith, r.1) in
       (omega (arith, r.2), subst (λ n. list_any (eq (get_or xs n d)) (take n xs) ≡ true) at r.3, subst (λ n. repeat eq (take n xs) ≡ None) at r.4)
 

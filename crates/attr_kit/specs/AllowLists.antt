@@ -16,5 +16,5 @@ abbrev pub is_listed : List (List ℕ) → List ℕ → Bool
 is_listed keys key = list_any (pointwise nat_eq key) keys
 
 -- the keys in the order of their bytes, each once
-unfoldable pub allowed : List (List ℕ) → List (List ℕ)
-allowed keys = fold (λ listed key. insert_key (slice_cmp nat_cmp) listed key) [] keys
+unfoldable pub listed_keys : List (List ℕ) → List (List ℕ)
+listed_keys keys = fold (λ listed key. insert_key (slice_cmp nat_cmp) listed key) [] keys

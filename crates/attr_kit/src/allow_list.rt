@@ -2,7 +2,7 @@
 ghost use Rattle.std.specs.Prelude.{◌≡◌, IfOk, [], IsTrue};
 ghost use Rattle.std.specs.Cmp.Lexicographic.{slice_cmp};
 ghost use Rattle.std.specs.Ordering.{nat_cmp};
-ghost use Rattle.attr_kit.specs.AllowLists.{allowed, is_listed, is_rising};
+ghost use Rattle.attr_kit.specs.AllowLists.{listed_keys, is_listed, is_rising};
 
 use crate::{NoMemory, Seq, TryCopy, Txt};
 use std::alloc::Global;
@@ -34,9 +34,9 @@ impl Model for AllowList {
 }
 
 // The keys in their order, each once.
-#[tactic(auto, using(crate::proofs::Allowing::allowed_none))]
+#[tactic(auto, using(crate::proofs::Allowing::listed_keys_none))]
 fn in_order(keys: Vec<Txt>) -> Result<Vec<Txt>, NoMemory>
-    ensures { IfOk result (λ sorted. sorted.items ≡ allowed keys.items) }
+    ensures { IfOk result (λ sorted. sorted.items ≡ listed_keys keys.items) }
 {
     let alloc = *keys.allocator();
     let mut set = BTreeSet::new(alloc);
@@ -51,7 +51,7 @@ fn in_order(keys: Vec<Txt>) -> Result<Vec<Txt>, NoMemory>
 }
 
 // Whether a key is among keys in their order, by halving.
-fn found(keys: &[Txt], key: &str) -> bool
+fn has_key(keys: &[Txt], key: &str) -> bool
     requires { IsTrue (is_rising (slice_cmp nat_cmp) keys.now) }
     ensures { result ≡ is_listed keys.now key.now }
 {
@@ -64,7 +64,7 @@ fn found(keys: &[Txt], key: &str) -> bool
 impl AllowList {
     /// The list of these keys. O(m log m) comparisons for m keys.
     pub fn from_keys(keys: Vec<Txt>) -> Result<AllowList, NoMemory>
-        ensures { IfOk result (λ list. list ≡ allowed keys.items) }
+        ensures { IfOk result (λ list. list ≡ listed_keys keys.items) }
     {
         let sorted = in_order(keys)?;
         Ok(AllowList {
@@ -92,7 +92,7 @@ impl AllowList {
     pub fn has(&self, key: &str) -> bool
         ensures { result ≡ is_listed self.now key.now }
     {
-        found(self.keys.as_slice(), key)
+        has_key(self.keys.as_slice(), key)
     }
 
     /// An equal list. O(m).

@@ -14,7 +14,7 @@ ghost use Rattle.attr_kit.specs.contracts.pairs.PairsPartialEq.TheImpl as equal;
 ghost use Rattle.attr_kit.specs.contracts.pairs.PairsPartialEq.TheImpl.Laws as equal_laws;
 ghost use Rattle.attr_kit.specs.contracts.pairs.PairsEq.TheImpl.Laws as whole_laws;
 
-use crate::pair_list::{empty_key_at, found, in_order, listed};
+use crate::pair_list::{copy_listed, empty_key_at, in_order, value_under};
 use crate::pairs::Pairs;
 use crate::{AllowList, AttrFault, AttrValue, Keep, NoMemory, Seq, Txt, copy_all};
 use std::alloc::Global;
@@ -63,12 +63,12 @@ fn hash_of(pairs: &Pairs) -> u64
 }
 
 // The set of the pairs whose key is listed.
-fn restricted(pairs: &Vec<(Txt, AttrValue)>, list: &AllowList) -> Result<AttrSet, NoMemory>
+fn restriction(pairs: &Vec<(Txt, AttrValue)>, list: &AllowList) -> Result<AttrSet, NoMemory>
     requires { AreAttributes pairs.now.items }
     ensures value { IfOk result (λ set. set ≡ filter (λ p. is_listed list.now p.0) pairs.now.items) }
     ensures no_memory { OnErr result (filter (λ p. is_listed list.now p.0) pairs.now.items ≢ []) }
 {
-    let few = listed(pairs, list)?;
+    let few = copy_listed(pairs, list)?;
     Ok(AttrSet::from_attributes(few))
 }
 
@@ -165,14 +165,14 @@ impl AttrSet {
     pub fn get(&self, key: &str) -> Option<&AttrValue>
         ensures { option_copied result ≡ value_of key.now self.now }
     {
-        found(self.pairs(), key)
+        value_under(self.pairs(), key)
     }
 
     /// Whether the set has this pair. O(log n) comparisons of keys; takes no memory.
     pub fn has(&self, key: &str, value: &AttrValue) -> bool
         ensures { IsTrue result ↔ Contains self.now (key.now, value.now) }
     {
-        match found(self.pairs(), key) {
+        match value_under(self.pairs(), key) {
             Some(held) => held == value,
             None => false,
         }
@@ -187,7 +187,7 @@ impl AttrSet {
     {
         match keep {
             Keep::All => self.try_copy(),
-            Keep::Only(list) => restricted(self.list(), list),
+            Keep::Only(list) => restriction(self.list(), list),
         }
     }
 

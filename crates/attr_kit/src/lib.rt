@@ -1,13 +1,23 @@
 //! Attributes of measurements: texts, values, and sets of pairs in the order of their keys.
 //!
-//! After "Attribute" and "Attribute Collections" of the OpenTelemetry common specification. A key is a text that is
-//! not empty; a value is here a text, a truth or a whole number. [`AttrSet`] is the set, [`Keep`] is what a view keeps of
-//! one. All types are seen by contracts as plain values: a text as the list of its bytes, a set as the sorted list of its
-//! pairs. Copies may want memory ([`TryCopy`]), and `==` tells all values apart ([`Exact`]).
+//! After "Attribute" and "Attribute Collections" of the OpenTelemetry common specification. In the order of use:
+//!
+//! - A [`Txt`] is a text. A key is one that is not empty; a value is an [`AttrValue`]: a text, a truth or a whole number.
+//! - An [`AttrSet`] is a set of such pairs, each key once. An [`AttrFault`] says why pairs make none.
+//! - A [`Keep`] is what a view keeps of a set: all of it, or the keys of an [`AllowList`].
+//! - A [`Seq`] is a list that is not changed any more, a [`ShortText`] a text that takes no memory of its own.
+//! - Copies may want memory ([`TryCopy`], [`copy_all`], [`NoMemory`]), and `==` tells all values apart ([`Exact`]).
+//!
+//! A caller, from `crates/uses/src/attributing.rt`:
 //!
 //!     let mut pairs = Vec::new(alloc);
-//!     pairs.push((Txt::from_str(alloc, "route")?, AttrValue::Whole(7)))?;
-//!     let set = AttrSet::from_pairs(pairs)?;
+//!     pairs.push((Txt::from_str(alloc, "status")?, AttrValue::Whole(status)))?;
+//!     pairs.push((Txt::from_str(alloc, "route")?, AttrValue::Text(route)))?;
+//!     Ok(pairs)
+//!
+//!     AttrSet::from_pairs(pairs_of(alloc, status, route)?)
+//!
+//! Contracts see plain values: a text as the list of its bytes, a set as the sorted list of its pairs.
 #![tactic(auto)]
 
 mod allow_list;

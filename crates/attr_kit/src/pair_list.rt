@@ -54,7 +54,7 @@ pub(crate) fn in_order(pairs: Vec<(Txt, AttrValue)>) -> Result<Vec<(Txt, AttrVal
 }
 
 // The value under a key, by halving.
-pub(crate) fn found<'a>(pairs: &'a [(Txt, AttrValue)], key: &str) -> Option<&'a AttrValue>
+pub(crate) fn value_under<'a>(pairs: &'a [(Txt, AttrValue)], key: &str) -> Option<&'a AttrValue>
     requires { AreAttributes pairs.now }
     ensures { option_copied result ≡ value_of key.now pairs.now }
 {
@@ -65,7 +65,7 @@ pub(crate) fn found<'a>(pairs: &'a [(Txt, AttrValue)], key: &str) -> Option<&'a 
 }
 
 // Copies of the pairs whose key is listed. Takes no memory where none is.
-pub(crate) fn listed(
+pub(crate) fn copy_listed(
     pairs: &Vec<(Txt, AttrValue)>,
     list: &AllowList,
 ) -> Result<Vec<(Txt, AttrValue)>, NoMemory>

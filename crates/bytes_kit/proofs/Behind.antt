@@ -1,5 +1,5 @@
 -- Keys and cells behind others: what is written, and bytes that do not begin with one.
-use Rattle.std.proofs.Common.{◌≡◌, ◌≢◌, ℕ, ◌+◌, ◌-◌, ◌<◌, ◌≤◌, List, [], ◌∷◌, ◌++◌, length, map, refl, sym, ap, subst, ◌∙◌, append_assoc, arith, length-append, Option, Some, None}
+use Rattle.std.proofs.Common.{◌≡◌, ◌≢◌, ℕ, ◌-◌, List, [], ◌∷◌, ◌++◌, length, map, refl, sym, ap, subst, ◌∙◌, append_assoc, arith, Option, Some, None}
 use Rattle.std.specs.List.{AllByRecursion}
 use Rattle.gateway_kit.specs.Walks.{entry_of_ref}
 use Rattle.gateway_kit.specs.declared.points.PointRef.{PointRef}
@@ -10,79 +10,71 @@ use Rattle.point_kit.specs.declared.cell.Cell.{Cell}
 use Rattle.point_kit.specs.declared.key.Key.{Key}
 use Rattle.point_kit.specs.declared.payload.Payload.{Payload}
 use Rattle.bytes_kit.specs.Fits.{IsNumber, IsStream, IsWriter}
-use Rattle.bytes_kit.specs.Format.{varint}
+use Rattle.bytes_kit.specs.Format.{varint, forms_behind, past_all}
 use Rattle.bytes_kit.specs.KeyForms.{Inherits, IsAny, IsKeyLike, IsKeyRest}
-use Rattle.bytes_kit.specs.Laws.{varint_code}
 use Rattle.bytes_kit.specs.MessageFits.{IsKey, IsEntry, IsCell, IsListed}
-use Rattle.bytes_kit.specs.MessageLaws.{common_code, inherits, rest_code, key_code, entry_code, entry_bytes}
-use Rattle.bytes_kit.specs.Messages.{Entry, common, common_form, key_rest, key, cell, entry, entries_behind, last_behind, last_key, cells}
+use Rattle.bytes_kit.specs.MessageLaws.{common_code, inherits, rest_code, key_code}
+use Rattle.bytes_kit.specs.Messages.{Earlier, Entry, common, common_form, key_rest, past_rest, key, past_key, cell, entry, past_entry, nothing_earlier, last_behind, last_key, cells}
+use Rattle.bytes_kit.specs.Past.{Past}
+use Rattle.bytes_kit.proofs.PastRefusing.{past_more, written_more, all_more}
 use Rattle.bytes_kit.specs.Reading.{NoneAt}
 use Rattle.bytes_kit.specs.declared.keys.Shared.{Shared}
 use Rattle.bytes_kit.specs.declared.keys.Shared.TheVariants as shares
 
 -- ---- keys
 
-pub no_share : (before : Option Key) (bytes : List ℕ) → NoneAt common_form IsAny bytes → NoneAt (key before) IsKey bytes
-no_share before bytes none k rest fit e =
-    none (common before k) (key_rest (common before k) k ++ rest) tt (e ∙ append_assoc (common_form (common before k)) (key_rest (common before k) k) rest)
+pub no_share : (x : Earlier) (bytes : List ℕ) → NoneAt common_form IsAny bytes → NoneAt (key x) IsKey bytes
+no_share x bytes none k rest fit e =
+    none (common x.1 k) (key_rest x.0 (common x.1 k) k ++ rest) tt (e ∙ append_assoc (common_form (common x.1 k)) (key_rest x.0 (common x.1 k) k) rest)
 
 -- what comes behind what is shared
-behind : (before : Option Key) (bytes mid : List ℕ) (s : Shared) (k : Key) (rest : List ℕ) → bytes ≡ common_form s ++ mid → bytes ≡ key before k ++ rest → (s ≡ common before k) × (mid ≡ key_rest (common before k) k ++ rest)
-behind before bytes mid s k rest is e =
-    common_code s (common before k) mid (key_rest (common before k) k ++ rest) (sym is ∙ e ∙ append_assoc (common_form (common before k)) (key_rest (common before k) k) rest)
+behind : (x : Earlier) (bytes mid : List ℕ) (s : Shared) (k : Key) (rest : List ℕ) → bytes ≡ common_form s ++ mid → bytes ≡ key x k ++ rest → (s ≡ common x.1 k) × (mid ≡ key_rest x.0 (common x.1 k) k ++ rest)
+behind x bytes mid s k rest is e =
+    common_code s (common x.1 k) mid (key_rest x.0 (common x.1 k) k ++ rest) (sym is ∙ e ∙ append_assoc (common_form (common x.1 k)) (key_rest x.0 (common x.1 k) k) rest)
 
-pub no_rest : (before : Option Key) (bytes mid : List ℕ) (s : Shared) → bytes ≡ common_form s ++ mid → NoneAt (key_rest s) (IsKeyLike before s) mid → NoneAt (key before) IsKey bytes
-no_rest before bytes mid s is none k rest fit e =
-    let both = behind before bytes mid s k rest is e in
-    none k rest (fit, sym both.0) (subst (λ (x : Shared). mid ≡ key_rest x k ++ rest) (sym both.0) both.1)
+pub no_rest : (x : Earlier) (bytes mid : List ℕ) (s : Shared) → bytes ≡ common_form s ++ mid → NoneAt (key_rest x.0 s) (IsKeyLike x.1 s) mid → NoneAt (key x) IsKey bytes
+no_rest x bytes mid s is none k rest fit e =
+    let both = behind x bytes mid s k rest is e in
+    none k rest (fit, sym both.0) (subst (λ (y : Shared). mid ≡ key_rest x.0 y k ++ rest) (sym both.0) both.1)
 
-pub no_such : (before : Option Key) (bytes mid last : List ℕ) (s : Shared) (found : Key) → bytes ≡ common_form s ++ mid → mid ≡ key_rest s found ++ last → Inherits before s found → common before found ≢ s → NoneAt (key before) IsKey bytes
-no_such before bytes mid last s found is at has other k rest fit e =
-    let both = behind before bytes mid s k rest is e in
-    let like : Inherits before s k = subst (λ (x : Shared). Inherits before x k) (sym both.0) (inherits before k) in
-    let one = rest_code before s found k last rest has like (sym at ∙ subst (λ (x : Shared). mid ≡ key_rest x k ++ rest) (sym both.0) both.1) in
-    other (ap (common before) one.0 ∙ sym both.0)
+pub no_such : (x : Earlier) (bytes mid last : List ℕ) (s : Shared) (found : Key) → bytes ≡ common_form s ++ mid → mid ≡ key_rest x.0 s found ++ last → Inherits x.1 s found → common x.1 found ≢ s → NoneAt (key x) IsKey bytes
+no_such x bytes mid last s found is at has other k rest fit e =
+    let both = behind x bytes mid s k rest is e in
+    let like : Inherits x.1 s k = subst (λ (y : Shared). Inherits x.1 y k) (sym both.0) (inherits x.1 k) in
+    let one = rest_code x.0 x.1 s found k last rest has like (sym at ∙ subst (λ (y : Shared). mid ≡ key_rest x.0 y k ++ rest) (sym both.0) both.1) in
+    other (ap (common x.1) one.0 ∙ sym both.0)
 
 -- without a key before it no key shares anything
 pub none_shared : (s : Shared) (k : Key) → s ≢ shares.Nothing → common None k ≡ s → ⊥
 none_shared s k other e = other (sym e)
 
-pub is_key : (before : Option Key) (bytes mid last : List ℕ) (s : Shared) (found : Key) → bytes ≡ common_form s ++ mid → mid ≡ key_rest s found ++ last → common before found ≡ s → bytes ≡ key before found ++ last
-is_key before bytes mid last s found is at same =
-    is ∙ ap (λ (l : List ℕ). common_form s ++ l) at ∙ sym (append_assoc (common_form s) (key_rest s found) last)
-    ∙ subst (λ (x : Shared). (common_form s ++ key_rest s found) ++ last ≡ (common_form x ++ key_rest x found) ++ last) (sym same) refl
+pub is_key : (x : Earlier) (bytes mid last : List ℕ) (s : Shared) (found : Key) → bytes ≡ common_form s ++ mid → mid ≡ key_rest x.0 s found ++ last → common x.1 found ≡ s → bytes ≡ key x found ++ last
+is_key x bytes mid last s found is at same =
+    is ∙ ap (λ (l : List ℕ). common_form s ++ l) at ∙ sym (append_assoc (common_form s) (key_rest x.0 s found) last)
+    ∙ subst (λ (y : Shared). (common_form s ++ key_rest x.0 s found) ++ last ≡ (common_form y ++ key_rest x.0 y found) ++ last) (sym same) refl
+
+-- what came once a key came that shares this
+pub past_is : (x : Earlier) (after : Past) (s : Shared) (found : Key) → after ≡ past_rest x.0 s found → common x.1 found ≡ s → after ≡ past_key x found
+past_is x after s found is same = is ∙ ap (λ (y : Shared). past_rest x.0 y found) (sym same)
 
 -- ---- cells
 
-pub no_key : (before : Option Key) (bytes : List ℕ) → NoneAt (key before) IsKey bytes → NoneAt (entry before) IsEntry bytes
-no_key before bytes none e rest fit is = none e.0 (cell e.1 ++ rest) fit.0 (is ∙ append_assoc (key before e.0) (cell e.1) rest)
+pub no_key : (x : Earlier) (bytes : List ℕ) → NoneAt (key x) IsKey bytes → NoneAt (entry x) IsEntry bytes
+no_key x bytes none e rest fit is = none e.0 (cell e.1 ++ rest) fit.0 (is ∙ append_assoc (key x e.0) (cell e.1) rest)
 
-pub no_cell : (before : Option Key) (bytes mid : List ℕ) (k : Key) → bytes ≡ key before k ++ mid → NoneAt cell IsCell mid → NoneAt (entry before) IsEntry bytes
-no_cell before bytes mid k at none e rest fit is =
-    let both = key_code before k e.0 mid (cell e.1 ++ rest) (sym at ∙ is ∙ append_assoc (key before e.0) (cell e.1) rest) in
+pub no_cell : (x : Earlier) (bytes mid : List ℕ) (k : Key) → bytes ≡ key x k ++ mid → NoneAt cell IsCell mid → NoneAt (entry x) IsEntry bytes
+no_cell x bytes mid k at none e rest fit is =
+    let both = key_code x k e.0 mid (cell e.1 ++ rest) (sym at ∙ is ∙ append_assoc (key x e.0) (cell e.1) rest) in
     none e.1 rest fit.1 both.1
 
-pub is_entry : (before : Option Key) (bytes mid last : List ℕ) (k : Key) (c : Cell Payload) → bytes ≡ key before k ++ mid → mid ≡ cell c ++ last → bytes ≡ entry before (k, c) ++ last
-is_entry before bytes mid last k c at is = at ∙ ap (λ (l : List ℕ). key before k ++ l) is ∙ sym (append_assoc (key before k) (cell c) last)
+pub is_entry : (x : Earlier) (bytes mid last : List ℕ) (k : Key) (c : Cell Payload) → bytes ≡ key x k ++ mid → mid ≡ cell c ++ last → bytes ≡ entry x (k, c) ++ last
+is_entry x bytes mid last k c at is = at ∙ ap (λ (l : List ℕ). key x k ++ l) is ∙ sym (append_assoc (key x k) (cell c) last)
 
 -- ---- lists of cells
-
--- one cell more
-pub behind_more : (before : Option Key) (es : List Entry) (e : Entry) → entries_behind before (es ++ e ∷ []) ≡ entries_behind before es ++ entry (last_behind before es) e
-behind_more before [] e = append-nil (entry before e)
-behind_more before (x ∷ es) e =
-    ap (λ (l : List ℕ). entry before x ++ l) (behind_more (Some x.0) es e) ∙ sym (append_assoc (entry before x) (entries_behind (Some x.0) es) (entry (last_behind (Some x.0) es) e))
 
 pub last_more : (before : Option Key) (es : List Entry) (e : Entry) → last_behind before (es ++ e ∷ []) ≡ Some e.0
 last_more before [] e = refl
 last_more before (x ∷ es) e = last_more (Some x.0) es e
-
-pub length_more : (es : List Entry) (e : Entry) → length (es ++ e ∷ []) ≡ length es + 1
-length_more es e = length-append es (e ∷ [])
-
-pub all_more : (es : List Entry) (e : Entry) → AllByRecursion IsEntry es → IsEntry e → AllByRecursion IsEntry (es ++ e ∷ [])
-all_more [] e h one = (one, tt)
-all_more (x ∷ es) e h one = (h.0, all_more es e h.1 one)
 
 -- the key of the last of some cells
 last_at : (before : Option Key) (e : Entry) (es : List Entry) → last_behind before (e ∷ es) ≡ option_map (λ (x : Entry). x.0) (slice_get (e ∷ es) (length es))
@@ -109,40 +101,10 @@ whole_of None shares.Stream k h has rest = absurd has
 pub key_fits : (es : List Entry) (k : Key) → AllByRecursion IsEntry es → IsKeyRest (common (last_key es) k) k → IsKey k
 key_fits es k all rest = whole_of (last_key es) (common (last_key es) k) k (last_fits None es tt all) (inherits (last_key es) k) rest
 
--- fewer bytes than cells
-behind_long : (before : Option Key) (es : List Entry) → length es ≤ length (entries_behind before es)
-behind_long before [] = omega arith
-behind_long before (e ∷ es) = omega (arith, entry_bytes before e, behind_long (Some e.0) es, length-append (entry before e) (entries_behind (Some e.0) es))
-
-pub no_few : (count : ℕ) (bytes rest : List ℕ) → bytes ≡ varint count ++ rest → length rest < count → NoneAt cells IsListed bytes
-no_few count bytes rest is few es more _ e =
-    let both = varint_code count (length es) rest (entries_behind None es ++ more) (sym is ∙ e ∙ append_assoc (varint (length es)) (entries_behind None es) more) in
-    let same : count ≡ length es = both.0 in
-    let long : length rest ≡ length (entries_behind None es ++ more) = ap length both.1 in
-    absurd (omega (arith, behind_long None es, length-append (entries_behind None es) more))
-
--- some cells, and then none
-none_behind : (before : Option Key) (ys xs : List Entry) (s t : List ℕ) → length ys < length xs → AllByRecursion IsEntry xs → NoneAt (entry (last_behind before ys)) IsEntry s → entries_behind before ys ++ s ≡ entries_behind before xs ++ t → ⊥
-none_behind before [] [] s t lt fit none e = absurd (omega arith)
-none_behind before [] (x ∷ xs) s t lt fit none e = none x (entries_behind (Some x.0) xs ++ t) fit.0 (e ∙ append_assoc (entry before x) (entries_behind (Some x.0) xs) t)
-none_behind before (y ∷ ys) [] s t lt fit none e = absurd (omega arith)
-none_behind before (y ∷ ys) (x ∷ xs) s t lt fit none e =
-    let one = entry_code before y x (entries_behind (Some y.0) ys ++ s) (entries_behind (Some x.0) xs ++ t)
-    (sym (append_assoc (entry before y) (entries_behind (Some y.0) ys) s) ∙ e ∙ append_assoc (entry before x) (entries_behind (Some x.0) xs) t) in
-    let same : y ≡ x = one.0 in
-    none_behind (Some y.0) ys xs s t (omega arith) fit.1 none (subst (λ (z : Entry). entries_behind (Some y.0) ys ++ s ≡ entries_behind (Some z.0) xs ++ t) (sym same) one.1)
-
-pub no_cells : (count : ℕ) (ys : List Entry) (bytes s : List ℕ) → bytes ≡ varint count ++ (entries_behind None ys ++ s) → length ys < count → NoneAt (entry (last_key ys)) IsEntry s → NoneAt cells IsListed bytes
-no_cells count ys bytes s is lt none es more fit e =
-    let both = varint_code count (length es) (entries_behind None ys ++ s) (entries_behind None es ++ more) (sym is ∙ e ∙ append_assoc (varint (length es)) (entries_behind None es) more) in
-    let same : count ≡ length es = both.0 in
-    none_behind None ys es s more (omega arith) fit.1 none both.1
-
--- one cell more is read
-pub taken_more : (bytes front mid last : List ℕ) (es : List Entry) (e : Entry) → bytes ≡ front ++ (entries_behind None es ++ mid) → mid ≡ entry (last_key es) e ++ last → bytes ≡ front ++ (entries_behind None (es ++ e ∷ []) ++ last)
-taken_more bytes front mid last es e so_far at =
-    so_far ∙ ap (λ (l : List ℕ). front ++ (entries_behind None es ++ l)) at
-    ∙ ap (λ (l : List ℕ). front ++ l) (sym (append_assoc (entries_behind None es) (entry (last_key es) e) last) ∙ ap (λ (l : List ℕ). l ++ last) (sym (behind_more None es e)))
+-- one cell more came
+pub earlier_more : (p q : Past) (before : Option Key) (es : List Entry) (e : Entry) → (p, before) ≡ past_all past_entry nothing_earlier es → q ≡ past_key (p, before) e.0 → (q, last_key (es ++ e ∷ [])) ≡ past_all past_entry nothing_earlier (es ++ e ∷ [])
+earlier_more p q before es e is after =
+    (λ i. (after i, last_more None es e i)) ∙ ap (λ (x : Earlier). past_entry x e) is ∙ sym (past_more entry past_entry nothing_earlier es e)
 
 -- ---- walks
 
@@ -156,15 +118,17 @@ lent_snoc : (yielded : List PointRef) (p : PointRef) → map entry_of_ref (yield
 lent_snoc yielded p = map-append entry_of_ref yielded (p ∷ [])
 
 -- one point more is written
-pub written_more : (front out new : List ℕ) (yielded : List PointRef) (p : PointRef) (before : Option Key) → out ≡ front ++ entries_behind None (map entry_of_ref yielded) → new ≡ out ++ entry before (entry_of_ref p) → before ≡ last_key (map entry_of_ref yielded) → new ≡ front ++ entries_behind None (map entry_of_ref (yielded ++ p ∷ []))
-written_more front out new yielded p before so_far step same =
-    let es = map entry_of_ref yielded in
-    step ∙ ap (λ (l : List ℕ). l ++ entry before (entry_of_ref p)) so_far
-    ∙ append_assoc front (entries_behind None es) (entry before (entry_of_ref p))
-    ∙ ap (λ (l : List ℕ). front ++ l) (
-    ap (λ (b : Option Key). entries_behind None es ++ entry b (entry_of_ref p)) same
-    ∙ sym (behind_more None es (entry_of_ref p))
-    ∙ ap (entries_behind None) (sym (lent_snoc yielded p)))
+pub lent_written : (front out new : List ℕ) (yielded : List PointRef) (p : PointRef) (x : Earlier) → out ≡ front ++ forms_behind entry past_entry nothing_earlier (map entry_of_ref yielded) → new ≡ out ++ entry x (entry_of_ref p) → x ≡ past_all past_entry nothing_earlier (map entry_of_ref yielded) → new ≡ front ++ forms_behind entry past_entry nothing_earlier (map entry_of_ref (yielded ++ p ∷ []))
+lent_written front out new yielded p x so_far step same =
+    written_more entry past_entry nothing_earlier x front out new (map entry_of_ref yielded) (entry_of_ref p) so_far same step
+    ∙ ap (λ (es : List Entry). front ++ forms_behind entry past_entry nothing_earlier es) (sym (lent_snoc yielded p))
+
+-- and what came once it was
+pub lent_earlier : (q : Past) (yielded : List PointRef) (p : PointRef) (x : Earlier) → q ≡ past_key x (entry_of_ref p).0 → x ≡ past_all past_entry nothing_earlier (map entry_of_ref yielded) → (q, Some (entry_of_ref p).0) ≡ past_all past_entry nothing_earlier (map entry_of_ref (yielded ++ p ∷ []))
+lent_earlier q yielded p x after same =
+    (λ i. (after i, Some (entry_of_ref p).0)) ∙ ap (λ (y : Earlier). past_entry y (entry_of_ref p)) same
+    ∙ sym (past_more entry past_entry nothing_earlier (map entry_of_ref yielded) (entry_of_ref p))
+    ∙ ap (λ (es : List Entry). past_all past_entry nothing_earlier es) (sym (lent_snoc yielded p))
 
 pub last_lent : (yielded : List PointRef) (p : PointRef) → Some (entry_of_ref p).0 ≡ last_key (map entry_of_ref (yielded ++ p ∷ []))
 last_lent yielded p = sym (ap last_key (lent_snoc yielded p) ∙ last_more None (map entry_of_ref yielded) (entry_of_ref p))
@@ -173,17 +137,17 @@ pub all_lent : (yielded : List PointRef) (p : PointRef) (before : Option Key) �
 all_lent yielded p before same all rest fit =
     let es = map entry_of_ref yielded in
     let whole : IsKey (entry_of_ref p).0 = key_fits es (entry_of_ref p).0 all (subst (λ (b : Option Key). IsKeyRest (common b (entry_of_ref p).0) (entry_of_ref p).0) same rest) in
-    subst (AllByRecursion IsEntry) (sym (lent_snoc yielded p)) (all_more es (entry_of_ref p) all (whole, fit))
+    subst (AllByRecursion IsEntry) (sym (lent_snoc yielded p)) (all_more IsEntry es (entry_of_ref p) all (whole, fit))
 
 -- all points are lent
 all_of : (points seen left : List Entry) → points ≡ seen ++ left → left ≡ [] → seen ≡ points
 all_of points seen left all none = sym (all ∙ ap (λ (l : List Entry). seen ++ l) none ∙ append-nil seen)
 
-pub all_written : (front out : List ℕ) (count : ℕ) (points seen left : List Entry) → count ≡ length points → out ≡ (front ++ varint count) ++ entries_behind None seen → points ≡ seen ++ left → left ≡ [] → out ≡ front ++ cells points
+pub all_written : (front out : List ℕ) (count : ℕ) (points seen left : List Entry) → count ≡ length points → out ≡ (front ++ varint count) ++ forms_behind entry past_entry nothing_earlier seen → points ≡ seen ++ left → left ≡ [] → out ≡ front ++ cells points
 all_written front out count points seen left counted written all none =
     let same : seen ≡ points = all_of points seen left all none in
-    written ∙ append_assoc front (varint count) (entries_behind None seen)
-    ∙ ap (λ (l : List ℕ). front ++ l) (ap (λ (n : ℕ). varint n ++ entries_behind None seen) counted ∙ ap (λ (es : List Entry). varint (length points) ++ entries_behind None es) same)
+    written ∙ append_assoc front (varint count) (forms_behind entry past_entry nothing_earlier seen)
+    ∙ ap (λ (l : List ℕ). front ++ l) (ap (λ (n : ℕ). varint n ++ forms_behind entry past_entry nothing_earlier seen) counted ∙ ap (λ (es : List Entry). varint (length points) ++ forms_behind entry past_entry nothing_earlier es) same)
 
 pub all_listed : (count : ℕ) (points seen left : List Entry) → count ≡ length points → IsNumber count → points ≡ seen ++ left → left ≡ [] → AllByRecursion IsEntry seen → IsListed points
 all_listed count points seen left counted fit all none each = (subst IsNumber counted fit, subst (AllByRecursion IsEntry) (all_of points seen left all none) each)

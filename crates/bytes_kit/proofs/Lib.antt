@@ -2,9 +2,11 @@ pub mod Behind
 pub mod Carrying
 pub mod Gathering
 pub mod MessageSealing
+pub mod PastRefusing
+pub mod Places
 pub mod Refusing
 pub mod Sealing
-pub mod Sharing
 pub mod Soundness
 pub mod Staying
 pub mod Tags
+pub mod Weighing

@@ -10,7 +10,7 @@ use Rattle.point_kit.specs.declared.export_fault.ExportFault.TheVariants as buil
 use Rattle.bytes_kit.specs.Checksum.{checksum}
 use Rattle.bytes_kit.specs.Explaining.{IsSealFault, IsPartsFault, Explains}
 use Rattle.bytes_kit.specs.Faults.{decode_fault}
-use Rattle.bytes_kit.specs.Format.{Parts, parts_of, sealed, bytes_of_parts}
+use Rattle.bytes_kit.specs.Format.{Parts, parts_of, with_checksum, bytes_of_parts}
 use Rattle.bytes_kit.specs.Codes.{IsCode}
 use Rattle.bytes_kit.specs.Reading.{NoneAt}
 use Rattle.bytes_kit.specs.declared.fault.DecodeFault.{DecodeFault}
@@ -29,17 +29,17 @@ end_place i end all front rest p q r = omega arith
 
 -- bytes that begin with a head, parts of some kind behind it, and their checksum at the end
 module _ {A : Type 0} (head : List ℕ) (parts : A → List ℕ) where
-  opened : (p : A) → sealed (head ++ parts p) ≡ head ++ (parts p ++ seal (head ++ parts p))
-  unfolding sealed
+  opened : (p : A) → with_checksum (head ++ parts p) ≡ head ++ (parts p ++ seal (head ++ parts p))
+  unfolding with_checksum
   opened p = append_assoc head (parts p) (seal (head ++ parts p))
 
-  behind_head : (bytes mid : List ℕ) (p : A) → bytes ≡ head ++ mid → bytes ≡ sealed (head ++ parts p) → mid ≡ parts p ++ seal (head ++ parts p)
+  behind_head : (bytes mid : List ℕ) (p : A) → bytes ≡ head ++ mid → bytes ≡ with_checksum (head ++ parts p) → mid ≡ parts p ++ seal (head ++ parts p)
   behind_head bytes mid p is e = append_cancel_left head mid (parts p ++ seal (head ++ parts p)) (sym is ∙ e ∙ opened p)
 
-  pub no_head : (bytes : List ℕ) → ((rest : List ℕ) → bytes ≢ head ++ rest) → (p : A) → bytes ≢ sealed (head ++ parts p)
+  pub no_head : (bytes : List ℕ) → ((rest : List ℕ) → bytes ≢ head ++ rest) → (p : A) → bytes ≢ with_checksum (head ++ parts p)
   no_head bytes none p e = none (parts p ++ seal (head ++ parts p)) (e ∙ opened p)
 
-  pub no_parts : (fits : A → Type 0) (bytes mid : List ℕ) → bytes ≡ head ++ mid → NoneAt parts fits mid → (p : A) → fits p → bytes ≢ sealed (head ++ parts p)
+  pub no_parts : (fits : A → Type 0) (bytes mid : List ℕ) → bytes ≡ head ++ mid → NoneAt parts fits mid → (p : A) → fits p → bytes ≢ with_checksum (head ++ parts p)
   no_parts fits bytes mid is none p fit e = none p (seal (head ++ parts p)) fit (behind_head bytes mid p is e)
 
   -- what the checksum is of
@@ -52,12 +52,12 @@ module _ {A : Type 0} (head : List ℕ) (parts : A → List ℕ) where
   sum_is bytes mid rest body x sum is at taken summed =
       ap (λ (n : ℕ). to_be_bytes w32 n) (summed ∙ ap (λ (l : List ℕ). checksum l) (taken ∙ body_is bytes mid rest x is at))
 
-  pub no_seal : IsCode parts → (bytes mid rest body : List ℕ) (x : A) (sum : ℕ) → bytes ≡ head ++ mid → mid ≡ parts x ++ rest → body ≡ take (length bytes - length rest) bytes → sum ≡ checksum body → rest ≢ to_be_bytes w32 sum → (p : A) → bytes ≢ sealed (head ++ parts p)
+  pub no_seal : IsCode parts → (bytes mid rest body : List ℕ) (x : A) (sum : ℕ) → bytes ≡ head ++ mid → mid ≡ parts x ++ rest → body ≡ take (length bytes - length rest) bytes → sum ≡ checksum body → rest ≢ to_be_bytes w32 sum → (p : A) → bytes ≢ with_checksum (head ++ parts p)
   no_seal is_code bytes mid rest body x sum is at taken summed no_sum p e =
       let both = is_code x p rest (seal (head ++ parts p)) (sym at ∙ behind_head bytes mid p is e) in
       no_sum (both.1 ∙ ap (λ (a : A). seal (head ++ parts a)) (sym both.0) ∙ sym (sum_is bytes mid rest body x sum is at taken summed))
 
-  pub is_sealed : (bytes mid rest body : List ℕ) (x : A) (sum : ℕ) → bytes ≡ head ++ mid → mid ≡ parts x ++ rest → body ≡ take (length bytes - length rest) bytes → sum ≡ checksum body → rest ≡ to_be_bytes w32 sum → bytes ≡ sealed (head ++ parts x)
+  pub is_sealed : (bytes mid rest body : List ℕ) (x : A) (sum : ℕ) → bytes ≡ head ++ mid → mid ≡ parts x ++ rest → body ≡ take (length bytes - length rest) bytes → sum ≡ checksum body → rest ≡ to_be_bytes w32 sum → bytes ≡ with_checksum (head ++ parts x)
   is_sealed bytes mid rest body x sum is at taken summed last =
       is ∙ ap (λ (l : List ℕ). head ++ l) (at ∙ ap (λ (l : List ℕ). parts x ++ l) (last ∙ sum_is bytes mid rest body x sum is at taken summed)) ∙ sym (opened x)
 
@@ -78,7 +78,7 @@ module _ {A : Type 0} (head : List ℕ) (parts : A → List ℕ) where
   seal_fault bytes mid rest body x sum end is at taken summed ends faults.NoMemory h = tt
 
   -- no two parts have the same bytes
-  pub same_parts : IsCode parts → (bytes : List ℕ) (x y : A) → bytes ≡ sealed (head ++ parts x) → bytes ≡ sealed (head ++ parts y) → x ≡ y
+  pub same_parts : IsCode parts → (bytes : List ℕ) (x y : A) → bytes ≡ with_checksum (head ++ parts x) → bytes ≡ with_checksum (head ++ parts y) → x ≡ y
   same_parts is_code bytes x y p q =
       let both = is_code x y (seal (head ++ parts x)) (seal (head ++ parts y)) (append_cancel_left head (parts x ++ seal (head ++ parts x)) (parts y ++ seal (head ++ parts y)) (sym (opened x) ∙ sym p ∙ q ∙ opened y)) in
       both.0

@@ -1,5 +1,5 @@
 -- The one form of each value.
-use Rattle.std.specs.Prelude.{ℕ, zero, suc, ◌+◌, ◌*◌, ◌/◌, ◌%◌, nat_lt, ℤ, pos, negsuc, if◌then◌else◌, List, [], ◌∷◌, ◌++◌, length, true, false, Some, None}
+use Rattle.std.specs.Prelude.{ℕ, zero, suc, ◌+◌, ◌*◌, ◌/◌, ◌%◌, nat_lt, ℤ, pos, negsuc, if◌then◌else◌, Bool, List, [], ◌∷◌, ◌++◌, length, true, false, Option, Some, None}
 use Rattle.std.specs.Int.{w32, to_be_bytes}
 use Rattle.std.specs.List.{flat_map}
 use Rattle.attr_kit.specs.declared.attr_value.AttrValue.{AttrValue}
@@ -13,6 +13,7 @@ use Rattle.point_kit.specs.declared.shape.Shape.TheVariants as shapes
 use Rattle.point_kit.specs.declared.stream.Stream.{Stream}
 use Rattle.point_kit.specs.declared.writer_id.WriterId.{WriterId}
 use Rattle.bytes_kit.specs.Checksum.{checksum}
+use Rattle.bytes_kit.specs.Past.{Past, no_past, place_of, past_text, with_stream, is_last}
 
 -- a number in groups of seven bits, the lowest first: each but the last has its top bit set, and at most so many have
 abbrev pub groups : ℕ → ℕ → List ℕ
@@ -43,15 +44,62 @@ list_of code xs = varint (length xs) ++ flat_map code xs
 abbrev pub pair_of : {A B : Type 0} → (A → List ℕ) → (B → List ℕ) → A × B → List ℕ
 pair_of first second p = first p.0 ++ second p.1
 
-abbrev pub value : AttrValue → List ℕ
-value (values.Text t) = 0 ∷ text t
-value (values.Truth false) = 1 ∷ []
-value (values.Truth true) = 2 ∷ []
-value (values.Whole n) = 3 ∷ integer n
+-- ---- forms behind what came before
+
+-- 0 and a text that comes for the first time; else its place and 1
+abbrev pub text_or_place : List ℕ → Option ℕ → List ℕ
+text_or_place t None = 0 ∷ text t
+text_or_place t (Some place) = varint (place + 1)
+
+abbrev pub text_behind : Past → List ℕ → List ℕ
+text_behind p t = text_or_place t (place_of p.texts t)
+
+-- one behind the other, which stands behind all that came before and the first
+abbrev pub pair_behind : {A B : Type 0} → (Past → A → List ℕ) → (Past → A → Past) → (Past → B → List ℕ) → Past → A × B → List ℕ
+pair_behind first past_first second p x = first p x.0 ++ second (past_first p x.0) x.1
+
+abbrev pub past_pair : {A B : Type 0} → (Past → A → Past) → (Past → B → Past) → Past → A × B → Past
+past_pair past_first past_second p x = past_second (past_first p x.0) x.1
+
+module _ {S A : Type 0} (code : S → A → List ℕ) (past : S → A → S) where
+  -- each behind those before it
+  abbrev pub forms_behind : S → List A → List ℕ
+  forms_behind p [] = []
+  forms_behind p (x ∷ xs) = code p x ++ forms_behind (past p x) xs
+
+  -- how many, and each behind those before it
+  abbrev pub list_behind : S → List A → List ℕ
+  list_behind p xs = varint (length xs) ++ forms_behind p xs
+
+-- what came, once each of a list came too
+abbrev pub past_all : {S A : Type 0} → (S → A → S) → S → List A → S
+past_all past p [] = p
+past_all past p (x ∷ xs) = past_all past (past p x) xs
+
+-- of what has no text, the form is the same behind anything, and nothing comes of it
+abbrev pub same_behind : {A : Type 0} → (A → List ℕ) → Past → A → List ℕ
+same_behind code p = code
+
+abbrev pub past_same : {A : Type 0} → Past → A → Past
+past_same p x = p
+
+abbrev pub value : Past → AttrValue → List ℕ
+value p (values.Text t) = 0 ∷ text_behind p t
+value p (values.Truth false) = 1 ∷ []
+value p (values.Truth true) = 2 ∷ []
+value p (values.Whole n) = 3 ∷ integer n
+
+abbrev pub past_value : Past → AttrValue → Past
+past_value p (values.Text t) = past_text p t
+past_value p (values.Truth b) = p
+past_value p (values.Whole n) = p
 
 -- the pairs in the order of their keys
-abbrev pub attributes : List (List ℕ × AttrValue) → List ℕ
-attributes = list_of (pair_of text value)
+abbrev pub attributes : Past → List (List ℕ × AttrValue) → List ℕ
+attributes = list_behind (pair_behind text_behind past_text value) (past_pair past_text past_value)
+
+abbrev pub past_attributes : Past → List (List ℕ × AttrValue) → Past
+past_attributes = past_all (past_pair past_text past_value)
 
 abbrev pub shape : Shape → List ℕ
 shape (shapes.Sum false) = 0 ∷ []
@@ -59,8 +107,39 @@ shape (shapes.Sum true) = 1 ∷ []
 shape shapes.Gauge = 2 ∷ []
 shape (shapes.Histogram bounds) = 3 ∷ list_of integer bounds
 
-abbrev pub stream : Stream → List ℕ
-stream s = text s.scope ++ (text s.name ++ (text s.unit ++ shape s.shape))
+-- scope, name, unit and shape
+abbrev pub StreamParts : Type 0
+StreamParts = List ℕ × (List ℕ × (List ℕ × Shape))
+
+abbrev pub parts_of_stream : Stream → StreamParts
+parts_of_stream s = (s.scope, (s.name, (s.unit, s.shape)))
+
+abbrev pub stream_parts : Past → StreamParts → List ℕ
+stream_parts = pair_behind text_behind past_text (pair_behind text_behind past_text (pair_behind text_behind past_text (same_behind shape)))
+
+abbrev pub past_stream_parts : Past → StreamParts → Past
+past_stream_parts = past_pair past_text (past_pair past_text (past_pair past_text past_same))
+
+abbrev pub stream : Past → Stream → List ℕ
+stream p s = stream_parts p (parts_of_stream s)
+
+abbrev pub past_stream : Past → Stream → Past
+past_stream p s = past_stream_parts p (parts_of_stream s)
+
+-- 0 where it is the last stream; else 1 and the stream
+abbrev pub stream_or_last : Bool → Past → Stream → List ℕ
+stream_or_last true p s = 0 ∷ []
+stream_or_last false p s = 1 ∷ stream p s
+
+abbrev pub past_stream_or_last : Bool → Past → Stream → Past
+past_stream_or_last true p s = p
+past_stream_or_last false p s = with_stream (past_stream p s) s
+
+abbrev pub point_stream : Past → Stream → List ℕ
+point_stream p s = stream_or_last (is_last p.stream s) p s
+
+abbrev pub past_point_stream : Past → Stream → Past
+past_point_stream p s = past_stream_or_last (is_last p.stream s) p s
 
 -- a histogram's count, sum and buckets, and its range where there is one
 abbrev pub payload : Payload → List ℕ
@@ -69,15 +148,40 @@ payload (payloads.Gauge n) = 1 ∷ integer n
 payload (payloads.Hist count sum buckets None) = 2 ∷ varint count ++ (integer sum ++ list_of varint buckets)
 payload (payloads.Hist count sum buckets (Some range)) = 3 ∷ varint count ++ (integer sum ++ (list_of varint buckets ++ (integer range.0 ++ integer range.1)))
 
-abbrev pub point : ExportPoint → List ℕ
-point p = stream p.stream ++ (attributes p.attrs ++ payload p.payload)
+abbrev pub PointParts : Type 0
+PointParts = Stream × (List (List ℕ × AttrValue) × Payload)
 
-abbrev pub writer : WriterId → List ℕ
-writer w = text w.service ++ text w.instance
+abbrev pub parts_of_point : ExportPoint → PointParts
+parts_of_point x = (x.stream, (x.attrs, x.payload))
 
--- 'K' 'T' 'S', a letter that says what follows, and version 1
+abbrev pub point_parts : Past → PointParts → List ℕ
+point_parts = pair_behind point_stream past_point_stream (pair_behind attributes past_attributes (same_behind payload))
+
+abbrev pub past_point_parts : Past → PointParts → Past
+past_point_parts = past_pair past_point_stream (past_pair past_attributes past_same)
+
+abbrev pub point : Past → ExportPoint → List ℕ
+point p x = point_parts p (parts_of_point x)
+
+abbrev pub past_point : Past → ExportPoint → Past
+past_point p x = past_point_parts p (parts_of_point x)
+
+-- the service as a text, and the instance, which no other text is
+abbrev pub writer_parts : Past → List ℕ × List ℕ → List ℕ
+writer_parts = pair_behind text_behind past_text (same_behind text)
+
+abbrev pub past_writer_parts : Past → List ℕ × List ℕ → Past
+past_writer_parts = past_pair past_text past_same
+
+abbrev pub writer : Past → WriterId → List ℕ
+writer p w = writer_parts p (w.service, w.instance)
+
+abbrev pub past_writer : Past → WriterId → Past
+past_writer p w = past_writer_parts p (w.service, w.instance)
+
+-- 'K' 'T' 'S', a letter that says what follows, and version 2
 abbrev pub head_of : ℕ → List ℕ
-head_of letter = 75 ∷ 84 ∷ 83 ∷ letter ∷ 1 ∷ []
+head_of letter = 75 ∷ 84 ∷ 83 ∷ letter ∷ 2 ∷ []
 
 -- an export's letter is 'K'
 abbrev pub head : List ℕ
@@ -90,15 +194,19 @@ Parts = WriterId × (ℕ × (ℕ × List ExportPoint))
 abbrev pub parts_of : Export → Parts
 parts_of e = (e.writer, (e.start, (e.time, e.points)))
 
+abbrev pub parts_behind : Past → Parts → List ℕ
+parts_behind = pair_behind writer past_writer (pair_behind (same_behind varint) past_same (pair_behind (same_behind varint) past_same (list_behind point past_point)))
+
+-- the parts, of which nothing came before
 abbrev pub parts : Parts → List ℕ
-parts = pair_of writer (pair_of varint (pair_of varint (list_of point)))
+parts = parts_behind no_past
 
 -- bytes, and the checksum of them
-unfoldable pub sealed : List ℕ → List ℕ
-sealed bytes = bytes ++ to_be_bytes w32 (checksum bytes)
+unfoldable pub with_checksum : List ℕ → List ℕ
+with_checksum bytes = bytes ++ to_be_bytes w32 (checksum bytes)
 
 abbrev pub bytes_of_parts : Parts → List ℕ
-bytes_of_parts p = sealed (head ++ parts p)
+bytes_of_parts p = with_checksum (head ++ parts p)
 
 abbrev pub bytes_of : Export → List ℕ
 bytes_of e = bytes_of_parts (parts_of e)

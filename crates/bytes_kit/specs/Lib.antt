@@ -12,4 +12,8 @@ pub mod MessageFits
 pub mod MessageLaws
 pub mod Messages
 pub mod PartLaws
+pub mod Past
+pub mod PastFits
+pub mod PastLaws
 pub mod Reading
+pub mod Weights

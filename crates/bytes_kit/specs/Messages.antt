@@ -1,5 +1,5 @@
 -- The one form of a message.
-use Rattle.std.specs.Prelude.{ℕ, Bool, true, false, ◌&&◌, ◌==◌, List, [], ◌∷◌, ◌++◌, length, Option, Some, None}
+use Rattle.std.specs.Prelude.{ℕ, Bool, true, false, ◌&&◌, ◌==◌, List, [], ◌∷◌, ◌++◌, Option, Some, None, nat_le, length}
 use Rattle.std.specs.FinMap.{entries}
 use Rattle.gossip_kit.specs.Views.{MessageView}
 use Rattle.point_kit.specs.Exports.{Points}
@@ -10,9 +10,13 @@ use Rattle.point_kit.specs.declared.cell.Held.{Held}
 use Rattle.point_kit.specs.declared.cell.Held.TheVariants.{One, Conflict}
 use Rattle.point_kit.specs.declared.key.Key.{Key}
 use Rattle.point_kit.specs.declared.payload.Payload.{Payload}
+use Rattle.point_kit.specs.declared.shape.Shape.{Shape}
+use Rattle.point_kit.specs.declared.shape.Shape.TheVariants as shapes
 use Rattle.point_kit.specs.declared.stream.Stream.{Stream}
 use Rattle.point_kit.specs.declared.writer_id.WriterId.{WriterId}
-use Rattle.bytes_kit.specs.Format.{varint, attributes, stream, payload, writer, head_of, sealed}
+use Rattle.attr_kit.specs.declared.attr_value.AttrValue.{AttrValue}
+use Rattle.bytes_kit.specs.Format.{varint, attributes, past_attributes, stream, past_stream, payload, writer, past_writer, pair_behind, past_pair, same_behind, past_same, list_behind, head_of, with_checksum}
+use Rattle.bytes_kit.specs.Past.{Past, no_past, longest, is_short}
 use Rattle.bytes_kit.specs.declared.carried.Carried.{Carried}
 use Rattle.bytes_kit.specs.declared.carried.Carried.TheVariants as bodies
 use Rattle.bytes_kit.specs.declared.keys.Shared.{Shared}
@@ -27,10 +31,18 @@ common_of true true = shares.Stream
 common_of true false = shares.Incarnation
 common_of false same = shares.Nothing
 
--- what writer, start and stream share with the key before
+-- a stream that is copied for each cell at little cost: no text of it is long, and its bounds are few
+abbrev pub has_few_bounds : Shape → Bool
+has_few_bounds (shapes.Histogram bounds) = nat_le (length bounds) longest
+has_few_bounds s = true
+
+abbrev pub is_light : Stream → Bool
+is_light s = (is_short s.scope && is_short s.name) && (is_short s.unit && has_few_bounds s.shape)
+
+-- what writer, start and stream share with the key before: a writer of a long name and a stream that is not light are written again
 abbrev pub common_parts : Option Key → WriterId → ℕ → Stream → Shared
 common_parts None w start s = shares.Nothing
-common_parts (Some j) w start s = common_of ((writers.ghosts).eq j.writer w && (j.start == start)) ((streams.ghosts).eq j.stream s)
+common_parts (Some j) w start s = common_of (((writers.ghosts).eq j.writer w && (j.start == start)) && is_short w.service) ((streams.ghosts).eq j.stream s && is_light s)
 
 -- what a key shares with the one before it
 abbrev pub common : Option Key → Key → Shared
@@ -41,32 +53,63 @@ common_form shares.Nothing = 0 ∷ []
 common_form shares.Incarnation = 1 ∷ []
 common_form shares.Stream = 2 ∷ []
 
+-- writer, start, stream and attributes of a key
+abbrev pub KeyParts : Type 0
+KeyParts = WriterId × (ℕ × (Stream × List (List ℕ × AttrValue)))
+
+abbrev pub key_parts : Past → KeyParts → List ℕ
+key_parts = pair_behind writer past_writer (pair_behind (same_behind varint) past_same (pair_behind stream past_stream attributes))
+
+abbrev pub past_key_parts : Past → KeyParts → Past
+past_key_parts = past_pair past_writer (past_pair past_same (past_pair past_stream past_attributes))
+
+-- stream and attributes
+abbrev pub series_parts : Past → Stream × List (List ℕ × AttrValue) → List ℕ
+series_parts = pair_behind stream past_stream attributes
+
+abbrev pub past_series_parts : Past → Stream × List (List ℕ × AttrValue) → Past
+past_series_parts = past_pair past_stream past_attributes
+
 -- what a key does not share
-abbrev pub key_rest : Shared → Key → List ℕ
-key_rest shares.Nothing k = writer k.writer ++ (varint k.start ++ (stream k.stream ++ attributes k.attrs))
-key_rest shares.Incarnation k = stream k.stream ++ attributes k.attrs
-key_rest shares.Stream k = attributes k.attrs
+abbrev pub key_rest : Past → Shared → Key → List ℕ
+key_rest p shares.Nothing k = key_parts p (k.writer, (k.start, (k.stream, k.attrs)))
+key_rest p shares.Incarnation k = series_parts p (k.stream, k.attrs)
+key_rest p shares.Stream k = attributes p k.attrs
+
+abbrev pub past_rest : Past → Shared → Key → Past
+past_rest p shares.Nothing k = past_key_parts p (k.writer, (k.start, (k.stream, k.attrs)))
+past_rest p shares.Incarnation k = past_series_parts p (k.stream, k.attrs)
+past_rest p shares.Stream k = past_attributes p k.attrs
+
+-- what came before a key: texts, and the key before it
+abbrev pub Earlier : Type 0
+Earlier = Past × Option Key
 
 -- a key behind another
-abbrev pub key : Option Key → Key → List ℕ
-key before k = common_form (common before k) ++ key_rest (common before k) k
+abbrev pub key : Earlier → Key → List ℕ
+key b k = common_form (common b.1 k) ++ key_rest b.0 (common b.1 k) k
+
+abbrev pub past_key : Earlier → Key → Past
+past_key b k = past_rest b.0 (common b.1 k) k
 
 -- the payload, or 4 where several came
-abbrev pub held : Held Payload → List ℕ
-held (One p) = payload p
-held Conflict = 4 ∷ []
+abbrev pub payload_or_conflict : Held Payload → List ℕ
+payload_or_conflict (One p) = payload p
+payload_or_conflict Conflict = 4 ∷ []
 
 abbrev pub cell : Cell Payload → List ℕ
-cell c = varint c.time ++ held c.held
+cell c = varint c.time ++ payload_or_conflict c.held
 
 -- a cell under its key, behind another key
-abbrev pub entry : Option Key → Entry → List ℕ
-entry before e = key before e.0 ++ cell e.1
+abbrev pub entry : Earlier → Entry → List ℕ
+entry b e = key b e.0 ++ cell e.1
 
--- each behind the one before it
-abbrev pub entries_behind : Option Key → List Entry → List ℕ
-entries_behind before [] = []
-entries_behind before (e ∷ es) = entry before e ++ entries_behind (Some e.0) es
+abbrev pub past_entry : Earlier → Entry → Earlier
+past_entry b e = (past_key b e.0, Some e.0)
+
+-- nothing, and no key
+abbrev pub nothing_earlier : Earlier
+nothing_earlier = (no_past, None)
 
 -- the key of the last, and before any that of the one before them
 abbrev pub last_behind : Option Key → List Entry → Option Key
@@ -78,12 +121,12 @@ last_key es = last_behind None es
 
 -- how many, and the cells
 abbrev pub cells : List Entry → List ℕ
-cells es = varint (length es) ++ entries_behind None es
+cells = list_behind entry past_entry nothing_earlier
 
-abbrev pub carried : Carried → List ℕ
-carried (bodies.Whole es) = 0 ∷ cells es
-carried (bodies.Delta number es) = 1 ∷ varint number ++ cells es
-carried (bodies.Ack number) = 2 ∷ varint number
+abbrev pub body_bytes : Carried → List ℕ
+body_bytes (bodies.Whole es) = 0 ∷ cells es
+body_bytes (bodies.Delta number es) = 1 ∷ varint number ++ cells es
+body_bytes (bodies.Ack number) = 2 ∷ varint number
 
 -- a message's letter is 'M'
 abbrev pub message_head : List ℕ
@@ -94,19 +137,19 @@ abbrev pub Said : Type 0
 Said = ℕ × ℕ × Carried
 
 abbrev pub said : Said → List ℕ
-said s = varint s.0 ++ (varint s.1 ++ carried s.2)
+said s = varint s.0 ++ (varint s.1 ++ body_bytes s.2)
 
 abbrev pub bytes_of_said : Said → List ℕ
-bytes_of_said s = sealed (message_head ++ said s)
+bytes_of_said s = with_checksum (message_head ++ said s)
 
 -- of an Ack its number, of a delta its number and the cells, else the cells
-abbrev pub carried_of : Points → Option ℕ → Option ℕ → Carried
-carried_of points delta (Some number) = bodies.Ack number
-carried_of points (Some number) None = bodies.Delta number (entries points)
-carried_of points None None = bodies.Whole (entries points)
+abbrev pub body_bytes_of : Points → Option ℕ → Option ℕ → Carried
+body_bytes_of points delta (Some number) = bodies.Ack number
+body_bytes_of points (Some number) None = bodies.Delta number (entries points)
+body_bytes_of points None None = bodies.Whole (entries points)
 
 abbrev pub said_of : MessageView → Said
-said_of m = (m.from, m.to, carried_of m.points m.delta m.ack)
+said_of m = (m.from, m.to, body_bytes_of m.points m.delta m.ack)
 
 abbrev pub bytes_of_message : MessageView → List ℕ
 bytes_of_message m = bytes_of_said (said_of m)

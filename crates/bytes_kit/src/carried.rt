@@ -6,7 +6,7 @@ ghost use Rattle.gossip_kit.specs.Bodies.{cells_of, delta_of, ack_of};
 ghost use Rattle.point_kit.specs.Orders.{key_cmp};
 ghost use Rattle.bytes_kit.specs.Explaining.{IsReadFault};
 ghost use Rattle.bytes_kit.specs.MessageFits.{IsCarried, IsInOrder, IsOneOf, carried_fault};
-ghost use Rattle.bytes_kit.specs.Messages.{carried, carried_of};
+ghost use Rattle.bytes_kit.specs.Messages.{body_bytes, body_bytes_of};
 ghost use Rattle.bytes_kit.specs.Reading.{Reads};
 
 use crate::DecodeFault;
@@ -34,8 +34,8 @@ pub(crate) enum Carried {
 /// The form of a body.
 pub(crate) fn write_body(body: &Body, out: &mut Vec<u8>) -> Result<(), NoMemory>
     ensures written { OnOk result
-        (out.new.items ≡ out.old.items ++ carried (carried_of (cells_of body.now) (delta_of body.now) (ack_of body.now))) }
-    ensures value { OnOk result (IsCarried (carried_of (cells_of body.now) (delta_of body.now) (ack_of body.now))) }
+        (out.new.items ≡ out.old.items ++ body_bytes (body_bytes_of (cells_of body.now) (delta_of body.now) (ack_of body.now))) }
+    ensures value { OnOk result (IsCarried (body_bytes_of (cells_of body.now) (delta_of body.now) (ack_of body.now))) }
     ensures one { IsOneOf (cells_of body.now) (delta_of body.now) (ack_of body.now) }
 {
     match body {
@@ -58,7 +58,7 @@ pub(crate) fn write_body(body: &Body, out: &mut Vec<u8>) -> Result<(), NoMemory>
 impl Carried {
     /// What comes next.
     pub(crate) fn read(reader: &mut Reader<'_>) -> Result<Carried, DecodeFault>
-        ensures found { Reads carried IsCarried reader.old.rest result reader.new.rest }
+        ensures found { Reads body_bytes IsCarried reader.old.rest result reader.new.rest }
         ensures sorted { IfOk result IsInOrder }
         ensures end { reader.new.end ≡ reader.old.end }
         ensures fault { IfErr result (IsReadFault reader.old.end) }
@@ -90,7 +90,7 @@ impl Carried {
     /// The body: a gateway of an id with these cells.
     pub(crate) fn into_body(self, alloc: Global, id: u32) -> Result<Body, NoMemory>
         requires { IsInOrder self }
-        ensures value { IfOk result (λ b. carried_of (cells_of b) (delta_of b) (ack_of b) ≡ self) }
+        ensures value { IfOk result (λ b. body_bytes_of (cells_of b) (delta_of b) (ack_of b) ≡ self) }
         ensures one { IfOk result (λ b. IsOneOf (cells_of b) (delta_of b) (ack_of b)) }
     {
         Ok(match self {

@@ -7,11 +7,12 @@ ghost use Rattle.bytes_kit.specs.Explaining.{IsReadFault};
 ghost use Rattle.bytes_kit.specs.Fits.{IsPayload, IsNumber};
 ghost use Rattle.bytes_kit.specs.KeyForms.{IsKeyRest, key_at, key_before};
 ghost use Rattle.bytes_kit.specs.MessageFits.{IsCell, IsCells, IsEntry, IsHeld, IsListed};
-ghost use Rattle.bytes_kit.specs.MessageLaws.{cell_code, cell_bytes, held_code, held_bytes};
-ghost use Rattle.bytes_kit.specs.Messages.{cell, cells, common, entry, held, last_key};
+ghost use Rattle.bytes_kit.specs.MessageLaws.{cell_code, cell_bytes, payload_or_conflict_code, payload_or_conflict_bytes};
+ghost use Rattle.bytes_kit.specs.Messages.{cell, cells, common, entry, past_key, payload_or_conflict, last_key};
 ghost use Rattle.bytes_kit.specs.Reading.{Reads};
 
 use crate::DecodeFault;
+use crate::history::History;
 use crate::keys::{read_key, write_key};
 use crate::piece::Piece;
 use crate::pieces::room;
@@ -24,7 +25,7 @@ use point_kit::{Cell, Held, Key, Payload};
 const CONFLICT: u8 = 4;
 
 impl Piece for Held {
-    ghost code = { held };
+    ghost code = { payload_or_conflict };
 
     ghost is_value = { IsHeld };
 
@@ -45,9 +46,9 @@ impl Piece for Held {
         Ok(Held::One(Payload::read(reader)?))
     }
 
-    ghost is_code = { held_code };
+    ghost is_code = { payload_or_conflict_code };
 
-    ghost has_bytes = { held_bytes };
+    ghost has_bytes = { payload_or_conflict_bytes };
 }
 
 impl Piece for Cell {
@@ -74,13 +75,16 @@ impl Piece for Cell {
 fn write_entry(
     before: Option<PointRef<'_>>,
     point: PointRef<'_>,
+    history: &mut History,
     out: &mut Vec<u8>,
 ) -> Result<(), NoMemory>
-    ensures written { OnOk result (out.new.items ≡ out.old.items ++ entry (key_before before.entry) (entry_of_ref point.entry)) }
+    ensures written { OnOk result
+        (out.new.items ≡ out.old.items ++ entry (history.old, key_before before.entry) (entry_of_ref point.entry)) }
+    ensures history { OnOk result (history.new ≡ past_key (history.old, key_before before.entry) (key_at point.entry)) }
     ensures key { OnOk result (IsKeyRest (common (key_before before.entry) (key_at point.entry)) (key_at point.entry)) }
     ensures cell { OnOk result (IsCell (entry_of_ref point.entry).1) }
 {
-    write_key(before, point, out)?;
+    write_key(before, point, history, out)?;
     point.cell.write(out)
 }
 
@@ -95,9 +99,10 @@ pub(crate) fn write_cells(
     ensures value { OnOk result (IsListed (points_left points.entry)) }
 {
     (count as u64).write(out)?;
+    let mut history = History::new(*out.allocator());
     let mut before = None;
     for point in points {
-        write_entry(before, point, out)?;
+        write_entry(before, point, &mut history, out)?;
         before = Some(point);
     }
     Ok(())
@@ -129,12 +134,17 @@ fn last_point(entries: &[(Key, Cell)]) -> Option<PointRef<'_>>
 }
 
 // The cell that comes next behind those that came.
-fn read_entry(earlier: &[(Key, Cell)], reader: &mut Reader<'_>) -> Result<(Key, Cell), DecodeFault>
-    ensures found { Reads (entry (last_key earlier.now)) IsEntry reader.old.rest result reader.new.rest }
+fn read_entry(
+    earlier: &[(Key, Cell)],
+    reader: &mut Reader<'_>,
+    history: &mut History,
+) -> Result<(Key, Cell), DecodeFault>
+    ensures found { Reads (entry (history.old, last_key earlier.now)) IsEntry reader.old.rest result reader.new.rest }
+    ensures history { IfOk result (λ e. history.new ≡ past_key (history.old, last_key earlier.now) e.0) }
     ensures end { reader.new.end ≡ reader.old.end }
     ensures fault { IfErr result (IsReadFault reader.old.end) }
 {
-    let key = read_key(last_point(earlier), reader)?;
+    let key = read_key(last_point(earlier), reader, history)?;
     let cell = Cell::read(reader)?;
     Ok((key, cell))
 }
@@ -147,9 +157,10 @@ fn read_listed(reader: &mut Reader<'_>) -> Result<Seq<(Key, Cell)>, DecodeFault>
 {
     let count = u64::read(reader)?;
     let count = reader.within(count)?;
+    let mut history = History::new(reader.alloc());
     let mut items = room(reader, count)?;
     for _ in 0..count {
-        let item = read_entry(items.as_slice(), reader)?;
+        let item = read_entry(items.as_slice(), reader, &mut history)?;
         items.push(item)?;
     }
     Ok(Seq::from_vec(items))

@@ -2,15 +2,17 @@
 ghost use Rattle.std.specs.Prelude.{◌≡◌, ◌≢◌, ◌++◌, List, ℕ, ◌∷◌, ◌⊎◌, IfOk, IfErr, OnOk, OnErr};
 ghost use Rattle.std.specs.Int.{w32, to_be_bytes};
 ghost use Rattle.point_kit.specs.declared.export.Export.{Export};
-ghost use Rattle.bytes_kit.specs.Explaining.{Explains, IsPartsFault, IsHeadFault, IsSealFault, HasOther};
+ghost use Rattle.bytes_kit.specs.Explaining.{Explains, IsPartsFault, IsHeadFault, IsReadFault, IsSealFault, HasOther};
 ghost use Rattle.bytes_kit.specs.Faults.{GivesBack};
 ghost use Rattle.bytes_kit.specs.Fits.{IsParts, IsExport};
 ghost use Rattle.bytes_kit.specs.Format.{Parts, parts, head, head_of, bytes_of_parts, bytes_of};
+ghost use Rattle.bytes_kit.specs.Reading.{Reads};
 ghost use Rattle.bytes_kit.specs.declared.fault.DecodeFault.TheVariants as faults;
 
 use crate::DecodeFault;
 use crate::checksum::checksum;
-use crate::piece::Piece;
+use crate::history::History;
+use crate::passage::Passage;
 use crate::reader::Reader;
 use attr_kit::Seq;
 use point_kit::{Export, ExportPoint, WriterId};
@@ -40,7 +42,7 @@ pub(crate) fn read_head(reader: &mut Reader<'_>, letter: u8) -> Result<(), Decod
     expect(reader, b'T', DecodeFault::BadMagic(1))?;
     expect(reader, b'S', DecodeFault::BadMagic(2))?;
     expect(reader, letter, DecodeFault::BadMagic(3))?;
-    expect(reader, 1, DecodeFault::BadVersion(4))
+    expect(reader, 2, DecodeFault::BadVersion(4))
 }
 
 /// The checksum, and nothing behind it.
@@ -54,13 +56,26 @@ pub(crate) fn read_seal(reader: &mut Reader<'_>, sum: u32) -> Result<(), DecodeF
     if found != sum.to_be_bytes().as_slice() {
         return Err(DecodeFault::BadChecksum(place));
     }
-    if reader.left() > 0 {
+    if reader.rest_len() > 0 {
         return Err(DecodeFault::NotCanonical(reader.place()));
     }
     Ok(())
 }
 
 // Writer, start, time and points.
+fn read_written(
+    alloc: Global,
+    reader: &mut Reader<'_>,
+) -> Result<(WriterId, (u64, (u64, Seq<ExportPoint>))), DecodeFault>
+    ensures found { Reads parts IsParts reader.old.rest result reader.new.rest }
+    ensures end { reader.new.end ≡ reader.old.end }
+    ensures fault { IfErr result (IsReadFault reader.old.end) }
+{
+    let mut history = History::new(alloc);
+    <(WriterId, (u64, (u64, Seq<ExportPoint>)))>::read_behind(reader, &mut history)
+}
+
+// The same of all bytes, between head and checksum.
 fn read_parts(
     alloc: Global,
     bytes: &[u8],
@@ -71,8 +86,8 @@ fn read_parts(
 {
     let mut reader = Reader::new(alloc, bytes);
     read_head(&mut reader, b'K')?;
-    let parts = <(WriterId, (u64, (u64, Seq<ExportPoint>)))>::read(&mut reader)?;
-    let (body, _) = bytes.split_at(bytes.len() - reader.left());
+    let parts = read_written(alloc, &mut reader)?;
+    let (body, _) = bytes.split_at(bytes.len() - reader.rest_len());
     read_seal(&mut reader, checksum(body))?;
     Ok(parts)
 }
@@ -80,8 +95,9 @@ fn read_parts(
 /// The export whose bytes these are, in the one form that docs/BYTES.md tells.
 ///
 /// What is read is sound as `Export::build` has it. A fault other than `NoMemory` comes only where these are the bytes of
-/// no export. O(n) in the bytes, but for the set of keys that `Export::build` makes; memory for at most as many values
-/// as there are bytes: a number of values or bytes is compared with the bytes that are left before it is used.
+/// no export. O(n) in the bytes, but for hash look-ups of texts that are new and the set of keys that `Export::build` makes;
+/// memory for at most as many values as there are bytes: a number of values or bytes is compared with the bytes that are left
+/// before it is used, and [`crate::weighs_no_more`] says what is held in the end.
 pub fn decode_export(alloc: Global, bytes: &[u8]) -> Result<Export, DecodeFault>
     // What is read has these bytes.
     ensures ok { IfOk result (λ e. bytes_of e ≡ bytes.now) }

@@ -1,22 +1,24 @@
 //! The bytes of an export.
 ghost use Rattle.std.specs.Prelude.{◌≡◌, ◌++◌, [], IfOk, OnOk, OnErr};
 ghost use Rattle.bytes_kit.specs.Fits.{IsExport};
-ghost use Rattle.bytes_kit.specs.Format.{parts_of, parts, head, bytes_of, sealed};
+ghost use Rattle.bytes_kit.specs.Format.{parts_of, parts, head, bytes_of, with_checksum};
 
 use crate::checksum::checksum;
+use crate::history::History;
+use crate::passage::Passage;
+use crate::passages::write_list_behind;
 use crate::piece::Piece;
-use crate::writer::write_list;
 use attr_kit::NoMemory;
 use point_kit::Export;
 use std::alloc::Global;
 
 // The letters by which an export is known, and the version.
-const HEAD: [u8; 5] = [75, 84, 83, 75, 1];
+const HEAD: [u8; 5] = [75, 84, 83, 75, 2];
 
 /// Puts the checksum of all bytes behind them.
-#[tactic(auto, unfolding(crate::specs::Format::sealed))]
+#[tactic(auto, unfolding(crate::specs::Format::with_checksum))]
 pub(crate) fn seal(out: &mut Vec<u8>) -> Result<(), NoMemory>
-    ensures { OnOk result (out.new.items ≡ sealed out.old.items) }
+    ensures { OnOk result (out.new.items ≡ with_checksum out.old.items) }
 {
     let sum = checksum(out.as_slice());
     out.extend_from_slice(&sum.to_be_bytes())?;
@@ -28,10 +30,11 @@ fn write_parts(export: &Export, out: &mut Vec<u8>) -> Result<(), NoMemory>
     ensures written { OnOk result (out.new.items ≡ out.old.items ++ parts (parts_of export.now)) }
     ensures value { OnOk result (IsExport export.now) }
 {
-    export.writer().write(out)?;
+    let mut history = History::new(*out.allocator());
+    export.writer().write_behind(&mut history, out)?;
     export.start().write(out)?;
     export.time().write(out)?;
-    write_list(export.points(), out)
+    write_list_behind(export.points(), &mut history, out)
 }
 
 // Head, parts and checksum.
@@ -49,7 +52,8 @@ fn write_sealed(export: &Export, out: &mut Vec<u8>) -> Result<(), NoMemory>
 ///
 /// Each export has one form, told in docs/BYTES.md, and [`crate::decode_export`] gives the export back of it: that asks for
 /// values of the sizes that the types have, which `value` says of every export that was written. Refused only where memory
-/// is; the buffer is then empty. O(n) in the bytes.
+/// is; the buffer is then empty. O(n) in the bytes, and a hash look-up for each text; beside the buffer memory for each text of
+/// at most 64 bytes that comes, once.
 pub fn encode_export_into(export: &Export, out: &mut Vec<u8>) -> Result<(), NoMemory>
     ensures ok { OnOk result (out.new.items ≡ bytes_of export.now) }
     ensures value { OnOk result (IsExport export.now) }

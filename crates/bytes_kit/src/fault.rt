@@ -18,8 +18,8 @@ pub enum DecodeFault {
     /// The version is not one that is known here.
     #[error("the version at byte {0} is not known")]
     BadVersion(usize),
-    /// The value at this place is written so by none: a number in more bytes than it wants, a tag that there is not, keys
-    /// that do not rise, or bytes behind the end.
+    /// The value at this place is written so by none: a number in more bytes than it wants, a tag or the number of a text that
+    /// there is not, a text or a stream that came before and is written again, keys that do not rise, or bytes behind the end.
     #[error("the value at byte {0} is not in its one form")]
     NotCanonical(usize),
     /// The text at this place is not UTF-8.

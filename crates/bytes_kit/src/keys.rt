@@ -3,16 +3,19 @@ ghost use Rattle.std.specs.Prelude.{◌≡◌, ◌≢◌, ◌++◌, IfErr, IfOk,
 ghost use Rattle.bytes_kit.specs.Explaining.{IsReadFault};
 ghost use Rattle.bytes_kit.specs.KeyForms.{Inherits, IsAny, IsKeyLike, IsKeyRest, key_before, key_at};
 ghost use Rattle.bytes_kit.specs.MessageFits.{IsKey};
-ghost use Rattle.bytes_kit.specs.Messages.{common, common_form, common_parts, key, key_rest};
+ghost use Rattle.bytes_kit.specs.Messages.{common, common_form, common_parts, has_few_bounds, is_light, key, past_key, key_rest, past_rest};
+ghost use Rattle.bytes_kit.specs.Past.{is_short};
 ghost use Rattle.bytes_kit.specs.Reading.{Reads, NoneAt};
 ghost use Rattle.bytes_kit.specs.declared.fault.DecodeFault.TheVariants as faults;
 
 use crate::DecodeFault;
+use crate::history::{History, LONGEST};
+use crate::passage::Passage;
 use crate::piece::Piece;
 use crate::reader::Reader;
-use attr_kit::{AttrSet, NoMemory};
+use attr_kit::{AttrSet, NoMemory, Txt};
 use gateway_kit::PointRef;
-use point_kit::{Key, Stream, WriterId};
+use point_kit::{Key, Shape, Stream, WriterId};
 
 /// What a key shares with the one before it: nothing that counts, writer and start, or its stream too.
 #[derive(Clone, Copy, PartialEq, Eq)]
@@ -22,6 +25,32 @@ pub(crate) enum Shared {
     Stream,
 }
 
+// Whether a text is copied at little cost.
+fn is_short(text: &Txt) -> bool
+    ensures { result ≡ is_short text.now }
+{
+    text.as_str().len() <= LONGEST
+}
+
+fn has_few_bounds(shape: &Shape) -> bool
+    ensures { result ≡ has_few_bounds shape.now }
+{
+    match shape {
+        Shape::Histogram { bounds } => bounds.len() <= LONGEST,
+        _ => true,
+    }
+}
+
+// Whether a stream is copied at little cost.
+fn is_light(stream: &Stream) -> bool
+    ensures { result ≡ is_light stream.now }
+{
+    is_short(&stream.scope)
+        && is_short(&stream.name)
+        && is_short(&stream.unit)
+        && has_few_bounds(&stream.shape)
+}
+
 // What writer, start and stream of a key share with the key of the point before it.
 fn common(before: Option<PointRef<'_>>, writer: &WriterId, start: u64, stream: &Stream) -> Shared
     ensures { result ≡ common_parts (key_before before.entry) writer.now start stream.now }
@@ -29,36 +58,43 @@ fn common(before: Option<PointRef<'_>>, writer: &WriterId, start: u64, stream: &
     let Some(before) = before else {
         return Shared::Nothing;
     };
-    if *before.writer != *writer || before.start != start {
+    if *before.writer != *writer || before.start != start || !is_short(&writer.service) {
         return Shared::Nothing;
     }
-    if *before.stream == *stream {
+    if *before.stream == *stream && is_light(stream) {
         Shared::Stream
     } else {
         Shared::Incarnation
     }
 }
 
-fn write_rest(shared: Shared, point: PointRef<'_>, out: &mut Vec<u8>) -> Result<(), NoMemory>
-    ensures written { OnOk result (out.new.items ≡ out.old.items ++ (common_form shared ++ key_rest shared (key_at point.entry))) }
+fn write_rest(
+    shared: Shared,
+    point: PointRef<'_>,
+    history: &mut History,
+    out: &mut Vec<u8>,
+) -> Result<(), NoMemory>
+    ensures written { OnOk result
+        (out.new.items ≡ out.old.items ++ (common_form shared ++ key_rest history.old shared (key_at point.entry))) }
+    ensures history { OnOk result (history.new ≡ past_rest history.old shared (key_at point.entry)) }
     ensures value { OnOk result (IsKeyRest shared (key_at point.entry)) }
 {
     match shared {
         Shared::Nothing => {
             out.push(0)?;
-            point.writer.write(out)?;
+            point.writer.write_behind(history, out)?;
             point.start.write(out)?;
-            point.stream.write(out)?;
-            point.attrs.write(out)
+            point.stream.write_behind(history, out)?;
+            point.attrs.write_behind(history, out)
         }
         Shared::Incarnation => {
             out.push(1)?;
-            point.stream.write(out)?;
-            point.attrs.write(out)
+            point.stream.write_behind(history, out)?;
+            point.attrs.write_behind(history, out)
         }
         Shared::Stream => {
             out.push(2)?;
-            point.attrs.write(out)
+            point.attrs.write_behind(history, out)
         }
     }
 }
@@ -67,13 +103,15 @@ fn write_rest(shared: Shared, point: PointRef<'_>, out: &mut Vec<u8>) -> Result<
 pub(crate) fn write_key(
     before: Option<PointRef<'_>>,
     point: PointRef<'_>,
+    history: &mut History,
     out: &mut Vec<u8>,
 ) -> Result<(), NoMemory>
-    ensures written { OnOk result (out.new.items ≡ out.old.items ++ key (key_before before.entry) (key_at point.entry)) }
+    ensures written { OnOk result (out.new.items ≡ out.old.items ++ key (history.old, key_before before.entry) (key_at point.entry)) }
+    ensures history { OnOk result (history.new ≡ past_key (history.old, key_before before.entry) (key_at point.entry)) }
     ensures value { OnOk result (IsKeyRest (common (key_before before.entry) (key_at point.entry)) (key_at point.entry)) }
 {
     let shared = common(before, point.writer, point.start, point.stream);
-    write_rest(shared, point, out)
+    write_rest(shared, point, history, out)
 }
 
 fn read_shared(reader: &mut Reader<'_>) -> Result<Shared, DecodeFault>
@@ -91,12 +129,15 @@ fn read_shared(reader: &mut Reader<'_>) -> Result<Shared, DecodeFault>
 }
 
 // A key of which nothing is known.
-fn read_whole(reader: &mut Reader<'_>) -> Result<Key, DecodeFault>
-    ensures found { Reads (key_rest Shared.Nothing) IsKey reader.old.rest result reader.new.rest }
+fn read_whole(reader: &mut Reader<'_>, history: &mut History) -> Result<Key, DecodeFault>
+    ensures found { Reads (key_rest history.old Shared.Nothing) IsKey reader.old.rest result reader.new.rest }
+    ensures history { IfOk result (λ k. history.new ≡ past_rest history.old Shared.Nothing k) }
     ensures end { reader.new.end ≡ reader.old.end }
     ensures fault { IfErr result (IsReadFault reader.old.end) }
 {
-    let (writer, (start, (stream, attrs))) = <(WriterId, (u64, (Stream, AttrSet)))>::read(reader)?;
+    let (writer, (start, (stream, attrs))) = <(WriterId, (u64, (Stream, AttrSet)))>::read_behind(
+        reader, history,
+    )?;
     Ok(Key {
         writer,
         start,
@@ -106,13 +147,18 @@ fn read_whole(reader: &mut Reader<'_>) -> Result<Key, DecodeFault>
 }
 
 // A key of a known incarnation.
-fn read_stream(before: PointRef<'_>, reader: &mut Reader<'_>) -> Result<Key, DecodeFault>
-    ensures found { Reads (key_rest Shared.Incarnation) IsKey reader.old.rest result reader.new.rest }
+fn read_stream(
+    before: PointRef<'_>,
+    reader: &mut Reader<'_>,
+    history: &mut History,
+) -> Result<Key, DecodeFault>
+    ensures found { Reads (key_rest history.old Shared.Incarnation) IsKey reader.old.rest result reader.new.rest }
+    ensures history { IfOk result (λ k. history.new ≡ past_rest history.old Shared.Incarnation k) }
     ensures inherits { IfOk result (Inherits (key_before (Some before.entry)) Shared.Incarnation) }
     ensures end { reader.new.end ≡ reader.old.end }
     ensures fault { IfErr result (IsReadFault reader.old.end) }
 {
-    let (stream, attrs) = <(Stream, AttrSet)>::read(reader)?;
+    let (stream, attrs) = <(Stream, AttrSet)>::read_behind(reader, history)?;
     Ok(Key {
         writer: before.writer.try_copy()?,
         start: before.start,
@@ -122,13 +168,18 @@ fn read_stream(before: PointRef<'_>, reader: &mut Reader<'_>) -> Result<Key, Dec
 }
 
 // A key of a known stream.
-fn read_attrs(before: PointRef<'_>, reader: &mut Reader<'_>) -> Result<Key, DecodeFault>
-    ensures found { Reads (key_rest Shared.Stream) IsKey reader.old.rest result reader.new.rest }
+fn read_attrs(
+    before: PointRef<'_>,
+    reader: &mut Reader<'_>,
+    history: &mut History,
+) -> Result<Key, DecodeFault>
+    ensures found { Reads (key_rest history.old Shared.Stream) IsKey reader.old.rest result reader.new.rest }
+    ensures history { IfOk result (λ k. history.new ≡ past_rest history.old Shared.Stream k) }
     ensures inherits { IfOk result (Inherits (key_before (Some before.entry)) Shared.Stream) }
     ensures end { reader.new.end ≡ reader.old.end }
     ensures fault { IfErr result (IsReadFault reader.old.end) }
 {
-    let attrs = AttrSet::read(reader)?;
+    let attrs = AttrSet::read_behind(reader, history)?;
     Ok(Key {
         writer: before.writer.try_copy()?,
         start: before.start,
@@ -142,18 +193,20 @@ fn read_rest(
     shared: Shared,
     before: Option<PointRef<'_>>,
     reader: &mut Reader<'_>,
+    history: &mut History,
 ) -> Result<Key, DecodeFault>
-    ensures ok { IfOk result (λ k. reader.old.rest ≡ key_rest shared k ++ reader.new.rest) }
+    ensures ok { IfOk result (λ k. reader.old.rest ≡ key_rest history.old shared k ++ reader.new.rest) }
+    ensures history { IfOk result (λ k. history.new ≡ past_rest history.old shared k) }
     ensures inherits { IfOk result (Inherits (key_before before.entry) shared) }
     ensures err { IfErr result
-        (λ f. f ≢ faults.NoMemory → NoneAt (key_rest shared) (IsKeyLike (key_before before.entry) shared) reader.old.rest) }
+        (λ f. f ≢ faults.NoMemory → NoneAt (key_rest history.old shared) (IsKeyLike (key_before before.entry) shared) reader.old.rest) }
     ensures end { reader.new.end ≡ reader.old.end }
     ensures fault { IfErr result (IsReadFault reader.old.end) }
 {
     match (shared, before) {
-        (Shared::Nothing, _) => read_whole(reader),
-        (Shared::Incarnation, Some(before)) => read_stream(before, reader),
-        (Shared::Stream, Some(before)) => read_attrs(before, reader),
+        (Shared::Nothing, _) => read_whole(reader, history),
+        (Shared::Incarnation, Some(before)) => read_stream(before, reader, history),
+        (Shared::Stream, Some(before)) => read_attrs(before, reader, history),
         (_, None) => Err(DecodeFault::NotCanonical(reader.place())),
     }
 }
@@ -162,14 +215,16 @@ fn read_rest(
 pub(crate) fn read_key(
     before: Option<PointRef<'_>>,
     reader: &mut Reader<'_>,
+    history: &mut History,
 ) -> Result<Key, DecodeFault>
-    ensures found { Reads (key (key_before before.entry)) IsKey reader.old.rest result reader.new.rest }
+    ensures found { Reads (key (history.old, key_before before.entry)) IsKey reader.old.rest result reader.new.rest }
+    ensures history { IfOk result (λ k. history.new ≡ past_key (history.old, key_before before.entry) k) }
     ensures end { reader.new.end ≡ reader.old.end }
     ensures fault { IfErr result (IsReadFault reader.old.end) }
 {
     let place = reader.place();
     let shared = read_shared(reader)?;
-    let key = read_rest(shared, before, reader)?;
+    let key = read_rest(shared, before, reader, history)?;
     if common(before, &key.writer, key.start, &key.stream) != shared {
         return Err(DecodeFault::NotCanonical(place));
     }

@@ -1,5 +1,5 @@
 //! What follows from the contracts of encoding and decoding.
-ghost use Rattle.std.specs.Prelude.{◌≡◌, ◌∷◌, []};
+ghost use Rattle.std.specs.Prelude.{◌≡◌, ◌≤◌, ◌*◌, ◌∷◌, [], length};
 ghost use Rattle.std.specs.FinMap as finite;
 ghost use Rattle.gossip_kit.specs.Gossip.{CarriesHeld};
 ghost use Rattle.gossip_kit.specs.Views.{MessageView};
@@ -9,6 +9,7 @@ ghost use Rattle.bytes_kit.specs.Faults.{GivesBack};
 ghost use Rattle.bytes_kit.specs.Format.{bytes_of};
 ghost use Rattle.bytes_kit.specs.MessageFits.{GivesMessage, IsOneOf, IsSoundPoints};
 ghost use Rattle.bytes_kit.specs.Messages.{bytes_of_message};
+ghost use Rattle.bytes_kit.specs.Weights.{export_weight, message_weight};
 
 use crate::{DecodeFault, decode_export, decode_message, encode_export, encode_message};
 use gossip_kit::Message;
@@ -33,6 +34,14 @@ pub fn stays_sound()
     ensures exports { (e : Export) → IsSoundPoints (state (e ∷ [])) }
     ensures joins { (a b : Points) → IsSoundPoints a → IsSoundPoints b → IsSoundPoints (join_points a b) }
     ensures messages { (carried points : Points) → CarriesHeld carried points → IsSoundPoints points → IsSoundPoints carried }
+{}
+
+/// An export has no more points, streams, pairs, bounds, buckets, and bytes of texts of more than 64 bytes, all added up, than
+/// it has bytes: a stream of points behind one another counts once, as it is held once. A message, each of whose cells has a
+/// writer and a stream of its own, has at most 65 times as many. So what is read takes memory for no more of them.
+pub fn weighs_no_more()
+    ensures exports { (e : Export) → export_weight e ≤ length (bytes_of e) }
+    ensures messages { (m : MessageView) → message_weight m ≤ 65 * length (bytes_of_message m) }
 {}
 
 /// Makes the bytes of an export and reads them: an equal export comes back, or `NoMemory`.

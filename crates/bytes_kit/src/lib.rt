@@ -1,11 +1,19 @@
 //! Exports, and messages between gateways, as bytes: made and read, with nothing lost or let in on the way.
 //!
 //! - [`encode_export`] makes the bytes of an export, [`encode_message`] those of a message. Each has one form.
+//!   [`encode_export_into`] and [`encode_message_into`] make it in a buffer that is used again.
 //! - [`decode_export`] and [`decode_message`] read that form and no other, or say in a [`DecodeFault`] what is wrong, and where.
+//! - Laws: [`one_form`], [`there_and_back`], [`one_message_form`], [`message_there_and_back`], [`stays_sound`] of the cells that
+//!   gateways hold, and [`weighs_no_more`] of the memory that is taken for what is read.
+//!
+//! A caller that takes an export which came as bytes, from `crates/uses/src/passing.rt`:
+//!
+//!     let export = decode_export(alloc, bytes)?;
+//!     Ok(gateway.take(&export)?)
 //!
 //! docs/BYTES.md tells the format byte by byte. What contracts cite stands in `specs/`: `Format` and `Messages` (the one form of
-//! each value), `Fits` and `MessageFits` (which values there are), `Codes` (forms that no two values share) and `Reading` (what a
-//! reader answers).
+//! each value), `Past` (what came before it), `Fits` and `MessageFits` (which values there are), `Codes` (forms that no two values
+//! share), `Reading` (what a reader answers) and `Weights` (how much is held).
 #![tactic(auto)]
 
 mod carried;
@@ -14,10 +22,13 @@ mod checksum;
 mod decode;
 mod encode;
 mod fault;
+mod history;
 mod keys;
 mod laws;
 mod messages;
 mod parts;
+mod passage;
+mod passages;
 mod piece;
 mod pieces;
 mod reader;
@@ -29,5 +40,7 @@ mod writer;
 pub use decode::decode_export;
 pub use encode::{encode_export, encode_export_into};
 pub use fault::DecodeFault;
-pub use laws::{message_there_and_back, one_form, one_message_form, stays_sound, there_and_back};
+pub use laws::{
+    message_there_and_back, one_form, one_message_form, stays_sound, there_and_back, weighs_no_more,
+};
 pub use messages::{decode_message, encode_message, encode_message_into};

@@ -1,32 +1,42 @@
 //! The forms of an export's parts.
-ghost use Rattle.std.specs.Prelude.{◌≡◌, ◌↔◌, IsTrue};
+ghost use Rattle.std.specs.Prelude.{◌≡◌, ◌≢◌, ◌≤◌, ◌++◌, ◌↔◌, IsTrue, IfErr, IfOk, false};
 ghost use Rattle.std.specs.FinMap.Entries.{is_sorted};
 ghost use Rattle.attr_kit.specs.Attributes.{keys_have_text, AreAttributes};
 ghost use Rattle.attr_kit.specs.Orders.{text_cmp};
+ghost use Rattle.bytes_kit.specs.Explaining.{IsReadFault};
 ghost use Rattle.bytes_kit.specs.Fits.{IsInstance, IsValue, IsSet, IsShape, IsStream, IsPayload, IsPoint, IsWriter};
-ghost use Rattle.bytes_kit.specs.Format.{text, value, attributes, shape, stream, payload, point, writer};
+ghost use Rattle.bytes_kit.specs.Format.{text, value, past_value, attributes, past_attributes, shape, stream, past_stream, point_stream, past_point_stream, payload, point, past_point, writer, past_writer, same_behind, past_same};
 ghost use Rattle.bytes_kit.specs.Laws.{text_code, text_bytes};
-ghost use Rattle.bytes_kit.specs.PartLaws.{value_code, value_bytes, attributes_code, attributes_bytes, shape_code, shape_bytes, stream_code, stream_bytes, payload_code, payload_bytes, point_code, point_bytes, writer_code, writer_bytes};
+ghost use Rattle.bytes_kit.specs.PartLaws.{value_code, value_bytes, attributes_code, attributes_bytes, shape_code, shape_bytes, stream_code, stream_bytes, point_stream_code, point_stream_bytes, payload_code, payload_bytes, point_code, point_bytes, writer_code, writer_bytes};
+ghost use Rattle.bytes_kit.specs.Past.{is_last, with_stream};
+ghost use Rattle.bytes_kit.specs.PastFits.{IsOtherStream};
+ghost use Rattle.bytes_kit.specs.Reading.{NoneAt};
+ghost use Rattle.bytes_kit.specs.declared.fault.DecodeFault.TheVariants as faults;
 
 use crate::DecodeFault;
+use crate::history::History;
+use crate::passage::Passage;
+use crate::passages::write_list_behind;
 use crate::piece::Piece;
-use crate::pieces::read_counted;
+use crate::pieces::{read_counted, to_zigzag};
 use crate::reader::Reader;
-use crate::writer::{write_counted, write_list};
+use crate::writer::write_counted;
 use attr_kit::{AttrSet, AttrValue, NoMemory, Seq, Txt};
 use point_kit::{ExportPoint, Payload, Shape, SharedStream, Stream, WriterId};
 use uuid::Uuid;
 
-impl Piece for AttrValue {
+impl Passage for AttrValue {
     ghost code = { value };
+
+    ghost past = { past_value };
 
     ghost is_value = { IsValue };
 
-    fn write(&self, out: &mut Vec<u8>) -> Result<(), NoMemory> {
+    fn write_behind(&self, history: &mut History, out: &mut Vec<u8>) -> Result<(), NoMemory> {
         match self {
             AttrValue::Text(text) => {
                 out.push(0)?;
-                text.write(out)
+                text.write_behind(history, out)
             }
             AttrValue::Truth(truth) => {
                 out.push(if *truth { 2 } else { 1 })?;
@@ -39,10 +49,13 @@ impl Piece for AttrValue {
         }
     }
 
-    fn read(reader: &mut Reader<'_>) -> Result<AttrValue, DecodeFault> {
+    fn read_behind(
+        reader: &mut Reader<'_>,
+        history: &mut History,
+    ) -> Result<AttrValue, DecodeFault> {
         let place = reader.place();
         match reader.byte()? {
-            0 => Ok(AttrValue::Text(Txt::read(reader)?)),
+            0 => Ok(AttrValue::Text(Txt::read_behind(reader, history)?)),
             1 => Ok(AttrValue::Truth(false)),
             2 => Ok(AttrValue::Truth(true)),
             3 => Ok(AttrValue::Whole(i64::read(reader)?)),
@@ -76,18 +89,20 @@ fn are_attributes(pairs: &[(Txt, AttrValue)]) -> bool
     is_rising(pairs) && is_named(pairs)
 }
 
-impl Piece for AttrSet {
+impl Passage for AttrSet {
     ghost code = { attributes };
+
+    ghost past = { past_attributes };
 
     ghost is_value = { IsSet };
 
-    fn write(&self, out: &mut Vec<u8>) -> Result<(), NoMemory> {
-        write_list(self.pairs(), out)
+    fn write_behind(&self, history: &mut History, out: &mut Vec<u8>) -> Result<(), NoMemory> {
+        write_list_behind(self.pairs(), history, out)
     }
 
-    fn read(reader: &mut Reader<'_>) -> Result<AttrSet, DecodeFault> {
+    fn read_behind(reader: &mut Reader<'_>, history: &mut History) -> Result<AttrSet, DecodeFault> {
         let place = reader.place();
-        let pairs = Seq::<(Txt, AttrValue)>::read(reader)?;
+        let pairs = Seq::<(Txt, AttrValue)>::read_behind(reader, history)?;
         if !are_attributes(pairs.as_slice()) {
             return Err(DecodeFault::NotCanonical(place));
         }
@@ -140,20 +155,44 @@ impl Piece for Shape {
     ghost has_bytes = { shape_bytes };
 }
 
-impl Piece for Stream {
+impl Passage for Shape {
+    ghost code = { same_behind shape };
+
+    ghost past = { past_same };
+
+    ghost is_value = { IsShape };
+
+    fn write_behind(&self, _history: &mut History, out: &mut Vec<u8>) -> Result<(), NoMemory> {
+        self.write(out)
+    }
+
+    fn read_behind(reader: &mut Reader<'_>, _history: &mut History) -> Result<Shape, DecodeFault> {
+        Shape::read(reader)
+    }
+
+    ghost is_code = { λ _. shape_code };
+
+    ghost has_bytes = { λ _. shape_bytes };
+}
+
+impl Passage for Stream {
     ghost code = { stream };
+
+    ghost past = { past_stream };
 
     ghost is_value = { IsStream };
 
-    fn write(&self, out: &mut Vec<u8>) -> Result<(), NoMemory> {
-        self.scope.write(out)?;
-        self.name.write(out)?;
-        self.unit.write(out)?;
+    fn write_behind(&self, history: &mut History, out: &mut Vec<u8>) -> Result<(), NoMemory> {
+        self.scope.write_behind(history, out)?;
+        self.name.write_behind(history, out)?;
+        self.unit.write_behind(history, out)?;
         self.shape.write(out)
     }
 
-    fn read(reader: &mut Reader<'_>) -> Result<Stream, DecodeFault> {
-        let (scope, (name, (unit, shape))) = <(Txt, (Txt, (Txt, Shape)))>::read(reader)?;
+    fn read_behind(reader: &mut Reader<'_>, history: &mut History) -> Result<Stream, DecodeFault> {
+        let (scope, (name, (unit, shape))) = <(Txt, (Txt, (Txt, Shape)))>::read_behind(
+            reader, history,
+        )?;
         Ok(Stream {
             scope,
             name,
@@ -167,29 +206,88 @@ impl Piece for Stream {
     ghost has_bytes = { stream_bytes };
 }
 
-impl Piece for SharedStream {
-    ghost code = { stream };
+// What is known of the sizes of a shape's parts.
+fn see_shape(shape: &Shape)
+    ensures { IsShape shape.now }
+{
+    if let Shape::Histogram { bounds } = shape {
+        for bound in bounds.as_slice() {
+            let _number = to_zigzag(*bound);
+        }
+    }
+}
+
+// What is known of the sizes of a stream's parts.
+fn see_stream(stream: &Stream)
+    ensures { IsStream stream.now }
+{
+    let _scope = stream.scope.as_str().as_bytes();
+    let _name = stream.name.as_str().as_bytes();
+    let _unit = stream.unit.as_str().as_bytes();
+    see_shape(&stream.shape);
+}
+
+// A stream that is not the last, behind the 1 that says so.
+fn read_other(
+    place: usize,
+    reader: &mut Reader<'_>,
+    history: &mut History,
+) -> Result<SharedStream, DecodeFault>
+    requires { place ≤ reader.old.end }
+    ensures ok { IfOk result (λ s. reader.old.rest ≡ stream history.old s ++ reader.new.rest) }
+    ensures other { IfOk result (λ s. is_last history.old.stream s ≡ false) }
+    ensures history { IfOk result (λ s. history.new ≡ with_stream (past_stream history.old s) s) }
+    ensures err { IfErr result (λ f. f ≢ faults.NoMemory → NoneAt (stream history.old) (IsOtherStream history.old) reader.old.rest) }
+    ensures end { reader.new.end ≡ reader.old.end }
+    ensures fault { IfErr result (IsReadFault reader.old.end) }
+{
+    let alloc = reader.alloc();
+    let stream = Stream::read_behind(reader, history)?;
+    if history.is_last(&stream) {
+        return Err(DecodeFault::NotCanonical(place));
+    }
+    see_stream(&stream);
+    let stream = SharedStream::new(alloc, stream)?;
+    history.keep(stream.try_copy()?);
+    Ok(stream)
+}
+
+impl Passage for SharedStream {
+    ghost code = { point_stream };
+
+    ghost past = { past_point_stream };
 
     ghost is_value = { IsStream };
 
-    fn write(&self, out: &mut Vec<u8>) -> Result<(), NoMemory> {
-        self.get().write(out)
-    }
-
-    fn read(reader: &mut Reader<'_>) -> Result<SharedStream, DecodeFault> {
-        if let Some(stream) = reader.again()? {
-            return Ok(stream);
+    fn write_behind(&self, history: &mut History, out: &mut Vec<u8>) -> Result<(), NoMemory> {
+        if history.is_last(self.get()) {
+            out.push(0)?;
+            return Ok(());
         }
-        let before = reader.rest();
-        let alloc = reader.alloc();
-        let stream = SharedStream::new(alloc, Stream::read(reader)?)?;
-        reader.keep(stream.try_copy()?, before);
-        Ok(stream)
+        out.push(1)?;
+        self.get().write_behind(history, out)?;
+        history.keep(self.try_copy()?);
+        Ok(())
     }
 
-    ghost is_code = { stream_code };
+    fn read_behind(
+        reader: &mut Reader<'_>,
+        history: &mut History,
+    ) -> Result<SharedStream, DecodeFault> {
+        let place = reader.place();
+        match reader.byte()? {
+            0 => match history.last()? {
+                Some(stream) => Ok(stream),
+                None => Err(DecodeFault::NotCanonical(place)),
+            },
+            1 => read_other(place, reader, history),
+            _ => Err(DecodeFault::NotCanonical(place)),
+        }
+    }
 
-    ghost has_bytes = { stream_bytes };
+    ghost is_code = { point_stream_code };
+
+    ghost has_bytes = { point_stream_bytes };
 }
 
 impl Piece for Payload {
@@ -267,19 +365,49 @@ impl Piece for Payload {
     ghost has_bytes = { payload_bytes };
 }
 
-impl Piece for ExportPoint {
+impl Passage for Payload {
+    ghost code = { same_behind payload };
+
+    ghost past = { past_same };
+
+    ghost is_value = { IsPayload };
+
+    fn write_behind(&self, _history: &mut History, out: &mut Vec<u8>) -> Result<(), NoMemory> {
+        self.write(out)
+    }
+
+    fn read_behind(
+        reader: &mut Reader<'_>,
+        _history: &mut History,
+    ) -> Result<Payload, DecodeFault> {
+        Payload::read(reader)
+    }
+
+    ghost is_code = { λ _. payload_code };
+
+    ghost has_bytes = { λ _. payload_bytes };
+}
+
+impl Passage for ExportPoint {
     ghost code = { point };
+
+    ghost past = { past_point };
 
     ghost is_value = { IsPoint };
 
-    fn write(&self, out: &mut Vec<u8>) -> Result<(), NoMemory> {
-        self.stream.write(out)?;
-        self.attrs.write(out)?;
+    fn write_behind(&self, history: &mut History, out: &mut Vec<u8>) -> Result<(), NoMemory> {
+        self.stream.write_behind(history, out)?;
+        self.attrs.write_behind(history, out)?;
         self.payload.write(out)
     }
 
-    fn read(reader: &mut Reader<'_>) -> Result<ExportPoint, DecodeFault> {
-        let (stream, (attrs, payload)) = <(SharedStream, (AttrSet, Payload))>::read(reader)?;
+    fn read_behind(
+        reader: &mut Reader<'_>,
+        history: &mut History,
+    ) -> Result<ExportPoint, DecodeFault> {
+        let (stream, (attrs, payload)) = <(SharedStream, (AttrSet, Payload))>::read_behind(
+            reader, history,
+        )?;
         Ok(ExportPoint {
             stream,
             attrs,
@@ -315,18 +443,43 @@ impl Piece for Uuid {
     ghost has_bytes = { text_bytes };
 }
 
-impl Piece for WriterId {
+impl Passage for Uuid {
+    ghost code = { same_behind text };
+
+    ghost past = { past_same };
+
+    ghost is_value = { IsInstance };
+
+    fn write_behind(&self, _history: &mut History, out: &mut Vec<u8>) -> Result<(), NoMemory> {
+        self.write(out)
+    }
+
+    fn read_behind(reader: &mut Reader<'_>, _history: &mut History) -> Result<Uuid, DecodeFault> {
+        Uuid::read(reader)
+    }
+
+    ghost is_code = { λ _. text_code };
+
+    ghost has_bytes = { λ _. text_bytes };
+}
+
+impl Passage for WriterId {
     ghost code = { writer };
+
+    ghost past = { past_writer };
 
     ghost is_value = { IsWriter };
 
-    fn write(&self, out: &mut Vec<u8>) -> Result<(), NoMemory> {
-        self.service.write(out)?;
+    fn write_behind(&self, history: &mut History, out: &mut Vec<u8>) -> Result<(), NoMemory> {
+        self.service.write_behind(history, out)?;
         self.instance.write(out)
     }
 
-    fn read(reader: &mut Reader<'_>) -> Result<WriterId, DecodeFault> {
-        let (service, instance) = <(Txt, Uuid)>::read(reader)?;
+    fn read_behind(
+        reader: &mut Reader<'_>,
+        history: &mut History,
+    ) -> Result<WriterId, DecodeFault> {
+        let (service, instance) = <(Txt, Uuid)>::read_behind(reader, history)?;
         Ok(WriterId { service, instance })
     }
 

@@ -69,7 +69,7 @@ impl Piece for u64 {
 }
 
 // 0, 1, 2, .. as 0, -1, 1, ..
-fn unfolded(n: u64) -> i64
+fn from_zigzag(n: u64) -> i64
     ensures { zigzag result ≡ n }
 {
     let half = (n / 2) as i64;
@@ -77,7 +77,7 @@ fn unfolded(n: u64) -> i64
 }
 
 // 0, -1, 1, .. as 0, 1, 2, ..
-fn folded(z: i64) -> u64
+pub(crate) fn to_zigzag(z: i64) -> u64
     ensures { result ≡ zigzag z }
 {
     if z >= 0 {
@@ -116,11 +116,11 @@ impl Piece for i64 {
     ghost is_value = { IsInteger };
 
     fn write(&self, out: &mut Vec<u8>) -> Result<(), NoMemory> {
-        folded(*self).write(out)
+        to_zigzag(*self).write(out)
     }
 
     fn read(reader: &mut Reader<'_>) -> Result<i64, DecodeFault> {
-        Ok(unfolded(u64::read(reader)?))
+        Ok(from_zigzag(u64::read(reader)?))
     }
 
     ghost is_code = { integer_code };

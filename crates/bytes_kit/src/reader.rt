@@ -1,27 +1,21 @@
 //! A cursor over bytes.
-ghost use Rattle.std.specs.Prelude.{◌≡◌, ◌-◌, ◌<◌, ◌≤◌, ◌++◌, [], ◌∷◌, List, ℕ, true, false, length, IfOk, IfNone, IfSome, OnErr, IfErr, ◌≢◌};
-ghost use Rattle.bytes_kit.specs.Format.{stream as stream_form};
+ghost use Rattle.std.specs.Prelude.{◌≡◌, ◌-◌, ◌<◌, ◌≤◌, ◌++◌, [], ◌∷◌, List, ℕ, true, false, length, IfOk, OnErr, IfErr, ◌≢◌};
 ghost use Rattle.bytes_kit.specs.declared.fault.DecodeFault.TheVariants as faults;
 
 use crate::DecodeFault;
-use point_kit::SharedStream;
 use std::alloc::Global;
 use std::marker::Model;
 
-/// The bytes that are left to read. Contracts see their list, and how many there were in all. Points mostly have the stream of
-/// the point before them: the last one is kept with its form, so that it is read once and shared.
+/// The bytes that are left to read. Contracts see their list, and how many there were in all.
 #[derive(Drop)]
 pub(crate) struct Reader<'a> {
     rest: &'a [u8],
     end: usize,
     alloc: Global,
-    last: Option<(SharedStream, &'a [u8])>,
 }
 
 impl<'a> Model for Reader<'a> {
     ghost use Rattle.std.specs.Prelude.{◌≡◌, ◌≤◌, length};
-    ghost use Rattle.std.specs.Option.{ForSome};
-    ghost use Rattle.bytes_kit.specs.Format.{stream};
     ghost use Rattle.bytes_kit.specs.Left.{Left, left_code};
 
     ghost Value = { Left };
@@ -30,7 +24,7 @@ impl<'a> Model for Reader<'a> {
 
     ghost view = { λ r. record { end = r.end; rest = r.rest.now } };
 
-    ghost invariant = { λ r. (length r.rest.now ≤ r.end) × ForSome r.last (λ l. l.1.now ≡ stream l.0) };
+    ghost invariant = { λ r. length r.rest.now ≤ r.end };
 }
 
 impl<'a> Reader<'a> {
@@ -42,47 +36,12 @@ impl<'a> Reader<'a> {
             rest: bytes,
             end: bytes.len(),
             alloc,
-            last: None,
         }
     }
 
     /// Where what is read lies.
     pub(crate) fn alloc(&self) -> Global {
         self.alloc
-    }
-
-    /// The bytes that are left.
-    pub(crate) fn rest(&self) -> &'a [u8]
-        ensures { result.now ≡ self.now.rest }
-    {
-        self.rest
-    }
-
-    /// The last stream, if its form comes again, which is then passed.
-    pub(crate) fn again(&mut self) -> Result<Option<SharedStream>, DecodeFault>
-        ensures some { IfOk result (λ o. IfSome o (λ s. self.old.rest ≡ stream_form s ++ self.new.rest)) }
-        ensures none { IfOk result (λ o. IfNone o (self.new.rest ≡ self.old.rest)) }
-        ensures end { self.new.end ≡ self.old.end }
-        ensures err { IfErr result (λ f. f ≡ faults.NoMemory) }
-    {
-        let Some((stream, form)) = &self.last else {
-            return Ok(None);
-        };
-        let Some(rest) = self.rest.strip_prefix(*form) else {
-            return Ok(None);
-        };
-        let stream = stream.try_copy()?;
-        self.rest = rest;
-        Ok(Some(stream))
-    }
-
-    /// Keeps a stream whose form was read: the bytes that were left before it are given.
-    pub(crate) fn keep(&mut self, stream: SharedStream, before: &'a [u8])
-        requires { before.now ≡ stream_form stream ++ self.old.rest }
-        ensures { self.new ≡ self.old }
-    {
-        let (form, _) = before.split_at(before.len() - self.rest.len());
-        self.last = Some((stream, form));
     }
 
     /// The place of the next byte.
@@ -93,7 +52,7 @@ impl<'a> Reader<'a> {
     }
 
     /// How many bytes are left.
-    pub(crate) fn left(&self) -> usize
+    pub(crate) fn rest_len(&self) -> usize
         ensures { result ≡ length self.now.rest }
     {
         self.rest.len()

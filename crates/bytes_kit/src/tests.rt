@@ -9,34 +9,50 @@ use std::test::Fail;
 use uuid::Uuid;
 
 // Of docs/BYTES.md.
-const EXAMPLE: [u8; 61] = [
-    75, 84, 83, 75, 1, 4, 115, 104, 111, 112, 16, 0, 0, 0, 0, 0, 0, 0, 0, 0, 0, 0, 0, 0, 0, 0, 7,
-    100, 200, 1, 1, 3, 97, 112, 112, 5, 115, 97, 108, 101, 115, 1, 49, 1, 1, 4, 105, 116, 101, 109,
-    0, 3, 116, 101, 97, 0, 12, 32, 187, 10, 211,
+const EXAMPLE: [u8; 88] = [
+    75, 84, 83, 75, 2, 0, 4, 115, 104, 111, 112, 16, 0, 0, 0, 0, 0, 0, 0, 0, 0, 0, 0, 0, 0, 0, 0,
+    7, 100, 200, 1, 2, 1, 0, 3, 97, 112, 112, 0, 5, 115, 97, 108, 101, 115, 0, 1, 49, 1, 1, 0, 4,
+    105, 116, 101, 109, 0, 0, 3, 116, 101, 97, 0, 12, 0, 2, 5, 0, 0, 4, 109, 105, 108, 107, 0, 4,
+    115, 105, 122, 101, 0, 4, 0, 6, 67, 126, 14, 87,
 ];
 
 // No points, of a writer without a name, collected at 5 since 5.
-const AT_ITS_START: [u8; 30] = [
-    75, 84, 83, 75, 1, 0, 16, 0, 0, 0, 0, 0, 0, 0, 0, 0, 0, 0, 0, 0, 0, 0, 0, 5, 5, 0, 31, 224, 1,
-    89,
+const AT_ITS_START: [u8; 31] = [
+    75, 84, 83, 75, 2, 0, 0, 16, 0, 0, 0, 0, 0, 0, 0, 0, 0, 0, 0, 0, 0, 0, 0, 0, 5, 5, 0, 33, 54,
+    1, 90,
+];
+
+// Up to a scope of the text that the writer's name was.
+const AGAIN: [u8; 30] = [
+    75, 84, 83, 75, 2, 0, 0, 16, 0, 0, 0, 0, 0, 0, 0, 0, 0, 0, 0, 0, 0, 0, 0, 0, 5, 6, 1, 1, 0, 0,
 ];
 
 // Of docs/BYTES.md: what node 1 tells node 2 of the example.
-const MESSAGE: [u8; 66] = [
-    75, 84, 83, 77, 1, 1, 2, 1, 1, 1, 0, 4, 115, 104, 111, 112, 16, 0, 0, 0, 0, 0, 0, 0, 0, 0, 0,
-    0, 0, 0, 0, 0, 7, 100, 3, 97, 112, 112, 5, 115, 97, 108, 101, 115, 1, 49, 1, 1, 4, 105, 116,
-    101, 109, 0, 3, 116, 101, 97, 200, 1, 0, 12, 31, 204, 10, 218,
+const MESSAGE: [u8; 94] = [
+    75, 84, 83, 77, 2, 1, 2, 1, 1, 2, 0, 0, 4, 115, 104, 111, 112, 16, 0, 0, 0, 0, 0, 0, 0, 0, 0,
+    0, 0, 0, 0, 0, 0, 7, 100, 0, 3, 97, 112, 112, 0, 5, 115, 97, 108, 101, 115, 0, 1, 49, 1, 2, 0,
+    4, 105, 116, 101, 109, 0, 0, 4, 109, 105, 108, 107, 0, 4, 115, 105, 122, 101, 0, 4, 200, 1, 0,
+    6, 2, 1, 5, 0, 0, 3, 116, 101, 97, 200, 1, 0, 12, 100, 163, 15, 40,
 ];
 
-// The same with a cell whose time is its key's start.
-const LATE: [u8; 65] = [
-    75, 84, 83, 77, 1, 1, 2, 1, 1, 1, 0, 4, 115, 104, 111, 112, 16, 0, 0, 0, 0, 0, 0, 0, 0, 0, 0,
-    0, 0, 0, 0, 0, 7, 100, 3, 97, 112, 112, 5, 115, 97, 108, 101, 115, 1, 49, 1, 1, 4, 105, 116,
-    101, 109, 0, 3, 116, 101, 97, 100, 0, 12, 19, 208, 10, 117,
+// The same with cells whose time is their key's start.
+const LATE: [u8; 92] = [
+    75, 84, 83, 77, 2, 1, 2, 1, 1, 2, 0, 0, 4, 115, 104, 111, 112, 16, 0, 0, 0, 0, 0, 0, 0, 0, 0,
+    0, 0, 0, 0, 0, 0, 7, 100, 0, 3, 97, 112, 112, 0, 5, 115, 97, 108, 101, 115, 0, 1, 49, 1, 2, 0,
+    4, 105, 116, 101, 109, 0, 0, 4, 109, 105, 108, 107, 0, 4, 115, 105, 122, 101, 0, 4, 100, 0, 6,
+    2, 1, 5, 0, 0, 3, 116, 101, 97, 100, 0, 12, 65, 103, 14, 94,
 ];
 
 fn text(alloc: Global, bytes: &str) -> Result<Txt, NoMemory> {
     Txt::from_str(alloc, bytes)
+}
+
+fn set(alloc: Global, pairs: &[(&str, &str)]) -> Result<AttrSet, Fail> {
+    let mut attributes = Vec::new(alloc);
+    for (key, value) in pairs {
+        attributes.push((text(alloc, key)?, AttrValue::Text(text(alloc, value)?)))?;
+    }
+    Ok(AttrSet::from_pairs(attributes)?)
 }
 
 fn example(alloc: Global) -> Result<Export, Fail> {
@@ -46,13 +62,17 @@ fn example(alloc: Global) -> Result<Export, Fail> {
         unit: text(alloc, "1")?,
         shape: Shape::Sum { monotonic: true },
     };
-    let mut pairs = Vec::new(alloc);
-    pairs.push((text(alloc, "item")?, AttrValue::Text(text(alloc, "tea")?)))?;
+    let stream = SharedStream::new(alloc, stream)?;
     let mut points = Vec::new(alloc);
     points.push(ExportPoint {
-        stream: SharedStream::new(alloc, stream)?,
-        attrs: AttrSet::from_pairs(pairs)?,
+        stream: stream.try_copy()?,
+        attrs: set(alloc, &[("item", "tea")])?,
         payload: Payload::Sum(6),
+    })?;
+    points.push(ExportPoint {
+        stream,
+        attrs: set(alloc, &[("item", "milk"), ("size", "1")])?,
+        payload: Payload::Sum(3),
     })?;
     let writer = WriterId {
         service: text(alloc, "shop")?,
@@ -90,11 +110,15 @@ fn the_worked_example(rt: HostRuntime) -> Result<(), Fail> {
 fn refusals(rt: HostRuntime) -> Result<(), Fail> {
     let alloc = rt.alloc();
     assert_eq!(rt; changed(alloc, 2, 0)?, Some(DecodeFault::BadMagic(2)));
-    assert_eq!(rt; changed(alloc, 4, 2)?, Some(DecodeFault::BadVersion(4)));
-    assert_eq!(rt; changed(alloc, 6, 255)?, Some(DecodeFault::NotText(5)));
+    assert_eq!(rt; changed(alloc, 4, 1)?, Some(DecodeFault::BadVersion(4)));
+    assert_eq!(rt; changed(alloc, 7, 255)?, Some(DecodeFault::NotText(6)));
     // The time in one group too many.
-    assert_eq!(rt; changed(alloc, 29, 0)?, Some(DecodeFault::NotCanonical(28)));
-    assert_eq!(rt; changed(alloc, 56, 14)?, Some(DecodeFault::BadChecksum(57)));
+    assert_eq!(rt; changed(alloc, 30, 0)?, Some(DecodeFault::NotCanonical(29)));
+    // A number behind the last text.
+    assert_eq!(rt; changed(alloc, 66, 7)?, Some(DecodeFault::NotCanonical(66)));
+    assert_eq!(rt; changed(alloc, 83, 14)?, Some(DecodeFault::BadChecksum(84)));
+    let fault = decode_export(alloc, &AGAIN).err();
+    assert_eq!(rt; fault, Some(DecodeFault::NotCanonical(28)));
     let fault = decode_export(alloc, &AT_ITS_START).err();
     assert_eq!(rt;
         fault,
@@ -125,7 +149,7 @@ fn the_worked_message(rt: HostRuntime) -> Result<(), Fail> {
         .ok()
         .flatten()
         .ok_or("a delta is answered")?;
-    assert_eq!(rt; node.gateway().len(), 1);
+    assert_eq!(rt; node.gateway().len(), 2);
     let back = message_there_and_back(alloc, &answer)
         .ok()
         .ok_or("it is read again")?;

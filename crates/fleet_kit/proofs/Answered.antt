@@ -3,7 +3,7 @@ use Rattle.std.proofs.Common.{◌≡◌, ◌⊎◌, inl, inr, ℕ, true, true≢
 use Rattle.std.proofs.lemmas.List.{length-map}
 use Rattle.std.proofs.lemmas.Bool.{cases_lt}
 use Rattle.std.specs.Option.{option_map, option_or}
-use Rattle.gateway_kit.specs.View.{View}
+use Rattle.gateway_kit.specs.GatewayState.{GatewayState}
 use Rattle.point_kit.specs.contracts.writer_id.WriterIdEq.TheImpl.Laws as id_laws
 use Rattle.point_kit.specs.declared.export.Export.{Export}
 use Rattle.rollup_kit.proofs.Fleets.{fleet_rows}
@@ -12,9 +12,9 @@ use Rattle.rollup_kit.specs.Writers.{AllWithin, AreTold, IsRegrouped, rows_of}
 use Rattle.rollup_kit.specs.declared.ask.Ask.{Ask}
 use Rattle.fleet_kit.proofs.Exports.{are_jobs, are_plans}
 use Rattle.fleet_kit.proofs.Ties.{none_tied}
-use Rattle.fleet_kit.specs.Checks.{has_id_of, setup_fault, tied}
+use Rattle.fleet_kit.specs.Checks.{has_id_of, setup_fault, first_tie}
 use Rattle.fleet_kit.specs.Serving.{AreWhole}
-use Rattle.fleet_kit.specs.Setups.{AreExportsAt, no_writer, recorded, tasks_of, writer_at, writers_of}
+use Rattle.fleet_kit.specs.Setups.{AreExportsAt, no_writer, entries_recorded, tasks_of, writer_at, writers_of}
 use Rattle.fleet_kit.specs.declared.setup.FleetSetup.{FleetSetup}
 
 later_none : {X : Type 0} (o r : Option X) → option_or o r ≡ None → (o ≡ None) × (r ≡ None)
@@ -25,9 +25,9 @@ map_none : {X Y : Type 0} (f : X → Y) (o : Option X) → option_map f o ≡ No
 map_none f None e = refl
 map_none f (Some a) e = cc e
 
-untied : (s : FleetSetup) → setup_fault s ≡ None → tied has_id_of s.writers.items ≡ None
+untied : (s : FleetSetup) → setup_fault s ≡ None → first_tie has_id_of s.writers.items ≡ None
 unfolding setup_fault
-untied s e = map_none _ (tied has_id_of s.writers.items) (later_none _ _ (later_none _ _ e).1).0
+untied s e = map_none _ (first_tie has_id_of s.writers.items) (later_none _ _ (later_none _ _ e).1).0
 
 -- no two writers of a setup that is not refused share an identity
 pub are_told : (s : FleetSetup) → setup_fault s ≡ None → AreTold (writers_of s)
@@ -44,8 +44,8 @@ are_told s e v w a b same =
       ]
     ]
 
-pub answers_all : (s : FleetSetup) (es : List Export) (ids : List ℕ) (gs : List View) → setup_fault s ≡ None → AreExportsAt s es → AreWhole es ids gs → (k : ℕ) (g : View) → slice_get gs k ≡ Some g
-    → (ask : Ask) → AddsUp ask.stream.shape → AllWithin (writers_of s) (recorded s) ⊎ IsRegrouped ask → rollup_rows ask g.points ≡ rows_of (writers_of s) (recorded s) ask
+pub answers_all : (s : FleetSetup) (es : List Export) (ids : List ℕ) (gs : List GatewayState) → setup_fault s ≡ None → AreExportsAt s es → AreWhole es ids gs → (k : ℕ) (g : GatewayState) → slice_get gs k ≡ Some g
+    → (ask : Ask) → AddsUp ask.stream.shape → AllWithin (writers_of s) (entries_recorded s) ⊎ IsRegrouped ask → rollup_rows ask g.points ≡ rows_of (writers_of s) (entries_recorded s) ask
 answers_all s es ids gs none are whole k g at ask adds w =
     let x = whole.each k g at in
     ap (rollup_rows ask) x.holds

@@ -6,20 +6,22 @@ use Rattle.schedule_kit.proofs.Totals.{total-append}
 use Rattle.turn_kit.specs.History.{weigh, weigh_log, weigh_all}
 use Rattle.writer_kit.specs.Shared.{History, also_measured, entries_of}
 use Rattle.writer_kit.specs.declared.shared.change.WriterChange.{WriterChange}
-use Rattle.writer_kit.specs.declared.shared.change.WriterChange.TheVariants.{Measured, Collected}
+use Rattle.writer_kit.specs.declared.shared.change.WriterChange.TheVariants.{Measured, Collected, Absorbed}
 use Rattle.fleet_kit.specs.Closing.{measured_in, measured_by, change_of, Weighs, ClosedMixed}
 use Rattle.schedule_kit.specs.Mixed.{AreMixed}
 use Rattle.schedule_kit.proofs.Totals.{count_sum}
 
--- a change weighs what its entry does; a collection weighs nothing
+-- a change weighs what its entry does; a collection and a recorder weigh nothing
 abbrev weight : (Entry → ℕ) → WriterChange → ℕ
 weight f (Measured i a v) = f (entry_of i a v)
 weight f (Collected time) = 0
+weight f (Absorbed r) = 0
 
 module _ (f : Entry → ℕ) where
   one_more : (c : WriterChange) (es : List Entry) → total 0 ◌+◌ f (also_measured c es) ≡ weight f c + total 0 ◌+◌ f es
   one_more (Measured i a v) es = refl
   one_more (Collected time) es = sym (count_sum.zero_left (total 0 ◌+◌ f es))
+  one_more (Absorbed r) es = sym (count_sum.zero_left (total 0 ◌+◌ f es))
 
   of_history : (h : History) → total 0 ◌+◌ f (entries_of h) ≡ weigh_log (weight f) h
   of_history [] = refl

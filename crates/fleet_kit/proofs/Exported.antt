@@ -9,12 +9,12 @@ use Rattle.round_kit.specs.Rounds.{points_of}
 use Rattle.round_kit.specs.Rounds as rounds
 use Rattle.turn_kit.specs.Places.{ClosedWith}
 use Rattle.writer_kit.specs.Recording.{round_now}
-use Rattle.writer_kit.specs.Shared.{History, Serves, told, entries_of}
+use Rattle.writer_kit.specs.Shared.{History, Serves, after_writer_change, entries_of}
 use Rattle.writer_kit.specs.Written.{Written}
 use Rattle.writer_kit.specs.declared.shared.change.WriterChange.{WriterChange}
 use Rattle.fleet_kit.specs.Closing.{Weighs}
 use Rattle.fleet_kit.specs.Collected.{IsCopyOf, IsRoundOfMixed}
-use Rattle.fleet_kit.proofs.Closed.{closed_weighed}
+use Rattle.fleet_kit.proofs.Closed.{closed_tells, closed_weighed}
 
 -- an export that a writer's round was copied to
 pub copies : (w : Written) (time : ℕ) (r : rounds.Collected) (e : Export) → r ≡ round_now w time → e.writer ≡ w.id → e.start ≡ r.start → e.time ≡ r.time → e.points ≡ r.points → IsCopyOf w time e
@@ -25,12 +25,12 @@ copies w time r e is writer start taken_at points = record {
   points = points ∙ ap (λ (x : rounds.Collected). x.points) is;
 }
 
-pub exports_mixed : (first : Written) (seen : History) (family : List (ℕ × List WriterChange)) (known : ℕ) (w : Written) → (c : ClosedWith (λ w. w) told first seen family known w) → Serves first c.history w
+pub exports_mixed : (first : Written) (seen : History) (family : List (ℕ × List WriterChange)) (known : ℕ) (w : Written) → (c : ClosedWith (λ w. w) after_writer_change first seen family known w) → Serves first c.history w
     → StandsFor first.tally [] → (time : ℕ) (e : Export) → IsCopyOf w time e → (es : List Entry) → Weighs family es → IsRoundOfMixed first time es e
 exports_mixed first seen family known w c served empty time e copy es weighs =
     let closed = closed_weighed first seen family known w c es weighs in
     let is : w ≡ record first { tally = w.tally } = closed.0 in
-    let stands : w.tally.series ≡ round w.tally.plan (entries_of c.history) = served.stands [] empty in (
+    let stands : w.tally.series ≡ round w.tally.plan (entries_of c.history) = served.stands c.history (closed_tells first seen family known w c es weighs) [] empty in (
       entries_of c.history,
       closed.1,
       record {

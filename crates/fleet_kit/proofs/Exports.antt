@@ -12,7 +12,7 @@ use Rattle.rollup_kit.specs.Writers.{ArePlans}
 use Rattle.round_kit.specs.Rounds.{points_of}
 use Rattle.writer_kit.specs.Written.{Written}
 use Rattle.fleet_kit.specs.Collected.{IsRoundOfMixed}
-use Rattle.fleet_kit.specs.Setups.{AreExportsAt, IsExportAt, no_writer, recorded, tasks_of, writer_at, writers_of}
+use Rattle.fleet_kit.specs.Setups.{AreExportsAt, IsExportAt, no_writer, entries_recorded, tasks_of, writer_at, writers_of}
 use Rattle.fleet_kit.specs.declared.setup.FleetSetup.{FleetSetup}
 
 -- what stands at a place, and what it is
@@ -55,7 +55,7 @@ start_at (x ∷ xs) (suc w) = start_at xs w
 
 -- the round of a writer that was started as the setup says
 pub exported : (s : FleetSetup) (w : ℕ) (first : Written) (e : Export) → first.id ≡ (writer_at s w).0 → first.tally.plan ≡ (writer_at s w).1 → first.start ≡ (writer_at s w).2
-    → AreApart (writer_at s w).1.streams → IsRoundOfMixed first s.end (recorded s w) e → IsExportAt s w e
+    → AreApart (writer_at s w).1.streams → IsRoundOfMixed first s.end (entries_recorded s w) e → IsExportAt s w e
 exported s w first e id plan start apart is = record {
   history = is.0;
   mixed = is.1;

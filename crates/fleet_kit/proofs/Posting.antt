@@ -11,7 +11,7 @@ use Rattle.schedule_kit.specs.Members.{In}
 use Rattle.schedule_kit.proofs.Members.{In-append, In-left, In-right}
 use Rattle.std.specs.Option.{option_or}
 use Rattle.fleet_kit.proofs.Exports.{got}
-use Rattle.fleet_kit.specs.Posting.{and_got, and_sent, told, Flows, IsUnsent}
+use Rattle.fleet_kit.specs.Posting.{and_got, and_sent, places_told, Flows, IsUnsent}
 use Rattle.fleet_kit.specs.declared.posts.Told.{Told}
 
 only : (u v w : Told) (port : ℕ) → get_elem? (u ∷ []) port ≡ some v → (u ≡ v) × (set (u ∷ []) port w ≡ w ∷ [])
@@ -22,32 +22,32 @@ seen : (u v w : Told) (views : List Told) (port : ℕ) → views ≡ u ∷ [] �
 seen u v w views port h at = let r = only u v w port (ap (λ l. get_elem? l port) (sym h) ∙ at) in (r.0, ap (λ l. set l port w) h ∙ r.1)
 
 pub learns : (port : ℕ) (v : Told) → Learns Flows port v (λ items. v.sent ≡ v.got ++ items)
-learns port v items views h at = let is = (seen (told (h.0 ++ items) h.0) v v views port h.1 at).0 in ap (λ (u : Told). u.sent) (sym is) ∙ ap (λ (u : Told). u.got ++ items) is
+learns port v items views h at = let is = (seen (places_told (h.0 ++ items) h.0) v v views port h.1 at).0 in ap (λ (u : Told). u.sent) (sym is) ∙ ap (λ (u : Told). u.got ++ items) is
 
 pub learns_nothing : (port : ℕ) (v : Told) → Learns Flows port v (λ _. Unit {0})
 learns_nothing port v items views h at = tt
 
-pub begins : Flows [] (told [] [] ∷ [])
+pub begins : Flows [] (places_told [] [] ∷ [])
 begins = ([], refl)
 
 pub sends : (n port : ℕ) (v : Told) (x : ℕ) → Pushes Flows n port v x (λ w. w ≡ and_sent v x)
-sends n port v x items views room h at = let w = told (v.sent ++ x ∷ []) v.got in (
+sends n port v x items views room h at = let w = places_told (v.sent ++ x ∷ []) v.got in (
   w,
   (
     v.got,
-    (seen (told (h.0 ++ items) h.0) v w views port h.1 at).1
-        ∙ ap (λ l. told l v.got ∷ []) (ap (λ l. l ++ x ∷ []) (learns port v items views h at) ∙ append_assoc v.got items (x ∷ [])),
+    (seen (places_told (h.0 ++ items) h.0) v w views port h.1 at).1
+        ∙ ap (λ l. places_told l v.got ∷ []) (ap (λ l. l ++ x ∷ []) (learns port v items views h at) ∙ append_assoc v.got items (x ∷ [])),
   ),
   refl,
 )
 
 pub gets : (port : ℕ) (v : Told) → Pops Flows port v (λ x w. w ≡ and_got v x)
-gets port v x items views h at = let w = told v.sent (v.got ++ x ∷ []) in (
+gets port v x items views h at = let w = places_told v.sent (v.got ++ x ∷ []) in (
   w,
   (
     v.got ++ x ∷ [],
-    (seen (told (h.0 ++ x ∷ items) h.0) v w views port h.1 at).1
-        ∙ ap (λ l. told l (v.got ++ x ∷ []) ∷ []) (learns port v (x ∷ items) views h at ∙ sym (append_assoc v.got (x ∷ []) items)),
+    (seen (places_told (h.0 ++ x ∷ items) h.0) v w views port h.1 at).1
+        ∙ ap (λ l. places_told l (v.got ++ x ∷ []) ∷ []) (learns port v (x ∷ items) views h at ∙ sym (append_assoc v.got (x ∷ []) items)),
   ),
   refl,
 )

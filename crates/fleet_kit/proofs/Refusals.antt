@@ -3,7 +3,7 @@ use Rattle.std.proofs.Common.{◌≡◌, ℕ, [], ◌∷◌, length, position, O
 use Rattle.std.specs.Prelude.{nat_eq, nat_le}
 use Rattle.std.specs.Option.{option_map}
 use Rattle.attr_kit.specs.Refusing.{first}
-use Rattle.fleet_kit.specs.Checks.{crowded_from, has_id_of, setup_fault, tied}
+use Rattle.fleet_kit.specs.Checks.{crowded_from, has_id_of, setup_fault, first_tie}
 use Rattle.fleet_kit.specs.declared.fault.FleetFault.{FleetFault}
 use Rattle.fleet_kit.specs.declared.fault.FleetFault.TheVariants.{NoWriter, SameWriter, SameGateway, EndNotAfter, TooManyJobs}
 use Rattle.fleet_kit.specs.declared.setup.FleetSetup.{FleetSetup}
@@ -17,10 +17,10 @@ module _ (s : FleetSetup) where
   A = position (λ j. nat_le (length s.writers.items) j.writer) s.jobs.items
 
   abbrev B : Option (ℕ × ℕ)
-  B = tied has_id_of s.writers.items
+  B = first_tie has_id_of s.writers.items
 
   abbrev C : Option (ℕ × ℕ)
-  C = tied nat_eq s.gateways.items
+  C = first_tie nat_eq s.gateways.items
 
   abbrev D : Option ℕ
   D = position (λ w. nat_le s.end w.2) s.writers.items

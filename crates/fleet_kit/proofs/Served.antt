@@ -1,7 +1,7 @@
 -- What a gateway's thread took.
 use Rattle.std.proofs.Common.{◌≡◌, ◌⊎◌, inl, inr, ℕ, zero, suc, ◌<◌, ◌≤◌, List, [], ◌∷◌, ◌++◌, map, length, slice_get, slice_index, slice_index_or, Some, refl, sym, ap, subst, ◌∙◌, arith}
 use Rattle.std.specs.FinMap.{empty}
-use Rattle.gateway_kit.specs.View.{View}
+use Rattle.gateway_kit.specs.GatewayState.{GatewayState}
 use Rattle.point_kit.proofs.PointLaws.{states_join}
 use Rattle.point_kit.specs.Exports.{join_points, state}
 use Rattle.point_kit.specs.declared.export.Export.{Export}
@@ -12,7 +12,7 @@ use Rattle.fleet_kit.proofs.Exports.{got}
 use Rattle.fleet_kit.specs.Serving.{AreWhole, IsServed, IsWhole}
 
 -- nothing was told yet
-pub served_none : (exports : List Export) (id : ℕ) (told : List ℕ) (g : View) → g.id ≡ id → g.points ≡ empty → told ≡ [] → IsServed exports id told g
+pub served_none : (exports : List Export) (id : ℕ) (told : List ℕ) (g : GatewayState) → g.id ≡ id → g.points ≡ empty → told ≡ [] → IsServed exports id told g
 served_none exports id told g same none new = record {
   same_id = same;
   took = [];
@@ -30,7 +30,7 @@ at_more exports (w ∷ ws) [] p e a is = absurd a
 at_more exports (w ∷ ws) (d ∷ ds) p e a is = (a.0, at_more exports ws ds p e a.1 is)
 
 -- one more export is taken
-pub served_more : (exports : List Export) (id : ℕ) (told more : List ℕ) (g h : View) (p : ℕ) (e : Export) → more ≡ told ++ p ∷ [] → IsServed exports id told g → slice_get exports p ≡ Some e → h.id ≡ g.id
+pub served_more : (exports : List Export) (id : ℕ) (told more : List ℕ) (g h : GatewayState) (p : ℕ) (e : Export) → more ≡ told ++ p ∷ [] → IsServed exports id told g → slice_get exports p ≡ Some e → h.id ≡ g.id
     → h.points ≡ join_points g.points (state (e ∷ [])) → IsServed exports id more h
 served_more exports id told more g h p e new s is same joins = record {
   same_id = same ∙ s.same_id;
@@ -43,7 +43,7 @@ served_more exports id told more g h p e new s is same joins = record {
 }
 
 -- a place that names no export is dropped
-pub served_same : (exports : List Export) (id : ℕ) (told more : List ℕ) (g : View) (p : ℕ) → more ≡ told ++ p ∷ [] → IsServed exports id told g → length exports ≤ p → IsServed exports id more g
+pub served_same : (exports : List Export) (id : ℕ) (told more : List ℕ) (g : GatewayState) (p : ℕ) → more ≡ told ++ p ∷ [] → IsServed exports id told g → length exports ≤ p → IsServed exports id more g
 served_same exports id told more g p new s out = record {
   same_id = s.same_id;
   took = s.took;
@@ -58,7 +58,7 @@ served_same exports id told more g p new s out = record {
 }
 
 -- all that was sent was told, and each export was sent, but for such as have no points
-pub served_all : (exports : List Export) (id : ℕ) (told : List ℕ) (g : View) → IsServed exports id told g → AreCovered exports told → IsWhole exports id g
+pub served_all : (exports : List Export) (id : ℕ) (told : List ℕ) (g : GatewayState) → IsServed exports id told g → AreCovered exports told → IsWhole exports id g
 served_all exports id told g s all = record {
   same_id = s.same_id;
   took = s.took;
@@ -68,7 +68,7 @@ served_all exports id told g s all = record {
   covered = λ w e at. elim (all w e at) [ inl here ↦ inl (s.all w e at here) | inr none ↦ inr none ];
 }
 
-ids_of : (gs : List View) (ids : List ℕ) → length gs ≡ length ids → ((k : ℕ) (g : View) → slice_get gs k ≡ Some g → g.id ≡ slice_index ids k) → map (λ g. g.id) gs ≡ ids
+ids_of : (gs : List GatewayState) (ids : List ℕ) → length gs ≡ length ids → ((k : ℕ) (g : GatewayState) → slice_get gs k ≡ Some g → g.id ≡ slice_index ids k) → map (λ g. g.id) gs ≡ ids
 ids_of [] [] l h = refl
 ids_of [] (i ∷ ids) l h = absurd (omega (arith, l))
 ids_of (g ∷ gs) [] l h = absurd (omega (arith, l))
@@ -81,7 +81,7 @@ id_at f (y ∷ xs) zero x less is = ap f (sym is)
 id_at f (y ∷ xs) (suc i) x less is = id_at f xs i x (omega (arith, less)) is
 
 -- the gateways of all ids
-pub all_whole : (exports : List Export) (ids : List ℕ) (gs : List View) → (length gs ≡ length ids) × ((k : ℕ) (g : View) → slice_get gs k ≡ Some g → IsWhole exports (slice_index ids k) g) → AreWhole exports ids gs
+pub all_whole : (exports : List Export) (ids : List ℕ) (gs : List GatewayState) → (length gs ≡ length ids) × ((k : ℕ) (g : GatewayState) → slice_get gs k ≡ Some g → IsWhole exports (slice_index ids k) g) → AreWhole exports ids gs
 all_whole exports ids gs r = record {
   same_ids = ids_of gs ids r.0 (λ k g at. (r.1 k g at).same_id);
   each = λ k g at. let x = r.1 k g at in record { same_id = refl; took = x.took; taken = x.taken; at = x.at; holds = x.holds; covered = x.covered };

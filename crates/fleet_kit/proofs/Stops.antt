@@ -8,8 +8,8 @@ use Rattle.schedule_kit.specs.Members.{In}
 use Rattle.turn_kit.specs.declared.fault.ChangeFault.{ChangeFault}
 use Rattle.writer_kit.specs.declared.fault.MeasureFault.{MeasureFault}
 use Rattle.fleet_kit.specs.Checks.{setup_fault}
-use Rattle.fleet_kit.specs.Faults.{halted, HasRound, IsLate}
-use Rattle.fleet_kit.specs.Halts.{is_memory, unrecorded, HasEntry, HasPoints, IsFirst, IsLacking, StopsAt, StopsRecording, StopsServing}
+use Rattle.fleet_kit.specs.Faults.{fault_of_halt, HasRound, IsLate}
+use Rattle.fleet_kit.specs.Halts.{is_memory, halt_of_entry, HasEntry, HasPoints, IsFirst, IsLacking, StopsAt, StopsRecording, StopsServing}
 use Rattle.fleet_kit.specs.Posting.{IsUnsent}
 use Rattle.fleet_kit.specs.Setups.{AreExportsAt}
 use Rattle.fleet_kit.specs.declared.fault.FleetFault.{FleetFault}
@@ -19,8 +19,8 @@ use Rattle.fleet_kit.specs.declared.setup.FleetSetup.{FleetSetup}
 use Rattle.fleet_kit.specs.declared.setup.Job.{Job}
 
 -- an entry that was not recorded
-pub unrecorded_stops : (job entry : ℕ) (j : Job) (f : ChangeFault MeasureFault) → entry < length j.entries.items → StopsAt job j (unrecorded job entry f)
-unrecorded_stops job entry j f less = elim (is_memory f) as (λ b. StopsAt job j (cond b NoMemory (Refused job entry))) [ true ↦ tt | false ↦ (refl, less) ]
+pub halt_of_entry_stops : (job entry : ℕ) (j : Job) (f : ChangeFault MeasureFault) → entry < length j.entries.items → StopsAt job j (halt_of_entry job entry f)
+halt_of_entry_stops job entry j f less = elim (is_memory f) as (λ b. StopsAt job j (cond b NoMemory (Refused job entry))) [ true ↦ tt | false ↦ (refl, less) ]
 
 -- a job that stops, among all
 stops_in : (jobs : List Job) (n : ℕ) (j : Job) (h : Halt) → slice_get jobs n ≡ Some j → StopsAt n j h → StopsRecording jobs h
@@ -79,14 +79,14 @@ lacking_stops exports gateways place sent unsent (Missing gateway writer) less i
 lacking_stops exports gateways place sent unsent NoMemory less is s = tt
 
 -- faults of jobs, and of gateways, are late ones of the setup
-pub recording_is_late : (s : FleetSetup) (h : Halt) → StopsRecording s.jobs.items h → IsLate s (halted h)
+pub recording_is_late : (s : FleetSetup) (h : Halt) → StopsRecording s.jobs.items h → IsLate s (fault_of_halt h)
 recording_is_late s (GateShut job) h = h
 recording_is_late s (Refused job entry) h = h
 recording_is_late s NoThread h = tt
 recording_is_late s (Missing gateway writer) h = absurd h
 recording_is_late s NoMemory h = tt
 
-pub serving_is_late : (s : FleetSetup) (exports : List Export) (h : Halt) → AreExportsAt s exports → StopsServing exports (length s.gateways.items) h → IsLate s (halted h)
+pub serving_is_late : (s : FleetSetup) (exports : List Export) (h : Halt) → AreExportsAt s exports → StopsServing exports (length s.gateways.items) h → IsLate s (fault_of_halt h)
 serving_is_late s exports (GateShut job) are h = absurd h
 serving_is_late s exports (Refused job entry) are h = absurd h
 serving_is_late s exports NoThread are h = absurd h
@@ -98,7 +98,7 @@ serving_is_late s exports (Missing gateway writer) are h =
 serving_is_late s exports NoMemory are h = tt
 
 -- a late fault, where the setup has none
-pub late_fault : {A : Type 0} (r : Result A FleetFault) (s : FleetSetup) (h : Halt) → IsErrAnd r (λ f. f ≡ halted h) → setup_fault s ≡ None → IsLate s (halted h)
+pub late_fault : {A : Type 0} (r : Result A FleetFault) (s : FleetSetup) (h : Halt) → IsErrAnd r (λ f. f ≡ fault_of_halt h) → setup_fault s ≡ None → IsLate s (fault_of_halt h)
     → IfErr r (λ f. (setup_fault s ≡ Some f) ⊎ ((setup_fault s ≡ None) × IsLate s f))
 late_fault (Ok a) s h is none late = tt
 late_fault (Err f) s h is none late = inr (none, subst (IsLate s) (sym is) late)

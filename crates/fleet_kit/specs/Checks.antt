@@ -11,13 +11,13 @@ use Rattle.fleet_kit.specs.declared.setup.FleetSetup.{FleetSetup}
 use Rattle.fleet_kit.specs.declared.setup.Job.{Job}
 
 -- the first of these that ties with an earlier one, by the least place of such a one and its own; they stand behind earlier ones
-abbrev pub tied_from : {A : Type 0} → (A → A → Bool) → List A → List A → Option (ℕ × ℕ)
-tied_from eq earlier [] = None
-tied_from eq earlier (x ∷ xs) = option_or (option_map (λ i. (i, length earlier)) (position (λ y. eq y x) earlier)) (tied_from eq (earlier ++ x ∷ []) xs)
+abbrev pub first_tie_from : {A : Type 0} → (A → A → Bool) → List A → List A → Option (ℕ × ℕ)
+first_tie_from eq earlier [] = None
+first_tie_from eq earlier (x ∷ xs) = option_or (option_map (λ i. (i, length earlier)) (position (λ y. eq y x) earlier)) (first_tie_from eq (earlier ++ x ∷ []) xs)
 
 -- the least place of an element that ties with an earlier one, behind the least place of such a one
-abbrev pub tied : {A : Type 0} → (A → A → Bool) → List A → Option (ℕ × ℕ)
-tied eq xs = tied_from eq [] xs
+abbrev pub first_tie : {A : Type 0} → (A → A → Bool) → List A → Option (ℕ × ℕ)
+first_tie eq xs = first_tie_from eq [] xs
 
 -- whether a writer has the identity of another
 abbrev pub has_id_of : WriterId × Planned × ℕ → WriterId × Planned × ℕ → Bool
@@ -40,8 +40,8 @@ crowded_from jobs w (suc n) = cond (is_crowded jobs w) (Some w) (crowded_from jo
 unfoldable pub setup_fault : FleetSetup → Option FleetFault
 setup_fault s = first (
     wherever NoWriter (λ j. nat_le (length s.writers.items) j.writer) s.jobs.items
-    ∷ option_map (λ p. SameWriter p.0 p.1) (tied has_id_of s.writers.items)
-    ∷ option_map (λ p. SameGateway p.0 p.1) (tied nat_eq s.gateways.items)
+    ∷ option_map (λ p. SameWriter p.0 p.1) (first_tie has_id_of s.writers.items)
+    ∷ option_map (λ p. SameGateway p.0 p.1) (first_tie nat_eq s.gateways.items)
     ∷ wherever EndNotAfter (λ w. nat_le s.end w.2) s.writers.items
     ∷ option_map TooManyJobs (crowded_from s.jobs.items 0 (length s.writers.items))
     ∷ []

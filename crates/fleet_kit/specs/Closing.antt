@@ -4,7 +4,7 @@ use Rattle.std.specs.List.{flat_map}
 use Rattle.agg_kit.specs.Entries.{Entry}
 use Rattle.turn_kit.specs.History.{weigh, weigh_all}
 use Rattle.turn_kit.specs.Places.{ClosedWith}
-use Rattle.writer_kit.specs.Shared.{History, told, also_measured, entries_of}
+use Rattle.writer_kit.specs.Shared.{History, after_writer_change, also_measured, entries_of}
 use Rattle.writer_kit.specs.Written.{Written}
 use Rattle.writer_kit.specs.declared.shared.change.WriterChange.{WriterChange}
 use Rattle.writer_kit.specs.declared.shared.change.WriterChange.TheVariants.{Measured}
@@ -26,7 +26,7 @@ change_of e = Measured e.instrument e.attrs e.value
 -- the measured entries of the whole history are those of the family of the seat that closed
 abbrev pub ClosedMixed : Type 0
 ClosedMixed = (first : Written) (seen : History) (family : List (ℕ × List WriterChange)) (known : ℕ) (w : Written)
-    → (c : ClosedWith (λ w. w) told first seen family known w) → AreMixed (entries_of c.history) (measured_by family)
+    → (c : ClosedWith (λ w. w) after_writer_change first seen family known w) → AreMixed (entries_of c.history) (measured_by family)
 
 -- however changes are weighed, those of the family weigh what these entries do
 abbrev pub Weighs : List (ℕ × List WriterChange) → List Entry → Type 0
@@ -35,5 +35,5 @@ Weighs family es = (f : WriterChange → ℕ) → weigh_all f family ≡ weigh f
 -- A shared writer whose seats recorded these entries and nothing else is but for its points the first one, and its history has these entries, each as often.
 abbrev pub ClosedWeighed : Type 0
 ClosedWeighed = (first : Written) (seen : History) (family : List (ℕ × List WriterChange)) (known : ℕ) (w : Written)
-    → (c : ClosedWith (λ w. w) told first seen family known w) → (es : List Entry) → Weighs family es
+    → (c : ClosedWith (λ w. w) after_writer_change first seen family known w) → (es : List Entry) → Weighs family es
     → (w ≡ record first { tally = w.tally }) × AreMixed (entries_of c.history) es

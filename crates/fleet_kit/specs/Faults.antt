@@ -10,12 +10,12 @@ use Rattle.fleet_kit.specs.declared.halt.Halt.TheVariants as halts
 use Rattle.fleet_kit.specs.declared.setup.FleetSetup.{FleetSetup}
 
 -- why a thread stopped short, as a fault
-abbrev pub halted : Halt → FleetFault
-halted (halts.GateShut job) = faults.GateShut job
-halted (halts.Refused job entry) = faults.Refused job entry
-halted halts.NoThread = faults.NoThread
-halted (halts.Missing gateway writer) = faults.Missing gateway writer
-halted halts.NoMemory = faults.NoMemory
+abbrev pub fault_of_halt : Halt → FleetFault
+fault_of_halt (halts.GateShut job) = faults.GateShut job
+fault_of_halt (halts.Refused job entry) = faults.Refused job entry
+fault_of_halt halts.NoThread = faults.NoThread
+fault_of_halt (halts.Missing gateway writer) = faults.Missing gateway writer
+fault_of_halt halts.NoMemory = faults.NoMemory
 
 -- the writer at a place has a collection with points: of its jobs' entries, in some order
 abbrev pub HasRound : FleetSetup → ℕ → Type 0

@@ -5,7 +5,7 @@ use Rattle.turn_kit.specs.declared.fault.ChangeFault.{ChangeFault}
 use Rattle.turn_kit.specs.declared.fault.ChangeFault.TheVariants as changes
 use Rattle.writer_kit.specs.declared.fault.MeasureFault.{MeasureFault}
 use Rattle.writer_kit.specs.declared.fault.MeasureFault.TheVariants as measures
-use Rattle.agg_kit.specs.declared.fault.MeasureFault.TheVariants as tallies
+use Rattle.agg_kit.specs.declared.fault.TallyFault.TheVariants as tallies
 use Rattle.fleet_kit.specs.declared.halt.Halt.{Halt}
 use Rattle.fleet_kit.specs.declared.halt.Halt.TheVariants.{GateShut, Refused, NoThread, Missing, NoMemory}
 use Rattle.fleet_kit.specs.declared.setup.Job.{Job}
@@ -54,8 +54,8 @@ is_memory (changes.Refused (measures.Refused (tallies.Overflow stream))) = false
 is_memory (changes.Refused (measures.Refused tallies.NoMemory)) = true
 
 -- why an entry of a job was not recorded
-abbrev pub unrecorded : ℕ → ℕ → ChangeFault MeasureFault → Halt
-unrecorded job entry fault = cond (is_memory fault) NoMemory (Refused job entry)
+abbrev pub halt_of_entry : ℕ → ℕ → ChangeFault MeasureFault → Halt
+halt_of_entry job entry fault = cond (is_memory fault) NoMemory (Refused job entry)
 
 -- why a job with this number may stop
 abbrev pub StopsAt : ℕ → Job → Halt → Type 0

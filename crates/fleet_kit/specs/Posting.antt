@@ -7,19 +7,19 @@ use Rattle.fleet_kit.specs.Halts.{HasPoints}
 use Rattle.fleet_kit.specs.declared.posts.Told.{Told}
 
 -- these places were sent, and those received
-abbrev pub told : List ℕ → List ℕ → Told
-told sent got = record { sent = sent; got = got }
+abbrev pub places_told : List ℕ → List ℕ → Told
+places_told sent got = record { sent = sent; got = got }
 
 -- one more place is sent, or received
 abbrev pub and_sent : Told → ℕ → Told
-and_sent v place = told (v.sent ++ place ∷ []) v.got
+and_sent v place = places_told (v.sent ++ place ∷ []) v.got
 
 abbrev pub and_got : Told → ℕ → Told
-and_got v place = told v.sent (v.got ++ place ∷ [])
+and_got v place = places_told v.sent (v.got ++ place ∷ [])
 
 -- the one pass knows that what was sent is what was received, and then what the channel holds
 abbrev pub Flows : List ℕ → List Told → Type 0
-Flows places passes = (got : List ℕ) × (passes ≡ told (got ++ places) got ∷ [])
+Flows places passes = (got : List ℕ) × (passes ≡ places_told (got ++ places) got ∷ [])
 
 -- the place of the first export with points that was not sent, where there is one
 abbrev pub IsUnsent : List Export → List ℕ → Option ℕ → Type 0

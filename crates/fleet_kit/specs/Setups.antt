@@ -27,13 +27,13 @@ abbrev pub tasks_of : FleetSetup → List Task
 tasks_of s = map task_of s.jobs.items
 
 -- what the writer at a place is to record: the entries of all its jobs, in job order
-abbrev pub recorded : FleetSetup → ℕ → List Entry
-recorded s = entries_of (tasks_of s)
+abbrev pub entries_recorded : FleetSetup → ℕ → List Entry
+entries_recorded s = entries_of (tasks_of s)
 
 -- an export is that of the writer at a place, of its jobs' entries in some order; no stream of its plan stands twice
 pub record IsExportAt (s : FleetSetup) (w : ℕ) (e : Export) : Type 0 where
   pub history : List Entry
-  pub mixed : AreMixed history (recorded s w)
+  pub mixed : AreMixed history (entries_recorded s w)
   pub export : IsExportOf (writers_of s) (collection_of (writers_of s) s.end (λ _. history) w) e
   pub apart : AreApart (writer_at s w).1.streams
 

@@ -1,6 +1,6 @@
 //! Why the setup of a fleet is refused.
 ghost use Rattle.std.specs.Prelude.{◌≡◌, nat_eq, nat_le, position};
-ghost use Rattle.fleet_kit.specs.Checks.{tied, has_id_of, is_crowded, crowded_from, setup_fault};
+ghost use Rattle.fleet_kit.specs.Checks.{first_tie, has_id_of, is_crowded, crowded_from, setup_fault};
 
 use crate::{FleetFault, FleetSetup, Job};
 use plan_kit::Plan;
@@ -42,7 +42,7 @@ fn id_place(ids: &[u32], id: u32) -> Option<usize>
 
 // The least place of a writer whose identity an earlier one has, behind the least place of such a one.
 fn same_writer(writers: &[(WriterId, Plan, u64)]) -> Option<(usize, usize)>
-    ensures { result ≡ tied has_id_of writers.now }
+    ensures { result ≡ first_tie has_id_of writers.now }
 {
     for (place, writer) in writers.iter().enumerate() {
         let earlier = &writers[..place];
@@ -55,7 +55,7 @@ fn same_writer(writers: &[(WriterId, Plan, u64)]) -> Option<(usize, usize)>
 
 // The least place of a gateway whose id an earlier one has, behind the least place of such a one.
 fn same_gateway(ids: &[u32]) -> Option<(usize, usize)>
-    ensures { result ≡ tied nat_eq ids.now }
+    ensures { result ≡ first_tie nat_eq ids.now }
 {
     for (place, id) in ids.iter().enumerate() {
         let earlier = &ids[..place];
@@ -82,7 +82,7 @@ fn is_crowded(jobs: &[Job], place: usize) -> bool
 }
 
 // The least place at which a writer has too many.
-fn crowded(jobs: &[Job], writers: usize) -> Option<usize>
+fn first_crowd(jobs: &[Job], writers: usize) -> Option<usize>
     ensures { result ≡ crowded_from jobs.now 0 writers }
 {
     for place in 0..writers {
@@ -112,7 +112,7 @@ pub(crate) fn fault_of(setup: &FleetSetup) -> Option<FleetFault>
     if let Some(writer) = late_writer(writers, setup.end) {
         return Some(FleetFault::EndNotAfter(writer));
     }
-    if let Some(writer) = crowded(jobs, writers.len()) {
+    if let Some(writer) = first_crowd(jobs, writers.len()) {
         return Some(FleetFault::TooManyJobs(writer));
     }
     None

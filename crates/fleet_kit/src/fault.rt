@@ -42,9 +42,9 @@ pub enum FleetFault {
 }
 
 impl From<Halt> for FleetFault {
-    ghost use Rattle.fleet_kit.specs.Faults.{halted};
+    ghost use Rattle.fleet_kit.specs.Faults.{fault_of_halt};
 
-    ghost from_gives = { λ halt e. e ≡ halted halt };
+    ghost from_gives = { λ halt e. e ≡ fault_of_halt halt };
 
     fn from(halt: Halt) -> FleetFault {
         match halt {

@@ -1,12 +1,12 @@
 //! Fleets of threads.
 ghost use Rattle.std.specs.Prelude.{◌≡◌, ◌⊎◌, ℕ, None, Some, map, slice_get, IfErr, IfOk, OnOk};
-ghost use Rattle.gateway_kit.specs.View.{View};
+ghost use Rattle.gateway_kit.specs.GatewayState.{GatewayState};
 ghost use Rattle.rollup_kit.specs.Rollups.{AddsUp, rollup_rows};
 ghost use Rattle.rollup_kit.specs.Writers.{AllWithin, IsRegrouped, rows_of};
 ghost use Rattle.rollup_kit.specs.declared.ask.Ask.{Ask};
 ghost use Rattle.fleet_kit.specs.Checks.{setup_fault};
 ghost use Rattle.fleet_kit.specs.Faults.{IsLate};
-ghost use Rattle.fleet_kit.specs.Setups.{recorded, writers_of};
+ghost use Rattle.fleet_kit.specs.Setups.{entries_recorded, writers_of};
 
 use crate::checks::fault_of;
 use crate::gateways::gateways_of;
@@ -38,8 +38,8 @@ pub fn run_fleet<R: Threads + Wait + Sync, G: Gate + Sync>(
     ensures ok { OnOk result (setup_fault setup ≡ None) }
     ensures err { IfErr result (λ f. (setup_fault setup ≡ Some f) ⊎ ((setup_fault setup ≡ None) × IsLate setup f)) }
     ensures ids { IfOk result (λ gs. map (λ g. g.id) gs.items ≡ setup.gateways.items) }
-    ensures rows { IfOk result (λ gs. (k : ℕ) (g : View) → slice_get gs.items k ≡ Some g → (ask : Ask) → AddsUp ask.stream.shape
-        → AllWithin (writers_of setup) (recorded setup) ⊎ IsRegrouped ask → rollup_rows ask g.points ≡ rows_of (writers_of setup) (recorded setup) ask) }
+    ensures rows { IfOk result (λ gs. (k : ℕ) (g : GatewayState) → slice_get gs.items k ≡ Some g → (ask : Ask) → AddsUp ask.stream.shape
+        → AllWithin (writers_of setup) (entries_recorded setup) ⊎ IsRegrouped ask → rollup_rows ask g.points ≡ rows_of (writers_of setup) (entries_recorded setup) ask) }
 {
     if let Some(fault) = fault_of(&setup) {
         return Err(fault);

@@ -6,7 +6,7 @@ ghost use Rattle.fleet_kit.specs.Halts.{IsLacking, StopsServing};
 ghost use Rattle.fleet_kit.specs.Posting.{IsPosted};
 ghost use Rattle.fleet_kit.specs.Serving.{IsServed, IsWhole, AreWhole};
 
-use crate::halt::{Halt, gathered};
+use crate::halt::{Halt, gather};
 use crate::posts::{Got, Places, Post, Told, posts_for};
 use attr_kit::NoMemory;
 use crossbeam_channel::Pass;
@@ -44,7 +44,12 @@ fn serve<R: Wait>(
 
 // A gateway's thread. It answers the gateway where that was told of each export with points, and `Missing` with the first
 // writer otherwise.
-fn served<R: Wait>(rt: &R, alloc: Global, exports: &[Export], post: Post) -> Result<Gateway, Halt>
+fn serve_gateway<R: Wait>(
+    rt: &R,
+    alloc: Global,
+    exports: &[Export],
+    post: Post,
+) -> Result<Gateway, Halt>
     requires { IsPosted exports.now (view post.pass) post.unsent }
     ensures ok { IfOk result (λ g. IsWhole exports.now post.id g) }
     ensures told { OnOk result (post.unsent ≡ None) }
@@ -85,7 +90,7 @@ pub(crate) fn gateways_of<R: Threads + Wait + Sync>(
             requires { IsPosted exports.now (view post.pass) post.unsent }
             ensures ok { IfOk result (λ g. IsWhole exports.entry.now post.id g) }
             ensures err { IfErr result (IsLacking post.gateway post.unsent) }
-        { served(rt, alloc, exports, post) },
+        { serve_gateway(rt, alloc, exports, post) },
     )?;
-    gathered(alloc, results)
+    gather(alloc, results)
 }

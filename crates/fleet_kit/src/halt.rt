@@ -79,10 +79,7 @@ impl From<AllocError> for Halt {
 
 /// What threads answered, in order, where none stopped short; else the first in the order why one did. Want of memory for
 /// the answers comes last.
-pub(crate) fn gathered<T: Drop>(
-    alloc: Global,
-    results: Vec<Result<T, Halt>>,
-) -> Result<Vec<T>, Halt>
+pub(crate) fn gather<T: Drop>(alloc: Global, results: Vec<Result<T, Halt>>) -> Result<Vec<T>, Halt>
     ensures ok { IfOk result (λ v. map Ok v.items ≡ results.items) }
     ensures err { IfErr result (λ h. IsFirst (λ x. In (Err x) results.items ⊎ (x ≡ halts.NoMemory)) (Some h)) }
 {

@@ -1,11 +1,21 @@
 //! Fleets: recorder threads that share writers, and gateway threads that take what the writers collected.
 //!
-//! [`run_fleet`] runs each [`Job`] in a thread of its own, all jobs of a writer on one shared writer. After the joins each
-//! writer is collected once, and each gateway's thread is told of the collections over a channel. A fleet that ends without
-//! a fault has exactly the totals of its jobs at every gateway, whatever its threads did in between: `run_fleet` says so of
-//! every query of sums or histograms. The OpenTelemetry specification has no fleets; they are the kit's own.
+//! - A [`FleetSetup`] has writers, gateways, and a [`Job`] for each recorder thread: which writer it records with, and what.
+//! - A [`Gate`] is asked before each recording, and may end a job; [`Open`] is never shut.
+//! - [`run_fleet`] runs each job in a thread of its own, all jobs of a writer on one shared writer. After the joins each
+//!   writer is collected once, and each gateway's thread is told of the collections over a channel. A [`FleetFault`] says why a
+//!   fleet gives no answer.
 //!
-//!     let gateways = run_fleet(rt, alloc, setup, &gate)?;
+//! A caller, from `crates/uses/src/fleets.rt`:
+//!
+//!     let gateways = run_fleet(rt, alloc, setup, &Open)?;
+//!     match gateways.get(0) {
+//!         Some(gateway) => Ok(Some(rollup(alloc, gateway, ask)?)),
+//!         None => Ok(None),
+//!     }
+//!
+//! A fleet that ends without a fault has exactly the totals of its jobs at every gateway, whatever its threads did in between:
+//! `run_fleet` says so of every query of sums or histograms. Fleets are the kit's own; the OpenTelemetry specification has none.
 //!
 //! What contracts cite stands in `specs/`: `Setups` (the writers and jobs of a setup), `Checks` and `Faults` (why a setup is refused),
 //! `Closing` and `Collected` (what a closed shared writer recorded, and its export), `Jobs`, `Posting` and `Serving` (between threads),
@@ -25,7 +35,7 @@ mod writers;
 
 pub use fault::FleetFault;
 pub use fleet::run_fleet;
-pub use gate::Gate;
+pub use gate::{Gate, Open};
 pub use setup::{FleetSetup, Job};
 
 #[cfg(test)]

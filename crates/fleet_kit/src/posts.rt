@@ -25,11 +25,11 @@ pub(crate) struct InOrder;
 
 impl Protocol<usize, Told> for InOrder {
     ghost use Rattle.std.specs.Prelude.{[]};
-    ghost use Rattle.fleet_kit.specs.Posting.{told, Flows};
+    ghost use Rattle.fleet_kit.specs.Posting.{places_told, Flows};
 
     ghost holds = { Flows };
 
-    ghost first = { told [] [] };
+    ghost first = { places_told [] [] };
 }
 
 // A place is sent.
@@ -88,7 +88,7 @@ fn is_sent<R: Wait>(rt: &R, sender: &Sender, pass: &mut Pass<usize, Told>, place
 }
 
 // Tells a gateway of all exports: each place stands in the channel, whose sender is gone.
-fn posted<R: Wait>(
+fn post_all<R: Wait>(
     rt: &R,
     alloc: Global,
     gateway: usize,
@@ -131,7 +131,7 @@ pub(crate) fn posts_for<R: Wait>(
 {
     let mut posts = Vec::new(alloc);
     for (gateway, id) in ids.iter().enumerate() {
-        posts.push(posted(rt, alloc, gateway, *id, exports)?)?;
+        posts.push(post_all(rt, alloc, gateway, *id, exports)?)?;
     }
     Ok(posts)
 }

@@ -8,13 +8,13 @@ ghost use Rattle.schedule_kit.specs.Members.{In};
 ghost use Rattle.writer_kit.specs.Shared.{IsAt};
 ghost use Rattle.writer_kit.specs.declared.shared.change.WriterChange.{WriterChange};
 ghost use Rattle.fleet_kit.specs.Closing.{Weighs};
-ghost use Rattle.fleet_kit.specs.Halts.{unrecorded, IsFirst, StopsAt, StopsRecording};
+ghost use Rattle.fleet_kit.specs.Halts.{halt_of_entry, IsFirst, StopsAt, StopsRecording};
 ghost use Rattle.fleet_kit.specs.declared.halt.Halt.TheVariants as halts;
 ghost use Rattle.fleet_kit.specs.Jobs.{changes, job_entries, task_of, work_of, AddsWork};
 
 use crate::halt::Halt;
 use crate::{Gate, Job};
-use agg_kit::MeasureFault as TallyFault;
+use agg_kit::TallyFault;
 use std::alloc::Global;
 use std::sync::Wait;
 use std::thread;
@@ -44,7 +44,7 @@ struct Done<'a> {
 
 // Why the entry of a job was not recorded.
 fn halt_of(job: usize, entry: usize, fault: &ChangeFault<MeasureFault>) -> Halt
-    ensures { result ≡ unrecorded job entry fault.now }
+    ensures { result ≡ halt_of_entry job entry fault.now }
 {
     match fault {
         ChangeFault::Refused(MeasureFault::Refused(TallyFault::NoMemory)) => Halt::NoMemory,

@@ -11,16 +11,6 @@ use std::sync::atomic::{AtomicU64, Ordering};
 use std::test::Fail;
 use uuid::Uuid;
 
-/// Lets all pass.
-#[derive(Drop)]
-struct Open;
-
-impl Gate for Open {
-    fn pass<R: Wait>(&self, _rt: &R, _job: usize, _entry: usize) -> bool {
-        true
-    }
-}
-
 /// Lets all pass but one entry of one job.
 #[derive(Drop)]
 struct ShutAt(usize, usize);

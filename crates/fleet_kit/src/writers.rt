@@ -13,7 +13,7 @@ ghost use Rattle.fleet_kit.specs.Jobs.{task_of};
 ghost use Rattle.fleet_kit.specs.declared.halt.Halt.TheVariants as halts;
 ghost use Rattle.fleet_kit.specs.Setups.{IsExportAt, AreExportsAt};
 
-use crate::halt::{Halt, gathered};
+use crate::halt::{Halt, gather};
 use crate::recorders::run_jobs;
 use crate::{FleetSetup, Gate, Job};
 use bumpalo::Bump;
@@ -30,7 +30,7 @@ const MOST_CHANGES: u64 = 1 << 62;
 
 // Copies out what the writer has as of a time.
 #[tactic(auto, using(crate::proofs::Exported::copies))]
-fn collected(alloc: Global, writer: &Writer, time: u64) -> Result<Export, Halt>
+fn collection_of(alloc: Global, writer: &Writer, time: u64) -> Result<Export, Halt>
     ensures ok { IfOk result (λ e. IsCopyOf writer.now time e) }
     ensures err { IfErr result (λ h. h ≡ halts.NoMemory) }
 {
@@ -57,7 +57,7 @@ fn export_closed(
     ensures err { IfErr result (λ h. (h ≡ halts.NoThread) ⊎ (h ≡ halts.NoMemory)) }
 {
     match shared.close(main) {
-        Ok(writer) => collected(alloc, &writer, time),
+        Ok(writer) => collection_of(alloc, &writer, time),
         Err(_out) => Err(Halt::NoThread),
     }
 }
@@ -131,5 +131,5 @@ pub(crate) fn exports_of<R: Threads + Wait + Sync, G: Gate + Sync>(
             ensures err { IfErr result (StopsRecording setup.entry.now.jobs.items) }
         { export_at(rt, alloc, gate, setup, place) },
     )?;
-    gathered(alloc, results)
+    gather(alloc, results)
 }

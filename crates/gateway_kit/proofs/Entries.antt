@@ -8,7 +8,7 @@ use Rattle.std.specs.Ordering.{eq_by_cmp, is_eq, is_lt, ordering_reverse}
 use Rattle.std.specs.Cmp.{IsTotalOrder, Equal-is, alike_right, tied_itself}
 use Rattle.std.specs.FinMap.{from_sorted, empty, empty_of_len, len-entries, entries-from_sorted}
 use Rattle.std.specs.FinMap.Entries.{by_order, find, is_sorted, below_all}
-use Rattle.gateway_kit.specs.Amending.{amend, amended}
+use Rattle.gateway_kit.specs.Amending.{with_change, with_changes}
 use Rattle.gateway_kit.specs.Weave.{weave}
 
 pub both : (a b : Bool) → T a → T b → T (a && b)
@@ -166,33 +166,33 @@ module _ {K : Type 0} {R : K → K → Ordering} (o : IsTotalOrder R) where
     none_before (f ∷ fs) (suc i) e h is = ap (λ b. cond b (Some f.1) (find R e.0 (take i fs))) (apart_less f.0 e.0 (above_at f.0 fs i e (first _ _ h) is)) ∙ none_before fs i e (second _ _ h) is
 
   module _ {V C : Type 0} (made : V → C → V) where
-    pub below_amend : (x : K) (es : List (K × V)) (i : ℕ) (c : C) → below_all R x (amend made es i c) ≡ below_all R x es
-    below_amend x [] i c = refl
-    below_amend x (e ∷ es) zero c = refl
-    below_amend x (e ∷ es) (suc i) c = ap (λ b. is_lt (R x e.0) && b) (below_amend x es i c)
+    pub below_with_change : (x : K) (es : List (K × V)) (i : ℕ) (c : C) → below_all R x (with_change made es i c) ≡ below_all R x es
+    below_with_change x [] i c = refl
+    below_with_change x (e ∷ es) zero c = refl
+    below_with_change x (e ∷ es) (suc i) c = ap (λ b. is_lt (R x e.0) && b) (below_with_change x es i c)
 
-    pub is_sorted-amend : (es : List (K × V)) (i : ℕ) (c : C) → is_sorted R (amend made es i c) ≡ is_sorted R es
-    is_sorted-amend [] i c = refl
-    is_sorted-amend (e ∷ es) zero c = refl
-    is_sorted-amend (e ∷ es) (suc i) c = λ j. below_amend e.0 es i c j && is_sorted-amend es i c j
+    pub is_sorted-with_change : (es : List (K × V)) (i : ℕ) (c : C) → is_sorted R (with_change made es i c) ≡ is_sorted R es
+    is_sorted-with_change [] i c = refl
+    is_sorted-with_change (e ∷ es) zero c = refl
+    is_sorted-with_change (e ∷ es) (suc i) c = λ j. below_with_change e.0 es i c j && is_sorted-with_change es i c j
 
-    pub is_sorted-amended : (es : List (K × V)) (us : List (ℕ × C)) → is_sorted R (amended made es us) ≡ is_sorted R es
-    is_sorted-amended es [] = refl
-    is_sorted-amended es (u ∷ us) = is_sorted-amended (amend made es u.0 u.1) us ∙ is_sorted-amend es u.0 u.1
+    pub is_sorted-with_changes : (es : List (K × V)) (us : List (ℕ × C)) → is_sorted R (with_changes made es us) ≡ is_sorted R es
+    is_sorted-with_changes es [] = refl
+    is_sorted-with_changes es (u ∷ us) = is_sorted-with_changes (with_change made es u.0 u.1) us ∙ is_sorted-with_change es u.0 u.1
 
     -- the keys stay where they are
-    pub keys-amend : (es : List (K × V)) (i : ℕ) (c : C) → map (λ e. e.0) (amend made es i c) ≡ map (λ e. e.0) es
-    keys-amend [] i c = refl
-    keys-amend (e ∷ es) zero c = refl
-    keys-amend (e ∷ es) (suc i) c = ap (λ l. e.0 ∷ l) (keys-amend es i c)
+    pub keys-with_change : (es : List (K × V)) (i : ℕ) (c : C) → map (λ e. e.0) (with_change made es i c) ≡ map (λ e. e.0) es
+    keys-with_change [] i c = refl
+    keys-with_change (e ∷ es) zero c = refl
+    keys-with_change (e ∷ es) (suc i) c = ap (λ l. e.0 ∷ l) (keys-with_change es i c)
 
-    pub keys-amended : (es : List (K × V)) (us : List (ℕ × C)) → map (λ e. e.0) (amended made es us) ≡ map (λ e. e.0) es
-    keys-amended es [] = refl
-    keys-amended es (u ∷ us) = keys-amended (amend made es u.0 u.1) us ∙ keys-amend es u.0 u.1
+    pub keys-with_changes : (es : List (K × V)) (us : List (ℕ × C)) → map (λ e. e.0) (with_changes made es us) ≡ map (λ e. e.0) es
+    keys-with_changes es [] = refl
+    keys-with_changes es (u ∷ us) = keys-with_changes (with_change made es u.0 u.1) us ∙ keys-with_change es u.0 u.1
 
-    pub amended-push : (es : List (K × V)) (us : List (ℕ × C)) (i : ℕ) (c : C) → amended made es (us ++ (i, c) ∷ []) ≡ amend made (amended made es us) i c
-    amended-push es [] i c = refl
-    amended-push es (u ∷ us) i c = amended-push (amend made es u.0 u.1) us i c
+    pub with_changes-push : (es : List (K × V)) (us : List (ℕ × C)) (i : ℕ) (c : C) → with_changes made es (us ++ (i, c) ∷ []) ≡ with_change made (with_changes made es us) i c
+    with_changes-push es [] i c = refl
+    with_changes-push es (u ∷ us) i c = with_changes-push (with_change made es u.0 u.1) us i c
 
     key_above : (x k : K) (es : List (K × V)) (i : ℕ) → T (below_all R x es) → slice_get (map (λ e. e.0) es) i ≡ Some k → R x k ≡ Less
     key_above x k [] i h is = absurd (not_None is)
@@ -205,9 +205,9 @@ module _ {K : Type 0} {R : K → K → Ordering} (o : IsTotalOrder R) where
     swapped false b x y z apart = refl
 
     -- after a change at the place of a key
-    pub find-amend : (q k : K) (es : List (K × V)) (i : ℕ) (c : C) → T (is_sorted R es) → slice_get (map (λ e. e.0) es) i ≡ Some k → find R q (amend made es i c) ≡ cond (eq_by_cmp R q k) (option_map (λ v. made v c) (find R k es)) (find R q es)
-    find-amend q k [] i c h is = absurd (not_None is)
-    find-amend q k (e ∷ es) zero c h is =
+    pub find-with_change : (q k : K) (es : List (K × V)) (i : ℕ) (c : C) → T (is_sorted R es) → slice_get (map (λ e. e.0) es) i ≡ Some k → find R q (with_change made es i c) ≡ cond (eq_by_cmp R q k) (option_map (λ v. made v c) (find R k es)) (find R q es)
+    find-with_change q k [] i c h is = absurd (not_None is)
+    find-with_change q k (e ∷ es) zero c h is =
         let same : e.0 ≡ k = same_Some is in
         subst (λ x. cond (eq_by_cmp R q e.0) (Some (made e.1 c)) (find R q es) ≡ cond (eq_by_cmp R q x) (option_map (λ v. made v c) (cond (eq_by_cmp R x e.0) (Some e.1) (find R x es))) (cond (eq_by_cmp R q e.0) (Some e.1) (find R q es))) same
         (ap (λ b. cond (eq_by_cmp R q e.0) (option_map (λ v. made v c) (cond b (Some e.1) (find R e.0 es))) (find R q es)) (sym (itself e.0))
@@ -216,9 +216,9 @@ module _ {K : Type 0} {R : K → K → Ordering} (o : IsTotalOrder R) where
         shadowed : (b : Bool) (x y z : Option V) → cond b x z ≡ cond b x (cond b y z)
         shadowed true x y z = refl
         shadowed false x y z = refl
-    find-amend q k (e ∷ es) (suc i) c h is =
+    find-with_change q k (e ∷ es) (suc i) c h is =
         let above : R e.0 k ≡ Less = key_above e.0 k es i (first _ _ h) is in
-        ap (cond (eq_by_cmp R q e.0) (Some e.1)) (find-amend q k es i c (second _ _ h) is)
+        ap (cond (eq_by_cmp R q e.0) (Some e.1)) (find-with_change q k es i c (second _ _ h) is)
         ∙ swapped (eq_by_cmp R q e.0) (eq_by_cmp R q k) (Some e.1) (option_map (λ v. made v c) (find R k es)) (find R q es) (λ t. ap is_eq (o.congr q e.0 k ((Equal-is (R q e.0)).0 t) ∙ above))
         ∙ ap (λ b. cond (eq_by_cmp R q k) (option_map (λ v. made v c) (cond b (Some e.1) (find R k es))) (cond (eq_by_cmp R q e.0) (Some e.1) (find R q es))) (sym (apart_less e.0 k above))
 

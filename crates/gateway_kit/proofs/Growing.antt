@@ -1,4 +1,4 @@
--- One part changed in its place, or put in where it belongs.
+-- One incarnation changed in its place, or put in where it belongs.
 use Rattle.std.proofs.Common.{◌≡◌, ◌≢◌, ℕ, zero, suc, ◌+◌, ◌<◌, Bool, true, false, ◌&&◌, cond, List, [], ◌∷◌, map, length, get_or, Option, Some, None, Result, Ok, Err, IfOk, refl, sym, ap, subst, ◌∙◌, arith, true≢false, is_some, count_by}
 use Rattle.std.specs.Prelude.{OnOk, slice_get, slice_set}
 use Rattle.std.specs.Option.{option_map}
@@ -13,24 +13,24 @@ use Rattle.point_kit.specs.declared.export_point.ExportPoint.{ExportPoint}
 use Rattle.point_kit.specs.Join.{join_cells}
 use Rattle.point_kit.specs.Equality.{payload_eq}
 use Rattle.point_kit.specs.Join.{join_options}
-use Rattle.gateway_kit.specs.Amending.{amend}
+use Rattle.gateway_kit.specs.Amending.{with_change}
 use Rattle.gateway_kit.specs.Bringing.{is_new, is_change}
 use Rattle.point_kit.specs.Equality.{cell_eq}
 use Rattle.point_kit.specs.declared.cell.Held.TheVariants.{One}
-use Rattle.gateway_kit.specs.Changing.{Entry, Prepares, entries_of, grown}
-use Rattle.gateway_kit.specs.Growth.{Grows, Joins, part_at}
-use Rattle.gateway_kit.specs.Keys.{PartKey, ItemKey, part_cmp, item_cmp}
-use Rattle.gateway_kit.specs.Part.{Part, Cells}
-use Rattle.gateway_kit.specs.Parts.{IsWhole, part_of, has_some, has_cells, entries_at}
+use Rattle.gateway_kit.specs.Changing.{Entry, Prepares, entries_of, after_growth}
+use Rattle.gateway_kit.specs.Growth.{Grows, Joins, cells_at}
+use Rattle.gateway_kit.specs.Keys.{IncarnationKey, ItemKey, incarnation_cmp, item_cmp}
+use Rattle.gateway_kit.specs.IncarnationState.{IncarnationState, Cells}
+use Rattle.gateway_kit.specs.Incarnations.{IsWhole, keyed_cells, has_some, has_cells, entries_at}
 use Rattle.gateway_kit.specs.Places.{IsAt, IsGap}
 use Rattle.gateway_kit.specs.declared.changes.Changes.{Changes}
-use Rattle.gateway_kit.specs.declared.taking.Growth.{Growth}
+use Rattle.gateway_kit.specs.declared.growth.Growth.{Growth}
 use Rattle.gateway_kit.proofs.Drafting.{found_place}
-use Rattle.gateway_kit.proofs.Entries.{as_T, as_true, is_sorted-amend, find-amend, itself, from_sorted-nil, not_None}
+use Rattle.gateway_kit.proofs.Entries.{as_T, as_true, is_sorted-with_change, find-with_change, itself, from_sorted-nil, not_None}
 use Rattle.gateway_kit.proofs.ExportEntries.{point_key}
 use Rattle.gateway_kit.proofs.Finishing.{sorted_grown}
-use Rattle.gateway_kit.proofs.KeyOrders.{part_total, item_total}
-use Rattle.gateway_kit.proofs.Moved.{set_amend}
+use Rattle.gateway_kit.specs.KeyOrders.{incarnation_total, item_total}
+use Rattle.gateway_kit.proofs.Moved.{set_with_change}
 
 pub both_true : (a b : Bool) → a ≡ true → b ≡ true → (a && b) ≡ true
 both_true true b p q = q
@@ -108,54 +108,54 @@ within_at f [] i k at = absurd (not_None at)
 within_at f (x ∷ xs) zero k at = omega arith
 within_at f (x ∷ xs) (suc i) k at = let rest = within_at f xs i k at in omega (arith, rest)
 
--- what was prepared for a part's cells, installed
-pub grown_joins : (old : Part) (cells : Cells) (came : List Entry) (c : Changes) (more changed : ℕ) → Prepares (entries old.cells) came c → cells ≡ from_sorted (grown (entries old.cells) c) → more ≡ length c.fresh.items → changed ≡ length c.updates.items + length c.fresh.items → Joins (entries old.cells) (entries cells) came more changed
-grown_joins old cells came c more changed prepared is m n =
-    let grows : entries (from_sorted {R = item_cmp} (grown (entries old.cells) c)) ≡ grown (entries old.cells) c = entries-from_sorted item_cmp (grown (entries old.cells) c) (as_T (sorted_grown (entries old.cells) c (as_true _ (entries_sorted old.cells)))) in
+-- what was prepared for an incarnation's cells, installed
+pub after_growth_joins : (old : IncarnationState) (cells : Cells) (came : List Entry) (c : Changes) (more changed : ℕ) → Prepares (entries old.cells) came c → cells ≡ from_sorted (after_growth (entries old.cells) c) → more ≡ length c.fresh.items → changed ≡ length c.updates.items + length c.fresh.items → Joins (entries old.cells) (entries cells) came more changed
+after_growth_joins old cells came c more changed prepared is m n =
+    let grows : entries (from_sorted {R = item_cmp} (after_growth (entries old.cells) c)) ≡ after_growth (entries old.cells) c = entries-from_sorted item_cmp (after_growth (entries old.cells) c) (as_T (sorted_grown (entries old.cells) c (as_true _ (entries_sorted old.cells)))) in
     record {
       joined = λ b. ap (λ (cs : Cells). find item_cmp b (entries cs)) is ∙ ap (find item_cmp b) grows ∙ prepared.joined b;
       more_keys = m ∙ sym prepared.new;
       changes = n ∙ sym prepared.changed;
     }
 
--- one part changed in its place, or put in where it belongs
-module _ (olds : List Part) (len : ℕ) (whole : IsWhole olds len) (a : PartKey) (came : List Entry) (more changed : ℕ) where
-  pub grows_at : (place : ℕ) (part new : Part) (cells : Cells) → IsAt part_cmp (map part_of olds) a place → part ≡ get_or olds place part → part_of new ≡ ((part.writer, part.start), cells) → has_some (entries cells) ≡ true → ((b : ItemKey) → find item_cmp b (entries cells) ≡ join_options (join_cells payload_eq) (find item_cmp b (entries part.cells)) (find item_cmp b came)) → more ≡ count_by (is_new item_cmp (entries part.cells)) came → changed ≡ count_by (is_change item_cmp (join_cells payload_eq) cell_eq (entries part.cells)) came → Grows olds (slice_set olds place new) a came more changed
-  grows_at place part new cells at is new_is some joined m n =
-      let there : find part_cmp a (map part_of olds) ≡ Some part.cells = found_place part_of part_total olds place part a (as_T whole.sorted) at is in
-      let here : part_at a olds ≡ entries part.cells = ap entries_at there in
-      let moved : map part_of (slice_set olds place new) ≡ amend (λ old cs. cs) (map part_of olds) place cells = set_amend part_of (λ old cs. cs) olds place part new cells (within_at part_of olds place a at) is new_is in
+-- one incarnation changed in its place, or put in where it belongs
+module _ (olds : List IncarnationState) (len : ℕ) (whole : IsWhole olds len) (a : IncarnationKey) (came : List Entry) (more changed : ℕ) where
+  pub grows_at : (place : ℕ) (incarnation new : IncarnationState) (cells : Cells) → IsAt incarnation_cmp (map keyed_cells olds) a place → incarnation ≡ get_or olds place incarnation → keyed_cells new ≡ ((incarnation.writer, incarnation.start), cells) → has_some (entries cells) ≡ true → ((b : ItemKey) → find item_cmp b (entries cells) ≡ join_options (join_cells payload_eq) (find item_cmp b (entries incarnation.cells)) (find item_cmp b came)) → more ≡ count_by (is_new item_cmp (entries incarnation.cells)) came → changed ≡ count_by (is_change item_cmp (join_cells payload_eq) cell_eq (entries incarnation.cells)) came → Grows olds (slice_set olds place new) a came more changed
+  grows_at place incarnation new cells at is new_is some joined m n =
+      let there : find incarnation_cmp a (map keyed_cells olds) ≡ Some incarnation.cells = found_place keyed_cells incarnation_total olds place incarnation a (as_T whole.sorted) at is in
+      let here : cells_at a olds ≡ entries incarnation.cells = ap entries_at there in
+      let moved : map keyed_cells (slice_set olds place new) ≡ with_change (λ old cs. cs) (map keyed_cells olds) place cells = set_with_change keyed_cells (λ old cs. cs) olds place incarnation new cells (within_at keyed_cells olds place a at) is new_is in
       record {
-        sorted = ap (is_sorted part_cmp) moved ∙ is_sorted-amend part_total (λ (old : Cells) cs. cs) (map part_of olds) place cells ∙ whole.sorted;
-        filled = all_set has_cells olds place new whole.filled (ap (λ (e : PartKey × Cells). has_some (entries e.1)) new_is ∙ some);
+        sorted = ap (is_sorted incarnation_cmp) moved ∙ is_sorted-with_change incarnation_total (λ (old : Cells) cs. cs) (map keyed_cells olds) place cells ∙ whole.sorted;
+        filled = all_set has_cells olds place new whole.filled (ap (λ (e : IncarnationKey × Cells). has_some (entries e.1)) new_is ∙ some);
         cells = cells;
-        found = λ k. ap (find part_cmp k) moved ∙ find-amend part_total (λ (old : Cells) cs. cs) k a (map part_of olds) place cells (as_T whole.sorted) at ∙ ap (λ x. cond (eq_by_cmp part_cmp k a) (option_map (λ v. cells) x) (find part_cmp k (map part_of olds))) there;
+        found = λ k. ap (find incarnation_cmp k) moved ∙ find-with_change incarnation_total (λ (old : Cells) cs. cs) k a (map keyed_cells olds) place cells (as_T whole.sorted) at ∙ ap (λ x. cond (eq_by_cmp incarnation_cmp k a) (option_map (λ v. cells) x) (find incarnation_cmp k (map keyed_cells olds))) there;
         joined = λ b. joined b ∙ ap (λ es. join_options (join_cells payload_eq) (find item_cmp b es) (find item_cmp b came)) (sym here);
         more_keys = m ∙ ap (λ es. count_by (is_new item_cmp es) came) (sym here);
         changes = n ∙ ap (λ es. count_by (is_change item_cmp (join_cells payload_eq) cell_eq es) came) (sym here);
       }
 
-  pub grows_gap : (place : ℕ) (new : Part) (cells : Cells) → IsGap part_cmp (map part_of olds) a place → part_of new ≡ (a, cells) → has_some (entries cells) ≡ true → ((b : ItemKey) → find item_cmp b (entries cells) ≡ join_options (join_cells payload_eq) (find item_cmp b (entries no_cells)) (find item_cmp b came)) → more ≡ count_by (is_new item_cmp (entries no_cells)) came → changed ≡ count_by (is_change item_cmp (join_cells payload_eq) cell_eq (entries no_cells)) came → Grows olds (insert olds place new) a came more changed
+  pub grows_gap : (place : ℕ) (new : IncarnationState) (cells : Cells) → IsGap incarnation_cmp (map keyed_cells olds) a place → keyed_cells new ≡ (a, cells) → has_some (entries cells) ≡ true → ((b : ItemKey) → find item_cmp b (entries cells) ≡ join_options (join_cells payload_eq) (find item_cmp b (entries no_cells)) (find item_cmp b came)) → more ≡ count_by (is_new item_cmp (entries no_cells)) came → changed ≡ count_by (is_change item_cmp (join_cells payload_eq) cell_eq (entries no_cells)) came → Grows olds (insert olds place new) a came more changed
   grows_gap place new cells gap new_is some joined m n =
-      let here : part_at a olds ≡ entries no_cells = ap entries_at gap.none ∙ sym entries-empty in
-      let moved : map part_of (insert olds place new) ≡ put part_cmp a cells (map part_of olds) = map-insert part_of olds place new ∙ ap (insert (map part_of olds) place) new_is ∙ gap.fits cells in
+      let here : cells_at a olds ≡ entries no_cells = ap entries_at gap.none ∙ sym entries-empty in
+      let moved : map keyed_cells (insert olds place new) ≡ put incarnation_cmp a cells (map keyed_cells olds) = map-insert keyed_cells olds place new ∙ ap (insert (map keyed_cells olds) place) new_is ∙ gap.fits cells in
       record {
-        sorted = ap (is_sorted part_cmp) moved ∙ as_true _ (is_sorted-put part_cmp part_total a cells (map part_of olds) (as_T whole.sorted));
-        filled = all_insert has_cells olds place new whole.filled (ap (λ (e : PartKey × Cells). has_some (entries e.1)) new_is ∙ some);
+        sorted = ap (is_sorted incarnation_cmp) moved ∙ as_true _ (is_sorted-put incarnation_cmp incarnation_total a cells (map keyed_cells olds) (as_T whole.sorted));
+        filled = all_insert has_cells olds place new whole.filled (ap (λ (e : IncarnationKey × Cells). has_some (entries e.1)) new_is ∙ some);
         cells = cells;
-        found = λ k. ap (find part_cmp k) moved ∙ find-put part_cmp part_total k a cells (map part_of olds);
+        found = λ k. ap (find incarnation_cmp k) moved ∙ find-put incarnation_cmp incarnation_total k a cells (map keyed_cells olds);
         joined = λ b. joined b ∙ ap (λ es. join_options (join_cells payload_eq) (find item_cmp b es) (find item_cmp b came)) (sym here);
         more_keys = m ∙ ap (λ es. count_by (is_new item_cmp es) came) (sym here);
         changes = n ∙ ap (λ es. count_by (is_change item_cmp (join_cells payload_eq) cell_eq es) came) (sym here);
       }
 
--- the same of calls that join entries into a part
-module _ (olds : List Part) (len : ℕ) (whole : IsWhole olds len) (a : PartKey) (came : List Entry) (some : HasEntry came) where
-  pub held_grows : {E : Type 0} (place : ℕ) (part new : Part) → IsAt part_cmp (map part_of olds) a place → part ≡ get_or olds place part → (r : Result Growth E) → IfOk r (λ g. Joins (entries part.cells) (entries new.cells) came g.more g.changed) → OnOk r ((part_of new).0 ≡ (part_of part).0) → IfOk r (λ g. Grows olds (slice_set olds place new) a came g.more g.changed)
-  held_grows place part new at is (Err e) joins same = tt
-  held_grows place part new at is (Ok g) joins same = grows_at olds len whole a came g.more g.changed place part new new.cells at is (λ i. (same i, new.cells)) (joins_some (entries part.cells) (entries new.cells) came g.more g.changed some joins) joins.joined joins.more_keys joins.changes
+-- the same of calls that join entries into an incarnation
+module _ (olds : List IncarnationState) (len : ℕ) (whole : IsWhole olds len) (a : IncarnationKey) (came : List Entry) (some : HasEntry came) where
+  pub held_grows : {E : Type 0} (place : ℕ) (incarnation new : IncarnationState) → IsAt incarnation_cmp (map keyed_cells olds) a place → incarnation ≡ get_or olds place incarnation → (r : Result Growth E) → IfOk r (λ g. Joins (entries incarnation.cells) (entries new.cells) came g.more g.changed) → OnOk r ((keyed_cells new).0 ≡ (keyed_cells incarnation).0) → IfOk r (λ g. Grows olds (slice_set olds place new) a came g.more g.changed)
+  held_grows place incarnation new at is (Err e) joins same = tt
+  held_grows place incarnation new at is (Ok g) joins same = grows_at olds len whole a came g.more g.changed place incarnation new new.cells at is (λ i. (same i, new.cells)) (joins_some (entries incarnation.cells) (entries new.cells) came g.more g.changed some joins) joins.joined joins.more_keys joins.changes
 
-  pub gap_grows : (place : ℕ) (start new : Part) (more changed : ℕ) → IsGap part_cmp (map part_of olds) a place → start.cells ≡ no_cells → (part_of new).0 ≡ a → Joins (entries start.cells) (entries new.cells) came more changed → Grows olds (insert olds place new) a came more changed
+  pub gap_grows : (place : ℕ) (start new : IncarnationState) (more changed : ℕ) → IsGap incarnation_cmp (map keyed_cells olds) a place → start.cells ≡ no_cells → (keyed_cells new).0 ≡ a → Joins (entries start.cells) (entries new.cells) came more changed → Grows olds (insert olds place new) a came more changed
   gap_grows place start new more changed gap none key joins =
       let first : Joins (entries no_cells) (entries new.cells) came more changed = subst (λ (cs : Cells). Joins (entries cs) (entries new.cells) came more changed) none joins in
       grows_gap olds len whole a came more changed place new new.cells gap (λ i. (key i, new.cells)) (joins_some (entries no_cells) (entries new.cells) came more changed some first) first.joined first.more_keys first.changes

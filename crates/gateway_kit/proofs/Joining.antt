@@ -1,12 +1,12 @@
--- What a gateway's points are after one of its parts was joined with what came.
-use Rattle.std.proofs.Common.{◌≡◌, ℕ, ◌+◌, ◌≤◌, ◌^◌, Bool, true, false, cond, List, [], ◌∷◌, map, length, Option, Some, None, refl, sym, ap, subst, ◌∙◌, not, append-nil}
+-- What a gateway's points are after its incarnations were joined with what came.
+use Rattle.std.proofs.Common.{IfOk, Result, Ok, Err, ◌≡◌, ℕ, ◌+◌, ◌≤◌, ◌^◌, Bool, true, false, cond, List, [], ◌∷◌, map, length, Option, Some, None, refl, sym, ap, subst, ◌∙◌, not, append-nil, count_by}
 use Rattle.std.specs.Prelude.{filter, is_none}
 use Rattle.std.specs.Option.{option_eq}
-use Rattle.std.specs.List.{IsDistinct, AllByRecursion, flat_map}
+use Rattle.std.specs.List.{IsDistinct, AllByRecursion, flat_map, list_all}
 use Rattle.std.specs.declared.cmp.Ordering.{Ordering}
 use Rattle.std.specs.Ordering.{eq_by_cmp, is_eq, ordering_then}
 use Rattle.std.specs.Cmp.{IsTotalOrder, IsEquivalence, Equal-is, tied_itself}
-use Rattle.std.specs.FinMap.{IsAntisymmetric, get, entries, from_sorted, get-from_sorted, entries-from_sorted, get-entries, same_map}
+use Rattle.std.specs.FinMap.{IsAntisymmetric, get, entries, from_sorted, get-from_sorted, entries-from_sorted, same_map}
 use Rattle.std.specs.FinMap.Entries.{find, is_sorted}
 use Rattle.attr_kit.specs.Exact.{IsExact}
 use Rattle.point_kit.specs.Best.{best}
@@ -27,17 +27,19 @@ use Rattle.point_kit.proofs.EqualityLaws.{payload_equivalence, payload_exact}
 use Rattle.point_kit.proofs.StateLaws.{get-state_of, get-join_maps}
 use Rattle.gateway_kit.specs.Bringing.{is_new, is_change}
 use Rattle.gateway_kit.specs.Changing.{Entry, entries_of}
-use Rattle.gateway_kit.specs.Growth.{Grows, part_at}
-use Rattle.gateway_kit.specs.Keys.{PartKey, ItemKey, part_cmp, item_cmp, whole_key}
-use Rattle.gateway_kit.specs.Part.{Part}
-use Rattle.gateway_kit.specs.Parts.{IsWhole, listed, part_of, entries_at}
+use Rattle.gateway_kit.specs.Growth.{Grows, GrowsBy, cells_at}
+use Rattle.gateway_kit.specs.Keys.{IncarnationKey, ItemKey, incarnation_cmp, item_cmp, whole_key}
+use Rattle.gateway_kit.specs.IncarnationState.{IncarnationState}
+use Rattle.gateway_kit.specs.Incarnations.{IsWhole, all_points, has_cells, keyed_cells, entries_at}
+use Rattle.gateway_kit.specs.Tallies.{Tells}
+use Rattle.gateway_kit.specs.declared.growth.Growth.{Growth}
 use Rattle.point_kit.specs.Equality.{cell_eq}
 use Rattle.point_kit.specs.Exports.{Points, join_points, changed_points}
 use Rattle.point_kit.proofs.EqualityLaws.{cell_itself}
 use Rattle.gateway_kit.proofs.Counting.{changes_by, longer_by, count_map}
 use Rattle.gateway_kit.proofs.Entries.{as_T, map_map}
 use Rattle.gateway_kit.proofs.ExportEntries.{distinct_points, point_key}
-use Rattle.gateway_kit.proofs.KeyOrders.{part_total, part_exact, compares, split_key}
+use Rattle.gateway_kit.specs.KeyOrders.{incarnation_total, incarnation_exact, compares, split_key}
 use Rattle.gateway_kit.proofs.Nested.{find-flatten, sorted_flatten, is_eq-then}
 
 -- ---- one export alone
@@ -61,29 +63,29 @@ module _ {K P : Type 0} {R : K → K → Ordering} (o : IsTotalOrder R) (anti : 
       ] refl
 
 -- entries of an incarnation, under whole keys
-abbrev pub under : PartKey → List Entry → List (Key × Cell Payload)
+abbrev pub under : IncarnationKey → List Entry → List (Key × Cell Payload)
 under a ts = map (λ t. (whole_key a t.0, t.1)) ts
 
-tied_under : (a : PartKey) (b c : ItemKey) → eq_by_cmp key_cmp (whole_key a b) (whole_key a c) ≡ eq_by_cmp item_cmp b c
-tied_under a b c = ap is_eq (compares a a b c ∙ ap (λ r. ordering_then r (item_cmp b c)) (tied_itself part_total a))
+tied_under : (a : IncarnationKey) (b c : ItemKey) → eq_by_cmp key_cmp (whole_key a b) (whole_key a c) ≡ eq_by_cmp item_cmp b c
+tied_under a b c = ap is_eq (compares a a b c ∙ ap (λ r. ordering_then r (item_cmp b c)) (tied_itself incarnation_total a))
 
-distinct_keys : (a : PartKey) (ks : List ItemKey) → IsDistinct (eq_by_cmp item_cmp) ks → IsDistinct (eq_by_cmp key_cmp) (map (whole_key a) ks)
+distinct_keys : (a : IncarnationKey) (ks : List ItemKey) → IsDistinct (eq_by_cmp item_cmp) ks → IsDistinct (eq_by_cmp key_cmp) (map (whole_key a) ks)
 unfolding IsDistinct
 distinct_keys a [] h = tt
 distinct_keys a (k ∷ ks) h = (others a k ks h.0, distinct_keys a ks h.1)
   where
-    others : (a : PartKey) (k : ItemKey) (ks : List ItemKey) → AllByRecursion (λ j. eq_by_cmp item_cmp k j ≡ false) ks → AllByRecursion (λ j. eq_by_cmp key_cmp (whole_key a k) j ≡ false) (map (whole_key a) ks)
+    others : (a : IncarnationKey) (k : ItemKey) (ks : List ItemKey) → AllByRecursion (λ j. eq_by_cmp item_cmp k j ≡ false) ks → AllByRecursion (λ j. eq_by_cmp key_cmp (whole_key a k) j ≡ false) (map (whole_key a) ks)
     others a k [] h = tt
     others a k (j ∷ ks) h = (tied_under a k j ∙ h.0, others a k ks h.1)
 
-pub distinct_under : (a : PartKey) (ts : List Entry) → IsDistinct (eq_by_cmp item_cmp) (map (λ t. t.0) ts) → IsDistinct (eq_by_cmp key_cmp) (map (λ t. t.0) (under a ts))
+pub distinct_under : (a : IncarnationKey) (ts : List Entry) → IsDistinct (eq_by_cmp item_cmp) (map (λ t. t.0) ts) → IsDistinct (eq_by_cmp key_cmp) (map (λ t. t.0) (under a ts))
 distinct_under a ts h = subst (IsDistinct (eq_by_cmp key_cmp)) (map_map (whole_key a) (λ (t : Entry). t.0) ts ∙ sym (map_map (λ (t : Key × Cell Payload). t.0) (λ (t : Entry). (whole_key a t.0, t.1)) ts)) (distinct_keys a (map (λ t. t.0) ts) h)
 
-pub find_under : (a c : PartKey) (b : ItemKey) (ts : List Entry) → find key_cmp (whole_key c b) (under a ts) ≡ cond (eq_by_cmp part_cmp c a) (find item_cmp b ts) None
-find_under a c b [] = elim (eq_by_cmp part_cmp c a) as (λ u. ◌≡◌ {A = Option (Cell Payload)} None (cond u None None)) [ true ↦ refl | false ↦ refl ]
+pub find_under : (a c : IncarnationKey) (b : ItemKey) (ts : List Entry) → find key_cmp (whole_key c b) (under a ts) ≡ cond (eq_by_cmp incarnation_cmp c a) (find item_cmp b ts) None
+find_under a c b [] = elim (eq_by_cmp incarnation_cmp c a) as (λ u. ◌≡◌ {A = Option (Cell Payload)} None (cond u None None)) [ true ↦ refl | false ↦ refl ]
 find_under a c b (t ∷ ts) =
-    (λ i. cond ((ap is_eq (compares c a b t.0) ∙ is_eq-then (part_cmp c a) (item_cmp b t.0)) i) (Some t.1) (find_under a c b ts i))
-    ∙ elim (eq_by_cmp part_cmp c a) as (λ u. ◌≡◌ {A = Option (Cell Payload)} (cond (cond u (eq_by_cmp item_cmp b t.0) false) (Some t.1) (cond u (find item_cmp b ts) None)) (cond u (cond (eq_by_cmp item_cmp b t.0) (Some t.1) (find item_cmp b ts)) None)) [ true ↦ refl | false ↦ refl ]
+    (λ i. cond ((ap is_eq (compares c a b t.0) ∙ is_eq-then (incarnation_cmp c a) (item_cmp b t.0)) i) (Some t.1) (find_under a c b ts i))
+    ∙ elim (eq_by_cmp incarnation_cmp c a) as (λ u. ◌≡◌ {A = Option (Cell Payload)} (cond (cond u (eq_by_cmp item_cmp b t.0) false) (Some t.1) (cond u (find item_cmp b ts) None)) (cond u (cond (eq_by_cmp item_cmp b t.0) (Some t.1) (find item_cmp b ts)) None)) [ true ↦ refl | false ↦ refl ]
 
 -- the state of one export has its entries
 pub state_alone : (e : Export) (q : Key) → get (state (e ∷ [])) q ≡ find key_cmp q (under (e.writer, e.start) (entries_of e))
@@ -100,58 +102,77 @@ state_alone e q =
 pub apart_entries : (e : Export) → IsDistinct (eq_by_cmp item_cmp) (map (λ t. t.0) (entries_of e))
 apart_entries e = subst (IsDistinct (eq_by_cmp item_cmp)) (sym (map_map (λ t. t.0) (λ p. (point_key p, record { time = e.time; held = One p.payload })) e.points)) (distinct_points e)
 
--- ---- points in parts
+-- ---- points in incarnations
 
-pub get_points : (ps : List Part) → is_sorted part_cmp (map part_of ps) ≡ true → (c : PartKey) (b : ItemKey) → get (from_sorted {R = key_cmp} (listed ps)) (whole_key c b) ≡ find item_cmp b (part_at c ps)
+pub get_points : (ps : List IncarnationState) → is_sorted incarnation_cmp (map keyed_cells ps) ≡ true → (c : IncarnationKey) (b : ItemKey) → get (from_sorted {R = key_cmp} (all_points ps)) (whole_key c b) ≡ find item_cmp b (cells_at c ps)
 get_points ps sorted c b =
-    get-from_sorted key_cmp (listed ps) (whole_key c b) (sorted_flatten (Cell Payload) part_cmp item_cmp key_cmp whole_key compares part_total (map part_of ps) (as_T sorted))
-    ∙ find-flatten (Cell Payload) part_cmp item_cmp key_cmp whole_key compares part_total c b (map part_of ps) (as_T sorted)
+    get-from_sorted key_cmp (all_points ps) (whole_key c b) (sorted_flatten (Cell Payload) incarnation_cmp item_cmp key_cmp whole_key compares incarnation_total (map keyed_cells ps) (as_T sorted))
+    ∙ find-flatten (Cell Payload) incarnation_cmp item_cmp key_cmp whole_key compares incarnation_total c b (map keyed_cells ps) (as_T sorted)
 
-pub entries_points : (ps : List Part) → is_sorted part_cmp (map part_of ps) ≡ true → entries (from_sorted {R = key_cmp} (listed ps)) ≡ listed ps
-entries_points ps sorted = entries-from_sorted key_cmp (listed ps) (sorted_flatten (Cell Payload) part_cmp item_cmp key_cmp whole_key compares part_total (map part_of ps) (as_T sorted))
+pub entries_points : (ps : List IncarnationState) → is_sorted incarnation_cmp (map keyed_cells ps) ≡ true → entries (from_sorted {R = key_cmp} (all_points ps)) ≡ all_points ps
+entries_points ps sorted = entries-from_sorted key_cmp (all_points ps) (sorted_flatten (Cell Payload) incarnation_cmp item_cmp key_cmp whole_key compares incarnation_total (map keyed_cells ps) (as_T sorted))
 
 pub unjoined : {V : Type 0} (join : V → V → V) (a : Option V) → a ≡ join_options join a None
 unjoined join None = refl
 unjoined join (Some v) = refl
 
-module _ (olds news : List Part) (len : ℕ) (whole : IsWhole olds len) (a : PartKey) (ts : List Entry) (more changed : ℕ) (apart : IsDistinct (eq_by_cmp item_cmp) (map (λ t. t.0) ts)) (grows : Grows olds news a ts more changed) where
-  joined_at : (q : Key) → get (from_sorted {R = key_cmp} (listed news)) q ≡ join_options (join_cells payload_eq) (get (from_sorted {R = key_cmp} (listed olds)) q) (find key_cmp q (under a ts))
-  joined_at q = subst (λ x. get (from_sorted {R = key_cmp} (listed news)) x ≡ join_options (join_cells payload_eq) (get (from_sorted {R = key_cmp} (listed olds)) x) (find key_cmp x (under a ts))) (split_key q).2 (at (split_key q).0 (split_key q).1)
+pub find_listed : (olds : List IncarnationState) → is_sorted incarnation_cmp (map keyed_cells olds) ≡ true → (a : IncarnationKey) (b : ItemKey) → find key_cmp (whole_key a b) (all_points olds) ≡ find item_cmp b (cells_at a olds)
+find_listed olds sorted a b = find-flatten (Cell Payload) incarnation_cmp item_cmp key_cmp whole_key compares incarnation_total a b (map keyed_cells olds) (as_T sorted)
+
+-- ---- what incarnations grow by, told by the entries that came
+
+module _ (olds news : List IncarnationState) (len : ℕ) (whole : IsWhole olds len) (came : List (Key × Cell Payload)) (apart : IsDistinct (eq_by_cmp key_cmp) (map (λ e. e.0) came)) (at : (q : Key) → get (from_sorted {R = key_cmp} (all_points news)) q ≡ join_options (join_cells payload_eq) (get (from_sorted {R = key_cmp} (all_points olds)) q) (find key_cmp q came)) where
+  pub grown_whole : (more : ℕ) → is_sorted incarnation_cmp (map keyed_cells news) ≡ true → list_all has_cells news ≡ true → more ≡ count_by (is_new key_cmp (all_points olds)) came → len + more ≤ 2 ^ 62 → IsWhole news (len + more)
+  grown_whole more sorted filled is within = record {
+    sorted = sorted;
+    filled = filled;
+    counted =
+        let longer = longer_by key_total key_exact (join_cells payload_eq) (from_sorted {R = key_cmp} (all_points olds)) (from_sorted (all_points news)) came apart at in
+        let listed = sym (entries_points olds whole.sorted) in
+        (λ i. (whole.counted ∙ ap length listed) i + (is ∙ ap (λ es. count_by (is_new key_cmp es) came) listed) i) ∙ sym longer ∙ ap length (entries_points news sorted);
+    bounded = within;
+  }
+
+  pub grown : (g : Growth) (s : Points) → IsWhole news (len + g.more) → g.changed ≡ count_by (is_change key_cmp (join_cells payload_eq) cell_eq (all_points olds)) came → Tells olds news g.before g.after → ((q : Key) → get s q ≡ find key_cmp q came) → GrowsBy olds news len s g
+  grown g s longer changed tells is = record {
+    whole = longer;
+    joins = same_map key_total key_exact _ _ (λ q. at q ∙ sym (get-join_maps key_total key_exact (join_cells payload_eq) (from_sorted (all_points olds)) s q ∙ ap (join_options (join_cells payload_eq) (get {R = key_cmp} (from_sorted (all_points olds)) q)) (is q)));
+    changes =
+        changed
+        ∙ ap (λ es. count_by (is_change key_cmp (join_cells payload_eq) cell_eq es) came) (sym (entries_points olds whole.sorted))
+        ∙ sym (changes_by key_total key_exact (join_cells payload_eq) (from_sorted (all_points olds)) (from_sorted (all_points news)) came apart at cell_eq cell_itself);
+    tells = tells;
+  }
+
+-- where they are of one incarnation
+module _ (olds news : List IncarnationState) (len : ℕ) (whole : IsWhole olds len) (a : IncarnationKey) (ts : List Entry) (apart : IsDistinct (eq_by_cmp item_cmp) (map (λ t. t.0) ts)) (s : Points) (is : (q : Key) → get s q ≡ find key_cmp q (under a ts)) where
+  joined_at : (more changed : ℕ) → Grows olds news a ts more changed → (q : Key) → get (from_sorted {R = key_cmp} (all_points news)) q ≡ join_options (join_cells payload_eq) (get (from_sorted {R = key_cmp} (all_points olds)) q) (find key_cmp q (under a ts))
+  joined_at more changed grows q = subst (λ x. get (from_sorted {R = key_cmp} (all_points news)) x ≡ join_options (join_cells payload_eq) (get (from_sorted {R = key_cmp} (all_points olds)) x) (find key_cmp x (under a ts))) (split_key q).2 (at (split_key q).0 (split_key q).1)
     where
-      at : (c : PartKey) (b : ItemKey) → get (from_sorted {R = key_cmp} (listed news)) (whole_key c b) ≡ join_options (join_cells payload_eq) (get (from_sorted {R = key_cmp} (listed olds)) (whole_key c b)) (find key_cmp (whole_key c b) (under a ts))
+      at : (c : IncarnationKey) (b : ItemKey) → get (from_sorted {R = key_cmp} (all_points news)) (whole_key c b) ≡ join_options (join_cells payload_eq) (get (from_sorted {R = key_cmp} (all_points olds)) (whole_key c b)) (find key_cmp (whole_key c b) (under a ts))
       at c b =
           get_points news grows.sorted c b
           ∙ ap (λ x. find item_cmp b (entries_at x)) (grows.found c)
-          ∙ elim (eq_by_cmp part_cmp c a) as (λ u. eq_by_cmp part_cmp c a ≡ u → find item_cmp b (entries_at (cond u (Some grows.cells) (find part_cmp c (map part_of olds)))) ≡ join_options (join_cells payload_eq) (find item_cmp b (part_at c olds)) (cond u (find item_cmp b ts) None)) [
-            | true ↦ λ t. subst (λ x. find item_cmp b (entries grows.cells) ≡ join_options (join_cells payload_eq) (find item_cmp b (part_at x olds)) (find item_cmp b ts)) (sym (part_exact c a ((Equal-is (part_cmp c a)).0 t))) (grows.joined b)
-            | false ↦ λ t. unjoined (join_cells payload_eq) (find item_cmp b (part_at c olds))
+          ∙ elim (eq_by_cmp incarnation_cmp c a) as (λ u. eq_by_cmp incarnation_cmp c a ≡ u → find item_cmp b (entries_at (cond u (Some grows.cells) (find incarnation_cmp c (map keyed_cells olds)))) ≡ join_options (join_cells payload_eq) (find item_cmp b (cells_at c olds)) (cond u (find item_cmp b ts) None)) [
+            | true ↦ λ t. subst (λ x. find item_cmp b (entries grows.cells) ≡ join_options (join_cells payload_eq) (find item_cmp b (cells_at x olds)) (find item_cmp b ts)) (sym (incarnation_exact c a ((Equal-is (incarnation_cmp c a)).0 t))) (grows.joined b)
+            | false ↦ λ t. unjoined (join_cells payload_eq) (find item_cmp b (cells_at c olds))
           ] refl
           ∙ sym (λ i. join_options (join_cells payload_eq) (get_points olds whole.sorted c b i) (find_under a c b ts i))
 
-  -- the points are joined
-  pub points_joined : (s : Points) → ((q : Key) → get s q ≡ find key_cmp q (under a ts)) → from_sorted {R = key_cmp} (listed news) ≡ join_points (from_sorted (listed olds)) s
-  points_joined s is = same_map key_total key_exact _ _ (λ q. joined_at q ∙ sym (get-join_maps key_total key_exact (join_cells payload_eq) (from_sorted (listed olds)) s q ∙ ap (join_options (join_cells payload_eq) (get {R = key_cmp} (from_sorted (listed olds)) q)) (is q)))
+  pub one_grown : (g : Growth) → Grows olds news a ts g.more g.changed → len + g.more ≤ 2 ^ 62 → Tells olds news g.before g.after → GrowsBy olds news len s g
+  one_grown g grows within tells =
+      let at = joined_at g.more g.changed grows in
+      let more_keys = count_map (is_new key_cmp (all_points olds)) (is_new item_cmp (cells_at a olds)) (λ t. (whole_key a t.0, t.1)) (λ t. ap is_none (find_listed olds whole.sorted a t.0)) ts in
+      let changes = count_map (is_change key_cmp (join_cells payload_eq) cell_eq (all_points olds)) (is_change item_cmp (join_cells payload_eq) cell_eq (cells_at a olds)) (λ t. (whole_key a t.0, t.1))
+      (λ t. ap (λ x. not (option_eq cell_eq x (join_options (join_cells payload_eq) x (Some t.1)))) (find_listed olds whole.sorted a t.0)) ts in
+      grown olds news len whole (under a ts) (distinct_under a ts apart) at g s
+      (grown_whole olds news len whole (under a ts) (distinct_under a ts apart) at g.more grows.sorted grows.filled (grows.more_keys ∙ sym more_keys) within)
+      (grows.changes ∙ sym changes) tells is
 
-  -- so many keys changed
-  pub keys_changed : changed ≡ changed_points (from_sorted (listed olds)) (from_sorted (listed news))
-  keys_changed =
-      grows.changes
-      ∙ sym (changes_by key_total key_exact (join_cells payload_eq) (from_sorted (listed olds)) (from_sorted (listed news)) (under a ts) (distinct_under a ts apart) joined_at cell_eq cell_itself
-      ∙ count_map (is_change key_cmp (join_cells payload_eq) cell_eq (entries (from_sorted {R = key_cmp} (listed olds)))) (is_change item_cmp (join_cells payload_eq) cell_eq (part_at a olds)) (λ t. (whole_key a t.0, t.1))
-      (λ t. ap (λ x. not (option_eq cell_eq x (join_options (join_cells payload_eq) x (Some t.1)))) (sym (get-entries (from_sorted {R = key_cmp} (listed olds)) (whole_key a t.0)) ∙ get_points olds whole.sorted a t.0)) ts)
-
-  -- and so many keys are new
-  pub parts_whole : len + more ≤ 2 ^ 62 → IsWhole news (len + more)
-  parts_whole within = record {
-    sorted = grows.sorted;
-    filled = grows.filled;
-    counted =
-        let longer = longer_by key_total key_exact (join_cells payload_eq) (from_sorted {R = key_cmp} (listed olds)) (from_sorted (listed news)) (under a ts) (distinct_under a ts apart) joined_at in
-        let new_keys = count_map (is_new key_cmp (entries (from_sorted {R = key_cmp} (listed olds)))) (is_new item_cmp (part_at a olds)) (λ t. (whole_key a t.0, t.1))
-        (λ t. ap is_none (sym (get-entries (from_sorted {R = key_cmp} (listed olds)) (whole_key a t.0)) ∙ get_points olds whole.sorted a t.0)) ts in
-        (λ i. (whole.counted ∙ ap length (sym (entries_points olds whole.sorted))) i + (grows.more_keys ∙ sym new_keys) i) ∙ sym longer ∙ ap length (entries_points news grows.sorted);
-    bounded = within;
-  }
+  -- the same where a call may be refused
+  pub held_grown : {E : Type 0} (r : Result Growth E) → IfOk r (λ g. Grows olds news a ts g.more g.changed) → IfOk r (λ g. len + g.more ≤ 2 ^ 62) → IfOk r (λ g. Tells olds news g.before g.after) → IfOk r (λ g. GrowsBy olds news len s g)
+  held_grown (Err e) grows within tells = tt
+  held_grown (Ok g) grows within tells = one_grown g grows within tells
 
 -- an export without points adds nothing
 pub joined_nothing : (e : Export) → e.points ≡ [] → (m : Points) → m ≡ join_points m (state (e ∷ []))

@@ -6,8 +6,7 @@ pub mod ExportEntries
 pub mod Finishing
 pub mod Growing
 pub mod Joining
-pub mod KeyOrders
-pub mod MergeParts
+pub mod MergeDrafts
 pub mod Merged
 pub mod Moved
 pub mod Movement

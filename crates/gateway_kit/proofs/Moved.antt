@@ -2,28 +2,28 @@
 use Rattle.std.proofs.Common.{◌≡◌, ℕ, zero, suc, ◌<◌, ◌≤◌, Bool, true, false, ◌&&◌, List, [], ◌∷◌, map, length, get_or, Some, refl, ap, subst, ◌∙◌, sym, arith, true≢false}
 use Rattle.std.specs.List.{list_all}
 use Rattle.std.specs.Prelude.{slice_get, slice_set}
-use Rattle.gateway_kit.specs.Amending.{amend}
+use Rattle.gateway_kit.specs.Amending.{with_change}
 
 module _ {A K V C : Type 0} (f : A → K × V) (made : V → C → V) where
   -- a value put at a place
-  pub set_amend : (xs : List A) (i : ℕ) (x y : A) (c : C) → i < length xs → x ≡ get_or xs i x → f y ≡ ((f x).0, made (f x).1 c) → map f (slice_set xs i y) ≡ amend made (map f xs) i c
-  set_amend [] i x y c h is e = absurd (omega arith)
-  set_amend (z ∷ xs) zero x y c h is e = λ j. (e ∙ ap (λ w. ((f w).0, made (f w).1 c)) is) j ∷ map f xs
-  set_amend (z ∷ xs) (suc i) x y c h is e = ap (λ l. f z ∷ l) (set_amend xs i x y c (omega arith) is e)
+  pub set_with_change : (xs : List A) (i : ℕ) (x y : A) (c : C) → i < length xs → x ≡ get_or xs i x → f y ≡ ((f x).0, made (f x).1 c) → map f (slice_set xs i y) ≡ with_change made (map f xs) i c
+  set_with_change [] i x y c h is e = absurd (omega arith)
+  set_with_change (z ∷ xs) zero x y c h is e = λ j. (e ∙ ap (λ w. ((f w).0, made (f w).1 c)) is) j ∷ map f xs
+  set_with_change (z ∷ xs) (suc i) x y c h is e = ap (λ l. f z ∷ l) (set_with_change xs i x y c (omega arith) is e)
 
   -- a value that stays as it is
-  pub kept_amend : (xs : List A) (i : ℕ) (x : A) (c : C) → i < length xs → x ≡ get_or xs i x → made (f x).1 c ≡ (f x).1 → map f xs ≡ amend made (map f xs) i c
-  kept_amend [] i x c h is e = absurd (omega arith)
-  kept_amend (z ∷ xs) zero x c h is e =
+  pub kept_with_change : (xs : List A) (i : ℕ) (x : A) (c : C) → i < length xs → x ≡ get_or xs i x → made (f x).1 c ≡ (f x).1 → map f xs ≡ with_change made (map f xs) i c
+  kept_with_change [] i x c h is e = absurd (omega arith)
+  kept_with_change (z ∷ xs) zero x c h is e =
       let same : made (f z).1 c ≡ (f z).1 = subst (λ w. made (f w).1 c ≡ (f w).1) is e in
       λ j. ((f z).0, sym same j) ∷ map f xs
-  kept_amend (z ∷ xs) (suc i) x c h is e = ap (λ l. f z ∷ l) (kept_amend xs i x c (omega arith) is e)
+  kept_with_change (z ∷ xs) (suc i) x c h is e = ap (λ l. f z ∷ l) (kept_with_change xs i x c (omega arith) is e)
 
   -- past the end
-  pub past_amend : (xs : List A) (i : ℕ) (c : C) → length xs ≤ i → map f xs ≡ amend made (map f xs) i c
-  past_amend [] i c h = refl
-  past_amend (z ∷ xs) zero c h = absurd (omega arith)
-  past_amend (z ∷ xs) (suc i) c h = ap (λ l. f z ∷ l) (past_amend xs i c (omega arith))
+  pub past_with_change : (xs : List A) (i : ℕ) (c : C) → length xs ≤ i → map f xs ≡ with_change made (map f xs) i c
+  past_with_change [] i c h = refl
+  past_with_change (z ∷ xs) zero c h = absurd (omega arith)
+  past_with_change (z ∷ xs) (suc i) c h = ap (λ l. f z ∷ l) (past_with_change xs i c (omega arith))
 
 -- a value put at a place of which nothing else is seen
 pub set_same : {A B : Type 0} (f : A → B) (xs : List A) (i : ℕ) (x y : A) → x ≡ get_or xs i x → f y ≡ f x → map f (slice_set xs i y) ≡ map f xs

@@ -11,7 +11,7 @@ use Rattle.std.specs.declared.cmp.Ordering.{Ordering}
 use Rattle.std.specs.Ordering.{eq_by_cmp, is_lt}
 use Rattle.point_kit.specs.declared.cell.Cell.{Cell}
 use Rattle.point_kit.specs.declared.payload.Payload.{Payload}
-use Rattle.gateway_kit.specs.Numbers.{Moves, rank_of, given, number_in, AllBefore}
+use Rattle.gateway_kit.specs.Numbers.{Moves, rank_of, number_after, number_in, AllBefore}
 use Rattle.gateway_kit.specs.Weave.{weave}
 use Rattle.gateway_kit.proofs.Entries.{both, first, second, below_tied, find_below, find-weave, map-weave, on_keys}
 
@@ -20,35 +20,35 @@ Held = Option (Cell Payload)
 
 -- ---- one key
 
-pub given_twice : (number n : ℕ) → given number (given number n) ≡ given number n
-given_twice number n = elim (nat_lt 0 number) as (λ b. cond b number (cond b number n) ≡ cond b number n) [ true ↦ refl | false ↦ refl ]
+pub number_after_twice : (number n : ℕ) → number_after number (number_after number n) ≡ number_after number n
+number_after_twice number n = elim (nat_lt 0 number) as (λ b. cond b number (cond b number n) ≡ cond b number n) [ true ↦ refl | false ↦ refl ]
 
 pub none_above : (n : ℕ) → nat_lt 0 n ≡ false → n ≡ 0
 none_above n h = grind (arith, nat_tests)
 
-pub given_first : (number : ℕ) → number ≡ given number 0
-given_first number = go (nat_lt 0 number) refl
+pub number_after_first : (number : ℕ) → number ≡ number_after number 0
+number_after_first number = go (nat_lt 0 number) refl
   where
     go : (b : Bool) → nat_lt 0 number ≡ b → number ≡ cond b number 0
     go true e = refl
     go false e = none_above number e
 
-pub given_within : (number n most : ℕ) → number ≤ most → n ≤ most → given number n ≤ most
-given_within number n most g h = elim (nat_lt 0 number) as (λ b. cond b number n ≤ most) [ true ↦ g | false ↦ h ]
+pub number_after_within : (number n most : ℕ) → number ≤ most → n ≤ most → number_after number n ≤ most
+number_after_within number n most g h = elim (nat_lt 0 number) as (λ b. cond b number n ≤ most) [ true ↦ g | false ↦ h ]
 
 pub stays : (number : ℕ) (a : Held) (n : ℕ) → Moves number a a n n
 stays number a n = inl (refl, refl)
 
 pub then_moves : (number : ℕ) (a b c : Held) (n m l : ℕ) → Moves number a b n m → Moves number b c m l → Moves number a c n l
 then_moves number a b c n m l (inl p) (inl q) = inl (q.0 ∙ p.0, q.1 ∙ p.1)
-then_moves number a b c n m l (inl p) (inr q) = inr (subst (λ (x : Held). rank_of x < rank_of c) p.0 q.0, q.1 ∙ ap (given number) p.1)
+then_moves number a b c n m l (inl p) (inr q) = inr (subst (λ (x : Held). rank_of x < rank_of c) p.0 q.0, q.1 ∙ ap (number_after number) p.1)
 then_moves number a b c n m l (inr p) (inl q) = inr (subst (λ (x : Held). rank_of a < rank_of x) (sym q.0) p.0, q.1 ∙ p.1)
-then_moves number a b c n m l (inr p) (inr q) = inr (let up = p.0 in let more = q.0 in omega (arith, up, more), q.1 ∙ ap (given number) p.1 ∙ given_twice number n)
+then_moves number a b c n m l (inr p) (inr q) = inr (let up = p.0 in let more = q.0 in omega (arith, up, more), q.1 ∙ ap (number_after number) p.1 ∙ number_after_twice number n)
 
 -- a key that comes in
 pub comes_in : (number : ℕ) (b : Held) (m : ℕ) → m ≡ cond (is_some b) number 0 → Moves number None b 0 m
 comes_in number None m is = inl (refl, is)
-comes_in number (Some c) m is = inr (omega arith, is ∙ given_first number)
+comes_in number (Some c) m is = inr (omega arith, is ∙ number_after_first number)
 
 -- ---- lists of which each value has a key and two values
 

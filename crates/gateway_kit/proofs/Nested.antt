@@ -8,7 +8,7 @@ use Rattle.std.specs.Ordering.{eq_by_cmp, is_eq, is_lt, ordering_then}
 use Rattle.std.specs.Cmp.{IsTotalOrder, Equal-is, tied_itself}
 use Rattle.std.specs.FinMap.{FinMap, entries, entries_sorted}
 use Rattle.std.specs.FinMap.Entries.{find, is_sorted, below_all}
-use Rattle.gateway_kit.specs.Parts.{flatten, entries_at}
+use Rattle.gateway_kit.specs.Incarnations.{flatten, entries_at}
 use Rattle.gateway_kit.proofs.Entries.{both, first, second, less, below_tied, find_below}
 
 pub is_eq-then : (r s : Ordering) → is_eq (ordering_then r s) ≡ cond (is_eq r) (is_eq s) false

@@ -9,10 +9,10 @@ use Rattle.std.specs.Cmp.{IsTotalOrder, Equal-is, eq_by_cmp_equiv}
 use Rattle.std.specs.FinMap.{IsAntisymmetric}
 use Rattle.std.specs.FinMap.Entries.{find, is_sorted, find-append}
 use Rattle.point_kit.specs.Join.{join_options}
-use Rattle.gateway_kit.specs.Amending.{amended}
+use Rattle.gateway_kit.specs.Amending.{with_changes}
 use Rattle.gateway_kit.specs.Bringing.{Brings, held_of, new_of}
 use Rattle.gateway_kit.specs.Weave.{weave}
-use Rattle.gateway_kit.proofs.Entries.{on_keys, find-amend, find-weave, is_sorted-amended, keys-amended, amended-push, as_T, as_true, itself}
+use Rattle.gateway_kit.proofs.Entries.{on_keys, find-with_change, find-weave, is_sorted-with_changes, keys-with_changes, with_changes-push, as_T, as_true, itself}
 
 module _ {V : Type 0} (join : V → V → V) where
   pub or_none : (a : Option V) → a ≡ option_or a None
@@ -70,7 +70,7 @@ module _ {K V C : Type 0} (R : K → K → Ordering) (join : V → V → V) (mad
 
     pub brings_kept : (v : V) → find R k es ≡ Some v → join v w ≡ v → Brings R join made es (came ++ (k, w) ∷ []) updates fresh
     brings_kept v there same = record {
-      held = everywhere (λ q t. find R q (amended made es updates) ≡ held_of join (find R q es) t)
+      held = everywhere (λ q t. find R q (with_changes made es updates) ≡ held_of join (find R q es) t)
           (so_far.held k ∙ ap (held_of join (find R k es)) first ∙ ap (λ a. held_of join a None) there ∙ ap Some (sym same) ∙ sym (ap (λ a. held_of join a (Some w)) there))
           (λ q t. so_far.held q);
       new = everywhere (λ q t. find R q fresh ≡ new_of join (find R q es) t)
@@ -81,13 +81,13 @@ module _ {K V C : Type 0} (R : K → K → Ordering) (join : V → V → V) (mad
 
     pub brings_changed : T (is_sorted R es) → (v : V) (place : ℕ) (change : C) → find R k es ≡ Some v → slice_get (map (λ e. e.0) es) place ≡ Some k → made v change ≡ join v w → Brings R join made es (came ++ (k, w) ∷ []) (updates ++ (place, change) ∷ []) fresh
     brings_changed sorted v place change there at is = record {
-      held = λ q. ap (find R q) (amended-push o made es updates place change)
-          ∙ find-amend o made q k (amended made es updates) place change (as_T (is_sorted-amended o made es updates ∙ as_true _ sorted)) (ap (λ l. slice_get l place) (keys-amended o made es updates) ∙ at)
-          ∙ everywhere (λ q t. cond (eq_by_cmp R q k) (option_map (λ x. made x change) (find R k (amended made es updates))) (find R q (amended made es updates)) ≡ held_of join (find R q es) t)
-          (ap (λ b. cond b (option_map (λ x. made x change) (find R k (amended made es updates))) (find R k (amended made es updates))) (itself o k)
+      held = λ q. ap (find R q) (with_changes-push o made es updates place change)
+          ∙ find-with_change o made q k (with_changes made es updates) place change (as_T (is_sorted-with_changes o made es updates ∙ as_true _ sorted)) (ap (λ l. slice_get l place) (keys-with_changes o made es updates) ∙ at)
+          ∙ everywhere (λ q t. cond (eq_by_cmp R q k) (option_map (λ x. made x change) (find R k (with_changes made es updates))) (find R q (with_changes made es updates)) ≡ held_of join (find R q es) t)
+          (ap (λ b. cond b (option_map (λ x. made x change) (find R k (with_changes made es updates))) (find R k (with_changes made es updates))) (itself o k)
           ∙ ap (option_map (λ x. made x change)) (so_far.held k ∙ ap (held_of join (find R k es)) first ∙ ap (λ a. held_of join a None) there)
           ∙ ap Some is ∙ sym (ap (λ a. held_of join a (Some w)) there))
-          (λ q t. ap (λ b. cond b (option_map (λ x. made x change) (find R k (amended made es updates))) (find R q (amended made es updates))) t ∙ so_far.held q)
+          (λ q t. ap (λ b. cond b (option_map (λ x. made x change) (find R k (with_changes made es updates))) (find R q (with_changes made es updates))) t ∙ so_far.held q)
           q;
       new = everywhere (λ q t. find R q fresh ≡ new_of join (find R q es) t)
           (so_far.new k ∙ ap (λ a. new_of join a (find R k came)) there ∙ sym (ap (λ a. new_of join a (Some w)) there))
@@ -97,7 +97,7 @@ module _ {K V C : Type 0} (R : K → K → Ordering) (join : V → V → V) (mad
 
     pub brings_fresh : find R k es ≡ None → Brings R join made es (came ++ (k, w) ∷ []) updates (fresh ++ (k, w) ∷ [])
     brings_fresh none = record {
-      held = everywhere (λ q t. find R q (amended made es updates) ≡ held_of join (find R q es) t)
+      held = everywhere (λ q t. find R q (with_changes made es updates) ≡ held_of join (find R q es) t)
           (so_far.held k ∙ ap (λ a. held_of join a (find R k came)) none ∙ sym (ap (λ a. held_of join a (Some w)) none))
           (λ q t. so_far.held q);
       new = λ q. find-append R o fresh k w q (so_far.new k ∙ ap (λ a. new_of join a (find R k came)) none ∙ first)
@@ -113,15 +113,15 @@ module _ {K V C : Type 0} (R : K → K → Ordering) (join : V → V → V) (mad
     fresh_first = so_far.new k ∙ ap (new_of join (find R k es)) first ∙ sym (new_none join (find R k es))
 
   -- woven together they are the join
-  pub brings_join : IsTotalOrder R → (es came : List (K × V)) (updates : List (ℕ × C)) (fresh sorted_fresh : List (K × V)) → T (is_sorted R es) → T (is_sorted R sorted_fresh) → ((q : K) → find R q sorted_fresh ≡ find R q fresh) → Brings R join made es came updates fresh → (q : K) → find R q (weave (on_keys R) (amended made es updates) sorted_fresh) ≡ join_options join (find R q es) (find R q came)
+  pub brings_join : IsTotalOrder R → (es came : List (K × V)) (updates : List (ℕ × C)) (fresh sorted_fresh : List (K × V)) → T (is_sorted R es) → T (is_sorted R sorted_fresh) → ((q : K) → find R q sorted_fresh ≡ find R q fresh) → Brings R join made es came updates fresh → (q : K) → find R q (weave (on_keys R) (with_changes made es updates) sorted_fresh) ≡ join_options join (find R q es) (find R q came)
   brings_join o es came updates fresh sorted_fresh sorted in_order same brings q =
-      find-weave o q (amended made es updates) sorted_fresh (as_T (is_sorted-amended o made es updates ∙ as_true _ sorted)) in_order
+      find-weave o q (with_changes made es updates) sorted_fresh (as_T (is_sorted-with_changes o made es updates ∙ as_true _ sorted)) in_order
       ∙ (λ i. option_or (brings.held q i) ((same q ∙ brings.new q) i))
       ∙ both_joined join (find R q es) (find R q came)
 
   -- and so are the updates alone where nothing is new
-  pub brings_held : (es came : List (K × V)) (updates : List (ℕ × C)) (fresh : List (K × V)) → ((q : K) → find R q fresh ≡ None) → Brings R join made es came updates fresh → (q : K) → find R q (amended made es updates) ≡ join_options join (find R q es) (find R q came)
+  pub brings_held : (es came : List (K × V)) (updates : List (ℕ × C)) (fresh : List (K × V)) → ((q : K) → find R q fresh ≡ None) → Brings R join made es came updates fresh → (q : K) → find R q (with_changes made es updates) ≡ join_options join (find R q es) (find R q came)
   brings_held es came updates fresh none brings q =
-      or_none join (find R q (amended made es updates))
+      or_none join (find R q (with_changes made es updates))
       ∙ (λ i. option_or (brings.held q i) ((sym (none q) ∙ brings.new q) i))
       ∙ both_joined join (find R q es) (find R q came)

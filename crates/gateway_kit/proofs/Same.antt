@@ -12,16 +12,16 @@ use Rattle.point_kit.specs.declared.cell.Cell.{Cell}
 use Rattle.point_kit.specs.declared.key.Key.{Key}
 use Rattle.point_kit.specs.declared.payload.Payload.{Payload}
 use Rattle.gateway_kit.specs.Changing.{Entry}
-use Rattle.gateway_kit.specs.Growth.{part_at}
-use Rattle.gateway_kit.specs.Keys.{PartKey, part_cmp, whole_key}
-use Rattle.gateway_kit.specs.Part.{Part, Cells}
-use Rattle.gateway_kit.specs.Parts.{IsWhole, listed, part_of, has_some, has_cells, entries_at}
-use Rattle.gateway_kit.specs.Queries.{is_part}
+use Rattle.gateway_kit.specs.Growth.{cells_at}
+use Rattle.gateway_kit.specs.Keys.{IncarnationKey, incarnation_cmp, whole_key}
+use Rattle.gateway_kit.specs.IncarnationState.{IncarnationState, Cells}
+use Rattle.gateway_kit.specs.Incarnations.{IsWhole, all_points, keyed_cells, has_some, has_cells, entries_at}
+use Rattle.gateway_kit.specs.Queries.{is_of_incarnation}
 use Rattle.gateway_kit.proofs.Entries.{as_T, map_map, not_None, same_Some}
 use Rattle.gateway_kit.proofs.Growing.{first_true, second_true}
 use Rattle.gateway_kit.proofs.Joining.{entries_points, under}
-use Rattle.gateway_kit.proofs.KeyOrders.{part_total, part_exact}
-use Rattle.gateway_kit.proofs.Queried.{listed_part}
+use Rattle.gateway_kit.specs.KeyOrders.{incarnation_total, incarnation_exact}
+use Rattle.gateway_kit.proofs.Queried.{listed_incarnation}
 
 map_itself : {A : Type 0} (xs : List A) → map (λ x. x) xs ≡ xs
 map_itself [] = refl
@@ -40,23 +40,23 @@ same_more f xs ys i x y h k is_x is_y so_far same =
 pub same_here : {A B : Type 0} (f : A → B) (xs ys : List A) (i : ℕ) (x y : A) → i < length xs → i < length ys → x ≡ get_or xs i x → y ≡ get_or ys i y → map f xs ≡ map f ys → f x ≡ f y
 same_here f xs ys i x y h k is_x is_y same = same_Some (sym (got_map f xs i x h is_x) ∙ ap (λ l. slice_get l i) same ∙ got_map f ys i y k is_y)
 
--- ---- parts
+-- ---- incarnations
 
 own_entry : Key × Cell Payload → Entry
 own_entry e = ((e.0.stream, e.0.attrs), e.1)
 
-entries_under : (a : PartKey) (es fs : List Entry) → under a es ≡ under a fs → es ≡ fs
+entries_under : (a : IncarnationKey) (es fs : List Entry) → under a es ≡ under a fs → es ≡ fs
 unfolding own_entry
 entries_under a es fs e =
     sym (map_itself es) ∙ sym (map_map own_entry (λ (t : Entry). (whole_key a t.0, t.1)) es)
     ∙ ap (map own_entry) e
     ∙ map_map own_entry (λ (t : Entry). (whole_key a t.0, t.1)) fs ∙ map_itself fs
 
--- where all parts have cells, one that is found has some
-pub found_filled : (a : PartKey) (ps : List Part) (m : Cells) → list_all has_cells ps ≡ true → find part_cmp a (map part_of ps) ≡ Some m → has_some (entries m) ≡ true
+-- where all incarnations have cells, one that is found has some
+pub found_filled : (a : IncarnationKey) (ps : List IncarnationState) (m : Cells) → list_all has_cells ps ≡ true → find incarnation_cmp a (map keyed_cells ps) ≡ Some m → has_some (entries m) ≡ true
 found_filled a [] m filled is = absurd (not_None is)
 found_filled a (p ∷ ps) m filled is =
-    elim (eq_by_cmp part_cmp a (p.writer, p.start)) as (λ b. cond b (Some p.cells) (find part_cmp a (map part_of ps)) ≡ Some m → has_some (entries m) ≡ true) [
+    elim (eq_by_cmp incarnation_cmp a (p.writer, p.start)) as (λ b. cond b (Some p.cells) (find incarnation_cmp a (map keyed_cells ps)) ≡ Some m → has_some (entries m) ≡ true) [
       | true ↦ λ e. ap (λ (cs : Cells). has_some (entries cs)) (sym (same_Some e)) ∙ first_true (has_cells p) (list_all has_cells ps) filled
       | false ↦ λ e. found_filled a ps m (second_true (has_cells p) (list_all has_cells ps) filled) e
     ] is
@@ -67,11 +67,11 @@ same_cells None (Some n) f g e = absurd (true≢false (sym (g n refl) ∙ ap has
 same_cells (Some m) None f g e = absurd (true≢false (sym (f m refl) ∙ ap has_some e))
 same_cells (Some m) (Some n) f g e = ap (λ cs. Some cs) (same_entries_map m n e)
 
--- equal points come of equal parts
-pub same_parts : (ps qs : List Part) (m n : _) → IsWhole ps m → IsWhole qs n → from_sorted {R = key_cmp} (listed ps) ≡ from_sorted (listed qs) → map part_of ps ≡ map part_of qs
-same_parts ps qs m n wp wq e =
-    let points : listed ps ≡ listed qs = sym (entries_points ps wp.sorted) ∙ ap entries e ∙ entries_points qs wq.sorted in
-    let at : (a : PartKey) → part_at a ps ≡ part_at a qs = λ a. entries_under a (part_at a ps) (part_at a qs)
-    (sym (listed_part a ps (as_T wp.sorted)) ∙ ap (filter (λ e. is_part a.0 a.1 e.0)) points ∙ listed_part a qs (as_T wq.sorted)) in
-    (same_entries part_cmp part_total part_exact (map part_of ps) (map part_of qs) (as_T wp.sorted) (as_T wq.sorted)
-    (λ a. same_cells (find part_cmp a (map part_of ps)) (find part_cmp a (map part_of qs)) (λ cs is. found_filled a ps cs wp.filled is) (λ cs is. found_filled a qs cs wq.filled is) (at a)))
+-- equal points come of equal incarnations
+pub same_incarnations : (ps qs : List IncarnationState) (m n : _) → IsWhole ps m → IsWhole qs n → from_sorted {R = key_cmp} (all_points ps) ≡ from_sorted (all_points qs) → map keyed_cells ps ≡ map keyed_cells qs
+same_incarnations ps qs m n wp wq e =
+    let points : all_points ps ≡ all_points qs = sym (entries_points ps wp.sorted) ∙ ap entries e ∙ entries_points qs wq.sorted in
+    let at : (a : IncarnationKey) → cells_at a ps ≡ cells_at a qs = λ a. entries_under a (cells_at a ps) (cells_at a qs)
+    (sym (listed_incarnation a ps (as_T wp.sorted)) ∙ ap (filter (λ e. is_of_incarnation a.0 a.1 e.0)) points ∙ listed_incarnation a qs (as_T wq.sorted)) in
+    (same_entries incarnation_cmp incarnation_total incarnation_exact (map keyed_cells ps) (map keyed_cells qs) (as_T wp.sorted) (as_T wq.sorted)
+    (λ a. same_cells (find incarnation_cmp a (map keyed_cells ps)) (find incarnation_cmp a (map keyed_cells qs)) (λ cs is. found_filled a ps cs wp.filled is) (λ cs is. found_filled a qs cs wq.filled is) (at a)))

@@ -7,16 +7,16 @@ use Rattle.point_kit.specs.declared.payload.Payload.{Payload}
 use Rattle.point_kit.specs.declared.writer_id.WriterId.{WriterId}
 use Rattle.gateway_kit.specs.Changing.{Entry}
 use Rattle.std.proofs.Common.{Option, Some, Bor}
-use Rattle.gateway_kit.specs.declared.part_item.PartItem.{PartItem}
+use Rattle.gateway_kit.specs.declared.item.Item.{Item}
 use Rattle.gateway_kit.specs.declared.points.Points.{Points}
-use Rattle.gateway_kit.specs.Keys.{PartKey, whole_key, entry_of}
-use Rattle.gateway_kit.specs.Part.{Part}
-use Rattle.gateway_kit.specs.Parts.{listed}
+use Rattle.gateway_kit.specs.Keys.{IncarnationKey, whole_key, entry_of}
+use Rattle.gateway_kit.specs.IncarnationState.{IncarnationState}
+use Rattle.gateway_kit.specs.Incarnations.{all_points}
 use Rattle.gateway_kit.specs.Walks.{items_left, is_asked, points_left}
 use Rattle.gateway_kit.proofs.Entries.{map_map}
 
--- all entries of a part are of its key
-pub filter_own : (asked : PartKey → Bool) (a : PartKey) (es : List Entry) (rest : List (Key × Cell Payload)) → filter (λ e. asked (e.0.writer, e.0.start)) (map (λ e. (whole_key a e.0, e.1)) es ++ rest) ≡ cond (asked a) (map (λ e. (whole_key a e.0, e.1)) es) [] ++ filter (λ e. asked (e.0.writer, e.0.start)) rest
+-- all entries of an incarnation are of its key
+pub filter_own : (asked : IncarnationKey → Bool) (a : IncarnationKey) (es : List Entry) (rest : List (Key × Cell Payload)) → filter (λ e. asked (e.0.writer, e.0.start)) (map (λ e. (whole_key a e.0, e.1)) es ++ rest) ≡ cond (asked a) (map (λ e. (whole_key a e.0, e.1)) es) [] ++ filter (λ e. asked (e.0.writer, e.0.start)) rest
 filter_own asked a [] rest = elim (asked a) as (λ b. filter (λ e. asked (e.0.writer, e.0.start)) rest ≡ cond b [] [] ++ filter (λ e. asked (e.0.writer, e.0.start)) rest) [ true ↦ refl | false ↦ refl ]
 filter_own asked a (e ∷ es) rest =
     elim (asked a) as (λ b. filter (λ f. asked (f.0.writer, f.0.start)) (map (λ f. (whole_key a f.0, f.1)) es ++ rest) ≡ cond b (map (λ f. (whole_key a f.0, f.1)) es) [] ++ filter (λ f. asked (f.0.writer, f.0.start)) rest → cond b ((whole_key a e.0, e.1) ∷ filter (λ f. asked (f.0.writer, f.0.start)) (map (λ f. (whole_key a f.0, f.1)) es ++ rest)) (filter (λ f. asked (f.0.writer, f.0.start)) (map (λ f. (whole_key a f.0, f.1)) es ++ rest)) ≡ cond b ((whole_key a e.0, e.1) ∷ map (λ f. (whole_key a f.0, f.1)) es) [] ++ filter (λ f. asked (f.0.writer, f.0.start)) rest) [
@@ -25,24 +25,24 @@ filter_own asked a (e ∷ es) rest =
     ] (filter_own asked a es rest)
 
 -- and so of its writer
-pub filter_part : (asked : WriterId → Bool) (a : PartKey) (es : List Entry) (rest : List (Key × Cell Payload)) → filter (λ e. asked e.0.writer) (map (λ e. (whole_key a e.0, e.1)) es ++ rest) ≡ cond (asked a.0) (map (λ e. (whole_key a e.0, e.1)) es) [] ++ filter (λ e. asked e.0.writer) rest
-filter_part asked a es rest = filter_own (λ b. asked b.0) a es rest
+pub filter_incarnation : (asked : WriterId → Bool) (a : IncarnationKey) (es : List Entry) (rest : List (Key × Cell Payload)) → filter (λ e. asked e.0.writer) (map (λ e. (whole_key a e.0, e.1)) es ++ rest) ≡ cond (asked a.0) (map (λ e. (whole_key a e.0, e.1)) es) [] ++ filter (λ e. asked e.0.writer) rest
+filter_incarnation asked a es rest = filter_own (λ b. asked b.0) a es rest
 
 pub filter_all : {A : Type 0} (xs : List A) → filter (λ x. true) xs ≡ xs
 filter_all [] = refl
 filter_all (x ∷ xs) = ap (λ l. x ∷ l) (filter_all xs)
 
 -- an incarnation is passed on to
-pub passed : (old : Points) (here : Option (Bor Part × Bor (List PartItem))) (first : Part) (others : Bor (List Part)) → items_left old.here ≡ [] → old.ahead.now ≡ first ∷ others.now → items_left here ≡ cond (is_asked old.service first.writer) (map (λ e. (whole_key (first.writer, first.start) e.0, e.1)) (entries first.cells)) [] → points_left old ≡ points_left (record { here = here; ahead = others; service = old.service })
+pub passed : (old : Points) (here : Option (Bor IncarnationState × Bor (List Item))) (first : IncarnationState) (others : Bor (List IncarnationState)) → items_left old.here ≡ [] → old.ahead.now ≡ first ∷ others.now → items_left here ≡ cond (is_asked old.service first.writer) (map (λ e. (whole_key (first.writer, first.start) e.0, e.1)) (entries first.cells)) [] → points_left old ≡ points_left (record { here = here; ahead = others; service = old.service })
 passed old here first others none ahead now =
-    (λ i. none i ++ filter (λ e. is_asked old.service e.0.writer) (listed (ahead i)))
-    ∙ filter_part (is_asked old.service) (first.writer, first.start) (entries first.cells) (listed others.now)
-    ∙ ap (λ l. l ++ filter (λ e. is_asked old.service e.0.writer) (listed others.now)) (sym now)
+    (λ i. none i ++ filter (λ e. is_asked old.service e.0.writer) (all_points (ahead i)))
+    ∙ filter_incarnation (is_asked old.service) (first.writer, first.start) (entries first.cells) (all_points others.now)
+    ∙ ap (λ l. l ++ filter (λ e. is_asked old.service e.0.writer) (all_points others.now)) (sym now)
 
 -- the items of an incarnation under their whole keys
-pub lent : (p : Part) (items : Bor (List PartItem)) (bor : Bor Part) → bor.now ≡ p → map entry_of items.now ≡ entries p.cells → items_left (Some (bor, items)) ≡ map (λ e. (whole_key (p.writer, p.start) e.0, e.1)) (entries p.cells)
+pub lent : (p : IncarnationState) (items : Bor (List Item)) (bor : Bor IncarnationState) → bor.now ≡ p → map entry_of items.now ≡ entries p.cells → items_left (Some (bor, items)) ≡ map (λ e. (whole_key (p.writer, p.start) e.0, e.1)) (entries p.cells)
 lent p items bor is es =
-    ap (λ (q : Part). map (λ i. (whole_key (q.writer, q.start) (entry_of i).0, i.cell)) items.now) is
+    ap (λ (q : IncarnationState). map (λ i. (whole_key (q.writer, q.start) (entry_of i).0, i.cell)) items.now) is
     ∙ sym (map_map (λ (e : Entry). (whole_key (p.writer, p.start) e.0, e.1)) entry_of items.now)
     ∙ ap (map (λ e. (whole_key (p.writer, p.start) e.0, e.1))) es
 

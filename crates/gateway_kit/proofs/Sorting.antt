@@ -1,5 +1,5 @@
 -- A list of distinct keys, sorted: its entries strictly rise, and what is found stays.
-use Rattle.std.proofs.Common.{◌≡◌, ℕ, zero, suc, ◌+◌, ◌<◌, Bool, true, false, not, ◌&&◌, cond, List, [], ◌∷◌, map, filter, length, get_or, Option, Some, None, refl, sym, ap, subst, ◌∙◌, arith, true≢false, IsPermutation}
+use Rattle.std.proofs.Common.{◌≡◌, ℕ, zero, suc, ◌+◌, ◌<◌, Bool, true, false, not, ◌&&◌, cond, List, [], ◌∷◌, map, filter, length, get_or, Option, Some, None, refl, sym, ap, subst, ◌∙◌, arith, true≢false, IsPermutation, ◌⊎◌, inl, inr}
 use Rattle.std.specs.Prelude.{T}
 use Rattle.std.specs.List.{IsDistinct, AllByRecursion, list_all}
 use Rattle.std.proofs.Common.{All}
@@ -7,7 +7,8 @@ use Rattle.std.specs.List.Sorted.{IsSortedBy, IsStableBy, ties}
 use Rattle.std.specs.declared.cmp.Ordering.{Ordering}
 use Rattle.std.specs.declared.cmp.Ordering.TheVariants.{Less, Equal, Greater}
 use Rattle.std.specs.Ordering.{eq_by_cmp, is_eq, is_lt, ordering_reverse}
-use Rattle.std.specs.Cmp.{IsTotalOrder, eq_by_cmp_equiv}
+use Rattle.std.specs.Cmp.{IsTotalOrder, Equal-is, eq_by_cmp_equiv}
+use Rattle.std.specs.FinMap.{IsAntisymmetric}
 use Rattle.std.specs.FinMap.Entries.{find, is_sorted, below_all}
 use Rattle.std.proofs.lemmas.List.Sorted.{IsPermutation-map, All-permutation, sorted_far, ranks_by}
 use Rattle.std.proofs.lemmas.Map.Keys.{IsDistinct-IsPermutation}
@@ -40,13 +41,32 @@ module _ {A K V : Type 0} {R : K → K → Ordering} (o : IsTotalOrder R) (f : A
   ties_alike : (x y : A) → ties lower x y ≡ eq_by_cmp R (f x).0 (f y).0
   ties_alike x y = ties_of (R (f x).0 (f y).0) (R (f y).0 (f x).0) (o.antisymm (f y).0 (f x).0)
 
-  pub same_found : (xs ys : List A) (x : A) → IsStableBy lower xs ys → find R (f x).0 (map f ys) ≡ find R (f x).0 (map f xs)
-  same_found xs ys x stable =
+  same_under : (xs ys : List A) (x : A) → IsStableBy lower xs ys → find R (f x).0 (map f ys) ≡ find R (f x).0 (map f xs)
+  same_under xs ys x stable =
       find_filtered (f x).0 ys
       ∙ ap (λ (p : A → Bool). value_first (filter p ys)) (λ i y. sym (ties_alike x y) i)
       ∙ ap value_first (stable x)
       ∙ ap (λ (p : A → Bool). value_first (filter p xs)) (λ i y. ties_alike x y i)
       ∙ sym (find_filtered (f x).0 xs)
+
+  module _ (exact : IsAntisymmetric R) where
+    -- the value of a list under a key, or there is none
+    under : (q : K) (xs : List A) → ((x : A) × ((f x).0 ≡ q)) ⊎ (find R q (map f xs) ≡ None)
+    under q [] = inr refl
+    under q (x ∷ xs) =
+        elim (eq_by_cmp R q (f x).0) as (λ b. eq_by_cmp R q (f x).0 ≡ b → ((y : A) × ((f y).0 ≡ q)) ⊎ (cond b (Some (f x).1) (find R q (map f xs)) ≡ None)) [
+          | true ↦ λ t. inl (x, sym (exact q (f x).0 ((Equal-is (R q (f x).0)).0 t)))
+          | false ↦ λ t. under q xs
+        ] refl
+
+    pub same_found : (q : K) (xs ys : List A) → IsStableBy lower xs ys → find R q (map f ys) ≡ find R q (map f xs)
+    same_found q xs ys stable = elim (under q xs) [
+      | inl x ↦ subst (λ k. find R k (map f ys) ≡ find R k (map f xs)) x.1 (same_under xs ys x.0 stable)
+      | inr none ↦ elim (under q ys) [
+        | inl y ↦ subst (λ k. find R k (map f ys) ≡ find R k (map f xs)) y.1 (same_under xs ys y.0 stable)
+        | inr gone ↦ gone ∙ sym none
+      ]
+    ]
 
   above : (x y : K) → is_lt (R y x) ≡ false → eq_by_cmp R x y ≡ false → T (is_lt (R x y))
   above x y not_below apart =

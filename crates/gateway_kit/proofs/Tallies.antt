@@ -1,4 +1,4 @@
--- How many conflicts there are, as items and parts change.
+-- How many conflicts there are, as items and incarnations change.
 use Rattle.std.proofs.Common.{◌≡◌, ℕ, zero, suc, ◌+◌, ◌-◌, ◌<◌, ◌≤◌, ◌^◌, true, cond, Result, Ok, Err, IfOk, List, [], ◌∷◌, ◌++◌, map, take, length, get_or, refl, sym, ap, subst, ◌∙◌, arith, count_by}
 use Rattle.std.specs.Prelude.{slice_set}
 use Rattle.std.specs.List.{insert, sum_by}
@@ -10,15 +10,15 @@ use Rattle.point_kit.specs.declared.cell.Cell.{Cell}
 use Rattle.point_kit.specs.declared.key.Key.{Key}
 use Rattle.point_kit.specs.declared.payload.Payload.{Payload}
 use Rattle.point_kit.specs.declared.writer_id.WriterId.{WriterId}
-use Rattle.gateway_kit.specs.Amending.{amend}
-use Rattle.gateway_kit.specs.Changing.{Entry, replaced}
+use Rattle.gateway_kit.specs.Amending.{with_change}
+use Rattle.gateway_kit.specs.Changing.{Entry, replacement}
 use Rattle.gateway_kit.specs.Keys.{entry_of, item_cmp, whole_key}
-use Rattle.gateway_kit.specs.Part.{Part}
-use Rattle.gateway_kit.specs.Parts.{IsWhole, listed}
+use Rattle.gateway_kit.specs.IncarnationState.{IncarnationState}
+use Rattle.gateway_kit.specs.Incarnations.{IsWhole, all_points}
 use Rattle.gateway_kit.specs.Queries.{has_conflict}
-use Rattle.gateway_kit.specs.Tallies.{Tells, conflict, rank, conflicts_in, conflicts_of, part_conflicts}
-use Rattle.gateway_kit.specs.declared.taking.Growth.{Growth}
-use Rattle.gateway_kit.specs.declared.part_item.PartItem.{PartItem}
+use Rattle.gateway_kit.specs.Tallies.{Tells, conflict, rank, conflicts_in, conflicts_of, incarnation_conflicts}
+use Rattle.gateway_kit.specs.declared.growth.Growth.{Growth}
+use Rattle.gateway_kit.specs.declared.item.Item.{Item}
 use Rattle.gateway_kit.proofs.Counting.{count_cons, count_map}
 use Rattle.gateway_kit.proofs.OneCell.{cells_of, shows}
 use Rattle.gateway_kit.proofs.Times.{below, written}
@@ -27,19 +27,19 @@ counted : (e : Entry) (es : List Entry) → conflicts_in (e ∷ es) ≡ conflict
 counted e es = count_cons (λ (d : Entry). has_conflict d.1) e es
 
 -- a later cell put at a place
-pub conflicts_put : (xs : List PartItem) (i : ℕ) (x : PartItem) (c : Cell Payload) → i < length xs → x ≡ get_or xs i x → rank x.cell < rank c → conflicts_in (amend replaced (map entry_of xs) i c) + conflict x.cell ≡ conflicts_in (map entry_of xs) + conflict c
+pub conflicts_put : (xs : List Item) (i : ℕ) (x : Item) (c : Cell Payload) → i < length xs → x ≡ get_or xs i x → rank x.cell < rank c → conflicts_in (with_change replacement (map entry_of xs) i c) + conflict x.cell ≡ conflicts_in (map entry_of xs) + conflict c
 conflicts_put [] i x c h is up = absurd (omega arith)
 conflicts_put (z ∷ xs) zero x c h is up =
-    let comes : replaced z.cell c ≡ c = ap (λ b. cond b c z.cell) (below (rank z.cell) (rank c) (subst (λ (y : PartItem). rank y.cell < rank c) is up)) in
-    let now : conflicts_in (((entry_of z).0, replaced z.cell c) ∷ map entry_of xs) ≡ conflict c + conflicts_in (map entry_of xs) = counted ((entry_of z).0, replaced z.cell c) (map entry_of xs) ∙ ap (λ (d : Cell Payload). conflict d + conflicts_in (map entry_of xs)) comes in
-    let was : conflicts_in (entry_of z ∷ map entry_of xs) ≡ conflict x.cell + conflicts_in (map entry_of xs) = counted (entry_of z) (map entry_of xs) ∙ ap (λ (y : PartItem). conflict y.cell + conflicts_in (map entry_of xs)) (sym is) in
+    let comes : replacement z.cell c ≡ c = ap (λ b. cond b c z.cell) (below (rank z.cell) (rank c) (subst (λ (y : Item). rank y.cell < rank c) is up)) in
+    let now : conflicts_in (((entry_of z).0, replacement z.cell c) ∷ map entry_of xs) ≡ conflict c + conflicts_in (map entry_of xs) = counted ((entry_of z).0, replacement z.cell c) (map entry_of xs) ∙ ap (λ (d : Cell Payload). conflict d + conflicts_in (map entry_of xs)) comes in
+    let was : conflicts_in (entry_of z ∷ map entry_of xs) ≡ conflict x.cell + conflicts_in (map entry_of xs) = counted (entry_of z) (map entry_of xs) ∙ ap (λ (y : Item). conflict y.cell + conflicts_in (map entry_of xs)) (sym is) in
     summed (conflict x.cell) (conflict c) (conflicts_in (map entry_of xs)) _ _ now was
   where
     summed : (a b n now was : ℕ) → now ≡ b + n → was ≡ a + n → now + a ≡ was + b
     summed a b n now was p q = omega arith
 conflicts_put (z ∷ xs) (suc i) x c h is up =
-    let rest : conflicts_in (amend replaced (map entry_of xs) i c) + conflict x.cell ≡ conflicts_in (map entry_of xs) + conflict c = conflicts_put xs i x c (omega arith) is up in
-    more (conflict z.cell) (conflict x.cell) (conflict c) _ _ _ _ (counted (entry_of z) (amend replaced (map entry_of xs) i c)) (counted (entry_of z) (map entry_of xs)) rest
+    let rest : conflicts_in (with_change replacement (map entry_of xs) i c) + conflict x.cell ≡ conflicts_in (map entry_of xs) + conflict c = conflicts_put xs i x c (omega arith) is up in
+    more (conflict z.cell) (conflict x.cell) (conflict c) _ _ _ _ (counted (entry_of z) (with_change replacement (map entry_of xs) i c)) (counted (entry_of z) (map entry_of xs)) rest
   where
     more : (z a b m n now was : ℕ) → now ≡ z + m → was ≡ z + n → m + a ≡ n + b → now + a ≡ was + b
     more z a b m n now was p q r = omega arith
@@ -48,14 +48,14 @@ pub conflicts_few : (es : List Entry) → conflicts_in es ≤ length es
 conflicts_few es = count_by-le-length (λ (d : Entry). has_conflict d.1) es
 
 -- a cell that is not earlier, in place of another: what is taken off is there
-module _ (xs : List PartItem) (i : ℕ) (x : PartItem) (c : Cell Payload) (within : i < length xs) (is : x ≡ get_or xs i x) (up : rank x.cell < rank c) (before now was : ℕ) (told : before ≡ conflicts_in (map entry_of xs)) (n : now ≡ conflict c) (w : was ≡ conflict x.cell) where
+module _ (xs : List Item) (i : ℕ) (x : Item) (c : Cell Payload) (within : i < length xs) (is : x ≡ get_or xs i x) (up : rank x.cell < rank c) (before now was : ℕ) (told : before ≡ conflicts_in (map entry_of xs)) (n : now ≡ conflict c) (w : was ≡ conflict x.cell) where
   pub put_under : was ≤ before + now
   put_under = let put = conflicts_put xs i x c within is up in omega (arith, put, told, n, w)
 
-  put_counts : before + now - was ≡ conflicts_in (amend replaced (map entry_of xs) i c)
+  put_counts : before + now - was ≡ conflicts_in (with_change replacement (map entry_of xs) i c)
   put_counts = let put = conflicts_put xs i x c within is up in omega (arith, put, told, n, w)
 
-pub written_conflicts : (xs : List PartItem) (i : ℕ) (x y : PartItem) (c : Cell Payload) (within : i < length xs) (is : x ≡ get_or xs i x) (lent : y ≡ get_or xs i y) (up : rank x.cell < rank c) (number before now was : ℕ) → before ≡ conflicts_in (map entry_of xs) → now ≡ conflict c → was ≡ conflict x.cell → before + now - was ≡ conflicts_in (map entry_of (slice_set xs i (record { stream = y.stream; attrs = y.attrs; cell = c; number = number; hint = y.hint })))
+pub written_conflicts : (xs : List Item) (i : ℕ) (x y : Item) (c : Cell Payload) (within : i < length xs) (is : x ≡ get_or xs i x) (lent : y ≡ get_or xs i y) (up : rank x.cell < rank c) (number before now was : ℕ) → before ≡ conflicts_in (map entry_of xs) → now ≡ conflict c → was ≡ conflict x.cell → before + now - was ≡ conflicts_in (map entry_of (slice_set xs i (record { stream = y.stream; attrs = y.attrs; cell = c; number = number; hint = y.hint })))
 written_conflicts xs i x y c within is lent up number before now was told n w = put_counts xs i x c within is up before now was told n w ∙ ap (λ (es : List Entry). conflicts_in es) (sym (written xs i x y c within is lent up number))
 
 -- one more entry
@@ -65,71 +65,71 @@ conflicts_more es e = sum_by-append (λ (d : Entry). conflict d.1) es (e ∷ [])
     alone : (n : ℕ) → 0 + n ≡ n
     alone n = omega arith
 
-pub conflicts_insert : (items : List PartItem) (item : PartItem) (place : ℕ) → conflicts_in (map entry_of (insert items place item)) ≡ conflicts_in (map entry_of items) + conflict item.cell
-conflicts_insert items item place = of_items (insert items place item) ∙ sum_by-insert (λ (i : PartItem). conflict i.cell) items place item ∙ ap (λ (n : ℕ). n + conflict item.cell) (sym (of_items items))
+pub conflicts_insert : (items : List Item) (item : Item) (place : ℕ) → conflicts_in (map entry_of (insert items place item)) ≡ conflicts_in (map entry_of items) + conflict item.cell
+conflicts_insert items item place = of_items (insert items place item) ∙ sum_by-insert (λ (i : Item). conflict i.cell) items place item ∙ ap (λ (n : ℕ). n + conflict item.cell) (sym (of_items items))
   where
-    of_items : (xs : List PartItem) → conflicts_in (map entry_of xs) ≡ sum_by (λ (i : PartItem). conflict i.cell) xs
-    of_items xs = count_map (λ (d : Entry). has_conflict d.1) (λ (i : PartItem). has_conflict i.cell) entry_of (λ i. refl) xs
+    of_items : (xs : List Item) → conflicts_in (map entry_of xs) ≡ sum_by (λ (i : Item). conflict i.cell) xs
+    of_items xs = count_map (λ (d : Entry). has_conflict d.1) (λ (i : Item). has_conflict i.cell) entry_of (λ i. refl) xs
 
--- the conflicts of all parts are those of all points
-abbrev points_of : Part → List (Key × Cell Payload)
+-- the conflicts of all incarnations are those of all points
+abbrev points_of : IncarnationState → List (Key × Cell Payload)
 points_of p = map (λ (t : Entry). (whole_key (p.writer, p.start) t.0, t.1)) (entries p.cells)
 
-pub conflicts_listed : (parts : List Part) → conflicts_of parts ≡ count_by (λ (e : Key × Cell Payload). has_conflict e.1) (listed parts)
+pub conflicts_listed : (incarnations : List IncarnationState) → conflicts_of incarnations ≡ count_by (λ (e : Key × Cell Payload). has_conflict e.1) (all_points incarnations)
 conflicts_listed [] = refl
-conflicts_listed (p ∷ parts) =
-    let own : count_by (λ (e : Key × Cell Payload). has_conflict e.1) (points_of p) ≡ part_conflicts p = count_map (λ (e : Key × Cell Payload). has_conflict e.1) (λ (d : Entry). has_conflict d.1) (λ (t : Entry). (whole_key (p.writer, p.start) t.0, t.1)) (λ t. refl) (entries p.cells) in
-    let both : count_by (λ (e : Key × Cell Payload). has_conflict e.1) (listed (p ∷ parts)) ≡ count_by (λ (e : Key × Cell Payload). has_conflict e.1) (points_of p) + count_by (λ (e : Key × Cell Payload). has_conflict e.1) (listed parts) = sum_by-append (λ (e : Key × Cell Payload). cond (has_conflict e.1) 1 0) (points_of p) (listed parts) in
-    let here : conflicts_of (p ∷ parts) ≡ part_conflicts p + conflicts_of parts = sum_by-cons part_conflicts p parts in
-    let rest = conflicts_listed parts in
+conflicts_listed (p ∷ incarnations) =
+    let own : count_by (λ (e : Key × Cell Payload). has_conflict e.1) (points_of p) ≡ incarnation_conflicts p = count_map (λ (e : Key × Cell Payload). has_conflict e.1) (λ (d : Entry). has_conflict d.1) (λ (t : Entry). (whole_key (p.writer, p.start) t.0, t.1)) (λ t. refl) (entries p.cells) in
+    let both : count_by (λ (e : Key × Cell Payload). has_conflict e.1) (all_points (p ∷ incarnations)) ≡ count_by (λ (e : Key × Cell Payload). has_conflict e.1) (points_of p) + count_by (λ (e : Key × Cell Payload). has_conflict e.1) (all_points incarnations) = sum_by-append (λ (e : Key × Cell Payload). cond (has_conflict e.1) 1 0) (points_of p) (all_points incarnations) in
+    let here : conflicts_of (p ∷ incarnations) ≡ incarnation_conflicts p + conflicts_of incarnations = sum_by-cons incarnation_conflicts p incarnations in
+    let rest = conflicts_listed incarnations in
     omega (arith, own, both, here, rest)
 
-pub conflicts_bounded : (parts : List Part) → conflicts_of parts ≤ length (listed parts)
-conflicts_bounded parts = let is = conflicts_listed parts in let few = count_by-le-length (λ (e : Key × Cell Payload). has_conflict e.1) (listed parts) in omega (arith, is, few)
+pub conflicts_bounded : (incarnations : List IncarnationState) → conflicts_of incarnations ≤ length (all_points incarnations)
+conflicts_bounded incarnations = let is = conflicts_listed incarnations in let few = count_by-le-length (λ (e : Key × Cell Payload). has_conflict e.1) (all_points incarnations) in omega (arith, is, few)
 
--- one more part
-pub parts_more : (parts : List Part) (i : ℕ) (p : Part) → i < length parts → p ≡ get_or parts i p → conflicts_of (take (i + 1) parts) ≡ conflicts_of (take i parts) + part_conflicts p
-parts_more parts i p within is =
-    ap (λ (ps : List Part). conflicts_of ps) (take_more parts i p within ∙ ap (λ (q : Part). take i parts ++ q ∷ []) (sym is))
-    ∙ sum_by-append part_conflicts (take i parts) (p ∷ []) ∙ ap (λ (n : ℕ). conflicts_of (take i parts) + n) (alone (part_conflicts p))
+-- one more incarnation
+pub incarnations_more : (incarnations : List IncarnationState) (i : ℕ) (p : IncarnationState) → i < length incarnations → p ≡ get_or incarnations i p → conflicts_of (take (i + 1) incarnations) ≡ conflicts_of (take i incarnations) + incarnation_conflicts p
+incarnations_more incarnations i p within is =
+    ap (λ (ps : List IncarnationState). conflicts_of ps) (take_more incarnations i p within ∙ ap (λ (q : IncarnationState). take i incarnations ++ q ∷ []) (sym is))
+    ∙ sum_by-append incarnation_conflicts (take i incarnations) (p ∷ []) ∙ ap (λ (n : ℕ). conflicts_of (take i incarnations) + n) (alone (incarnation_conflicts p))
   where
     alone : (n : ℕ) → 0 + n ≡ n
     alone n = omega arith
 
--- one part in place of another
-pub tells_set : (olds : List Part) (place : ℕ) (part new : Part) (before after : ℕ) → place < length olds → part ≡ get_or olds place part → before ≡ part_conflicts part → after ≡ part_conflicts new → Tells olds (slice_set olds place new) before after
-tells_set olds place part new before after within is b a =
-    let all : conflicts_of (slice_set olds place new) + part_conflicts part ≡ conflicts_of olds + part_conflicts new = ap (λ (p : Part). conflicts_of (slice_set olds place new) + part_conflicts p) is ∙ sum_by-set part_conflicts olds place new part within in
-    record { all = omega (arith, all, b, a); among = ap_le (at_most olds place part within is) }
+-- one incarnation in place of another
+pub tells_set : (olds : List IncarnationState) (place : ℕ) (incarnation new : IncarnationState) (before after : ℕ) → place < length olds → incarnation ≡ get_or olds place incarnation → before ≡ incarnation_conflicts incarnation → after ≡ incarnation_conflicts new → Tells olds (slice_set olds place new) before after
+tells_set olds place incarnation new before after within is b a =
+    let all : conflicts_of (slice_set olds place new) + incarnation_conflicts incarnation ≡ conflicts_of olds + incarnation_conflicts new = ap (λ (p : IncarnationState). conflicts_of (slice_set olds place new) + incarnation_conflicts p) is ∙ sum_by-set incarnation_conflicts olds place new incarnation within in
+    record { all = omega (arith, all, b, a); among = ap_le (at_most olds place incarnation within is) }
   where
-    at_most : (ps : List Part) (i : ℕ) (p : Part) → i < length ps → p ≡ get_or ps i p → part_conflicts p ≤ conflicts_of ps
+    at_most : (ps : List IncarnationState) (i : ℕ) (p : IncarnationState) → i < length ps → p ≡ get_or ps i p → incarnation_conflicts p ≤ conflicts_of ps
     at_most [] i p h e = absurd (omega arith)
     at_most (q ∷ ps) zero p h e =
-        let here : part_conflicts p ≡ part_conflicts q = ap part_conflicts e in
-        let c = sum_by-cons part_conflicts q ps in
+        let here : incarnation_conflicts p ≡ incarnation_conflicts q = ap incarnation_conflicts e in
+        let c = sum_by-cons incarnation_conflicts q ps in
         omega (arith, here, c)
     at_most (q ∷ ps) (suc i) p h e =
         let rest = at_most ps i p (omega arith) e in
-        let c = sum_by-cons part_conflicts q ps in
+        let c = sum_by-cons incarnation_conflicts q ps in
         omega (arith, rest, c)
 
-    ap_le : part_conflicts part ≤ conflicts_of olds → before ≤ conflicts_of olds
+    ap_le : incarnation_conflicts incarnation ≤ conflicts_of olds → before ≤ conflicts_of olds
     ap_le h = omega (arith, h, b)
 
--- one part more
-pub tells_insert : (olds : List Part) (place : ℕ) (new : Part) (after : ℕ) → after ≡ part_conflicts new → Tells olds (insert olds place new) 0 after
+-- one incarnation more
+pub tells_insert : (olds : List IncarnationState) (place : ℕ) (new : IncarnationState) (after : ℕ) → after ≡ incarnation_conflicts new → Tells olds (insert olds place new) 0 after
 tells_insert olds place new after a = record {
-  all = let s = sum_by-insert part_conflicts olds place new in omega (arith, s, a);
+  all = let s = sum_by-insert incarnation_conflicts olds place new in omega (arith, s, a);
   among = omega arith;
 }
 
--- a part into which a cell was joined
-pub held_tells : {E : Type 0} (olds : List Part) (place : ℕ) (part new : Part) → place < length olds → part ≡ get_or olds place part → (r : Result Growth E) → IfOk r (λ g. g.before ≡ part_conflicts part) → IfOk r (λ g. g.after ≡ part_conflicts new) → IfOk r (λ g. Tells olds (slice_set olds place new) g.before g.after)
-held_tells olds place part new within is (Err e) b a = tt
-held_tells olds place part new within is (Ok g) b a = tells_set olds place part new g.before g.after within is b a
+-- an incarnation into which a cell was joined
+pub held_tells : {E : Type 0} (olds : List IncarnationState) (place : ℕ) (incarnation new : IncarnationState) → place < length olds → incarnation ≡ get_or olds place incarnation → (r : Result Growth E) → IfOk r (λ g. g.before ≡ incarnation_conflicts incarnation) → IfOk r (λ g. g.after ≡ incarnation_conflicts new) → IfOk r (λ g. Tells olds (slice_set olds place new) g.before g.after)
+held_tells olds place incarnation new within is (Err e) b a = tt
+held_tells olds place incarnation new within is (Ok g) b a = tells_set olds place incarnation new g.before g.after within is b a
 
 -- the total after a change
-module _ (olds news : List Part) (before after total : ℕ) (was : total ≡ conflicts_of olds) (tells : Tells olds news before after) where
+module _ (olds news : List IncarnationState) (before after total : ℕ) (was : total ≡ conflicts_of olds) (tells : Tells olds news before after) where
   pub told_under : before ≤ total
   told_under = let h = tells.among in omega (arith, was, h)
 
@@ -144,13 +144,13 @@ module _ (olds news : List Part) (before after total : ℕ) (was : total ≡ con
       let is = told_total in
       omega (arith, few, long, short, is)
 
--- the conflicts of a part as its items show them
-pub shown : (p : Part) (writer : WriterId) (start : ℕ) (items : List PartItem) (n : ℕ) → is_sorted item_cmp (map entry_of items) ≡ true → shows writer start items ≡ p → n ≡ conflicts_in (map entry_of items) → n ≡ part_conflicts p
+-- the conflicts of an incarnation as its items show them
+pub shown : (p : IncarnationState) (writer : WriterId) (start : ℕ) (items : List Item) (n : ℕ) → is_sorted item_cmp (map entry_of items) ≡ true → shows writer start items ≡ p → n ≡ conflicts_in (map entry_of items) → n ≡ incarnation_conflicts p
 shown p writer start items n sorted is told = told ∙ ap (λ (es : List Entry). conflicts_in es) (sym (cells_of p writer start items sorted is))
 
-pub whole_few : (parts : List Part) (len : ℕ) → IsWhole parts len → conflicts_of parts ≤ 2 ^ 62
-whole_few parts len whole =
-    let few = conflicts_bounded parts in
+pub whole_few : (incarnations : List IncarnationState) (len : ℕ) → IsWhole incarnations len → conflicts_of incarnations ≤ 2 ^ 62
+whole_few incarnations len whole =
+    let few = conflicts_bounded incarnations in
     let long = whole.counted in
     let short = whole.bounded in
     omega (arith, few, long, short)

@@ -8,15 +8,15 @@ use Rattle.point_kit.specs.declared.cell.Held.{Held}
 use Rattle.point_kit.specs.declared.cell.Held.TheVariants.{One, Conflict}
 use Rattle.point_kit.specs.declared.cell.Cell.{Cell}
 use Rattle.point_kit.specs.declared.payload.Payload.{Payload}
-use Rattle.gateway_kit.specs.Amending.{amend}
-use Rattle.gateway_kit.specs.Changing.{replaced}
+use Rattle.gateway_kit.specs.Amending.{with_change}
+use Rattle.gateway_kit.specs.Changing.{replacement}
 use Rattle.gateway_kit.specs.Keys.{entry_of}
-use Rattle.gateway_kit.specs.Parts.{has_some}
+use Rattle.gateway_kit.specs.Incarnations.{has_some}
 use Rattle.gateway_kit.specs.Queries.{has_conflict}
 use Rattle.gateway_kit.specs.Tallies.{conflict, rank}
 use Rattle.gateway_kit.specs.Times.{greatest, latest}
-use Rattle.gateway_kit.specs.declared.part_item.PartItem.{PartItem}
-use Rattle.gateway_kit.proofs.Moved.{set_amend, same_at}
+use Rattle.gateway_kit.specs.declared.item.Item.{Item}
+use Rattle.gateway_kit.proofs.Moved.{set_with_change, same_at}
 
 turned : (a b : ℕ) → nat_lt a b ≡ true → nat_lt b a ≡ false
 turned a b h = grind (arith, nat_tests)
@@ -56,18 +56,18 @@ same_or true x = refl
 same_or false x = refl
 
 -- what comes of a join comes in the place of the cell
-pub joined_stays : (v w : Cell Payload) → replaced v (join_cells payload_eq v w) ≡ join_cells payload_eq v w
+pub joined_stays : (v w : Cell Payload) → replacement v (join_cells payload_eq v w) ≡ join_cells payload_eq v w
 joined_stays v w =
-    elim (nat_lt v.time w.time) as (λ b. nat_lt v.time w.time ≡ b → replaced v (cond b w (cond (nat_lt w.time v.time) v (record { time = v.time; held = join_held payload_eq v.held w.held }))) ≡ cond b w (cond (nat_lt w.time v.time) v (record { time = v.time; held = join_held payload_eq v.held w.held }))) [
+    elim (nat_lt v.time w.time) as (λ b. nat_lt v.time w.time ≡ b → replacement v (cond b w (cond (nat_lt w.time v.time) v (record { time = v.time; held = join_held payload_eq v.held w.held }))) ≡ cond b w (cond (nat_lt w.time v.time) v (record { time = v.time; held = join_held payload_eq v.held w.held }))) [
       | true ↦ λ t. ap (λ b. cond b w v) (later v w t)
-      | false ↦ λ _. elim (nat_lt w.time v.time) as (λ b. replaced v (cond b v (record { time = v.time; held = join_held payload_eq v.held w.held })) ≡ cond b v (record { time = v.time; held = join_held payload_eq v.held w.held })) [
+      | false ↦ λ _. elim (nat_lt w.time v.time) as (λ b. replacement v (cond b v (record { time = v.time; held = join_held payload_eq v.held w.held })) ≡ cond b v (record { time = v.time; held = join_held payload_eq v.held w.held })) [
         | true ↦ same_or (nat_lt (rank v) (rank v)) v
         | false ↦ tied v.time v.held w.held
       ]
     ] refl
   where
-    tied : (t : ℕ) (h k : Held Payload) → replaced (record { time = t; held = h }) (record { time = t; held = join_held payload_eq h k }) ≡ record { time = t; held = join_held payload_eq h k }
-    tied t (One p) (One q) = elim (payload_eq p q) as (λ b. replaced (record { time = t; held = One p }) (record { time = t; held = cond b (One p) Conflict }) ≡ record { time = t; held = cond b (One p) Conflict }) [
+    tied : (t : ℕ) (h k : Held Payload) → replacement (record { time = t; held = h }) (record { time = t; held = join_held payload_eq h k }) ≡ record { time = t; held = join_held payload_eq h k }
+    tied t (One p) (One q) = elim (payload_eq p q) as (λ b. replacement (record { time = t; held = One p }) (record { time = t; held = cond b (One p) Conflict }) ≡ record { time = t; held = cond b (One p) Conflict }) [
       | true ↦ same_or (nat_lt (t + t + 0) (t + t + 0)) (record { time = t; held = One p })
       | false ↦ ap (λ b. cond b (record { time = t; held = Conflict }) (record { time = t; held = One p })) (below (t + t + 0) (t + t + 1) (omega arith))
     ]
@@ -75,14 +75,14 @@ joined_stays v w =
     tied t Conflict k = same_or (nat_lt (t + t + 1) (t + t + 1)) (record { time = t; held = Conflict })
 
 -- a later cell put at a place
-pub latest_put : (xs : List PartItem) (i : ℕ) (x : PartItem) (c : Cell Payload) → i < length xs → x ≡ get_or xs i x → rank x.cell < rank c → latest (amend replaced (map entry_of xs) i c) ≡ max (latest (map entry_of xs)) c.time
+pub latest_put : (xs : List Item) (i : ℕ) (x : Item) (c : Cell Payload) → i < length xs → x ≡ get_or xs i x → rank x.cell < rank c → latest (with_change replacement (map entry_of xs) i c) ≡ max (latest (map entry_of xs)) c.time
 latest_put [] i x c h is up = absurd (omega arith)
 latest_put (z ∷ xs) zero x c h is up =
-    let up : rank z.cell < rank c = subst (λ (y : PartItem). rank y.cell < rank c) is up in
+    let up : rank z.cell < rank c = subst (λ (y : Item). rank y.cell < rank c) is up in
     let late = further_time z.cell c up in
     ap (λ b. max (cond b c z.cell).time (latest (map entry_of xs))) (below (rank z.cell) (rank c) up) ∙ omega (arith, late)
 latest_put (z ∷ xs) (suc i) x c h is up =
-    let rest : latest (amend replaced (map entry_of xs) i c) ≡ max (latest (map entry_of xs)) c.time = latest_put xs i x c (omega arith) is up in
+    let rest : latest (with_change replacement (map entry_of xs) i c) ≡ max (latest (map entry_of xs)) c.time = latest_put xs i x c (omega arith) is up in
     ap (max z.cell.time) rest ∙ omega arith
 
 -- one more entry
@@ -98,13 +98,13 @@ some_latest [] h = cc
 some_latest (e ∷ es) h = refl
 
 -- a cell that is not earlier, written at a place
-module _ (xs : List PartItem) (i : ℕ) (x y : PartItem) (c : Cell Payload) (within : i < length xs) (read : x ≡ get_or xs i x) (lent : y ≡ get_or xs i y) (up : rank x.cell < rank c) (number : ℕ) where
-  pub written : map entry_of (slice_set xs i (record { stream = y.stream; attrs = y.attrs; cell = c; number = number; hint = y.hint })) ≡ amend replaced (map entry_of xs) i c
+module _ (xs : List Item) (i : ℕ) (x y : Item) (c : Cell Payload) (within : i < length xs) (read : x ≡ get_or xs i x) (lent : y ≡ get_or xs i y) (up : rank x.cell < rank c) (number : ℕ) where
+  pub written : map entry_of (slice_set xs i (record { stream = y.stream; attrs = y.attrs; cell = c; number = number; hint = y.hint })) ≡ with_change replacement (map entry_of xs) i c
   written =
       let held : x ≡ y = same_at xs i x y within read lent in
-      let above : rank y.cell < rank c = subst (λ (z : PartItem). rank z.cell < rank c) held up in
-      let comes : c ≡ replaced y.cell c = ap (λ b. cond b c y.cell) (sym (below (rank y.cell) (rank c) above)) in
-      set_amend entry_of replaced xs i y (record { stream = y.stream; attrs = y.attrs; cell = c; number = number; hint = y.hint }) c within lent (λ j. ((y.stream, y.attrs), comes j))
+      let above : rank y.cell < rank c = subst (λ (z : Item). rank z.cell < rank c) held up in
+      let comes : c ≡ replacement y.cell c = ap (λ b. cond b c y.cell) (sym (below (rank y.cell) (rank c) above)) in
+      set_with_change entry_of replacement xs i y (record { stream = y.stream; attrs = y.attrs; cell = c; number = number; hint = y.hint }) c within lent (λ j. ((y.stream, y.attrs), comes j))
 
   pub written_latest : (before after : ℕ) → after ≡ max before c.time → before ≡ latest (map entry_of xs) → after ≡ latest (map entry_of (slice_set xs i (record { stream = y.stream; attrs = y.attrs; cell = c; number = number; hint = y.hint })))
   written_latest before after is was = is ∙ ap (λ (n : ℕ). max n c.time) was ∙ sym (latest_put xs i x c within read up) ∙ ap latest (sym written)

@@ -6,7 +6,7 @@ use Rattle.std.specs.declared.cmp.Ordering.{Ordering}
 use Rattle.std.specs.FinMap.Entries.{find}
 use Rattle.std.specs.Ordering.{eq_by_cmp}
 use Rattle.point_kit.specs.Join.{join_options}
-use Rattle.gateway_kit.specs.Amending.{amended}
+use Rattle.gateway_kit.specs.Amending.{with_changes}
 
 module _ {V : Type 0} (join : V → V → V) where
   -- where there is a value: it, with what comes in
@@ -31,6 +31,6 @@ is_change R join eq es e = not (option_eq eq (find R e.0 es) (join_options join 
 module _ {K V C : Type 0} (R : K → K → Ordering) (join : V → V → V) (made : V → C → V) where
   -- the updates and the new entries bring in what came
   pub record Brings (es came : List (K × V)) (updates : List (ℕ × C)) (fresh : List (K × V)) : Type 0 where
-    pub held : (q : K) → find R q (amended made es updates) ≡ held_of join (find R q es) (find R q came)
+    pub held : (q : K) → find R q (with_changes made es updates) ≡ held_of join (find R q es) (find R q came)
     pub new : (q : K) → find R q fresh ≡ new_of join (find R q es) (find R q came)
     pub apart : IsDistinct (eq_by_cmp R) (map (λ e. e.0) fresh)

@@ -11,7 +11,7 @@ use Rattle.point_kit.specs.declared.export.Export.{Export}
 use Rattle.point_kit.specs.declared.payload.Payload.{Payload}
 use Rattle.point_kit.specs.Join.{join_cells}
 use Rattle.point_kit.specs.Equality.{payload_eq}
-use Rattle.gateway_kit.specs.Amending.{amended}
+use Rattle.gateway_kit.specs.Amending.{with_changes}
 use Rattle.gateway_kit.specs.Bringing.{Brings, is_new, is_change}
 use Rattle.gateway_kit.specs.Keys.{ItemKey, item_cmp, entry_of}
 use Rattle.point_kit.specs.Equality.{cell_eq}
@@ -19,7 +19,7 @@ use Rattle.gateway_kit.specs.Tallies.{rank}
 use Rattle.gateway_kit.specs.Weave.{weave}
 use Rattle.gateway_kit.specs.declared.changes.Changes.{Changes}
 use Rattle.gateway_kit.specs.declared.draft.Draft.{Draft}
-use Rattle.gateway_kit.specs.declared.part_item.PartItem.{PartItem}
+use Rattle.gateway_kit.specs.declared.item.Item.{Item}
 
 abbrev pub Entry : Type 0
 Entry = ItemKey × Cell Payload
@@ -39,43 +39,43 @@ abbrev pub entries_of : Export → List Entry
 entries_of e = map (λ p. ((p.stream, p.attrs), record { time = e.time; held = One p.payload })) e.points
 
 -- an update comes in place of another cell, where that is below it
-abbrev pub replaced : Cell Payload → Cell Payload → Cell Payload
-replaced old new = cond (nat_lt (rank old) (rank new)) new old
+abbrev pub replacement : Cell Payload → Cell Payload → Cell Payload
+replacement old new = cond (nat_lt (rank old) (rank new)) new old
 
 -- the entries with their cells updated, and the new ones woven in where there is room for them
-abbrev pub grown : List Entry → Changes → List Entry
-grown es c =
+abbrev pub after_growth : List Entry → Changes → List Entry
+after_growth es c =
     cond (nat_le (length es + length c.fresh.items) (vec_capacity c.room))
-    (weave (λ x y. item_cmp x.0 y.0) (amended replaced es c.updates.items) (map entry_of c.fresh.items))
-    (amended replaced es c.updates.items)
+    (weave (λ x y. item_cmp x.0 y.0) (with_changes replacement es c.updates.items) (map entry_of c.fresh.items))
+    (with_changes replacement es c.updates.items)
 
 -- items with new ones woven in, where there is room for so many
-abbrev pub woven_items : List PartItem → List PartItem → ℕ → List Entry
+abbrev pub woven_items : List Item → List Item → ℕ → List Entry
 woven_items items fresh room =
     cond (nat_le (length items + length fresh) room)
     (weave (λ x y. item_cmp x.0 y.0) (map entry_of items) (map entry_of fresh))
     (map entry_of items)
 
 -- what came in so far, as updates and new items
-pub record Drafts (es came : List Entry) (updates : List (ℕ × Cell Payload)) (fresh : List PartItem) : Type 0 where
-  pub brings : Brings item_cmp (join_cells payload_eq) replaced es came updates (map entry_of fresh)
+pub record Drafts (es came : List Entry) (updates : List (ℕ × Cell Payload)) (fresh : List Item) : Type 0 where
+  pub brings : Brings item_cmp (join_cells payload_eq) replacement es came updates (map entry_of fresh)
   pub changed : count_by (is_change item_cmp (join_cells payload_eq) cell_eq es) came ≡ length updates + length fresh
   pub new : count_by (is_new item_cmp es) came ≡ length fresh
 
 -- the changes that bring in what came
 pub record Prepares (es came : List Entry) (c : Changes) : Type 0 where
-  pub joined : (q : ItemKey) → find item_cmp q (grown es c) ≡ join_options (join_cells payload_eq) (find item_cmp q es) (find item_cmp q came)
+  pub joined : (q : ItemKey) → find item_cmp q (after_growth es c) ≡ join_options (join_cells payload_eq) (find item_cmp q es) (find item_cmp q came)
   pub changed : count_by (is_change item_cmp (join_cells payload_eq) cell_eq es) came ≡ length c.updates.items + length c.fresh.items
   pub new : count_by (is_new item_cmp es) came ≡ length c.fresh.items
 
 -- a draft brings in what came before and then what is told of one key more
-abbrev pub TakesIn : List PartItem → ItemKey → ℕ → Option Payload → Draft → Draft → Type 0
+abbrev pub TakesIn : List Item → ItemKey → ℕ → Option Payload → Draft → Draft → Type 0
 TakesIn items key time payload old new =
     (came : List Entry) → find item_cmp key came ≡ None → Drafts (map entry_of items) came old.updates.items old.fresh.items
     → Drafts (map entry_of items) (came ++ (key, record { time = time; held = held_as payload }) ∷ []) new.updates.items new.fresh.items
 
 -- the changes bring in what a draft does
-abbrev pub Finishes : List PartItem → Draft → Changes → Type 0
+abbrev pub Finishes : List Item → Draft → Changes → Type 0
 Finishes items draft c =
     (came : List Entry) → IsTrue (is_sorted item_cmp (map entry_of items))
     → Drafts (map entry_of items) came draft.updates.items draft.fresh.items → Prepares (map entry_of items) came c

@@ -11,32 +11,32 @@ use Rattle.point_kit.specs.declared.key.Key.{Key}
 use Rattle.point_kit.specs.declared.payload.Payload.{Payload}
 use Rattle.point_kit.specs.declared.stream.Stream.{Stream}
 use Rattle.point_kit.specs.declared.writer_id.WriterId.{WriterId}
-use Rattle.gateway_kit.specs.declared.part_item.PartItem.{PartItem}
+use Rattle.gateway_kit.specs.declared.item.Item.{Item}
 
 -- an incarnation of a writer: who it is, and since when it runs
-abbrev pub PartKey : Type 0
-PartKey = WriterId × ℕ
+abbrev pub IncarnationKey : Type 0
+IncarnationKey = WriterId × ℕ
 
 -- what a point of an incarnation is of: a stream, and attributes
 abbrev pub ItemKey : Type 0
 ItemKey = Stream × List (List ℕ × AttrValue)
 
 -- by writer, then by start
-abbrev pub part_cmp : PartKey → PartKey → Ordering
-part_cmp a b = ordering_then ((writers.ghosts).cmp a.0 b.0) (nat_cmp a.1 b.1)
+abbrev pub incarnation_cmp : IncarnationKey → IncarnationKey → Ordering
+incarnation_cmp a b = ordering_then ((writers.ghosts).cmp a.0 b.0) (nat_cmp a.1 b.1)
 
 -- by stream, then by attributes
 abbrev pub item_cmp : ItemKey → ItemKey → Ordering
 item_cmp a b = ordering_then ((streams.ghosts).cmp a.0 b.0) ((sets.ghosts).cmp a.1 b.1)
 
 -- the whole key
-abbrev pub whole_key : PartKey → ItemKey → Key
+abbrev pub whole_key : IncarnationKey → ItemKey → Key
 whole_key a b = record { writer = a.0; start = a.1; stream = b.0; attrs = b.1 }
 
 -- an item's key within its incarnation, with its number
-abbrev pub numbered : PartItem → ItemKey × ℕ
-numbered item = ((item.stream, item.attrs), item.number)
+abbrev pub key_and_number : Item → ItemKey × ℕ
+key_and_number item = ((item.stream, item.attrs), item.number)
 
 -- and with its cell
-abbrev pub entry_of : PartItem → ItemKey × Cell Payload
+abbrev pub entry_of : Item → ItemKey × Cell Payload
 entry_of item = ((item.stream, item.attrs), item.cell)

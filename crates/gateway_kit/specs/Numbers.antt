@@ -6,12 +6,12 @@ use Rattle.std.specs.Option.{unwrap_or}
 use Rattle.std.specs.declared.cmp.Ordering.{Ordering}
 use Rattle.point_kit.specs.declared.cell.Cell.{Cell}
 use Rattle.point_kit.specs.declared.payload.Payload.{Payload}
-use Rattle.gateway_kit.specs.Growth.{part_at}
-use Rattle.gateway_kit.specs.Keys.{PartKey, ItemKey, part_cmp, item_cmp, entry_of, numbered}
-use Rattle.gateway_kit.specs.Part.{Part}
-use Rattle.gateway_kit.specs.Parts.{entries_at, numbers_of}
+use Rattle.gateway_kit.specs.Growth.{cells_at}
+use Rattle.gateway_kit.specs.Keys.{IncarnationKey, ItemKey, incarnation_cmp, item_cmp, entry_of, key_and_number}
+use Rattle.gateway_kit.specs.IncarnationState.{IncarnationState}
+use Rattle.gateway_kit.specs.Incarnations.{entries_at, keyed_numbers}
 use Rattle.gateway_kit.specs.Tallies.{rank}
-use Rattle.gateway_kit.specs.declared.part_item.PartItem.{PartItem}
+use Rattle.gateway_kit.specs.declared.item.Item.{Item}
 
 -- how far a cell has come, none the least
 abbrev pub rank_of : Option (Cell Payload) → ℕ
@@ -19,8 +19,8 @@ rank_of None = 0
 rank_of (Some c) = suc (rank c)
 
 -- what a key is numbered after a change of a number: of 0 it keeps its own
-abbrev pub given : ℕ → ℕ → ℕ
-given number n = cond (nat_lt 0 number) number n
+abbrev pub number_after : ℕ → ℕ → ℕ
+number_after number n = cond (nat_lt 0 number) number n
 
 -- the number of a key, 0 where it has none
 abbrev pub number_in : {K : Type 0} → (K → K → Ordering) → List (K × ℕ) → K → ℕ
@@ -28,26 +28,26 @@ number_in R ns q = unwrap_or (find R q ns) 0
 
 -- a key keeps its cell and its number, or its cell goes further and it gets the number of the change
 abbrev pub Moves : ℕ → Option (Cell Payload) → Option (Cell Payload) → ℕ → ℕ → Type 0
-Moves number a b n m = ((b ≡ a) × (m ≡ n)) ⊎ ((rank_of a < rank_of b) × (m ≡ given number n))
+Moves number a b n m = ((b ≡ a) × (m ≡ n)) ⊎ ((rank_of a < rank_of b) × (m ≡ number_after number n))
 
 -- all keys of items
-abbrev pub ItemsMove : ℕ → List PartItem → List PartItem → Type 0
-ItemsMove number olds news = (q : ItemKey) → Moves number (find item_cmp q (map entry_of olds)) (find item_cmp q (map entry_of news)) (number_in item_cmp (map numbered olds) q) (number_in item_cmp (map numbered news) q)
+abbrev pub ItemsMove : ℕ → List Item → List Item → Type 0
+ItemsMove number olds news = (q : ItemKey) → Moves number (find item_cmp q (map entry_of olds)) (find item_cmp q (map entry_of news)) (number_in item_cmp (map key_and_number olds) q) (number_in item_cmp (map key_and_number news) q)
 
--- all keys of a part
-abbrev pub PartMoves : ℕ → Part → Part → Type 0
-PartMoves number old new = (q : ItemKey) → Moves number (find item_cmp q (entries old.cells)) (find item_cmp q (entries new.cells)) (number_in item_cmp (entries old.numbers) q) (number_in item_cmp (entries new.numbers) q)
+-- all keys of an incarnation
+abbrev pub IncarnationMoves : ℕ → IncarnationState → IncarnationState → Type 0
+IncarnationMoves number old new = (q : ItemKey) → Moves number (find item_cmp q (entries old.cells)) (find item_cmp q (entries new.cells)) (number_in item_cmp (entries old.numbers) q) (number_in item_cmp (entries new.numbers) q)
 
--- the numbers of the part under a key
-abbrev pub numbers_at : PartKey → List Part → List (ItemKey × ℕ)
-numbers_at key parts = entries_at (find part_cmp key (map numbers_of parts))
+-- the numbers of the incarnation under a key
+abbrev pub numbers_at : IncarnationKey → List IncarnationState → List (ItemKey × ℕ)
+numbers_at key incarnations = entries_at (find incarnation_cmp key (map keyed_numbers incarnations))
 
--- all keys of parts
-abbrev pub PartsMove : ℕ → List Part → List Part → Type 0
-PartsMove number olds news = (k : PartKey) (q : ItemKey) → Moves number (find item_cmp q (part_at k olds)) (find item_cmp q (part_at k news)) (number_in item_cmp (numbers_at k olds) q) (number_in item_cmp (numbers_at k news) q)
+-- all keys of incarnations
+abbrev pub IncarnationsMove : ℕ → List IncarnationState → List IncarnationState → Type 0
+IncarnationsMove number olds news = (k : IncarnationKey) (q : ItemKey) → Moves number (find item_cmp q (cells_at k olds)) (find item_cmp q (cells_at k news)) (number_in item_cmp (numbers_at k olds) q) (number_in item_cmp (numbers_at k news) q)
 
--- all keys of a part that are held have one number
-abbrev pub IsNumbered : ℕ → Part → Type 0
+-- all keys of an incarnation that are held have one number
+abbrev pub IsNumbered : ℕ → IncarnationState → Type 0
 IsNumbered number p = (q : ItemKey) → number_in item_cmp (entries p.numbers) q ≡ cond (is_some (find item_cmp q (entries p.cells))) number 0
 
 -- all before a place are so

@@ -9,7 +9,7 @@ use Rattle.point_kit.specs.declared.cell.Held.TheVariants.{One, Conflict}
 use Rattle.point_kit.specs.declared.key.Key.{Key}
 use Rattle.point_kit.specs.declared.payload.Payload.{Payload}
 use Rattle.point_kit.specs.declared.writer_id.WriterId.{WriterId}
-use Rattle.gateway_kit.specs.Keys.{part_cmp}
+use Rattle.gateway_kit.specs.Keys.{incarnation_cmp}
 use Rattle.gateway_kit.specs.Times.{greatest}
 
 -- whether different payloads came
@@ -22,13 +22,13 @@ abbrev pub has_conflict : Cell Payload → Bool
 has_conflict cell = is_several cell.held
 
 -- whether a key is of this incarnation of a writer
-abbrev pub is_part : WriterId → ℕ → Key → Bool
-is_part writer start key = eq_by_cmp part_cmp (writer, start) (key.writer, key.start)
+abbrev pub is_of_incarnation : WriterId → ℕ → Key → Bool
+is_of_incarnation writer start key = eq_by_cmp incarnation_cmp (writer, start) (key.writer, key.start)
 
 -- the points of an incarnation, in the order of their keys
-abbrev pub part_points : WriterId → ℕ → Points → List (Key × Cell Payload)
-part_points writer start points = filter (λ e. is_part writer start e.0) (entries points)
+abbrev pub incarnation_points : WriterId → ℕ → Points → List (Key × Cell Payload)
+incarnation_points writer start points = filter (λ e. is_of_incarnation writer start e.0) (entries points)
 
 -- the greatest time held of an incarnation
 abbrev pub newest_time : WriterId → ℕ → Points → Option ℕ
-newest_time writer start points = greatest (map (λ e. e.1.time) (part_points writer start points))
+newest_time writer start points = greatest (map (λ e. e.1.time) (incarnation_points writer start points))

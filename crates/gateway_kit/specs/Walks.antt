@@ -6,12 +6,12 @@ use Rattle.point_kit.specs.declared.cell.Cell.{Cell}
 use Rattle.point_kit.specs.declared.key.Key.{Key}
 use Rattle.point_kit.specs.declared.payload.Payload.{Payload}
 use Rattle.point_kit.specs.declared.writer_id.WriterId.{WriterId}
-use Rattle.gateway_kit.specs.declared.part_item.PartItem.{PartItem}
+use Rattle.gateway_kit.specs.declared.item.Item.{Item}
 use Rattle.gateway_kit.specs.declared.points.PointRef.{PointRef}
 use Rattle.gateway_kit.specs.declared.points.Points.{Points}
 use Rattle.gateway_kit.specs.Keys.{whole_key, entry_of}
-use Rattle.gateway_kit.specs.Part.{Part}
-use Rattle.gateway_kit.specs.Parts.{listed}
+use Rattle.gateway_kit.specs.IncarnationState.{IncarnationState}
+use Rattle.gateway_kit.specs.Incarnations.{all_points}
 
 -- a lent point, as its key and its cell
 abbrev pub entry_of_ref : PointRef → Key × Cell Payload
@@ -26,11 +26,11 @@ abbrev pub is_asked : Option (Bor (List ℕ)) → WriterId → Bool
 is_asked None writer = true
 is_asked (Some service) writer = is_of service.now writer
 
--- the items that are left of a part, under their whole keys
-abbrev pub items_left : Option (Bor Part × Bor (List PartItem)) → List (Key × Cell Payload)
+-- the items that are left of an incarnation, under their whole keys
+abbrev pub items_left : Option (Bor IncarnationState × Bor (List Item)) → List (Key × Cell Payload)
 items_left None = []
 items_left (Some here) = map (λ i. (whole_key (here.0.now.writer, here.0.now.start) (entry_of i).0, i.cell)) here.1.now
 
 -- what is left to be lent, in the order of the keys
 abbrev pub points_left : Points → List (Key × Cell Payload)
-points_left p = items_left p.here ++ filter (λ e. is_asked p.service e.0.writer) (listed p.ahead.now)
+points_left p = items_left p.here ++ filter (λ e. is_asked p.service e.0.writer) (all_points p.ahead.now)

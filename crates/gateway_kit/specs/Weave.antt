@@ -17,6 +17,10 @@ module _ {A : Type 0} (R : A → A → Ordering) where
   weave [] ys = ys
   weave (x ∷ xs) ys = weave_one x xs (weave xs) ys
 
+-- the order of values is that of their keys
+abbrev pub by_key : {A K V : Type 0} → (K → K → Ordering) → (A → K × V) → A → A → Ordering
+by_key R entry x y = R (entry x).0 (entry y).0
+
 -- each value is below the next
 abbrev pub Rises : {A : Type 0} → (A → A → Ordering) → List A → Type 0
 Rises {A} R xs = (k : ℕ) (d : A) → k + 1 < length xs → R (slice_index_or xs k d) (slice_index_or xs (k + 1) d) ≡ Less

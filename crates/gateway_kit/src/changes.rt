@@ -3,7 +3,7 @@ ghost use Rattle.std.specs.Prelude.{◌≡◌, [], IsTrue, map};
 ghost use Rattle.std.specs.FinMap.Entries.{is_sorted};
 ghost use Rattle.gateway_kit.specs.Keys.{entry_of, item_cmp};
 
-use crate::part_item::PartItem;
+use crate::item::Item;
 use point_kit::Cell;
 
 /// What an incarnation is to be changed by: all copies and all room are there, so that installing needs no memory.
@@ -12,9 +12,9 @@ pub(crate) struct Changes {
     /// The places of the items that change, and their new cells.
     pub(crate) updates: Vec<(usize, Cell)>,
     /// The items whose keys are new, in the order of their keys.
-    pub(crate) fresh: Vec<PartItem>,
+    pub(crate) fresh: Vec<Item>,
     /// Where there are new items: room for them and for those that are there.
-    pub(crate) room: Vec<PartItem>,
+    pub(crate) room: Vec<Item>,
     ghost sorted: { IsTrue (is_sorted item_cmp (map entry_of fresh.items)) },
     ghost empty: { room.items ≡ [] },
 }

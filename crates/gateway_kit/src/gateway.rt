@@ -1,5 +1,22 @@
 //! A gateway: the newest point of every key that it was told of.
+ghost use Rattle.std.specs.Prelude.{IsOk, IsSome, nat_lt, ◌≡◌, ◌<◌, ◌≤◌, ◌^◌, IfOk, OnOk, OnErr, Ok, [], ◌∷◌, ◌↔◌, IsTrue, count_by, filter, option_copied};
+ghost use Rattle.std.specs.FinMap as finite;
+ghost use Rattle.point_kit.specs.Exports.{state, JoinsExports, join_points, changed_points};
+ghost use Rattle.point_kit.specs.Join.{IsCommutative, IsAssociative, IsIdempotent, JoinsAbove, JoinsLeast};
+ghost use Rattle.gateway_kit.specs.Numbering.{IsNumberedBy, ViewMoves, number_of};
+ghost use Rattle.std.specs.FinMap.{entries, retain_keys};
+ghost use Rattle.gateway_kit.specs.Queries.{has_conflict, newest_time};
+ghost use Rattle.gateway_kit.specs.Walks.{is_of, points_left};
+ghost use Rattle.gateway_kit.specs.Incarnations.{all_points};
+
 use crate::incarnation::Incarnation;
+use crate::incarnations::{all_conflicts, all_len, all_since, incarnation_place, join_in, take_in};
+use crate::merging::merge_in;
+use crate::ordered::{all_same, renumber_all};
+use crate::points::Points;
+use attr_kit::{NoMemory, copy_all};
+use point_kit::{Cell, Export, Key, WriterId};
+use std::alloc::Global;
 use std::marker::Model;
 
 /// What a gateway holds of the points of all writers: a list of incarnations in the order (writer, start), each with its
@@ -22,15 +39,286 @@ impl Model for Gateway {
     ghost use Rattle.std.specs.FinMap.{from_sorted, code};
     ghost use Rattle.std.specs.Coded.{codes};
     ghost use Rattle.point_kit.specs.Orders.{key_cmp};
-    ghost use Rattle.gateway_kit.specs.Parts.{IsWhole, listed, listed_numbers};
+    ghost use Rattle.gateway_kit.specs.Incarnations.{IsWhole, all_points, all_numbers};
     ghost use Rattle.gateway_kit.specs.Tallies.{conflicts_of};
-    ghost use Rattle.gateway_kit.specs.View.{View};
+    ghost use Rattle.gateway_kit.specs.GatewayState.{GatewayState};
 
-    ghost Value = { View };
+    ghost Value = { GatewayState };
 
     ghost coded = { Prim.hlevel (codes, code) };
 
-    ghost view = { λ g. record { id = g.id; points = from_sorted {R = key_cmp} (listed g.incarnations.items); numbers = from_sorted {R = key_cmp} (listed_numbers g.incarnations.items) } };
+    ghost view = { λ g. record { id = g.id; points = from_sorted {R = key_cmp} (all_points g.incarnations.items); numbers = from_sorted {R = key_cmp} (all_numbers g.incarnations.items) } };
 
     ghost invariant = { λ g. IsWhole g.incarnations.items g.len × (g.conflicts ≡ conflicts_of g.incarnations.items) };
+}
+
+impl Gateway {
+    /// A gateway without points. Takes no memory.
+    pub fn new(alloc: Global, id: u32) -> Gateway
+        ensures id { result.id ≡ id }
+        ensures value { result.points ≡ finite.empty }
+        ensures numbers { result.numbers ≡ finite.empty }
+    {
+        Gateway {
+            id,
+            incarnations: Vec::new(alloc),
+            len: 0,
+            conflicts: 0,
+        }
+    }
+
+    pub fn id(&self) -> u32
+        ensures value { result ≡ self.now.id }
+    {
+        self.id
+    }
+
+    /// The number of points, at most 2^62: O(1).
+    pub fn len(&self) -> usize
+        ensures value { result ≡ finite.len self.now.points }
+        ensures bounded { result ≤ 2 ^ 62 }
+    {
+        self.len
+    }
+
+    /// The cell under a key: O(log n). Takes no memory.
+    pub fn find(&self, key: &Key) -> Option<&Cell>
+        ensures value { option_copied result ≡ finite.get self.now.points key.now }
+    {
+        match incarnation_place(self.incarnations.as_slice(), &key.writer, key.start) {
+            Ok(place) => self.incarnations[place].find(&key.stream, &key.attrs),
+            Err(_) => None,
+        }
+    }
+
+    /// All points, in the order of their keys. Takes no memory.
+    pub fn points(&self) -> Points<'_>
+        ensures value { points_left result ≡ entries self.now.points }
+    {
+        Points {
+            here: None,
+            ahead: self.incarnations.as_slice(),
+            service: None,
+        }
+    }
+
+    /// The points whose writer is of a service, in the order of their keys. Takes no memory; incarnations of other
+    /// services are passed over whole.
+    pub fn points_of<'a>(&'a self, service: &'a str) -> Points<'a>
+        ensures value { points_left result ≡ filter (λ e. is_of service.now e.0.writer) (entries self.now.points) }
+    {
+        Points {
+            here: None,
+            ahead: self.incarnations.as_slice(),
+            service: Some(service),
+        }
+    }
+
+    /// The greatest time held of one incarnation of a writer, a conflict's too; none where it is not held: O(log n). Takes
+    /// no memory.
+    pub fn newest(&self, writer: &WriterId, start: u64) -> Option<u64>
+        ensures value { result ≡ newest_time writer.now start self.now.points }
+    {
+        match incarnation_place(self.incarnations.as_slice(), writer, start) {
+            Ok(place) => Some(self.incarnations[place].newest()),
+            Err(_) => None,
+        }
+    }
+
+    /// The number of keys at whose time different payloads came. Takes no memory and constant time.
+    pub fn conflicts(&self) -> u64
+        ensures value { result ≡ count_by (λ e. has_conflict e.1) (entries self.now.points) }
+    {
+        self.conflicts
+    }
+
+    /// Whether both hold equal points; ids are not compared. One walk over both. Takes no memory.
+    pub fn same(&self, other: &Gateway) -> bool
+        ensures value { IsTrue result ↔ (self.now.points ≡ other.now.points) }
+    {
+        self.len == other.len
+            && all_same(self.incarnations.as_slice(), other.incarnations.as_slice())
+    }
+
+    /// Joins the points of an export, and answers the number of keys whose cell changed, the new ones among them.
+    ///
+    /// Of k points into an incarnation of n, where all keys are held: no key is copied, nothing moves, and each point is found
+    /// by one comparison, O(k), where the points come in the order of the incarnation's last export, whatever that order
+    /// was. A point that comes in another is searched for, O(log n), and the next export finds it by one. Where keys are
+    /// new: O(n + k log k). No other incarnation is touched. Refused with `NoMemory`, with nothing changed, where a growth
+    /// was refused, or where the gateway would come to hold more than 2^62 points. An export without points changes nothing
+    /// and takes no memory.
+    pub fn take(&mut self, export: &Export) -> Result<u64, NoMemory>
+        ensures id { self.new.id ≡ self.old.id }
+        ensures ok { OnOk result (self.new.points ≡ join_points self.old.points (state (export.now ∷ []))) }
+        ensures value { IfOk result (λ n. n ≡ changed_points self.old.points self.new.points) }
+        ensures numbers { self.new.numbers ≡ self.old.numbers }
+        ensures unchanged { OnErr result (self.new ≡ self.old) }
+        ensures no_points { export.now.points ≡ [] → result ≡ Ok 0 }
+    {
+        self.take_under(0, export)
+    }
+
+    /// Joins the points of an export as `take` does, at its cost, and gives each key whose cell changed this number.
+    pub fn take_numbered(&mut self, export: &Export, number: u64) -> Result<u64, NoMemory>
+        requires { 0 < number }
+        ensures id { self.new.id ≡ self.old.id }
+        ensures ok { OnOk result (self.new.points ≡ join_points self.old.points (state (export.now ∷ []))) }
+        ensures value { IfOk result (λ n. n ≡ changed_points self.old.points self.new.points) }
+        ensures numbers { OnOk result (IsNumberedBy number self.old self.new) }
+        ensures unchanged { OnErr result (self.new ≡ self.old) }
+        ensures no_points { export.now.points ≡ [] → result ≡ Ok 0 }
+    {
+        self.take_under(number, export)
+    }
+
+    // Joins the points of an export. The keys that change get the number, of 0 they keep their own.
+    fn take_under(&mut self, number: u64, export: &Export) -> Result<u64, NoMemory>
+        ensures id { self.new.id ≡ self.old.id }
+        ensures ok { OnOk result (self.new.points ≡ join_points self.old.points (state (export.now ∷ []))) }
+        ensures value { IfOk result (λ n. n ≡ changed_points self.old.points self.new.points) }
+        ensures moves { OnOk result (ViewMoves number self.old self.new) }
+        ensures kept { OnOk result (number ≡ 0 → self.new.numbers ≡ self.old.numbers) }
+        ensures unchanged { OnErr result (self.new ≡ self.old) }
+        ensures no_points { export.now.points ≡ [] → result ≡ Ok 0 }
+    {
+        if export.points().is_empty() {
+            return Ok(0);
+        }
+        let growth = take_in(&mut self.incarnations, self.len, number, export)?;
+        self.len += growth.more;
+        self.conflicts = self.conflicts - growth.before + growth.after;
+        Ok(growth.changed)
+    }
+
+    /// Joins one cell, and answers whether that of its key changed.
+    ///
+    /// O(log n) where the key is held, and then it takes no memory; else O(n) in its incarnation. Refused with `NoMemory`,
+    /// with nothing changed, where a growth was refused, or where the gateway would come to hold more than 2^62 points.
+    pub fn join_cell(&mut self, key: Key, cell: Cell) -> Result<bool, NoMemory>
+        ensures id { self.new.id ≡ self.old.id }
+        ensures ok { OnOk result (self.new.points ≡ join_points self.old.points (finite.from_entries ((key, cell) ∷ []))) }
+        ensures value { IfOk result (λ changed. changed ≡ nat_lt 0 (changed_points self.old.points self.new.points)) }
+        ensures numbers { self.new.numbers ≡ self.old.numbers }
+        ensures unchanged { OnErr result (self.new ≡ self.old) }
+        ensures held { IsSome (finite.get self.old.points key) → IsOk result }
+    {
+        let growth = join_in(&mut self.incarnations, self.len, key, cell)?;
+        self.len += growth.more;
+        self.conflicts = self.conflicts - growth.before + growth.after;
+        Ok(growth.changed > 0)
+    }
+
+    /// Joins what another gateway holds, key by key, and answers the number of keys whose cell changed, the new ones
+    /// among them.
+    ///
+    /// One walk over both, O(n + k); no key that is held is copied. Refused with `NoMemory`, with nothing changed, where a
+    /// growth was refused, or where the gateway would come to hold more than 2^62 points. An empty gateway changes nothing
+    /// and takes no memory.
+    #[tactic(auto, using(point_kit::proofs::PointLaws::points_commute, point_kit::proofs::PointLaws::points_associate, point_kit::proofs::PointLaws::points_idempotent, point_kit::proofs::PointLaws::points_above, point_kit::proofs::PointLaws::points_least, point_kit::proofs::PointLaws::states_join))]
+    pub fn merge(&mut self, other: &Gateway) -> Result<u64, NoMemory>
+        ensures id { self.new.id ≡ self.old.id }
+        ensures ok { OnOk result (self.new.points ≡ join_points self.old.points other.now.points) }
+        ensures value { IfOk result (λ n. n ≡ changed_points self.old.points self.new.points) }
+        ensures numbers { self.new.numbers ≡ self.old.numbers }
+        ensures unchanged { OnErr result (self.new ≡ self.old) }
+        ensures no_points { other.now.points ≡ finite.empty → result ≡ Ok 0 }
+
+        // Neither the order nor the grouping of merges matters, nor what comes again.
+        ensures commutative { IsCommutative join_points }
+        ensures associative { IsAssociative join_points }
+        ensures idempotent { IsIdempotent join_points }
+
+        // The join is the least that has all that both have.
+        ensures above { JoinsAbove join_points }
+        ensures least { JoinsLeast join_points }
+
+        // What comes of two lists of exports is the join of what comes of each.
+        ensures states { JoinsExports }
+    {
+        self.merge_under(0, other)
+    }
+
+    /// Joins what another gateway holds as `merge` does, at its cost, and gives each key whose cell changed this number.
+    pub fn merge_numbered(&mut self, other: &Gateway, number: u64) -> Result<u64, NoMemory>
+        requires { 0 < number }
+        ensures id { self.new.id ≡ self.old.id }
+        ensures ok { OnOk result (self.new.points ≡ join_points self.old.points other.now.points) }
+        ensures value { IfOk result (λ n. n ≡ changed_points self.old.points self.new.points) }
+        ensures numbers { OnOk result (IsNumberedBy number self.old self.new) }
+        ensures unchanged { OnErr result (self.new ≡ self.old) }
+        ensures no_points { other.now.points ≡ finite.empty → result ≡ Ok 0 }
+    {
+        self.merge_under(number, other)
+    }
+
+    // Joins what another gateway holds. The keys that change get the number, of 0 they keep their own.
+    fn merge_under(&mut self, number: u64, other: &Gateway) -> Result<u64, NoMemory>
+        ensures id { self.new.id ≡ self.old.id }
+        ensures ok { OnOk result (self.new.points ≡ join_points self.old.points other.now.points) }
+        ensures value { IfOk result (λ n. n ≡ changed_points self.old.points self.new.points) }
+        ensures moves { OnOk result (ViewMoves number self.old self.new) }
+        ensures kept { OnOk result (number ≡ 0 → self.new.numbers ≡ self.old.numbers) }
+        ensures unchanged { OnErr result (self.new ≡ self.old) }
+        ensures no_points { other.now.points ≡ finite.empty → result ≡ Ok 0 }
+    {
+        if other.incarnations.is_empty() {
+            return Ok(0);
+        }
+        let growth = merge_in(
+            &mut self.incarnations,
+            self.len,
+            number,
+            other.incarnations.as_slice(),
+        )?;
+        self.len += growth.more;
+        self.conflicts = self.conflicts - growth.before + growth.after;
+        Ok(growth.changed)
+    }
+
+    /// An equal gateway, with the same id and numbers: O(n).
+    pub fn try_copy(&self) -> Result<Gateway, NoMemory>
+        ensures value { IfOk result (λ copy. copy ≡ self.now) }
+    {
+        Ok(Gateway {
+            id: self.id,
+            incarnations: copy_all(&self.incarnations)?,
+            len: self.len,
+            conflicts: self.conflicts,
+        })
+    }
+
+    /// This gateway with no key numbered. Takes no memory. O(m) of m incarnations, and O(k) of the k points in those of
+    /// them where keys are numbered.
+    pub fn without_numbers(self) -> Gateway
+        ensures value { result ≡ record self { numbers = finite.empty } }
+    {
+        let mut gateway = self;
+        renumber_all(&mut gateway.incarnations, 0);
+        gateway
+    }
+
+    /// The cells of the keys numbered above a number, as a gateway of the same id that has no numbers.
+    ///
+    /// O(m + c + n / 512) of m incarnations, of c cells that are numbered so, and of n points in the incarnations that have
+    /// such cells. Others are passed over by one look, and of these each span of 512 points; in what is left each block of
+    /// 16, and only blocks with such a cell are walked over. A copy of a gateway, and an incarnation that came whole by a
+    /// merge, has no such spans until its next numbered change: there all points are looked at. Refused with `NoMemory`
+    /// where a growth was refused.
+    pub fn since(&self, alloc: Global, number: u64) -> Result<Gateway, NoMemory>
+        ensures id { IfOk result (λ recent. recent.id ≡ self.now.id) }
+        ensures value { IfOk result (λ recent. recent.points ≡ retain_keys self.now.points (λ k. nat_lt number (number_of self.now k))) }
+        ensures numbers { IfOk result (λ recent. recent.numbers ≡ finite.empty) }
+    {
+        let mut incarnations = all_since(alloc, self.incarnations.as_slice(), number)?;
+        renumber_all(&mut incarnations, 0);
+        let len = all_len(incarnations.as_slice());
+        let conflicts = all_conflicts(incarnations.as_slice());
+        Ok(Gateway {
+            id: self.id(),
+            incarnations,
+            len,
+            conflicts,
+        })
+    }
 }

@@ -3,40 +3,42 @@
 //! - A [`Gateway`] takes exports (`take`), merges with others (`merge`), and is asked what it holds: `find`, `points`,
 //!   `points_of`, `newest`, `conflicts`. What it holds is the join of all that it took, so order and repeats do not matter.
 //! - [`Points`] walks over what is held in key order, each point a [`PointRef`].
-//! - A [`SharedGateway`] is one that threads take exports into, each by a seat of its own, with one history.
 //! - `take_numbered`, `merge_numbered` and `since` number each key by its last change, for those who tell others what is new.
+//! - A [`SharedGateway`] is one that threads take exports into, each by a seat of its own, with one history. Contracts speak of
+//!   that history's entries, each a [`GatewayChange`]. It is closed unless other seats are out ([`SeatsOut`]).
 //!
-//!     let mut gateway = Gateway::new(alloc, 1);
-//!     let changed = gateway.take(&export)?;
+//! A caller, from `crates/uses/src/gathering.rt`:
 //!
-//! Times are nanoseconds since the Unix epoch. What contracts cite stands in `specs/`: `View` (what contracts see of a
+//!     let mut one = Gateway::new(alloc, 1);
+//!     one.take(here)?;
+//!     one.take(there)?;
+//!
+//!     Ok(one.same(&other))
+//!
+//! Times are nanoseconds since the Unix epoch. What contracts cite stands in `specs/`: `GatewayState` (what contracts see of a
 //! gateway), `Queries`, `Numbers` and `Numbering`, `Recent`, `Shared`; joins are those of `point_kit`.
 #![tactic(auto)]
 
 mod bounds;
-mod calls;
-mod cell_joins;
+mod cells;
 mod changes;
 mod draft;
-mod equality;
 mod gateway;
-mod grow;
+mod growth;
 mod hint;
 mod incarnation;
+mod incarnations;
+mod item;
+mod items;
+mod merge_draft;
 mod merging;
-mod part_draft;
-mod part_item;
+mod ordered;
 mod points;
-mod queries;
-mod seek;
 mod shared;
-mod since;
-mod taking;
 mod tally;
 #[cfg(test)]
 mod tests;
 mod trail;
-mod walk;
 mod weave;
 
 pub use gateway::Gateway;

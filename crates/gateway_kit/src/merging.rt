@@ -1,26 +1,28 @@
 //! How a gateway's incarnations are merged with another's.
 ghost use Rattle.std.specs.Prelude.{◌≡◌, ◌≤◌, ◌+◌, ◌^◌, ◌⊎◌, [], IfOk, OnOk, OnErr, IsTrue, map, length, vec_len, vec_capacity};
+ghost use Rattle.std.specs.FinMap.{from_sorted};
 ghost use Rattle.std.specs.FinMap.Entries.{is_sorted};
 ghost use Rattle.std.specs.List.{list_all};
-ghost use Rattle.gateway_kit.specs.Amending.{amend, amended};
-ghost use Rattle.gateway_kit.specs.Keys.{part_cmp};
-ghost use Rattle.gateway_kit.specs.Merging.{Merges, made, woven_parts};
-ghost use Rattle.gateway_kit.specs.Numbers.{AllAre, IsNumbered, PartsMove};
-ghost use Rattle.gateway_kit.specs.Tallies.{Tells};
-ghost use Rattle.gateway_kit.specs.Parts.{IsWhole, listed, part_of, has_cells};
+ghost use Rattle.gateway_kit.specs.Amending.{with_change, with_changes};
+ghost use Rattle.gateway_kit.specs.Growth.{GrowsBy};
+ghost use Rattle.gateway_kit.specs.Keys.{incarnation_cmp};
+ghost use Rattle.gateway_kit.specs.Merging.{cells_after, woven_incarnations};
+ghost use Rattle.gateway_kit.specs.Numbers.{IncarnationsMove};
+ghost use Rattle.gateway_kit.specs.Incarnations.{IsWhole, all_points, keyed_cells, has_cells};
 
 use crate::changes::Changes;
+use crate::growth::{Growth, MOST_POINTS};
 use crate::incarnation::Incarnation;
-use crate::part_draft::{PartDraft, parts_in_order};
-use crate::taking::{Growth, MOST_POINTS};
-use crate::tally::all_conflicts;
-use crate::weave::woven;
+use crate::incarnations::all_conflicts;
+use crate::merge_draft::MergeDraft;
+use crate::ordered::{in_order, renumber_all};
+use crate::weave::weave;
 use attr_kit::NoMemory;
-use std::alloc::{AllocError, Global};
+use std::alloc::AllocError;
 use std::mem;
 
 // Makes room for the bounds of so many items more of the incarnation at a place; past the end none.
-fn reserve_part(
+fn reserve_incarnation(
     incarnations: &mut Vec<Incarnation>,
     number: u64,
     place: usize,
@@ -35,7 +37,7 @@ fn reserve_part(
 }
 
 // Makes room for the bounds of the items of all incarnations that are to change.
-fn reserve_parts(
+fn reserve_incarnations(
     incarnations: &mut Vec<Incarnation>,
     number: u64,
     updates: &[(usize, Changes)],
@@ -43,16 +45,17 @@ fn reserve_parts(
     ensures { incarnations.new.items ≡ incarnations.old.items }
 {
     for (place, changes) in updates {
-        reserve_part(incarnations, number, *place, changes.fresh.len())?;
+        reserve_incarnation(incarnations, number, *place, changes.fresh.len())?;
     }
     Ok(())
 }
 
 // Makes the changes of the incarnation at a place, and numbers the keys that change; past the end nothing.
-fn put_part(incarnations: &mut Vec<Incarnation>, number: u64, place: usize, changes: Changes)
-    ensures change { map part_of incarnations.new.items ≡ amend made (map part_of incarnations.old.items) place changes }
+fn put_incarnation(incarnations: &mut Vec<Incarnation>, number: u64, place: usize, changes: Changes)
+    ensures change { map keyed_cells incarnations.new.items
+        ≡ with_change cells_after (map keyed_cells incarnations.old.items) place changes }
     ensures len { vec_len incarnations.new ≡ vec_len incarnations.old }
-    ensures moves { PartsMove number incarnations.old.items incarnations.new.items }
+    ensures moves { IncarnationsMove number incarnations.old.items incarnations.new.items }
 {
     if place < incarnations.len() {
         incarnations[place].install(number, changes);
@@ -60,24 +63,18 @@ fn put_part(incarnations: &mut Vec<Incarnation>, number: u64, place: usize, chan
 }
 
 // Makes all changes at their places, and numbers the keys that change.
-fn put_parts(incarnations: &mut Vec<Incarnation>, number: u64, updates: Vec<(usize, Changes)>)
-    ensures changes { map part_of incarnations.new.items ≡ amended made (map part_of incarnations.old.items) updates.items }
+fn put_incarnations(
+    incarnations: &mut Vec<Incarnation>,
+    number: u64,
+    updates: Vec<(usize, Changes)>,
+)
+    ensures changes { map keyed_cells incarnations.new.items
+        ≡ with_changes cells_after (map keyed_cells incarnations.old.items) updates.items }
     ensures len { vec_len incarnations.new ≡ vec_len incarnations.old }
-    ensures moves { PartsMove number incarnations.old.items incarnations.new.items }
+    ensures moves { IncarnationsMove number incarnations.old.items incarnations.new.items }
 {
     for (place, changes) in updates {
-        put_part(incarnations, number, place, changes);
-    }
-}
-
-/// Gives all keys of incarnations one number. Of 0, an incarnation where no key is numbered takes constant time.
-pub(crate) fn renumber(incarnations: &mut Vec<Incarnation>, number: u64)
-    ensures same { map part_of incarnations.new.items ≡ map part_of incarnations.old.items }
-    ensures len { vec_len incarnations.new ≡ vec_len incarnations.old }
-    ensures numbers { AllAre (IsNumbered number) incarnations.new.items }
-{
-    for place in 0..incarnations.len() {
-        incarnations[place].renumber(number);
+        put_incarnation(incarnations, number, place, changes);
     }
 }
 
@@ -89,56 +86,54 @@ fn put_new(
     room: Vec<Incarnation>,
 )
     requires empty { room.items ≡ [] }
-    requires sorted { IsTrue (is_sorted part_cmp (map part_of incarnations.old.items)) }
-    requires fresh_sorted { IsTrue (is_sorted part_cmp (map part_of fresh.items)) }
+    requires sorted { IsTrue (is_sorted incarnation_cmp (map keyed_cells incarnations.old.items)) }
+    requires fresh_sorted { IsTrue (is_sorted incarnation_cmp (map keyed_cells fresh.items)) }
     requires fits { (vec_len incarnations.old + vec_len fresh ≤ vec_capacity room) ⊎ (vec_len fresh ≡ 0) }
-    ensures woven { map part_of incarnations.new.items ≡ woven_parts incarnations.old.items fresh.items }
-    ensures moves { PartsMove number incarnations.old.items incarnations.new.items }
+    ensures woven { map keyed_cells incarnations.new.items ≡ woven_incarnations incarnations.old.items fresh.items }
+    ensures moves { IncarnationsMove number incarnations.old.items incarnations.new.items }
 {
     if !fresh.is_empty() {
-        renumber(&mut fresh, number);
+        renumber_all(&mut fresh, number);
         let alloc = *incarnations.allocator();
         let mine = mem::replace(incarnations, Vec::new(alloc));
-        *incarnations = woven(mine, fresh, room);
+        *incarnations = weave(mine, fresh, room);
     }
 }
 
 /// Merges the incarnations of another gateway in, and numbers the keys that change: one walk over both. All copies and all room come first.
-pub(crate) fn merged(
+pub(crate) fn merge_in(
     incarnations: &mut Vec<Incarnation>,
     len: usize,
     number: u64,
     theirs: &[Incarnation],
 ) -> Result<Growth, NoMemory>
     requires whole { IsWhole incarnations.old.items len }
-    requires theirs_sorted { IsTrue (is_sorted part_cmp (map part_of theirs.now)) }
+    requires theirs_sorted { IsTrue (is_sorted incarnation_cmp (map keyed_cells theirs.now)) }
     requires theirs_filled { IsTrue (list_all has_cells theirs.now) }
-    requires few { length (listed theirs.now) ≤ 2 ^ 62 }
-    ensures merges { IfOk result (λ g. Merges incarnations.old.items incarnations.new.items theirs.now g.more g.changed) }
-    ensures bounded { IfOk result (λ g. len + g.more ≤ 2 ^ 62) }
-    ensures tells { IfOk result (λ g. Tells incarnations.old.items incarnations.new.items g.before g.after) }
-    ensures moves { OnOk result (PartsMove number incarnations.old.items incarnations.new.items) }
+    requires few { length (all_points theirs.now) ≤ 2 ^ 62 }
+    ensures grows { IfOk result (λ g. GrowsBy incarnations.old.items incarnations.new.items len (from_sorted (all_points theirs.now)) g) }
+    ensures moves { OnOk result (IncarnationsMove number incarnations.old.items incarnations.new.items) }
     ensures unchanged { OnErr result (incarnations.new.items ≡ incarnations.old.items) }
 {
     let alloc = *incarnations.allocator();
-    let PartDraft {
+    let MergeDraft {
         updates,
         fresh,
         more,
         changed,
-    } = PartDraft::of(alloc, incarnations.as_slice(), theirs)?;
+    } = MergeDraft::of(alloc, incarnations.as_slice(), theirs)?;
     if more > MOST_POINTS - len {
         return Err(NoMemory);
     }
-    let fresh = parts_in_order(fresh)?;
+    let fresh = in_order(fresh)?;
     let room = if fresh.is_empty() {
         Vec::new(alloc)
     } else {
         Vec::with_capacity(alloc, incarnations.len() + fresh.len())?
     };
-    reserve_parts(incarnations, number, &updates)?;
+    reserve_incarnations(incarnations, number, &updates)?;
     let before = all_conflicts(incarnations.as_slice());
-    put_parts(incarnations, number, updates);
+    put_incarnations(incarnations, number, updates);
     put_new(incarnations, number, fresh, room);
     Ok(Growth {
         more,

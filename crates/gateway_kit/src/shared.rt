@@ -1,7 +1,7 @@
 //! A gateway that threads share: a turn over a gateway, whose every answer is tied to one history of what was taken and
 //! merged.
 ghost use Rattle.std.specs.Prelude.{◌≡◌, ◌↔◌, ◌<◌, ◌≤◌, ◌^◌, IfOk, IfErr};
-ghost use Rattle.gateway_kit.specs.Shared.{IsAt, IsSameShared, first_of, most_of, told, Keeps, DependsOnChanges};
+ghost use Rattle.gateway_kit.specs.Shared.{IsAt, IsSameShared, first_of, most_of, after_gateway_change, Keeps, DependsOnChanges};
 ghost use Rattle.turn_kit.specs.Public.{IsFirst, IsBadLimit, HasAsked, Closes, AreOut, told_out};
 ghost use Rattle.turn_kit.specs.declared.fault.TurnFault.TheVariants.{BadLimit};
 
@@ -92,8 +92,8 @@ impl<G> SharedGateway<G> {
     /// no memory.
     pub fn close(self, seat: Seat<Gateway>) -> Result<Gateway, SeatsOut<G>>
         requires { IsAt self seat }
-        ensures ok { IfOk result (Closes (λ g. g) told (first_of self) seat) }
-        ensures points { IfOk result (λ g. (c : Closes (λ g. g) told (first_of self) seat g) × Keeps (first_of self) c.history g) }
+        ensures ok { IfOk result (Closes (λ g. g) after_gateway_change (first_of self) seat) }
+        ensures points { IfOk result (λ g. (c : Closes (λ g. g) after_gateway_change (first_of self) seat g) × Keeps (first_of self) c.history g) }
         ensures err { IfErr result (λ e. (e.gateway ≡ self) × IsAt e.gateway e.seat × HasAsked seat e.seat) }
         ensures out { IfErr result (λ e. (e.out ≡ told_out e.seat) × (0 < e.out) × AreOut seat e.out) }
     {

@@ -5,14 +5,15 @@ ghost use Rattle.gateway_kit.specs.Changing.{Prepares, entries_of};
 ghost use Rattle.gateway_kit.specs.Keys.{entry_of, item_cmp};
 
 use crate::changes::Changes;
-use crate::draft::{Draft, place_near};
-use crate::part_item::PartItem;
+use crate::draft::Draft;
+use crate::item::Item;
+use crate::items::place_near;
 use attr_kit::NoMemory;
 use point_kit::Export;
 use std::alloc::{AllocError, Global};
 
 // Notes behind an item, where there is one, where the next point's stands.
-fn note_next(items: &mut Vec<PartItem>, place: usize, next: usize)
+fn note_next(items: &mut Vec<Item>, place: usize, next: usize)
     ensures { items.new.items ≡ items.old.items }
 {
     if place < items.len() {
@@ -21,7 +22,7 @@ fn note_next(items: &mut Vec<PartItem>, place: usize, next: usize)
 }
 
 // The next guess: behind an item that was found what came behind it last time, and behind a new one the same as before it.
-fn guess_after(items: &[PartItem], place: Result<usize, usize>, guess: usize) -> usize {
+fn guess_after(items: &[Item], place: Result<usize, usize>, guess: usize) -> usize {
     match place {
         Ok(place) => {
             if place < items.len() {
@@ -37,7 +38,7 @@ fn guess_after(items: &[PartItem], place: Result<usize, usize>, guess: usize) ->
 /// What the points of an export change among items. Points that come in the order of the last export are each found by one
 /// comparison; of others one is searched for, and found by one the next time.
 pub(crate) fn draft_changes(
-    items: &mut Vec<PartItem>,
+    items: &mut Vec<Item>,
     alloc: Global,
     export: &Export,
 ) -> Result<Changes, NoMemory>
@@ -63,11 +64,11 @@ pub(crate) fn draft_changes(
             Some(&point.payload),
         )?;
     }
-    draft.finished(alloc, items.as_slice())
+    draft.finish(alloc, items.as_slice())
 }
 
 // Sets the guesses of an item right, where there is one.
-fn follow(items: &mut Vec<PartItem>, place: usize, places: &[u32])
+fn follow(items: &mut Vec<Item>, place: usize, places: &[u32])
     ensures { items.new.items ≡ items.old.items }
 {
     if place < items.len() {
@@ -77,7 +78,7 @@ fn follow(items: &mut Vec<PartItem>, place: usize, places: &[u32])
 
 /// Sets the guesses right after new items came in between: each speaks of a place among those that there were and the new
 /// ones behind them. Where there is no memory for that they stay, and most fail once.
-pub(crate) fn follow_all(items: &mut Vec<PartItem>)
+pub(crate) fn follow_all(items: &mut Vec<Item>)
     ensures { items.new.items ≡ items.old.items }
 {
     let alloc = *items.allocator();

@@ -1,18 +1,10 @@
 //! Two lists in one order become one in a single walk.
 ghost use Rattle.std.specs.Prelude.{◌≡◌, ◌+◌, ◌<◌, ◌≤◌, ◌++◌, ◌∷◌, [], vec_len, vec_capacity};
 ghost use Rattle.std.specs.declared.cmp.Ordering.{Ordering};
-ghost use Rattle.gateway_kit.specs.Weave.{weave};
+ghost use Rattle.gateway_kit.specs.Weave.{by_key, weave};
 
+use crate::ordered::Keyed;
 use std::cmp::Ordering;
-
-/// Values that stand in lists by a key of theirs.
-pub(crate) trait Keyed {
-    /// How the keys of two compare.
-    ghost order: { Self → Self → Ordering };
-
-    fn order(&self, other: &Self) -> Ordering
-        ensures { result ≡ order self.now other.now };
-}
 
 // Puts a value at the end of a list that has room for it.
 fn put<T: Drop>(room: &mut Vec<T>, value: T)
@@ -25,10 +17,10 @@ fn put<T: Drop>(room: &mut Vec<T>, value: T)
 }
 
 /// Moves the values of both lists into the room, in the order of their keys: O(n + k).
-pub(crate) fn woven<T: Keyed + Drop>(mine: Vec<T>, theirs: Vec<T>, mut room: Vec<T>) -> Vec<T>
+pub(crate) fn weave<T: Keyed>(mine: Vec<T>, theirs: Vec<T>, mut room: Vec<T>) -> Vec<T>
     requires empty { room.items ≡ [] }
     requires fits { vec_len mine + vec_len theirs ≤ vec_capacity room }
-    ensures { result.items ≡ weave T.order mine.items theirs.items }
+    ensures { result.items ≡ weave (by_key T.compare T.entry) mine.items theirs.items }
 {
     let mut mine = mine.into_iter();
     let mut theirs = theirs.into_iter();

@@ -9,7 +9,7 @@ use Rattle.point_kit.specs.declared.key.Key.{Key}
 use Rattle.point_kit.specs.declared.payload.Payload.{Payload}
 use Rattle.point_kit.specs.Exports.{Points, join_points}
 use Rattle.point_kit.specs.Join.{IsAtOrBelow}
-use Rattle.gateway_kit.specs.View.{View}
+use Rattle.gateway_kit.specs.GatewayState.{GatewayState}
 use Rattle.gossip_kit.specs.Views.{MessageView, NodeView}
 use Rattle.gossip_kit.specs.declared.fault.HandFault.{HandFault}
 use Rattle.gossip_kit.specs.declared.fault.HandFault.TheVariants.{NotAddressed}
@@ -27,8 +27,8 @@ abbrev pub number_of : NodeView → Key → ℕ
 number_of node k = unwrap_or (get node.numbers k) 0
 
 -- a node of a gateway before any change: no key is numbered, and nobody acknowledged anything
-abbrev pub begun : View → NodeView
-begun gateway = record { gateway = record gateway { numbers = empty }; change = 0; numbers = empty; acked = empty }
+abbrev pub first_node : GatewayState → NodeView
+first_node gateway = record { gateway = record gateway { numbers = empty }; change = 0; numbers = empty; acked = empty }
 
 -- one call numbers what it changed: each key that has another cell gets the number of the change, and no other key another number
 pub record Renumbers (old new : NodeView) : Type 0 where

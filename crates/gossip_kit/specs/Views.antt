@@ -2,7 +2,7 @@
 use Rattle.std.specs.Prelude.{ℕ, Option}
 use Rattle.std.specs.FinMap.{FinMap}
 use Rattle.std.specs.Ordering.{nat_cmp}
-use Rattle.gateway_kit.specs.View.{View}
+use Rattle.gateway_kit.specs.GatewayState.{GatewayState}
 use Rattle.point_kit.specs.Exports.{Points}
 use Rattle.point_kit.specs.Orders.{key_cmp}
 
@@ -16,7 +16,7 @@ pub record MessageView : Type 0 where
 
 -- a node: its gateway, how often its points changed, the number of the change of each key that changed, and the greatest number that each peer acknowledged
 pub record NodeView : Type 0 where
-  pub gateway : View
+  pub gateway : GatewayState
   pub change : ℕ
   pub numbers : FinMap key_cmp ℕ
   pub acked : FinMap nat_cmp ℕ

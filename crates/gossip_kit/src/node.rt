@@ -2,7 +2,7 @@
 ghost use Rattle.std.specs.Prelude.{◌≡◌, ◌≢◌, IsSome, List, [], ◌∷◌, Ok, OnOk, OnErr, IfOk, IfErr, Some, None};
 ghost use Rattle.std.specs.FinMap as finite;
 ghost use Rattle.point_kit.specs.Exports.{join_points, changed_points, state};
-ghost use Rattle.gossip_kit.specs.Gossip.{acknowledged, acked_after, answer_of, begun, carried_to, delta_to, hand_fault, next_number, recent_to, Brings, CarriesHeld, Renumbers};
+ghost use Rattle.gossip_kit.specs.Gossip.{acknowledged, acked_after, answer_of, first_node, carried_to, delta_to, hand_fault, next_number, recent_to, Brings, CarriesHeld, Renumbers};
 
 use crate::books::Books;
 use crate::message::Body;
@@ -50,7 +50,7 @@ impl Node {
     /// that the gateway has are dropped. Takes no memory; O(m) of m incarnations, and O(k) of the k points in those of
     /// them where keys are numbered.
     pub fn new(alloc: Global, gateway: Gateway) -> Node
-        ensures value { result ≡ begun gateway }
+        ensures value { result ≡ first_node gateway }
     {
         Node {
             alloc,

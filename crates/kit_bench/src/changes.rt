@@ -23,7 +23,7 @@ impl Lock {
 }
 
 // So many changes by each of so many threads; their start and end count too.
-fn timed<R: Threads + Wait + Sync + Clock + Eprint + AllocGlobal>(
+fn time_changes<R: Threads + Wait + Sync + Clock + Eprint + AllocGlobal>(
     rt: &R,
     lock: Lock,
     threads: usize,
@@ -47,8 +47,8 @@ pub fn run<R: Threads + Wait + Sync + Clock + Eprint + AllocGlobal>(
 ) -> anyhow::Result<()> {
     for _ in 0..rounds {
         for threads in [1, 2, 4] {
-            timed(rt, Lock::Mutex, threads, times)?;
-            timed(rt, Lock::Turn, threads, times)?;
+            time_changes(rt, Lock::Mutex, threads, times)?;
+            time_changes(rt, Lock::Turn, threads, times)?;
         }
     }
     Ok(())

@@ -1,6 +1,6 @@
 //! The counter that both locks are put round.
 ghost use Rattle.std.specs.Prelude.{◌≡◌, ℕ, ◌+◌, ◌<◌, ◌≤◌, MatchBool};
-ghost use Rattle.kit_bench.specs.Counting.{counted};
+ghost use Rattle.kit_bench.specs.Counting.{count_after};
 
 use std::marker::Model;
 use turn_kit::{Machine, Step};
@@ -36,7 +36,8 @@ impl Counter {
 
     /// Adds, where the count is then not too high, and says whether it did.
     pub fn add(&mut self, by: u64) -> bool
-        ensures { MatchBool result ((self.new ≡ self.old + by) × (self.old + by ≤ 1000000000)) ((self.new ≡ self.old) × (1000000000 < self.old + by)) }
+        ensures { MatchBool result ((self.new ≡ self.old + by) × (self.old + by ≤ 1000000000))
+            ((self.new ≡ self.old) × (1000000000 < self.old + by)) }
     {
         if by > MOST || self.count + by > MOST {
             return false;
@@ -53,7 +54,7 @@ impl Machine for Counter {
 
     ghost state = { λ n. n };
 
-    ghost after = { counted };
+    ghost after = { count_after };
 }
 
 /// Adds to the count.

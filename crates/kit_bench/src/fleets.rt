@@ -1,8 +1,8 @@
 //! Recordings by fleets, and by as many threads into maps behind `std`'s `Mutex`.
-use crate::clock::tell;
+use crate::clock::tell_times;
 use crate::tallies::{plan, sets};
 use attr_kit::{AttrSet, Txt};
-use fleet_kit::{FleetSetup, Gate, Job, run_fleet};
+use fleet_kit::{FleetSetup, Job, Open, run_fleet};
 use indexmap::IndexMap;
 use plan_kit::{Kind, Plan};
 use point_kit::WriterId;
@@ -56,16 +56,6 @@ impl Way {
             Way::Fleet => "recordings of a fleet, to its gateway",
             Way::Mutexes => "additions in maps behind mutexes",
         }
-    }
-}
-
-/// Lets all pass.
-#[derive(Drop)]
-struct Open;
-
-impl Gate for Open {
-    fn pass<R: Wait>(&self, _rt: &R, _job: usize, _entry: usize) -> bool {
-        true
     }
 }
 
@@ -197,7 +187,7 @@ fn run_all<R: Threads + Wait + Sync>(
     Ok(count)
 }
 
-fn timed<R: Threads + Wait + Sync + Clock + AllocGlobal>(
+fn time_fleet<R: Threads + Wait + Sync + Clock + AllocGlobal>(
     rt: &R,
     way: Way,
     setup: FleetSetup,
@@ -220,7 +210,7 @@ fn once<R: Threads + Wait + Sync + Clock + AllocGlobal>(
     work: Work<'_>,
 ) -> anyhow::Result<Duration> {
     let setup = setup(rt.alloc(), work)?;
-    timed(rt, way, setup, work.points())
+    time_fleet(rt, way, setup, work.points())
 }
 
 /// The times of the two ways.
@@ -244,33 +234,16 @@ fn gather<R: Threads + Wait + Sync + Clock + AllocGlobal>(
     Ok(())
 }
 
-fn tell_one(
-    rt: &impl Eprint,
-    way: Way,
-    work: Work<'_>,
-    what: &str,
-    time: Duration,
-) -> anyhow::Result<()> {
-    let Size { writers, recorders } = work.size;
-    eprint!(rt; "writers: {writers}, recorders of each: {recorders}, {what}: ")?;
-    tell(rt, way.name(), work.recordings(), time)
-}
-
-// Tells the least and the median of these times.
+// Tells the least and the median of the times of a way.
 fn tell_all(
     rt: &impl Eprint,
     way: Way,
     work: Work<'_>,
     times: &mut Vec<Duration>,
 ) -> anyhow::Result<()> {
-    times.sort()?;
-    let middle = times.len() / 2;
-    for (what, place) in [("least", 0), ("median", middle)] {
-        if let Some(time) = times.get(place) {
-            tell_one(rt, way, work, what, *time)?;
-        }
-    }
-    Ok(())
+    let Size { writers, recorders } = work.size;
+    eprintln!(rt; "writers: {writers}, recorders of each: {recorders}")?;
+    tell_times(rt, way.name(), work.recordings(), times)
 }
 
 fn compare<R: Threads + Wait + Sync + Clock + Eprint + AllocGlobal>(

@@ -70,8 +70,8 @@ fn routed_set(alloc: Global, number: u32, routes: u32) -> anyhow::Result<AttrSet
     set_of_texts(alloc, &texts)
 }
 
-// The set of a number.
-fn set(alloc: Global, sets: Sets, number: u32) -> anyhow::Result<AttrSet> {
+/// The set of a number.
+pub fn set(alloc: Global, sets: Sets, number: u32) -> anyhow::Result<AttrSet> {
     match sets {
         Sets::Numbers => {
             let value = AttrValue::Whole(i64::from(number));
@@ -96,17 +96,72 @@ fn point(
     })
 }
 
-// Points of so many numbers, from one on.
-fn points(
-    alloc: Global,
-    stream: &SharedStream,
-    sets: Sets,
-    from: u32,
-    keys: u32,
-) -> anyhow::Result<Vec<ExportPoint>> {
+/// Which of consecutive numbers an export has.
+#[derive(Clone, Copy)]
+pub enum Which {
+    All,
+    /// All but one of each thousand.
+    Most,
+    /// One of each hundred.
+    Few,
+}
+
+/// The keys of an export: sets of consecutive numbers, or of some of them.
+#[derive(Clone, Copy)]
+pub struct Keys {
+    pub sets: Sets,
+    pub from: u32,
+    pub count: u32,
+    pub which: Which,
+}
+
+impl Keys {
+    /// Of so many numbers from 0 on.
+    pub fn first(sets: Sets, count: u32) -> Keys {
+        Keys {
+            sets,
+            from: 0,
+            count,
+            which: Which::All,
+        }
+    }
+
+    /// Some of the same numbers.
+    pub fn only(self, which: Which) -> Keys {
+        Keys { which, ..self }
+    }
+
+    /// As many from another number on.
+    pub fn starting(self, from: u32) -> Keys {
+        Keys { from, ..self }
+    }
+
+    fn has(&self, number: u32) -> bool {
+        match self.which {
+            Which::All => true,
+            Which::Most => number % 1_000 != 500,
+            Which::Few => number % 100 == 0,
+        }
+    }
+
+    /// How many there are.
+    pub fn len(&self) -> u32 {
+        let mut len: u32 = 0;
+        for number in self.from..self.from.saturating_add(self.count) {
+            if self.has(number) {
+                len = len.saturating_add(1);
+            }
+        }
+        len
+    }
+}
+
+fn points(alloc: Global, stream: &SharedStream, keys: Keys) -> anyhow::Result<Vec<ExportPoint>> {
     let mut points = Vec::new(alloc);
-    for number in from..from.saturating_add(keys) {
-        points.push(point(alloc, stream, sets, number)?)?;
+    for number in keys.from..keys.from.saturating_add(keys.count) {
+        if keys.has(number) {
+            points.push(point(alloc, stream, keys.sets, number)?)?;
+        }
     }
     Ok(points)
 }
@@ -126,32 +181,23 @@ pub struct Times {
     pub time: u64,
 }
 
-/// An export of one writer with so many keys, from a number on.
-pub fn export_of(
-    alloc: Global,
-    times: Times,
-    sets: Sets,
-    from: u32,
-    keys: u32,
-) -> anyhow::Result<Export> {
-    let points = points(alloc, &requests(alloc)?, sets, from, keys)?;
+impl Times {
+    /// A collection of the writer's first incarnation.
+    pub fn at(time: u64) -> Times {
+        Times { begin: 100, time }
+    }
+}
+
+/// An export of one writer with these keys.
+pub fn export_of(alloc: Global, times: Times, keys: Keys) -> anyhow::Result<Export> {
+    let points = points(alloc, &requests(alloc)?, keys)?;
     let Times { begin, time } = times;
     Ok(Export::build(alloc, writer(alloc)?, begin, time, Seq::from_vec(points))?)
 }
 
-/// An export of sets of one pair, of the writer's first incarnation.
-pub fn export(alloc: Global, time: u64, from: u32, keys: u32) -> anyhow::Result<Export> {
-    export_of(alloc, Times { begin: 100, time }, Sets::Numbers, from, keys)
-}
-
-/// The same of sets of 4 pairs, in no order.
-pub fn scattered_export(alloc: Global, time: u64, keys: u32) -> anyhow::Result<Export> {
-    export_of(alloc, Times { begin: 100, time }, Sets::Scattered, 0, keys)
-}
-
-/// A gateway that took one export.
-pub fn holding(alloc: Global, export: &Export) -> anyhow::Result<Gateway> {
+/// A gateway that took such an export.
+pub fn holding(alloc: Global, times: Times, keys: Keys) -> anyhow::Result<Gateway> {
     let mut gateway = Gateway::new(alloc, 1);
-    gateway.take(export)?;
+    gateway.take(&export_of(alloc, times, keys)?)?;
     Ok(gateway)
 }

@@ -1,8 +1,7 @@
-//! Gossip of two nodes: takes through a node, and messages of all keys and of a hundredth of them. What messages carry is
+//! Gossip of two nodes: takes through a node, and messages of all keys and of those that changed. What messages carry is
 //! checked as they are timed.
 use crate::clock::tell;
-use crate::gateways::{Sets, Times, export, export_of, holding};
-use crate::takes;
+use crate::gateways::{Keys, Sets, Times, Which, export_of, holding};
 use anyhow::{bail, ensure};
 use gateway_kit::Gateway;
 use gossip_kit::{Message, Node};
@@ -18,11 +17,12 @@ struct Takers {
     later: Export,
 }
 
-fn prepared(alloc: Global, keys: u32) -> anyhow::Result<Takers> {
-    let first = export(alloc, 200, 0, keys)?;
-    let later = export(alloc, 300, 0, keys)?;
-    let gateway = holding(alloc, &first)?;
-    let node = Node::new(alloc, holding(alloc, &first)?);
+fn both_holding(alloc: Global, keys: u32) -> anyhow::Result<Takers> {
+    let keys = Keys::first(Sets::Numbers, keys);
+    let first = Times::at(200);
+    let gateway = holding(alloc, first, keys)?;
+    let node = Node::new(alloc, holding(alloc, first, keys)?);
+    let later = export_of(alloc, Times::at(300), keys)?;
     Ok(Takers {
         gateway,
         node,
@@ -30,24 +30,20 @@ fn prepared(alloc: Global, keys: u32) -> anyhow::Result<Takers> {
     })
 }
 
-fn timed(rt: &HostRuntime, keys: u32, node: &mut Node, export: &Export) -> anyhow::Result<()> {
+// How long a gateway and a node took for later points of held keys.
+fn time_takes(rt: &HostRuntime, both: &mut Takers) -> anyhow::Result<(Duration, Duration)> {
     let start = Instant::now(rt)?;
-    node.take(export)?;
-    let took = start.elapsed(rt)?;
-    tell(rt, "take by a node", u64::from(keys), took)
+    both.gateway.take(&both.later)?;
+    let gateway = start.elapsed(rt)?;
+    let start = Instant::now(rt)?;
+    both.node.take(&both.later)?;
+    Ok((gateway, start.elapsed(rt)?))
 }
 
-// Takes later points of held keys by a gateway and by a node.
 fn takes_of_both(rt: &HostRuntime, keys: u32) -> anyhow::Result<()> {
-    let mut both = prepared(rt.alloc(), keys)?;
-    takes::timed(
-        rt,
-        "take by a gateway",
-        keys,
-        &mut both.gateway,
-        &both.later,
-    )?;
-    timed(rt, keys, &mut both.node, &both.later)
+    let (gateway, node) = time_takes(rt, &mut both_holding(rt.alloc(), keys)?)?;
+    tell(rt, "take by a gateway", u64::from(keys), gateway)?;
+    tell(rt, "take by a node", u64::from(keys), node)
 }
 
 // Two nodes, of which the first tells the second. They are borrowed by what may fail: each exit there drops neither.
@@ -64,14 +60,14 @@ fn two_nodes(alloc: Global) -> Pair {
     }
 }
 
-// A node takes an export of so many keys, of the incarnation of a start.
-fn hears(node: &mut Node, alloc: Global, times: Times, keys: u32) -> anyhow::Result<()> {
-    node.take(&export_of(alloc, times, Sets::Numbers, 0, keys)?)?;
+// A node takes an export of these keys.
+fn hears(node: &mut Node, alloc: Global, times: Times, keys: Keys) -> anyhow::Result<()> {
+    node.take(&export_of(alloc, times, keys)?)?;
     Ok(())
 }
 
 // A message, which must have so many cells, and how long it took.
-fn sent(
+fn time_send(
     rt: &HostRuntime,
     sender: &mut Node,
     to: u32,
@@ -88,7 +84,7 @@ fn sent(
 }
 
 // How long the handing of a message took, the answer to which goes to its sender.
-fn handed(rt: &HostRuntime, pair: &mut Pair, message: &Message) -> anyhow::Result<Duration> {
+fn time_hand(rt: &HostRuntime, pair: &mut Pair, message: &Message) -> anyhow::Result<Duration> {
     let start = Instant::now(rt)?;
     let answer = pair.receiver.hand(message)?;
     let took = start.elapsed(rt)?;
@@ -100,12 +96,14 @@ fn handed(rt: &HostRuntime, pair: &mut Pair, message: &Message) -> anyhow::Resul
 }
 
 // One message of so many cells, its handing, and its acknowledgement.
-fn exchange(rt: &HostRuntime, cells: u32, pair: &mut Pair) -> anyhow::Result<()> {
+fn exchange(rt: &HostRuntime, what: &str, cells: u32, pair: &mut Pair) -> anyhow::Result<()> {
     let to = pair.receiver.gateway().id();
-    let (message, sending) = sent(rt, &mut pair.sender, to, cells)?;
-    let handing = handed(rt, pair, &message)?;
-    tell(rt, "send of a delta", u64::from(cells), sending)?;
-    tell(rt, "hand of a delta", u64::from(cells), handing)
+    let (message, sending) = time_send(rt, &mut pair.sender, to, cells)?;
+    let handing = time_hand(rt, pair, &message)?;
+    eprint!(rt; "{what}: ")?;
+    tell(rt, "send", u64::from(cells), sending)?;
+    eprint!(rt; "{what}: ")?;
+    tell(rt, "hand", u64::from(cells), handing)
 }
 
 // What the second node answers to a message of the first.
@@ -121,11 +119,7 @@ fn next_len(sender: &mut Node) -> anyhow::Result<usize> {
 
 // Until an Ack is handed, messages carry both keys, and then the one that changed since.
 fn late_ack(alloc: Global, sender: &mut Node, ack: &Message) -> anyhow::Result<()> {
-    let later = Times {
-        begin: 100,
-        time: 300,
-    };
-    hears(sender, alloc, later, 1)?;
+    hears(sender, alloc, Times::at(300), Keys::first(Sets::Numbers, 1))?;
     let without = next_len(sender)?;
     sender.hand(ack)?;
     let with = next_len(sender)?;
@@ -138,19 +132,16 @@ fn late_ack(alloc: Global, sender: &mut Node, ack: &Message) -> anyhow::Result<(
 
 // An Ack that is lost.
 fn lost_ack(alloc: Global, pair: &mut Pair) -> anyhow::Result<()> {
-    let first = Times {
-        begin: 100,
-        time: 200,
-    };
-    hears(&mut pair.sender, alloc, first, 2)?;
+    let two = Keys::first(Sets::Numbers, 2);
+    hears(&mut pair.sender, alloc, Times::at(200), two)?;
     let Some(ack) = answer(pair)? else {
         bail!("a delta of two keys was not answered");
     };
     late_ack(alloc, &mut pair.sender, &ack)
 }
 
-// A hundred incarnations of so many keys each, which the second node acknowledges.
-fn hundred(alloc: Global, pair: &mut Pair, keys: u32) -> anyhow::Result<()> {
+// A hundred incarnations of these keys each, which the second node acknowledges.
+fn hundred_incarnations(alloc: Global, pair: &mut Pair, keys: Keys) -> anyhow::Result<()> {
     for begin in 0..100 {
         hears(&mut pair.sender, alloc, Times { begin, time: 200 }, keys)?;
     }
@@ -161,41 +152,39 @@ fn hundred(alloc: Global, pair: &mut Pair, keys: u32) -> anyhow::Result<()> {
 }
 
 // A message of one incarnation of a hundred, the rest of which did not change since the last Ack.
-fn one_of_many(rt: &HostRuntime, pair: &mut Pair, keys: u32) -> anyhow::Result<()> {
-    hundred(rt.alloc(), pair, keys)?;
+fn one_of_many(rt: &HostRuntime, pair: &mut Pair, keys: Keys) -> anyhow::Result<()> {
+    hundred_incarnations(rt.alloc(), pair, keys)?;
     let later = Times {
         begin: 50,
         time: 300,
     };
     hears(&mut pair.sender, rt.alloc(), later, keys)?;
-    let (_, took) = sent(rt, &mut pair.sender, 2, keys)?;
-    tell(
-        rt,
-        "send of one incarnation of a hundred",
-        u64::from(keys),
-        took,
-    )
+    exchange(rt, "one incarnation of a hundred", keys.count, pair)
 }
 
-// An exchange of all of so many keys, and one of the hundredth part that changed since.
-fn exchanges(rt: &HostRuntime, pair: &mut Pair, keys: u32, few: u32) -> anyhow::Result<()> {
-    for (time, cells) in [(200, keys), (300, few)] {
-        hears(
-            &mut pair.sender,
-            rt.alloc(),
-            Times { begin: 100, time },
-            cells,
-        )?;
-        exchange(rt, cells, pair)?;
+// An exchange of all keys, and then of those that changed since: the first hundredth, each hundredth, and one.
+fn exchanges(rt: &HostRuntime, pair: &mut Pair, all: Keys) -> anyhow::Result<()> {
+    let count = (all.count / 100).max(1);
+    let changes = [
+        ("all keys", 200, all),
+        ("the first hundredth", 300, Keys { count, ..all }),
+        ("each hundredth key", 400, all.only(Which::Few)),
+        ("one key", 500, Keys { count: 1, ..all }),
+    ];
+    for (what, time, keys) in changes {
+        hears(&mut pair.sender, rt.alloc(), Times::at(time), keys)?;
+        exchange(rt, what, keys.len(), pair)?;
     }
     Ok(())
 }
 
-/// Takes, and two exchanges: all of so many keys, and then the hundredth part that changed since.
+/// Takes, and exchanges: all of so many keys, and then those that changed since.
 pub fn run(rt: &HostRuntime, keys: u32) -> anyhow::Result<()> {
     let few = (keys / 100).max(1);
     takes_of_both(rt, keys)?;
     lost_ack(rt.alloc(), &mut two_nodes(rt.alloc()))?;
-    one_of_many(rt, &mut two_nodes(rt.alloc()), few)?;
-    exchanges(rt, &mut two_nodes(rt.alloc()), keys, few)
+    let part = Keys::first(Sets::Numbers, few);
+    one_of_many(rt, &mut two_nodes(rt.alloc()), part)?;
+    let all = Keys::first(Sets::Numbers, keys);
+    exchanges(rt, &mut two_nodes(rt.alloc()), all)
 }

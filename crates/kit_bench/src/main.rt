@@ -1,18 +1,26 @@
 //! How long the parts of the kit take, by the clock.
 //!
-//! `kit_bench` runs small sizes, so that all of it is tried; `kit_bench full` runs the sizes that docs tell of. Timings go
-//! to standard error, and nothing to standard output.
+//! - `kit_bench` runs small sizes of all parts, so that all of it is tried.
+//! - `kit_bench full` runs the sizes that docs tell of, and `kit_bench full rollups` those of one part: `turns`, `recordings`,
+//!   `bound`, `recorders`, `writers`, `fleets`, `gateways`, `gossip`, `bytes`, `rounds` or `rollups`.
+//! - `kit_bench hold-gateway 1000000` holds so many points and ends, so that its memory can be measured from outside;
+//!   `hold-tree` and `hold-map` hold the same points in maps of `std`.
+//!
+//! Timings go to standard error, and nothing to standard output.
 #![tactic(auto)]
 
+mod bound_points;
+mod bytes;
 mod changes;
 mod clock;
 mod counter;
 mod fleets;
 mod gateways;
 mod gossip;
+mod held;
 mod measures;
-mod merges;
 mod mutexes;
+mod recorders;
 mod recordings;
 mod rollups;
 mod rounds;
@@ -20,14 +28,12 @@ mod shared_writers;
 mod takes;
 mod tallies;
 mod turns;
+mod words;
 
-use std::env;
+use words::{Part, Words};
 
-fn takes_and_merges(rt: &HostRuntime, sizes: &[u32]) -> anyhow::Result<()> {
+fn all_gossip(rt: &HostRuntime, sizes: &[u32]) -> anyhow::Result<()> {
     for keys in sizes {
-        takes::run(rt, *keys)?;
-        takes::run_scattered(rt, *keys)?;
-        merges::run(rt, *keys)?;
         gossip::run(rt, *keys)?;
     }
     Ok(())
@@ -40,30 +46,63 @@ fn all_rounds(rt: &HostRuntime, sizes: &[u32]) -> anyhow::Result<()> {
     Ok(())
 }
 
-fn all_rollups(rt: &HostRuntime, keys: u32, sizes: &[u32]) -> anyhow::Result<()> {
-    for groups in sizes {
-        rollups::run(rt, keys, *groups)?;
+fn all_rollups(rt: &HostRuntime, points: &[u32], sizes: &[u32]) -> anyhow::Result<()> {
+    for keys in points {
+        for groups in sizes {
+            rollups::run(rt, *keys, *groups)?;
+        }
+        rollups::run_scattered(rt, *keys)?;
     }
     Ok(())
 }
 
-fn main(rt: HostRuntime) -> anyhow::Result<()> {
-    let full = env::args(&rt)?.any(|word| word.as_str() == "full");
-    if full {
-        changes::run(&rt, 7, 400_000)?;
-        measures::run(&rt, 2_000_000, 2_000)?;
-        recordings::run(&rt, 7, 400_000)?;
-        fleets::run(&rt, 9, 1_000, 250)?;
-        takes_and_merges(&rt, &[1_000, 10_000, 100_000])?;
-        all_rounds(&rt, &[1_000, 100_000])?;
-        all_rollups(&rt, 100_000, &[1, 10, 10_000])
-    } else {
-        changes::run(&rt, 1, 1_000)?;
-        measures::run(&rt, 20, 5)?;
-        recordings::run(&rt, 1, 100)?;
-        fleets::run(&rt, 3, 20, 2)?;
-        takes_and_merges(&rt, &[10, 40])?;
-        all_rounds(&rt, &[10, 40])?;
-        all_rollups(&rt, 40, &[4])
+// The parts whose threads, if any, are `main`'s own.
+fn alone(rt: &HostRuntime, words: &Words) -> anyhow::Result<()> {
+    if words.has(Part::Recordings) {
+        measures::run(rt, words.size(2_000_000, 20), words.size(2_000, 5))?;
     }
+    if words.has(Part::Bound) {
+        bound_points::run(rt, words.size(2_000_000, 20))?;
+    }
+    if words.has(Part::Gateways) {
+        let sizes = words.sizes(&[1_000, 100_000, 1_000_000], &[10, 40]);
+        takes::run(rt, words.size(300_000, 40), sizes)?;
+    }
+    if words.has(Part::Gossip) {
+        all_gossip(rt, words.sizes(&[1_000, 10_000, 100_000], &[10, 40]))?;
+    }
+    if words.has(Part::Bytes) {
+        bytes::run(rt, words.size(100_000, 40))?;
+    }
+    if words.has(Part::Rounds) {
+        all_rounds(rt, words.sizes(&[1_000, 100_000], &[10, 40]))?;
+    }
+    if words.has(Part::Rollups) {
+        let points = words.sizes(&[100_000, 1_000_000], &[40]);
+        all_rollups(rt, points, words.sizes(&[1, 10, 10_000], &[4]))?;
+    }
+    Ok(())
+}
+
+// `main` alone has what may start threads.
+fn main(rt: HostRuntime) -> anyhow::Result<()> {
+    let words = Words::read(&rt)?;
+    if let Some(holder) = words.holder {
+        return held::run(rt.alloc(), holder, words.count);
+    }
+    if words.has(Part::Turns) {
+        changes::run(&rt, words.size(7, 1), words.size(400_000, 1_000))?;
+    }
+    if words.has(Part::Recorders) {
+        let (rounds, sets) = (words.size(5, 1), words.size(1_000, 5));
+        recorders::run(&rt, rounds, sets, words.size(400_000, 2_000))?;
+    }
+    if words.has(Part::Writers) {
+        recordings::run(&rt, words.size(7, 1), words.size(400_000, 100))?;
+    }
+    if words.has(Part::Fleets) {
+        let (rounds, sets) = (words.size(9, 3), words.size(1_000, 20));
+        fleets::run(&rt, rounds, sets, words.size(250, 2))?;
+    }
+    alone(&rt, &words)
 }

@@ -1,7 +1,7 @@
 //! Recordings into points that are held, beside a bare map of the same sets.
 use crate::clock::tell;
 use crate::tallies::{first_key, sets, tally};
-use agg_kit::{MeasureFault, Tally};
+use agg_kit::{Tally, TallyFault};
 use attr_kit::AttrSet;
 use indexmap::IndexMap;
 use plan_kit::Kind;
@@ -16,7 +16,7 @@ fn count(sets: &[AttrSet], turns: u32) -> u64 {
 }
 
 // Records the value at each set in turn.
-fn record(tally: &mut Tally, sets: &[AttrSet], turns: u32) -> Result<(), MeasureFault> {
+fn record(tally: &mut Tally, sets: &[AttrSet], turns: u32) -> Result<(), TallyFault> {
     for _ in 0..turns {
         for set in sets {
             tally.measure(0, set, VALUE)?;
@@ -25,7 +25,7 @@ fn record(tally: &mut Tally, sets: &[AttrSet], turns: u32) -> Result<(), Measure
     Ok(())
 }
 
-fn timed(
+fn time_measures(
     rt: &HostRuntime,
     what: &str,
     tally: &mut Tally,
@@ -73,7 +73,7 @@ fn kinds(rt: &HostRuntime, sets: &[AttrSet], turns: u32) -> anyhow::Result<()> {
     floor(rt, sets, turns)?;
     for (what, kind) in [("counter", Kind::Counter), ("histogram", Kind::Histogram)] {
         let mut tally = tally(rt.alloc(), kind, Vec::new(rt.alloc()))?;
-        timed(rt, what, &mut tally, sets, turns)?;
+        time_measures(rt, what, &mut tally, sets, turns)?;
     }
     Ok(())
 }
@@ -94,7 +94,7 @@ fn keeping(alloc: Global) -> anyhow::Result<Tally> {
 fn kept(rt: &HostRuntime, turns: u32) -> anyhow::Result<()> {
     let sets = sets(rt.alloc(), 4, 1)?;
     let mut counter = keeping(rt.alloc())?;
-    timed(
+    time_measures(
         rt,
         "counter that keeps one key of four",
         &mut counter,

@@ -32,7 +32,7 @@ fn count(total: i64) -> u64 {
     total.unsigned_abs().saturating_sub(1)
 }
 
-fn timed<R: Clock + Eprint>(
+fn time_recordings<R: Clock + Eprint>(
     rt: &R,
     writer: &mut Writer,
     attrs: &AttrSet,
@@ -54,11 +54,11 @@ fn alone<R: Clock + Eprint + AllocGlobal>(
     attrs: &AttrSet,
     times: u64,
 ) -> anyhow::Result<()> {
-    timed(rt, &mut holding(rt.alloc(), attrs)?, attrs, times)
+    time_recordings(rt, &mut holding(rt.alloc(), attrs)?, attrs, times)
 }
 
 // So many recordings by each of so many threads; their start and end count too.
-fn shared<R: Threads + Wait + Sync + Clock + Eprint + AllocGlobal>(
+fn time_shared<R: Threads + Wait + Sync + Clock + Eprint + AllocGlobal>(
     rt: &R,
     threads: usize,
     attrs: &AttrSet,
@@ -79,7 +79,7 @@ fn beside<R: Threads + Wait + Sync + Clock + Eprint + AllocGlobal>(
 ) -> anyhow::Result<()> {
     alone(rt, attrs, times)?;
     for threads in [1, 2, 4] {
-        shared(rt, threads, attrs, times)?;
+        time_shared(rt, threads, attrs, times)?;
     }
     Ok(())
 }

@@ -15,7 +15,7 @@ use std::time::{Duration, Instant};
 const TIMES: u64 = 9;
 
 // A counter with so many points.
-fn filled(alloc: Global, series: u32) -> anyhow::Result<Tally> {
+fn tally_of(alloc: Global, series: u32) -> anyhow::Result<Tally> {
     let mut tally = tally(alloc, Kind::Counter, Vec::new(alloc))?;
     for number in 0..series {
         tally.measure(0, &set(alloc, 4, number)?, 1)?;
@@ -23,7 +23,7 @@ fn filled(alloc: Global, series: u32) -> anyhow::Result<Tally> {
     Ok(tally)
 }
 
-fn placed<'b>(
+fn time_place<'b>(
     rt: &HostRuntime,
     bump: &'b Bump,
     tally: &Tally,
@@ -34,7 +34,7 @@ fn placed<'b>(
     Ok((round, took))
 }
 
-fn copied(rt: &HostRuntime, round: &Round<'_>, writer: &WriterId) -> anyhow::Result<Duration> {
+fn time_copy(rt: &HostRuntime, round: &Round<'_>, writer: &WriterId) -> anyhow::Result<Duration> {
     let start = Instant::now(rt)?;
     let export = round.copy_out(rt.alloc(), writer)?;
     let took = start.elapsed(rt)?;
@@ -51,10 +51,10 @@ fn in_new_arenas(rt: &HostRuntime, tally: &Tally, series: u32) -> anyhow::Result
     let mut second = Duration::MAX;
     for _ in 0..TIMES {
         let mut bump = Bump::new(rt.alloc());
-        let (_, took) = placed(rt, &bump, tally)?;
+        let (_, took) = time_place(rt, &bump, tally)?;
         first = first.min(took);
         bump.reset()?;
-        let (_, took) = placed(rt, &bump, tally)?;
+        let (_, took) = time_place(rt, &bump, tally)?;
         second = second.min(took);
     }
     tell(rt, "place in a new arena", u64::from(series), first)?;
@@ -71,7 +71,7 @@ fn in_a_kept_arena(rt: &HostRuntime, tally: &Tally, series: u32) -> anyhow::Resu
     let mut bump = Bump::new(rt.alloc());
     let mut least = Duration::MAX;
     for _ in 0..TIMES {
-        let (_, took) = placed(rt, &bump, tally)?;
+        let (_, took) = time_place(rt, &bump, tally)?;
         least = least.min(took);
         bump.reset()?;
     }
@@ -86,17 +86,17 @@ fn in_a_kept_arena(rt: &HostRuntime, tally: &Tally, series: u32) -> anyhow::Resu
 fn copied_out(rt: &HostRuntime, tally: &Tally, series: u32) -> anyhow::Result<()> {
     let writer = writer(rt.alloc())?;
     let bump = Bump::new(rt.alloc());
-    let (round, _) = placed(rt, &bump, tally)?;
+    let (round, _) = time_place(rt, &bump, tally)?;
     let mut least = Duration::MAX;
     for _ in 0..TIMES {
-        least = least.min(copied(rt, &round, &writer)?);
+        least = least.min(time_copy(rt, &round, &writer)?);
     }
     tell(rt, "copy out", u64::from(series), least)
 }
 
 /// Rounds of so many points: in new arenas, in arenas that were reset, in one that is kept, and copied out.
 pub fn run(rt: &HostRuntime, series: u32) -> anyhow::Result<()> {
-    let tally = filled(rt.alloc(), series)?;
+    let tally = tally_of(rt.alloc(), series)?;
     in_new_arenas(rt, &tally, series)?;
     in_a_kept_arena(rt, &tally, series)?;
     copied_out(rt, &tally, series)

@@ -28,7 +28,7 @@ use Rattle.std.proofs.ResultValues.{and_tt}
 use Rattle.kit_c.specs.contracts.loose.Loose as loose
 use Rattle.kit_c.specs.contracts.held.Held as held
 use Rattle.kit_c.specs.contracts.inner.Inner as inner
-use Rattle.kit_c.specs.Owned.{owned}
+use Rattle.kit_c.specs.Owned.{box_memory}
 use Rattle.std.specs.Global.{Global}
 use Rattle.std.specs.declared.option.Option.{Option}
 use Rattle.std.specs.declared.option.Option.TheVariants.{None, Some}
@@ -123,7 +123,7 @@ module _ {M : Type 1} {𝓤 : Ura M} {𝓛 : Logic 𝓤} {K : Type 0} {Γ : List
       → Seq K 𝓛 (‵ ((inner.the_row).own_val d vs) ∷ Γ) G
   inner_out t d vs x some k =
       fsplit t $ fpick t (λ vss. fsplit t $ feq_l t (λ ev. fsplit t $ feq_l t (λ ep. fsplit t $ handle_tells al₀ t d.alloc vss.1.0 (λ h ea fits. move t (1 ∷ []) $ drop t $ move t (1 ∷ []) $
-      rewrite t 0 (λ (m : Option R₀.Denot). ‵ (owned R₀ d.alloc d.at m)) some refl $
+      rewrite t 0 (λ (m : Option R₀.Denot). ‵ (box_memory R₀ d.alloc d.at m)) some refl $
       in_a_block t d.at (λ p. box_owns (ghosts.dealloc_token d.alloc) R₀ p x) (fst∗ 𝓤 (never 𝓤) (sem 𝓛 (ghosts.dealloc_token d.alloc (bare (lone R₀.mir)) null_ptr))) (λ b o e. k b o h e
       (subst (λ (p : Ptr). vs ≡ vstruct (of_list (ptr_val p ∷ h ∷ [])) ∷ []) e
       (subst (λ (ws : List Val). vs ≡ vstruct (of_list (ptr_val d.at ∷ (ws ++ []))) ∷ []) ea (subst (λ (ps : List Val). vs ≡ vstruct (of_list (ps ++ (vss.1.0 ++ []))) ∷ []) ep ev))) fits)))))

@@ -16,9 +16,9 @@ export_fault (Export e) = None
 export_fault h = Some faults.WrongKind
 
 -- the bytes of an export
-abbrev pub encoded : Held → List ℕ
-encoded (Export e) = bytes_of e
-encoded h = []
+abbrev pub export_bytes : Held → List ℕ
+export_bytes (Export e) = bytes_of e
+export_bytes h = []
 
 -- a thing is no bytes
 abbrev pub bytes_fault : Held → Option Fault
@@ -41,9 +41,9 @@ IsDecodeFault bytes (faults.Decode f) = Explains bytes f
 IsDecodeFault bytes other = ⊥
 
 -- the bytes of a message
-abbrev pub encoded_message : Held → List ℕ
-encoded_message (Message m) = bytes_of_message m
-encoded_message h = []
+abbrev pub export_bytes_message : Held → List ℕ
+export_bytes_message (Message m) = bytes_of_message m
+export_bytes_message h = []
 
 -- an export or a message whose numbers are of the sizes that its bytes have: what reading them asks for
 abbrev pub HasForm : Option Held → Type 0

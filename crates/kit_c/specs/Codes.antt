@@ -1,6 +1,8 @@
 -- The code of each refusal.
 use Rattle.std.specs.Prelude.{ℤ, pos}
-use Rattle.agg_kit.specs.declared.fault.MeasureFault.TheVariants as tallies
+use Rattle.agg_kit.specs.declared.fault.RecordFault.{RecordFault}
+use Rattle.agg_kit.specs.declared.fault.RecordFault.TheVariants as records
+use Rattle.agg_kit.specs.declared.fault.TallyFault.TheVariants as tallies
 use Rattle.attr_kit.specs.declared.error.AttrFault.{AttrFault}
 use Rattle.attr_kit.specs.declared.error.AttrFault.TheVariants as sets
 use Rattle.plan_kit.specs.declared.fault.PlanFault.{PlanFault}
@@ -9,6 +11,8 @@ use Rattle.bytes_kit.specs.declared.fault.DecodeFault.{DecodeFault}
 use Rattle.bytes_kit.specs.declared.fault.DecodeFault.TheVariants as decodings
 use Rattle.gossip_kit.specs.declared.fault.HandFault.{HandFault}
 use Rattle.gossip_kit.specs.declared.fault.HandFault.TheVariants as hands
+use Rattle.writer_kit.specs.declared.fault.AbsorbFault.{AbsorbFault}
+use Rattle.writer_kit.specs.declared.fault.AbsorbFault.TheVariants as absorbs
 use Rattle.writer_kit.specs.declared.fault.CollectFault.{CollectFault}
 use Rattle.writer_kit.specs.declared.fault.CollectFault.TheVariants as collections
 use Rattle.writer_kit.specs.declared.fault.MeasureFault.{MeasureFault}
@@ -22,12 +26,29 @@ use Rattle.kit_c.specs.declared.fault.Fault.TheVariants as faults
 abbrev pub no_memory : ℤ
 no_memory = pos 1
 
+-- a recorder that may not hold a recording by itself
+abbrev pub recorder_full : ℤ
+recorder_full = pos 70
+
 abbrev pub recording_code : MeasureFault → ℤ
 recording_code recordings.Closed = pos 10
 recording_code (recordings.Refused tallies.NoInstrument) = pos 11
 recording_code (recordings.Refused tallies.Negative) = pos 12
 recording_code (recordings.Refused (tallies.Overflow stream)) = pos 13
 recording_code (recordings.Refused tallies.NoMemory) = no_memory
+
+abbrev pub record_code : RecordFault → ℤ
+record_code records.NoInstrument = pos 11
+record_code records.Negative = pos 12
+record_code records.Full = recorder_full
+record_code records.NoMemory = no_memory
+
+abbrev pub absorbing_code : AbsorbFault → ℤ
+absorbing_code absorbs.Closed = pos 10
+absorbing_code (absorbs.Refused tallies.NoInstrument) = pos 11
+absorbing_code (absorbs.Refused tallies.Negative) = pos 12
+absorbing_code (absorbs.Refused (tallies.Overflow stream)) = pos 13
+absorbing_code (absorbs.Refused tallies.NoMemory) = no_memory
 
 abbrev pub collection_code : CollectFault → ℤ
 collection_code collections.Closed = pos 10
@@ -83,6 +104,7 @@ code_of faults.NoBucket = pos 41
 code_of faults.Busy = pos 16
 code_of faults.Exhausted = pos 17
 code_of faults.SeatsFull = pos 18
+code_of faults.OtherPlan = pos 71
 code_of (faults.Measure f) = recording_code f
 code_of (faults.Collect f) = collection_code f
 code_of (faults.Restart f) = restart_code f
@@ -90,3 +112,5 @@ code_of (faults.Attributes f) = attributes_code f
 code_of (faults.Plan f) = plan_code f
 code_of (faults.Hand f) = handing_code f
 code_of (faults.Decode f) = decoding_code f
+code_of (faults.Record f) = record_code f
+code_of (faults.Absorb f) = absorbing_code f

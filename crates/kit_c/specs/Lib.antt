@@ -14,6 +14,8 @@ pub mod Numbers
 pub mod Owned
 pub mod Places
 pub mod Plans
+pub mod RecorderSets
+pub mod Recorders
 pub mod Rows
 pub mod Views
 pub mod Writers

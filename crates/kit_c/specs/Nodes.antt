@@ -2,7 +2,7 @@
 use Rattle.std.specs.Prelude.{◌≡◌, ℕ, [], ◌∷◌, Option, Some, None}
 use Rattle.std.specs.FinMap as finite
 use Rattle.std.specs.Option.{option_map}
-use Rattle.gateway_kit.specs.View.{View}
+use Rattle.gateway_kit.specs.GatewayState.{GatewayState}
 use Rattle.gossip_kit.specs.Gossip.{acked_after, acknowledged, answer_of, carried_to, delta_to, hand_fault, Brings, CarriesHeld, Renumbers}
 use Rattle.gossip_kit.specs.Views.{MessageView, NodeView}
 use Rattle.point_kit.specs.Exports.{Points, state, join_points, changed_points}
@@ -12,7 +12,7 @@ use Rattle.kit_c.specs.declared.held.Held.{Held}
 use Rattle.kit_c.specs.declared.held.Held.TheVariants.{Export, Gateway, Message, Node}
 
 -- a node has a gateway's points, has not changed yet, and nobody acknowledged anything to it
-pub record Begins (g : View) (n : NodeView) : Type 0 where
+pub record Begins (g : GatewayState) (n : NodeView) : Type 0 where
   pub id : n.gateway.id ≡ g.id
   pub points : n.gateway.points ≡ g.points
   pub change : n.change ≡ 0
@@ -62,7 +62,7 @@ node_changes (Node n) (Node after) = changed_points n.gateway.points after.gatew
 node_changes h other = 0
 
 -- the gateway that a node has
-abbrev pub gateway_in : Held → Option View
+abbrev pub gateway_in : Held → Option GatewayState
 gateway_in (Node n) = Some n.gateway
 gateway_in h = None
 

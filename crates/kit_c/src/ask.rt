@@ -1,7 +1,7 @@
 //! Asks, their rows, and tables.
 ghost use Rattle.std.specs.Prelude.{◌≡◌, ◌≢◌, ◌∷◌, [], pos, None, Some, OnOk, OnErr, IfErr, IfOk};
 ghost use Rattle.std.specs.Option.{option_map};
-ghost use Rattle.attr_kit.specs.AllowLists.{allowed};
+ghost use Rattle.attr_kit.specs.AllowLists.{listed_keys};
 ghost use Rattle.attr_kit.specs.Refusing.{first};
 ghost use Rattle.kit_c.specs.Asks.{all_of, ask_fault, asked_keeping, asked_of_service, asked_only, asking_fault, gauge_stream, histogram_stream, rows_for, rows_text, stream_fault, sum_stream, table_fault};
 ghost use Rattle.kit_c.specs.Codes.{code_of, no_memory};
@@ -75,7 +75,7 @@ pub extern "C" fn kit_ask_sum(
         return FULL;
     }
     match stream_of(alloc, scope, name, unit, Shape::Sum { monotonic }) {
-        Ok(stream) => ask.filled(alloc, Held::Ask(all(alloc, stream))),
+        Ok(stream) => ask.fill(alloc, Held::Ask(all(alloc, stream))),
         Err(fault) => fault.code(),
     }
 }
@@ -102,7 +102,7 @@ pub extern "C" fn kit_ask_gauge(
         return FULL;
     }
     match stream_of(alloc, scope, name, unit, Shape::Gauge) {
-        Ok(stream) => ask.filled(alloc, Held::Ask(all(alloc, stream))),
+        Ok(stream) => ask.fill(alloc, Held::Ask(all(alloc, stream))),
         Err(fault) => fault.code(),
     }
 }
@@ -134,12 +134,12 @@ pub extern "C" fn kit_ask_histogram(
         Err(_) => return NO_MEMORY,
     };
     match stream_of(alloc, scope, name, unit, Shape::Histogram { bounds }) {
-        Ok(stream) => ask.filled(alloc, Held::Ask(all(alloc, stream))),
+        Ok(stream) => ask.fill(alloc, Held::Ask(all(alloc, stream))),
         Err(fault) => fault.code(),
     }
 }
 
-fn answered(alloc: Global, gateway: &Held, ask: &Held) -> Result<Seq<Row>, Fault>
+fn answer_ask(alloc: Global, gateway: &Held, ask: &Held) -> Result<Seq<Row>, Fault>
     ensures ok { OnOk result (asking_fault gateway.now ask.now ≡ None) }
     ensures value { IfOk result (λ rows. rows ≡ rows_for gateway.now ask.now) }
     ensures err { IfErr result (λ f. code_of f ≢ no_memory → asking_fault gateway.now ask.now ≡ Some f) }
@@ -184,16 +184,16 @@ pub extern "C" fn kit_gateway_rows(
         gateway.put(held);
         return NOTHING;
     };
-    let outcome = answered(alloc, &held, &asked);
+    let outcome = answer_ask(alloc, &held, &asked);
     gateway.put(held);
     ask.put(asked);
     match outcome {
-        Ok(answer) => rows.filled(alloc, Held::Rows(answer)),
+        Ok(answer) => rows.fill(alloc, Held::Rows(answer)),
         Err(fault) => fault.code(),
     }
 }
 
-fn told(alloc: Global, rows: &Held) -> Result<Txt, Fault>
+fn table_text(alloc: Global, rows: &Held) -> Result<Txt, Fault>
     ensures ok { OnOk result (table_fault rows.now ≡ None) }
     ensures value { IfOk result (λ text. text ≡ rows_text rows.now) }
     ensures err { IfErr result (λ f. code_of f ≢ no_memory → table_fault rows.now ≡ Some f) }
@@ -224,10 +224,10 @@ pub extern "C" fn kit_rows_table(alloc: Global, rows: &mut KitHandle, text: &mut
     let Some(held) = rows.take(alloc) else {
         return NOTHING;
     };
-    let outcome = told(alloc, &held);
+    let outcome = table_text(alloc, &held);
     rows.put(held);
     match outcome {
-        Ok(table) => text.filled(alloc, Held::Text(table)),
+        Ok(table) => text.fill(alloc, Held::Text(table)),
         Err(fault) => fault.code(),
     }
 }
@@ -332,7 +332,7 @@ fn keeping(held: &mut Held, list: AllowList) -> Result<(), Fault>
 pub extern "C" fn kit_ask_keep(alloc: Global, ask: &mut KitHandle, keys: &mut KitHandle) -> i32
     ensures ok { result ≡ pos 0 → first (no_keys keys.old.inner.value ∷ of_one ask.old.inner.value ask_fault ∷ []) ≡ None }
     ensures value { result ≡ pos 0
-        → ask.new.inner.value ≡ in_one (asked_keeping (allowed (keys_of keys.old.inner.value))) ask.old.inner.value }
+        → ask.new.inner.value ≡ in_one (asked_keeping (listed_keys (keys_of keys.old.inner.value))) ask.old.inner.value }
     ensures err { result ≢ pos 0 → result ≢ no_memory → option_map code_of
         (first (no_keys keys.old.inner.value ∷ of_one ask.old.inner.value ask_fault ∷ [])) ≡ Some result }
     ensures unchanged { result ≢ pos 0 → ask.new.inner.value ≡ ask.old.inner.value }

@@ -10,7 +10,7 @@ ghost use Rattle.kit_c.specs.Handles.{pairs_of};
 ghost use Rattle.kit_c.specs.Places.{place_after};
 ghost use Rattle.kit_c.specs.declared.held.Held.TheVariants.{Attributes, Pairs};
 
-use crate::fault::{FULL, Fault, OK, refused};
+use crate::fault::{FULL, Fault, OK, code_with_place};
 use crate::handle::KitHandle;
 use crate::held::Held;
 use crate::list::push;
@@ -18,7 +18,7 @@ use crate::text::text_of;
 use attr_kit::{AttrSet, AttrValue, Seq, TryCopy, Txt};
 use std::alloc::Global;
 
-fn pushed(alloc: Global, held: &mut Held, key: Txt, value: AttrValue) -> Result<(), Fault>
+fn push_pair(alloc: Global, held: &mut Held, key: Txt, value: AttrValue) -> Result<(), Fault>
     ensures ok { OnOk result (no_pairs (Some held.old) ≡ None) }
     ensures value { OnOk result (held.new ≡ Pairs (pairs_of (Some held.old) ++ (key, value) ∷ [])) }
     ensures err { IfErr result (λ f. code_of f ≢ no_memory → no_pairs (Some held.old) ≡ Some f) }
@@ -31,7 +31,7 @@ fn pushed(alloc: Global, held: &mut Held, key: Txt, value: AttrValue) -> Result<
     Ok(())
 }
 
-fn added(alloc: Global, pairs: &mut KitHandle, key: Txt, value: AttrValue) -> Result<(), Fault>
+fn add_pair(alloc: Global, pairs: &mut KitHandle, key: Txt, value: AttrValue) -> Result<(), Fault>
     ensures ok { OnOk result (no_pairs pairs.old.inner.value ≡ None) }
     ensures value { OnOk result (pairs.new.inner.value ≡ Some (Pairs (pairs_of pairs.old.inner.value ++ (key, value) ∷ []))) }
     ensures err { IfErr result (λ f. code_of f ≢ no_memory → no_pairs pairs.old.inner.value ≡ Some f) }
@@ -39,13 +39,13 @@ fn added(alloc: Global, pairs: &mut KitHandle, key: Txt, value: AttrValue) -> Re
 {
     match pairs.take(alloc) {
         Some(mut held) => {
-            let outcome = pushed(alloc, &mut held, key, value);
+            let outcome = push_pair(alloc, &mut held, key, value);
             pairs.put(held);
             outcome
         }
         None => {
             let mut first = Held::Pairs(Seq::new(alloc));
-            pushed(alloc, &mut first, key, value)?;
+            push_pair(alloc, &mut first, key, value)?;
             pairs.put(Box::new(alloc, first)?);
             Ok(())
         }
@@ -77,7 +77,7 @@ pub extern "C" fn kit_pairs_add_text(
         Ok(value) => value,
         Err(fault) => return fault.code(),
     };
-    match added(alloc, pairs, key, AttrValue::Text(value)) {
+    match add_pair(alloc, pairs, key, AttrValue::Text(value)) {
         Ok(()) => OK,
         Err(fault) => fault.code(),
     }
@@ -104,7 +104,7 @@ pub extern "C" fn kit_pairs_add_whole(
         Ok(key) => key,
         Err(fault) => return fault.code(),
     };
-    match added(alloc, pairs, key, AttrValue::Whole(value)) {
+    match add_pair(alloc, pairs, key, AttrValue::Whole(value)) {
         Ok(()) => OK,
         Err(fault) => fault.code(),
     }
@@ -131,7 +131,7 @@ pub extern "C" fn kit_pairs_add_truth(
         Ok(key) => key,
         Err(fault) => return fault.code(),
     };
-    match added(alloc, pairs, key, AttrValue::Truth(value)) {
+    match add_pair(alloc, pairs, key, AttrValue::Truth(value)) {
         Ok(()) => OK,
         Err(fault) => fault.code(),
     }
@@ -199,7 +199,7 @@ pub extern "C" fn kit_attributes_make(
         return FULL;
     }
     match set_of(alloc, pairs) {
-        Ok(set) => attributes.filled(alloc, Held::Attributes(set)),
-        Err(fault) => refused(fault, place),
+        Ok(set) => attributes.fill(alloc, Held::Attributes(set)),
+        Err(fault) => code_with_place(fault, place),
     }
 }

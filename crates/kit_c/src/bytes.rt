@@ -4,7 +4,7 @@ ghost use Rattle.std.specs.Prelude.{◌≡◌, ◌≢◌, ◌++◌, ◌∷◌, [
 ghost use Rattle.attr_kit.specs.Refusing.{first};
 ghost use Rattle.bytes_kit.specs.Fits.{IsExport};
 ghost use Rattle.bytes_kit.specs.Format.{bytes_of};
-ghost use Rattle.kit_c.specs.Bytes.{HasForm, IsDecodeFault, IsReadFrom, bytes_fault, bytes_in, encoded, export_fault};
+ghost use Rattle.kit_c.specs.Bytes.{HasForm, IsDecodeFault, IsReadFrom, bytes_fault, bytes_in, export_bytes, export_fault};
 ghost use Rattle.kit_c.specs.Codes.{code_of, no_memory};
 ghost use Rattle.kit_c.specs.Faults.{full_fault, of_one};
 ghost use Rattle.kit_c.specs.Places.{place_of};
@@ -12,7 +12,7 @@ ghost use Rattle.kit_c.specs.declared.fault.Fault.{Fault};
 ghost use Rattle.kit_c.specs.declared.held.Held.TheVariants as things;
 ghost use Rattle.point_kit.specs.declared.export.Export.{Export};
 
-use crate::fault::{FULL, Fault, NOTHING, OK, refused};
+use crate::fault::{FULL, Fault, NOTHING, OK, code_with_place};
 use crate::handle::KitHandle;
 use crate::held::Held;
 use attr_kit::Seq;
@@ -21,7 +21,7 @@ use std::alloc::Global;
 
 fn encode(alloc: Global, held: &Held) -> Result<Seq<u8>, Fault>
     ensures ok { OnOk result (export_fault held.now ≡ None) }
-    ensures value { IfOk result (λ b. b ≡ encoded held.now) }
+    ensures value { IfOk result (λ b. b ≡ export_bytes held.now) }
     ensures form { OnOk result (HasForm (Some held.now)) }
     ensures err { IfErr result (λ f. code_of f ≢ no_memory → export_fault held.now ≡ Some f) }
 {
@@ -43,7 +43,7 @@ pub extern "C" fn kit_export_encode(
     ensures ok { result ≡ pos 0
         → first (full_fault bytes.old.inner.value ∷ of_one export.old.inner.value export_fault ∷ []) ≡ None }
     ensures value { result ≡ pos 0 → (e : _) → export.old.inner.value ≡ Some e
-        → bytes.new.inner.value ≡ Some (things.Bytes (encoded e)) }
+        → bytes.new.inner.value ≡ Some (things.Bytes (export_bytes e)) }
     ensures form { result ≡ pos 0 → HasForm export.old.inner.value }
     ensures err { result ≢ pos 0 → result ≢ no_memory → option_map code_of
         (first (full_fault bytes.old.inner.value ∷ of_one export.old.inner.value export_fault ∷ [])) ≡ Some result }
@@ -59,13 +59,13 @@ pub extern "C" fn kit_export_encode(
     let made = encode(alloc, &held);
     export.put(held);
     match made {
-        Ok(made) => bytes.filled(alloc, Held::Bytes(made)),
+        Ok(made) => bytes.fill(alloc, Held::Bytes(made)),
         Err(fault) => fault.code(),
     }
 }
 
 // Copies the front of bytes that has room, and answers how many there are.
-fn copied(held: &Held, into: &mut [u8]) -> Result<usize, Fault>
+fn copy_front(held: &Held, into: &mut [u8]) -> Result<usize, Fault>
     ensures ok { OnOk result (bytes_fault held.now ≡ None) }
     ensures value { OnOk result (into.new
         ≡ take (length into.old) (bytes_in held.now) ++ drop (length (bytes_in held.now)) into.old) }
@@ -104,7 +104,7 @@ pub extern "C" fn kit_bytes_copy(
     let Some(held) = bytes.take(alloc) else {
         return NOTHING;
     };
-    let outcome = copied(&held, into);
+    let outcome = copy_front(&held, into);
     bytes.put(held);
     match outcome {
         Ok(whole) => {
@@ -155,6 +155,6 @@ pub extern "C" fn kit_export_decode(
             export.put(made);
             OK
         }
-        Err(fault) => refused(fault, place),
+        Err(fault) => code_with_place(fault, place),
     }
 }

@@ -1,16 +1,16 @@
 //! Why calls are refused, and the codes that say so.
 ghost use Rattle.std.specs.Prelude.{◌≡◌, ◌≢◌, pos, OnOk, OnErr, IfErr, IfOk};
 ghost use Rattle.std.specs.Option.{unwrap_or};
-ghost use Rattle.kit_c.specs.Codes.{code_of, recording_code, collection_code, restart_code, attributes_code, plan_code, handing_code, decoding_code, no_memory};
+ghost use Rattle.kit_c.specs.Codes.{code_of, recording_code, record_code, absorbing_code, collection_code, restart_code, attributes_code, plan_code, handing_code, decoding_code, no_memory};
 ghost use Rattle.kit_c.specs.Places.{decoding_place, place_of, plan_place, second_of};
 
-use agg_kit::MeasureFault as TallyFault;
+use agg_kit::{RecordFault, TallyFault};
 use attr_kit::{AttrFault, NoMemory};
 use bytes_kit::DecodeFault;
 use gossip_kit::HandFault;
 use plan_kit::PlanFault;
 use std::alloc::{AllocError, AllocFailed};
-use writer_kit::{CollectFault, MeasureFault, RestartFault};
+use writer_kit::{AbsorbFault, CollectFault, MeasureFault, RestartFault};
 
 /// The call did what it says.
 pub(crate) const OK: i32 = 0;
@@ -55,6 +55,8 @@ pub enum Fault {
     Exhausted,
     /// A writer that threads share has given all the places that it may.
     SeatsFull,
+    /// A recorder is of another plan than the writer that is to take it in.
+    OtherPlan,
     Measure(MeasureFault),
     Collect(CollectFault),
     Restart(RestartFault),
@@ -62,6 +64,8 @@ pub enum Fault {
     Plan(PlanFault),
     Hand(HandFault),
     Decode(DecodeFault),
+    Record(RecordFault),
+    Absorb(AbsorbFault),
 }
 
 impl From<NoMemory> for Fault {
@@ -104,6 +108,16 @@ impl From<MeasureFault> for Fault {
     }
 }
 
+impl From<RecordFault> for Fault {
+    ghost use Rattle.kit_c.specs.declared.fault.Fault.TheVariants as faults;
+
+    ghost from_gives = { λ fault e. e ≡ faults.Record fault };
+
+    fn from(fault: RecordFault) -> Fault {
+        Fault::Record(fault)
+    }
+}
+
 fn of_recording(fault: &MeasureFault) -> i32
     ensures code { result ≡ recording_code fault.now }
     ensures refused { result ≢ pos 0 }
@@ -114,6 +128,31 @@ fn of_recording(fault: &MeasureFault) -> i32
         MeasureFault::Refused(TallyFault::Negative) => 12,
         MeasureFault::Refused(TallyFault::Overflow(_)) => 13,
         MeasureFault::Refused(TallyFault::NoMemory) => 1,
+    }
+}
+
+fn of_record(fault: &RecordFault) -> i32
+    ensures code { result ≡ record_code fault.now }
+    ensures refused { result ≢ pos 0 }
+{
+    match fault {
+        RecordFault::NoInstrument => 11,
+        RecordFault::Negative => 12,
+        RecordFault::Full => 70,
+        RecordFault::NoMemory => 1,
+    }
+}
+
+fn of_absorbing(fault: &AbsorbFault) -> i32
+    ensures code { result ≡ absorbing_code fault.now }
+    ensures refused { result ≢ pos 0 }
+{
+    match fault {
+        AbsorbFault::Closed => 10,
+        AbsorbFault::Refused(TallyFault::NoInstrument) => 11,
+        AbsorbFault::Refused(TallyFault::Negative) => 12,
+        AbsorbFault::Refused(TallyFault::Overflow(_)) => 13,
+        AbsorbFault::Refused(TallyFault::NoMemory) => 1,
     }
 }
 
@@ -212,6 +251,7 @@ impl Fault {
             Fault::Busy => 16,
             Fault::Exhausted => 17,
             Fault::SeatsFull => 18,
+            Fault::OtherPlan => 71,
             Fault::Measure(fault) => of_recording(fault),
             Fault::Collect(fault) => of_collection(fault),
             Fault::Restart(fault) => of_restart(fault),
@@ -219,6 +259,8 @@ impl Fault {
             Fault::Plan(fault) => of_plan(fault),
             Fault::Hand(fault) => of_handing(fault),
             Fault::Decode(fault) => of_decoding(fault),
+            Fault::Record(fault) => of_record(fault),
+            Fault::Absorb(fault) => of_absorbing(fault),
         }
     }
 
@@ -230,6 +272,7 @@ impl Fault {
             Fault::Measure(MeasureFault::Refused(TallyFault::Overflow(stream))) => Some(
                 *stream as u64,
             ),
+            Fault::Absorb(AbsorbFault::Refused(TallyFault::Overflow(first))) => Some(*first as u64),
             Fault::Collect(CollectFault::TimeNotAfter(last)) => Some(*last),
             Fault::Restart(RestartFault::StartNotAfter(start)) => Some(*start),
             Fault::Attributes(AttrFault::EmptyKey(pair)) => Some(*pair as u64),
@@ -283,7 +326,7 @@ fn decoding_place(fault: &DecodeFault) -> Option<u64>
 }
 
 /// Tells the place that a refusal carries, and answers with its code.
-pub(crate) fn refused(fault: Fault, place: &mut u64) -> i32
+pub(crate) fn code_with_place(fault: Fault, place: &mut u64) -> i32
     ensures code { result ≡ code_of fault }
     ensures refused { result ≢ pos 0 }
     ensures place { place.new ≡ unwrap_or (place_of fault) place.old }
@@ -304,5 +347,5 @@ pub(crate) fn refused_twice(fault: Fault, first: &mut u64, second: &mut u64) -> 
     if let Some(told) = fault.second() {
         *second = told;
     }
-    refused(fault, first)
+    code_with_place(fault, first)
 }

@@ -31,10 +31,10 @@ pub extern "C" fn kit_gateway_open(alloc: Global, gateway: &mut KitHandle, id: u
     if gateway.full {
         return FULL;
     }
-    gateway.filled(alloc, Held::Gateway(Gateway::new(alloc, id)))
+    gateway.fill(alloc, Held::Gateway(Gateway::new(alloc, id)))
 }
 
-fn taken(held: &mut Held, export: &Held) -> Result<u64, Fault>
+fn take_export(held: &mut Held, export: &Held) -> Result<u64, Fault>
     ensures ok { OnOk result (taking_fault held.old export.now ≡ None) }
     ensures value { OnOk result (held.new ≡ after_take held.old export.now) }
     ensures changed { IfOk result (λ n. n ≡ changes_of held.old held.new) }
@@ -78,7 +78,7 @@ pub extern "C" fn kit_gateway_take(
         gateway.put(held);
         return NOTHING;
     };
-    let outcome = taken(&mut held, &other);
+    let outcome = take_export(&mut held, &other);
     gateway.put(held);
     export.put(other);
     match outcome {
@@ -90,7 +90,7 @@ pub extern "C" fn kit_gateway_take(
     }
 }
 
-fn merged(held: &mut Held, other: &Held) -> Result<u64, Fault>
+fn merge_gateway(held: &mut Held, other: &Held) -> Result<u64, Fault>
     ensures ok { OnOk result (merging_fault held.old other.now ≡ None) }
     ensures value { OnOk result (held.new ≡ after_merge held.old other.now) }
     ensures changed { IfOk result (λ n. n ≡ changes_of held.old held.new) }
@@ -134,7 +134,7 @@ pub extern "C" fn kit_gateway_merge(
         gateway.put(held);
         return NOTHING;
     };
-    let outcome = merged(&mut held, &from);
+    let outcome = merge_gateway(&mut held, &from);
     gateway.put(held);
     other.put(from);
     match outcome {

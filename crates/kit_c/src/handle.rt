@@ -1,7 +1,7 @@
 //! Handles, as C holds them.
 ghost use Rattle.std.specs.Prelude.{◌≡◌, ◌≢◌, pos, Some, None};
 ghost use Rattle.std.specs.Option.{is_some};
-ghost use Rattle.kit_c.specs.Owned.{unboxed};
+ghost use Rattle.kit_c.specs.Owned.{box_value};
 ghost use Rattle.kit_c.specs.Codes.{no_memory};
 
 use crate::fault::{NO_MEMORY, OK};
@@ -41,7 +41,7 @@ impl KitHandle {
 
     /// What the handle has, which it then no longer has.
     pub(crate) fn take(&mut self, alloc: Global) -> Option<Box<Held, Global>>
-        ensures value { unboxed result ≡ self.old.inner.value }
+        ensures value { box_value result ≡ self.old.inner.value }
         ensures empty { self.new.inner.value ≡ None }
     {
         let was = std::mem::replace(self, KitHandle::empty(alloc));
@@ -62,7 +62,7 @@ impl KitHandle {
     }
 
     /// From now on the handle has this, if memory is given.
-    pub(crate) fn filled(&mut self, alloc: Global, held: Held) -> i32
+    pub(crate) fn fill(&mut self, alloc: Global, held: Held) -> i32
         requires { self.old.inner.value ≡ None }
         ensures code { (result ≢ pos 0) → result ≡ no_memory }
         ensures value { result ≡ pos 0 → self.new.inner.value ≡ Some held }

@@ -1,6 +1,7 @@
 //! What a handle can have.
 use crate::desk::Desk;
 use crate::holding::HoldingWriter;
+use crate::recorder::HoldingRecorder;
 use attr_kit::{AttrSet, AttrValue, Seq, Txt};
 use gateway_kit::Gateway;
 use gossip_kit::{Message, Node};
@@ -23,6 +24,8 @@ pub enum Held {
     Plan(Plan),
     /// A writer, with the sets that it holds by number.
     Writer(HoldingWriter),
+    /// A thread's own recorder, with the sets that it holds by number.
+    Recorder(HoldingRecorder),
     Export(Export),
     Gateway(Gateway),
     /// A gateway that sends messages and takes them in.

@@ -5,11 +5,13 @@ ghost use Rattle.agg_kit.specs.Entries.{entry_of};
 ghost use Rattle.kit_c.specs.Codes.{code_of, no_memory as refused_memory};
 ghost use Rattle.kit_c.specs.Holdings.{IsPlaceOf, Keeps, KnowsPoints, attrs_of};
 ghost use Rattle.kit_c.specs.Numbers.{recorded_at, set_fault};
+ghost use Rattle.kit_c.specs.Recorders.{Absorbs, WhyNotAbsorbed};
 ghost use Rattle.writer_kit.specs.BoundPoints.{IsAtHome};
 ghost use Rattle.writer_kit.specs.Recording.{after_collect, after_restart, recorded};
 ghost use Rattle.writer_kit.specs.Refusals.{fault_now, no_memory, restart_fault};
 
 use crate::fault::Fault;
+use crate::recorder::HoldingRecorder;
 use attr_kit::{AttrSet, NoMemory, Seq, TryCopy};
 use std::alloc::Global;
 use std::marker::Model;
@@ -225,6 +227,22 @@ impl HoldingWriter {
         ensures unchanged { OnErr result (self.new ≡ self.old) }
     {
         self.writer.restart(start)
+    }
+
+    /// Takes in what a recorder of the writer's plan holds. The recorder holds nothing then, and both keep their sets.
+    pub(crate) fn absorb(&mut self, recorder: &mut HoldingRecorder) -> Result<(), Fault>
+        ensures value { OnOk result (Absorbs self.old recorder.old self.new recorder.new) }
+        ensures err { IfErr result (λ f. WhyNotAbsorbed self.old recorder.old f) }
+        ensures unchanged { OnErr result (self.new ≡ self.old) }
+        ensures kept { OnErr result (recorder.new ≡ recorder.old) }
+    {
+        if !recorder.has_plan(self.writer.tally().plan()) {
+            return Err(Fault::OtherPlan);
+        }
+        match recorder.give(&mut self.writer) {
+            Ok(()) => Ok(()),
+            Err(fault) => Err(Fault::Absorb(fault)),
+        }
     }
 
     /// Copies of the sets, by their numbers.

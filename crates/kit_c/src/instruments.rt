@@ -53,7 +53,7 @@ fn instrument(
     })
 }
 
-fn pushed(alloc: Global, held: &mut Held, instrument: Instrument) -> Result<(), Fault>
+fn push_instrument(alloc: Global, held: &mut Held, instrument: Instrument) -> Result<(), Fault>
     ensures ok { OnOk result (no_instruments (Some held.old) ≡ None) }
     ensures value { OnOk result (held.new ≡ things.Instruments (instruments_of (Some held.old) ++ instrument ∷ [])) }
     ensures err { IfErr result (λ f. code_of f ≢ no_memory → no_instruments (Some held.old) ≡ Some f) }
@@ -66,7 +66,11 @@ fn pushed(alloc: Global, held: &mut Held, instrument: Instrument) -> Result<(), 
     Ok(())
 }
 
-fn added(alloc: Global, instruments: &mut KitHandle, instrument: Instrument) -> Result<(), Fault>
+fn add_instrument(
+    alloc: Global,
+    instruments: &mut KitHandle,
+    instrument: Instrument,
+) -> Result<(), Fault>
     ensures ok { OnOk result (no_instruments instruments.old.inner.value ≡ None) }
     ensures value { OnOk result (instruments.new.inner.value
         ≡ Some (things.Instruments (instruments_of instruments.old.inner.value ++ instrument ∷ []))) }
@@ -75,13 +79,13 @@ fn added(alloc: Global, instruments: &mut KitHandle, instrument: Instrument) -> 
 {
     match instruments.take(alloc) {
         Some(mut held) => {
-            let outcome = pushed(alloc, &mut held, instrument);
+            let outcome = push_instrument(alloc, &mut held, instrument);
             instruments.put(held);
             outcome
         }
         None => {
             let mut first = Held::Instruments(Seq::new(alloc));
-            pushed(alloc, &mut first, instrument)?;
+            push_instrument(alloc, &mut first, instrument)?;
             instruments.put(Box::new(alloc, first)?);
             Ok(())
         }
@@ -114,7 +118,7 @@ pub extern "C" fn kit_instruments_add(
         Ok(instrument) => instrument,
         Err(fault) => return fault.code(),
     };
-    match added(alloc, instruments, instrument) {
+    match add_instrument(alloc, instruments, instrument) {
         Ok(()) => OK,
         Err(fault) => fault.code(),
     }
@@ -160,7 +164,7 @@ fn copy_of_views(alloc: Global, views: &mut KitHandle) -> Result<Seq<View>, Faul
     Ok(copy?)
 }
 
-fn planned(
+fn plan_of_parts(
     alloc: Global,
     instruments: &mut KitHandle,
     views: &mut KitHandle,
@@ -215,8 +219,8 @@ pub extern "C" fn kit_plan_build(
     if plan.full {
         return FULL;
     }
-    match planned(alloc, instruments, views, limit) {
-        Ok(made) => plan.filled(alloc, Held::Plan(made)),
+    match plan_of_parts(alloc, instruments, views, limit) {
+        Ok(made) => plan.fill(alloc, Held::Plan(made)),
         Err(fault) => refused_twice(fault, place, second),
     }
 }

@@ -1,7 +1,7 @@
 //! Keys of attributes: written down one by one, and made allow-lists.
 ghost use Rattle.std.specs.Prelude.{◌≡◌, ◌≢◌, ◌++◌, ◌∷◌, [], pos, None, Some, OnOk, OnErr, IfErr, IfOk};
 ghost use Rattle.std.specs.Option.{option_map};
-ghost use Rattle.attr_kit.specs.AllowLists.{allowed};
+ghost use Rattle.attr_kit.specs.AllowLists.{listed_keys};
 ghost use Rattle.attr_kit.specs.Refusing.{first};
 ghost use Rattle.kit_c.specs.Codes.{code_of, no_memory};
 ghost use Rattle.kit_c.specs.Faults.{text_fault};
@@ -16,7 +16,7 @@ use crate::text::text_of;
 use attr_kit::{AllowList, Seq, TryCopy, Txt};
 use std::alloc::Global;
 
-fn pushed(alloc: Global, held: &mut Held, key: Txt) -> Result<(), Fault>
+fn push_key(alloc: Global, held: &mut Held, key: Txt) -> Result<(), Fault>
     ensures ok { OnOk result (no_keys (Some held.old) ≡ None) }
     ensures value { OnOk result (held.new ≡ things.Keys (keys_of (Some held.old) ++ key ∷ [])) }
     ensures err { IfErr result (λ f. code_of f ≢ no_memory → no_keys (Some held.old) ≡ Some f) }
@@ -29,7 +29,7 @@ fn pushed(alloc: Global, held: &mut Held, key: Txt) -> Result<(), Fault>
     Ok(())
 }
 
-fn added(alloc: Global, keys: &mut KitHandle, key: Txt) -> Result<(), Fault>
+fn add_key(alloc: Global, keys: &mut KitHandle, key: Txt) -> Result<(), Fault>
     ensures ok { OnOk result (no_keys keys.old.inner.value ≡ None) }
     ensures value { OnOk result (keys.new.inner.value ≡ Some (things.Keys (keys_of keys.old.inner.value ++ key ∷ []))) }
     ensures err { IfErr result (λ f. code_of f ≢ no_memory → no_keys keys.old.inner.value ≡ Some f) }
@@ -37,13 +37,13 @@ fn added(alloc: Global, keys: &mut KitHandle, key: Txt) -> Result<(), Fault>
 {
     match keys.take(alloc) {
         Some(mut held) => {
-            let outcome = pushed(alloc, &mut held, key);
+            let outcome = push_key(alloc, &mut held, key);
             keys.put(held);
             outcome
         }
         None => {
             let mut first = Held::Keys(Seq::new(alloc));
-            pushed(alloc, &mut first, key)?;
+            push_key(alloc, &mut first, key)?;
             keys.put(Box::new(alloc, first)?);
             Ok(())
         }
@@ -66,7 +66,7 @@ pub extern "C" fn kit_keys_add(alloc: Global, keys: &mut KitHandle, key: &[u8]) 
         Ok(key) => key,
         Err(fault) => return fault.code(),
     };
-    match added(alloc, keys, key) {
+    match add_key(alloc, keys, key) {
         Ok(()) => OK,
         Err(fault) => fault.code(),
     }
@@ -95,7 +95,7 @@ fn copy_of_keys(alloc: Global, keys: &mut KitHandle) -> Result<Seq<Txt>, Fault>
 /// The allow-list of the keys that a handle has, an empty one where it has nothing.
 pub(crate) fn list_of_keys(alloc: Global, keys: &mut KitHandle) -> Result<AllowList, Fault>
     ensures ok { OnOk result (no_keys keys.old.inner.value ≡ None) }
-    ensures value { IfOk result (λ list. list ≡ allowed (keys_of keys.old.inner.value)) }
+    ensures value { IfOk result (λ list. list ≡ listed_keys (keys_of keys.old.inner.value)) }
     ensures err { IfErr result (λ f. code_of f ≢ no_memory → no_keys keys.old.inner.value ≡ Some f) }
     ensures kept { keys.new.inner.value ≡ keys.old.inner.value }
 {

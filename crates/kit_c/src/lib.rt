@@ -1,4 +1,26 @@
-//! The kit as a static library.
+//! The kit as a static library, for C and whatever can call C. docs/EMBEDDING.md tells how it is built and used.
+//!
+//! Nothing of it is called from Rattle: each export is a C function whose name begins with `kit_`, declared in
+//! `embed/c/kotskhin.h`. In the order of use:
+//!
+//! - A `Handle` has one thing of the kit, or nothing. Who calls owns its 16 bytes, and `kit_free` gives up what it has.
+//! - `kit_instruments_add`, `kit_views_add` and `kit_plan_build` make a plan, `kit_writer_start` a writer, `kit_attributes_make` a set.
+//! - `kit_writer_measure` records, `kit_writer_collect` makes an export, and `kit_gateway_take` takes it in.
+//! - `kit_ask_sum`, `kit_gateway_rows` and `kit_rows_table` make a text of what a gateway holds.
+//! - `kit_recorder_measure` and its like are of a thread's own recorder, `kit_seat_measure` and its like of a writer that threads
+//!   share, `kit_node_send` and its like of gateways that gossip, and `kit_export_encode` and its like of bytes.
+//!
+//! A caller, from `embed/c/first.c`:
+//!
+//!     MUST(kit_writer_start(&writer, &plan, TEXT("shop"), 0, 1, 100));
+//!     MUST(kit_attributes_make(&none, &pairs, &place));
+//!
+//!     MUST(kit_writer_measure(&writer, 0, &none, 3, &place));
+//!     MUST(kit_writer_measure(&writer, 0, &none, 4, &place));
+//!     MUST(kit_writer_collect(&writer, 200, &collected, &place));
+//!
+//! A call answers 0, or the code of the first refusal that fits; then each handle is as it was. Which refusal of the kit a code stands for
+//! is a definition (specs `Codes`), which each export's contract cites.
 #![tactic(auto)]
 
 mod ask;
@@ -18,7 +40,10 @@ mod list;
 mod loose;
 mod messages;
 mod nodes;
+mod recorder;
+mod recorders;
 mod rows;
+mod same_plan;
 mod seats;
 mod text;
 mod views;

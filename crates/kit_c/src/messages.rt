@@ -5,7 +5,7 @@ ghost use Rattle.attr_kit.specs.Refusing.{first};
 ghost use Rattle.bytes_kit.specs.MessageFits.{IsMessage, IsSoundPoints};
 ghost use Rattle.bytes_kit.specs.Messages.{bytes_of_message};
 ghost use Rattle.gossip_kit.specs.Views.{MessageView};
-ghost use Rattle.kit_c.specs.Bytes.{HasForm, IsMessageFault, IsMessageOf, encoded_message};
+ghost use Rattle.kit_c.specs.Bytes.{HasForm, IsMessageFault, IsMessageOf, export_bytes_message};
 ghost use Rattle.kit_c.specs.Codes.{code_of, no_memory};
 ghost use Rattle.kit_c.specs.Faults.{full_fault, of_one};
 ghost use Rattle.kit_c.specs.Nodes.{message_fault};
@@ -13,7 +13,7 @@ ghost use Rattle.kit_c.specs.Places.{place_of};
 ghost use Rattle.kit_c.specs.declared.fault.Fault.{Fault};
 ghost use Rattle.kit_c.specs.declared.held.Held.TheVariants as things;
 
-use crate::fault::{FULL, Fault, NOTHING, OK, refused};
+use crate::fault::{FULL, Fault, NOTHING, OK, code_with_place};
 use crate::handle::KitHandle;
 use crate::held::Held;
 use attr_kit::Seq;
@@ -22,7 +22,7 @@ use std::alloc::Global;
 
 fn encode(alloc: Global, held: &Held) -> Result<Seq<u8>, Fault>
     ensures ok { OnOk result (message_fault held.now ≡ None) }
-    ensures value { IfOk result (λ b. b ≡ encoded_message held.now) }
+    ensures value { IfOk result (λ b. b ≡ export_bytes_message held.now) }
     ensures form { OnOk result (HasForm (Some held.now)) }
     ensures err { IfErr result (λ f. code_of f ≢ no_memory → message_fault held.now ≡ Some f) }
 {
@@ -44,7 +44,7 @@ pub extern "C" fn kit_message_encode(
     ensures ok { result ≡ pos 0
         → first (full_fault bytes.old.inner.value ∷ of_one message.old.inner.value message_fault ∷ []) ≡ None }
     ensures value { result ≡ pos 0 → (m : _) → message.old.inner.value ≡ Some m
-        → bytes.new.inner.value ≡ Some (things.Bytes (encoded_message m)) }
+        → bytes.new.inner.value ≡ Some (things.Bytes (export_bytes_message m)) }
     ensures form { result ≡ pos 0 → HasForm message.old.inner.value }
     ensures err { result ≢ pos 0 → result ≢ no_memory → option_map code_of
         (first (full_fault bytes.old.inner.value ∷ of_one message.old.inner.value message_fault ∷ [])) ≡ Some result }
@@ -60,7 +60,7 @@ pub extern "C" fn kit_message_encode(
     let made = encode(alloc, &held);
     message.put(held);
     match made {
-        Ok(made) => bytes.filled(alloc, Held::Bytes(made)),
+        Ok(made) => bytes.fill(alloc, Held::Bytes(made)),
         Err(fault) => fault.code(),
     }
 }
@@ -107,6 +107,6 @@ pub extern "C" fn kit_message_decode(
             message.put(made);
             OK
         }
-        Err(fault) => refused(fault, place),
+        Err(fault) => code_with_place(fault, place),
     }
 }

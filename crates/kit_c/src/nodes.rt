@@ -6,7 +6,7 @@ ghost use Rattle.kit_c.specs.Codes.{code_of, no_memory};
 ghost use Rattle.kit_c.specs.Faults.{full_fault, of_one, of_two};
 ghost use Rattle.kit_c.specs.Gateways.{gateway_fault};
 ghost use Rattle.kit_c.specs.Nodes.{HasHeard, HasMerged, HasTaken, IsFromTo, IsMessageTo, IsNodeOf, answer_in, gateway_in, handing_fault, message_fault, message_in, node_changes, node_fault, node_merging_fault, node_taking_fault};
-ghost use Rattle.kit_c.specs.Owned.{unboxed};
+ghost use Rattle.kit_c.specs.Owned.{box_value};
 ghost use Rattle.kit_c.specs.declared.held.Held.TheVariants as things;
 
 use crate::fault::{FULL, Fault, NOTHING, OK};
@@ -17,7 +17,7 @@ use gateway_kit::Gateway;
 use gossip_kit::{Message, Node};
 use std::alloc::Global;
 
-fn opened(alloc: Global, held: &Held) -> Result<Node, Fault>
+fn open_node(alloc: Global, held: &Held) -> Result<Node, Fault>
     ensures ok { OnOk result (gateway_fault held.now ≡ None) }
     ensures value { IfOk result (λ n. IsNodeOf (Some held.now) (Some (things.Node n))) }
     ensures err { IfErr result (λ f. code_of f ≢ no_memory → gateway_fault held.now ≡ Some f) }
@@ -47,15 +47,15 @@ pub extern "C" fn kit_node_open(alloc: Global, node: &mut KitHandle, gateway: &m
     let Some(held) = gateway.take(alloc) else {
         return NOTHING;
     };
-    let made = opened(alloc, &held);
+    let made = open_node(alloc, &held);
     gateway.put(held);
     match made {
-        Ok(made) => node.filled(alloc, Held::Node(made)),
+        Ok(made) => node.fill(alloc, Held::Node(made)),
         Err(fault) => fault.code(),
     }
 }
 
-fn copied(held: &Held) -> Result<Gateway, Fault>
+fn copy_gateway(held: &Held) -> Result<Gateway, Fault>
     ensures ok { OnOk result (node_fault held.now ≡ None) }
     ensures value { IfOk result (λ g. gateway_in held.now ≡ Some g) }
     ensures err { IfErr result (λ f. code_of f ≢ no_memory → node_fault held.now ≡ Some f) }
@@ -90,15 +90,15 @@ pub extern "C" fn kit_node_gateway(
     let Some(held) = node.take(alloc) else {
         return NOTHING;
     };
-    let made = copied(&held);
+    let made = copy_gateway(&held);
     node.put(held);
     match made {
-        Ok(made) => gateway.filled(alloc, Held::Gateway(made)),
+        Ok(made) => gateway.fill(alloc, Held::Gateway(made)),
         Err(fault) => fault.code(),
     }
 }
 
-fn taken(held: &mut Held, export: &Held) -> Result<u64, Fault>
+fn take_at_node(held: &mut Held, export: &Held) -> Result<u64, Fault>
     ensures ok { OnOk result (node_taking_fault held.old export.now ≡ None) }
     ensures value { OnOk result (HasTaken (Some held.old) (Some export.now) (Some held.new)) }
     ensures changed { IfOk result (λ n. n ≡ node_changes held.old held.new) }
@@ -141,7 +141,7 @@ pub extern "C" fn kit_node_take(
         node.put(held);
         return NOTHING;
     };
-    let outcome = taken(&mut held, &other);
+    let outcome = take_at_node(&mut held, &other);
     node.put(held);
     export.put(other);
     match outcome {
@@ -153,7 +153,7 @@ pub extern "C" fn kit_node_take(
     }
 }
 
-fn merged(held: &mut Held, gateway: &Held) -> Result<u64, Fault>
+fn merge_at_node(held: &mut Held, gateway: &Held) -> Result<u64, Fault>
     ensures ok { OnOk result (node_merging_fault held.old gateway.now ≡ None) }
     ensures value { OnOk result (HasMerged (Some held.old) (Some gateway.now) (Some held.new)) }
     ensures changed { IfOk result (λ n. n ≡ node_changes held.old held.new) }
@@ -196,7 +196,7 @@ pub extern "C" fn kit_node_merge(
         node.put(held);
         return NOTHING;
     };
-    let outcome = merged(&mut held, &from);
+    let outcome = merge_at_node(&mut held, &from);
     node.put(held);
     gateway.put(from);
     match outcome {
@@ -208,7 +208,7 @@ pub extern "C" fn kit_node_merge(
     }
 }
 
-fn sent(held: &Held, to: u32) -> Result<Message, Fault>
+fn send_message(held: &Held, to: u32) -> Result<Message, Fault>
     ensures ok { OnOk result (node_fault held.now ≡ None) }
     ensures value { IfOk result (λ m. IsMessageTo to (Some held.now) (Some (things.Message m))) }
     ensures err { IfErr result (λ f. code_of f ≢ no_memory → node_fault held.now ≡ Some f) }
@@ -244,19 +244,19 @@ pub extern "C" fn kit_node_send(
     let Some(held) = node.take(alloc) else {
         return NOTHING;
     };
-    let made = sent(&held, to);
+    let made = send_message(&held, to);
     node.put(held);
     match made {
-        Ok(made) => message.filled(alloc, Held::Message(made)),
+        Ok(made) => message.fill(alloc, Held::Message(made)),
         Err(fault) => fault.code(),
     }
 }
 
 // Hands a message. The room of the answer is taken first, since nothing can be refused once the node has changed.
-fn handed(alloc: Global, held: &mut Held, message: &Held) -> Result<Option<Box<Held>>, Fault>
+fn hand_message(alloc: Global, held: &mut Held, message: &Held) -> Result<Option<Box<Held>>, Fault>
     ensures ok { OnOk result (handing_fault held.old message.now ≡ None) }
     ensures value { OnOk result (HasHeard (Some held.old) (Some message.now) (Some held.new)) }
-    ensures answer { IfOk result (λ a. unboxed a ≡ answer_in (Some held.old) (Some message.now)) }
+    ensures answer { IfOk result (λ a. box_value a ≡ answer_in (Some held.old) (Some message.now)) }
     ensures err { IfErr result (λ f. code_of f ≢ no_memory → handing_fault held.old message.now ≡ Some f) }
     ensures unchanged { OnErr result (held.new ≡ held.old) }
 {
@@ -313,7 +313,7 @@ pub extern "C" fn kit_node_hand(
         node.put(held);
         return NOTHING;
     };
-    let outcome = handed(alloc, &mut held, &came);
+    let outcome = hand_message(alloc, &mut held, &came);
     node.put(held);
     message.put(came);
     match outcome {

@@ -11,7 +11,7 @@ ghost use Rattle.writer_kit.specs.Shared.{MayRefuseRound};
 ghost use Rattle.writer_kit.specs.declared.shared.change.WriterChange.TheVariants.{Collected};
 
 use crate::desk::Desk;
-use crate::fault::{FULL, Fault, NOTHING, OK, refused};
+use crate::fault::{FULL, Fault, NOTHING, OK, code_with_place};
 use crate::handle::KitHandle;
 use crate::held::Held;
 use attr_kit::{AttrSet, Seq, TryCopy};
@@ -25,7 +25,7 @@ use writer_kit::{CollectFault, SharedWriter, Writer};
 const MOST_CHANGES: u64 = 1 << 62;
 
 // The first place at a copy of a writer, so that a refusal leaves the writer as it was.
-fn shared(alloc: Global, held: &Held) -> Result<Box<Held>, Fault>
+fn share_writer(alloc: Global, held: &Held) -> Result<Box<Held>, Fault>
     ensures ok { OnOk result (sharing_fault held.now ≡ None) }
     ensures value { IfOk result (λ made. HasShared (Some held.now) (Some made.value)) }
     ensures err { IfErr result (λ f. code_of f ≢ no_memory → sharing_fault held.now ≡ Some f) }
@@ -57,7 +57,7 @@ pub extern "C" fn kit_writer_share(alloc: Global, writer: &mut KitHandle) -> i32
     let Some(held) = writer.take(alloc) else {
         return NOTHING;
     };
-    match shared(alloc, &held) {
+    match share_writer(alloc, &held) {
         Ok(made) => {
             writer.put(made);
             OK
@@ -69,7 +69,7 @@ pub extern "C" fn kit_writer_share(alloc: Global, writer: &mut KitHandle) -> i32
     }
 }
 
-fn measured(held: &mut Held, instrument: usize, set: &Held, value: i64) -> Result<(), Fault>
+fn measure_at_seat(held: &mut Held, instrument: usize, set: &Held, value: i64) -> Result<(), Fault>
     ensures value { OnOk result (HasMeasured instrument value (Some held.old) (Some set.now) (Some held.new)) }
     ensures err { IfErr result (λ f. MeasureRefused instrument value held.old set.now held.new f) }
 {
@@ -118,12 +118,12 @@ pub extern "C" fn kit_seat_measure(
         seat.put(held);
         return NOTHING;
     };
-    let outcome = measured(&mut held, instrument, &set, value);
+    let outcome = measure_at_seat(&mut held, instrument, &set, value);
     seat.put(held);
     attributes.put(set);
     match outcome {
         Ok(()) => OK,
-        Err(fault) => refused(fault, place),
+        Err(fault) => code_with_place(fault, place),
     }
 }
 
@@ -192,7 +192,7 @@ pub extern "C" fn kit_seat_measure_held(
     seat.put(held);
     match outcome {
         Ok(()) => OK,
-        Err(fault) => refused(fault, place),
+        Err(fault) => code_with_place(fault, place),
     }
 }
 
@@ -272,7 +272,7 @@ impl Step<Writer> for Collect {
 
     ghost refuses = { λ c w f. MayRefuseRound w c.time f };
 
-    #[tactic(auto, using(writer_kit::proofs::Sharing::told_collected, writer_kit::proofs::Sharing::may_refuse_round, writer_kit::proofs::Refusals::collect_open, writer_kit::proofs::Refusals::collect_later))]
+    #[tactic(auto, using(writer_kit::proofs::Sharing::after_writer_change_collected, writer_kit::proofs::Sharing::may_refuse_round, writer_kit::proofs::Refusals::collect_open, writer_kit::proofs::Refusals::collect_later))]
     fn step(self, machine: &mut Writer) -> Result<Box<Held>, CollectFault> {
         let arena = Bump::new(self.alloc);
         let round = machine.look_round(&arena, self.time)?;
@@ -287,7 +287,7 @@ impl Step<Writer> for Collect {
     }
 }
 
-fn collected(alloc: Global, held: &mut Held, time: u64) -> Result<Box<Held>, Fault>
+fn collect_at_seat(alloc: Global, held: &mut Held, time: u64) -> Result<Box<Held>, Fault>
     ensures value { IfOk result (λ made. HasCollected time (Some held.old) (Some held.new) (Some made.value)) }
     ensures err { IfErr result (λ f. CollectRefused time held.old held.new f) }
 {
@@ -323,14 +323,14 @@ fn collected_into(
     let Some(mut held) = seat.take(alloc) else {
         return NOTHING;
     };
-    let outcome = collected(alloc, &mut held, time);
+    let outcome = collect_at_seat(alloc, &mut held, time);
     seat.put(held);
     match outcome {
         Ok(made) => {
             export.put(made);
             OK
         }
-        Err(fault) => refused(fault, place),
+        Err(fault) => code_with_place(fault, place),
     }
 }
 

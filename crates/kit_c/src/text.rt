@@ -25,7 +25,7 @@ pub(crate) fn text_of(alloc: Global, bytes: &[u8]) -> Result<Txt, Fault>
 }
 
 // Copies the front of a text that has room, and answers how long the text is.
-fn copied(held: &Held, into: &mut [u8]) -> Result<usize, Fault>
+fn copy_front(held: &Held, into: &mut [u8]) -> Result<usize, Fault>
     ensures ok { OnOk result (copying_fault held.now ≡ None) }
     ensures value { OnOk result (into.new
         ≡ take (length into.old) (bytes_of held.now) ++ drop (length (bytes_of held.now)) into.old) }
@@ -65,7 +65,7 @@ pub extern "C" fn kit_text_copy(
     let Some(held) = text.take(alloc) else {
         return NOTHING;
     };
-    let outcome = copied(&held, into);
+    let outcome = copy_front(&held, into);
     text.put(held);
     match outcome {
         Ok(whole) => {

@@ -1,7 +1,7 @@
 //! Views: made one by one, and added to a list.
 ghost use Rattle.std.specs.Prelude.{◌≡◌, ◌≢◌, ◌++◌, ◌∷◌, [], pos, None, Some, OnOk, OnErr, IfErr, IfOk};
 ghost use Rattle.std.specs.Option.{option_map};
-ghost use Rattle.attr_kit.specs.AllowLists.{allowed};
+ghost use Rattle.attr_kit.specs.AllowLists.{listed_keys};
 ghost use Rattle.attr_kit.specs.Refusing.{first};
 ghost use Rattle.plan_kit.specs.declared.view.Aggregation.TheVariants as aggregations;
 ghost use Rattle.plan_kit.specs.declared.view.NameRule.TheVariants as rules;
@@ -54,7 +54,7 @@ pub extern "C" fn kit_view_of_name(alloc: Global, view: &mut KitHandle, name: &[
         return FULL;
     }
     match text_of(alloc, name) {
-        Ok(name) => view.filled(alloc, Held::View(plain(NameRule::Exact(name)))),
+        Ok(name) => view.fill(alloc, Held::View(plain(NameRule::Exact(name)))),
         Err(fault) => fault.code(),
     }
 }
@@ -72,7 +72,7 @@ pub extern "C" fn kit_view_of_every(alloc: Global, view: &mut KitHandle) -> i32
     if view.full {
         return FULL;
     }
-    view.filled(alloc, Held::View(plain(NameRule::Every)))
+    view.fill(alloc, Held::View(plain(NameRule::Every)))
 }
 
 fn of_kind(held: &mut Held, kind: Kind) -> Result<(), Fault>
@@ -154,7 +154,7 @@ pub extern "C" fn kit_view_scope(alloc: Global, view: &mut KitHandle, scope: &[u
     }
 }
 
-fn renamed(held: &mut Held, name: Txt) -> Result<(), Fault>
+fn rename_view(held: &mut Held, name: Txt) -> Result<(), Fault>
     ensures ok { OnOk result (view_fault held.old ≡ None) }
     ensures value { OnOk result (held.new ≡ with_name name held.old) }
     ensures err { IfErr result (λ f. view_fault held.old ≡ Some f) }
@@ -185,7 +185,7 @@ pub extern "C" fn kit_view_rename(alloc: Global, view: &mut KitHandle, name: &[u
     let Some(mut held) = view.take(alloc) else {
         return NOTHING;
     };
-    let outcome = renamed(&mut held, name);
+    let outcome = rename_view(&mut held, name);
     view.put(held);
     match outcome {
         Ok(()) => OK,
@@ -213,7 +213,7 @@ fn keeping(held: &mut Held, list: AllowList) -> Result<(), Fault>
 pub extern "C" fn kit_view_keep(alloc: Global, view: &mut KitHandle, keys: &mut KitHandle) -> i32
     ensures ok { result ≡ pos 0 → first (no_keys keys.old.inner.value ∷ of_one view.old.inner.value view_fault ∷ []) ≡ None }
     ensures value { result ≡ pos 0 → view.new.inner.value
-        ≡ in_one (with_keys (allowed (keys_of keys.old.inner.value))) view.old.inner.value }
+        ≡ in_one (with_keys (listed_keys (keys_of keys.old.inner.value))) view.old.inner.value }
     ensures err { result ≢ pos 0 → result ≢ no_memory
         → option_map code_of (first (no_keys keys.old.inner.value ∷ of_one view.old.inner.value view_fault ∷ [])) ≡ Some result }
     ensures unchanged { result ≢ pos 0 → view.new.inner.value ≡ view.old.inner.value }
@@ -315,7 +315,7 @@ pub extern "C" fn kit_view_buckets(alloc: Global, view: &mut KitHandle, bounds: 
     }
 }
 
-fn pushed(alloc: Global, held: &mut Held, view: View) -> Result<(), Fault>
+fn push_view(alloc: Global, held: &mut Held, view: View) -> Result<(), Fault>
     ensures ok { OnOk result (no_views (Some held.old) ≡ None) }
     ensures value { OnOk result (held.new ≡ things.Views (views_of (Some held.old) ++ view ∷ [])) }
     ensures err { IfErr result (λ f. code_of f ≢ no_memory → no_views (Some held.old) ≡ Some f) }
@@ -328,7 +328,7 @@ fn pushed(alloc: Global, held: &mut Held, view: View) -> Result<(), Fault>
     Ok(())
 }
 
-fn added(alloc: Global, views: &mut KitHandle, view: View) -> Result<(), Fault>
+fn add_view(alloc: Global, views: &mut KitHandle, view: View) -> Result<(), Fault>
     ensures ok { OnOk result (no_views views.old.inner.value ≡ None) }
     ensures value { OnOk result (views.new.inner.value ≡ Some (things.Views (views_of views.old.inner.value ++ view ∷ []))) }
     ensures err { IfErr result (λ f. code_of f ≢ no_memory → no_views views.old.inner.value ≡ Some f) }
@@ -336,13 +336,13 @@ fn added(alloc: Global, views: &mut KitHandle, view: View) -> Result<(), Fault>
 {
     match views.take(alloc) {
         Some(mut held) => {
-            let outcome = pushed(alloc, &mut held, view);
+            let outcome = push_view(alloc, &mut held, view);
             views.put(held);
             outcome
         }
         None => {
             let mut first = Held::Views(Seq::new(alloc));
-            pushed(alloc, &mut first, view)?;
+            push_view(alloc, &mut first, view)?;
             views.put(Box::new(alloc, first)?);
             Ok(())
         }
@@ -382,7 +382,7 @@ pub extern "C" fn kit_views_add(alloc: Global, views: &mut KitHandle, view: &mut
         Ok(copy) => copy,
         Err(fault) => return fault.code(),
     };
-    match added(alloc, views, copy) {
+    match add_view(alloc, views, copy) {
         Ok(()) => OK,
         Err(fault) => fault.code(),
     }

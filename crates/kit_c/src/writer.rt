@@ -10,7 +10,7 @@ ghost use Rattle.kit_c.specs.declared.held.Held.TheVariants as things;
 ghost use Rattle.kit_c.specs.Numbers.{after_holding, after_numbered, holding_fault, numbered_fault, sets_len};
 ghost use Rattle.kit_c.specs.Writers.{HasStarted, IsCollection, instance_of};
 
-use crate::fault::{FULL, Fault, NOTHING, OK, refused};
+use crate::fault::{FULL, Fault, NOTHING, OK, code_with_place};
 use crate::handle::KitHandle;
 use crate::held::Held;
 use crate::holding::HoldingWriter;
@@ -21,7 +21,12 @@ use std::alloc::Global;
 use uuid::Uuid;
 use writer_kit::Writer;
 
-fn started(alloc: Global, id: WriterId, held: &Held, start: u64) -> Result<HoldingWriter, Fault>
+fn start_writer(
+    alloc: Global,
+    id: WriterId,
+    held: &Held,
+    start: u64,
+) -> Result<HoldingWriter, Fault>
     ensures ok { OnOk result (starting_fault held.now ≡ None) }
     ensures value { IfOk result (λ h. HasStarted id start (Some held.now) (Some (things.Writer h))) }
     ensures err { IfErr result (λ f. code_of f ≢ no_memory → starting_fault held.now ≡ Some f) }
@@ -70,10 +75,10 @@ pub extern "C" fn kit_writer_start(
         service,
         instance: Uuid::from_u64_pair(instance_high, instance_low),
     };
-    let made = started(alloc, id, &held, start);
+    let made = start_writer(alloc, id, &held, start);
     plan.put(held);
     match made {
-        Ok(made) => writer.filled(alloc, Held::Writer(made)),
+        Ok(made) => writer.fill(alloc, Held::Writer(made)),
         Err(fault) => fault.code(),
     }
 }
@@ -132,7 +137,7 @@ pub extern "C" fn kit_writer_measure(
     attributes.put(set);
     match outcome {
         Ok(()) => OK,
-        Err(fault) => refused(fault, place),
+        Err(fault) => code_with_place(fault, place),
     }
 }
 
@@ -237,13 +242,18 @@ pub extern "C" fn kit_writer_measure_held(
     writer.put(held);
     match outcome {
         Ok(()) => OK,
-        Err(fault) => refused(fault, place),
+        Err(fault) => code_with_place(fault, place),
     }
 }
 
 // Collects, and closes the writer where asked. The writer is marked last, where nothing can be refused any more.
 #[tactic(auto, using(writer_kit::proofs::Refusals::collect_open, writer_kit::proofs::Refusals::collect_later))]
-fn collected(alloc: Global, held: &mut Held, time: u64, closing: bool) -> Result<Box<Held>, Fault>
+fn collect_writer(
+    alloc: Global,
+    held: &mut Held,
+    time: u64,
+    closing: bool,
+) -> Result<Box<Held>, Fault>
     ensures ok { OnOk result (collection_fault time held.old ≡ None) }
     ensures value { OnOk result (held.new ≡ after_collection time closing held.old) }
     ensures export { IfOk result (λ made. IsCollection time (Some held.old) (Some made.value)) }
@@ -289,14 +299,14 @@ fn collected_into(
     let Some(mut held) = writer.take(alloc) else {
         return NOTHING;
     };
-    let made = collected(alloc, &mut held, time, closing);
+    let made = collect_writer(alloc, &mut held, time, closing);
     writer.put(held);
     match made {
         Ok(made) => {
             export.put(made);
             OK
         }
-        Err(fault) => refused(fault, place),
+        Err(fault) => code_with_place(fault, place),
     }
 }
 
@@ -350,7 +360,7 @@ pub extern "C" fn kit_writer_shutdown(
     collected_into(alloc, writer, time, true, export, place)
 }
 
-fn restarted(held: &mut Held, start: u64) -> Result<(), Fault>
+fn restart_writer(held: &mut Held, start: u64) -> Result<(), Fault>
     ensures ok { OnOk result (restarting_fault start held.old ≡ None) }
     ensures value { OnOk result (held.new ≡ after_restarting start held.old) }
     ensures err { IfErr result (λ f. code_of f ≢ no_memory → restarting_fault start held.old ≡ Some f) }
@@ -387,10 +397,10 @@ pub extern "C" fn kit_writer_restart(
     let Some(mut held) = writer.take(alloc) else {
         return NOTHING;
     };
-    let outcome = restarted(&mut held, start);
+    let outcome = restart_writer(&mut held, start);
     writer.put(held);
     match outcome {
         Ok(()) => OK,
-        Err(fault) => refused(fault, place),
+        Err(fault) => code_with_place(fault, place),
     }
 }

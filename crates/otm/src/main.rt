@@ -31,7 +31,7 @@ const NO_MEMORY: u8 = 3;
 const BAD_STREAM: u8 = 4;
 
 fn main(rt: HostRuntime) -> ExitCode {
-    match told(&rt) {
+    match read_arguments(&rt) {
         Ok(Asked::Run) => run(&rt),
         Ok(
             Asked::Fleet {
@@ -46,7 +46,7 @@ fn main(rt: HostRuntime) -> ExitCode {
 }
 
 // What the words of the command line ask for.
-fn told(rt: &(impl Env + AllocGlobal)) -> Result<Asked, LineFault>
+fn read_arguments(rt: &(impl Env + AllocGlobal)) -> Result<Asked, LineFault>
     ensures { IfOk result IsRanged }
 {
     let args = match env::args(rt) {

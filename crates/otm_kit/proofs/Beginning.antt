@@ -14,7 +14,7 @@ use Rattle.world_kit.specs.declared.setup.Setup.{Setup}
 use Rattle.world_kit.specs.declared.setup.WriterSetup.{WriterSetup}
 use Rattle.otm_kit.specs.Begin.{begin_fault, limit_of, setup_of, with_plan}
 use Rattle.otm_kit.specs.Declarations.{Declared}
-use Rattle.otm_kit.specs.Events.{happened}
+use Rattle.otm_kit.specs.Events.{deeds_of_commands}
 use Rattle.otm_kit.specs.declared.begin.BeginFault.{BeginFault}
 use Rattle.otm_kit.specs.declared.begin.BeginFault.TheVariants as faults
 
@@ -64,6 +64,6 @@ begin_sound d is vs limit setup a none same e =
     let here : setup_fault (setup_of d) ≡ None = ap setup_fault (sym same) ∙ e in
     rw (sound, here) refl
 
-pub stands_first : (d : Declared) (setup : Setup) (world : Held) → setup ≡ setup_of d → Stands setup [] world → Stands (setup_of d) (happened d []) world
-unfolding happened
+pub stands_first : (d : Declared) (setup : Setup) (world : Held) → setup ≡ setup_of d → Stands setup [] world → Stands (setup_of d) (deeds_of_commands d []) world
+unfolding deeds_of_commands
 stands_first d setup world same s = subst (λ (x : Setup). Stands x [] world) same s

@@ -11,7 +11,7 @@ use Rattle.agg_kit.specs.Feeding.{add_once, distinct, fed, goes_to, has_set, own
 use Rattle.attr_kit.specs.Keeping.{kept}
 use Rattle.attr_kit.specs.declared.attr_set.AttrSet.{AttrSet}
 use Rattle.attr_kit.specs.declared.keep.Keep.TheVariants.{All, Only}
-use Rattle.fleet_kit.specs.Setups.{no_writer, recorded, writers_of}
+use Rattle.fleet_kit.specs.Setups.{no_writer, entries_recorded, writers_of}
 use Rattle.fleet_kit.specs.declared.setup.FleetSetup.{FleetSetup}
 use Rattle.plan_kit.specs.Feeds.{plan_of, wanted_of}
 use Rattle.plan_kit.specs.Plans.{Planned, feeds_of}
@@ -31,7 +31,7 @@ use Rattle.schedule_kit.specs.Rows as rows
 use Rattle.schedule_kit.specs.Taken.{incarnations_from}
 use Rattle.otm_kit.specs.FleetSetups.{IsFleetSetup, fleet_ask, fleet_plan, fleet_task, fleet_tasks, one, plans}
 use Rattle.otm_kit.specs.FleetTexts.{sum_in, total_line}
-use Rattle.gateway_kit.specs.View.{View}
+use Rattle.gateway_kit.specs.GatewayState.{GatewayState}
 use Rattle.std.proofs.lemmas.Bool.{cases_lt, ne_eqb}
 use Rattle.point_kit.specs.States.{tabulate}
 
@@ -317,19 +317,19 @@ plan_at (x ∷ ws) (suc n) zero e lt = ap (λ (l : List (Planned × ℕ)). (slic
 plan_at (x ∷ ws) (suc n) (suc w) e lt = plan_at ws n w (ap (drop 1) e) (omega arith)
 
 -- each gateway's sum is the number of all recordings
-pub total_is : (writers recorders each gateways : ℕ) (s : FleetSetup) → IsFleetSetup writers recorders each gateways s → sum_in (rows_of (writers_of s) (recorded s) fleet_ask) ≡ pos (writers * recorders * each)
+pub total_is : (writers recorders each gateways : ℕ) (s : FleetSetup) → IsFleetSetup writers recorders each gateways s → sum_in (rows_of (writers_of s) (entries_recorded s) fleet_ask) ≡ pos (writers * recorders * each)
 unfolding rows_of
 total_is writers recorders each gateways s setup =
     let starts = (writers_of s).starts in
     let long : length starts ≡ writers =
     length_mapped (λ (w : WriterId × Planned × ℕ). w.2) s.writers.items ∙ sym (length_mapped (λ (w : WriterId × Planned × ℕ). (w.1, w.2)) s.writers.items) ∙ ap length setup.writers ∙ length_copies (fleet_plan, 1) writers in
-    let alike = alike_from (writers_of s) (recorded s) (recorders * each) 0 starts (λ w lt.
+    let alike = alike_from (writers_of s) (entries_recorded s) (recorders * each) 0 starts (λ w lt.
     (plan_at s.writers.items writers w setup.writers (omega arith), ap (λ ts. entries_of ts w) setup.jobs ∙ jobs_of writers recorders each w (omega arith))) in
-    total_of (writers_of s) (recorded s) (recorders * each) (incarnations_from 0 starts) alike
+    total_of (writers_of s) (entries_recorded s) (recorders * each) (incarnations_from 0 starts) alike
     ∙ ap (λ n. pos (n * (recorders * each))) (count_from 0 starts ∙ long) ∙ ap pos (sym (mul_assoc writers recorders each))
 
 -- lines of gateways that all have one total
-pub lines_are : (sum : View → ℤ) (total : ℕ) (gs : List View) → ((k : ℕ) (g : View) → slice_get gs k ≡ Some g → sum g ≡ pos total)
+pub lines_are : (sum : GatewayState → ℤ) (total : ℕ) (gs : List GatewayState) → ((k : ℕ) (g : GatewayState) → slice_get gs k ≡ Some g → sum g ≡ pos total)
     → flat_map (λ g. total_line g.id (sum g)) gs ≡ flat_map (λ id. total_line id (pos total)) (map (λ g. g.id) gs)
 lines_are sum total [] each = refl
 lines_are sum total (g ∷ gs) each =

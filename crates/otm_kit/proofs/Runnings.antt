@@ -34,14 +34,14 @@ use Rattle.world_kit.specs.declared.event.Reply.{Reply}
 use Rattle.otm_kit.specs.Begin.{begin_fault, limit_of, setup_of, with_plan}
 use Rattle.otm_kit.specs.Declarations.{Declared, declared_by, gateway_place, is_taken, label_place, named_at, with_declaration}
 use Rattle.otm_kit.specs.Effects.{done, bad, effect_of, has_begun, once_begun, told_of}
-use Rattle.otm_kit.specs.Events.{commands, event_of, happened}
+use Rattle.otm_kit.specs.Events.{commands, event_of, deeds_of_commands}
 use Rattle.otm_kit.specs.Answers.{answer_of, ask_of, conflicts_text, identity_of, newest_text, same_text}
 use Rattle.gossip_kit.specs.Views.{NodeView}
 use Rattle.point_kit.specs.Exports.{Points, changed_points}
 use Rattle.point_kit.proofs.PointLaws.{changed_points-same, unchanged_points}
 use Rattle.std.specs.FinMap.{empty}
 use Rattle.otm_kit.specs.Standing.{IsGatewayOf, Runs, Waits, Goes, StandsFor}
-use Rattle.otm_kit.specs.Texts.{begin_text, refused, reply_text}
+use Rattle.otm_kit.specs.Texts.{begin_text, refusal_line, reply_text}
 use Rattle.otm_kit.specs.declared.begin.BeginFault.{BeginFault}
 use Rattle.otm_kit.specs.Places.{Knows}
 use Rattle.otm_kit.specs.declared.gateway_ids.GatewayIds.{GatewayIds}
@@ -49,9 +49,9 @@ use Rattle.otm_kit.specs.declared.running.Running.{Running}
 use Rattle.otm_kit.proofs.Lines.{no_line, a_begin, a_command, a_query, declares_more, declares_none, begun_more, begun_now, commands_more, commands_nothing, commands_declare, commands_begin, commands_ask}
 
 -- what happened by one command more
-pub happened_more : (d : Declared) (cs : List Command) (c : Command) (e : Event) → event_of d c ≡ Ok e → happened d (cs ++ c ∷ []) ≡ after (setup_of d) (happened d cs) e
-unfolding happened
-happened_more d cs c e is = rw (filter_map-append, is, fold_push) refl
+pub deeds_of_commands_more : (d : Declared) (cs : List Command) (c : Command) (e : Event) → event_of d c ≡ Ok e → deeds_of_commands d (cs ++ c ∷ []) ≡ after (setup_of d) (deeds_of_commands d cs) e
+unfolding deeds_of_commands
+deeds_of_commands_more d cs c e is = rw (filter_map-append, is, fold_push) refl
 
 pub runs_more : (d : Declared) (cs : List Command) (c : Command) (e : Event) (reply : Reply) (old new : Running) → event_of d c ≡ Ok e → Runs d cs old → Acts e old.world reply new.world
     → new.instruments ≡ old.instruments → new.writers ≡ old.writers → new.gateways ≡ old.gateways → Runs d (cs ++ c ∷ []) new
@@ -59,12 +59,12 @@ runs_more d cs c e reply old new is r acts i w g = record {
   instruments = i ∙ r.instruments;
   writers = w ∙ r.writers;
   gateways = subst (λ (k : GatewayIds). Knows d.gateways k.places) (sym g) r.gateways;
-  world = subst (λ (ds : Deeds). Stands (setup_of d) ds new.world) (sym (happened_more d cs c e is)) (acts.stands (setup_of d) (happened d cs) r.world);
+  world = subst (λ (ds : Deeds). Stands (setup_of d) ds new.world) (sym (deeds_of_commands_more d cs c e is)) (acts.stands (setup_of d) (deeds_of_commands d cs) r.world);
 }
 
-pub told_event : (d : Declared) (cs : List Command) (c : Command) (e : Event) (reply : Reply) (old new : Held) → event_of d c ≡ Ok e → Stands (setup_of d) (happened d cs) old → Acts e old reply new
+pub told_event : (d : Declared) (cs : List Command) (c : Command) (e : Event) (reply : Reply) (old new : Held) → event_of d c ≡ Ok e → Stands (setup_of d) (deeds_of_commands d cs) old → Acts e old reply new
     → told_of d cs c ≡ Ok (reply_text reply)
-told_event d cs c e reply old new is stands acts = rw is (sym (ap (λ r. Ok (reply_text r)) (acts.reply (setup_of d) (happened d cs) stands)))
+told_event d cs c e reply old new is stands acts = rw is (sym (ap (λ r. Ok (reply_text r)) (acts.reply (setup_of d) (deeds_of_commands d cs) stands)))
 
 as_lines : (d d' : Declared) (cs cs' : List Command) (r : Running) → d' ≡ d → cs' ≡ cs → Runs d cs r → Runs d' cs' r
 as_lines d d' cs cs' r a b runs = subst (λ (x : Declared). Runs x cs' r) (sym a) (subst (λ (x : List Command). Runs d x r) (sym b) runs)
@@ -136,7 +136,7 @@ begin_done lines draft text none w e =
     let sound : begin_fault (declared_by lines) ≡ None = ap begin_fault (sym w.is) ∙ e in
     rw (none, w.begun, sound) refl
 
-pub begin_bad : (lines : List Line) (draft : Declared) (fault : BeginFault) (text : List ℕ) → text ≡ refused (begin_text fault) → Waits lines draft → begin_fault draft ≡ Some fault → bad text reason.Refused ≡ effect_of lines line.Begin
+pub begin_bad : (lines : List Line) (draft : Declared) (fault : BeginFault) (text : List ℕ) → text ≡ refusal_line (begin_text fault) → Waits lines draft → begin_fault draft ≡ Some fault → bad text reason.Refused ≡ effect_of lines line.Begin
 unfolding effect_of
 begin_bad lines draft fault text said w e =
     let unsound : begin_fault (declared_by lines) ≡ Some fault = ap begin_fault (sym w.is) ∙ e in

@@ -20,11 +20,11 @@ use Rattle.std.specs.Option.{option_map}
 use Rattle.world_kit.specs.States.{state_at}
 use Rattle.otm_kit.specs.Begin.{setup_of}
 use Rattle.otm_kit.specs.Declarations.{Declared, gateway_place}
-use Rattle.otm_kit.specs.Events.{gateway_at, happened, writer_place}
+use Rattle.otm_kit.specs.Events.{gateway_at, deeds_of_commands, writer_place}
 
 -- the state of the exports that the gateway at a place took
 abbrev pub points_at : Declared → List Command → ℕ → Points
-points_at d cs place = state_at (setup_of d) (happened d cs) (AtGateway place)
+points_at d cs place = state_at (setup_of d) (deeds_of_commands d cs) (AtGateway place)
 
 -- what a report asks of a gateway
 abbrev pub ask_of : Report → Ask

@@ -51,5 +51,5 @@ unfoldable pub commands : List Line → List Command
 commands lines = filter_map command_in lines
 
 -- what happened by commands: their events that were accepted
-unfoldable pub happened : Declared → List Command → Deeds
-happened d cs = deeds (setup_of d) (filter_map (λ c. result_ok (event_of d c)) cs)
+unfoldable pub deeds_of_commands : Declared → List Command → Deeds
+deeds_of_commands d cs = deeds (setup_of d) (filter_map (λ c. result_ok (event_of d c)) cs)

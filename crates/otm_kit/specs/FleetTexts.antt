@@ -4,7 +4,7 @@ use Rattle.std.specs.List.{flat_map}
 use Rattle.std.specs.Fmt.{decimal, signed_decimal}
 use Rattle.fleet_kit.specs.declared.fault.FleetFault.{FleetFault}
 use Rattle.fleet_kit.specs.declared.fault.FleetFault.TheVariants as faults
-use Rattle.gateway_kit.specs.View.{View}
+use Rattle.gateway_kit.specs.GatewayState.{GatewayState}
 use Rattle.otm_kit.specs.declared.fleet_end.FleetEnd.{FleetEnd}
 use Rattle.otm_kit.specs.declared.fleet_end.FleetEnd.TheVariants as ends
 use Rattle.rollup_kit.specs.Rollups.{rollup_rows}
@@ -14,9 +14,9 @@ use Rattle.rollup_kit.specs.declared.row.Total.{Total}
 use Rattle.rollup_kit.specs.declared.row.Total.TheVariants as totals
 
 -- a fleet's fault, as the end of a report
-abbrev pub ended : FleetFault → FleetEnd
-ended faults.NoMemory = ends.NoMemory
-ended fault = ends.Fleet fault
+abbrev pub end_of_fault : FleetFault → FleetEnd
+end_of_fault faults.NoMemory = ends.NoMemory
+end_of_fault fault = ends.Fleet fault
 
 abbrev pub fault_text : FleetFault → List ℕ
 fault_text (faults.Missing gateway writer) = codes "missing gateway " ++ decimal (gateway + 1) ++ codes " writer " ++ decimal writer
@@ -43,7 +43,7 @@ unfoldable pub total_line : ℕ → ℤ → List ℕ
 total_line id sum = codes "gateway " ++ decimal id ++ codes " total " ++ signed_decimal sum ++ 10 ∷ []
 
 -- the line of a gateway, with the sum that it answers
-abbrev pub answer_line : Ask → View → List ℕ
+abbrev pub answer_line : Ask → GatewayState → List ℕ
 answer_line ask gateway = total_line gateway.id (sum_in (rollup_rows ask gateway.points))
 
 -- the ids of gateways: 1, 2 and so on

@@ -12,7 +12,7 @@ use Rattle.point_kit.specs.Exports.{Points}
 use Rattle.otm_kit.specs.Begin.{setup_of}
 use Rattle.otm_kit.specs.Declarations.{Declared, declared_by, gateway_place}
 use Rattle.otm_kit.specs.Effects.{Effect, done, bad, effect_of, has_begun}
-use Rattle.otm_kit.specs.Events.{commands, happened}
+use Rattle.otm_kit.specs.Events.{commands, deeds_of_commands}
 use Rattle.otm_kit.specs.Places.{Knows}
 use Rattle.otm_kit.specs.Says.{effect_text, piece_effect, reason_of, sentence_for}
 use Rattle.otm_kit.specs.declared.desk.Desk.{Desk}
@@ -29,7 +29,7 @@ pub record Runs (d : Declared) (cs : List Command) (r : Running) : Type 0 where
   pub instruments : r.instruments ≡ d.instrument_labels
   pub writers : r.writers ≡ d.writer_labels
   pub gateways : Knows d.gateways r.gateways.places
-  pub world : Stands (setup_of d) (happened d cs) r.world
+  pub world : Stands (setup_of d) (deeds_of_commands d cs) r.world
 
 -- points are those of the gateway of an id
 pub record IsGatewayOf (d : Declared) (cs : List Command) (id : ℕ) (points : Points) : Type 0 where

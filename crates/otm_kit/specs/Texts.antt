@@ -10,8 +10,8 @@ use Rattle.otm_kit.specs.declared.begin.BeginFault.{BeginFault}
 use Rattle.otm_kit.specs.declared.begin.BeginFault.TheVariants as begin
 
 -- the line of a refusal
-unfoldable pub refused : List ℕ → List ℕ
-refused why = codes "refused: " ++ why ++ 10 ∷ []
+unfoldable pub refusal_line : List ℕ → List ℕ
+refusal_line why = codes "refused: " ++ why ++ 10 ∷ []
 
 -- an accepted event prints nothing
 unfoldable pub reply_text : Reply → List ℕ
@@ -20,7 +20,7 @@ reply_text (reply.Made export) = []
 reply_text (reply.Changed keys) = []
 reply_text (reply.Sent mail) = []
 reply_text (reply.Handed mail) = []
-reply_text (reply.Refused why) = refused (refusal_text why)
+reply_text (reply.Refused why) = refusal_line (refusal_text why)
 
 -- the name of a plan's fault, with its places in parentheses
 abbrev pub plan_text : PlanFault → List ℕ

@@ -10,7 +10,7 @@ ghost use Rattle.otm_kit.specs.FleetTexts.{answer_line, report, sum_in, total_li
 use crate::FleetEnd;
 use crate::fleet_setup::{ask, setup};
 use attr_kit::NoMemory;
-use fleet_kit::{Gate, run_fleet};
+use fleet_kit::{Open, run_fleet};
 use gateway_kit::Gateway;
 use rollup_kit::{Ask, Total, rollup};
 use script_kit::write_text;
@@ -18,16 +18,6 @@ use std::alloc::Global;
 use std::io::Write;
 use std::sync::Wait;
 use std::thread::Threads;
-
-/// Lets every recording pass.
-#[derive(Drop)]
-struct Open;
-
-impl Gate for Open {
-    fn pass<R: Wait>(&self, _rt: &R, _job: usize, _entry: usize) -> bool {
-        true
-    }
-}
 
 // The sum in the row that a gateway answers, or 0 where it answers none.
 fn sum(alloc: Global, gateway: &Gateway, ask: &Ask) -> Result<i128, NoMemory>
@@ -63,7 +53,7 @@ fn lines(alloc: Global, gateways: &[Gateway], ask: &Ask) -> Result<String, NoMem
 }
 
 // Runs the fleet to its end, and tells the totals of its gateways.
-fn told<R: Threads + Wait + Sync>(
+fn totals_of_run<R: Threads + Wait + Sync>(
     rt: &R,
     alloc: Global,
     writers: u8,
@@ -104,7 +94,7 @@ pub fn fleet_report<R: Threads + Wait + Sync, W: Write>(
     ensures ok { OnOk result (Appends (W.contents writer.old) (W.contents writer.new) (report writers recorders each gateways)) }
     ensures front { OnErr result (AppendsFront (W.contents writer.old) (W.contents writer.new) (report writers recorders each gateways)) }
 {
-    let text = told(rt, alloc, writers, recorders, each, gateways)?;
+    let text = totals_of_run(rt, alloc, writers, recorders, each, gateways)?;
     match write_text(writer, text.as_bytes()) {
         Ok(()) => Ok(()),
         Err(_) => Err(FleetEnd::WriteFault),

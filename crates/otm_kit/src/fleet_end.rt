@@ -48,9 +48,9 @@ impl From<NoMemory> for FleetEnd {
 }
 
 impl From<FleetFault> for FleetEnd {
-    ghost use Rattle.otm_kit.specs.FleetTexts.{ended};
+    ghost use Rattle.otm_kit.specs.FleetTexts.{end_of_fault};
 
-    ghost from_gives = { λ fault e. e ≡ ended fault };
+    ghost from_gives = { λ fault e. e ≡ end_of_fault fault };
 
     fn from(fault: FleetFault) -> FleetEnd {
         match fault {

@@ -1,12 +1,17 @@
 //! The program of scripts: what a command line asks for, and what a script does.
 //!
+//! - [`command_line::asked`] reads the words of a command line: what is [`Asked`], or a [`LineFault`].
 //! - [`run_script`] reads a script and writes what its lines say. [`run_script_told`] tells besides, in an [`Ended`], why a bad
 //!   line is bad.
-//! - [`command_line::asked`] reads the words of a command line: what is [`Asked`], or a [`LineFault`].
 //! - [`fleet_report`] runs a fleet of threads and writes the total of each gateway, which is the number of all recordings. A
 //!   [`FleetEnd`] says why it wrote none.
 //!
-//!     run_script(alloc, &mut reader, &mut writer)?;
+//! A caller, from `crates/uses/src/scripting.rt`, whose script lies in memory:
+//!
+//!     let mut reader = script;
+//!     let mut text = Vec::new(alloc);
+//!     run_script_told(alloc, &mut reader, &mut text)?;
+//!     Ok(text)
 //!
 //! What a script says is a definition (specs `Says`): the effect of each line is read off the lines before it (specs
 //! `Declarations`, `Events`, `Effects`, `Answers`, `Texts`), and the world of the script is that of its accepted events

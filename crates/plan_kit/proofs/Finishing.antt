@@ -28,8 +28,8 @@ use Rattle.plan_kit.specs.declared.feed.Feed.{Feed}
 use Rattle.plan_kit.specs.declared.kept.Place.{Place}
 use Rattle.plan_kit.specs.Aggregations.{fit, has_bad_bounds}
 use Rattle.plan_kit.specs.Bounds.{are_bounds, default_bounds}
-use Rattle.plan_kit.specs.Feeds.{default_view, or_default, fed_by, feed_by, wanted_by, own_feeds, wanted_of, numbered, plan_from}
-use Rattle.plan_kit.specs.Kept.{place_of, source_at, planned, owner_rises, is_rightly_rising, AreSound}
+use Rattle.plan_kit.specs.Feeds.{default_view, or_default, fed_by, feed_by, wanted_by, own_feeds, wanted_of, feeds_from, plan_from}
+use Rattle.plan_kit.specs.Kept.{place_of, source_at, plan_from_parts, owner_rises, is_rightly_rising, AreSound}
 use Rattle.plan_kit.specs.Owners.{is_same, owner_of}
 use Rattle.plan_kit.specs.Plans.{Source, feeds_of, kind_of, lacks, AreFeeds, AreApart, AllRise, is_proper, rises, only_rises, IsPlan}
 use Rattle.plan_kit.specs.SameStream.{same, clash_of}
@@ -40,32 +40,32 @@ use Rattle.plan_kit.proofs.Owning.{same_self}
 use Rattle.plan_kit.proofs.Sharing.{first_passes, source_of, plan_shared}
 
 -- a feed of a number below those of a list is none of them
-lacks_below : (k owner n : ℕ) (ws : List Wanted) → k < n → lacks k (numbered owner n ws)
+lacks_below : (k owner n : ℕ) (ws : List Wanted) → k < n → lacks k (feeds_from owner n ws)
 lacks_below k owner n [] h = tt
-lacks_below k owner n (w ∷ ws) h = elim (w.owner == owner) as (λ b. lacks k (cond b (record { stream = n; keep = w.keep } ∷ numbered owner (n + 1) ws) (numbered owner (n + 1) ws))) [
+lacks_below k owner n (w ∷ ws) h = elim (w.owner == owner) as (λ b. lacks k (cond b (record { stream = n; keep = w.keep } ∷ feeds_from owner (n + 1) ws) (feeds_from owner (n + 1) ws))) [
   | true ↦ (omega arith, lacks_below k owner (n + 1) ws (omega arith))
   | false ↦ lacks_below k owner (n + 1) ws (omega arith)
 ]
 
-numbered_are_feeds : (owner n m : ℕ) (ws : List Wanted) → n + length ws ≤ m → AreFeeds m (numbered owner n ws)
-numbered_are_feeds owner n m [] h = tt
-numbered_are_feeds owner n m (w ∷ ws) h = elim (w.owner == owner) as (λ b. AreFeeds m (cond b (record { stream = n; keep = w.keep } ∷ numbered owner (n + 1) ws) (numbered owner (n + 1) ws))) [
-  | true ↦ (omega arith, lacks_below n owner (n + 1) ws (omega arith), numbered_are_feeds owner (n + 1) m ws (omega arith))
-  | false ↦ numbered_are_feeds owner (n + 1) m ws (omega arith)
+feeds_from_are_feeds : (owner n m : ℕ) (ws : List Wanted) → n + length ws ≤ m → AreFeeds m (feeds_from owner n ws)
+feeds_from_are_feeds owner n m [] h = tt
+feeds_from_are_feeds owner n m (w ∷ ws) h = elim (w.owner == owner) as (λ b. AreFeeds m (cond b (record { stream = n; keep = w.keep } ∷ feeds_from owner (n + 1) ws) (feeds_from owner (n + 1) ws))) [
+  | true ↦ (omega arith, lacks_below n owner (n + 1) ws (omega arith), feeds_from_are_feeds owner (n + 1) m ws (omega arith))
+  | false ↦ feeds_from_are_feeds owner (n + 1) m ws (omega arith)
 ]
 
 length_streams : (ws : List Wanted) → length (map (λ w. w.stream) ws) ≡ length ws
 length_streams [] = refl
 length_streams (w ∷ ws) = ap suc (length_streams ws)
 
-source_feeds : (ws : List Wanted) (is : List Instrument) (o : Option Instrument) → AreFeeds (length ws) (option_map_or (λ s. s.feeds) (option_map (λ (i : Instrument). let s : Source = record { kind = i.kind; feeds = numbered (owner_of is i) 0 ws } in s) o) [])
+source_feeds : (ws : List Wanted) (is : List Instrument) (o : Option Instrument) → AreFeeds (length ws) (option_map_or (λ s. s.feeds) (option_map (λ (i : Instrument). let s : Source = record { kind = i.kind; feeds = feeds_from (owner_of is i) 0 ws } in s) o) [])
 source_feeds ws is None = tt
-source_feeds ws is (Some i) = numbered_are_feeds (owner_of is i) 0 (length ws) ws (omega arith)
+source_feeds ws is (Some i) = feeds_from_are_feeds (owner_of is i) 0 (length ws) ws (omega arith)
 
 plan_feeds : (is : List Instrument) (ws : List Wanted) (limit i : ℕ) → AreFeeds (length (map (λ w. w.stream) ws)) (feeds_of (plan_from is ws limit) i)
 plan_feeds is ws limit i =
     subst (λ (n : ℕ). AreFeeds n (feeds_of (plan_from is ws limit) i)) (sym (length_streams ws))
-    (subst (λ (o : Option Source). AreFeeds (length ws) (option_map_or (λ s. s.feeds) o [])) (sym (slice_get-map (λ (i : Instrument). let s : Source = record { kind = i.kind; feeds = numbered (owner_of is i) 0 ws } in s) is i)) (source_feeds ws is (slice_get is i)))
+    (subst (λ (o : Option Source). AreFeeds (length ws) (option_map_or (λ s. s.feeds) o [])) (sym (slice_get-map (λ (i : Instrument). let s : Source = record { kind = i.kind; feeds = feeds_from (owner_of is i) 0 ws } in s) is i)) (source_feeds ws is (slice_get is i)))
 
 differ : (x : Wanted) (ws : List Wanted) → AllByRecursion (λ y. same x y ≡ false) ws → (j : ℕ) (s : Stream) → slice_get (map (λ w. w.stream) ws) j ≡ Some s → (streams.ghosts).eq x.stream s ≡ false
 differ x [] d j s e = cc
@@ -108,11 +108,11 @@ by_second true b h e = h
 by_second false b h e = absurd (true≢false (sym e))
 
 -- the feeds of one owner rise rightly
-feeds_rise : (is : List Instrument) (ws : List Wanted) (limit : ℕ) (k : Kind) (owner n : ℕ) (rest : List Wanted) → StandsAt ws n rest → list_all (is_rightly_rising is) rest ≡ true → (owner_rises is owner ≡ true → only_rises k ≡ true) → AllRise (plan_from is ws limit) k (numbered owner n rest)
+feeds_rise : (is : List Instrument) (ws : List Wanted) (limit : ℕ) (k : Kind) (owner n : ℕ) (rest : List Wanted) → StandsAt ws n rest → list_all (is_rightly_rising is) rest ≡ true → (owner_rises is owner ≡ true → only_rises k ≡ true) → AllRise (plan_from is ws limit) k (feeds_from owner n rest)
 feeds_rise is ws limit k owner n [] s all own = tt
 feeds_rise is ws limit k owner n (w ∷ rest) s all own =
     let tail = feeds_rise is ws limit k owner (n + 1) rest (later ws n w rest s) (second_holds _ _ all) own in
-    elim (w.owner == owner) as (λ b. (w.owner == owner) ≡ b → AllRise (plan_from is ws limit) k (cond b (record { stream = n; keep = w.keep } ∷ numbered owner (n + 1) rest) (numbered owner (n + 1) rest))) [
+    elim (w.owner == owner) as (λ b. (w.owner == owner) ≡ b → AllRise (plan_from is ws limit) k (cond b (record { stream = n; keep = w.keep } ∷ feeds_from owner (n + 1) rest) (feeds_from owner (n + 1) rest))) [
       | true ↦ λ mine. (
         (λ stream at up.
             let is_here : Some w.stream ≡ Some stream = sym (slice_get-map (λ (x : Wanted). x.stream) ws n ∙ ap (option_map (λ (x : Wanted). x.stream)) (here ws n w rest s)) ∙ at in
@@ -153,12 +153,12 @@ is_plan is ws limit clash sound above = record {
 }
 
 -- what a plan keeps is seen as the plan
-pub planned_is : (is : List Instrument) (ws : List Wanted) (limit : ℕ) (places : List Place) (lists : List (List Feed)) (ss : List Stream) → places ≡ map (place_of is) is → ((o : ℕ) → slice_index_or lists o [] ≡ numbered o 0 ws) → ss ≡ map (λ w. w.stream) ws → planned places lists ss limit ≡ plan_from is ws limit
-planned_is is ws limit places lists ss kept listed streams =
-    (λ j. planned (kept j) lists (streams j) limit)
+pub plan_from_parts_is : (is : List Instrument) (ws : List Wanted) (limit : ℕ) (places : List Place) (lists : List (List Feed)) (ss : List Stream) → places ≡ map (place_of is) is → ((o : ℕ) → slice_index_or lists o [] ≡ feeds_from o 0 ws) → ss ≡ map (λ w. w.stream) ws → plan_from_parts places lists ss limit ≡ plan_from is ws limit
+plan_from_parts_is is ws limit places lists ss kept listed streams =
+    (λ j. plan_from_parts (kept j) lists (streams j) limit)
     ∙ (λ j. record { instruments = sources is is j; streams = map (λ w. w.stream) ws; limit = limit })
   where
-    sources : (all xs : List Instrument) → map (source_at lists) (map (place_of all) xs) ≡ map (λ (i : Instrument). let s : Source = record { kind = i.kind; feeds = numbered (owner_of all i) 0 ws } in s) xs
+    sources : (all xs : List Instrument) → map (source_at lists) (map (place_of all) xs) ≡ map (λ (i : Instrument). let s : Source = record { kind = i.kind; feeds = feeds_from (owner_of all i) 0 ws } in s) xs
     sources all [] = refl
     sources all (x ∷ xs) = λ j. record { kind = x.kind; feeds = listed (owner_of all x) j } ∷ sources all xs j
 
@@ -300,11 +300,11 @@ map_more f xs i x old new y h at was pushed is =
     pushed ∙ (λ j. was j ++ is j ∷ []) ∙ sym (map-append f (take i xs) (x ∷ []))
     ∙ ap (map f) (ap (λ z. take i xs ++ z ∷ []) at ∙ sym (take_more xs i x h))
 
-numbered_append : (o n : ℕ) (xs ys : List Wanted) → numbered o n (xs ++ ys) ≡ numbered o n xs ++ numbered o (n + length xs) ys
-numbered_append o n [] ys = ap (λ (m : ℕ). numbered o m ys) (omega arith)
-numbered_append o n (x ∷ xs) ys =
-    let rest : numbered o (n + 1) (xs ++ ys) ≡ numbered o (n + 1) xs ++ numbered o (n + length (x ∷ xs)) ys = numbered_append o (n + 1) xs ys ∙ ap (λ (m : ℕ). numbered o (n + 1) xs ++ numbered o m ys) (omega arith) in
-    elim (x.owner == o) as (λ b. cond b (record { stream = n; keep = x.keep } ∷ numbered o (n + 1) (xs ++ ys)) (numbered o (n + 1) (xs ++ ys)) ≡ cond b (record { stream = n; keep = x.keep } ∷ numbered o (n + 1) xs) (numbered o (n + 1) xs) ++ numbered o (n + length (x ∷ xs)) ys) [
+feeds_from_append : (o n : ℕ) (xs ys : List Wanted) → feeds_from o n (xs ++ ys) ≡ feeds_from o n xs ++ feeds_from o (n + length xs) ys
+feeds_from_append o n [] ys = ap (λ (m : ℕ). feeds_from o m ys) (omega arith)
+feeds_from_append o n (x ∷ xs) ys =
+    let rest : feeds_from o (n + 1) (xs ++ ys) ≡ feeds_from o (n + 1) xs ++ feeds_from o (n + length (x ∷ xs)) ys = feeds_from_append o (n + 1) xs ys ∙ ap (λ (m : ℕ). feeds_from o (n + 1) xs ++ feeds_from o m ys) (omega arith) in
+    elim (x.owner == o) as (λ b. cond b (record { stream = n; keep = x.keep } ∷ feeds_from o (n + 1) (xs ++ ys)) (feeds_from o (n + 1) (xs ++ ys)) ≡ cond b (record { stream = n; keep = x.keep } ∷ feeds_from o (n + 1) xs) (feeds_from o (n + 1) xs) ++ feeds_from o (n + length (x ∷ xs)) ys) [
       | true ↦ ap (λ l. record { stream = n; keep = x.keep } ∷ l) rest
       | false ↦ rest
     ]
@@ -314,10 +314,10 @@ one_list_more true l f = refl
 one_list_more false l f = sym (append-nil l)
 
 -- the lists after one feed more
-pub lists_more : (o i : ℕ) (ws : List Wanted) (w : Wanted) (f : Feed) (old new : List Feed) → i < length ws → w ≡ get_or ws i w → old ≡ numbered o 0 (take i ws) → f ≡ record { stream = i; keep = w.keep } → new ≡ cond (w.owner == o) (old ++ f ∷ []) old → new ≡ numbered o 0 (take (i + 1) ws)
+pub lists_more : (o i : ℕ) (ws : List Wanted) (w : Wanted) (f : Feed) (old new : List Feed) → i < length ws → w ≡ get_or ws i w → old ≡ feeds_from o 0 (take i ws) → f ≡ record { stream = i; keep = w.keep } → new ≡ cond (w.owner == o) (old ++ f ∷ []) old → new ≡ feeds_from o 0 (take (i + 1) ws)
 lists_more o i ws w f old new h at was is now =
     let len : length (take i ws) ≡ i = omega (arith, length-take {A = Wanted}) in
-    now ∙ (λ j. cond (w.owner == o) (was j ++ is j ∷ []) (was j)) ∙ one_list_more (w.owner == o) (numbered o 0 (take i ws)) (record { stream = i; keep = w.keep })
-    ∙ ap (λ (m : ℕ). numbered o 0 (take i ws) ++ numbered o m (w ∷ [])) (omega arith)
-    ∙ sym (numbered_append o 0 (take i ws) (w ∷ []))
-    ∙ ap (numbered o 0) (ap (λ z. take i ws ++ z ∷ []) at ∙ sym (take_more ws i w h))
+    now ∙ (λ j. cond (w.owner == o) (was j ++ is j ∷ []) (was j)) ∙ one_list_more (w.owner == o) (feeds_from o 0 (take i ws)) (record { stream = i; keep = w.keep })
+    ∙ ap (λ (m : ℕ). feeds_from o 0 (take i ws) ++ feeds_from o m (w ∷ [])) (omega arith)
+    ∙ sym (feeds_from_append o 0 (take i ws) (w ∷ []))
+    ∙ ap (feeds_from o 0) (ap (λ z. take i ws ++ z ∷ []) at ∙ sym (take_more ws i w h))

@@ -16,7 +16,7 @@ use Rattle.plan_kit.specs.declared.instrument.Kind.TheVariants as kinds
 use Rattle.plan_kit.specs.declared.view.Aggregation.{Aggregation}
 use Rattle.plan_kit.specs.declared.view.Aggregation.TheVariants as ways
 use Rattle.plan_kit.specs.Aggregations.{is_refused}
-use Rattle.plan_kit.specs.Matching.{places, places_from, holds_at, merge, merge_front, listed, IsIndex, is_of, is_drop, names, rule_names, is_every, rule_is_every, others_fit}
+use Rattle.plan_kit.specs.Matching.{places, places_from, holds_at, merge, merge_front, places_under, IsIndex, is_of, is_drop, names, rule_names, is_every, rule_is_every, others_fit}
 use Rattle.plan_kit.specs.Names.{lower}
 use Rattle.plan_kit.specs.Views.{text_eq, name_fits, view_fits, is_bad_view}
 
@@ -154,14 +154,14 @@ module _ {A : Type 0} where
       ap (places p) (take_more xs i d h) ∙ places_append p 0 (take i xs) (get_or xs i d ∷ []) ∙ ap (λ (m : ℕ). places p (take i xs) ++ places_from p m (get_or xs i d ∷ [])) (omega arith)
 
 -- a first place under a name
-listed_by : {Y S : Type 0} (old new : HashMap (List ℕ) (Vec ℕ Y) S) (name q : List ℕ) (list : Vec ℕ Y) (place : ℕ) (b : Bool) → text_eq name q ≡ b → get_by (text_eq name) old ≡ None → get_by (text_eq q) new ≡ cond b (Some list) (get_by (text_eq q) old) → list.items ≡ place ∷ [] → listed new q ≡ cond b (listed old q ++ place ∷ []) (listed old q)
-listed_by old new name q list place true e none now one =
+places_under_by : {Y S : Type 0} (old new : HashMap (List ℕ) (Vec ℕ Y) S) (name q : List ℕ) (list : Vec ℕ Y) (place : ℕ) (b : Bool) → text_eq name q ≡ b → get_by (text_eq name) old ≡ None → get_by (text_eq q) new ≡ cond b (Some list) (get_by (text_eq q) old) → list.items ≡ place ∷ [] → places_under new q ≡ cond b (places_under old q ++ place ∷ []) (places_under old q)
+places_under_by old new name q list place true e none now one =
     ap (λ o. option_map_or (λ l. l.items) o []) now ∙ one
     ∙ ap (λ l. l ++ place ∷ []) (sym (ap (λ o. option_map_or (λ l. l.items) o []) (subst (λ (n : List ℕ). get_by (text_eq n) old ≡ None) (exact_texts name q e) none)))
-listed_by old new name q list place false e none now one = ap (λ o. option_map_or (λ l. l.items) o []) now
+places_under_by old new name q list place false e none now one = ap (λ o. option_map_or (λ l. l.items) o []) now
 
-pub listed_new : {Y S : Type 0} (old new : HashMap (List ℕ) (Vec ℕ Y) S) (name q : List ℕ) (list : Vec ℕ Y) (place : ℕ) → get_by (text_eq name) old ≡ None → get_by (text_eq q) new ≡ cond (text_eq name q) (Some list) (get_by (text_eq q) old) → list.items ≡ place ∷ [] → listed new q ≡ cond (text_eq name q) (listed old q ++ place ∷ []) (listed old q)
-listed_new old new name q list place none now one = listed_by old new name q list place (text_eq name q) refl none now one
+pub places_under_new : {Y S : Type 0} (old new : HashMap (List ℕ) (Vec ℕ Y) S) (name q : List ℕ) (list : Vec ℕ Y) (place : ℕ) → get_by (text_eq name) old ≡ None → get_by (text_eq q) new ≡ cond (text_eq name q) (Some list) (get_by (text_eq q) old) → list.items ≡ place ∷ [] → places_under new q ≡ cond (text_eq name q) (places_under old q ++ place ∷ []) (places_under old q)
+places_under_new old new name q list place none now one = places_under_by old new name q list place (text_eq name q) refl none now one
 
 -- a rule of one name is none of every name
 rules_apart : (name : List ℕ) (r : NameRule) → (rule_names name r && rule_is_every r) ≡ false
@@ -260,7 +260,7 @@ index_every sort exact every new vs i v h at of is index pushed = record {
 }
 
 -- an index of one view of one name more
-pub index_exact : {Y S : Type 0} (sort : Bool) (exact new : HashMap (List ℕ) (Vec ℕ Y) S) (every : List ℕ) (vs : List View) (i : ℕ) (v : View) (own : List ℕ) → i < length vs → v ≡ get_or vs i v → is_of sort v ≡ true → v.name ≡ rules.Exact own → IsIndex sort exact every (take i vs) → ((q : List ℕ) → listed new q ≡ cond (text_eq (lower own) q) (listed exact q ++ i ∷ []) (listed exact q)) → IsIndex sort new every (take (i + 1) vs)
+pub index_exact : {Y S : Type 0} (sort : Bool) (exact new : HashMap (List ℕ) (Vec ℕ Y) S) (every : List ℕ) (vs : List View) (i : ℕ) (v : View) (own : List ℕ) → i < length vs → v ≡ get_or vs i v → is_of sort v ≡ true → v.name ≡ rules.Exact own → IsIndex sort exact every (take i vs) → ((q : List ℕ) → places_under new q ≡ cond (text_eq (lower own) q) (places_under exact q ++ i ∷ []) (places_under exact q)) → IsIndex sort new every (take (i + 1) vs)
 index_exact sort exact new every vs i v own h at of is index added = record {
   named = λ q. added q ∙ ap (λ l. cond (text_eq (lower own) q) (l ++ i ∷ []) l) (index.named q) ∙ grown (text_eq (lower own) q) (places (λ w. is_of sort w && names q w) (take i vs)) i ∙ sym (place_more (λ w. is_of sort w && names q w) vs i v (text_eq (lower own) q) h at (λ k. of k && rule_names q (is k)));
   all = index.all ∙ sym (place_same (λ w. is_of sort w && is_every w) vs i v h at (λ k. of k && rule_is_every (is k)));

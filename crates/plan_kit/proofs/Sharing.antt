@@ -9,15 +9,15 @@ use Rattle.plan_kit.specs.declared.feed.Feed.{Feed}
 use Rattle.plan_kit.specs.declared.instrument.Instrument.{Instrument}
 use Rattle.plan_kit.specs.declared.wanted.Wanted.{Wanted}
 use Rattle.plan_kit.specs.Exact.{exact_instruments}
-use Rattle.plan_kit.specs.Feeds.{numbered, plan_from}
+use Rattle.plan_kit.specs.Feeds.{feeds_from, plan_from}
 use Rattle.plan_kit.specs.Owners.{is_same, owner_of}
 use Rattle.plan_kit.specs.Plans.{Source, has_stream, IsShared}
 use Rattle.plan_kit.proofs.Owning.{same_self}
 
-lacks_earlier : (s owner n : ℕ) (ws : List Wanted) → s < n → has_stream s (numbered owner n ws) ≡ false
+lacks_earlier : (s owner n : ℕ) (ws : List Wanted) → s < n → has_stream s (feeds_from owner n ws) ≡ false
 lacks_earlier s owner n [] h = refl
-lacks_earlier s owner n (w ∷ ws) h = elim (w.owner == owner) as (λ b. has_stream s (cond b (record { stream = n; keep = w.keep } ∷ numbered owner (n + 1) ws) (numbered owner (n + 1) ws)) ≡ false) [
-  | true ↦ ap (λ b. b || has_stream s (numbered owner (n + 1) ws)) (ne_eqb n s (omega arith)) ∙ lacks_earlier s owner (n + 1) ws (omega arith)
+lacks_earlier s owner n (w ∷ ws) h = elim (w.owner == owner) as (λ b. has_stream s (cond b (record { stream = n; keep = w.keep } ∷ feeds_from owner (n + 1) ws) (feeds_from owner (n + 1) ws)) ≡ false) [
+  | true ↦ ap (λ b. b || has_stream s (feeds_from owner (n + 1) ws)) (ne_eqb n s (omega arith)) ∙ lacks_earlier s owner (n + 1) ws (omega arith)
   | false ↦ lacks_earlier s owner (n + 1) ws (omega arith)
 ]
 
@@ -31,12 +31,12 @@ is_later : (s : ℕ) (b : Bool) (f : Feed) (fs : List Feed) → (f.stream == s) 
 is_later s true f fs other e = sym (ap (λ b. b || has_stream s fs) other) ∙ e
 is_later s false f fs other e = e
 
-one_owner : (s a b n : ℕ) (ws : List Wanted) → has_stream s (numbered a n ws) ≡ true → has_stream s (numbered b n ws) ≡ true → a ≡ b
+one_owner : (s a b n : ℕ) (ws : List Wanted) → has_stream s (feeds_from a n ws) ≡ true → has_stream s (feeds_from b n ws) ≡ true → a ≡ b
 one_owner s a b n [] x y = absurd (true≢false (sym x))
 one_owner s a b n (w ∷ ws) x y =
     let f : Feed = record { stream = n; keep = w.keep } in
-    let A = numbered a (n + 1) ws in
-    let B = numbered b (n + 1) ws in
+    let A = feeds_from a (n + 1) ws in
+    let B = feeds_from b (n + 1) ws in
     elim (n == s) as (λ t. (n == s) ≡ t → a ≡ b) [
       | true ↦ λ t.
           let same : n ≡ s = eqb-true n s t in
@@ -71,7 +71,7 @@ equal_owners is i j x y at_i at_j own =
     exact_instruments x z mine.2 ∙ one ∙ sym (exact_instruments y u yours.2)
 
 abbrev pub source_of : List Instrument → List Wanted → Instrument → Source
-source_of is ws i = record { kind = i.kind; feeds = numbered (owner_of is i) 0 ws }
+source_of is ws i = record { kind = i.kind; feeds = feeds_from (owner_of is i) 0 ws }
 
 alike : (is : List Instrument) (ws : List Wanted) (i j s : ℕ) (o q : Option Instrument) → slice_get is i ≡ o → slice_get is j ≡ q → has_stream s (option_map_or (λ t. t.feeds) (option_map (source_of is ws) o) []) ≡ true → has_stream s (option_map_or (λ t. t.feeds) (option_map (source_of is ws) q) []) ≡ true → option_map (source_of is ws) o ≡ option_map (source_of is ws) q
 alike is ws i j s None q at_i at_j x y = absurd (true≢false (sym x))

@@ -17,7 +17,7 @@ use Rattle.plan_kit.specs.Aggregations.{fit}
 use Rattle.plan_kit.specs.Names.{lower}
 use Rattle.plan_kit.specs.Owners.{owner_of}
 use Rattle.plan_kit.specs.Plans.{Planned}
-use Rattle.plan_kit.specs.Views.{view_fits, lowered}
+use Rattle.plan_kit.specs.Views.{view_fits, with_name_lowered}
 
 -- the view that stands where none matches: it keeps all, with the aggregation that goes with the kind
 abbrev pub default_view : View
@@ -28,8 +28,8 @@ or_default [] = default_view ∷ []
 or_default (v ∷ vs) = v ∷ vs
 
 -- the views that apply to an instrument: those that match it, in their order, or the default one
-abbrev pub applied : List View → Instrument → List View
-applied views i = or_default (filter (λ v. view_fits v i) views)
+abbrev pub applying_views : List View → Instrument → List View
+applying_views views i = or_default (filter (λ v. view_fits v i) views)
 
 -- the stream of an instrument by a view: the scope and the unit of the instrument, the name that the view gives or else the
 -- instrument's, in lower case, and a shape
@@ -51,7 +51,7 @@ feeds_at owner i views places = filter_map (λ n. option_and_then (feed_by owner
 
 -- the feeds of the instrument at a place: of the views that apply, in their order, without those that drop
 abbrev pub wanted_by : List View → ℕ → Instrument → List Wanted
-wanted_by views owner i = filter_map (feed_by owner i) (applied views i)
+wanted_by views owner i = filter_map (feed_by owner i) (applying_views views i)
 
 -- the same of an instrument that no earlier one is equal to; others have no feeds of their own
 abbrev pub own_feeds : List View → List Instrument → ℕ × Instrument → List Wanted
@@ -62,9 +62,9 @@ unfoldable pub wanted_of : List View → List Instrument → List Wanted
 wanted_of views is = flat_map (own_feeds views is) (enumerate_from 0 is)
 
 -- the feeds of one owner, each under its number, where the list begins at number n
-abbrev pub numbered : ℕ → ℕ → List Wanted → List Feed
-numbered owner n [] = []
-numbered owner n (w ∷ ws) = cond (w.owner == owner) (record { stream = n; keep = w.keep } ∷ numbered owner (n + 1) ws) (numbered owner (n + 1) ws)
+abbrev pub feeds_from : ℕ → ℕ → List Wanted → List Feed
+feeds_from owner n [] = []
+feeds_from owner n (w ∷ ws) = cond (w.owner == owner) (record { stream = n; keep = w.keep } ∷ feeds_from owner (n + 1) ws) (feeds_from owner (n + 1) ws)
 
 -- each list stays, but the owner's, which has one feed more
 abbrev pub AddsFeed : ℕ → Feed → List (List Feed) → List (List Feed) → Type 0
@@ -75,11 +75,11 @@ AddsFeed owner feed olds news =
 -- the streams are numbered in the order of the feeds
 abbrev pub plan_from : List Instrument → List Wanted → ℕ → Planned
 plan_from is ws limit = record {
-  instruments = map (λ i. record { kind = i.kind; feeds = numbered (owner_of is i) 0 ws }) is;
+  instruments = map (λ i. record { kind = i.kind; feeds = feeds_from (owner_of is i) 0 ws }) is;
   streams = map (λ w. w.stream) ws;
   limit = limit;
 }
 
 -- the plan that instruments and views give
 unfoldable pub plan_of : List Instrument → List View → ℕ → Planned
-plan_of is views limit = let named = map lowered is in plan_from named (wanted_of views named) limit
+plan_of is views limit = let named = map with_name_lowered is in plan_from named (wanted_of views named) limit

@@ -18,8 +18,8 @@ place_of is i = record { kind = i.kind; owner = owner_of is i }
 abbrev pub source_at : List (List Feed) → Place → Source
 source_at lists place = record { kind = place.kind; feeds = slice_index_or lists place.owner [] }
 
-abbrev pub planned : List Place → List (List Feed) → List Stream → ℕ → Planned
-planned places lists streams limit = record { instruments = map (source_at lists) places; streams = streams; limit = limit }
+abbrev pub plan_from_parts : List Place → List (List Feed) → List Stream → ℕ → Planned
+plan_from_parts places lists streams limit = record { instruments = map (source_at lists) places; streams = streams; limit = limit }
 
 -- the instrument at a place takes no values below 0
 abbrev pub owner_rises : List Instrument → ℕ → Bool

@@ -54,12 +54,12 @@ abbrev pub others_fit : Instrument → View → Bool
 others_fit i v = kind_fits v.kind i.kind && scope_fits v.scope i.scope
 
 -- the places that a map lists under a name
-abbrev pub listed : {Y S : Type 0} → HashMap (List ℕ) (Vec ℕ Y) S → List ℕ → List ℕ
-listed m name = option_map_or (λ l. l.items) (get_by (text_eq name) m) []
+abbrev pub places_under : {Y S : Type 0} → HashMap (List ℕ) (Vec ℕ Y) S → List ℕ → List ℕ
+places_under m name = option_map_or (λ l. l.items) (get_by (text_eq name) m) []
 
 -- the map lists one place more under a name, and under others what it did
 abbrev pub ListsUnder : {Y S Z T : Type 0} → List ℕ → ℕ → HashMap (List ℕ) (Vec ℕ Y) S → HashMap (List ℕ) (Vec ℕ Z) T → Type 0
-ListsUnder name place old new = (q : List ℕ) → listed new q ≡ (if text_eq name q then listed old q ++ place ∷ [] else listed old q)
+ListsUnder name place old new = (q : List ℕ) → places_under new q ≡ (if text_eq name q then places_under old q ++ place ∷ [] else places_under old q)
 
 -- an aggregation that gives no stream, to whatever instrument
 abbrev pub is_drop : Aggregation → Bool
@@ -73,5 +73,5 @@ is_of false v = not (is_drop v.aggregation)
 
 -- of one sort of views, the places of those of every name, and of those of each name
 pub record IsIndex {Y S : Type 0} (sort : Bool) (exact : HashMap (List ℕ) (Vec ℕ Y) S) (every : List ℕ) (views : List View) : Type 0 where
-  pub named : (name : List ℕ) → listed exact name ≡ places (λ v. is_of sort v && names name v) views
+  pub named : (name : List ℕ) → places_under exact name ≡ places (λ v. is_of sort v && names name v) views
   pub all : every ≡ places (λ v. is_of sort v && is_every v) views

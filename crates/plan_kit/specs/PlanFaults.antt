@@ -10,7 +10,7 @@ use Rattle.plan_kit.specs.Aggregations.{has_bad_bounds}
 use Rattle.plan_kit.specs.Feeds.{wanted_of}
 use Rattle.plan_kit.specs.Names.{is_name, is_unit}
 use Rattle.plan_kit.specs.SameStream.{clash_of}
-use Rattle.plan_kit.specs.Views.{lowered, is_bad_rename, is_wild_rename, is_bad_view}
+use Rattle.plan_kit.specs.Views.{with_name_lowered, is_bad_rename, is_wild_rename, is_bad_view}
 
 -- the least instrument that a view matches whose aggregation does not fit its kind, and the least such view
 abbrev pub misfit_of : List View → List Instrument → Option (ℕ × ℕ)
@@ -39,4 +39,4 @@ joint_fault named views limit = first
 
 -- the first refusal that fits
 unfoldable pub plan_fault : List Instrument → List View → ℕ → Option PlanFault
-plan_fault is views limit = first (own_fault is views ∷ joint_fault (map lowered is) views limit ∷ [])
+plan_fault is views limit = first (own_fault is views ∷ joint_fault (map with_name_lowered is) views limit ∷ [])

@@ -14,8 +14,8 @@ abbrev pub text_eq : List ℕ → List ℕ → Bool
 text_eq a b = pointwise nat_eq a b
 
 -- an instrument with its name in lower case, which tells it apart: names compare without regard to case
-abbrev pub lowered : Instrument → Instrument
-lowered i = record i { name = lower i.name }
+abbrev pub with_name_lowered : Instrument → Instrument
+with_name_lowered i = record i { name = lower i.name }
 
 -- a name rule fits a name in lower case
 abbrev pub name_fits : NameRule → List ℕ → Bool

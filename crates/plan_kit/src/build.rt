@@ -4,7 +4,7 @@ ghost use Rattle.std.specs.List.{list_all};
 ghost use Rattle.plan_kit.specs.Aggregations.{has_bad_bounds};
 ghost use Rattle.plan_kit.specs.Feeds.{wanted_of, plan_from, plan_of};
 ghost use Rattle.plan_kit.specs.PlanFaults.{own_fault, joint_fault, plan_fault};
-ghost use Rattle.plan_kit.specs.Views.{lowered};
+ghost use Rattle.plan_kit.specs.Views.{with_name_lowered};
 
 use crate::clashes::same_stream;
 use crate::misfit::misfit_at;
@@ -18,7 +18,7 @@ use attr_kit::{NoMemory, Seq};
 use std::alloc::Global;
 
 fn with_lower_name(instrument: Instrument) -> Instrument
-    ensures { result ≡ lowered instrument }
+    ensures { result ≡ with_name_lowered instrument }
 {
     Instrument {
         scope: instrument.scope,
@@ -33,7 +33,7 @@ fn with_lower_names(
     alloc: Global,
     instruments: Vec<Instrument>,
 ) -> Result<Vec<Instrument>, NoMemory>
-    ensures { IfOk result (λ named. named.items ≡ map lowered instruments.items) }
+    ensures { IfOk result (λ named. named.items ≡ map with_name_lowered instruments.items) }
 {
     Ok(instruments.into_iter().map(with_lower_name).collect(alloc)?)
 }

@@ -1,7 +1,7 @@
 //! A plan from the feeds that are wanted.
 ghost use Rattle.std.specs.Prelude.{◌≡◌, ◌<◌, ◌==◌, ◌++◌, ◌∷◌, if◌then◌else◌, ℕ, nat_lt, true, [], map, vec_len, slice_index_or, IfOk, OnOk};
 ghost use Rattle.std.specs.List.{list_all};
-ghost use Rattle.plan_kit.specs.Feeds.{numbered, AddsFeed};
+ghost use Rattle.plan_kit.specs.Feeds.{feeds_from, AddsFeed};
 ghost use Rattle.plan_kit.specs.Kept.{place_of};
 ghost use Rattle.plan_kit.specs.Owners.{owner_of};
 
@@ -60,7 +60,7 @@ pub(crate) fn lists_of(
     wanted: &[Wanted],
 ) -> Result<Vec<FeedList>, NoMemory>
     requires { list_all (λ w. nat_lt w.owner count) wanted.now ≡ true }
-    ensures { IfOk result (λ lists. (o : ℕ) → slice_index_or lists.items o [] ≡ numbered o 0 wanted.now) }
+    ensures { IfOk result (λ lists. (o : ℕ) → slice_index_or lists.items o [] ≡ feeds_from o 0 wanted.now) }
 {
     let mut lists = empty_lists(alloc, count)?;
     for (number, feed) in wanted.iter().enumerate() {

@@ -1,11 +1,24 @@
 //! Plans: which instruments feed which streams (OpenTelemetry Metrics SDK, "View").
 //!
-//! `Plan::build` makes a plan of instruments and views. Each view that matches an instrument gives a feed, with the name,
-//! the keys and the aggregation of the view; where none matches, the default does. `Plan::feeds` reads the feeds of an
-//! instrument, and `Plan::stream` the stream of a number.
+//! - An [`Instrument`] has a scope, a name, a unit and a [`Kind`].
+//! - A [`View`] matches instruments by a [`NameRule`], a kind and a scope. It gives them another name, keeps some of their keys, or
+//!   has another [`Aggregation`].
+//! - A [`Plan`] is made of both by `Plan::build`; a [`PlanFault`] says why not. Each view that matches an instrument gives a
+//!   [`Feed`]: a stream, and the keys that are kept. Where no view matches, the instrument has one feed that keeps all keys.
+//! - `Plan::feeds` reads the feeds of an instrument, and `Plan::stream` the stream of a number.
 //!
-//!     let plan = Plan::build(alloc, instruments, views, DEFAULT_LIMIT)?;
-//!     let feeds = plan.feeds(0);
+//! A caller, from `crates/uses/src/recording.rt`:
+//!
+//!     let mut instruments = Vec::new(alloc);
+//!     instruments.push(requests(alloc)?)?;
+//!     Ok(Plan::build(
+//!         alloc,
+//!         Seq::from_vec(instruments),
+//!         Seq::new(alloc),
+//!         DEFAULT_LIMIT,
+//!     )?)
+//!
+//! The limit is how many attribute sets of a stream have points of their own.
 #![tactic(auto)]
 
 mod build;

@@ -34,13 +34,13 @@ pub struct Plan {
 
 impl Model for Plan {
     ghost use Rattle.plan_kit.specs.Plans.{Planned, IsPlan};
-    ghost use Rattle.plan_kit.specs.Kept.{planned};
+    ghost use Rattle.plan_kit.specs.Kept.{plan_from_parts};
 
     ghost Value = { Planned };
 
-    ghost view = { λ p. planned p.places.items p.lists.items p.streams.items p.limit };
+    ghost view = { λ p. plan_from_parts p.places.items p.lists.items p.streams.items p.limit };
 
-    ghost invariant = { λ p. IsPlan (planned p.places.items p.lists.items p.streams.items p.limit) };
+    ghost invariant = { λ p. IsPlan (plan_from_parts p.places.items p.lists.items p.streams.items p.limit) };
 }
 
 impl Plan {

@@ -1,7 +1,7 @@
 //! The views by the names that they match.
 ghost use Rattle.std.specs.Prelude.{◌≡◌, ℕ, List, [], ◌∷◌, ◌++◌, filter, position, slice_get, IfOk, OnOk, if◌then◌else◌, ◌&&◌, true, false};
 ghost use Rattle.std.specs.List.{list_any};
-ghost use Rattle.plan_kit.specs.Matching.{places, holds_at, merge, listed, IsIndex, ListsUnder, is_of, others_fit};
+ghost use Rattle.plan_kit.specs.Matching.{places, holds_at, merge, places_under, IsIndex, ListsUnder, is_of, others_fit};
 ghost use Rattle.plan_kit.specs.Views.{text_eq, view_fits, is_bad_view};
 ghost use Rattle.plan_kit.specs.Aggregations.{is_refused};
 
@@ -44,7 +44,7 @@ fn add(
 
 // Two rising lists of places as one.
 #[tactic(auto, using(crate::proofs::Matching::merge_none))]
-fn merged(alloc: Global, left: &[usize], right: &[usize]) -> Result<Vec<usize>, NoMemory>
+fn merge_rising(alloc: Global, left: &[usize], right: &[usize]) -> Result<Vec<usize>, NoMemory>
     ensures { IfOk result (λ all. all.items ≡ merge left.now right.now) }
 {
     let mut all = Vec::new(alloc);
@@ -173,12 +173,12 @@ impl ViewIndex {
     }
 
     // The places of the views whose names fit.
-    fn named(&self, alloc: Global, name: &Txt) -> Result<Vec<usize>, NoMemory>
-        ensures { IfOk result (λ places. places.items ≡ merge (listed self.now.exact name.now) self.now.every.items) }
+    fn places_of_name(&self, alloc: Global, name: &Txt) -> Result<Vec<usize>, NoMemory>
+        ensures { IfOk result (λ places. places.items ≡ merge (places_under self.now.exact name.now) self.now.every.items) }
     {
         match self.exact.get(name) {
-            Some(list) => merged(alloc, list.as_slice(), self.every.as_slice()),
-            None => merged(alloc, &[], self.every.as_slice()),
+            Some(list) => merge_rising(alloc, list.as_slice(), self.every.as_slice()),
+            None => merge_rising(alloc, &[], self.every.as_slice()),
         }
     }
 
@@ -192,7 +192,7 @@ impl ViewIndex {
         requires { IsIndex false self.now.exact self.now.every.items views.now }
         ensures { IfOk result (λ fit. fit.items ≡ places (λ v. is_of false v && view_fits v instrument.now) views.now) }
     {
-        let named = self.named(alloc, &instrument.name)?;
+        let named = self.places_of_name(alloc, &instrument.name)?;
         Ok(fitting(alloc, views, instrument, named.as_slice())?)
     }
 
@@ -212,7 +212,7 @@ impl ViewIndex {
 
     // Whether one of the views of the instrument's name fits beside it.
     fn any_named(&self, views: &[View], instrument: &Instrument) -> bool
-        ensures { result ≡ list_any (holds_at views.now (others_fit instrument.now)) (listed self.now.exact instrument.now.name) }
+        ensures { result ≡ list_any (holds_at views.now (others_fit instrument.now)) (places_under self.now.exact instrument.now.name) }
     {
         match self.exact.get(&instrument.name) {
             Some(list) => any_fits(views, instrument, list.as_slice()),

@@ -7,7 +7,7 @@ use Rattle.attr_kit.specs.Exact.{IsExact}
 use Rattle.point_kit.specs.declared.cell.Held.TheVariants.{One, Conflict}
 use Rattle.point_kit.specs.declared.cell.Cell.{Cell}
 use Rattle.point_kit.specs.Join.{join_held, join_cells, join_options}
-use Rattle.point_kit.specs.Best.{greatest_time, payloads_at, agreed, best, JoinsBests}
+use Rattle.point_kit.specs.Best.{greatest_time, payloads_at, agreement, best, JoinsBests}
 use Rattle.point_kit.proofs.JoinLaws.{cells_associate, options_associate}
 
 -- what one point comes to
@@ -41,7 +41,7 @@ module _ {P : Type 0} where
       ]
 
 module _ {P : Type 0} (eq : P → P → Bool) (laws : IsEquivalence eq) (exact : IsExact eq) where
-  agreed_more : (p q : P) (qs : List P) → agreed eq (p ∷ q ∷ qs) ≡ join_held eq (One p) (agreed eq (q ∷ qs))
+  agreed_more : (p q : P) (qs : List P) → agreement eq (p ∷ q ∷ qs) ≡ join_held eq (One p) (agreement eq (q ∷ qs))
   agreed_more p q qs =
       elim (eq p q) as (λ t. eq p q ≡ t → (if t && list_all (eq p) qs then One p else Conflict) ≡ join_held eq (One p) (if list_all (eq q) qs then One q else Conflict)) [
         | true ↦ λ is. subst (λ (x : P). (if list_all (eq p) qs then One p else Conflict) ≡ join_held eq (One p) (if list_all (eq x) qs then One x else Conflict)) (exact p q is)
@@ -51,7 +51,7 @@ module _ {P : Type 0} (eq : P → P → Bool) (laws : IsEquivalence eq) (exact :
 
   -- one more point, before others of which T is the greatest time
   abbrev OneMore : ℕ × P → List (ℕ × P) → ℕ → ℕ → Type 0
-  OneMore p xs T t = ◌≡◌ {A = Cell P} (record { time = t; held = agreed eq (payloads_at t (p ∷ xs)) }) (join_cells eq (cell_of p) (record { time = T; held = agreed eq (payloads_at T xs) }))
+  OneMore p xs T t = ◌≡◌ {A = Cell P} (record { time = t; held = agreement eq (payloads_at t (p ∷ xs)) }) (join_cells eq (cell_of p) (record { time = T; held = agreement eq (payloads_at T xs) }))
 
   one_more : (p : ℕ × P) (xs : List (ℕ × P)) (T : ℕ) (q : P) (qs : List P) → payloads_at T xs ≡ q ∷ qs → ((t : ℕ) → T < t → payloads_at t xs ≡ []) → OneMore p xs T (max p.0 T)
   one_more p xs T q qs some none = elim (cases_lt p.0 T) [

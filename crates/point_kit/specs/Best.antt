@@ -16,16 +16,16 @@ abbrev pub payloads_at : {P : Type 0} → ℕ → List (ℕ × P) → List P
 payloads_at time ps = map (λ p. p.1) (filter (λ p. p.0 == time) ps)
 
 -- the payload that all of them are, else a conflict
-abbrev pub agreed : {P : Type 0} → (P → P → Bool) → List P → Held P
-agreed eq [] = Conflict
-agreed eq (p ∷ ps) = if list_all (eq p) ps then One p else Conflict
+abbrev pub agreement : {P : Type 0} → (P → P → Bool) → List P → Held P
+agreement eq [] = Conflict
+agreement eq (p ∷ ps) = if list_all (eq p) ps then One p else Conflict
 
 -- none of no points; else the greatest time, with the payload if all points of that time are equal, and a conflict otherwise
 abbrev pub best : {P : Type 0} → (P → P → Bool) → List (ℕ × P) → Option (Cell P)
 best eq [] = None
 best eq (p ∷ ps) =
     let latest = greatest_time (p ∷ ps) in
-    Some (record { time = latest; held = agreed eq (payloads_at latest (p ∷ ps)) })
+    Some (record { time = latest; held = agreement eq (payloads_at latest (p ∷ ps)) })
 
 -- the bests of two lists joined are the best of both lists together
 abbrev pub JoinsBests : {P : Type 0} → (P → P → Bool) → Type 0

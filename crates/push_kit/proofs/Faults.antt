@@ -1,7 +1,7 @@
 -- What a push is refused for, by what the writer refuses.
 use Rattle.std.proofs.Common.{◌≡◌, ◌≢◌, ◌∙◌, ℕ, Some, None, ap, refl}
 use Rattle.point_kit.specs.declared.export.Export.{Export}
-use Rattle.push_kit.specs.Faults.{told, push_fault}
+use Rattle.push_kit.specs.Faults.{tick_fault, push_fault}
 use Rattle.push_kit.specs.Pushing.{IsCollection}
 use Rattle.round_kit.specs.Rounds as rounds
 use Rattle.writer_kit.specs.Recording.{round_now}
@@ -12,10 +12,10 @@ use Rattle.writer_kit.specs.Written.{Written}
 use Rattle.writer_kit.specs.declared.fault.CollectFault.{CollectFault}
 use Rattle.writer_kit.specs.declared.fault.CollectFault.TheVariants as collect
 
-pub push_refused : (w : Written) (time : ℕ) (f : CollectFault) (e : TickFault) → e ≡ told f → (f ≢ collect.NoMemory → collect_fault w time ≡ Some f) → e ≢ tick.NoMemory → push_fault w time ≡ Some e
+pub push_refused : (w : Written) (time : ℕ) (f : CollectFault) (e : TickFault) → e ≡ tick_fault f → (f ≢ collect.NoMemory → collect_fault w time ≡ Some f) → e ≢ tick.NoMemory → push_fault w time ≡ Some e
 unfolding push_fault
 push_refused w time f e gives refused other =
-    let fit : collect_fault w time ≡ Some f = refused (λ n. other (gives ∙ ap told n)) in
+    let fit : collect_fault w time ≡ Some f = refused (λ n. other (gives ∙ ap tick_fault n)) in
     rw (fit, gives) refl
 
 -- nothing else is refused where memory was
@@ -23,7 +23,7 @@ pub push_accepted : (w : Written) (time : ℕ) → collect_fault w time ≡ None
 unfolding push_fault
 push_accepted w time fits = rw fits refl
 
-pub push_short : (w : Written) (time : ℕ) (f : CollectFault) (e : TickFault) → e ≡ told f → (f ≡ collect.NoMemory → collect_fault w time ≡ None) → e ≡ tick.NoMemory → push_fault w time ≡ None
+pub push_short : (w : Written) (time : ℕ) (f : CollectFault) (e : TickFault) → e ≡ tick_fault f → (f ≡ collect.NoMemory → collect_fault w time ≡ None) → e ≡ tick.NoMemory → push_fault w time ≡ None
 push_short w time collect.Closed e gives fits is = cc
 push_short w time (collect.TimeNotAfter last) e gives fits is = cc
 push_short w time collect.NoMemory e gives fits is = push_accepted w time (fits refl)

@@ -9,11 +9,11 @@ use Rattle.writer_kit.specs.declared.fault.CollectFault.{CollectFault}
 use Rattle.writer_kit.specs.declared.fault.CollectFault.TheVariants as collect
 
 -- a refusal of the writer, as a refusal of a push
-abbrev pub told : CollectFault → TickFault
-told collect.Closed = tick.Closed
-told (collect.TimeNotAfter last) = tick.TimeNotAfter last
-told collect.NoMemory = tick.NoMemory
+abbrev pub tick_fault : CollectFault → TickFault
+tick_fault collect.Closed = tick.Closed
+tick_fault (collect.TimeNotAfter last) = tick.TimeNotAfter last
+tick_fault collect.NoMemory = tick.NoMemory
 
 -- why a push at a time is refused: what the writer refuses
 unfoldable pub push_fault : Written → ℕ → Option TickFault
-push_fault w time = option_map told (collect_fault w time)
+push_fault w time = option_map tick_fault (collect_fault w time)

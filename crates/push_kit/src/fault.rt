@@ -28,9 +28,9 @@ pub enum TickFault {
 }
 
 impl From<CollectFault> for TickFault {
-    ghost use Rattle.push_kit.specs.Faults.{told};
+    ghost use Rattle.push_kit.specs.Faults.{tick_fault};
 
-    ghost from_gives = { λ fault e. e ≡ told fault };
+    ghost from_gives = { λ fault e. e ≡ tick_fault fault };
 
     fn from(fault: CollectFault) -> TickFault {
         match fault {

@@ -1,4 +1,4 @@
-//! Worked pushes of one writer: over an exporter that fails as told, into memory, and into a channel.
+//! Worked pushes of one writer: into memory, and into a channel. One over an exporter that fails as told is in test_kit.
 ghost use Rattle.std.specs.Prelude.{◌≡◌, ◌<◌, IfOk};
 
 use super::*;
@@ -12,50 +12,6 @@ use std::sync::Wait;
 use std::test::Fail;
 use uuid::Uuid;
 use writer_kit::{DEFAULT_INTERVAL, MeasureFault, Pace, Writer};
-
-// An exporter that fails at one of its calls, and otherwise tells what it took.
-#[derive(Drop)]
-struct Failing {
-    calls: u64,
-    at: u64,
-    failures: u64,
-    last: Option<i64>,
-}
-
-impl Failing {
-    fn at(at: u64) -> Failing
-        ensures { result.failures ≡ 0 }
-    {
-        Failing {
-            calls: 0,
-            at,
-            failures: 0,
-            last: None,
-        }
-    }
-}
-
-impl Exporter for Failing {
-    ghost refusals = { λ f. f.failures };
-
-    ghost takes = { λ _ _ _. Unit {0} };
-
-    ghost refuses = { λ _ _ _. Unit {0} };
-
-    fn failures(&self) -> u64 {
-        self.failures
-    }
-
-    fn export(&mut self, export: &Export) -> Result<(), ExportRefused> {
-        self.calls = self.calls.saturating_add(1);
-        if self.calls == self.at {
-            self.failures += 1;
-            return Err(ExportRefused);
-        }
-        self.last = total(export);
-        Ok(())
-    }
-}
 
 // The total of the only point, a sum.
 fn total(export: &Export) -> Option<i64> {
@@ -112,29 +68,6 @@ fn adds<E: Exporter>(periodic: &mut Periodic<E>, alloc: Global, value: i64) -> R
 const MINUTE: u64 = 60_000_000_000;
 
 // Each helper below borrows the reader: it is dropped at the exits of the test alone, and each exit that drops costs proof.
-
-// Whether a tick before its time does nothing, and after a refused one the next has all, over an exporter that fails at once.
-fn covers_a_lost_one(periodic: &mut Periodic<Failing>, alloc: Global) -> Result<bool, Fail>
-    requires { periodic.old.exporter.failures ≡ 0 }
-{
-    let arena = Bump::new(alloc);
-    adds(periodic, alloc, 3)?;
-    let early = periodic.tick(&arena, MINUTE - 1);
-    let refused = periodic.tick(&arena, MINUTE);
-    adds(periodic, alloc, 4)?;
-    let late = periodic.tick(&arena, 2 * MINUTE);
-    let exporter = periodic.exporter();
-    let is_told = exporter.last == Some(7) && exporter.failures() == 1;
-    let is_refused = early == Ok(Tick::NotDue) && refused == Err(TickFault::ExportRefused);
-    Ok(is_told && is_refused && late == Ok(Tick::Exported(1)))
-}
-
-#[test]
-fn the_next_collection_covers_a_lost_one(rt: HostRuntime) -> Result<(), Fail> {
-    let mut periodic = reading(rt.alloc(), Failing::at(1))?;
-    assert!(rt; covers_a_lost_one(&mut periodic, rt.alloc())?);
-    Ok(())
-}
 
 // Whether flushes at 5 leave a pace that is due at 10, and a closing one at 6 ends the reader.
 fn leaves_the_pace(periodic: &mut Periodic<MemoryExporter>, alloc: Global) -> Result<bool, Fail>

@@ -71,7 +71,7 @@ fn histograms(rt: &HostRuntime) -> anyhow::Result<()> {
     Ok(())
 }
 
-fn shared(rt: &HostRuntime) -> anyhow::Result<()> {
+fn share_call(rt: &HostRuntime) -> anyhow::Result<()> {
     let stream = requests(rt.alloc())?;
     call_begins(rt);
     let answer = SharedStream::new(rt.alloc(), stream);
@@ -79,7 +79,7 @@ fn shared(rt: &HostRuntime) -> anyhow::Result<()> {
     tell_made(rt, answer)
 }
 
-fn copied(rt: &HostRuntime) -> anyhow::Result<()> {
+fn copy_call(rt: &HostRuntime) -> anyhow::Result<()> {
     let export = export(rt.alloc(), 1, 200)?;
     call_begins(rt);
     let answer = export.try_copy();
@@ -127,12 +127,12 @@ fn copied_gateway(rt: &HostRuntime) -> anyhow::Result<()> {
 }
 
 /// Makes a call of an export, or a copy, if this is the name of one.
-pub fn made(rt: &HostRuntime, call: &str) -> anyhow::Result<bool> {
+pub fn make_call(rt: &HostRuntime, call: &str) -> anyhow::Result<bool> {
     match call {
         "Export::build" => build(rt)?,
         "Export::build, histograms" => histograms(rt)?,
-        "Export::try_copy" => copied(rt)?,
-        "SharedStream::new" => shared(rt)?,
+        "Export::try_copy" => copy_call(rt)?,
+        "SharedStream::new" => share_call(rt)?,
         "Key::try_copy" => copied_key(rt)?,
         "Cell::try_copy" => copied_cell(rt)?,
         "Gateway::try_copy" => copied_gateway(rt)?,

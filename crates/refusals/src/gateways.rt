@@ -19,7 +19,7 @@ fn takes(rt: &HostRuntime, export: &Export) -> anyhow::Result<()> {
 }
 
 // The same of an export that is handed over, so that who makes it has nothing to drop.
-fn taken(rt: &HostRuntime, export: Export) -> anyhow::Result<()> {
+fn take_call(rt: &HostRuntime, export: Export) -> anyhow::Result<()> {
     takes(rt, &export)
 }
 
@@ -41,7 +41,7 @@ fn merges(rt: &HostRuntime, other: &Gateway) -> anyhow::Result<()> {
 }
 
 // The same of a gateway that is handed over.
-fn merged(rt: &HostRuntime, other: Gateway) -> anyhow::Result<()> {
+fn merge_call(rt: &HostRuntime, other: Gateway) -> anyhow::Result<()> {
     merges(rt, &other)
 }
 
@@ -82,15 +82,15 @@ fn join_cell(rt: &HostRuntime) -> anyhow::Result<()> {
 }
 
 /// Makes a call of a gateway, if this is the name of one.
-pub fn made(rt: &HostRuntime, call: &str) -> anyhow::Result<bool> {
+pub fn make_call(rt: &HostRuntime, call: &str) -> anyhow::Result<bool> {
     let alloc = rt.alloc();
     match call {
-        "Gateway::take, a new writer" => taken(rt, export(alloc, 2, 200)?)?,
-        "Gateway::take, later points" => taken(rt, export(alloc, 1, 300)?)?,
-        "Gateway::take, no points" => taken(rt, empty_export(alloc)?)?,
-        "Gateway::merge, a new writer" => merged(rt, other(alloc)?)?,
-        "Gateway::merge, later points" => merged(rt, gateway(alloc, 2, 300)?)?,
-        "Gateway::merge, an empty one" => merged(rt, Gateway::new(alloc, 2))?,
+        "Gateway::take, a new writer" => take_call(rt, export(alloc, 2, 200)?)?,
+        "Gateway::take, later points" => take_call(rt, export(alloc, 1, 300)?)?,
+        "Gateway::take, no points" => take_call(rt, empty_export(alloc)?)?,
+        "Gateway::merge, a new writer" => merge_call(rt, other(alloc)?)?,
+        "Gateway::merge, later points" => merge_call(rt, gateway(alloc, 2, 300)?)?,
+        "Gateway::merge, an empty one" => merge_call(rt, Gateway::new(alloc, 2))?,
         "Gateway::join_cell" => join_cell(rt)?,
         _ => return Ok(false),
     }

@@ -29,30 +29,30 @@ use std::sync::Wait;
 // Makes a call of data.
 fn data(rt: &HostRuntime, call: &str) -> anyhow::Result<bool> {
     Ok(
-        sets::made(rt, call)?
-            || exports::made(rt, call)?
-            || tallies::made(rt, call)?
-            || rounds::made(rt, call)?
-            || writers::made(rt, call)?,
+        sets::make_call(rt, call)?
+            || exports::make_call(rt, call)?
+            || tallies::make_call(rt, call)?
+            || rounds::make_call(rt, call)?
+            || writers::make_call(rt, call)?,
     )
 }
 
 // Makes a call of what takes exports.
 fn takers(rt: &HostRuntime, call: &str) -> anyhow::Result<bool> {
     Ok(
-        gateways::made(rt, call)?
-            || nodes::made(rt, call)?
-            || rollups::made(rt, call)?
-            || worlds::made(rt, call)?,
+        gateways::make_call(rt, call)?
+            || nodes::make_call(rt, call)?
+            || rollups::make_call(rt, call)?
+            || worlds::make_call(rt, call)?,
     )
 }
 
 // Makes a call of what is shared, or pushes exports.
 fn sharers(rt: &(impl Wait + Print + Eprint + AllocGlobal), call: &str) -> anyhow::Result<bool> {
     Ok(
-        shared_writers::made(rt, call)?
-            || shared_gateways::made(rt, call)?
-            || pushes::made(rt, call)?,
+        shared_writers::make_call(rt, call)?
+            || shared_gateways::make_call(rt, call)?
+            || pushes::make_call(rt, call)?,
     )
 }
 

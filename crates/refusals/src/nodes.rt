@@ -95,7 +95,7 @@ fn hand_answer(rt: &HostRuntime) -> anyhow::Result<()> {
 }
 
 /// Makes a call of a node, if this is the name of one.
-pub fn made(rt: &HostRuntime, call: &str) -> anyhow::Result<bool> {
+pub fn make_call(rt: &HostRuntime, call: &str) -> anyhow::Result<bool> {
     match call {
         "Node::take" => take(rt)?,
         "Node::merge" => merge(rt)?,

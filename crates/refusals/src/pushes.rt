@@ -67,7 +67,7 @@ fn measure(rt: &(impl Print + Eprint + AllocGlobal)) -> anyhow::Result<()> {
 }
 
 // What a collection at 200 has left: all as it was, or a writer collected at 200 whose next collection is due at this time.
-fn left<E: Exporter>(reader: &Periodic<E>, before: &Writer, next: u64) -> &'static str {
+fn remains<E: Exporter>(reader: &Periodic<E>, before: &Writer, next: u64) -> &'static str {
     let writer = reader.writer();
     if are_same_writers(writer, before) && reader.pace().next == 200 {
         "as before"
@@ -89,7 +89,7 @@ fn ticks<E: Exporter>(
     call_begins(rt);
     let answer = reader.tick(&arena, 200);
     call_ends(rt);
-    let left = left(reader, before, 300);
+    let left = remains(reader, before, 300);
     ensure!(reader.exporter().failures() < 2, "miscounted");
     let again = reader.tick(&arena, 300);
     tell_twice(rt, &answer, left, &again)
@@ -115,7 +115,7 @@ fn flushes<E: Exporter>(
     call_begins(rt);
     let answer = reader.flush(&arena, 200, false);
     call_ends(rt);
-    let left = left(reader, before, 200);
+    let left = remains(reader, before, 200);
     ensure!(reader.exporter().failures() < 2, "miscounted");
     let again = reader.flush(&arena, 300, true);
     tell_twice(rt, &answer, left, &again)
@@ -141,7 +141,10 @@ fn flush_into_channel(rt: &(impl Wait + Print + Eprint + AllocGlobal)) -> anyhow
 }
 
 /// Makes a call of an exporter or of a periodic reader, if this is the name of one.
-pub fn made(rt: &(impl Wait + Print + Eprint + AllocGlobal), call: &str) -> anyhow::Result<bool> {
+pub fn make_call(
+    rt: &(impl Wait + Print + Eprint + AllocGlobal),
+    call: &str,
+) -> anyhow::Result<bool> {
     match call {
         "MemoryExporter::export" => keep(rt)?,
         "ChannelExporter::export" => send(rt)?,

@@ -34,7 +34,7 @@ fn lines(rt: &HostRuntime) -> anyhow::Result<()> {
 }
 
 /// Makes a roll-up or a table, if this is the name of one.
-pub fn made(rt: &HostRuntime, call: &str) -> anyhow::Result<bool> {
+pub fn make_call(rt: &HostRuntime, call: &str) -> anyhow::Result<bool> {
     match call {
         "rollup" => rows(rt)?,
         "table" => lines(rt)?,

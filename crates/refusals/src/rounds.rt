@@ -12,7 +12,7 @@ pub fn len_of<E>(answer: Result<Round<'_>, E>) -> Result<usize, E> {
     }
 }
 
-fn placed(rt: &HostRuntime) -> anyhow::Result<()> {
+fn place_call(rt: &HostRuntime) -> anyhow::Result<()> {
     let writer = writer(rt.alloc(), 1)?;
     let arena = Bump::new(rt.alloc());
     call_begins(rt);
@@ -33,9 +33,9 @@ fn copied_out(rt: &HostRuntime) -> anyhow::Result<()> {
 }
 
 /// Makes a call of a round, if this is the name of one.
-pub fn made(rt: &HostRuntime, call: &str) -> anyhow::Result<bool> {
+pub fn make_call(rt: &HostRuntime, call: &str) -> anyhow::Result<bool> {
     match call {
-        "place" => placed(rt)?,
+        "place" => place_call(rt)?,
         "Round::copy_out" => copied_out(rt)?,
         _ => return Ok(false),
     }

@@ -13,7 +13,7 @@ fn from_pairs(rt: &HostRuntime) -> anyhow::Result<()> {
     tell_made(rt, answer)
 }
 
-fn kept(rt: &HostRuntime) -> anyhow::Result<()> {
+fn kept_call(rt: &HostRuntime) -> anyhow::Result<()> {
     let set = set(rt.alloc(), 1)?;
     let keep = route(rt.alloc())?;
     call_begins(rt);
@@ -22,7 +22,7 @@ fn kept(rt: &HostRuntime) -> anyhow::Result<()> {
     tell_made(rt, answer)
 }
 
-fn copied(rt: &HostRuntime) -> anyhow::Result<()> {
+fn copy_call(rt: &HostRuntime) -> anyhow::Result<()> {
     let set = set(rt.alloc(), 1)?;
     call_begins(rt);
     let answer = set.try_copy();
@@ -40,11 +40,11 @@ fn texts(rt: &HostRuntime) -> anyhow::Result<()> {
 }
 
 /// Makes a call of an attribute set, if this is the name of one.
-pub fn made(rt: &HostRuntime, call: &str) -> anyhow::Result<bool> {
+pub fn make_call(rt: &HostRuntime, call: &str) -> anyhow::Result<bool> {
     match call {
         "AttrSet::from_pairs" => from_pairs(rt)?,
-        "AttrSet::kept" => kept(rt)?,
-        "AttrSet::try_copy" => copied(rt)?,
+        "AttrSet::kept" => kept_call(rt)?,
+        "AttrSet::try_copy" => copy_call(rt)?,
         "texts" => texts(rt)?,
         _ => return Ok(false),
     }

@@ -186,7 +186,10 @@ fn takes_first(
 }
 
 /// Makes a call of a shared gateway, if this is the name of one.
-pub fn made(rt: &(impl Wait + Print + Eprint + AllocGlobal), call: &str) -> anyhow::Result<bool> {
+pub fn make_call(
+    rt: &(impl Wait + Print + Eprint + AllocGlobal),
+    call: &str,
+) -> anyhow::Result<bool> {
     match call {
         "SharedGateway::new" => new(rt)?,
         "SharedGateway::try_take" => take(rt, false)?,

@@ -114,7 +114,10 @@ fn collect(rt: &(impl Wait + Print + Eprint + AllocGlobal), waits: bool) -> anyh
 }
 
 /// Makes a call of a shared writer, if this is the name of one.
-pub fn made(rt: &(impl Wait + Print + Eprint + AllocGlobal), call: &str) -> anyhow::Result<bool> {
+pub fn make_call(
+    rt: &(impl Wait + Print + Eprint + AllocGlobal),
+    call: &str,
+) -> anyhow::Result<bool> {
     match call {
         "SharedWriter::new" => new(rt)?,
         "SharedWriter::try_measure" => measure(rt, false)?,

@@ -102,7 +102,7 @@ pub fn writer(alloc: Global, number: u128) -> anyhow::Result<Writer> {
 }
 
 // The export of a collection at a time.
-fn collected(
+fn export_at(
     alloc: Global,
     writer: &mut Writer,
     id: &WriterId,
@@ -117,7 +117,7 @@ fn collected(
 pub fn export(alloc: Global, number: u128, time: u64) -> anyhow::Result<Export> {
     let id = id(alloc, number)?;
     let mut writer = writer(alloc, number)?;
-    collected(alloc, &mut writer, &id, time)
+    export_at(alloc, &mut writer, &id, time)
 }
 
 /// A gateway of an id that took an export of the first writer at a time.

@@ -65,7 +65,7 @@ fn restart(rt: &HostRuntime) -> anyhow::Result<()> {
     tell_twice(rt, &answer, left, &again)
 }
 
-fn copied(rt: &HostRuntime) -> anyhow::Result<()> {
+fn copy_call(rt: &HostRuntime) -> anyhow::Result<()> {
     let tally = holding(rt.alloc())?;
     call_begins(rt);
     let answer = tally.try_copy();
@@ -74,7 +74,7 @@ fn copied(rt: &HostRuntime) -> anyhow::Result<()> {
 }
 
 /// Makes a call of a plan or a tally, if this is the name of one.
-pub fn made(rt: &HostRuntime, call: &str) -> anyhow::Result<bool> {
+pub fn make_call(rt: &HostRuntime, call: &str) -> anyhow::Result<bool> {
     match call {
         "Plan::build" => build(rt)?,
         "Plan::try_copy" => copied_plan(rt)?,
@@ -83,7 +83,7 @@ pub fn made(rt: &HostRuntime, call: &str) -> anyhow::Result<bool> {
         "Tally::measure, one feed" => measure(rt, 1, 2)?,
         "Tally::measure, a held set" => measure(rt, 1, 1)?,
         "Tally::restart" => restart(rt)?,
-        "Tally::try_copy" => copied(rt)?,
+        "Tally::try_copy" => copy_call(rt)?,
         _ => return Ok(false),
     }
     Ok(true)

@@ -98,7 +98,7 @@ fn new(rt: &HostRuntime) -> anyhow::Result<()> {
     tell_made(rt, answer)
 }
 
-fn replayed(rt: &HostRuntime) -> anyhow::Result<()> {
+fn replay_call(rt: &HostRuntime) -> anyhow::Result<()> {
     let setup = setup(rt.alloc(), &[1, 2])?;
     let events = past(rt.alloc())?;
     call_begins(rt);
@@ -168,7 +168,7 @@ fn event(alloc: Global, name: &str) -> anyhow::Result<Option<Event>> {
 }
 
 // Applies the event of a name, if there is one.
-fn applied(rt: &HostRuntime, name: &str) -> anyhow::Result<bool> {
+fn apply_call(rt: &HostRuntime, name: &str) -> anyhow::Result<bool> {
     match event(rt.alloc(), name)? {
         Some(event) => {
             apply(rt, event)?;
@@ -179,14 +179,14 @@ fn applied(rt: &HostRuntime, name: &str) -> anyhow::Result<bool> {
 }
 
 /// Makes a call of a world, if this is the name of one.
-pub fn made(rt: &HostRuntime, call: &str) -> anyhow::Result<bool> {
+pub fn make_call(rt: &HostRuntime, call: &str) -> anyhow::Result<bool> {
     match call {
         "World::new" => new(rt)?,
-        "replay" => replayed(rt)?,
+        "replay" => replay_call(rt)?,
         "replay, all replies" => replies(rt)?,
         _ => {
             return match call.strip_prefix("World::apply, ") {
-                Some(name) => applied(rt, name),
+                Some(name) => apply_call(rt, name),
                 None => Ok(false),
             };
         }

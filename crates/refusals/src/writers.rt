@@ -64,7 +64,7 @@ fn restart(rt: &HostRuntime) -> anyhow::Result<()> {
     tell_twice(rt, &answer, left, &again)
 }
 
-fn copied(rt: &HostRuntime) -> anyhow::Result<()> {
+fn copy_call(rt: &HostRuntime) -> anyhow::Result<()> {
     let writer = writer(rt.alloc(), 1)?;
     call_begins(rt);
     let answer = writer.try_copy();
@@ -73,7 +73,7 @@ fn copied(rt: &HostRuntime) -> anyhow::Result<()> {
 }
 
 /// Makes a call of a writer, if this is the name of one.
-pub fn made(rt: &HostRuntime, call: &str) -> anyhow::Result<bool> {
+pub fn make_call(rt: &HostRuntime, call: &str) -> anyhow::Result<bool> {
     match call {
         "Writer::start" => start(rt)?,
         "Writer::measure" => measure(rt)?,
@@ -81,7 +81,7 @@ pub fn made(rt: &HostRuntime, call: &str) -> anyhow::Result<bool> {
         "Writer::collect" => collect(rt, false)?,
         "Writer::shutdown" => collect(rt, true)?,
         "Writer::restart" => restart(rt)?,
-        "Writer::try_copy" => copied(rt)?,
+        "Writer::try_copy" => copy_call(rt)?,
         _ => return Ok(false),
     }
     Ok(true)

@@ -20,7 +20,7 @@ use Rattle.rollup_kit.specs.Asks.{Attributes, attributes_cmp, asks, group}
 use Rattle.rollup_kit.specs.Groups.{Grouped}
 use Rattle.rollup_kit.specs.Parts.{Parts, no_parts, plus_parts, parts_of}
 use Rattle.rollup_kit.specs.Rollups.{newest, total_of, row_of, rollup_rows}
-use Rattle.rollup_kit.specs.Standing.{grouped, row_among, is_row, Stands}
+use Rattle.rollup_kit.specs.Standing.{group_of, row_among, is_row, Stands}
 use Rattle.rollup_kit.specs.Walks.{Rows, buckets_of, total_read, row_read}
 use Rattle.rollup_kit.specs.declared.ask.Ask.{Ask}
 use Rattle.rollup_kit.proofs.SetOrders.{sets_total, sets_exact}
@@ -71,7 +71,7 @@ module _ {K A B : Type 0} {R : K → K → Ordering} (o : IsTotalOrder R) (anti 
   map-reads f [] = refl
   map-reads f (e ∷ es) = ap (λ l. f e.0 (read e.0 e.1) ∷ l) (map-reads f es)
 
-total_same : (shape : Shape) (row : rows.Row Parts) (value : Option (ℕ × ℤ)) → total_read shape (grouped (buckets_of shape) row value) ≡ total_of shape row.total value
+total_same : (shape : Shape) (row : rows.Row Parts) (value : Option (ℕ × ℤ)) → total_read shape (group_of (buckets_of shape) row value) ≡ total_of shape row.total value
 total_same (shapes.Sum monotonic) row value = refl
 total_same shapes.Gauge row value = refl
 total_same (shapes.Histogram bounds) row value = refl
@@ -86,11 +86,11 @@ answered ask state groups ordered stands =
     let n = buckets_of ask.stream.shape in
     let cells = entries state in
     let m : FinMap attributes_cmp (rows.Row Parts) = rows.rollup attributes_cmp no_parts plus_parts (asks ask) (group ask) parts_of state in
-    let read : Attributes → rows.Row Parts → Grouped = λ q r. grouped n r (newest ask cells q) in
+    let read : Attributes → rows.Row Parts → Grouped = λ q r. group_of n r (newest ask cells q) in
     let has : (q : Attributes) → finmap.get m q ≡ cond (is_row ask cells q) (Some (row_among ask cells q)) None = λ q. get-from_entries sets_total _ q ∙ find-tabulated sets_total sets_exact (λ g. Some (row_among ask cells g)) q (map (λ e. group ask e.0) (filter (λ e. asks ask e.0) cells)) in
     let found : (q : Attributes) → find attributes_cmp q groups ≡ option_map (read q) (finmap.get m q) = λ q.
     find-lookup attributes_cmp q groups ∙ stands q
-    ∙ elim (is_row ask cells q) as (λ b. cond b (Some (grouped n (row_among ask cells q) (newest ask cells q))) None ≡ option_map (read q) (cond b (Some (row_among ask cells q)) None)) [ true ↦ refl | false ↦ refl ]
+    ∙ elim (is_row ask cells q) as (λ b. cond b (Some (group_of n (row_among ask cells q) (newest ask cells q))) None ≡ option_map (read q) (cond b (Some (row_among ask cells q)) None)) [ true ↦ refl | false ↦ refl ]
     ∙ sym (ap (option_map (read q)) (has q)) in
     ap (map (λ e. row_read ask.stream.shape e.0 e.1)) (mapped_entries sets_total sets_exact read groups m ordered found)
     ∙ map-reads sets_total sets_exact read (row_read ask.stream.shape) (entries m)

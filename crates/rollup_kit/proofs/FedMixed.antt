@@ -2,8 +2,8 @@
 use Rattle.std.proofs.Common.{◌≡◌, ℕ, ℤ, ◌+◌, ◌<◌, ◌≤◌, Bool, true, false, cond, ◌||◌, List, [], ◌∷◌, filter, refl, sym, ap, subst, ◌∙◌, arith, true≢false, if◌then◌else◌}
 use Rattle.std.proofs.lemmas.List.{take_all}
 use Rattle.attr_kit.specs.declared.attr_set.AttrSet.{AttrSet}
-use Rattle.agg_kit.specs.Entries.{Entry, Arrivals, brought, arrivals}
-use Rattle.agg_kit.specs.Feeding.{set_eq, overflow_set, is_own, has_set, distinct, sets_of, own_sets, goes_to, placed, fed}
+use Rattle.agg_kit.specs.Entries.{Entry, Arrivals, arrivals_from, arrivals}
+use Rattle.agg_kit.specs.Feeding.{set_eq, overflow_set, is_own, has_set, distinct, sets_of, own_sets, goes_to, placements, fed}
 use Rattle.agg_kit.specs.Sound.{AreOnce}
 use Rattle.agg_kit.proofs.Distinct.{same, itself, turn, has-distinct, once-distinct}
 use Rattle.agg_kit.proofs.Limits.{not-false, firsts, has-firsts, moved, same-fed}
@@ -92,8 +92,8 @@ moved-itself [] = refl
 moved-itself (x ∷ xs) = ap (λ l. x ∷ l) (moved-itself xs)
 
 -- within the limit each set feeds itself
-pub within-placed : (limit : ℕ) (xs : Arrivals) → own_number xs ≤ limit → placed limit xs ≡ xs
-within-placed limit xs w = same-fed xs (goes_to (own_sets limit xs)) (λ a. a) stays ∙ moved-itself xs
+pub within-placements : (limit : ℕ) (xs : Arrivals) → own_number xs ≤ limit → placements limit xs ≡ xs
+within-placements limit xs w = same-fed xs (goes_to (own_sets limit xs)) (λ a. a) stays ∙ moved-itself xs
   where
     stays : (a : AttrSet) → has_set (sets_of xs) a ≡ true → goes_to (own_sets limit xs) a ≡ a
     stays a h = ap (λ own. goes_to own a) (take_all limit (firsts xs) w) ∙ by (is_own a) refl
@@ -105,7 +105,7 @@ within-placed limit xs w = same-fed xs (goes_to (own_sets limit xs)) (λ a. a) s
 
 -- what arrives at a stream
 pub arrivals-mixed : (p : Planned) (m : ℕ) (h k : List Entry) → AreMixed h k → AreMixed (arrivals p m h) (arrivals p m k)
-arrivals-mixed p m h k s = mixed-flat_map (λ e. brought m (feeds_of p e.instrument) e.attrs e.value) h k s
+arrivals-mixed p m h k s = mixed-flat_map (λ e. arrivals_from m (feeds_of p e.instrument) e.attrs e.value) h k s
 
 pub within-mixed : (p : Planned) (m : ℕ) (h k : List Entry) → AreMixed h k → IsWithin p m h → IsWithin p m k
 within-mixed p m h k s w = subst (λ (n : ℕ). n ≤ p.limit) (own-number-mixed (arrivals p m h) (arrivals p m k) (arrivals-mixed p m h k s)) w
@@ -114,9 +114,9 @@ within-mixed p m h k s w = subst (λ (n : ℕ). n ≤ p.limit) (own-number-mixed
 pub fed-mixed : (p : Planned) (m : ℕ) (h k : List Entry) → AreMixed h k → IsWithin p m h → AreMixed (fed p m h) (fed p m k)
 unfolding fed
 fed-mixed p m h k s w = λ f.
-    ap (total 0 ◌+◌ f) (within-placed p.limit (arrivals p m h) w)
+    ap (total 0 ◌+◌ f) (within-placements p.limit (arrivals p m h) w)
     ∙ arrivals-mixed p m h k s f
-    ∙ ap (total 0 ◌+◌ f) (sym (within-placed p.limit (arrivals p m k) (within-mixed p m h k s w)))
+    ∙ ap (total 0 ◌+◌ f) (sym (within-placements p.limit (arrivals p m k) (within-mixed p m h k s w)))
 
 pub fed-sets-mixed : (p : Planned) (m : ℕ) (h k : List Entry) → AreMixed h k → IsWithin p m h → AreMixed (distinct (sets_of (fed p m h))) (distinct (sets_of (fed p m k)))
 fed-sets-mixed p m h k s w = distinct-mixed (sets_of (fed p m h)) (sets_of (fed p m k)) (sets-mixed (fed p m h) (fed p m k) (fed-mixed p m h k s w))

@@ -3,7 +3,7 @@ use Rattle.std.proofs.Common.{◌≡◌, ℕ, ℤ, ◌+◌, ◌<◌, ◌≤◌, 
 use Rattle.std.proofs.lemmas.List.{length-take-le}
 use Rattle.attr_kit.specs.declared.attr_set.AttrSet.{AttrSet}
 use Rattle.agg_kit.specs.Entries.{Entry, Arrivals, arrivals}
-use Rattle.agg_kit.specs.Feeding.{set_eq, overflow_set, is_own, has_set, distinct, sets_of, own_sets, goes_to, placed, fed}
+use Rattle.agg_kit.specs.Feeding.{set_eq, overflow_set, is_own, has_set, distinct, sets_of, own_sets, goes_to, placements, fed}
 use Rattle.agg_kit.specs.Sound.{AreOnce}
 use Rattle.agg_kit.proofs.Distinct.{or-no, same, itself, turn, has-distinct, once-distinct}
 use Rattle.agg_kit.proofs.Limits.{not-false, firsts, own-is, fed_own, filter-take, sets-fed}
@@ -88,7 +88,7 @@ none-over own (x ∷ xs) h a k =
     by go false e k b o n = go k
 
 -- past the limit a stream is fed as many sets of their own as the limit says, and the overflow set
-past-number : (limit : ℕ) (xs : Arrivals) → limit < own_number xs → length (distinct (sets_of (placed limit xs))) ≡ limit + 1
+past-number : (limit : ℕ) (xs : Arrivals) → limit < own_number xs → length (distinct (sets_of (placements limit xs))) ≡ limit + 1
 past-number limit xs l = ap (λ s. length (distinct s)) (sets-fed own xs) ∙ but-one all (once-distinct (map (goes_to own) (sets_of xs))) over ∙ ap (λ n. n + 1) owned
   where
     own : List AttrSet

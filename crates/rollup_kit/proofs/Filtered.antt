@@ -8,13 +8,12 @@ use Rattle.point_kit.specs.Orders.{key_cmp}
 use Rattle.point_kit.specs.declared.cell.Cell.{Cell}
 use Rattle.point_kit.specs.declared.key.Key.{Key}
 use Rattle.point_kit.specs.declared.payload.Payload.{Payload}
-use Rattle.schedule_kit.specs.Rows as rows
 use Rattle.schedule_kit.specs.Rows.{value_of, is_one, is_conflict}
 use Rattle.rollup_kit.specs.Asks.{Attributes, attributes_cmp, asks, group}
 use Rattle.rollup_kit.specs.Newest.{latest, as_point}
 use Rattle.rollup_kit.specs.Parts.{no_parts, plus_parts, parts_of}
 use Rattle.rollup_kit.specs.Rollups.{gauge_of, gauges_in}
-use Rattle.rollup_kit.specs.Standing.{grouped, row_among, is_row, standing}
+use Rattle.rollup_kit.specs.Standing.{group_of, row_among, is_row, standing}
 use Rattle.rollup_kit.specs.declared.ask.Ask.{Ask}
 use Rattle.rollup_kit.proofs.PartLaws.{parts_add_up, counts_add_up}
 use Rattle.rollup_kit.proofs.Snoc.{counts}
@@ -78,4 +77,4 @@ module _ (ask : Ask) (q : Attributes) (p : Key × Cell Payload → Bool) (covers
 
   -- what stands after the cells that are left stands after all
   pub standing-filter : (n : ℕ) (es : List (Key × Cell Payload)) → standing ask n (filter p es) q ≡ standing ask n es q
-  standing-filter n es = λ i. cond (is_row-filter es i) (Some (grouped n (row-filter es i) (option_map as_point (latest key_cmp (gauges-filter es i))))) None
+  standing-filter n es = λ i. cond (is_row-filter es i) (Some (group_of n (row-filter es i) (option_map as_point (latest key_cmp (gauges-filter es i))))) None

@@ -248,6 +248,13 @@ module _ (rows others : Rows) (places : List (ℕ × ℕ)) (is : IsIndexed rows 
       absent_in_rows set found (told ∙ ap (λ (n : ℕ). lookup (nat_eq n) places) hashed)
       (λ place is there. not_there place is (ap (λ (l : Rows). slice_get (keys_of l) place) same ∙ there))
 
+  -- a set that neither the rows nor the others have, after the others were asked
+  pub still_free : (set : Attributes) (n : Rows) (held : Bool) → group_at rows set ≡ None → held ≡ is_some (group_at others set) → held ≡ false → keys_of n ≡ keys_of others → n ≡ others
+      → IsIndexed rows n places × (group_at (rows ++ n) set ≡ None)
+  still_free set n held none asked not_held keys kept =
+      let away : group_at others set ≡ None = absent sets_total sets_exact (λ (g : Grouped). g) (group_at others set) (sym asked ∙ not_held) in
+      (others_stay rows others n places is keys, ap (λ (o : Rows). group_at (rows ++ o) set) kept ∙ none_beside rows others set none away)
+
   module _ (buckets : ℕ) (set : Attributes) (cell : Cell Payload) (hash : ℕ) (new : Rows) (told : List (ℕ × ℕ)) (pushes : Pushes hash (first_row buckets set cell) rows new places told) (none : group_at (rows ++ others) set ≡ None) where
     before : insert (rows ++ others) (length rows) (first_row buckets set cell) ≡ new ++ others
     before = between rows others (first_row buckets set cell) ∙ ap (λ l. l ++ others) (sym pushes.0)

@@ -3,10 +3,10 @@ use Rattle.std.proofs.Common.{◌≡◌, ℕ, ℤ, pos, ◌+◌, ◌+ℤ◌, ref
 use Rattle.std.proofs.lemmas.Int.{ints, clamps}
 use Rattle.std.specs.Int.{int_min, int_max}
 use Rattle.schedule_kit.specs.Totals.{IsSum}
-use Rattle.rollup_kit.specs.declared.span.Span.{Span}
-use Rattle.rollup_kit.specs.declared.span.Span.TheVariants.{Empty, Known, Unknown}
+use Rattle.rollup_kit.specs.declared.extent.Extent.{Extent}
+use Rattle.rollup_kit.specs.declared.extent.Extent.TheVariants.{Empty, Known, Unknown}
 use Rattle.rollup_kit.specs.Parts.{no_parts, plus_parts}
-use Rattle.rollup_kit.specs.Spans.{join_spans}
+use Rattle.rollup_kit.specs.Extents.{join_spans}
 
 min_commutes : (a b : ℤ) → int_min a b ≡ int_min b a
 min_commutes a b = omega (arith, ints, clamps)
@@ -20,7 +20,7 @@ min_associates a b c = omega (arith, ints, clamps)
 max_associates : (a b c : ℤ) → int_max (int_max a b) c ≡ int_max a (int_max b c)
 max_associates a b c = omega (arith, ints, clamps)
 
-spans_commute : (a b : Span) → join_spans a b ≡ join_spans b a
+spans_commute : (a b : Extent) → join_spans a b ≡ join_spans b a
 spans_commute Empty Empty = refl
 spans_commute Empty (Known a b) = refl
 spans_commute Empty Unknown = refl
@@ -31,7 +31,7 @@ spans_commute Unknown Empty = refl
 spans_commute Unknown (Known c d) = refl
 spans_commute Unknown Unknown = refl
 
-pub spans_associate : (a b c : Span) → join_spans (join_spans a b) c ≡ join_spans a (join_spans b c)
+pub spans_associate : (a b c : Extent) → join_spans (join_spans a b) c ≡ join_spans a (join_spans b c)
 spans_associate Empty b c = refl
 spans_associate (Known a b) Empty c = refl
 spans_associate (Known a b) (Known d e) Empty = refl

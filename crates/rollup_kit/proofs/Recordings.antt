@@ -9,13 +9,13 @@ use Rattle.schedule_kit.specs.Deeds.{Deed, Holder, AreLawful, IsTold}
 use Rattle.schedule_kit.specs.Members.{In}
 use Rattle.schedule_kit.specs.Rounds.{Rounding, IsSound, state}
 use Rattle.schedule_kit.specs.Rows.{IsAdded, recorded, values_fed, keys_fed}
-use Rattle.schedule_kit.specs.Taken.{taken, recorded_up_to, incarnations}
+use Rattle.schedule_kit.specs.Taken.{taken_collections, recorded_up_to, incarnations}
 use Rattle.schedule_kit.specs.Totals.{total_where}
 use Rattle.schedule_kit.proofs.Headline.{answers_recorded}
 use Rattle.schedule_kit.proofs.Members.{map-In}
 use Rattle.rollup_kit.specs.Asks.{attributes_cmp, asks, group}
 use Rattle.rollup_kit.specs.Parts.{Parts, no_parts, plus_parts, parts_of, parts_of_value}
-use Rattle.rollup_kit.specs.Recordings.{added, in_parts, values_under, by_keys, AreFed}
+use Rattle.rollup_kit.specs.Recordings.{part_sums, in_parts, values_under, by_keys, AreFed}
 use Rattle.rollup_kit.specs.Rollups.{AddsUp, rollup_rows, recorded_rows}
 use Rattle.rollup_kit.specs.declared.ask.Ask.{Ask}
 use Rattle.rollup_kit.proofs.PartLaws.{parts_add_up}
@@ -26,10 +26,10 @@ use Rattle.rollup_kit.proofs.ValueLaws.{payload_added}
 module _ {X : Type 0} where
   -- the values that pass, added up
   added_where : (shape : Shape) (passes : X → Bool) (fed : List (X × ℤ))
-      → added shape (map (λ p. p.1) (filter (λ p. passes p.0) fed)) ≡ total_where no_parts plus_parts (λ p. passes p.0) (λ p. p.1) (in_parts shape fed)
+      → part_sums shape (map (λ p. p.1) (filter (λ p. passes p.0) fed)) ≡ total_where no_parts plus_parts (λ p. passes p.0) (λ p. p.1) (in_parts shape fed)
   added_where shape passes [] = refl
   added_where shape passes (p ∷ fed) =
-      elim (passes p.0) as (λ b. added shape (map (λ q. q.1) (cond b (p ∷ filter (λ q. passes q.0) fed) (filter (λ q. passes q.0) fed)))
+      elim (passes p.0) as (λ b. part_sums shape (map (λ q. q.1) (cond b (p ∷ filter (λ q. passes q.0) fed) (filter (λ q. passes q.0) fed)))
       ≡ plus_parts (cond b (parts_of_value shape p.1) no_parts) (total_where no_parts plus_parts (λ q. passes q.0) (λ q. q.1) (in_parts shape fed))) [
         | true ↦ ap (plus_parts (parts_of_value shape p.1)) (added_where shape passes fed)
         | false ↦ added_where shape passes fed ∙ sym (parts_add_up.zero_left (total_where no_parts plus_parts (λ q. passes q.0) (λ q. q.1) (in_parts shape fed)))
@@ -67,12 +67,12 @@ module _ {N I X : Type 0} (ask : Ask) (adds : AddsUp ask.stream.shape) (r : Roun
 pub rollup_recorded : {N I X : Type 0} (ask : Ask) → AddsUp ask.stream.shape → (r : Rounding N Key I X Payload) → IsSound (by_keys r)
     → (fits : ℕ → List N → N → Bool) (starts : List ℕ) (gateways : ℕ) → IsTold r.who starts → (ds : List (Deed N)) → AreLawful fits starts gateways ds → (h : Holder)
     → (fed : ℕ → List N → List (X × ℤ)) → AreFed ask (by_keys r) fed
-    → rollup_rows ask (state (by_keys r) (taken starts ds h))
+    → rollup_rows ask (state (by_keys r) (taken_collections starts ds h))
     ≡ recorded_rows ask (values_fed (by_keys r) (recorded_up_to starts ds h) (incarnations starts ds) fed) (keys_fed (by_keys r) (recorded_up_to starts ds h) (incarnations starts ds))
 rollup_recorded {X = X} ask adds r sound fits starts gateways told ds lawful h fed are =
     let k = by_keys r in
     let entries_of = recorded_up_to starts ds h in
-    rows_recorded ask (state k (taken starts ds h)) (values_fed k entries_of (incarnations starts ds) fed) (keys_fed k entries_of (incarnations starts ds)) adds
+    rows_recorded ask (state k (taken_collections starts ds h)) (values_fed k entries_of (incarnations starts ds) fed) (keys_fed k entries_of (incarnations starts ds)) adds
     (answers_recorded k sound fits starts gateways told ds lawful h no_parts plus_parts parts_of (parts_fed ask adds r fed) sets_total sets_exact (asks ask) (group ask) (fed_added ask adds k fed are)
     ∙ ap (λ values. recorded attributes_cmp no_parts plus_parts (asks ask) (group ask) values (keys_fed k entries_of (incarnations starts ds)))
     (parts_under_keys ask adds r fed (λ i x. k.key (k.who i.0) i.1 x) entries_of (incarnations starts ds)))

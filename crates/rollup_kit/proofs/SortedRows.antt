@@ -7,10 +7,10 @@ use Rattle.std.specs.Map.{keys_of}
 use Rattle.std.specs.Ordering.{eq_by_cmp}
 use Rattle.gateway_kit.proofs.Sorting as sorting
 use Rattle.rollup_kit.specs.Asks.{Attributes, attributes_cmp}
-use Rattle.rollup_kit.specs.Groups.{Grouped, no_group}
+use Rattle.rollup_kit.specs.Groups.{Grouped}
 use Rattle.rollup_kit.specs.Walks.{Rows, group_at}
 use Rattle.rollup_kit.proofs.Answered.{find-lookup, so}
-use Rattle.rollup_kit.proofs.SetOrders.{sets_total}
+use Rattle.rollup_kit.proofs.SetOrders.{sets_total, sets_exact}
 
 abbrev row : Attributes × Grouped → Attributes × Grouped
 row e = e
@@ -29,5 +29,5 @@ rows_sorted xs ys moved distinct up = ap (is_sorted attributes_cmp) (sym (all_sa
 pub rows_found : (xs ys : Rows) → IsStableBy lower xs ys → (q : Attributes) → group_at ys q ≡ group_at xs q
 rows_found xs ys stable q =
     sym (find-lookup attributes_cmp q ys) ∙ ap (find attributes_cmp q) (sym (all_same ys))
-    ∙ sorting.same_found sets_total row xs ys (q, no_group 0) stable
+    ∙ sorting.same_found sets_total row sets_exact q xs ys stable
     ∙ ap (find attributes_cmp q) (all_same xs) ∙ find-lookup attributes_cmp q xs

@@ -20,16 +20,16 @@ use Rattle.rollup_kit.specs.Groups.{Grouped, no_group, with_held, later_value}
 use Rattle.rollup_kit.specs.Newest.{Dated, latest, as_point}
 use Rattle.rollup_kit.specs.Parts.{Parts, no_parts, plus_parts, parts_of}
 use Rattle.rollup_kit.specs.Rollups.{gauge_of, gauges_in, newest}
-use Rattle.rollup_kit.specs.Spans.{join_spans}
-use Rattle.rollup_kit.specs.Standing.{grouped, row_among, is_row, standing}
+use Rattle.rollup_kit.specs.Extents.{join_spans}
+use Rattle.rollup_kit.specs.Standing.{group_of, row_among, is_row, standing}
 use Rattle.rollup_kit.specs.declared.ask.Ask.{Ask}
-use Rattle.rollup_kit.specs.declared.span.Span.{Span}
-use Rattle.rollup_kit.specs.declared.span.Span.TheVariants.{Empty, Known, Unknown}
+use Rattle.rollup_kit.specs.declared.extent.Extent.{Extent}
+use Rattle.rollup_kit.specs.declared.extent.Extent.TheVariants.{Empty, Known, Unknown}
 use Rattle.rollup_kit.proofs.Counts.{add_each_counts}
 use Rattle.rollup_kit.proofs.Newest.{latest_later}
 use Rattle.rollup_kit.proofs.Snoc.{counts, row-counted, row-skipped, is_row-snoc, no_row, gauges-snoc, KeysBelow, gauges_below}
 
-same_span : (s : Span) → join_spans s Empty ≡ s
+same_span : (s : Extent) → join_spans s Empty ≡ s
 same_span Empty = refl
 same_span (Known a b) = refl
 same_span Unknown = refl
@@ -47,7 +47,7 @@ later_newest before time held = before
 
 -- a row's totals with what is held under one more key
 with_one : (n : ℕ) (row : rows.Row Parts) (before after : Option (ℕ × ℤ)) (time : ℕ) (held : Held Payload) → after ≡ later_newest before time held
-    → grouped n (record { total = plus_parts row.total (value_of no_parts parts_of held); points = row.points + is_one held; conflicts = row.conflicts + is_conflict held }) after ≡ with_held (grouped n row before) time held
+    → group_of n (record { total = plus_parts row.total (value_of no_parts parts_of held); points = row.points + is_one held; conflicts = row.conflicts + is_conflict held }) after ≡ with_held (group_of n row before) time held
 with_one n row before after time (One (payloads.Sum sum)) e = λ i. record {
   sum = row.total.sum +ℤ sum;
   count = same_count row.total.count i;
@@ -103,11 +103,11 @@ module _ (ask : Ask) (n : ℕ) (q : Attributes) where
   newest_counted es key time Conflict below = ap (λ ds. option_map as_point (latest key_cmp ds)) (append-nil (gauges_in ask es q))
 
   -- what stands, or nothing counted
-  stood : (es : List (Key × Cell Payload)) → unwrap_or (standing ask n es q) (no_group n) ≡ grouped n (row_among ask es q) (newest ask es q)
+  stood : (es : List (Key × Cell Payload)) → unwrap_or (standing ask n es q) (no_group n) ≡ group_of n (row_among ask es q) (newest ask es q)
   stood es =
-      elim (is_row ask es q) as (λ b. is_row ask es q ≡ b → unwrap_or (cond b (Some (grouped n (row_among ask es q) (newest ask es q))) None) (no_group n) ≡ grouped n (row_among ask es q) (newest ask es q)) [
+      elim (is_row ask es q) as (λ b. is_row ask es q ≡ b → unwrap_or (cond b (Some (group_of n (row_among ask es q) (newest ask es q))) None) (no_group n) ≡ group_of n (row_among ask es q) (newest ask es q)) [
         | true ↦ λ t. refl
-        | false ↦ λ t. let none = no_row ask q es t in sym (ap (λ (r : rows.Row Parts). grouped n r (newest ask es q)) none.0 ∙ ap (λ (ds : List (Dated Key)). grouped n (record { total = no_parts; points = 0; conflicts = 0 }) (option_map as_point (latest key_cmp ds))) none.1)
+        | false ↦ λ t. let none = no_row ask q es t in sym (ap (λ (r : rows.Row Parts). group_of n r (newest ask es q)) none.0 ∙ ap (λ (ds : List (Dated Key)). group_of n (record { total = no_parts; points = 0; conflicts = 0 }) (option_map as_point (latest key_cmp ds))) none.1)
       ] refl
 
   counted : (es : List (Key × Cell Payload)) (e : Key × Cell Payload) → KeysBelow e.0 es → counts ask q e ≡ true → standing ask n (es ++ e ∷ []) q ≡ Some (with_held (unwrap_or (standing ask n es q) (no_group n)) e.1.time e.1.held)
@@ -115,8 +115,8 @@ module _ (ask : Ask) (n : ℕ) (q : Attributes) where
       let there : is_row ask (es ++ e ∷ []) q ≡ true = is_row-snoc ask q es e ∙ ap (λ b. is_row ask es q || b) is ∙ or_true (is_row ask es q) in
       let after : newest ask (es ++ e ∷ []) q ≡ later_newest (newest ask es q) e.1.time e.1.held =
       ap (λ ds. option_map as_point (latest key_cmp ds)) (gauges-snoc ask q es e ∙ ap (λ b. gauges_in ask es q ++ cons_option (cond b (gauge_of e.0 e.1.time e.1.held) None) []) is) ∙ newest_counted es e.0 e.1.time e.1.held below in
-      ap (λ b. cond b (Some (grouped n (row_among ask (es ++ e ∷ []) q) (newest ask (es ++ e ∷ []) q))) None) there
-      ∙ ap (λ (r : rows.Row Parts). Some (grouped n r (newest ask (es ++ e ∷ []) q))) (row-counted ask q es e is)
+      ap (λ b. cond b (Some (group_of n (row_among ask (es ++ e ∷ []) q) (newest ask (es ++ e ∷ []) q))) None) there
+      ∙ ap (λ (r : rows.Row Parts). Some (group_of n r (newest ask (es ++ e ∷ []) q))) (row-counted ask q es e is)
       ∙ ap Some (with_one n (row_among ask es q) (newest ask es q) (newest ask (es ++ e ∷ []) q) e.1.time e.1.held after)
       ∙ ap (λ (g : Grouped). Some (with_held g e.1.time e.1.held)) (sym (stood es))
 
@@ -125,7 +125,7 @@ module _ (ask : Ask) (n : ℕ) (q : Attributes) where
       let there : is_row ask (es ++ e ∷ []) q ≡ is_row ask es q = is_row-snoc ask q es e ∙ ap (λ b. is_row ask es q || b) is ∙ or_none (is_row ask es q) in
       let after : newest ask (es ++ e ∷ []) q ≡ newest ask es q =
       ap (λ ds. option_map as_point (latest key_cmp ds)) (gauges-snoc ask q es e ∙ ap (λ b. gauges_in ask es q ++ cons_option (cond b (gauge_of e.0 e.1.time e.1.held) None) []) is ∙ append-nil (gauges_in ask es q)) in
-      λ i. cond (there i) (Some (grouped n (row-skipped ask q es e is i) (after i))) None
+      λ i. cond (there i) (Some (group_of n (row-skipped ask q es e is i) (after i))) None
 
   pub standing-snoc : (es : List (Key × Cell Payload)) (e : Key × Cell Payload) → KeysBelow e.0 es
       → standing ask n (es ++ e ∷ []) q ≡ cond (counts ask q e) (Some (with_held (unwrap_or (standing ask n es q) (no_group n)) e.1.time e.1.held)) (standing ask n es q)

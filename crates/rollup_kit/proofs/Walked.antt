@@ -17,7 +17,7 @@ use Rattle.schedule_kit.specs.Rows.{is_one, is_conflict}
 use Rattle.rollup_kit.specs.Asks.{Attributes}
 use Rattle.rollup_kit.specs.Groups.{Grouped, no_group, with_held}
 use Rattle.rollup_kit.specs.Rollups.{newest}
-use Rattle.rollup_kit.specs.Standing.{grouped, row_among, is_row, standing, Stands}
+use Rattle.rollup_kit.specs.Standing.{group_of, row_among, is_row, standing, Stands}
 use Rattle.rollup_kit.specs.Walks.{Rows, group_at, HasRoom, Adds}
 use Rattle.rollup_kit.specs.declared.ask.Ask.{Ask}
 use Rattle.rollup_kit.proofs.Snoc.{counts, KeysBelow}
@@ -68,7 +68,7 @@ module _ (ask : Ask) (q : Attributes) where
   room_at n es few =
       let some : (row_among ask es q).points ≤ length es = points_few es in
       let other : (row_among ask es q).conflicts ≤ length es = conflicts_few es in
-      elim (is_row ask es q) as (λ b. IfSome (cond b (Some (grouped n (row_among ask es q) (newest ask es q))) None) (λ g. (g.points + 1 < 2 ^ 64) × (g.conflicts + 1 < 2 ^ 64))) [
+      elim (is_row ask es q) as (λ b. IfSome (cond b (Some (group_of n (row_among ask es q) (newest ask es q))) None) (λ g. (g.points + 1 < 2 ^ 64) × (g.conflicts + 1 < 2 ^ 64))) [
         | true ↦ (omega arith, omega arith)
         | false ↦ tt
       ]

@@ -5,16 +5,16 @@ use Rattle.point_kit.specs.declared.cell.Held.TheVariants.{One, Conflict}
 use Rattle.point_kit.specs.declared.payload.Payload.{Payload}
 use Rattle.point_kit.specs.declared.payload.Payload.TheVariants as payloads
 use Rattle.rollup_kit.specs.Counts.{counts_from, add_each}
-use Rattle.rollup_kit.specs.Spans.{span_of, join_spans}
-use Rattle.rollup_kit.specs.declared.span.Span.{Span}
-use Rattle.rollup_kit.specs.declared.span.Span.TheVariants.{Empty}
+use Rattle.rollup_kit.specs.Extents.{span_of, join_spans}
+use Rattle.rollup_kit.specs.declared.extent.Extent.{Extent}
+use Rattle.rollup_kit.specs.declared.extent.Extent.TheVariants.{Empty}
 
 -- what the points of a row come to
 pub record Grouped : Type 0 where
   pub sum : ℤ
   pub count : ℕ
   pub buckets : List ℕ
-  pub span : Span
+  pub span : Extent
   pub newest : Option (ℕ × ℤ)
   pub points : ℕ
   pub conflicts : ℕ

@@ -1,7 +1,7 @@
 pub use Rattle.agg_kit.specs.Payloads
 pub use Rattle.attr_kit.specs.Keeping
 pub use Rattle.attr_kit.specs.Putting
-pub use Rattle.gateway_kit.specs.View
+pub use Rattle.gateway_kit.specs.GatewayState
 pub use Rattle.point_kit.specs.Orders
 pub use Rattle.schedule_kit.specs.Deeds
 pub use Rattle.schedule_kit.specs.Members
@@ -23,7 +23,7 @@ pub mod Quote
 pub mod Recordings
 pub mod Rollups
 pub mod RowText
-pub mod Spans
+pub mod Extents
 pub mod Standing
 pub mod TableText
 pub mod Walks

@@ -4,16 +4,16 @@ use Rattle.point_kit.specs.declared.payload.Payload.{Payload}
 use Rattle.point_kit.specs.declared.payload.Payload.TheVariants as payloads
 use Rattle.point_kit.specs.declared.shape.Shape.{Shape}
 use Rattle.point_kit.specs.declared.shape.Shape.TheVariants as shapes
-use Rattle.rollup_kit.specs.declared.span.Span.{Span}
-use Rattle.rollup_kit.specs.declared.span.Span.TheVariants.{Empty, Known}
-use Rattle.rollup_kit.specs.Spans.{span_of, join_spans}
+use Rattle.rollup_kit.specs.declared.extent.Extent.{Extent}
+use Rattle.rollup_kit.specs.declared.extent.Extent.TheVariants.{Empty, Known}
+use Rattle.rollup_kit.specs.Extents.{span_of, join_spans}
 
 -- a sum; and of histograms a count, the count of each bucket by its place, and from where to where the values go
 pub record Parts : Type 0 where
   pub sum : ℤ
   pub count : ℕ
   pub buckets : ℕ → ℕ
-  pub span : Span
+  pub span : Extent
 
 abbrev pub no_parts : Parts
 no_parts = record { sum = pos 0; count = 0; buckets = λ _. 0; span = Empty }

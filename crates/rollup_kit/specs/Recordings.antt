@@ -14,12 +14,12 @@ use Rattle.rollup_kit.specs.Rollups.{AddsUp}
 use Rattle.rollup_kit.specs.declared.ask.Ask.{Ask}
 
 -- the parts of values, each by itself, added up
-abbrev pub added : Shape → List ℤ → Parts
-added shape vs = totals.total no_parts plus_parts (parts_of_value shape) vs
+abbrev pub part_sums : Shape → List ℤ → Parts
+part_sums shape vs = totals.total no_parts plus_parts (parts_of_value shape) vs
 
 -- a payload has the parts of the values that it is of
 abbrev pub PayloadsAddUp : Type 0
-PayloadsAddUp = (shape : Shape) (vs : List ℤ) → AddsUp shape → parts_of (payload_of shape vs) ≡ added shape vs
+PayloadsAddUp = (shape : Shape) (vs : List ℤ) → AddsUp shape → parts_of (payload_of shape vs) ≡ part_sums shape vs
 
 -- each value under a name as its parts
 abbrev pub in_parts : {X : Type 0} → Shape → List (X × ℤ) → List (X × Parts)

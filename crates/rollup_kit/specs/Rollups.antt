@@ -17,7 +17,7 @@ use Rattle.rollup_kit.specs.Asks.{Attributes, attributes_cmp, asks, group}
 use Rattle.rollup_kit.specs.Counts.{counts_from}
 use Rattle.rollup_kit.specs.Newest.{Dated, latest, as_point}
 use Rattle.rollup_kit.specs.Parts.{Parts, no_parts, plus_parts, parts_of, parts_of_value}
-use Rattle.rollup_kit.specs.Spans.{range_of}
+use Rattle.rollup_kit.specs.Extents.{range_of}
 use Rattle.rollup_kit.specs.declared.ask.Ask.{Ask}
 use Rattle.rollup_kit.specs.declared.row.Row.{Row}
 use Rattle.rollup_kit.specs.declared.row.Total.{Total}

@@ -7,7 +7,7 @@ use Rattle.attr_kit.specs.declared.attr_value.AttrValue.{AttrValue}
 use Rattle.attr_kit.specs.declared.attr_value.AttrValue.TheVariants.{Text, Truth, Whole}
 use Rattle.rollup_kit.specs.declared.row.Total.{Total}
 use Rattle.rollup_kit.specs.declared.row.Total.TheVariants.{Sum, Gauge, Hist}
-use Rattle.rollup_kit.specs.Quote.{quoted}
+use Rattle.rollup_kit.specs.Quote.{quotation}
 
 -- an ASCII letter or digit, `_`, `.`, `-` or `/`
 abbrev pub is_plain : ℕ → Bool
@@ -15,10 +15,10 @@ is_plain c = is_ascii_alphanumeric c || c == 95 || c == 46 || c == 45 || c == 47
 
 -- a key as it is where all of it is plain, else in quotes
 unfoldable pub key_text : List ℕ → List ℕ
-key_text key = if list_all is_plain key then key else quoted key
+key_text key = if list_all is_plain key then key else quotation key
 
 unfoldable pub value_text : AttrValue → List ℕ
-value_text (Text text) = quoted text
+value_text (Text text) = quotation text
 value_text (Truth true) = codes "true"
 value_text (Truth false) = codes "false"
 value_text (Whole number) = signed_decimal number

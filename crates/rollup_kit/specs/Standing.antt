@@ -15,8 +15,8 @@ use Rattle.rollup_kit.specs.Walks.{Rows, group_at}
 use Rattle.rollup_kit.specs.declared.ask.Ask.{Ask}
 
 -- a row's totals, with so many buckets
-abbrev pub grouped : ℕ → rows.Row Parts → Option (ℕ × ℤ) → Grouped
-grouped buckets row newest = record {
+abbrev pub group_of : ℕ → rows.Row Parts → Option (ℕ × ℤ) → Grouped
+group_of buckets row newest = record {
   sum = row.total.sum;
   count = row.total.count;
   buckets = counts_from 0 buckets row.total.buckets;
@@ -36,7 +36,7 @@ is_row ask cells attrs = list_any (eq_by_cmp attributes_cmp attrs) (map (λ e. g
 
 -- the group of a set of attributes after these cells
 abbrev pub standing : Ask → ℕ → List (Key × Cell Payload) → Attributes → Option Grouped
-standing ask buckets cells attrs = cond (is_row ask cells attrs) (Some (grouped buckets (row_among ask cells attrs) (newest ask cells attrs))) None
+standing ask buckets cells attrs = cond (is_row ask cells attrs) (Some (group_of buckets (row_among ask cells attrs) (newest ask cells attrs))) None
 
 -- the groups are those after these cells
 abbrev pub Stands : Ask → ℕ → List (Key × Cell Payload) → Rows → Type 0

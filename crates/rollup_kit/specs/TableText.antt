@@ -33,16 +33,16 @@ abbrev pub spaces : ℕ → List ℕ
 spaces n = replicate n 32
 
 -- a text aligned to the left, and to the right
-abbrev pub left : ℕ → List ℕ → List ℕ
-left to text = text ++ spaces (to - width text)
+abbrev pub left_aligned : ℕ → List ℕ → List ℕ
+left_aligned to text = text ++ spaces (to - width text)
 
-abbrev pub right : ℕ → List ℕ → List ℕ
-right to text = spaces (to - width text) ++ text
+abbrev pub right_aligned : ℕ → List ℕ → List ℕ
+right_aligned to text = spaces (to - width text) ++ text
 
 -- one line: the first cell to the left, the next two to the right, the last as it is
 unfoldable pub line : ℕ → ℕ → ℕ → List ℕ → List ℕ → List ℕ → List ℕ → List ℕ
 line first second third attributes points conflicts total =
-    left first attributes ++ spaces 2 ++ right second points ++ spaces 2 ++ right third conflicts ++ spaces 2 ++ total ++ 10 ∷ []
+    left_aligned first attributes ++ spaces 2 ++ right_aligned second points ++ spaces 2 ++ right_aligned third conflicts ++ spaces 2 ++ total ++ 10 ∷ []
 
 -- the line of these cells
 abbrev pub line_of : ℕ → ℕ → ℕ → (Column → List ℕ) → List ℕ

@@ -16,7 +16,7 @@ use Rattle.rollup_kit.specs.Places.{Show}
 use Rattle.rollup_kit.specs.Asks.{Attributes, attributes_cmp, asks, group}
 use Rattle.rollup_kit.specs.Groups.{Grouped, no_group, with_held}
 use Rattle.rollup_kit.specs.Parts.{no_parts, plus_parts}
-use Rattle.rollup_kit.specs.Spans.{range_of}
+use Rattle.rollup_kit.specs.Extents.{range_of}
 use Rattle.rollup_kit.specs.declared.ask.Ask.{Ask}
 use Rattle.rollup_kit.specs.declared.row.Row.{Row}
 use Rattle.rollup_kit.specs.declared.row.Total.{Total}

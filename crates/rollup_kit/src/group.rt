@@ -4,7 +4,7 @@ ghost use Rattle.rollup_kit.specs.Groups.{no_group, with_held, with_payload, wit
 ghost use Rattle.rollup_kit.specs.Walks.{row_read};
 
 use crate::buckets::Buckets;
-use crate::span::Span;
+use crate::extent::Extent;
 use crate::{Row, Total};
 use attr_kit::{AttrSet, NoMemory};
 use point_kit::{Cell, Held, Payload, Shape};
@@ -17,7 +17,7 @@ pub struct Group {
     pub(crate) sum: i128,
     pub(crate) count: u128,
     pub(crate) buckets: Buckets,
-    pub(crate) span: Span,
+    pub(crate) span: Extent,
     pub(crate) newest: Option<(u64, i64)>,
     pub(crate) points: u64,
     pub(crate) conflicts: u64,
@@ -42,7 +42,7 @@ impl Group {
             sum: 0,
             count: 0,
             buckets: Buckets::empty(alloc, buckets)?,
-            span: Span::Empty,
+            span: Extent::Empty,
             newest: None,
             points: 0,
             conflicts: 0,
@@ -131,7 +131,7 @@ impl Group {
         self.sum += i128::from(sum);
         self.count += u128::from(count);
         self.buckets.add(buckets);
-        self.span = self.span.join(Span::of(count, range));
+        self.span = self.span.join(Extent::of(count, range));
         self.points += 1;
     }
 }

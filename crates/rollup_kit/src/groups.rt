@@ -13,7 +13,7 @@ ghost use Rattle.rollup_kit.specs.Walks.{group_at, HasRoom, Adds};
 
 use crate::Ask;
 use crate::group::Group;
-use crate::kept::{find_kept, hash_of};
+use crate::kept::{find_kept, kept_set};
 use crate::kept_rows::{KeptRows, append};
 use crate::whole_rows::add_whole;
 use attr_kit::{AllowList, AttrSet, Keep, NoMemory};
@@ -65,13 +65,10 @@ fn add_kept_point(
         return Ok(());
     }
     find_kept(places, point.attrs, list)?;
-    let pairs = point.attrs.pairs();
-    let hash = hash_of(pairs, places.as_slice());
-    if rows.add_shown(hash, pairs, places.as_slice(), point.cell) {
+    if rows.add_shown(point.attrs.pairs(), places.as_slice(), point.cell) {
         return Ok(());
     }
-    // What is kept is gathered pair by pair, with room for more; a copy takes no room but its own.
-    let set = point.attrs.kept(&ask.keep)?.try_copy()?;
+    let set = kept_set(alloc, point.attrs, places.as_slice(), list, &ask.keep)?;
     rows.add_set(alloc, buckets, set, point.cell)
 }
 
@@ -127,7 +124,10 @@ pub(crate) fn in_order(groups: Vec<(AttrSet, Group)>) -> Result<Vec<(AttrSet, Gr
 }
 
 // The groups as a list.
-fn listed(alloc: Global, rows: IndexMap<AttrSet, Group>) -> Result<Vec<(AttrSet, Group)>, NoMemory>
+fn list_of_groups(
+    alloc: Global,
+    rows: IndexMap<AttrSet, Group>,
+) -> Result<Vec<(AttrSet, Group)>, NoMemory>
     ensures value { IfOk result (λ groups. groups.items ≡ rows.entries) }
     ensures distinct { IsDistinct (eq_by_cmp attributes_cmp) (keys_of rows.entries) }
 {
@@ -151,7 +151,7 @@ pub(crate) fn groups_of(
     match &ask.keep {
         Keep::All => {
             let rows = gather(alloc, buckets, ask, points)?;
-            listed(alloc, rows)
+            list_of_groups(alloc, rows)
         }
         Keep::Only(list) => {
             let rows = gather_kept(alloc, buckets, ask, list, points)?;

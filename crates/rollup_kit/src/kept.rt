@@ -1,12 +1,13 @@
 //! What is kept of a set of attributes, shown by the places of its pairs, so that nothing is copied.
-ghost use Rattle.std.specs.Prelude.{◌≡◌, ◌++◌, ◌∷◌, [], if◌then◌else◌, OnOk, slice_get, true};
+ghost use Rattle.std.specs.Prelude.{◌≡◌, ◌++◌, ◌∷◌, [], if◌then◌else◌, IfOk, OnOk, slice_get, true};
 ghost use Rattle.std.specs.Option.{option_copied};
 ghost use Rattle.attr_kit.specs.Attributes.{AreAttributes};
 ghost use Rattle.attr_kit.specs.Keeping.{kept};
 ghost use Rattle.attr_kit.specs.declared.keep.Keep.TheVariants.{Only};
 ghost use Rattle.rollup_kit.specs.Places.{Show, HaveKeys, ShowKept};
 
-use attr_kit::{AllowList, AttrSet, AttrValue, NoMemory, Txt};
+use attr_kit::{AllowList, AttrSet, AttrValue, Keep, NoMemory, TryCopy, Txt};
+use std::alloc::Global;
 use std::hash::{FoldHasher, Hash, Hasher};
 
 // The pair at a place.
@@ -88,6 +89,43 @@ pub(crate) fn find_kept(
         return Ok(());
     }
     find_listed(places, pairs, list)
+}
+
+// Copies of the pairs at these places, in room of their number.
+fn copies_at(
+    alloc: Global,
+    pairs: &[(Txt, AttrValue)],
+    places: &[usize],
+) -> Result<Vec<(Txt, AttrValue)>, NoMemory> {
+    let mut copies = Vec::with_capacity(alloc, places.len())?;
+    for place in places {
+        if let Some(pair) = pairs.get(*place) {
+            copies.push(pair.try_copy()?)?;
+        }
+    }
+    Ok(copies)
+}
+
+/// What an allow-list keeps of a set, by the places that show it. What is copied from there takes no room but its own, and
+/// counts once it is compared.
+pub(crate) fn kept_set(
+    alloc: Global,
+    attrs: &AttrSet,
+    places: &[usize],
+    list: &AllowList,
+    keep: &Keep,
+) -> Result<AttrSet, NoMemory>
+    requires keep { keep.now ≡ Only list.now }
+    requires places { ShowKept list.now attrs.now places.now }
+    ensures { IfOk result (λ set. set ≡ kept keep.now attrs.now) }
+{
+    let pairs = attrs.pairs();
+    if let Ok(set) = AttrSet::from_pairs(copies_at(alloc, pairs, places)?) {
+        if show(pairs, places, &set) {
+            return Ok(set);
+        }
+    }
+    attrs.kept(keep)
 }
 
 /// A hash of the pairs at these places, the same for equal pairs.

@@ -8,6 +8,7 @@ ghost use Rattle.rollup_kit.specs.Indexed.{pairs_hash, EachHasRoom, AddsAt, Push
 ghost use Rattle.rollup_kit.specs.Walks.{HasRoom, AddsTo, AddsShown};
 
 use crate::group::Group;
+use crate::kept;
 use crate::kept::show;
 use crate::whole_rows::{add_held, first_group, start};
 use attr_kit::{AttrSet, AttrValue, NoMemory, Txt};
@@ -22,11 +23,15 @@ use std::marker::Model;
 ///
 /// A row is found by the hash of its set, which tells its place. The row at a guessed place counts once its set is compared, so
 /// a wrong guess costs time alone. Where two rows share a hash the later stands among the others, and is found by its set.
+///
+/// Before any hash the row behind the last one is guessed, behind the last row the first: points come in the order of their keys,
+/// and so what is kept of one writer's sets comes again, in the same order, with the next writer's.
 #[derive(Drop)]
 pub(crate) struct KeptRows {
     rows: Vec<(AttrSet, Group)>,
     others: IndexMap<AttrSet, Group>,
     places: HashMap<u64, usize>,
+    next: usize,
 }
 
 impl Model for KeptRows {
@@ -54,7 +59,8 @@ fn hash_of(set: &AttrSet) -> u64
 fn add_at(rows: &mut Vec<(AttrSet, Group)>, place: usize, cell: &Cell)
     requires within { place < vec_len rows.old }
     requires room { EachHasRoom rows.old.items }
-    ensures { (set : Attributes) → slice_get (keys_of rows.old.items) place ≡ Some set → AddsAt place set cell.now rows.old.items rows.new.items }
+    ensures { (set : Attributes) → slice_get (keys_of rows.old.items) place ≡ Some set
+        → AddsAt place set cell.now rows.old.items rows.new.items }
 {
     rows[place].1.add(cell);
 }
@@ -112,13 +118,14 @@ impl KeptRows {
             rows: Vec::new(alloc),
             others: IndexMap::new(alloc),
             places: HashMap::new(alloc),
+            next: 0,
         }
     }
 
-    /// Adds a cell to the row of a hash, if these places of a point's pairs show its set. Copies nothing.
-    pub(crate) fn add_shown(
+    // Adds a cell to the row at a place, if these places of a point's pairs show its set.
+    fn add_guessed(
         &mut self,
-        hash: u64,
+        place: usize,
         pairs: &[(Txt, AttrValue)],
         places: &[usize],
         cell: &Cell,
@@ -127,14 +134,46 @@ impl KeptRows {
         ensures added { result ≡ true → AddsShown pairs.now places.now cell.now self.old self.new }
         ensures kept { result ≡ false → self.new ≡ self.old }
     {
-        let Some(place) = self.places.get(&hash).copied() else {
-            return false;
-        };
         if place >= self.rows.len() || !show(pairs, places, &self.rows[place].0) {
             return false;
         }
         add_at(&mut self.rows, place, cell);
+        self.next = place + 1;
         true
+    }
+
+    // The same of the row behind the last one that a cell was added to.
+    fn add_next(&mut self, pairs: &[(Txt, AttrValue)], places: &[usize], cell: &Cell) -> bool
+        requires { HasRoom self.old }
+        ensures added { result ≡ true → AddsShown pairs.now places.now cell.now self.old self.new }
+        ensures kept { result ≡ false → self.new ≡ self.old }
+    {
+        let place = if self.next < self.rows.len() {
+            self.next
+        } else {
+            0
+        };
+        self.add_guessed(place, pairs, places, cell)
+    }
+
+    /// Adds a cell to a row whose set these places of a point's pairs show, if it is guessed or its hash tells it. Copies nothing.
+    pub(crate) fn add_shown(
+        &mut self,
+        pairs: &[(Txt, AttrValue)],
+        places: &[usize],
+        cell: &Cell,
+    ) -> bool
+        requires { HasRoom self.old }
+        ensures added { result ≡ true → AddsShown pairs.now places.now cell.now self.old self.new }
+        ensures kept { result ≡ false → self.new ≡ self.old }
+    {
+        if self.add_next(pairs, places, cell) {
+            return true;
+        }
+        match self.places.get(&kept::hash_of(pairs, places)).copied() {
+            Some(place) => self.add_guessed(place, pairs, places, cell),
+            None => false,
+        }
     }
 
     /// Adds a cell to the row of a set, which is new if there is none.

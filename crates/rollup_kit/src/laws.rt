@@ -5,7 +5,7 @@ ghost use Rattle.point_kit.specs.declared.payload.Payload.{Payload};
 ghost use Rattle.schedule_kit.specs.Deeds.{Deed, Holder, AreLawful, IsTold};
 ghost use Rattle.schedule_kit.specs.Rounds.{Rounding, IsSound, state};
 ghost use Rattle.schedule_kit.specs.Rows.{values_fed, keys_fed};
-ghost use Rattle.schedule_kit.specs.Taken.{taken, recorded_up_to, incarnations};
+ghost use Rattle.schedule_kit.specs.Taken.{taken_collections, recorded_up_to, incarnations};
 ghost use Rattle.schedule_kit.specs.Totals.{IsSum};
 ghost use Rattle.rollup_kit.specs.Fleets.{FleetRows, NotTakenIsMissing};
 ghost use Rattle.rollup_kit.specs.Parts.{no_parts, plus_parts};
@@ -29,7 +29,7 @@ pub fn rows_are_recorded<N, I, X>()
     ensures exact { (ask : Ask) → AddsUp ask.stream.shape → (r : Rounding N Key I X Payload) → IsSound (by_keys r)
         → (fits : ℕ → List N → N → Bool) (starts : List ℕ) (gateways : ℕ) → IsTold r.who starts → (ds : List (Deed N)) → AreLawful fits starts gateways ds
         → (h : Holder) (fed : ℕ → List N → List (X × ℤ)) → AreFed ask (by_keys r) fed
-        → rollup_rows ask (state (by_keys r) (taken starts ds h))
+        → rollup_rows ask (state (by_keys r) (taken_collections starts ds h))
         ≡ recorded_rows ask (values_fed (by_keys r) (recorded_up_to starts ds h) (incarnations starts ds) fed) (keys_fed (by_keys r) (recorded_up_to starts ds h) (incarnations starts ds)) }
 {}
 

@@ -1,20 +1,24 @@
 //! Roll-ups of the points that a gateway holds, and the tables that they are printed as (OpenTelemetry Metrics Data Model,
 //! "Temporality": cumulative points of many writers, added up).
 //!
-//! An [`Ask`] names a stream, a service or all, pairs that points must have, and the keys to keep. [`rollup`] answers one
-//! [`Row`] for each kept set, in the order of sets, with how many points it is of and their [`Total`]. A conflict is counted
-//! and adds nothing. [`table`] is the text of rows.
+//! - An [`Ask`] names a stream, a service or all, pairs that points must have, and the keys to keep.
+//! - [`rollup`] answers one [`Row`] for each kept set, in the order of sets, with how many points it is of and their [`Total`].
+//!   A conflict is counted and adds nothing.
+//! - [`table`] is the text of rows.
 //!
-//!     let rows = rollup(alloc, &gateway, &ask)?;
-//!     let text = table(alloc, rows.as_slice())?;
+//! A caller, from `crates/uses/src/gathering.rt`:
+//!
+//!     let rows = rollup(alloc, one, ask)?;
+//!     Ok(table(alloc, rows.as_slice())?)
 //!
 //! The laws: [`points_add_up`], [`rows_are_recorded`], [`rows_go_by_entries`] and [`fleets_answer_for_jobs`] tell rows by
 //! what was recorded. What contracts cite stands in `specs/`: `Rollups` (the rows), `Asks`, `Parts` (what adds up),
-//! `Spans`, `TableText`, `RowText`, `Fleets`.
+//! `Extents`, `TableText`, `RowText`, `Fleets`.
 #![tactic(auto)]
 
 mod ask;
 mod buckets;
+mod extent;
 mod group;
 mod groups;
 mod kept;
@@ -25,7 +29,6 @@ mod quote;
 mod row;
 mod row_text;
 mod rows;
-mod span;
 mod table_text;
 #[cfg(test)]
 mod tests;

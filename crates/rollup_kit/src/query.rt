@@ -38,9 +38,10 @@ fn asked_points<'a>(gateway: &'a Gateway, ask: &'a Ask) -> Points<'a>
 ///   has values and every such point has a range; it goes from the least to the greatest value of all.
 /// - A conflict is counted, and adds nothing.
 ///
-/// Copies no key, and of attributes only those that are kept of a new row. Of n points and r rows O(n) hashes of what is
-/// kept, each of which is then compared with one row's set, and O(r log r) comparisons of sets; with a service given, points
-/// of others are passed over. Takes memory for rows, none for a point. `NoMemory` comes only where a growth was refused.
+/// Copies no key, and of attributes only those that are kept of a new row. Of n points and r rows: what is kept of a point is
+/// compared with the row behind the last one, and where that is not it hashed and compared with the row of its hash, O(n) in all;
+/// rows are put in order by O(r log r) comparisons of sets. With a service given, points of others are passed over. Takes memory
+/// for rows, none for a point. `NoMemory` comes only where a growth was refused.
 pub fn rollup(alloc: Global, gateway: &Gateway, ask: &Ask) -> Result<Seq<Row>, NoMemory>
     ensures value { IfOk result (λ rows. rows ≡ rollup_rows ask.now gateway.now.points) }
 {

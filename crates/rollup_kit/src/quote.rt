@@ -1,7 +1,7 @@
 //! Texts in quotes.
 ghost use Rattle.std.specs.Prelude.{◌≡◌, ◌++◌, ◌∷◌, [], ◌<◌, false, OnOk, string_bytes};
 ghost use Rattle.std.specs.Fmt.{digit_glyph};
-ghost use Rattle.rollup_kit.specs.Quote.{escaped, quoted};
+ghost use Rattle.rollup_kit.specs.Quote.{escape, quotation};
 
 use std::alloc::AllocError;
 
@@ -19,9 +19,9 @@ fn hex_digit(digit: u32) -> char
     }
 }
 
-#[tactic(auto, unfolding(crate::specs::Quote::escaped))]
+#[tactic(auto, unfolding(crate::specs::Quote::escape))]
 fn push_escaped(text: &mut String, c: char) -> Result<(), AllocError>
-    ensures { OnOk result (string_bytes text.new ≡ string_bytes text.old ++ escaped c) }
+    ensures { OnOk result (string_bytes text.new ≡ string_bytes text.old ++ escape c) }
 {
     let code = c as u32;
     if c == '"' {
@@ -38,9 +38,9 @@ fn push_escaped(text: &mut String, c: char) -> Result<(), AllocError>
 }
 
 /// Adds a text in quotes.
-#[tactic(auto, unfolding(crate::specs::Quote::quoted))]
+#[tactic(auto, unfolding(crate::specs::Quote::quotation))]
 pub(crate) fn push_quoted(text: &mut String, unquoted: &str) -> Result<(), AllocError>
-    ensures { OnOk result (string_bytes text.new ≡ string_bytes text.old ++ quoted unquoted.now) }
+    ensures { OnOk result (string_bytes text.new ≡ string_bytes text.old ++ quotation unquoted.now) }
 {
     text.push('"')?;
     for c in unquoted.chars() {

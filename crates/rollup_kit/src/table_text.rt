@@ -1,7 +1,7 @@
 //! The table of rows: a header and a line for each row, in columns as wide as their longest cell.
 ghost use Rattle.std.specs.Prelude.{◌≡◌, ◌++◌, ◌-◌, OnOk, IfOk, string_bytes};
 ghost use Rattle.rollup_kit.specs.declared.table_text.Column.TheVariants.{Attributes, Points, Conflicts, Total};
-ghost use Rattle.rollup_kit.specs.TableText.{width, widest, header, cell, spaces, left, right, line, line_of, table_text};
+ghost use Rattle.rollup_kit.specs.TableText.{width, widest, header, cell, spaces, left_aligned, right_aligned, line, line_of, table_text};
 ghost use Rattle.std.specs.List.{flat_map};
 
 use crate::Row;
@@ -82,14 +82,14 @@ fn push_spaces(text: &mut String, count: usize) -> Result<(), AllocError>
 }
 
 fn push_left(text: &mut String, to: usize, cell: &str) -> Result<(), AllocError>
-    ensures { OnOk result (string_bytes text.new ≡ string_bytes text.old ++ left to cell.now) }
+    ensures { OnOk result (string_bytes text.new ≡ string_bytes text.old ++ left_aligned to cell.now) }
 {
     text.push_str(cell)?;
     push_spaces(text, to.saturating_sub(char_count(cell)))
 }
 
 fn push_right(text: &mut String, to: usize, cell: &str) -> Result<(), AllocError>
-    ensures { OnOk result (string_bytes text.new ≡ string_bytes text.old ++ right to cell.now) }
+    ensures { OnOk result (string_bytes text.new ≡ string_bytes text.old ++ right_aligned to cell.now) }
 {
     push_spaces(text, to.saturating_sub(char_count(cell)))?;
     text.push_str(cell)

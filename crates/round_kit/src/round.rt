@@ -97,7 +97,7 @@ impl<'b> Round<'b> {
 }
 
 // The stream of a point, shared with the point before where it is the same. A stream is copied once for all its points.
-fn shared(
+fn share_stream(
     alloc: Global,
     last: &mut Option<SharedStream>,
     stream: &RoundStream<'_>,
@@ -121,7 +121,7 @@ fn copy_points(alloc: Global, points: &[RoundPoint<'_>]) -> Result<Vec<ExportPoi
     let mut last = None;
     for point in points {
         copy.push(ExportPoint {
-            stream: shared(alloc, &mut last, point.stream)?,
+            stream: share_stream(alloc, &mut last, point.stream)?,
             attrs: point.attrs.copy_out(alloc)?,
             payload: point.payload.copy_out(alloc)?,
         })?;

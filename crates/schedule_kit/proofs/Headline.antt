@@ -16,7 +16,7 @@ use Rattle.schedule_kit.specs.Deeds.{Deed, Made, Holder, made, took, TookSame, A
 use Rattle.schedule_kit.specs.Members.{In}
 use Rattle.schedule_kit.specs.Rounds.{Rounding, IsSound, HasNoConflict, part_at, points, state}
 use Rattle.schedule_kit.specs.Rows.{IsAdded, rollup, recorded, values_fed, keys_fed}
-use Rattle.schedule_kit.specs.Taken.{taken, made_of, newest, recorded_up_to, incarnations}
+use Rattle.schedule_kit.specs.Taken.{taken_collections, made_of, newest, recorded_up_to, incarnations}
 use Rattle.schedule_kit.proofs.Members.{filter_map-In, In-filter_map, any-In, In-any}
 use Rattle.schedule_kit.proofs.Newest.{NewestIs, newest_is}
 use Rattle.schedule_kit.proofs.Parts as parts
@@ -59,15 +59,15 @@ module _ {K V : Type 0} {R : K → K → Ordering} (o : IsTotalOrder R) (anti : 
 
 module _ {N K I X P : Type 0} (r : Rounding N K I X P) (s : IsSound r) where
   -- gateways that took the same exports hold one state
-  pub same_state : (starts : List ℕ) (ds : List (Deed N)) (g h : Holder) → TookSame ds g h → state r (taken starts ds g) ≡ state r (taken starts ds h)
-  same_state starts ds g h same = same_took s.total s.antisymmetric r.same s.equivalence s.exact (points r) (taken starts ds g) (taken starts ds h) (moved g h same.0) (moved h g same.1)
+  pub same_state : (starts : List ℕ) (ds : List (Deed N)) (g h : Holder) → TookSame ds g h → state r (taken_collections starts ds g) ≡ state r (taken_collections starts ds h)
+  same_state starts ds g h same = same_took s.total s.antisymmetric r.same s.equivalence s.exact (points r) (taken_collections starts ds g) (taken_collections starts ds h) (moved g h same.0) (moved h g same.1)
     where
-      moved : (a b : Holder) → ((k : ℕ) → In k (took ds a) → In k (took ds b)) → (m : Made N) → In m (taken starts ds a) → In m (taken starts ds b)
+      moved : (a b : Holder) → ((k : ℕ) → In k (took ds a) → In k (took ds b)) → (m : Made N) → In m (taken_collections starts ds a) → In m (taken_collections starts ds b)
       moved a b t m i = let c = filter_map-In (made_of (made starts ds)) m (took ds a) i in In-filter_map (made_of (made starts ds)) m c.0 (took ds b) (t c.0 c.1) c.2
 
   module _ (fits : ℕ → List N → N → Bool) (starts : List ℕ) (gateways : ℕ) (distinct : (v w : ℕ) → v < length starts → w < length starts → r.who v ≡ r.who w → v ≡ w) (ds : List (Deed N)) (lawful : AreLawful fits starts gateways ds) (h : Holder) where
     abbrev has : List (Made N)
-    has = taken starts ds h
+    has = taken_collections starts ds h
 
     its : parts.AreTaken r.who has
     its = are_taken starts fits gateways r.who distinct ds lawful h

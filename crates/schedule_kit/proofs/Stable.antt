@@ -7,7 +7,7 @@ use Rattle.schedule_kit.specs.Deeds.{Deed, Made, Holder, made, took, mails, AreL
 use Rattle.schedule_kit.specs.Deeds.Deed.{Wrote, Delivered, Merged, Sent, Handed}
 use Rattle.schedule_kit.specs.Deeds.Holder.{AtGateway, InMail}
 use Rattle.schedule_kit.specs.Members.{In}
-use Rattle.schedule_kit.specs.Taken.{taken, made_of}
+use Rattle.schedule_kit.specs.Taken.{taken_collections, made_of}
 use Rattle.schedule_kit.proofs.Members.{In-append}
 
 either : (b : Bool) (k : ℕ) (xs ys : List ℕ) → In k (cond b xs ys) → In k xs ⊎ In k ys
@@ -50,5 +50,5 @@ module _ {N : Type 0} (fits : ℕ → List N → N → Bool) (starts : List ℕ)
   took_made (Wrote w (Collected time closing) ∷ ds) l h k i = let older = took_made ds l.1 h k i in omega arith
 
   -- a new collection changes nothing that was taken
-  pub taken_stable : (ds : List (Deed N)) (w time : ℕ) (closing : Bool) → AreLawful fits starts gateways ds → (h : Holder) → taken starts (Wrote w (Collected time closing) ∷ ds) h ≡ taken starts ds h
+  pub taken_stable : (ds : List (Deed N)) (w time : ℕ) (closing : Bool) → AreLawful fits starts gateways ds → (h : Holder) → taken_collections starts (Wrote w (Collected time closing) ∷ ds) h ≡ taken_collections starts ds h
   taken_stable ds w time closing l h = same_found _ (made starts ds) (took ds h) (λ k i. let old = took_made ds l h k i in omega arith)

@@ -46,14 +46,14 @@ pub record Collection (N : Type 0) : Type 0 where
   pub entries : List N
 
 -- the collection that is made after these events
-abbrev pub collected : {N : Type 0} → ℕ → List (Act N) → ℕ → Collection N
-collected first acts time = record { start = start_of first acts; time = time; entries = running first acts }
+abbrev pub collection_after : {N : Type 0} → ℕ → List (Act N) → ℕ → Collection N
+collection_after first acts time = record { start = start_of first acts; time = time; entries = running first acts }
 
 -- the collections, each of which makes an export, the newest first
 abbrev pub collections : {N : Type 0} → ℕ → List (Act N) → List (Collection N)
 collections first [] = []
 collections first (Measured e ∷ acts) = collections first acts
-collections first (Collected time closing ∷ acts) = collected first acts time ∷ collections first acts
+collections first (Collected time closing ∷ acts) = collection_after first acts time ∷ collections first acts
 collections first (Restarted start ∷ acts) = collections first acts
 
 -- where each event is accepted; `fits` says which entry an incarnation takes after which others

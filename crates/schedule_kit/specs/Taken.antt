@@ -11,8 +11,8 @@ abbrev pub made_of : {N : Type 0} → List (Made N) → ℕ → Option (Made N)
 made_of ms k = find (λ m. m.number == k) ms
 
 -- the collections whose exports a holder took
-abbrev pub taken : {N : Type 0} → List ℕ → List (Deed N) → Holder → List (Made N)
-taken starts ds h = filter_map (made_of (made starts ds)) (took ds h)
+abbrev pub taken_collections : {N : Type 0} → List ℕ → List (Deed N) → Holder → List (Made N)
+taken_collections starts ds h = filter_map (made_of (made starts ds)) (took ds h)
 
 abbrev pub later : {N : Type 0} → Made N → Option (Made N) → Made N
 later m None = m
@@ -29,7 +29,7 @@ up_to ms w start = option_map_or (λ m. m.before) (newest ms w start) 0
 
 -- what an incarnation recorded up to its newest collection that a holder took
 abbrev pub recorded_up_to : {N : Type 0} → List ℕ → List (Deed N) → Holder → ℕ × ℕ → List N
-recorded_up_to starts ds h i = entries_at starts (first (up_to (taken starts ds h) i.0 i.1) ds) i.0 i.1
+recorded_up_to starts ds h i = entries_at starts (first (up_to (taken_collections starts ds h) i.0 i.1) ds) i.0 i.1
 
 -- its entries, or none
 abbrev pub entries_taken : {N : Type 0} → List (Made N) → ℕ → ℕ → List N

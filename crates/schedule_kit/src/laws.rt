@@ -8,14 +8,14 @@ ghost use Rattle.schedule_kit.specs.Deeds.{Deed, Holder, AreLawful, IsTold, Took
 ghost use Rattle.schedule_kit.specs.Mixed.{AreMixed};
 ghost use Rattle.schedule_kit.specs.Rounds.{Rounding, IsSound, HasNoConflict, part_at, state};
 ghost use Rattle.schedule_kit.specs.Rows.{IsAdded, rollup, recorded, values_fed, keys_fed};
-ghost use Rattle.schedule_kit.specs.Taken.{taken, newest, recorded_up_to, incarnations};
+ghost use Rattle.schedule_kit.specs.Taken.{taken_collections, newest, recorded_up_to, incarnations};
 ghost use Rattle.schedule_kit.specs.Totals.{IsSum, total};
 
 /// Gateways that took the same exports, in any order and with repeats, hold one state.
 #[tactic(auto, using(crate::proofs::Headline::same_state))]
 pub fn same_exports_give_one_state<N, K, I, X, P>()
     ensures same { (r : Rounding N K I X P) → IsSound r → (starts : List ℕ) (ds : List (Deed N)) (g h : Holder) → TookSame ds g h
-        → state r (taken starts ds g) ≡ state r (taken starts ds h) }
+        → state r (taken_collections starts ds g) ≡ state r (taken_collections starts ds h) }
 {}
 
 /// Where no two writers share an identity, no conflict stands at a gateway, and what stands of an incarnation is its
@@ -24,11 +24,11 @@ pub fn same_exports_give_one_state<N, K, I, X, P>()
 pub fn parts_are_newest_collections<N, K, I, X, P>()
     ensures no_conflict { (r : Rounding N K I X P) → IsSound r → (fits : ℕ → List N → N → Bool) (starts : List ℕ) (gateways : ℕ)
         → IsTold r.who starts → (ds : List (Deed N)) → AreLawful fits starts gateways ds
-        → (h : Holder) (k : K) → HasNoConflict (get (state r (taken starts ds h)) k) }
+        → (h : Holder) (k : K) → HasNoConflict (get (state r (taken_collections starts ds h)) k) }
     ensures part { (r : Rounding N K I X P) → IsSound r → (fits : ℕ → List N → N → Bool) (starts : List ℕ) (gateways : ℕ)
         → IsTold r.who starts → (ds : List (Deed N)) → AreLawful fits starts gateways ds
         → (h : Holder) (w start : ℕ) → w < length starts → (x : X)
-        → get (state r (taken starts ds h)) (r.key (r.who w) start x) ≡ part_at r (newest (taken starts ds h) w start) x }
+        → get (state r (taken_collections starts ds h)) (r.key (r.who w) start x) ≡ part_at r (newest (taken_collections starts ds h) w start) x }
 {}
 
 /// Where no two writers share an identity, the roll-up of a gateway's state is that of what the writers recorded in each
@@ -40,7 +40,7 @@ pub fn roll_ups_are_recorded<N, K, I, X, P, V, G>()
         → (zero : V) (plus : V → V → V) (reads : P → V) (fed : ℕ → List N → List (X × V))
         → (Rg : G → G → Ordering) → IsTotalOrder Rg → IsAntisymmetric Rg
         → (asks : K → Bool) (group : K → G) → IsAdded r zero plus reads fed asks
-        → rollup Rg zero plus asks group reads (state r (taken starts ds h))
+        → rollup Rg zero plus asks group reads (state r (taken_collections starts ds h))
         ≡ recorded Rg zero plus asks group
         (values_fed r (recorded_up_to starts ds h) (incarnations starts ds) fed)
         (keys_fed r (recorded_up_to starts ds h) (incarnations starts ds)) }

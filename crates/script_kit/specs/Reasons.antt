@@ -102,12 +102,12 @@ word_in (Ok ws) i = word_at ws i
 word_in (Err why) i = []
 
 -- a word as it is told: no more than its first 40 bytes
-abbrev pub shown : List ℕ → List ℕ
-shown word = if nat_lt 40 (length word) && list_all is_line_byte (take 40 word) then take 40 word ++ codes ".." else word
+abbrev pub short_word : List ℕ → List ℕ
+short_word word = if nat_lt 40 (length word) && list_all is_line_byte (take 40 word) then take 40 word ++ codes ".." else word
 
 abbrev pub about : Reason → Option ℕ → Result (List (List ℕ)) Reason → List ℕ
 about why None words = reason_text why
-about why (Some i) words = codes "'" ++ shown (word_in words i) ++ codes "' " ++ reason_text why
+about why (Some i) words = codes "'" ++ short_word (word_in words i) ++ codes "' " ++ reason_text why
 
 -- what is said of a line that is bad for this reason
 unfoldable pub sentence_of : List ℕ → Reason → List ℕ

@@ -3,7 +3,7 @@ use Rattle.std.specs.Prelude.{ℕ, ℤ, List, [], Option, Some, None, true, fals
 use Rattle.std.specs.List.{slice_split, list_all}
 use Rattle.std.specs.Option.{option_map}
 use Rattle.std.specs.Str.{bytes_eq}
-use Rattle.attr_kit.specs.AllowLists.{allowed}
+use Rattle.attr_kit.specs.AllowLists.{listed_keys}
 use Rattle.attr_kit.specs.declared.keep.Keep.{Keep}
 use Rattle.attr_kit.specs.declared.keep.Keep.TheVariants as keeps
 use Rattle.point_kit.specs.declared.shape.Shape.{Shape}
@@ -80,5 +80,5 @@ unfoldable pub keep_of : List ℕ → Option Keep
 keep_of word =
     if is_star word then Some keeps.All
     else if is_dash word then Some (keeps.Only [])
-    else if list_all is_filled (slice_split (λ b. b == 44) word) then Some (keeps.Only (allowed (slice_split (λ b. b == 44) word)))
+    else if list_all is_filled (slice_split (λ b. b == 44) word) then Some (keeps.Only (listed_keys (slice_split (λ b. b == 44) word)))
     else None

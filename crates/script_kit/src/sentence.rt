@@ -1,6 +1,6 @@
 //! What is said of a bad line.
 ghost use Rattle.std.specs.Prelude.{◌≡◌, ◌++◌, IfOk, string_bytes};
-ghost use Rattle.script_kit.specs.Reasons.{sentence_of, shown};
+ghost use Rattle.script_kit.specs.Reasons.{sentence_of, short_word};
 
 use crate::reading::word_at;
 use crate::reason::Reason;
@@ -28,13 +28,13 @@ pub fn explain(alloc: Global, line: &[u8], reason: Reason) -> Result<String, NoM
     } else {
         ""
     };
-    let (front, rest) = shown(word);
+    let (front, rest) = shorten(word);
     Ok(format!(in alloc; "'{front}{rest}' {reason}")?)
 }
 
 // A word, or its first 40 characters and `..` for the rest.
-fn shown(word: &str) -> (&str, &str)
-    ensures { result.0.now ++ result.1.now ≡ shown word.now }
+fn shorten(word: &str) -> (&str, &str)
+    ensures { result.0.now ++ result.1.now ≡ short_word word.now }
 {
     if word.len() <= 40 {
         return (word, "");

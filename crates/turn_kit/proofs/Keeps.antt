@@ -10,9 +10,9 @@ use lib.Seq.{set-get_or, map-set}
 use prog.Atomic.{either}
 use Rattle.atomic_table.specs.Table.{rest, State, Me, Step, step, Act, keeps, takes, gives, stepped, Valid, homes_after, carried_after, Allows}
 use Rattle.atomic_table.proofs.Lists.{set_else, set_again, at_map}
-use Rattle.turn_kit.specs.declared.view.View.{View}
-use Rattle.turn_kit.specs.declared.view.Who.{Who}
-use Rattle.turn_kit.specs.declared.view.Stage.TheVariants.{Idle, Holds}
+use Rattle.turn_kit.specs.declared.knowledge.Knowledge.{Knowledge}
+use Rattle.turn_kit.specs.declared.knowledge.Who.{Who}
+use Rattle.turn_kit.specs.declared.knowledge.Stage.TheVariants.{Idle, Holds}
 use Rattle.turn_kit.specs.History.{by, StartsWith, IsReplay}
 use Rattle.turn_kit.specs.Rule.{Books, Knowing, Knows, Slot, Ruled}
 use Rattle.turn_kit.specs.Steps.{asked, counted, committed, gave}
@@ -25,7 +25,7 @@ use Rattle.turn_kit.proofs.Known.{grown_among, knows_set, knows_still}
 
 module _ {M E S : Type 0} (state : M → S) (next : S → E → Option S) (start : M) (limit : ℕ) where
   abbrev pub V : Type 0
-  V = View M E
+  V = Knowledge M E
 
   abbrev pub W : Type 0
   W = Who E

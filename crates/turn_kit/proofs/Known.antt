@@ -5,8 +5,8 @@ use mathlib.Core.Option.{some, some-ne-none, some-injective}
 use native.Mathlib.Decide.{ℕ_discrete}
 use lib.ListN.{get_elem?}
 use Rattle.atomic_table.proofs.Lists.{at_set, at_map}
-use Rattle.turn_kit.specs.declared.view.View.{View}
-use Rattle.turn_kit.specs.declared.view.Who.{Who}
+use Rattle.turn_kit.specs.declared.knowledge.Knowledge.{Knowledge}
+use Rattle.turn_kit.specs.declared.knowledge.Who.{Who}
 use Rattle.turn_kit.specs.History.{IsAmong}
 use Rattle.turn_kit.specs.Rule.{unmade, family, Books, Tells, Knowing}
 use Rattle.turn_kit.specs.Steps.{nobody, both_who}
@@ -51,49 +51,49 @@ module _ {E : Type 0} where
 
 module _ {M E : Type 0} where
   -- what the views us answer for, views that knew no more answered for among vs
-  abbrev Heirs : List (View M E) → List (View M E) → Type 0
-  Heirs vs us = (j : ℕ) (u : View M E) → get_elem? us j ≡ some u → (p : ℕ) → IsAmong p (family u.who) → (i : ℕ) × (v : View M E) × (get_elem? vs i ≡ some v) × IsAmong p (family v.who) × (v.made ≤ u.made)
+  abbrev Heirs : List (Knowledge M E) → List (Knowledge M E) → Type 0
+  Heirs vs us = (j : ℕ) (u : Knowledge M E) → get_elem? us j ≡ some u → (p : ℕ) → IsAmong p (family u.who) → (i : ℕ) × (v : Knowledge M E) × (get_elem? vs i ≡ some v) × IsAmong p (family v.who) × (v.made ≤ u.made)
 
-  inherits : (vs us : List (View M E)) → Heirs vs us → (made : ℕ) → Knowing vs made → Knowing us made
+  inherits : (vs us : List (Knowledge M E)) → Heirs vs us → (made : ℕ) → Knowing vs made → Knowing us made
   inherits vs us heirs made b k less = (told k (b k less).0, ⊎_elim inl (λ t. inr (t.0, t.1, told t.0 t.2)) (b k less).1)
     where
       told : (p : ℕ) → Tells vs p k → Tells us p k
       told p tells j u at here = let h = heirs j u at p here in let knew = tells h.0 h.1 h.2 h.3 in let more = h.4 in omega (arith, knew, more)
 
   -- a view changes
-  pub knows_set : (vs : List (View M E)) (id : ℕ) (v w : View M E) → get_elem? vs id ≡ some v → ((p : ℕ) → IsAmong p (family w.who) → IsAmong p (family v.who)) → v.made ≤ w.made → (made : ℕ) → Knowing vs made → Knowing (set vs id w) made
+  pub knows_set : (vs : List (Knowledge M E)) (id : ℕ) (v w : Knowledge M E) → get_elem? vs id ≡ some v → ((p : ℕ) → IsAmong p (family w.who) → IsAmong p (family v.who)) → v.made ≤ w.made → (made : ℕ) → Knowing vs made → Knowing (set vs id w) made
   knows_set vs id v w at fam more = inherits vs (set vs id w) (λ j u there p here. ⊎_elim
-      (λ (t : (j ≡ id) × (w ≡ u)). (id, v, at, fam p (subst (λ (x : View M E). IsAmong p (family x.who)) (sym t.1) here), subst (λ (x : View M E). v.made ≤ x.made) t.1 more))
+      (λ (t : (j ≡ id) × (w ≡ u)). (id, v, at, fam p (subst (λ (x : Knowledge M E). IsAmong p (family x.who)) (sym t.1) here), subst (λ (x : Knowledge M E). v.made ≤ x.made) t.1 more))
       (λ (t : (j ≢ id) × (get_elem? vs j ≡ some u)). (j, u, t.1, here, (let z : u.made ≤ u.made = omega arith in z))) (at_set vs id j w u there))
 
   -- a view changes, but neither its numbers nor what it knows of numbers
-  pub knows_still : (vs : List (View M E)) (id : ℕ) (v w : View M E) → get_elem? vs id ≡ some v → family w.who ≡ family v.who → w.made ≡ v.made → (made : ℕ) → Knowing vs made → Knowing (set vs id w) made
+  pub knows_still : (vs : List (Knowledge M E)) (id : ℕ) (v w : Knowledge M E) → get_elem? vs id ≡ some v → family w.who ≡ family v.who → w.made ≡ v.made → (made : ℕ) → Knowing vs made → Knowing (set vs id w) made
   knows_still vs id v w at fam same = knows_set vs id v w at (λ p. subst (λ (f : List (ℕ × List E)). IsAmong p f) fam) (omega (arith, same))
 
   -- one comes in that answers for no other numbers
-  pub knows_cut : (vs : List (View M E)) (id : ℕ) (v w o : View M E) → get_elem? vs id ≡ some v → ((p : ℕ) → IsAmong p (family w.who) → IsAmong p (family v.who)) → ((p : ℕ) → IsAmong p (family o.who) → IsAmong p (family v.who))
+  pub knows_cut : (vs : List (Knowledge M E)) (id : ℕ) (v w o : Knowledge M E) → get_elem? vs id ≡ some v → ((p : ℕ) → IsAmong p (family w.who) → IsAmong p (family v.who)) → ((p : ℕ) → IsAmong p (family o.who) → IsAmong p (family v.who))
       → v.made ≤ w.made → v.made ≤ o.made → (made : ℕ) → Knowing vs made → Knowing (set vs id w ++ o ∷ []) made
   knows_cut vs id v w o at fam fam' more more' = inherits vs (set vs id w ++ o ∷ []) (λ j u there p here. ⊎_elim
       (λ e. ⊎_elim
-      (λ (t : (j ≡ id) × (w ≡ u)). (id, v, at, fam p (subst (λ (x : View M E). IsAmong p (family x.who)) (sym t.1) here), subst (λ (x : View M E). v.made ≤ x.made) t.1 more))
+      (λ (t : (j ≡ id) × (w ≡ u)). (id, v, at, fam p (subst (λ (x : Knowledge M E). IsAmong p (family x.who)) (sym t.1) here), subst (λ (x : Knowledge M E). v.made ≤ x.made) t.1 more))
       (λ (t : (j ≢ id) × (get_elem? vs j ≡ some u)). (j, u, t.1, here, (let z : u.made ≤ u.made = omega arith in z))) (at_set vs id j w u e))
-      (λ (t : (j ≡ length (set vs id w)) × (o ≡ u)). (id, v, at, fam' p (subst (λ (x : View M E). IsAmong p (family x.who)) (sym t.1) here), subst (λ (x : View M E). v.made ≤ x.made) t.1 more'))
+      (λ (t : (j ≡ length (set vs id w)) × (o ≡ u)). (id, v, at, fam' p (subst (λ (x : Knowledge M E). IsAmong p (family x.who)) (sym t.1) here), subst (λ (x : Knowledge M E). v.made ≤ x.made) t.1 more'))
       (at_end (set vs id w) o u j there))
 
   -- one takes another in, which then answers for none
-  pub knows_meet : (vs : List (View M E)) (id other : ℕ) (v w x o : View M E) → get_elem? vs id ≡ some v → get_elem? vs other ≡ some w → ((p : ℕ) → IsAmong p (family x.who) → IsAmong p (family v.who) ⊎ IsAmong p (family w.who))
+  pub knows_meet : (vs : List (Knowledge M E)) (id other : ℕ) (v w x o : Knowledge M E) → get_elem? vs id ≡ some v → get_elem? vs other ≡ some w → ((p : ℕ) → IsAmong p (family x.who) → IsAmong p (family v.who) ⊎ IsAmong p (family w.who))
       → ((p : ℕ) → IsAmong p (family o.who) → ⊥) → v.made ≤ x.made → w.made ≤ x.made → (made : ℕ) → Knowing vs made → Knowing (set (set vs id x) other o) made
   knows_meet vs id other v w x o at at' fam none_of more more' = inherits vs (set (set vs id x) other o) (λ j u there p here. ⊎_elim
-      (λ (t : (j ≡ other) × (o ≡ u)). absurd (none_of p (subst (λ (y : View M E). IsAmong p (family y.who)) (sym t.1) here)))
+      (λ (t : (j ≡ other) × (o ≡ u)). absurd (none_of p (subst (λ (y : Knowledge M E). IsAmong p (family y.who)) (sym t.1) here)))
       (λ (t : (j ≢ other) × (get_elem? (set vs id x) j ≡ some u)). ⊎_elim
       (λ (q : (j ≡ id) × (x ≡ u)). ⊎_elim
-      (λ mine. (id, v, at, mine, subst (λ (y : View M E). v.made ≤ y.made) q.1 more))
-      (λ theirs. (other, w, at', theirs, subst (λ (y : View M E). w.made ≤ y.made) q.1 more')) (fam p (subst (λ (y : View M E). IsAmong p (family y.who)) (sym q.1) here)))
+      (λ mine. (id, v, at, mine, subst (λ (y : Knowledge M E). v.made ≤ y.made) q.1 more))
+      (λ theirs. (other, w, at', theirs, subst (λ (y : Knowledge M E). w.made ≤ y.made) q.1 more')) (fam p (subst (λ (y : Knowledge M E). IsAmong p (family y.who)) (sym q.1) here)))
       (λ (q : (j ≢ id) × (get_elem? vs j ≡ some u)). (j, u, q.1, here, (let z : u.made ≤ u.made = omega arith in z))) (at_set vs id j x u t.1)) (at_set (set vs id x) other j o u there))
 
   -- a number is drawn, by the view that answers for q
-  pub knows_draw : (vs : List (View M E)) (id : ℕ) (w : View M E) (made q : ℕ) → q < made → w.made ≡ made + 1 → ((j : ℕ) (u : View M E) → get_elem? vs j ≡ some u → IsAmong q (family u.who) → j ≡ id)
-      → ((j : ℕ) (u : View M E) → get_elem? vs j ≡ some u → IsAmong made (family u.who) → ⊥) → Knowing vs made → Knowing (set vs id w) (made + 1)
+  pub knows_draw : (vs : List (Knowledge M E)) (id : ℕ) (w : Knowledge M E) (made q : ℕ) → q < made → w.made ≡ made + 1 → ((j : ℕ) (u : Knowledge M E) → get_elem? vs j ≡ some u → IsAmong q (family u.who) → j ≡ id)
+      → ((j : ℕ) (u : Knowledge M E) → get_elem? vs j ≡ some u → IsAmong made (family u.who) → ⊥) → Knowing vs made → Knowing (set vs id w) (made + 1)
   knows_draw vs id w made q below grows only fresh b k less = dite (ℕ_discrete k made)
       (λ (is : k ≡ made). (
         moved k (λ j u far at here. absurd (fresh j u at (subst (λ (z : ℕ). IsAmong z (family u.who)) is here))),
@@ -104,17 +104,17 @@ module _ {M E : Type 0} where
         ⊎_elim inl (λ t. inr (t.0, t.1, moved t.0 (λ j u far at here. t.2 j u at here))) h.1,
       ))
     where
-      moved : (p : ℕ) → ((j : ℕ) (u : View M E) → j ≢ id → get_elem? vs j ≡ some u → IsAmong p (family u.who) → k < u.made) → Tells (set vs id w) p k
-      moved p others j u there here = ⊎_elim (λ (t : (j ≡ id) × (w ≡ u)). subst (λ (x : View M E). k < x.made) t.1 (omega (arith, less, grows))) (λ (t : (j ≢ id) × (get_elem? vs j ≡ some u)). others j u t.0 t.1 here)
+      moved : (p : ℕ) → ((j : ℕ) (u : Knowledge M E) → j ≢ id → get_elem? vs j ≡ some u → IsAmong p (family u.who) → k < u.made) → Tells (set vs id w) p k
+      moved p others j u there here = ⊎_elim (λ (t : (j ≡ id) × (w ≡ u)). subst (λ (x : Knowledge M E). k < x.made) t.1 (omega (arith, less, grows))) (λ (t : (j ≢ id) × (get_elem? vs j ≡ some u)). others j u t.0 t.1 here)
           (at_set vs id j w u there)
 
   -- where others are out, a seat that counts for one knows of a number that is none of its family's
-  pub one_is_missing : (made out : ℕ) (log : List (ℕ × E)) (vs : List (View M E)) → Books made out log (map (λ (v : View M E). v.who) vs) → Knowing vs made → (id : ℕ) (v : View M E) → get_elem? vs id ≡ some v → v.who.seated ≡ true → v.who.weight ≡ 1
+  pub one_is_missing : (made out : ℕ) (log : List (ℕ × E)) (vs : List (Knowledge M E)) → Books made out log (map (λ (v : Knowledge M E). v.who) vs) → Knowing vs made → (id : ℕ) (v : Knowledge M E) → get_elem? vs id ≡ some v → v.who.seated ≡ true → v.who.weight ≡ 1
       → v.made ≤ made → 0 < out → (k : ℕ) × (k < v.made) × (IsAmong k (family v.who) → ⊥)
   one_is_missing made out log vs b known id v at seated one less some_out = ⊎_elim (λ all. absurd (none_missing all)) (λ t. t) (seek (family v.who) v.made)
     where
-      at' : get_elem? (map (λ (x : View M E). x.who) vs) id ≡ some v.who
-      at' = at_map (λ (x : View M E). x.who) vs id v at
+      at' : get_elem? (map (λ (x : Knowledge M E). x.who) vs) id ≡ some v.who
+      at' = at_map (λ (x : Knowledge M E). x.who) vs id v at
 
       own : get_elem? (family v.who) 0 ≡ some (v.who.number, v.who.mine)
       own = ap (λ (f : List (ℕ × List E)). get_elem? f 0) (seated_family v.who seated)
@@ -129,4 +129,4 @@ module _ {M E : Type 0} where
           (λ t. let k : v.made < v.made = t.2 id v at (all t.0 t.1) in absurd (omega (arith, k))) h.1)
 
       none_missing : ((k : ℕ) → k < v.made → IsAmong k (family v.who)) → ⊥
-      none_missing all = let same = knows_all all in let t = another made out log (map (λ (x : View M E). x.who) vs) b id v.who at' one some_out in let below = t.1 in t.2 (all t.0 (omega (arith, below, same)))
+      none_missing all = let same = knows_all all in let t = another made out log (map (λ (x : Knowledge M E). x.who) vs) b id v.who at' one some_out in let below = t.1 in t.2 (all t.0 (omega (arith, below, same)))

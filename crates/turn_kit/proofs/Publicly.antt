@@ -4,8 +4,8 @@ use Rattle.turn_kit.specs.declared.seat.Seat.{Seat}
 use Rattle.turn_kit.specs.declared.note.Note.{Note}
 use Rattle.turn_kit.specs.declared.fault.ChangeFault.{ChangeFault}
 use Rattle.turn_kit.specs.declared.fault.ChangeFault.TheVariants.{Busy, Exhausted, Refused}
-use Rattle.turn_kit.specs.declared.view.View.{View}
-use Rattle.turn_kit.specs.declared.view.Stage.TheVariants.{Holds}
+use Rattle.turn_kit.specs.declared.knowledge.Knowledge.{Knowledge}
+use Rattle.turn_kit.specs.declared.knowledge.Stage.TheVariants.{Holds}
 use lib.ListN.{get_elem?}
 use Rattle.turn_kit.specs.History.{by, IsReplay}
 use Rattle.turn_kit.specs.Places.{Changed, Looked, Answered, Takes, WasSplit, WasFull, Heard, Joined}
@@ -32,13 +32,13 @@ module _ {M E S : Type 0} {g : _} (state : M → S) (next : S → E → Option S
     accepted = subst (λ (x : M). IsReplay state next x t.place.me.0.seen h.legal.0) same h.legal.1;
     ends = h.seen;
     grows = (h.between ++ (s.place.me.0.who.number, e) ∷ [], h.seen ∙ append_assoc s.place.me.0.seen h.between ((s.place.me.0.who.number, e) ∷ []));
-    gains = ap (λ (v : View M E). v.who.mine) h.same;
+    gains = ap (λ (v : Knowledge M E). v.who.mine) h.same;
     own = t.own;
     same = record {
-      same_number = ap (λ (v : View M E). v.who.number) h.same;
-      same_joined = ap (λ (v : View M E). v.who.joined) h.same;
-      same_sole = ap (λ (v : View M E). v.who.sole) h.same;
-      same_made = ap (λ (v : View M E). v.made) h.same;
+      same_number = ap (λ (v : Knowledge M E). v.who.number) h.same;
+      same_joined = ap (λ (v : Knowledge M E). v.who.joined) h.same;
+      same_sole = ap (λ (v : Knowledge M E). v.who.sole) h.same;
+      same_made = ap (λ (v : Knowledge M E). v.made) h.same;
     };
   }
 
@@ -48,13 +48,13 @@ module _ {M E S : Type 0} {g : _} (state : M → S) (next : S → E → Option S
     begins = (h.between, h.seen);
     replays = subst (λ (x : M). IsReplay state next x t.place.me.0.seen m) same h.found;
     answer = says;
-    same_mine = ap (λ (v : View M E). v.who.mine) h.same;
+    same_mine = ap (λ (v : Knowledge M E). v.who.mine) h.same;
     own = t.own;
     same = record {
-      same_number = ap (λ (v : View M E). v.who.number) h.same;
-      same_joined = ap (λ (v : View M E). v.who.joined) h.same;
-      same_sole = ap (λ (v : View M E). v.who.sole) h.same;
-      same_made = ap (λ (v : View M E). v.made) h.same;
+      same_number = ap (λ (v : Knowledge M E). v.who.number) h.same;
+      same_joined = ap (λ (v : Knowledge M E). v.who.joined) h.same;
+      same_sole = ap (λ (v : Knowledge M E). v.who.sole) h.same;
+      same_made = ap (λ (v : Knowledge M E). v.made) h.same;
     };
   }
 
@@ -90,55 +90,55 @@ module _ {M E S : Type 0} {g : _} (state : M → S) (next : S → E → Option S
     fresh = (
       subst (λ (z : ℕ × ℕ). z.0 ≤ z.1) (λ i. ((v i).made, sym nu i)) h.1,
       subst (λ (z : ℕ × ℕ). z.0 < z.1) (λ i. ((v i).who.number, sym nu i)) h.0.0,
-      subst (λ (z : ℕ × View M E). by z.0 z.1.seen ≡ []) (λ i. (sym nu i, v i)) h.0.1,
-      (λ i k es e. subst (λ (z : ℕ). k < z) (sym nu) (h.0.2 i k es (ap (λ (x : View M E). get_elem? x.who.joined i) v ∙ e))),
+      subst (λ (z : ℕ × Knowledge M E). by z.0 z.1.seen ≡ []) (λ i. (sym nu i, v i)) h.0.1,
+      (λ i k es e. subst (λ (z : ℕ). k < z) (sym nu) (h.0.2 i k es (ap (λ (x : Knowledge M E). get_elem? x.who.joined i) v ∙ e))),
     );
-    counted = (ap (λ (x : View M E). x.made) w ∙ ap (λ (z : ℕ). z + 1) (sym nu), ap (λ (m : Sat M E). m.0.made) h.4 ∙ ap (λ (z : ℕ). z + 1) (sym nu));
+    counted = (ap (λ (x : Knowledge M E). x.made) w ∙ ap (λ (z : ℕ). z + 1) (sym nu), ap (λ (m : Sat M E). m.0.made) h.4 ∙ ap (λ (z : ℕ). z + 1) (sym nu));
     room = subst (λ (z : ℕ). z < 4096) (sym nu) h.2;
-    new_seen = ap (λ (m : Sat M E). m.0.seen) h.4 ∙ ap (λ (x : View M E). x.seen) v;
+    new_seen = ap (λ (m : Sat M E). m.0.seen) h.4 ∙ ap (λ (x : Knowledge M E). x.seen) v;
     new_mine = ap (λ (m : Sat M E). m.0.who.mine) h.4;
     new_joined = ap (λ (m : Sat M E). m.0.who.joined) h.4;
-    apart = (ap (λ (x : View M E). x.who.sole) w, ap (λ (m : Sat M E). m.0.who.sole) h.4);
+    apart = (ap (λ (x : Knowledge M E). x.who.sole) w, ap (λ (m : Sat M E). m.0.who.sole) h.4);
     own = t.own;
     kept = (
-      ap (λ (x : View M E). x.who.number) w ∙ ap (λ (x : View M E). x.who.number) v,
-      ap (λ (x : View M E). x.seen) w ∙ ap (λ (x : View M E). x.seen) v,
-      ap (λ (x : View M E). x.who.mine) w ∙ ap (λ (x : View M E). x.who.mine) v,
-      ap (λ (x : View M E). x.who.joined) w ∙ ap (λ (x : View M E). x.who.joined) v,
+      ap (λ (x : Knowledge M E). x.who.number) w ∙ ap (λ (x : Knowledge M E). x.who.number) v,
+      ap (λ (x : Knowledge M E). x.seen) w ∙ ap (λ (x : Knowledge M E). x.seen) v,
+      ap (λ (x : Knowledge M E). x.who.mine) w ∙ ap (λ (x : Knowledge M E). x.who.mine) v,
+      ap (λ (x : Knowledge M E). x.who.joined) w ∙ ap (λ (x : Knowledge M E). x.who.joined) v,
     );
   }
 
   pub is_full : WasFull q.0 t.place.me.0 → IsFull s t
   is_full w = let v = was in record {
-    full = ap (λ (x : View M E). x.made) w;
+    full = ap (λ (x : Knowledge M E). x.made) w;
     kept = (
-      ap (λ (x : View M E). x.who.number) w ∙ ap (λ (x : View M E). x.who.number) v,
-      ap (λ (x : View M E). x.seen) w ∙ ap (λ (x : View M E). x.seen) v,
-      ap (λ (x : View M E). x.who.mine) w ∙ ap (λ (x : View M E). x.who.mine) v,
-      ap (λ (x : View M E). x.who.joined) w ∙ ap (λ (x : View M E). x.who.joined) v,
-      ap (λ (x : View M E). x.who.sole) w ∙ ap (λ (x : View M E). x.who.sole) v,
+      ap (λ (x : Knowledge M E). x.who.number) w ∙ ap (λ (x : Knowledge M E). x.who.number) v,
+      ap (λ (x : Knowledge M E). x.seen) w ∙ ap (λ (x : Knowledge M E). x.seen) v,
+      ap (λ (x : Knowledge M E). x.who.mine) w ∙ ap (λ (x : Knowledge M E). x.who.mine) v,
+      ap (λ (x : Knowledge M E). x.who.joined) w ∙ ap (λ (x : Knowledge M E). x.who.joined) v,
+      ap (λ (x : Knowledge M E). x.who.sole) w ∙ ap (λ (x : Knowledge M E). x.who.sole) v,
     );
   }
 
 module _ {M E : Type 0} {g : _} (s t : Seat M E g) where
   pub hears : (n : Note M E g) → Heard s.place.me.0 t.place.me.0 n.place.me.0.seen n.place.me.0.made → Hears s t n
   hears n h = let w = h.0 in record {
-    whole = ap (λ (x : View M E). x.seen) w;
+    whole = ap (λ (x : Knowledge M E). x.seen) w;
     begins = h.1;
     heard = h.2;
-    counted = ap (λ (x : View M E). x.made) w;
+    counted = ap (λ (x : Knowledge M E). x.made) w;
     own = t.own;
-    kept = (ap (λ (x : View M E). x.who.number) w, ap (λ (x : View M E). x.who.mine) w, ap (λ (x : View M E). x.who.joined) w, ap (λ (x : View M E). x.who.sole) w);
+    kept = (ap (λ (x : Knowledge M E). x.who.number) w, ap (λ (x : Knowledge M E). x.who.mine) w, ap (λ (x : Knowledge M E). x.who.joined) w, ap (λ (x : Knowledge M E). x.who.sole) w);
   }
 
   pub joins : (u : Seat M E g) → Joined s.place.me.0 t.place.me.0 u.place.me.0 → Joins s t u
   joins u h = let w = h.0 in record {
-    gains = ap (λ (x : View M E). x.who.joined) w;
+    gains = ap (λ (x : Knowledge M E). x.who.joined) w;
     apart = h.3;
-    whole = ap (λ (x : View M E). x.seen) w;
+    whole = ap (λ (x : Knowledge M E). x.seen) w;
     begins = h.1;
     brought = h.2;
-    counted = ap (λ (x : View M E). x.made) w;
+    counted = ap (λ (x : Knowledge M E). x.made) w;
     own = t.own;
-    kept = (ap (λ (x : View M E). x.who.number) w, ap (λ (x : View M E). x.who.mine) w, ap (λ (x : View M E). x.who.sole) w);
+    kept = (ap (λ (x : Knowledge M E). x.who.number) w, ap (λ (x : Knowledge M E). x.who.mine) w, ap (λ (x : Knowledge M E). x.who.sole) w);
   }

@@ -10,13 +10,13 @@ use lib.ListN.{get_elem?}
 use lib.Seq.{set-get_or, map-set}
 use Rattle.atomic_table.specs.Table.{Final, Seen, State, Me, step, keeps, Allows, Splits, Joins, opening}
 use Rattle.atomic_table.proofs.Lists.{set_else, set_again, at_snoc, at_map, at_longer, at_last}
-use Rattle.turn_kit.specs.declared.view.View.{View}
-use Rattle.turn_kit.specs.declared.view.Who.{Who}
-use Rattle.turn_kit.specs.declared.view.Stage.{Stage}
-use Rattle.turn_kit.specs.declared.view.Stage.TheVariants.{Idle, Holds}
+use Rattle.turn_kit.specs.declared.knowledge.Knowledge.{Knowledge}
+use Rattle.turn_kit.specs.declared.knowledge.Who.{Who}
+use Rattle.turn_kit.specs.declared.knowledge.Stage.{Stage}
+use Rattle.turn_kit.specs.declared.knowledge.Stage.TheVariants.{Idle, Holds}
 use Rattle.turn_kit.specs.History.{IsReplay, Apart, IsAmong, AreOthers}
-use Rattle.turn_kit.specs.Rule.{weight, claim, unmade, family, total, Books, Knowing, Knows, Slot, Ruled, first_who, opening_view}
-use Rattle.turn_kit.specs.Steps.{looked, drew, counted_out, stayed, split_off, note_of, both_of, nobody, newcomer, at_first, compared, joined_in, closing, IsFresh}
+use Rattle.turn_kit.specs.Rule.{weight, claim, unmade, family, total, Books, Knowing, Knows, Slot, Ruled, first_who, opening_knowledge}
+use Rattle.turn_kit.specs.Steps.{looked, drew, counted_out, after_split, newcomer_of, note_of, both_of, nobody, newcomer, at_first, compared, joined_in, closing, IsFresh}
 use Rattle.turn_kit.specs.Places.{ClosedWith}
 use Rattle.turn_kit.proofs.Lists.{each_moves}
 use Rattle.turn_kit.proofs.Families.{balances}
@@ -30,7 +30,7 @@ use Rattle.turn_kit.proofs.Keeps.{slot_moves, with_views}
 
 module _ {M E S : Type 0} (state : M → S) (next : S → E → Option S) (start : M) (limit : ℕ) where
   abbrev V : Type 0
-  V = View M E
+  V = Knowledge M E
 
   abbrev St : Type 0
   St = State M V
@@ -51,7 +51,7 @@ module _ {M E S : Type 0} (state : M → S) (next : S → E → Option S) (start
   who v = v.who
 
   -- the table at first
-  pub starts : 0 < limit → limit ≤ 4611686018427387904 → Rule (opening (0 ∷ 0 ∷ 1 ∷ 0 ∷ []) (start ∷ []) (opening_view start limit))
+  pub starts : 0 < limit → limit ≤ 4611686018427387904 → Rule (opening (0 ∷ 0 ∷ 1 ∷ 0 ∷ []) (start ∷ []) (opening_knowledge start limit))
   starts some_room most = record {
     turn = 0;
     made = 1;
@@ -80,8 +80,8 @@ module _ {M E S : Type 0} (state : M → S) (next : S → E → Option S) (start
       zero_is : (k : ℕ) → k < 1 → 0 ≡ k
       zero_is k less = omega arith
 
-      only : (j : ℕ) (v : V) → get_elem? (opening_view start limit ∷ []) j ≡ some v → (P : ℕ → V → Type 0) → P 0 (opening_view start limit) → P j v
-      only zero v e P h = subst (P 0) (some-injective (opening_view start limit) v e) h
+      only : (j : ℕ) (v : V) → get_elem? (opening_knowledge start limit ∷ []) j ≡ some v → (P : ℕ → V → Type 0) → P 0 (opening_knowledge start limit) → P j v
+      only zero v e P h = subst (P 0) (some-injective (opening_knowledge start limit) v e) h
       only (suc j) v e P h = absurd (some-ne-none v (sym e))
 
       zero_of : (j : ℕ) (w : Who E) → get_elem? (first_who ∷ []) j ≡ some w → j ≡ 0
@@ -228,8 +228,8 @@ module _ {M E S : Type 0} (state : M → S) (next : S → E → Option S) (start
       claims_more (y ∷ ys) zero x e more = let q : y.credit ≡ x.credit = ap (λ (z : Who E). z.credit) (some-injective y x e) in let h = weighs_less ys in let a : y.weight + total weight ys < (y.weight + y.credit) + total claim ys = omega arith in a
       claims_more (y ∷ ys) (suc i) x e more = let h = claims_more ys i x e more in let a : y.weight + total weight ys < (y.weight + y.credit) + total claim ys = omega arith in a
 
-  pub cuts : (id : ℕ) (v : V) (n : ℕ) → v.who.seated ≡ true → v.who.drawn ≡ n ∷ [] → v.who.sole ≡ false → v.who.weight ≡ 2 → v.who.credit ≡ 0 → Splits Rule id v (stayed v) (split_off v)
-  cuts id v n seated drew_it not_sole two no_credit s r at = let k = r.each id v at in let w : V = stayed v in let o : V = split_off v in (with_views state next start limit s r (set s.views id w ++ o ∷ [])
+  pub cuts : (id : ℕ) (v : V) (n : ℕ) → v.who.seated ≡ true → v.who.drawn ≡ n ∷ [] → v.who.sole ≡ false → v.who.weight ≡ 2 → v.who.credit ≡ 0 → Splits Rule id v (after_split v) (newcomer_of v)
+  cuts id v n seated drew_it not_sole two no_credit s r at = let k = r.each id v at in let w : V = after_split v in let o : V = newcomer_of v in (with_views state next start limit s r (set s.views id w ++ o ∷ [])
       (slot_longer r.turn r.holder r.log s.homes (set s.views id w) o (slot_moves state next start limit s r id v w at refl (λ l' n' is'. (n', is'))))
       (λ j u e. ⊎_elim
       (each_moves (K r.turn r.made r.holder r.log) s.views id w record { started = k.started; saw = k.saw; told = k.told; held = k.held; counted = k.counted } (λ j u other z. r.each j u z) j u)

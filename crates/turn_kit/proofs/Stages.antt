@@ -1,8 +1,8 @@
 -- Who holds the turn, as far as a stage says.
 use Rattle.std.proofs.Common.{◌≡◌, ◌≢◌, ℕ, ◌<◌, List, sym, ◌∙◌, subst, arith}
 use Rattle.turn_kit.specs.Rule.{Held}
-use Rattle.turn_kit.specs.declared.view.Stage.{Stage}
-use Rattle.turn_kit.specs.declared.view.Stage.TheVariants.{Idle, Holds}
+use Rattle.turn_kit.specs.declared.knowledge.Stage.{Stage}
+use Rattle.turn_kit.specs.declared.knowledge.Stage.TheVariants.{Idle, Holds}
 
 module _ {E : Type 0} where
   -- while nobody holds the turn, no view does

@@ -3,11 +3,11 @@ use Rattle.std.specs.Prelude.{◌≡◌, ◌≢◌, ◌↔◌, ℕ, max, true, f
 use Rattle.atomic_table.specs.declared.shared.Seat.{Seat as Place}
 use Rattle.turn_kit.specs.declared.fault.ChangeFault.{ChangeFault}
 use Rattle.turn_kit.specs.declared.fault.ChangeFault.TheVariants.{Busy, Exhausted, Refused}
-use Rattle.turn_kit.specs.declared.view.View.{View}
-use Rattle.turn_kit.specs.declared.view.Who.{Who}
+use Rattle.turn_kit.specs.declared.knowledge.Knowledge.{Knowledge}
+use Rattle.turn_kit.specs.declared.knowledge.Who.{Who}
 use Rattle.turn_kit.specs.declared.board.Terms.{Terms}
 use Rattle.atomic_table.specs.Seated.{TableId}
-use Rattle.turn_kit.specs.declared.view.Stage.TheVariants.{Idle, Holds}
+use Rattle.turn_kit.specs.declared.knowledge.Stage.TheVariants.{Idle, Holds}
 use mathlib.Core.Option.{some}
 use lib.ListN.{get_elem?}
 use Rattle.turn_kit.specs.History.{by, StartsWith, IsReplay, IsAmong, Apart, longer, weigh_log, weigh_all}
@@ -23,26 +23,26 @@ HasDrawn w = (w.seated ≡ true) × (w.weight ≡ 1) × (w.credit ≡ 1) × (0 <
 
 module _ {M E : Type 0} where
   -- a seat that holds nothing and has nothing in hand
-  abbrev pub idled : Place M (View M E) → Place M (View M E)
-  idled p = record p { me = (record p.me.0 { stage = Idle; who = idle_who p.me.0.who }, []) }
+  abbrev pub as_idle : Place M (Knowledge M E) → Place M (Knowledge M E)
+  as_idle p = record p { me = (record p.me.0 { stage = Idle; who = idle_who p.me.0.who }, []) }
 
   -- a note
-  abbrev pub noted : Place M (View M E) → Place M (View M E)
-  noted p = record p { me = (note_of p.me.0.seen p.me.0.made, []) }
+  abbrev pub as_note : Place M (Knowledge M E) → Place M (Knowledge M E)
+  as_note p = record p { me = (note_of p.me.0.seen p.me.0.made, []) }
 
   -- the seat is at the table of a turn
-  abbrev pub IsAt : TableId → Place M (View M E) → Type 0
+  abbrev pub IsAt : TableId → Place M (Knowledge M E) → Type 0
   IsAt z p = (p.table_id ≡ z) × IsSized z
 
-  abbrev pub IsIdle : Place M (View M E) → Type 0
-  IsIdle p = p ≡ idled p
+  abbrev pub IsIdle : Place M (Knowledge M E) → Type 0
+  IsIdle p = p ≡ as_idle p
 
   -- its own entries are those of its number in what it has seen
-  abbrev pub Owns : View M E → Type 0
+  abbrev pub Owns : Knowledge M E → Type 0
   Owns v = by v.who.number v.seen ≡ v.who.mine
 
   -- the table and the seat are the same, whatever it knows
-  abbrev pub IsSamePlace : Place M (View M E) → Place M (View M E) → Type 0
+  abbrev pub IsSamePlace : Place M (Knowledge M E) → Place M (Knowledge M E) → Type 0
   IsSamePlace p q = (q.table_id ≡ p.table_id) × (q.id ≡ p.id)
 
   -- the holder may add an entry
@@ -70,6 +70,10 @@ module _ {M E S : Type 0} (state : M → S) (next : S → E → Option S) where
   -- the machine in hand is what the history makes of the first one
   abbrev pub IsWhole : Sat M E → Type 0
   IsWhole m = (l : List (ℕ × E)) × (n : ℕ) × (a : M) × (x : M) × (m.0.stage ≡ Holds l n) × (m.1 ≡ (0, x) ∷ []) × (m.0.start ≡ Some a) × IsReplay state next a l x
+
+  -- each machine that a history makes of the first one meets the premise
+  abbrev pub AllMeet : M → (M → Type 0) → Type 0
+  AllMeet start premise = (log : List (ℕ × E)) (m : M) → IsReplay state next start log m → premise m
 
   -- a seat at rest has the turn, with the machine in hand; what it had seen begins the history
   pub record HasTurn (m : Sat M E) : Type 0 where
@@ -119,7 +123,7 @@ module _ {M E S : Type 0} (state : M → S) (next : S → E → Option S) where
 
   -- The view w after a change with the entry e, made of the machine m: what was seen before begins what is seen now, which ends with the entry
   -- and is a legal history; m is the machine before the entry. The seat's own entries have gained it.
-  pub record Changed (v w : View M E) (e : E) (m : M) : Type 0 where
+  pub record Changed (v w : Knowledge M E) (e : E) (m : M) : Type 0 where
     pub start : M
     pub between : List (ℕ × E)
     pub from : v.start ≡ Some start
@@ -130,7 +134,7 @@ module _ {M E S : Type 0} (state : M → S) (next : S → E → Option S) where
     pub same : w ≡ record v { stage = Idle; seen = w.seen; who = record v.who { mine = v.who.mine ++ e ∷ [] } }
 
   -- The view w after the machine was found to be m: what was seen before begins what is seen now, whose machine is m.
-  pub record Looked (v w : View M E) (m : M) : Type 0 where
+  pub record Looked (v w : Knowledge M E) (m : M) : Type 0 where
     pub start : M
     pub between : List (ℕ × E)
     pub from : v.start ≡ Some start
@@ -157,30 +161,30 @@ module _ {M E S : Type 0} (state : M → S) (next : S → E → Option S) where
     pub weighs : (f : E → ℕ) → weigh_log f history ≡ weigh_all f family
 
   -- a change's answer, where `busy` is what `Busy` says
-  abbrev pub Answered : {Reply Refusal : Type 0} → Type 0 → View M E → View M E → E → (M → Reply → Type 0) → (M → Refusal → Type 0) → Result Reply (ChangeFault Refusal) → Type 0
+  abbrev pub Answered : {Reply Refusal : Type 0} → Type 0 → Knowledge M E → Knowledge M E → E → (M → Reply → Type 0) → (M → Refusal → Type 0) → Result Reply (ChangeFault Refusal) → Type 0
   Answered busy v w e replies refuses (Ok r) = (m : M) × Changed v w e m × replies m r
   Answered busy v w e replies refuses (Err Busy) = busy
   Answered busy v w e replies refuses (Err Exhausted) = ((m : M) × Looked v w m) × (length w.seen ≡ v.limit)
   Answered busy v w e replies refuses (Err (Refused r)) = ((m : M) × Looked v w m × refuses m r) × (length w.seen < v.limit)
 
 -- the seat v made a seat with the number n, which neither it nor what it has seen knew of
-abbrev pub WasSplit : {M E : Type 0} → ℕ → View M E → View M E → Sat M E → Type 0
+abbrev pub WasSplit : {M E : Type 0} → ℕ → Knowledge M E → Knowledge M E → Sat M E → Type 0
 WasSplit n v w new = IsFresh n v.who v.seen × (v.made ≤ n) × (n < 4096) × (w ≡ record v { stage = Idle; made = n + 1; who = record v.who { sole = false } })
     × (new ≡ (record { start = v.start; limit = v.limit; stage = Idle; who = newcomer n; seen = v.seen; ours = []; theirs = []; made = n + 1; told_out = 0 }, []))
 
 -- the seat v was told that the turn has made as many seats as it may
-abbrev pub WasFull : {M E : Type 0} → View M E → View M E → Type 0
+abbrev pub WasFull : {M E : Type 0} → Knowledge M E → Knowledge M E → Type 0
 WasFull v w = w ≡ record v { stage = Idle; made = 4096 }
 
 -- the seat is of this turn
-abbrev pub IsSeatOf : {M E : Type 0} → TableId → Terms M → Place M (View M E) → Type 0
+abbrev pub IsSeatOf : {M E : Type 0} → TableId → Terms M → Place M (Knowledge M E) → Type 0
 IsSeatOf z terms p = (p.table_id ≡ z) × (p.me.0.start ≡ Some terms.start.value) × (p.me.0.limit ≡ terms.limit)
 
 -- the view w after the seat v heard what begins with `told`
-abbrev pub Heard : {M E : Type 0} → View M E → View M E → List (ℕ × E) → ℕ → Type 0
+abbrev pub Heard : {M E : Type 0} → Knowledge M E → Knowledge M E → List (ℕ × E) → ℕ → Type 0
 Heard v w told made = (w ≡ record v { seen = longer v.seen told; ours = v.seen; theirs = told; made = max v.made made }) × StartsWith w.seen v.seen × StartsWith w.seen told
 
 -- the view w after the seat u was joined into v
-abbrev pub Joined : {M E : Type 0} → View M E → View M E → View M E → Type 0
+abbrev pub Joined : {M E : Type 0} → Knowledge M E → Knowledge M E → Knowledge M E → Type 0
 Joined v w u = (w ≡ record v { seen = longer v.seen u.seen; ours = v.seen; theirs = u.seen; made = max v.made u.made; who = record v.who { joined = v.who.joined ++ (u.who.number, u.who.mine) ∷ u.who.joined } })
     × StartsWith w.seen v.seen × StartsWith w.seen u.seen × Apart ((w.who.number, w.who.mine) ∷ w.who.joined)

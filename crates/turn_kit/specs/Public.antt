@@ -62,11 +62,11 @@ module _ {M E : Type 0} {g : _} where
   family s = (number s, mine s) ∷ joined s
 
   -- what a note says was seen, and how many seats it says were made
-  abbrev pub told : Note M E g → List (ℕ × E)
-  told n = n.place.me.0.seen
+  abbrev pub seen_in : Note M E g → List (ℕ × E)
+  seen_in n = n.place.me.0.seen
 
-  abbrev pub told_made : Note M E g → ℕ
-  told_made n = n.place.me.0.made
+  abbrev pub made_in : Note M E g → ℕ
+  made_in n = n.place.me.0.made
 
   -- the seat is of this turn
   abbrev pub IsOf : {G : Type 0} → Turn M G E → Seat M E g → Type 0
@@ -125,10 +125,10 @@ module _ {M E : Type 0} {g : _} where
 
   -- the seat s, which is t then, has heard the note
   pub record Hears (s t : Seat M E g) (n : Note M E g) : Type 0 where
-    pub whole : seen t ≡ longer (seen s) (told n)
+    pub whole : seen t ≡ longer (seen s) (seen_in n)
     pub begins : StartsWith (seen t) (seen s)
-    pub heard : StartsWith (seen t) (told n)
-    pub counted : made t ≡ max (made s) (told_made n)
+    pub heard : StartsWith (seen t) (seen_in n)
+    pub counted : made t ≡ max (made s) (made_in n)
     pub own : by (number t) (seen t) ≡ mine t
     pub kept : (number t ≡ number s) × (mine t ≡ mine s) × (joined t ≡ joined s) × (sole t ≡ sole s)
 

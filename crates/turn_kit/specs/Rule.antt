@@ -4,10 +4,10 @@ use mathlib.Core.Option.{some, none}
 use mathlib.Core.Option as maybe
 use lib.ListN.{get_elem?}
 use Rattle.atomic_table.specs.Table.{State}
-use Rattle.turn_kit.specs.declared.view.View.{View}
-use Rattle.turn_kit.specs.declared.view.Who.{Who}
-use Rattle.turn_kit.specs.declared.view.Stage.{Stage}
-use Rattle.turn_kit.specs.declared.view.Stage.TheVariants.{Idle, Holds}
+use Rattle.turn_kit.specs.declared.knowledge.Knowledge.{Knowledge}
+use Rattle.turn_kit.specs.declared.knowledge.Who.{Who}
+use Rattle.turn_kit.specs.declared.knowledge.Stage.{Stage}
+use Rattle.turn_kit.specs.declared.knowledge.Stage.TheVariants.{Idle, Holds}
 use Rattle.turn_kit.specs.History.{by, StartsWith, IsReplay, IsAmong}
 
 module _ {E : Type 0} where
@@ -53,17 +53,17 @@ module _ {E : Type 0} where
 
 module _ {M E : Type 0} where
   -- whoever answers for the number p knows that k was given
-  abbrev pub Tells : List (View M E) → ℕ → ℕ → Type 0
-  Tells views p k = (j : ℕ) (v : View M E) → get_elem? views j ≡ some v → IsAmong p (family v.who) → k < v.made
+  abbrev pub Tells : List (Knowledge M E) → ℕ → ℕ → Type 0
+  Tells views p k = (j : ℕ) (v : Knowledge M E) → get_elem? views j ≡ some v → IsAmong p (family v.who) → k < v.made
 
   -- whoever answers for a number knows that it was given; and of each but the first, so does whoever answers for a certain lower one: that of the
   -- seat that it was split off
-  abbrev pub Knowing : List (View M E) → ℕ → Type 0
+  abbrev pub Knowing : List (Knowledge M E) → ℕ → Type 0
   Knowing views made = (k : ℕ) → k < made → Tells views k k × ((k ≡ 0) ⊎ ((p : ℕ) × (p < k) × Tells views p k))
 
 module _ {M E S : Type 0} (state : M → S) (next : S → E → Option S) (start : M) (limit : ℕ) where
   -- what each view knows is so
-  pub record Knows (turn made holder : ℕ) (log : List (ℕ × E)) (j : ℕ) (v : View M E) : Type 0 where
+  pub record Knows (turn made holder : ℕ) (log : List (ℕ × E)) (j : ℕ) (v : Knowledge M E) : Type 0 where
     pub started : v.who.seated ≡ true → (v.start ≡ Some start) × (v.limit ≡ limit)
     pub saw : StartsWith log v.seen
     pub told : StartsWith v.seen v.ours × StartsWith v.seen v.theirs
@@ -71,12 +71,12 @@ module _ {M E S : Type 0} (state : M → S) (next : S → E → Option S) (start
     pub counted : v.made ≤ made
 
   -- the machine is at home and is what the history makes of the first one, or a seat holds the turn
-  abbrev pub Slot : ℕ → ℕ → List (ℕ × E) → List (maybe.Option M) → List (View M E) → Type 0
+  abbrev pub Slot : ℕ → ℕ → List (ℕ × E) → List (maybe.Option M) → List (Knowledge M E) → Type 0
   Slot turn holder log homes views = ((turn ≡ 0) × ((m : M) × (homes ≡ some m ∷ []) × IsReplay state next start log m))
-      ⊎ ((0 < turn) × (homes ≡ none ∷ []) × ((v : View M E) × (get_elem? views holder ≡ some v) × ((l : List (ℕ × E)) × (n : ℕ) × (v.stage ≡ Holds l n)) × (v.who.seated ≡ true)))
+      ⊎ ((0 < turn) × (homes ≡ none ∷ []) × ((v : Knowledge M E) × (get_elem? views holder ≡ some v) × ((l : List (ℕ × E)) × (n : ℕ) × (v.stage ≡ Holds l n)) × (v.who.seated ≡ true)))
 
   -- There is one legal history, as long as the second word says; the machine in the slot is what it makes of the first one.
-  pub record Ruled (s : State M (View M E)) : Type 0 where
+  pub record Ruled (s : State M (Knowledge M E)) : Type 0 where
     pub turn : ℕ
     pub made : ℕ
     pub out : ℕ
@@ -86,13 +86,13 @@ module _ {M E S : Type 0} (state : M → S) (next : S → E → Option S) (start
     pub room : length log ≤ limit
     pub small : (limit ≤ 4611686018427387904) × (made ≤ 4096)
     pub slot : Slot turn holder log s.homes s.views
-    pub each : (j : ℕ) (v : View M E) → get_elem? s.views j ≡ some v → Knows turn made holder log j v
-    pub books : Books made out log (map (λ (v : View M E). v.who) s.views)
+    pub each : (j : ℕ) (v : Knowledge M E) → get_elem? s.views j ≡ some v → Knows turn made holder log j v
+    pub books : Books made out log (map (λ (v : Knowledge M E). v.who) s.views)
     pub known : Knowing s.views made
 
 -- the first seat
 abbrev pub first_who : {E : Type 0} → Who E
 first_who = record { seated = true; sole = true; number = 0; mine = []; joined = []; drawn = []; weight = 1; credit = 0 }
 
-abbrev pub opening_view : {M E : Type 0} → M → ℕ → View M E
-opening_view m limit = record { start = Some m; limit = limit; stage = Idle; who = first_who; seen = []; ours = []; theirs = []; made = 1; told_out = 0 }
+abbrev pub opening_knowledge : {M E : Type 0} → M → ℕ → Knowledge M E
+opening_knowledge m limit = record { start = Some m; limit = limit; stage = Idle; who = first_who; seen = []; ours = []; theirs = []; made = 1; told_out = 0 }

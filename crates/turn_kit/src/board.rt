@@ -2,8 +2,8 @@
 //!
 //! Its words are the turn (free, held, or held and awaited), the number of changes, the seats made and the
 //! seats out. Its one slot has the machine, which is at home while the turn is free.
+use crate::knowledge::Knowledge;
 use crate::machine::Machine;
-use crate::view::View;
 use atomic_table::{Table, TableRule};
 use std::alloc::Global;
 use std::snapshot::Snapshot;
@@ -28,18 +28,18 @@ pub struct Terms<M> {
 
 pub struct TurnRule;
 
-impl<M: Machine> TableRule<M, View<M, M::Entry>, Terms<M>> for TurnRule {
-    ghost use Rattle.turn_kit.specs.Rule.{Ruled, opening_view};
+impl<M: Machine> TableRule<M, Knowledge<M, M::Entry>, Terms<M>> for TurnRule {
+    ghost use Rattle.turn_kit.specs.Rule.{Ruled, opening_knowledge};
 
     ghost holds = { λ terms. Ruled M.state M.after terms.start.value terms.limit };
 
-    ghost first = { λ terms. opening_view terms.start.value terms.limit };
+    ghost first = { λ terms. opening_knowledge terms.start.value terms.limit };
 }
 
-pub type Board<M> = Table<M, View<M, <M as Machine>::Entry>, Terms<M>, TurnRule, Global>;
+pub type Board<M> = Table<M, Knowledge<M, <M as Machine>::Entry>, Terms<M>, TurnRule, Global>;
 
 /// A seat or a note at the table.
-pub type Place<M> = atomic_table::Seat<M, View<M, <M as Machine>::Entry>>;
+pub type Place<M> = atomic_table::Seat<M, Knowledge<M, <M as Machine>::Entry>>;
 
 /// The part of the table that threads share.
-pub type Top<M> = atomic_table::Shared<M, View<M, <M as Machine>::Entry>, Terms<M>, TurnRule>;
+pub type Top<M> = atomic_table::Shared<M, Knowledge<M, <M as Machine>::Entry>, Terms<M>, TurnRule>;

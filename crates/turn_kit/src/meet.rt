@@ -1,6 +1,6 @@
 //! The calls by which a seat learns what another has seen. They take no memory and are never refused.
 ghost use Rattle.std.specs.Prelude.{◌≡◌};
-ghost use Rattle.turn_kit.specs.Public.{IsOf, IsNoteOf, IsUnchanged, Hears, Joins, seen, made, told, told_made};
+ghost use Rattle.turn_kit.specs.Public.{IsOf, IsNoteOf, IsUnchanged, Hears, Joins, seen, made, seen_in, made_in};
 
 use crate::board::{CHANGES, OUT};
 use crate::machine::Machine;
@@ -16,7 +16,7 @@ impl<M: Machine, G> Turn<M, G> {
         ensures seat { IsOf self.now seat.new }
         ensures unchanged { IsUnchanged seat.old seat.new }
         ensures note { IsNoteOf self.now result }
-        ensures value { (told result ≡ seen seat.old) × (told_made result ≡ made seat.old) }
+        ensures value { (seen_in result ≡ seen seat.old) × (made_in result ≡ made seat.old) }
     {
         let place = self.board.shared.split_seat::<Tell>(&mut seat.place);
         Note { place }

@@ -1,6 +1,6 @@
 //! Notes.
 ghost use Rattle.std.specs.Prelude.{◌≡◌};
-ghost use Rattle.turn_kit.specs.Places.{noted};
+ghost use Rattle.turn_kit.specs.Places.{as_note};
 
 use crate::board::Place;
 use crate::machine::Machine;
@@ -11,5 +11,5 @@ use crate::machine::Machine;
 #[derive(Drop)]
 pub struct Note<M: Machine> {
     pub(crate) place: Place<M>,
-    ghost idle: { place ≡ noted place },
+    ghost idle: { place ≡ as_note place },
 }

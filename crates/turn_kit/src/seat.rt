@@ -1,6 +1,6 @@
 //! Seats.
 ghost use Rattle.std.specs.Prelude.{◌≡◌};
-ghost use Rattle.turn_kit.specs.Places.{idled, Owns};
+ghost use Rattle.turn_kit.specs.Places.{as_idle, Owns};
 
 use crate::board::Place;
 use crate::machine::Machine;
@@ -12,7 +12,7 @@ use crate::machine::Machine;
 #[derive(Drop)]
 pub struct Seat<M: Machine> {
     pub(crate) place: Place<M>,
-    ghost idle: { place ≡ idled place },
+    ghost idle: { place ≡ as_idle place },
     // It has seen all its entries, each once.
     ghost own: { Owns place.me.0 },
 }

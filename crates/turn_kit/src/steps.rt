@@ -1,6 +1,6 @@
 //! The atomic steps of a turn. Each function makes one, on one word of the table.
 ghost use Rattle.std.specs.Prelude.{◌≡◌, [], true, Some};
-ghost use Rattle.turn_kit.specs.declared.view.Stage.TheVariants.{Idle};
+ghost use Rattle.turn_kit.specs.declared.knowledge.Stage.TheVariants.{Idle};
 ghost use Rattle.turn_kit.specs.Places.{IsAt, IsIdle, IsSamePlace, Asked, HasTurn, Found};
 ghost use Rattle.turn_kit.specs.Places.{HasRoom, Grows, IsWhole, IsMade, HasPlace, Draws, HasDrawn};
 

@@ -24,7 +24,7 @@ const ASKS: u32 = 100;
 ///
 /// A turn is mostly held for less than it takes to fall asleep and wake, so a thread asks some times first and
 /// gives way each time, that the holder may run. Then it sleeps until the turn is given back.
-fn ask_until<M: Machine, R: Wait>(rt: &R, top: &Top<M>, place: &mut Place<M>)
+pub(crate) fn ask_until<M: Machine, R: Wait>(rt: &R, top: &Top<M>, place: &mut Place<M>)
     requires place { IsAt top.now.table_id place.old }
     requires idle { IsIdle place.old }
     ensures place { IsSamePlace place.old place.new }

@@ -1,3 +1,4 @@
+pub mod Absorbed
 pub mod Covered
 pub mod Gossiped
 pub mod Limited

@@ -1,3 +1,4 @@
+pub mod Commanding
 pub mod Exporting
 pub mod Plans
 pub mod Pushing

@@ -1,6 +1,6 @@
 -- The instruments and views of the callers' plans.
 use Rattle.std.specs.Prelude.{ℕ, List, [], ◌∷◌, None, Some, codes}
-use Rattle.attr_kit.specs.AllowLists.{allowed}
+use Rattle.attr_kit.specs.AllowLists.{listed_keys}
 use Rattle.attr_kit.specs.declared.keep.Keep.TheVariants as keeps
 use Rattle.plan_kit.specs.declared.instrument.Instrument.{Instrument}
 use Rattle.plan_kit.specs.declared.instrument.Kind.TheVariants as kinds
@@ -14,4 +14,4 @@ requests = record { scope = codes "app"; name = codes "requests"; unit = codes "
 
 -- a view that keeps, of the attributes of `requests`, the key `route` alone
 abbrev pub by_route : View
-by_route = record { name = rules.Exact (codes "requests"); kind = None; scope = None; rename = None; keep = keeps.Only (allowed (codes "route" ∷ [])); aggregation = ways.Default }
+by_route = record { name = rules.Exact (codes "requests"); kind = None; scope = None; rename = None; keep = keeps.Only (listed_keys (codes "route" ∷ [])); aggregation = ways.Default }

@@ -1,9 +1,9 @@
 //! Attributes of a recording.
-ghost use Rattle.std.specs.Prelude.{◌≡◌, ◌∷◌, ◌<◌, [], None, Some, IfOk, IfSome, codes, length};
+ghost use Rattle.std.specs.Prelude.{◌≡◌, ◌∷◌, ◌<◌, [], None, Some, IfOk, IfSome, true, codes, length};
 ghost use Rattle.attr_kit.specs.Putting.{value_of};
 ghost use Rattle.attr_kit.specs.declared.attr_value.AttrValue.TheVariants as values;
 
-use attr_kit::{AttrFault, AttrSet, AttrValue, NoMemory, Seq, ShortText, TryCopy, Txt};
+use attr_kit::{AttrFault, AttrSet, AttrValue, Exact, NoMemory, Seq, ShortText, TryCopy, Txt};
 use std::alloc::Global;
 
 // The pairs of a request, in the order in which a caller has them.
@@ -37,4 +37,12 @@ pub fn in_place(text: &Txt) -> Option<&ShortText>
     ensures long { result ≡ None → 30 < length text.now }
 {
     text.short()
+}
+
+/// Whether two values are one, as texts, sets and keys are that `==` finds equal.
+pub fn is_one<T: Exact>(value: &T, other: &T) -> bool
+    ensures same { result ≡ true → value.now ≡ other.now }
+    ensures found { value.now ≡ other.now → result ≡ true }
+{
+    value == other
 }

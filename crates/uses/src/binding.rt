@@ -6,7 +6,7 @@ ghost use Rattle.agg_kit.specs.Measuring.{after_measure};
 ghost use Rattle.writer_kit.specs.BoundPoints.{IsAtHome};
 ghost use Rattle.writer_kit.specs.Recording.{recorded};
 
-use agg_kit::{Bound, MeasureFault, Tally};
+use agg_kit::{Bound, Tally, TallyFault};
 use attr_kit::AttrSet;
 use writer_kit::{BoundFault, BoundPoint, Writer};
 
@@ -38,7 +38,7 @@ pub fn record_two(
     attrs: &AttrSet,
     first: i64,
     second: i64,
-) -> Result<(), MeasureFault>
+) -> Result<(), TallyFault>
     ensures { OnOk result (tally.new ≡ after_measure (after_measure tally.old (entry_of instrument attrs.now first))
         (entry_of instrument attrs.now second)) }
 {

@@ -1,24 +1,26 @@
 //! A fleet of threads, and what its gateways answer.
 ghost use Rattle.std.specs.Prelude.{◌≡◌, ◌⊎◌, ◌∷◌, [], IfOk, IfSome};
-ghost use Rattle.fleet_kit.specs.Setups.{recorded, writers_of};
+ghost use Rattle.fleet_kit.specs.Setups.{entries_recorded, writers_of};
 ghost use Rattle.fleet_kit.specs.declared.fault.FleetFault.TheVariants as faults;
 ghost use Rattle.rollup_kit.specs.Rollups.{AddsUp};
 ghost use Rattle.rollup_kit.specs.Writers.{AllWithin, IsRegrouped, rows_of};
 
 use attr_kit::{AttrSet, NoMemory, Seq};
-use fleet_kit::{FleetFault, FleetSetup, Gate, Job, run_fleet};
+use fleet_kit::{FleetFault, FleetSetup, Gate, Job, Open, run_fleet};
 use rollup_kit::{Ask, Row, rollup};
 use std::alloc::Global;
 use std::sync::Wait;
 use std::thread::Threads;
 
-/// A gate that is never shut: each recording may go ahead.
+/// A gate that is shut once a job has made so many recordings.
 #[derive(Clone, Copy, Debug, Drop)]
-pub struct Open;
+pub struct FirstEntries {
+    pub most: usize,
+}
 
-impl Gate for Open {
-    fn pass<R: Wait>(&self, _rt: &R, _job: usize, _entry: usize) -> bool {
-        true
+impl Gate for FirstEntries {
+    fn pass<R: Wait>(&self, _rt: &R, _job: usize, entry: usize) -> bool {
+        entry < self.most
     }
 }
 
@@ -54,8 +56,8 @@ pub fn rows_of_fleet<R: Threads + Wait + Sync>(
     setup: FleetSetup,
     ask: &Ask,
 ) -> anyhow::Result<Option<Seq<Row>>>
-    ensures rows { AddsUp ask.now.stream.shape → AllWithin (writers_of setup) (recorded setup) ⊎ IsRegrouped ask.now
-        → IfOk result (λ found. IfSome found (λ rows. rows ≡ rows_of (writers_of setup) (recorded setup) ask.now)) }
+    ensures rows { AddsUp ask.now.stream.shape → AllWithin (writers_of setup) (entries_recorded setup) ⊎ IsRegrouped ask.now
+        → IfOk result (λ found. IfSome found (λ rows. rows ≡ rows_of (writers_of setup) (entries_recorded setup) ask.now)) }
 {
     let gateways = run_fleet(rt, alloc, setup, &Open)?;
     match gateways.get(0) {

@@ -5,7 +5,7 @@ ghost use Rattle.gossip_kit.specs.Gossip.{acknowledged};
 ghost use Rattle.point_kit.specs.Exports.{join_points};
 ghost use Rattle.point_kit.specs.Join.{IsAtOrBelow};
 
-use gossip_kit::{Message, Node};
+use gossip_kit::{Body, Message, Node};
 
 /// Tells `to` what `from` holds, and hands the answer back. `to` then holds what both held, and `from` what it did.
 ///
@@ -34,4 +34,14 @@ pub fn meet(one: &mut Node, other: &mut Node) -> anyhow::Result<bool>
     tell(one, other)?;
     tell(other, one)?;
     Ok(one.gateway().same(other.gateway()))
+}
+
+/// The number of the delta that a message acknowledges; none where it carries cells.
+pub fn number_acknowledged(message: &Message) -> Option<u64>
+    ensures { result ≡ message.now.ack }
+{
+    match message.body() {
+        Body::Ack(number) => Some(*number),
+        Body::Whole(_) | Body::Delta { .. } => None,
+    }
 }

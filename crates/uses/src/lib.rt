@@ -1,16 +1,23 @@
 //! Callers of the kit, each proved: what a service, a reader and a gateway write.
 //!
-//! Each is short, and states as its own contract what it gets from the kit. `docs/GUIDE.md` tells of them in this order:
-//! `recording` (measure, collect, export), `attributing` (attributes), `refusing` (what a refusal leaves), `binding` (a set that is
-//! looked up once), `viewing` (views and the limit), `pushing` (periodic readers: with an exporter of one's own, into memory, over
-//! a channel), `gathering` (deliver, merge, ask, print a table), `reading` (rows, rounds, points and feeds), `passing` (exports made
-//! by hand, and as bytes), `gossiping` (two gateways that tell each other), `sharing` (two threads at one writer), `serving` (a
-//! gateway that threads share, and what a seat tells another), `turning` (a machine of one's own under a turn), `fleets` (threads
-//! that record, and gateways that answer), `replaying` (a schedule without threads), `scripting` (scripts).
+//! Each is short, and states as its own contract what it gets from the kit. Each public type of the kit is in one. docs/GUIDE.md tells
+//! of them in this order:
+//!
+//! - A service: `recording` (measure, collect, export), `attributing` (attributes), `refusing` (what a refusal leaves), `binding` (a set
+//!   that is looked up once), `viewing` (views and the limit), `absorbing` (a recorder that a writer takes in), `pushing` (periodic
+//!   readers: with an exporter of one's own, into memory, over a channel, and over one that fails when told).
+//! - Who reads: `gathering` (deliver, merge, ask, print a table), `reading` (rows, rounds, points and feeds), `passing` (exports made by
+//!   hand, and as bytes), `gossiping` (two gateways that tell each other).
+//! - Threads: `sharing` (two threads at one writer), `serving` (a gateway that threads share, and what a seat tells another), `turning` (a
+//!   machine of one's own under a turn), `fleets` (threads that record, and gateways that answer).
+//! - Without threads: `replaying` (a schedule of writers and gateways), `scripting` (scripts, and lines by themselves), `commanding` (the
+//!   program's command line).
 #![tactic(auto)]
 
+pub mod absorbing;
 pub mod attributing;
 pub mod binding;
+pub mod commanding;
 pub mod fleets;
 pub mod gathering;
 pub mod gossiping;

@@ -1,5 +1,5 @@
 //! A periodic reader over an exporter of one's own.
-ghost use Rattle.std.specs.Prelude.{◌≡◌, ◌≢◌, ◌<◌, OnOk, IfOk, Ok, length};
+ghost use Rattle.std.specs.Prelude.{◌≡◌, ◌≢◌, ◌<◌, MatchBool, OnOk, IfOk, Ok, length};
 ghost use Rattle.push_kit.specs.declared.periodic.Tick.TheVariants as ticks;
 ghost use Rattle.uses.specs.Pushing.{size_of, Keeps};
 
@@ -11,6 +11,7 @@ use push_kit::{
 };
 use std::alloc::Global;
 use std::sync::Wait;
+use test_kit::FailingExporter;
 use writer_kit::{DEFAULT_INTERVAL, Pace, Writer};
 
 /// An exporter that notes the time and the size of the newest collection that it was handed. It never refuses.
@@ -88,4 +89,23 @@ pub fn over_a_channel<R: Wait + Drop>(
     ensures pace { result.pace ≡ pace }
 {
     Periodic::new(alloc, writer, ChannelExporter::new(rt, sender), pace)
+}
+
+/// Collects at once, and says whether the exporter took it. What it was told to refuse it does not keep.
+pub fn push_or_lose(
+    alloc: Global,
+    reader: &mut Periodic<FailingExporter<'_>>,
+    now: u64,
+) -> Result<bool, TickFault>
+    requires room { reader.old.exporter.failures < 18446744073709551615 }
+    ensures { IfOk result (λ taken. MatchBool taken
+        (Keeps reader.old.writer now reader.old.exporter.copies.items reader.new.exporter.copies.items)
+        (reader.new.exporter.copies.items ≡ reader.old.exporter.copies.items)) }
+{
+    let arena = Bump::new(alloc);
+    match reader.flush(&arena, now, false) {
+        Ok(_points) => Ok(true),
+        Err(TickFault::ExportRefused) => Ok(false),
+        Err(fault) => Err(fault),
+    }
 }

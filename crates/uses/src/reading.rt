@@ -1,5 +1,5 @@
 //! What the kit hands out, read without a table.
-ghost use Rattle.std.specs.Prelude.{◌≡◌, ◌∷◌, [], List, None, Some, true, IfSome, IsTrue};
+ghost use Rattle.std.specs.Prelude.{◌≡◌, ◌≢◌, ◌∷◌, [], List, None, Some, true, IfSome, IsTrue};
 ghost use Rattle.std.specs.Borrow.{Bor};
 ghost use Rattle.std.specs.FinMap.{entries};
 ghost use Rattle.std.specs.Map.{values_of};
@@ -7,6 +7,7 @@ ghost use Rattle.attr_kit.specs.declared.attr_value.AttrValue.TheVariants as val
 ghost use Rattle.gateway_kit.specs.Walks.{entry_of_ref};
 ghost use Rattle.plan_kit.specs.Plans.{feeds_of};
 ghost use Rattle.plan_kit.specs.declared.feed.Feed.{Feed};
+ghost use Rattle.std.specs.declared.cmp.Ordering.TheVariants as orders;
 ghost use Rattle.point_kit.specs.declared.payload.Payload.TheVariants as payloads;
 ghost use Rattle.point_kit.specs.declared.shape.Shape.TheVariants as shapes;
 ghost use Rattle.rollup_kit.specs.declared.row.Row.{Row};
@@ -18,11 +19,13 @@ ghost use Rattle.round_kit.specs.declared.payload.RoundPayload.TheVariants as pa
 
 use gateway_kit::{Gateway, PointRef, Points};
 use plan_kit::{Feed, Plan};
+use point_kit::Ordered;
 use rollup_kit::{Row, Total};
 use round_kit::{
     RoundHistogram, RoundPayload, RoundPoint, RoundSet, RoundShape, RoundStream, RoundText,
     RoundValue,
 };
+use std::cmp::Ordering;
 
 /// The sum of the only row; none where there is no row or more than one, or where it is of a gauge or a histogram.
 pub fn only_sum(rows: &[Row]) -> Option<i128>
@@ -112,5 +115,16 @@ pub fn only_stream(plan: &Plan, instrument: usize) -> Option<usize>
     match plan.feeds(instrument)? {
         [Feed { stream, .. }] => Some(*stream),
         _ => None,
+    }
+}
+
+/// The one of two writers, streams or keys that comes first where they are sorted; the first of the two where they are equal.
+pub fn first_of<'a, T: Ordered>(one: &'a T, other: &'a T) -> &'a T
+    ensures after { T.order one.now other.now ≡ orders.Greater → result.now ≡ other.now }
+    ensures before { T.order one.now other.now ≢ orders.Greater → result.now ≡ one.now }
+{
+    match one.cmp(other) {
+        Ordering::Greater => other,
+        Ordering::Less | Ordering::Equal => one,
     }
 }

@@ -1,17 +1,27 @@
 //! Scripts that a program of one's own runs.
-ghost use Rattle.std.specs.Prelude.{◌≡◌, Err, None, Some, IfOk, IfSome, IsOk, string_bytes};
+ghost use Rattle.std.specs.Prelude.{◌≡◌, ◌≢◌, ℕ, ℤ, [], Err, None, Some, IfOk, IfSome, IsOk, string_bytes};
+ghost use Rattle.attr_kit.specs.declared.attr_set.AttrSet.{AttrSet};
 ghost use Rattle.otm_kit.specs.Ends.{AtBadLine};
 ghost use Rattle.otm_kit.specs.Says.{bad_line_of, says};
 ghost use Rattle.script_kit.specs.Lines.{line_of};
-ghost use Rattle.script_kit.specs.Reasons.{sentence_of};
+ghost use Rattle.script_kit.specs.Reasons.{form_text, noun_text, reason_named, sentence_of};
+ghost use Rattle.script_kit.specs.declared.line.Command.TheVariants as commands;
+ghost use Rattle.script_kit.specs.declared.line.Declaration.TheVariants as declarations;
+ghost use Rattle.script_kit.specs.declared.line.Line.TheVariants as lines;
+ghost use Rattle.script_kit.specs.declared.line.Query.TheVariants as queries;
+ghost use Rattle.script_kit.specs.declared.line.Report.{Report};
 
-use attr_kit::NoMemory;
-use otm_kit::{Ended, run_script_told};
-use script_kit::{Reason, Stop, explain, parse_line};
+use attr_kit::{NoMemory, Txt};
+use otm_kit::{Ended, run_script, run_script_told};
+use point_kit::{Stream, WriterId};
+use script_kit::{
+    Command, Declaration, Form, Line, Noun, Query, Reason, Report, ScriptFault, Stop, explain,
+    parse_line,
+};
 use std::alloc::Global;
 
 /// Runs a script that lies in memory, and answers what it prints. Where it ends early, why; at a bad line also its words.
-pub fn printed(alloc: Global, script: &[u8]) -> Result<Vec<u8>, Ended>
+pub fn script_text(alloc: Global, script: &[u8]) -> Result<Vec<u8>, Ended>
     ensures text { IfOk result (λ text. text.items ≡ says script.now) }
     ensures line { AtBadLine result (λ _ n. bad_line_of script.now ≡ Some n) }
 {
@@ -31,5 +41,87 @@ pub fn wrong_with(alloc: Global, line: &[u8]) -> Result<Option<(Reason, String)>
         Ok(_line) => Ok(None),
         Err(Stop::Bad(reason)) => Ok(Some((reason, explain(alloc, line, reason)?))),
         Err(Stop::NoMemory) => Err(NoMemory),
+    }
+}
+
+/// The number of a script's bad line, from 1, and none where it has none. Refused where the script is too long, and for memory.
+pub fn first_bad_line(alloc: Global, script: &[u8]) -> Result<Option<u64>, ScriptFault>
+    ensures { IfOk result (λ found. bad_line_of script.now ≡ found) }
+{
+    let mut reader = script;
+    let mut text = Vec::new(alloc);
+    match run_script(alloc, &mut reader, &mut text) {
+        Ok(()) => Ok(None),
+        Err(ScriptFault::BadLine(number)) => Ok(Some(number)),
+        Err(fault) => Err(fault),
+    }
+}
+
+/// The label and the identity of the writer that a line declares; none where it declares none.
+pub fn writer_declared(line: &Line) -> Option<(&Txt, &WriterId)>
+    ensures some { IfSome result (λ writer. (start : ℕ)
+        × (line.now ≡ lines.Declare (declarations.Writer writer.0.now writer.1.now start))) }
+    ensures none { result ≡ None → (label : Txt) (id : WriterId) (start : ℕ)
+        → line.now ≢ lines.Declare (declarations.Writer label id start) }
+{
+    match line {
+        Line::Declare(Declaration::Writer { label, id, .. }) => Some((label, id)),
+        _ => None,
+    }
+}
+
+/// The writer and the value of a recording that a line makes; none where it makes none.
+pub fn value_measured(line: &Line) -> Option<(&Txt, i64)>
+    ensures some { IfSome result (λ told. (instrument : Txt) × (attrs : AttrSet)
+        × (line.now ≡ lines.Do (commands.Measure told.0.now instrument told.1 attrs))) }
+    ensures none { result ≡ None → (writer instrument : Txt) (value : ℤ) (attrs : AttrSet)
+        → line.now ≢ lines.Do (commands.Measure writer instrument value attrs) }
+{
+    match line {
+        Line::Do(Command::Measure { writer, value, .. }) => Some((writer, *value)),
+        _ => None,
+    }
+}
+
+/// The stream that a line asks a gateway for; none where it asks for no report.
+pub fn stream_asked(line: &Line) -> Option<&Stream>
+    ensures some { IfSome result (λ stream. (gateway : ℕ) × (report : Report)
+        × (line.now ≡ lines.Ask (queries.Report gateway report)) × (report.stream ≡ stream.now)) }
+    ensures none { result ≡ None → (gateway : ℕ) (report : Report) → line.now ≢ lines.Ask (queries.Report gateway report) }
+{
+    match line {
+        Line::Ask(
+            Query::Report {
+                report: Report { stream, .. },
+                ..
+            },
+        ) => Some(stream),
+        _ => None,
+    }
+}
+
+// The words that a line of a form wants behind its first.
+fn words_of(alloc: Global, form: Form) -> Result<String, NoMemory>
+    ensures { IfOk result (λ text. string_bytes text ≡ form_text form) }
+{
+    Ok(format!(in alloc; "{form}")?)
+}
+
+// What a number is.
+fn name_of(alloc: Global, noun: Noun) -> Result<String, NoMemory>
+    ensures { IfOk result (λ text. string_bytes text ≡ noun_text noun) }
+{
+    Ok(format!(in alloc; "{noun}")?)
+}
+
+/// What a line wants whose words are too few or too many, and what a number was to be that is too great; none for other reasons.
+pub fn hint(alloc: Global, reason: Reason) -> Result<Option<String>, NoMemory>
+    ensures some { IfOk result (λ found. IfSome found (λ text. string_bytes text ≡ reason_named reason)) }
+    ensures none { IfOk result (λ found. found ≡ None → reason_named reason ≡ []) }
+{
+    match reason {
+        Reason::Count(form) => Ok(Some(words_of(alloc, form)?)),
+        Reason::TooGreat(_, noun) => Ok(Some(name_of(alloc, noun)?)),
+        _ => Ok(None),
     }
 }

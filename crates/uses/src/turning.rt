@@ -1,14 +1,14 @@
 //! A machine of one's own under a turn: threads share it, and each change stands in one history.
-ghost use Rattle.std.specs.Prelude.{◌≡◌, ◌≤◌, ◌<◌, ℕ, None, IfOk, IfErr, IfSome, OnErr};
+ghost use Rattle.std.specs.Prelude.{◌≡◌, ◌≤◌, ◌<◌, ℕ, None, IfOk, IfErr, IfSome, OnOk, OnErr};
 ghost use Rattle.turn_kit.specs.Public.{IsOf, IsLeft, IsFull, Closes, Enters, Refuses, AtBusy, AtRefused, opening, limit_of};
-ghost use Rattle.uses.specs.Turning.{raised};
+ghost use Rattle.uses.specs.Turning.{mark_after};
 
 use std::alloc::Global;
 use std::marker::Model;
 use std::sync::Wait;
 use turn_kit::{
-    Busy, ChangeFault, GiveBack, Machine, Quiet, Seat, SeatsOut, SplitFault, Step, Turn, TurnFault,
-    Waking,
+    Busy, ChangeFault, GiveBack, Machine, Quiet, Seat, SeatsOut, SplitFault, Step, StepMut, Turn,
+    TurnFault, Waking,
 };
 
 /// A mark that only rises.
@@ -30,7 +30,7 @@ impl Machine for Mark {
 
     ghost state = { λ height. height };
 
-    ghost after = { raised };
+    ghost after = { mark_after };
 }
 
 /// Raises the mark to a height, and answers the old one.
@@ -64,6 +64,36 @@ impl Step<Mark> for Raise {
     }
 }
 
+/// Raises the mark to a height, and keeps the one that it had. Whoever raises it often makes one lift.
+#[derive(Drop)]
+pub struct Lift {
+    pub to: u64,
+    pub from: u64,
+}
+
+impl StepMut<Mark> for Lift {
+    type Reply = ();
+
+    type Refusal = NotHigher;
+
+    ghost needs = { λ _ _. Unit {0} };
+
+    ghost entry = { λ l. l.to };
+
+    ghost replies = { λ old height _ new. (new.from ≡ height) × (new.to ≡ old.to) };
+
+    ghost refuses = { λ l height _. l.to ≤ height };
+
+    fn step_mut(&mut self, mark: &mut Mark) -> Result<(), NotHigher> {
+        if self.to <= mark.height {
+            return Err(NotHigher);
+        }
+        self.from = mark.height;
+        mark.height = self.to;
+        Ok(())
+    }
+}
+
 /// Raises a mark that threads share. The answer is the height of the mark at this change's place in the one history of all.
 pub fn raise_to<R: Wait>(
     rt: &R,
@@ -73,12 +103,29 @@ pub fn raise_to<R: Wait>(
 ) -> Result<u64, ChangeFault<NotHigher>>
     requires { IsOf turn.now seat.old }
     ensures seat { IsOf turn.now seat.new }
-    ensures raised { IfOk result (λ old. Enters (λ m. m) raised (opening turn.now) (limit_of turn.now)
+    ensures raised { IfOk result (λ old. Enters (λ m. m) mark_after (opening turn.now) (limit_of turn.now)
         to (λ m. old ≡ m) seat.old seat.new) }
-    ensures refused { IfErr result (AtRefused (λ _. Refuses (λ m. m) raised (opening turn.now) (limit_of turn.now)
+    ensures refused { IfErr result (AtRefused (λ _. Refuses (λ m. m) mark_after (opening turn.now) (limit_of turn.now)
         (λ m. to ≤ m) seat.old seat.new)) }
 {
     turn.change(rt, seat, Raise { to })
+}
+
+/// Raises a mark that threads share by a lift, which then has the height of the mark at this change's place in the history. A lift
+/// that is refused is as it was.
+pub fn raise_by<R: Wait>(
+    rt: &R,
+    turn: &Turn<Mark>,
+    seat: &mut Seat<Mark>,
+    lift: &mut Lift,
+) -> Result<(), ChangeFault<NotHigher>>
+    requires { IsOf turn.now seat.old }
+    ensures seat { IsOf turn.now seat.new }
+    ensures raised { OnOk result (Enters (λ m. m) mark_after (opening turn.now) (limit_of turn.now)
+        lift.old.to (λ m. lift.new.from ≡ m) seat.old seat.new) }
+    ensures kept { OnErr result (lift.new ≡ lift.old) }
+{
+    turn.change_mut(rt, seat, lift)
 }
 
 /// A mark of height 0 in a turn without calls that wait, for programs that may not sleep, and the turn's first seat.
@@ -100,7 +147,7 @@ pub fn raise_at_once<G: GiveBack>(
 ) -> Result<u64, ChangeFault<NotHigher>>
     requires { IsOf turn.now seat.old }
     ensures seat { IsOf turn.now seat.new }
-    ensures raised { IfOk result (λ old. Enters (λ m. m) raised (opening turn.now) (limit_of turn.now)
+    ensures raised { IfOk result (λ old. Enters (λ m. m) mark_after (opening turn.now) (limit_of turn.now)
         to (λ m. old ≡ m) seat.old seat.new) }
     ensures busy { IfErr result (AtBusy (IsLeft seat.old seat.new)) }
 {
@@ -130,7 +177,7 @@ pub fn another_seat<G: GiveBack>(
 /// seats are out, how many.
 pub fn last_height(turn: Turn<Mark, Waking>, seat: Seat<Mark>) -> Result<u64, u64>
     requires { IsOf turn seat }
-    ensures height { IfOk result (Closes (λ m. m) raised (opening turn) seat) }
+    ensures height { IfOk result (Closes (λ m. m) mark_after (opening turn) seat) }
     ensures out { IfErr result (λ out. 0 < out) }
 {
     match turn.close(seat) {

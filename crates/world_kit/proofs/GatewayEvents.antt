@@ -21,7 +21,7 @@ use Rattle.schedule_kit.specs.Deeds.Holder.{AtGateway, InMail}
 use Rattle.schedule_kit.specs.Taken.{made_of}
 use Rattle.world_kit.proofs.Claims.{acked_moves, acknowledged_below, answers_delivered, answers_handed, answers_merged, answers_sent_new, answers_sent_old, answers_unmade, asks_for, below_trans, delta_is, gossip_more, gossip_moves, gossip_rests, grows_by, moves_on, numbered_held, one_moves, rests, state_unmade}
 use Rattle.world_kit.proofs.Frames.{writers_same, nodes_same, nodes_set, exports_same, mails_same, mails_more}
-use Rattle.world_kit.proofs.Replies.{refused_acts, accepted_acts, accepted_wants, guard_true, guard_false, gathered_there, gathered_none, counted_in, counted_zero, counted_past}
+use Rattle.world_kit.proofs.Replies.{refused_acts, accepted_acts, accepted_wants, guard_true, guard_false, gathered_there, gathered_none, is_within_in, is_within_zero, is_within_past}
 use Rattle.world_kit.proofs.StateSteps.{state_delivered, state_merged, state_handed, state_sent, state_sent_new, state_sent_old, mail_delivered, mail_merged, mail_handed, chosen, passed}
 use Rattle.world_kit.specs.declared.event.Event.TheVariants as event
 use Rattle.world_kit.specs.declared.event.Refusal.TheVariants.{NoGateway, NoExport, NoMail, NotAddressed}
@@ -29,7 +29,7 @@ use Rattle.world_kit.specs.declared.event.Reply.TheVariants as reply
 use Rattle.world_kit.specs.declared.setup.Setup.{Setup}
 use Rattle.world_kit.specs.Claims.{GossipStands, IsClaimed, MailClaims}
 use Rattle.world_kit.specs.Held.{Held}
-use Rattle.world_kit.specs.Judged.{Deeds, changed_events, counted, fits_at, judged}
+use Rattle.world_kit.specs.Judged.{Deeds, changed_events, is_within, fits_at, judgement}
 use Rattle.world_kit.specs.Setups.{gateways_of, starts_of}
 use Rattle.world_kit.specs.Stands.{Acts, NodesStand, Stands, MailStands}
 use Rattle.world_kit.specs.States.{state_at}
@@ -62,17 +62,17 @@ module _ (w : Held) where
   pub deliver_nowhere : (x g : ℕ) → length w.nodes ≤ g → Acts (event.Deliver x g) w (reply.Refused NoGateway) w
   deliver_nowhere x g past = refused_acts _ w NoGateway (λ s ds st. gathered_none s g _ (let c = st.nodes.count in omega arith))
 
-  no_export : (x g : ℕ) → g < length w.nodes → ((s : Setup) (ds : Deeds) → Stands s ds w → counted x (length (made (starts_of s) ds)) ≡ false) → Acts (event.Deliver x g) w (reply.Refused NoExport) w
+  no_export : (x g : ℕ) → g < length w.nodes → ((s : Setup) (ds : Deeds) → Stands s ds w → is_within x (length (made (starts_of s) ds)) ≡ false) → Acts (event.Deliver x g) w (reply.Refused NoExport) w
   no_export x g there not = refused_acts _ w NoExport (λ s ds st. gathered_there s g _ (let c = st.nodes.count in omega arith) ∙ guard_false _ NoExport _ (not s ds st))
 
   pub deliver_zero : (x g : ℕ) → g < length w.nodes → x ≡ 0 → Acts (event.Deliver x g) w (reply.Refused NoExport) w
-  deliver_zero x g there zero = no_export x g there (λ s ds st. counted_zero x _ zero)
+  deliver_zero x g there zero = no_export x g there (λ s ds st. is_within_zero x _ zero)
 
   pub deliver_past : (x g : ℕ) → g < length w.nodes → length w.exports < x → Acts (event.Deliver x g) w (reply.Refused NoExport) w
-  deliver_past x g there past = no_export x g there (λ s ds st. counted_past x _ (let c = st.exports.count in omega arith))
+  deliver_past x g there past = no_export x g there (λ s ds st. is_within_past x _ (let c = st.exports.count in omega arith))
 
-  deliver_is : (x g : ℕ) → g < length w.nodes → 0 < x → x ≤ length w.exports → (s : Setup) (ds : Deeds) → Stands s ds w → judged s ds (event.Deliver x g) ≡ Ok (Delivered x g)
-  deliver_is x g there low high s ds st = let nodes = st.nodes.count in let exports = st.exports.count in gathered_there s g _ (omega arith) ∙ guard_true _ NoExport _ (counted_in x _ low (omega arith))
+  deliver_is : (x g : ℕ) → g < length w.nodes → 0 < x → x ≤ length w.exports → (s : Setup) (ds : Deeds) → Stands s ds w → judgement s ds (event.Deliver x g) ≡ Ok (Delivered x g)
+  deliver_is x g there low high s ds st = let nodes = st.nodes.count in let exports = st.exports.count in gathered_there s g _ (omega arith) ∙ guard_true _ NoExport _ (is_within_in x _ low (omega arith))
 
   pub deliver_wants : (x g : ℕ) → g < length w.nodes → 0 < x → x ≤ length w.exports → Wants (event.Deliver x g) w
   deliver_wants x g there low high = accepted_wants _ w (Delivered x g) (deliver_is x g there low high)
@@ -113,7 +113,7 @@ module _ (w : Held) where
   pub merge_none : (into from : ℕ) → into < length w.nodes → length w.nodes ≤ from → Acts (event.Merge into from) w (reply.Refused NoGateway) w
   merge_none into from there past = refused_acts _ w NoGateway (λ s ds st. let c = st.nodes.count in gathered_there s into _ (omega arith) ∙ gathered_none s from _ (omega arith))
 
-  merge_is : (into from : ℕ) → into < length w.nodes → from < length w.nodes → (s : Setup) (ds : Deeds) → Stands s ds w → judged s ds (event.Merge into from) ≡ Ok (Merged into from)
+  merge_is : (into from : ℕ) → into < length w.nodes → from < length w.nodes → (s : Setup) (ds : Deeds) → Stands s ds w → judgement s ds (event.Merge into from) ≡ Ok (Merged into from)
   merge_is into from here there s ds st = let nodes = st.nodes.count in gathered_there s into _ (omega arith) ∙ gathered_there s from _ (omega arith)
 
   pub merge_wants : (into from : ℕ) → into < length w.nodes → from < length w.nodes → Wants (event.Merge into from) w
@@ -180,7 +180,7 @@ module _ (w : Held) where
   pub send_none : (from to : ℕ) → from < length w.nodes → length w.nodes ≤ to → Acts (event.Send from to) w (reply.Refused NoGateway) w
   send_none from to there past = refused_acts _ w NoGateway (λ s ds st. let c = st.nodes.count in gathered_there s from _ (omega arith) ∙ gathered_none s to _ (omega arith))
 
-  send_is : (from to : ℕ) → from < length w.nodes → to < length w.nodes → (s : Setup) (ds : Deeds) → Stands s ds w → judged s ds (event.Send from to) ≡ Ok (Sent from to)
+  send_is : (from to : ℕ) → from < length w.nodes → to < length w.nodes → (s : Setup) (ds : Deeds) → Stands s ds w → judgement s ds (event.Send from to) ≡ Ok (Sent from to)
   send_is from to here there s ds st = let nodes = st.nodes.count in gathered_there s from _ (omega arith) ∙ gathered_there s to _ (omega arith)
 
   pub send_wants : (from to : ℕ) → from < length w.nodes → to < length w.nodes → Wants (event.Send from to) w
@@ -234,14 +234,14 @@ module _ (w : Held) where
   pub hand_nowhere : (n g : ℕ) → length w.nodes ≤ g → Acts (event.Hand n g) w (reply.Refused NoGateway) w
   hand_nowhere n g past = refused_acts _ w NoGateway (λ s ds st. gathered_none s g _ (let c = st.nodes.count in omega arith))
 
-  no_mail : (n g : ℕ) → g < length w.nodes → ((s : Setup) (ds : Deeds) → Stands s ds w → counted n (mails ds) ≡ false) → Acts (event.Hand n g) w (reply.Refused NoMail) w
+  no_mail : (n g : ℕ) → g < length w.nodes → ((s : Setup) (ds : Deeds) → Stands s ds w → is_within n (mails ds) ≡ false) → Acts (event.Hand n g) w (reply.Refused NoMail) w
   no_mail n g there not = refused_acts _ w NoMail (λ s ds st. gathered_there s g _ (let c = st.nodes.count in omega arith) ∙ guard_false _ NoMail _ (not s ds st))
 
   pub hand_zero : (n g : ℕ) → g < length w.nodes → n ≡ 0 → Acts (event.Hand n g) w (reply.Refused NoMail) w
-  hand_zero n g there zero = no_mail n g there (λ s ds st. counted_zero n _ zero)
+  hand_zero n g there zero = no_mail n g there (λ s ds st. is_within_zero n _ zero)
 
   pub hand_past : (n g : ℕ) → g < length w.nodes → length w.mails < n → Acts (event.Hand n g) w (reply.Refused NoMail) w
-  hand_past n g there past = no_mail n g there (λ s ds st. counted_past n _ (let c = st.mails.count in omega arith))
+  hand_past n g there past = no_mail n g there (λ s ds st. is_within_past n _ (let c = st.mails.count in omega arith))
 
   its_mail : (s : Setup) (ds : Deeds) (n : ℕ) (m : MessageView) → Stands s ds w → 0 < n → slice_get w.mails (n - 1) ≡ Some m → MailStands s ds n m
   its_mail s ds n m st low at_n = let back : n - 1 + 1 ≡ n = omega arith in subst (λ (k : ℕ). MailStands s ds k m) back (st.mails.each (n - 1) m at_n)
@@ -263,7 +263,7 @@ module _ (w : Held) where
       let count = st.mails.count in
       let its = its_mail s ds n m st low at_n in
       let not : its.mail.to ≢ g = λ e. other (its.to ∙ ap (slice_index s.gateways) e ∙ sym (st.nodes.id g at at_g)) in
-      gathered_there s g _ (omega arith) ∙ guard_true _ NoMail _ (counted_in n _ low (omega arith))
+      gathered_there s g _ (omega arith) ∙ guard_true _ NoMail _ (is_within_in n _ low (omega arith))
       ∙ guard_false _ NotAddressed _ (ap (is_to g) its.known ∙ ne_eqb its.mail.to g not))
 
   its_claims : (s : Setup) (ds : Deeds) (n : ℕ) (m : MessageView) (st : Stands s ds w) (low : 0 < n) (at_n : slice_get w.mails (n - 1) ≡ Some m) → MailClaims s ds w.nodes n (its_mail s ds n m st low at_n).mail m
@@ -273,13 +273,13 @@ module _ (w : Held) where
       subst (λ (k : ℕ). MailClaims s ds w.nodes k its.mail m) back (st.gossip.mails (n - 1) m its.mail at_n (ap (mail_of ds) back ∙ its.known))
 
   hand_is : (n g : ℕ) (m : MessageView) (at : NodeView) → 0 < n → slice_get w.mails (n - 1) ≡ Some m → slice_get w.nodes g ≡ Some at → m.to ≡ at.gateway.id
-      → (s : Setup) (ds : Deeds) → Stands s ds w → judged s ds (event.Hand n g) ≡ Ok (Handed n g (is_some m.delta))
+      → (s : Setup) (ds : Deeds) → Stands s ds w → judgement s ds (event.Hand n g) ≡ Ok (Handed n g (is_some m.delta))
   hand_is n g m at low at_n at_g goes s ds st =
       let here : g < length w.nodes = slice_get_within w.nodes g at at_g in
       let high : n - 1 < length w.mails = slice_get_within w.mails (n - 1) m at_n in
       let nodes = st.nodes.count in
       let count = st.mails.count in
-      gathered_there s g _ (omega arith) ∙ guard_true _ NoMail _ (counted_in n _ low (omega arith)) ∙ guard_true _ NotAddressed _ (addressed n g m at low at_n at_g goes s ds st)
+      gathered_there s g _ (omega arith) ∙ guard_true _ NoMail _ (is_within_in n _ low (omega arith)) ∙ guard_true _ NotAddressed _ (addressed n g m at low at_n at_g goes s ds st)
       ∙ ap (λ b. Ok (Handed n g b)) (its_claims s ds n m st low at_n).answered
 
   pub hand_wants : (n g : ℕ) (m : MessageView) (at : NodeView) → 0 < n → slice_get w.mails (n - 1) ≡ Some m → slice_get w.nodes g ≡ Some at → m.to ≡ at.gateway.id → Wants (event.Hand n g) w
@@ -304,7 +304,7 @@ module _ (w : Held) where
       hand_same : hand_its.mail.to ≡ g
       hand_same = let nodes = st.nodes.count in st.apart hand_its.mail.to g hand_its.there (let h = hand_here in omega arith) (sym hand_its.to ∙ goes ∙ st.nodes.id g was at_g)
 
-      hand_accepted : judged s ds (event.Hand n g) ≡ Ok (Handed n g a)
+      hand_accepted : judgement s ds (event.Hand n g) ≡ Ok (Handed n g a)
       hand_accepted = hand_is n g m was low at_n at_g goes s ds st ∙ ap (λ b. Ok (Handed n g b)) asks
 
       hand_now : is.gateway.points ≡ state_at s (Handed n g a ∷ ds) (AtGateway g)

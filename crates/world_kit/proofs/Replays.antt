@@ -10,7 +10,7 @@ use Rattle.schedule_kit.proofs.Members.{filter_map-In, In-filter_map}
 use Rattle.schedule_kit.specs.Deeds.{Made, Holder, made, took, TookSame}
 use Rattle.schedule_kit.specs.Deeds.Holder.{AtGateway}
 use Rattle.schedule_kit.specs.Members.{In}
-use Rattle.schedule_kit.specs.Taken.{taken, made_of}
+use Rattle.schedule_kit.specs.Taken.{taken_collections, made_of}
 use Rattle.world_kit.specs.Building.{replies, replies_from}
 use Rattle.rollup_kit.specs.Rollups.{rollup_rows}
 use Rattle.world_kit.specs.Converging.{AnswersAlike, Converges}
@@ -59,9 +59,9 @@ take_whole (x ∷ xs) (suc i) h = ap (λ l. x ∷ l) (take_whole xs i (omega ari
 -- holders that took the same exports have one state
 same_states : (s : Setup) (ds : Deeds) (g h : Holder) → TookSame ds g h → state_at s ds g ≡ state_at s ds h
 unfolding state_at
-same_states s ds g h same = same_took key_total key_exact payload_eq payload_equivalence payload_exact (made_points s) (taken (starts_of s) ds g) (taken (starts_of s) ds h) (moved g h same.0) (moved h g same.1)
+same_states s ds g h same = same_took key_total key_exact payload_eq payload_equivalence payload_exact (made_points s) (taken_collections (starts_of s) ds g) (taken_collections (starts_of s) ds h) (moved g h same.0) (moved h g same.1)
   where
-    moved : (a b : Holder) → ((k : ℕ) → In k (took ds a) → In k (took ds b)) → (m : Made Entry) → In m (taken (starts_of s) ds a) → In m (taken (starts_of s) ds b)
+    moved : (a b : Holder) → ((k : ℕ) → In k (took ds a) → In k (took ds b)) → (m : Made Entry) → In m (taken_collections (starts_of s) ds a) → In m (taken_collections (starts_of s) ds b)
     moved a b t m i = let c = filter_map-In (made_of (made (starts_of s) ds)) m (took ds a) i in In-filter_map (made_of (made (starts_of s) ds)) m c.0 (took ds b) (t c.0 c.1) c.2
 
 -- so have gateways equal points

@@ -11,13 +11,13 @@ use Rattle.world_kit.specs.declared.event.Reply.{Reply}
 use Rattle.world_kit.specs.declared.event.Reply.TheVariants as reply
 use Rattle.world_kit.specs.declared.setup.Setup.{Setup}
 use Rattle.world_kit.specs.Held.{Held}
-use Rattle.world_kit.specs.Judged.{Deeds, after, cons_deed, counted, gathered, guard, judged, reply_of, reply_to, reply_to_judged, written}
+use Rattle.world_kit.specs.Judged.{Deeds, after, cons_deed, is_within, at_gateway, guard, judgement, reply_of, reply_to, reply_to_judged, at_writer}
 use Rattle.world_kit.specs.Setups.{gateways_of}
 use Rattle.world_kit.specs.Stands.{Acts, Stands}
 use Rattle.world_kit.specs.Wanting.{TakesMemory, Wants}
 
 -- a refused event leaves the world
-pub refused_acts : (event : Event) (w : Held) (r : Refusal) → ((s : Setup) (ds : Deeds) → Stands s ds w → judged s ds event ≡ Err r) → Acts event w (reply.Refused r) w
+pub refused_acts : (event : Event) (w : Held) (r : Refusal) → ((s : Setup) (ds : Deeds) → Stands s ds w → judgement s ds event ≡ Err r) → Acts event w (reply.Refused r) w
 unfolding after reply_to
 refused_acts event w r is = record {
   stands = λ s ds st. subst (λ (l : Deeds). Stands s l w) (sym (ap (λ j. cons_deed j ds) (is s ds st))) st;
@@ -25,7 +25,7 @@ refused_acts event w r is = record {
 }
 
 -- an accepted one comes to its deed
-pub accepted_acts : (event : Event) (old new : Held) (said : Reply) (d : Deed Entry) → ((s : Setup) (ds : Deeds) → Stands s ds old → (judged s ds event ≡ Ok d) × Stands s (d ∷ ds) new × (said ≡ reply_of s ds d)) → Acts event old said new
+pub accepted_acts : (event : Event) (old new : Held) (said : Reply) (d : Deed Entry) → ((s : Setup) (ds : Deeds) → Stands s ds old → (judgement s ds event ≡ Ok d) × Stands s (d ∷ ds) new × (said ≡ reply_of s ds d)) → Acts event old said new
 unfolding after reply_to
 accepted_acts event old new said d is = record {
   stands = λ s ds st. subst (λ (l : Deeds). Stands s l new) (sym (ap (λ j. cons_deed j ds) (is s ds st).0)) (is s ds st).1;
@@ -33,7 +33,7 @@ accepted_acts event old new said d is = record {
 }
 
 -- an event that is accepted may want memory
-pub accepted_wants : (event : Event) (w : Held) (d : Deed Entry) → ((s : Setup) (ds : Deeds) → Stands s ds w → judged s ds event ≡ Ok d) → Wants event w
+pub accepted_wants : (event : Event) (w : Held) (d : Deed Entry) → ((s : Setup) (ds : Deeds) → Stands s ds w → judgement s ds event ≡ Ok d) → Wants event w
 accepted_wants event w d is = record { accepted = λ s ds st. subst (λ (j : Result (Deed Entry) Refusal). IfErr j (TakesMemory s event)) (sym (is s ds st)) tt }
 
 -- seen from within
@@ -58,23 +58,23 @@ pub guard_false : (b : Bool) (r : Refusal) (x : Result (Deed Entry) Refusal) →
 guard_false b r x e = ap (λ t. guard t r x) e
 
 module _ (s : Setup) where
-  pub written_there : (w : ℕ) (x : Result (Deed Entry) Refusal) → w < length s.writers → written s w x ≡ x
+  pub written_there : (w : ℕ) (x : Result (Deed Entry) Refusal) → w < length s.writers → at_writer s w x ≡ x
   written_there w x h = guard_true _ NoWriter x (lt-ltb w (length s.writers) h)
 
-  pub written_none : (w : ℕ) (x : Result (Deed Entry) Refusal) → length s.writers ≤ w → written s w x ≡ Err NoWriter
+  pub written_none : (w : ℕ) (x : Result (Deed Entry) Refusal) → length s.writers ≤ w → at_writer s w x ≡ Err NoWriter
   written_none w x h = guard_false _ NoWriter x (le-ltb w (length s.writers) h)
 
-  pub gathered_there : (g : ℕ) (x : Result (Deed Entry) Refusal) → g < gateways_of s → gathered s g x ≡ x
+  pub gathered_there : (g : ℕ) (x : Result (Deed Entry) Refusal) → g < gateways_of s → at_gateway s g x ≡ x
   gathered_there g x h = guard_true _ NoGateway x (lt-ltb g (gateways_of s) h)
 
-  pub gathered_none : (g : ℕ) (x : Result (Deed Entry) Refusal) → gateways_of s ≤ g → gathered s g x ≡ Err NoGateway
+  pub gathered_none : (g : ℕ) (x : Result (Deed Entry) Refusal) → gateways_of s ≤ g → at_gateway s g x ≡ Err NoGateway
   gathered_none g x h = guard_false _ NoGateway x (le-ltb g (gateways_of s) h)
 
-pub counted_in : (k n : ℕ) → 0 < k → k ≤ n → counted k n ≡ true
-counted_in k n low high = rw (lt-ltb 0 k low, lt-ltb k (n + 1) (omega arith)) refl
+pub is_within_in : (k n : ℕ) → 0 < k → k ≤ n → is_within k n ≡ true
+is_within_in k n low high = rw (lt-ltb 0 k low, lt-ltb k (n + 1) (omega arith)) refl
 
-pub counted_zero : (k n : ℕ) → k ≡ 0 → counted k n ≡ false
-counted_zero k n e = rw (le-ltb 0 k (let z : k ≤ 0 = omega arith in z)) refl
+pub is_within_zero : (k n : ℕ) → k ≡ 0 → is_within k n ≡ false
+is_within_zero k n e = rw (le-ltb 0 k (let z : k ≤ 0 = omega arith in z)) refl
 
-pub counted_past : (k n : ℕ) → n < k → counted k n ≡ false
-counted_past k n h = rw (lt-ltb 0 k (omega arith), le-ltb k (n + 1) (omega arith)) refl
+pub is_within_past : (k n : ℕ) → n < k → is_within k n ≡ false
+is_within_past k n h = rw (lt-ltb 0 k (omega arith), le-ltb k (n + 1) (omega arith)) refl

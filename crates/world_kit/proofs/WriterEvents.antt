@@ -7,13 +7,13 @@ use Rattle.std.proofs.lemmas.Option.{slice_get_within}
 use Rattle.std.specs.Option.{option_and_then, option_map}
 use Rattle.std.specs.Prelude.{IfErr, find}
 use mathlib.Core.Bool.{true≢false}
-use Rattle.agg_kit.specs.declared.fault.MeasureFault.{MeasureFault as TallyFault}
+use Rattle.agg_kit.specs.declared.fault.TallyFault.{TallyFault}
 use Rattle.agg_kit.specs.Entries.{Entry}
-use Rattle.agg_kit.specs.declared.fault.MeasureFault.TheVariants as tally
+use Rattle.agg_kit.specs.declared.fault.TallyFault.TheVariants as tally
 use Rattle.agg_kit.proofs.Rounds.{stands-push}
 use Rattle.agg_kit.specs.Feeds.{AllWhole, whole_first}
 use Rattle.agg_kit.specs.Measuring.{after_measure, early_fault_of, is_over}
-use Rattle.agg_kit.specs.Refusals.{is_negative_for, overflows, refused}
+use Rattle.agg_kit.specs.Refusals.{is_negative_for, overflows, first_refusal}
 use Rattle.agg_kit.specs.Rounds.{StandsFor, round}
 use Rattle.agg_kit.specs.Tallies.{Tallied}
 use Rattle.plan_kit.specs.declared.feed.Feed.{Feed}
@@ -40,7 +40,7 @@ use Rattle.world_kit.specs.declared.event.Reply.TheVariants as reply
 use Rattle.world_kit.specs.declared.setup.Setup.{Setup}
 use Rattle.world_kit.specs.declared.setup.WriterSetup.{WriterSetup}
 use Rattle.world_kit.specs.Held.{Held}
-use Rattle.world_kit.specs.Judged.{Deeds, collected_at, fits_at, guard, judged, refusal_at, refusal_of, unless}
+use Rattle.world_kit.specs.Judged.{Deeds, collected_at, fits_at, guard, judgement, refusal_at, refusal_of, unless}
 use Rattle.world_kit.specs.Setups.{no_writer, writer_at, starts_of, gateways_of}
 use Rattle.world_kit.specs.Stands.{Acts, Stands, WriterStands}
 use Rattle.world_kit.specs.Told.{measure_refusal, collect_refusal, restart_refusal, collect_event}
@@ -79,9 +79,9 @@ not_not : (b : Bool) → not (not b) ≡ b
 not_not true = refl
 not_not false = refl
 
-judged_collect : (s : Setup) (ds : Deeds) (v time : ℕ) (closing : Bool) → v < length s.writers → judged s ds (collect_event v time closing) ≡ collected_at v (writer_at s v).start (acts_of v ds) time closing
-judged_collect s ds v time true h = written_there s v _ h
-judged_collect s ds v time false h = written_there s v _ h
+judgement_collect : (s : Setup) (ds : Deeds) (v time : ℕ) (closing : Bool) → v < length s.writers → judgement s ds (collect_event v time closing) ≡ collected_at v (writer_at s v).start (acts_of v ds) time closing
+judgement_collect s ds v time true h = written_there s v _ h
+judgement_collect s ds v time false h = written_there s v _ h
 
 open_or : (b : Bool) → not b ≡ false → b ≡ true
 open_or true e = refl
@@ -169,8 +169,8 @@ out_alone false true o other f none some = cc
 out_alone false false None other f none some = cc
 out_alone false false (Some g) other f none some = (g.stream, let same : tally.Overflow g.stream ≡ f = cc some in sym same)
 
-overflow_alone : (t : Tallied) (h : List Entry) (e : Entry) (f : TallyFault) → early_fault_of t e ≡ None → refused t.plan h e ≡ Some f → (m : ℕ) × (f ≡ tally.Overflow m)
-unfolding refused early_fault_of
+overflow_alone : (t : Tallied) (h : List Entry) (e : Entry) (f : TallyFault) → early_fault_of t e ≡ None → first_refusal t.plan h e ≡ Some f → (m : ℕ) × (f ≡ tally.Overflow m)
+unfolding first_refusal early_fault_of
 overflow_alone t h e f none some =
     out_alone (is_none (kind_of t.plan e.instrument)) (is_negative_for (kind_of t.plan e.instrument) e.value) (find (overflows t.plan (h ++ e ∷ []) e.attrs) (feeds_of t.plan e.instrument))
     (option_map (λ g. tally.Overflow g.stream) (find (is_over (after_measure t e) e.attrs) (whole_first (feeds_of t.plan e.instrument)))) f none some
@@ -209,8 +209,8 @@ module _ (w : Held) (v : ℕ) (x : Written) (at_v : slice_get w.writers v ≡ So
       let there = here in
       written_there s v _ (omega arith)
       ∙ ap (λ b. guard b refusal.Closed (unless (refusal_at s v h e) (Ok (Wrote v (Measured e))))) (sym closed)
-      ∙ ap (λ (p : Planned). guard (not x.closed) refusal.Closed (unless (option_and_then refusal_of (refused p h e)) (Ok (Wrote v (Measured e))))) (sym stands.plan)
-      ∙ measure_some x.closed (refused x.tally.plan h e) f r (Ok (Wrote v (Measured e))) (sym (now_is x h e stands.tally) ∙ refuses) told)
+      ∙ ap (λ (p : Planned). guard (not x.closed) refusal.Closed (unless (option_and_then refusal_of (first_refusal p h e)) (Ok (Wrote v (Measured e))))) (sym stands.plan)
+      ∙ measure_some x.closed (first_refusal x.tally.plan h e) f r (Ok (Wrote v (Measured e))) (sym (now_is x h e stands.tally) ∙ refuses) told)
 
   -- a recording wants memory where the writer is open, and nothing is refused that is found without memory
   pub measure_wants : (i : ℕ) (a : AttrSet) (val : ℤ) → early_fault x (record { instrument = i; attrs = a; value = val }) ≡ None → Wants (event.Measure v i a val) w
@@ -225,14 +225,14 @@ module _ (w : Held) (v : ℕ) (x : Written) (at_v : slice_get w.writers v ≡ So
         let is : is_open (acts_of v ds) ≡ true = open_or (is_open (acts_of v ds)) (sym stands.closed ∙ short.0) in
         let c = st.writers.count in
         let there = here in
-        let comes : judged s ds (event.Measure v i a val) ≡ unless (option_and_then refusal_of (refused x.tally.plan h e)) (Ok d) =
-        written_there s v _ (omega arith) ∙ guard_true _ refusal.Closed _ is ∙ ap (λ (p : Planned). unless (option_and_then refusal_of (refused p h e)) (Ok d)) (sym stands.plan) in
-        let takes : (m : ℕ) → refused x.tally.plan h e ≡ Some (tally.Overflow m) → AllWhole (feeds_of (writer_at s v).plan i) → ⊥ = λ m out all.
+        let comes : judgement s ds (event.Measure v i a val) ≡ unless (option_and_then refusal_of (first_refusal x.tally.plan h e)) (Ok d) =
+        written_there s v _ (omega arith) ∙ guard_true _ refusal.Closed _ is ∙ ap (λ (p : Planned). unless (option_and_then refusal_of (first_refusal p h e)) (Ok d)) (sym stands.plan) in
+        let takes : (m : ℕ) → first_refusal x.tally.plan h e ≡ Some (tally.Overflow m) → AllWhole (feeds_of (writer_at s v).plan i) → ⊥ = λ m out all.
         let whole : AllWhole (feeds_of x.tally.plan i) = subst (λ (p : Planned). AllWhole (feeds_of p i)) (sym stands.plan) all in
-        let none = (measure_none x.closed (refused x.tally.plan h e) (sym (now_is x h e stands.tally) ∙ sym (early_is x e whole) ∙ early)).1 in
-        none_some (refused x.tally.plan h e) (tally.Overflow m) none out in
+        let none = (measure_none x.closed (first_refusal x.tally.plan h e) (sym (now_is x h e stands.tally) ∙ sym (early_is x e whole) ∙ early)).1 in
+        none_some (first_refusal x.tally.plan h e) (tally.Overflow m) none out in
         subst (λ (j : Result (Deed Entry) Refusal). IfErr j (TakesMemory s (event.Measure v i a val))) (sym comes)
-        (elim (refused x.tally.plan h e) as (λ o. refused x.tally.plan h e ≡ o → IfErr (unless (option_and_then refusal_of o) (Ok d)) (TakesMemory s (event.Measure v i a val))) [
+        (elim (first_refusal x.tally.plan h e) as (λ o. first_refusal x.tally.plan h e ≡ o → IfErr (unless (option_and_then refusal_of o) (Ok d)) (TakesMemory s (event.Measure v i a val))) [
           | None ↦ λ _. tt
           | Some f ↦ λ out. let m = overflow_alone x.tally h e f short.1 out in
               subst (λ (g : TallyFault). IfErr (unless (option_and_then refusal_of (Some g)) (Ok d)) (TakesMemory s (event.Measure v i a val))) (sym m.1) (takes m.0 (out ∙ ap Some m.1))
@@ -250,9 +250,9 @@ module _ (w : Held) (v : ℕ) (x : Written) (at_v : slice_get w.writers v ≡ So
       let acts = acts_of v ds in
       let h = running first_start acts in
       let e : Entry = record { instrument = i; attrs = a; value = val } in
-      let opened = measure_none x.closed (refused x.tally.plan h e) (sym (now_is x h e stands.tally) ∙ accepts) in
+      let opened = measure_none x.closed (first_refusal x.tally.plan h e) (sym (now_is x h e stands.tally) ∙ accepts) in
       let is : is_open acts ≡ true = open_or (is_open acts) (sym stands.closed ∙ opened.0) in
-      let fits : refusal_at s v h e ≡ None = ap (λ (p : Planned). option_and_then refusal_of (refused p h e)) (sym stands.plan) ∙ ap (option_and_then refusal_of) opened.1 in
+      let fits : refusal_at s v h e ≡ None = ap (λ (p : Planned). option_and_then refusal_of (first_refusal p h e)) (sym stands.plan) ∙ ap (option_and_then refusal_of) opened.1 in
       let starts : slice_index (starts_of s) v ≡ first_start = start_in s.writers v in
       let c = st.writers.count in
       let there = here in
@@ -294,12 +294,12 @@ module _ (w : Held) (v : ℕ) (x : Written) (at_v : slice_get w.writers v ≡ So
       let closed : not x.closed ≡ is_open acts = ap not stands.closed ∙ not_not (is_open acts) in
       let c = st.writers.count in
       let there = here in
-      judged_collect s ds v time closing (omega arith)
+      judgement_collect s ds v time closing (omega arith)
       ∙ ap (λ b. guard b refusal.Closed (guard (nat_lt (last_of first_start acts) time) (refusal.TimeNotAfter (last_of first_start acts)) (Ok (Wrote v (Collected time closing))))) (sym closed)
       ∙ ap (λ l. guard (not x.closed) refusal.Closed (guard (nat_lt l time) (refusal.TimeNotAfter l) (Ok (Wrote v (Collected time closing))))) (sym stands.last)
       ∙ collect_some x.closed x.last time refuses.fault r (Ok (Wrote v (Collected time closing))) refuses.refused refuses.told)
 
-  collect_is : (time : ℕ) (closing : Bool) → collect_fault x time ≡ None → (s : Setup) (ds : Deeds) → Stands s ds w → judged s ds (collect_event v time closing) ≡ Ok (Wrote v (Collected time closing))
+  collect_is : (time : ℕ) (closing : Bool) → collect_fault x time ≡ None → (s : Setup) (ds : Deeds) → Stands s ds w → judgement s ds (collect_event v time closing) ≡ Ok (Wrote v (Collected time closing))
   unfolding collect_fault
   collect_is time closing accepted s ds st =
       let stands = its s ds st in
@@ -311,7 +311,7 @@ module _ (w : Held) (v : ℕ) (x : Written) (at_v : slice_get w.writers v ≡ So
       let above = opened.1 in
       let c = st.writers.count in
       let there = here in
-      judged_collect s ds v time closing (omega arith) ∙ guard_true _ refusal.Closed _ is ∙ guard_true _ (refusal.TimeNotAfter (last_of first_start acts)) _ (lt-ltb (last_of first_start acts) time (omega arith))
+      judgement_collect s ds v time closing (omega arith) ∙ guard_true _ refusal.Closed _ is ∙ guard_true _ (refusal.TimeNotAfter (last_of first_start acts)) _ (lt-ltb (last_of first_start acts) time (omega arith))
 
   pub collect_wants : (time : ℕ) (closing : Bool) → collect_fault x time ≡ None → Wants (collect_event v time closing) w
   collect_wants time closing accepted = accepted_wants _ w (Wrote v (Collected time closing)) (collect_is time closing accepted)
@@ -384,7 +384,7 @@ module _ (w : Held) (v : ℕ) (x : Written) (at_v : slice_get w.writers v ≡ So
       ∙ ap (λ n. guard (nat_lt n start) (refusal.StartNotAfter n) (Ok (Wrote v (Restarted start)))) (sym stands.start)
       ∙ restart_some x.start start f r (Ok (Wrote v (Restarted start))) refuses told)
 
-  restart_is : (start : ℕ) → restart_fault x start ≡ None → (s : Setup) (ds : Deeds) → Stands s ds w → judged s ds (event.Restart v start) ≡ Ok (Wrote v (Restarted start))
+  restart_is : (start : ℕ) → restart_fault x start ≡ None → (s : Setup) (ds : Deeds) → Stands s ds w → judgement s ds (event.Restart v start) ≡ Ok (Wrote v (Restarted start))
   unfolding restart_fault
   restart_is start accepts s ds st =
       let stands = its s ds st in

@@ -7,7 +7,7 @@ use Rattle.rollup_kit.specs.Naming.{Name, key_at}
 use Rattle.rollup_kit.specs.Writers as writers
 use Rattle.schedule_kit.specs.Deeds.Holder.{AtGateway}
 use Rattle.schedule_kit.specs.Rounds.{HasNoConflict, part_at}
-use Rattle.schedule_kit.specs.Taken.{taken, newest}
+use Rattle.schedule_kit.specs.Taken.{taken_collections, newest}
 use Rattle.world_kit.specs.declared.setup.Setup.{Setup}
 use Rattle.world_kit.specs.Held.{Held}
 use Rattle.world_kit.specs.Judged.{Deeds}
@@ -25,4 +25,4 @@ HoldsNoConflict w = (g : ℕ) (n : NodeView) → slice_get w.nodes g ≡ Some n 
 -- of each incarnation a gateway holds the points of the newest collection that it took, or nothing
 abbrev pub HoldsNewest : Setup → Deeds → Held → Type 0
 HoldsNewest s ds w = (g : ℕ) (n : NodeView) → slice_get w.nodes g ≡ Some n → (v start : ℕ) → v < length s.writers → (x : Name)
-    → get n.gateway.points (key_at (writer_at s v).id start x) ≡ part_at (rounding s) (newest (taken (starts_of s) ds (AtGateway g)) v start) x
+    → get n.gateway.points (key_at (writer_at s v).id start x) ≡ part_at (rounding s) (newest (taken_collections (starts_of s) ds (AtGateway g)) v start) x

@@ -1,10 +1,10 @@
 -- Which events are accepted, and what is replied.
 use Rattle.std.specs.Prelude.{ℕ, ◌+◌, Bool, true, false, ◌&&◌, ◌==◌, if◌then◌else◌, nat_lt, List, [], ◌∷◌, length, fold, is_none, Option, None, Some, Result, Ok, Err}
 use Rattle.std.specs.Option.{option_and_then}
-use Rattle.agg_kit.specs.declared.fault.MeasureFault.{MeasureFault}
-use Rattle.agg_kit.specs.declared.fault.MeasureFault.TheVariants as faults
+use Rattle.agg_kit.specs.declared.fault.TallyFault.{TallyFault}
+use Rattle.agg_kit.specs.declared.fault.TallyFault.TheVariants as faults
 use Rattle.agg_kit.specs.Entries.{Entry}
-use Rattle.agg_kit.specs.Refusals.{refused}
+use Rattle.agg_kit.specs.Refusals.{first_refusal}
 use Rattle.gossip_kit.specs.Gossip.{last_number}
 use Rattle.point_kit.specs.Exports.{changed_points}
 use Rattle.schedule_kit.specs.Deeds.{Deed, acts_of, made, mails, mail_of, is_to}
@@ -36,11 +36,11 @@ unless None x = x
 unless (Some r) x = Err r
 
 -- a number from 1 to n
-abbrev pub counted : ℕ → ℕ → Bool
-counted k n = nat_lt 0 k && nat_lt k (n + 1)
+abbrev pub is_within : ℕ → ℕ → Bool
+is_within k n = nat_lt 0 k && nat_lt k (n + 1)
 
 -- a tally's refusal, as a world's
-abbrev pub refusal_of : MeasureFault → Option Refusal
+abbrev pub refusal_of : TallyFault → Option Refusal
 refusal_of faults.NoInstrument = Some NoInstrument
 refusal_of faults.Negative = Some Negative
 refusal_of (faults.Overflow s) = Some (Overflow s)
@@ -48,19 +48,19 @@ refusal_of faults.NoMemory = None
 
 -- why the writer at a place refuses an entry after those of its incarnation
 abbrev pub refusal_at : Setup → ℕ → List Entry → Entry → Option Refusal
-refusal_at s w h e = option_and_then refusal_of (refused (writer_at s w).plan h e)
+refusal_at s w h e = option_and_then refusal_of (first_refusal (writer_at s w).plan h e)
 
 -- whether it takes it
 abbrev pub fits_at : Setup → ℕ → List Entry → Entry → Bool
 fits_at s w h e = is_none (refusal_at s w h e)
 
 -- what the writer at a place does, if there is one
-abbrev pub written : Setup → ℕ → Result (Deed Entry) Refusal → Result (Deed Entry) Refusal
-written s w x = guard (nat_lt w (length s.writers)) NoWriter x
+abbrev pub at_writer : Setup → ℕ → Result (Deed Entry) Refusal → Result (Deed Entry) Refusal
+at_writer s w x = guard (nat_lt w (length s.writers)) NoWriter x
 
 -- what the gateway at a place does, if there is one
-abbrev pub gathered : Setup → ℕ → Result (Deed Entry) Refusal → Result (Deed Entry) Refusal
-gathered s g x = guard (nat_lt g (gateways_of s)) NoGateway x
+abbrev pub at_gateway : Setup → ℕ → Result (Deed Entry) Refusal → Result (Deed Entry) Refusal
+at_gateway s g x = guard (nat_lt g (gateways_of s)) NoGateway x
 
 -- a collection of writer w, whose events were `acts`
 abbrev pub collected_at : ℕ → ℕ → List (Act Entry) → ℕ → Bool → Result (Deed Entry) Refusal
@@ -83,20 +83,20 @@ answers s (Sent from to ∷ ds) n = if n == mails ds + 1 then nat_lt (changed_ev
 answers s (_ ∷ ds) n = answers s ds n
 
 -- the deed that an event comes to after what happened, or why it is refused
-abbrev pub judged : Setup → Deeds → Event → Result (Deed Entry) Refusal
-judged s ds (event.Measure w i a v) =
+abbrev pub judgement : Setup → Deeds → Event → Result (Deed Entry) Refusal
+judgement s ds (event.Measure w i a v) =
     let first = (writer_at s w).start in
     let e : Entry = record { instrument = i; attrs = a; value = v } in
-    written s w (guard (is_open (acts_of w ds)) Closed (unless (refusal_at s w (running first (acts_of w ds)) e) (Ok (Wrote w (Measured e)))))
-judged s ds (event.Collect w time) = written s w (collected_at w (writer_at s w).start (acts_of w ds) time false)
-judged s ds (event.Shutdown w time) = written s w (collected_at w (writer_at s w).start (acts_of w ds) time true)
-judged s ds (event.Restart w start) =
+    at_writer s w (guard (is_open (acts_of w ds)) Closed (unless (refusal_at s w (running first (acts_of w ds)) e) (Ok (Wrote w (Measured e)))))
+judgement s ds (event.Collect w time) = at_writer s w (collected_at w (writer_at s w).start (acts_of w ds) time false)
+judgement s ds (event.Shutdown w time) = at_writer s w (collected_at w (writer_at s w).start (acts_of w ds) time true)
+judgement s ds (event.Restart w start) =
     let now = start_of (writer_at s w).start (acts_of w ds) in
-    written s w (guard (nat_lt now start) (StartNotAfter now) (Ok (Wrote w (Restarted start))))
-judged s ds (event.Deliver x g) = gathered s g (guard (counted x (length (made (starts_of s) ds))) NoExport (Ok (Delivered x g)))
-judged s ds (event.Merge into from) = gathered s into (gathered s from (Ok (Merged into from)))
-judged s ds (event.Send from to) = gathered s from (gathered s to (Ok (Sent from to)))
-judged s ds (event.Hand m g) = gathered s g (guard (counted m (mails ds)) NoMail (guard (is_to g (mail_of ds m)) NotAddressed (Ok (Handed m g (answers s ds m)))))
+    at_writer s w (guard (nat_lt now start) (StartNotAfter now) (Ok (Wrote w (Restarted start))))
+judgement s ds (event.Deliver x g) = at_gateway s g (guard (is_within x (length (made (starts_of s) ds))) NoExport (Ok (Delivered x g)))
+judgement s ds (event.Merge into from) = at_gateway s into (at_gateway s from (Ok (Merged into from)))
+judgement s ds (event.Send from to) = at_gateway s from (at_gateway s to (Ok (Sent from to)))
+judgement s ds (event.Hand m g) = at_gateway s g (guard (is_within m (mails ds)) NoMail (guard (is_to g (mail_of ds m)) NotAddressed (Ok (Handed m g (answers s ds m)))))
 
 abbrev pub cons_deed : Result (Deed Entry) Refusal → Deeds → Deeds
 cons_deed (Ok d) ds = d ∷ ds
@@ -104,7 +104,7 @@ cons_deed (Err r) ds = ds
 
 -- what happened after one more event
 unfoldable pub after : Setup → Deeds → Event → Deeds
-after s ds e = cons_deed (judged s ds e) ds
+after s ds e = cons_deed (judgement s ds e) ds
 
 -- what happened by a list of events, which is in order
 abbrev pub deeds : Setup → List Event → Deeds
@@ -126,4 +126,4 @@ reply_to_judged s ds (Err r) = reply.Refused r
 
 -- the reply to an event after what happened
 unfoldable pub reply_to : Setup → Deeds → Event → Reply
-reply_to s ds e = reply_to_judged s ds (judged s ds e)
+reply_to s ds e = reply_to_judged s ds (judgement s ds e)

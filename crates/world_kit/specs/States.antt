@@ -11,7 +11,7 @@ use Rattle.point_kit.specs.Orders.{key_cmp}
 use Rattle.point_kit.specs.States.{state_of}
 use Rattle.rollup_kit.specs.Fleets as fleets
 use Rattle.schedule_kit.specs.Deeds.{Deed, Made, Holder}
-use Rattle.schedule_kit.specs.Taken.{taken}
+use Rattle.schedule_kit.specs.Taken.{taken_collections}
 use Rattle.world_kit.specs.declared.setup.Setup.{Setup}
 use Rattle.world_kit.specs.Setups.{starts_of, writers_of}
 
@@ -25,4 +25,4 @@ made_points s = fleets.made_points (writers_of s)
 
 -- the state of the exports that a holder took
 unfoldable pub state_at : Setup → List (Deed Entry) → Holder → Points
-state_at s ds h = state_of key_cmp payload_eq (flat_map (made_points s) (taken (starts_of s) ds h))
+state_at s ds h = state_of key_cmp payload_eq (flat_map (made_points s) (taken_collections (starts_of s) ds h))

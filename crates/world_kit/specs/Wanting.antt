@@ -10,7 +10,7 @@ use Rattle.world_kit.specs.declared.event.Reply.{Reply}
 use Rattle.world_kit.specs.declared.event.Reply.TheVariants as reply
 use Rattle.world_kit.specs.declared.setup.Setup.{Setup}
 use Rattle.world_kit.specs.Held.{Held}
-use Rattle.world_kit.specs.Judged.{Deeds, judged}
+use Rattle.world_kit.specs.Judged.{Deeds, judgement}
 use Rattle.world_kit.specs.Setups.{writer_at}
 use Rattle.world_kit.specs.Stands.{Stands}
 
@@ -21,7 +21,7 @@ TakesMemory s _ _ = ⊥
 
 -- an event that wants memory is not refused, but for a refusal that takes memory to find
 pub record Wants (event : Event) (w : Held) : Type 0 where
-  pub accepted : (s : Setup) (ds : Deeds) → Stands s ds w → IfErr (judged s ds event) (TakesMemory s event)
+  pub accepted : (s : Setup) (ds : Deeds) → Stands s ds w → IfErr (judgement s ds event) (TakesMemory s event)
 
 -- of a reply to a refused event
 abbrev pub OnRefused : Reply → Type 0 → Type 0

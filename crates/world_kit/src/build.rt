@@ -52,13 +52,13 @@ fn start(alloc: Global, setups: Seq<WriterSetup>) -> Result<Vec<Writer>, NoMemor
 {
     let mut writers = Vec::new(alloc);
     for setup in setups.into_vec() {
-        writers.push(begun(alloc, setup)?)?;
+        writers.push(begin_writer(alloc, setup)?)?;
     }
     Ok(writers)
 }
 
 // A writer before any event. No stream of its plan stands twice: `Plan::stream` says so of every plan.
-fn begun(alloc: Global, setup: WriterSetup) -> Result<Writer, NoMemory>
+fn begin_writer(alloc: Global, setup: WriterSetup) -> Result<Writer, NoMemory>
     ensures value { IfOk result (λ writer. WriterStands setup [] writer) }
     ensures apart { OnOk result (AreApart setup.plan.streams) }
 {

@@ -8,7 +8,7 @@ ghost use Rattle.world_kit.specs.Wanting.{OnRefused, Wants};
 ghost use Rattle.writer_kit.specs.Refusals.{collect_fault};
 
 use crate::{Refusal, Reply, World};
-use agg_kit::MeasureFault as TallyFault;
+use agg_kit::TallyFault;
 use attr_kit::{AttrSet, NoMemory};
 use bumpalo::Bump;
 use point_kit::Export;
@@ -54,7 +54,7 @@ impl World {
             return Ok(Reply::Refused(Refusal::NoWriter));
         }
         let alloc = *self.exports.allocator();
-        match copied(alloc, &self.writers[writer], time)? {
+        match export_at(alloc, &self.writers[writer], time)? {
             Ok(export) => self.exports.push(export)?,
             Err(refusal) => return Ok(Reply::Refused(refusal)),
         }
@@ -106,7 +106,7 @@ fn told_restart(fault: RestartFault) -> Result<Refusal, NoMemory>
 
 // An export of what a writer holds at a time, or its refusal. The round lies in an arena that is given up here.
 #[tactic(auto, using(crate::proofs::Copies::copies))]
-fn copied(alloc: Global, writer: &Writer, time: u64) -> Result<Result<Export, Refusal>, NoMemory>
+fn export_at(alloc: Global, writer: &Writer, time: u64) -> Result<Result<Export, Refusal>, NoMemory>
     ensures value { IfOk result (λ copy. IsCopy writer.now time copy) }
     ensures no_memory { OnErr result (collect_fault writer.now time ≡ None) }
 {

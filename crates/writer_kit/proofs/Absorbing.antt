@@ -1,16 +1,18 @@
 -- A writer that takes a recorder in follows its recordings.
-use Rattle.std.proofs.Common.{◌≡◌, ◌∙◌, ℕ, Bool, true, false, not, is_none, List, [], ◌∷◌, ◌++◌, Option, None, Some, refl, sym, ap, subst, append_assoc, append-nil}
+use Rattle.std.proofs.Common.{◌≡◌, ◌∙◌, ℕ, Bool, true, false, not, is_none, List, [], ◌∷◌, ◌++◌, length, Option, None, Some, fold, refl, sym, ap, subst, append_assoc, append-nil}
 use Rattle.std.specs.Option.{option_map}
-use Rattle.agg_kit.proofs.Recorders.{absorbing_is_recording}
-use Rattle.agg_kit.proofs.Taken.{absorbed_taken}
+use Rattle.agg_kit.proofs.Recorders.{absorbing_is_recording, holds-none, keeps-all, recorders_hold, rises-none, rises-still}
+use Rattle.agg_kit.proofs.Taken.{series_with_taken}
 use Rattle.agg_kit.specs.Entries.{Entry}
+use Rattle.agg_kit.specs.Measuring.{after_measure, empty_tally}
+use Rattle.agg_kit.specs.Recorders.{Holds, OnlyRises}
 use Rattle.agg_kit.specs.Recorders as recorders
-use Rattle.agg_kit.specs.Refusals.{refused}
+use Rattle.agg_kit.specs.Refusals.{first_refusal}
 use Rattle.agg_kit.specs.Rounds.{StandsFor}
-use Rattle.agg_kit.specs.Taken.{AreTaken, HasRecorded}
+use Rattle.agg_kit.specs.Taken.{AreRecorded, AreTaken, HasRecorded}
 use Rattle.agg_kit.specs.Tallies.{Tallied}
-use Rattle.agg_kit.specs.declared.fault.MeasureFault.{MeasureFault}
-use Rattle.plan_kit.specs.Plans.{Planned}
+use Rattle.agg_kit.specs.declared.fault.TallyFault.{TallyFault}
+use Rattle.plan_kit.specs.Plans.{Planned, AreFeeds, feeds_of}
 use Rattle.attr_kit.specs.Refusing.{first, when}
 use Rattle.schedule_kit.proofs.History.{none_yet}
 use Rattle.schedule_kit.specs.Schedule.{Act, start_of, last_of, is_open, running, AreAccepted}
@@ -18,6 +20,7 @@ use Rattle.schedule_kit.specs.Schedule.Act.{Measured, Collected, Restarted}
 use Rattle.writer_kit.proofs.Following.{is_still_open, runs}
 use Rattle.writer_kit.specs.Absorbing.{absorb_fault, measured_after, with_recordings, AbsorbingAppends, RecordersAreEvents}
 use Rattle.writer_kit.specs.Following.{Follows, fits}
+use Rattle.writer_kit.specs.PlanFeeds.{AllFeeds}
 use Rattle.writer_kit.specs.Written.{Written}
 use Rattle.writer_kit.specs.declared.fault.AbsorbFault.TheVariants as absorb
 
@@ -27,7 +30,7 @@ pub absorb_closed : (w : Written) (r : Tallied) → w.closed ≡ true → absorb
 unfolding absorb_fault
 absorb_closed w r c = rw c refl
 
-pub absorb_refused : (w : Written) (r : Tallied) (f : MeasureFault) → w.closed ≡ false → recorders.absorb_fault w.tally r ≡ Some f → absorb_fault w r ≡ Some (absorb.Refused f)
+pub absorb_refused : (w : Written) (r : Tallied) (f : TallyFault) → w.closed ≡ false → recorders.absorb_fault w.tally r ≡ Some f → absorb_fault w r ≡ Some (absorb.Refused f)
 unfolding absorb_fault
 absorb_refused w r f c e = rw (c, e) refl
 
@@ -57,22 +60,46 @@ runs_on first acts (e ∷ es) = runs_on first (Measured e ∷ acts) es ∙ ap (�
 pub absorbing_appends : AbsorbingAppends
 absorbing_appends w r h k plan rises holds stands = absorbing_is_recording w.tally r h k plan rises stands holds
 
+-- ---- what a recorder recorded, it holds
+
+holds-all : (p : Planned) → AllFeeds p → (r : Tallied) (h k : List Entry) → r.plan ≡ p → Holds r h → AreRecorded r k → Holds (fold after_measure r k) (h ++ k)
+holds-all p feeds r h [] is holds rec = subst (Holds r) (sym (append-nil h)) holds
+holds-all p feeds r h (e ∷ k) is holds rec =
+    let fed : AreFeeds (length r.plan.streams) (feeds_of r.plan e.instrument) = subst (λ (q : Planned). AreFeeds (length q.streams) (feeds_of q e.instrument)) (sym is) (feeds e.instrument) in
+    subst (Holds (fold after_measure (after_measure r e) k)) (append_assoc h (e ∷ []) k) (holds-all p feeds (after_measure r e) (h ++ e ∷ []) k is (recorders_hold r h e fed holds rec.0) rec.2)
+
+rises-all : (r : Tallied) (k : List Entry) → OnlyRises r → AreRecorded r k → OnlyRises (fold after_measure r k)
+rises-all r [] only rec = only
+rises-all r (e ∷ k) only rec = rises-all (after_measure r e) k (rises-still r e (keeps-all r e rec.0) only) rec.2
+
+recorded_holds : (r : Tallied) (k : List Entry) → AllFeeds r.plan → HasRecorded r k → Holds r k × OnlyRises r
+recorded_holds r k feeds has = (
+  subst (λ (x : Tallied). Holds x k) has.all (holds-all r.plan feeds (empty_tally r.plan) [] k refl (holds-none r.plan) has.each),
+  subst OnlyRises has.all (rises-all (empty_tally r.plan) k (rises-none r.plan) has.each),
+)
+
+-- a writer that takes a recorder in stands for what it stood for, followed by whatever the recorder recorded
+pub recorded_appends : (w : Written) (r : Tallied) (h k : List Entry) → r.plan ≡ w.tally.plan → AllFeeds w.tally.plan → HasRecorded r k → StandsFor w.tally h → StandsFor (with_recordings w r).tally (h ++ k)
+recorded_appends w r h k plan feeds has stands =
+    let held = recorded_holds r k (subst AllFeeds (sym plan) feeds) has in
+    absorbing_appends w r h k plan held.1 held.0 stands
+
 pub absorb_open : (w : Written) (r : Tallied) → absorb_fault w r ≡ None → (w.closed ≡ false) × (recorders.absorb_fault w.tally r ≡ None)
 unfolding absorb_fault
 absorb_open w r none = by w.closed (recorders.absorb_fault w.tally r) none
   where
-    by : (b : Bool) (o : Option MeasureFault) → first (when b absorb.Closed ∷ option_map (λ f. absorb.Refused f) o ∷ []) ≡ None → (b ≡ false) × (o ≡ None)
+    by : (b : Bool) (o : Option TallyFault) → first (when b absorb.Closed ∷ option_map (λ f. absorb.Refused f) o ∷ []) ≡ None → (b ≡ false) × (o ≡ None)
     by true o e = cc
     by false (Some f) e = cc
     by false None e = (refl, refl)
 
 -- ---- recordings that are accepted, one after the other
 
-taken-push : (p : Planned) (h k : List Entry) (e : Entry) → AreTaken p h k → refused p (h ++ k) e ≡ None → AreTaken p h (k ++ e ∷ [])
-taken-push p h [] e t none = (ap (λ l. refused p l e) (sym (append-nil h)) ∙ none, tt)
-taken-push p h (x ∷ k) e t none = (t.0, taken-push p (h ++ x ∷ []) k e t.1 (ap (λ l. refused p l e) (append_assoc h (x ∷ []) k) ∙ none))
+taken-push : (p : Planned) (h k : List Entry) (e : Entry) → AreTaken p h k → first_refusal p (h ++ k) e ≡ None → AreTaken p h (k ++ e ∷ [])
+taken-push p h [] e t none = (ap (λ l. first_refusal p l e) (sym (append-nil h)) ∙ none, tt)
+taken-push p h (x ∷ k) e t none = (t.0, taken-push p (h ++ x ∷ []) k e t.1 (ap (λ l. first_refusal p l e) (append_assoc h (x ∷ []) k) ∙ none))
 
-none-of : (o : Option MeasureFault) → is_none o ≡ true → o ≡ None
+none-of : (o : Option TallyFault) → is_none o ≡ true → o ≡ None
 none-of None h = refl
 none-of (Some f) h = absurd (cc)
 
@@ -80,7 +107,7 @@ none-of (Some f) h = absurd (cc)
 running-taken : (p : Planned) (first : ℕ) (acts : List (Act Entry)) → AreAccepted (fits p) first acts → AreTaken p [] (running first acts)
 running-taken p first [] a = tt
 running-taken p first (Measured e ∷ acts) a =
-    subst (AreTaken p []) (sym (runs first acts e)) (taken-push p [] (running first acts) e (running-taken p first acts a.1) (none-of (refused p (running first acts) e) a.0.1))
+    subst (AreTaken p []) (sym (runs first acts e)) (taken-push p [] (running first acts) e (running-taken p first acts a.1) (none-of (first_refusal p (running first acts) e) a.0.1))
 running-taken p first (Collected time closing ∷ acts) a = running-taken p first acts a.1
 running-taken p first (Restarted start ∷ acts) a = subst (AreTaken p []) (sym (none_yet first (fits p) acts a.1 start a.0)) tt
 
@@ -92,7 +119,7 @@ accepts-all p first acts (e ∷ k) a o t =
 pub recorders_are_events : RecordersAreEvents
 recorders_are_events first acts w r k alike feeds has f none =
     let open_ = absorb_open w r none in
-    let all = absorbed_taken w.tally r (running first acts) k alike feeds f.points (running-taken w.tally.plan first acts f.accepted) has open_.1 in
+    let all = series_with_taken w.tally r (running first acts) k alike feeds f.points (running-taken w.tally.plan first acts f.accepted) has open_.1 in
     record {
       accepted = accepts-all w.tally.plan first acts k f.accepted (is_still_open acts w.closed open_.0 f.opened) all.0;
       start = f.start ∙ sym (starts_still first acts k);

@@ -1,18 +1,18 @@
 -- A writer that follows accepted events still does after one more.
 use Rattle.std.proofs.Common.{◌≡◌, ◌∙◌, ℕ, ◌<◌, Bool, true, false, not, is_none, List, [], ◌∷◌, ◌++◌, None, refl, sym, ap, subst, arith}
 use Rattle.std.proofs.lemmas.Bool.{eq-eqb}
-use Rattle.agg_kit.proofs.Refusals.{refused-is}
+use Rattle.agg_kit.proofs.Refusals.{first_refusal-is}
 use Rattle.agg_kit.proofs.Rounds.{stands-push}
 use Rattle.agg_kit.specs.Entries.{Entry}
 use Rattle.agg_kit.specs.Measuring.{empty_tally}
-use Rattle.agg_kit.specs.Refusals.{refused}
+use Rattle.agg_kit.specs.Refusals.{first_refusal}
 use Rattle.agg_kit.specs.Tallies.{Tallied}
 use Rattle.agg_kit.specs.Rounds.{StandsFor, round}
 use Rattle.plan_kit.specs.Plans.{Planned}
 use Rattle.round_kit.specs.Rounds.{points_of}
 use Rattle.round_kit.specs.Rounds as rounds
 use Rattle.schedule_kit.proofs.History.{none_yet}
-use Rattle.schedule_kit.specs.Schedule.{Act, start_of, last_of, is_open, running, collected, AreAccepted}
+use Rattle.schedule_kit.specs.Schedule.{Act, start_of, last_of, is_open, running, collection_after, AreAccepted}
 use Rattle.schedule_kit.specs.Schedule.Act.{Measured, Collected, Restarted}
 use Rattle.point_kit.specs.declared.writer_id.WriterId.{WriterId}
 use Rattle.writer_kit.proofs.Refusals.{now_open, collect_open, collect_later, restart_later}
@@ -38,7 +38,7 @@ empty_stands t p is = subst (λ (t : Tallied). StandsFor t []) (sym is) refl
 pub started : (start : ℕ) (w : Written) → w.start ≡ start → w.last ≡ start → w.closed ≡ false → StandsFor w.tally [] → Follows start [] w
 started start w s l c t = record { accepted = tt; start = s; last = l; opened = ap not c; points = t }
 
-pub measured : (first : ℕ) (acts : List (Act Entry)) (e : Entry) (w v : Written) → w.closed ≡ false → ((h : List Entry) → StandsFor w.tally h → refused w.tally.plan h e ≡ None)
+pub measured : (first : ℕ) (acts : List (Act Entry)) (e : Entry) (w v : Written) → w.closed ≡ false → ((h : List Entry) → StandsFor w.tally h → first_refusal w.tally.plan h e ≡ None)
     → ((h : List Entry) → StandsFor w.tally h → StandsFor v.tally (h ++ e ∷ [])) → v.tally.plan ≡ w.tally.plan → v ≡ record w { tally = v.tally }
     → Follows first acts w → Follows first (Measured e ∷ acts) v
 measured first acts e w v closed fit stands plan rest f =
@@ -85,7 +85,7 @@ restarted first acts start w v rises empty plan rest f =
 
 -- the round that a writer gives is that of the collection which is read off its events
 pub collects : (first : ℕ) (acts : List (Act Entry)) (time : ℕ) (w : Written) (r : rounds.Collected) → r.start ≡ w.start → r.time ≡ time → r.points ≡ points_of w.tally.plan.streams w.tally.series
-    → Follows first acts w → r ≡ round_of w.tally.plan (collected first acts time)
+    → Follows first acts w → r ≡ round_of w.tally.plan (collection_after first acts time)
 collects first acts time w r s t p f =
     let starts : r.start ≡ start_of first acts = s ∙ f.start in
     let points : r.points ≡ points_of w.tally.plan.streams (round w.tally.plan (running first acts)) = p ∙ ap (points_of w.tally.plan.streams) f.points in
@@ -99,7 +99,7 @@ starts id plan start = started start (new_writer id plan start) refl refl refl r
 pub measures : (first : ℕ) (acts : List (Act Entry)) (w : Written) (e : Entry) → Follows first acts w → fault_now w e ≡ None → Follows first (Measured e ∷ acts) (recorded w e)
 measures first acts w e f none =
     let fits = now_open w e none in
-    measured first acts e w (recorded w e) fits.0 (λ h s. sym (refused-is w.tally h e s) ∙ fits.1) (λ h s. stands-push w.tally h e s) refl refl f
+    measured first acts e w (recorded w e) fits.0 (λ h s. sym (first_refusal-is w.tally h e s) ∙ fits.1) (λ h s. stands-push w.tally h e s) refl refl f
 
 pub marks : (first : ℕ) (acts : List (Act Entry)) (w : Written) (time : ℕ) (closing : Bool) → Follows first acts w → collect_fault w time ≡ None → Follows first (Collected time closing ∷ acts) (after_collect w time closing)
 marks first acts w time closing f none = marked first acts time closing w (after_collect w time closing) (collect_open w time none) (collect_later w time none) refl f
@@ -107,7 +107,7 @@ marks first acts w time closing f none = marked first acts time closing w (after
 pub restarts : (first : ℕ) (acts : List (Act Entry)) (w : Written) (start : ℕ) → Follows first acts w → restart_fault w start ≡ None → Follows first (Restarted start ∷ acts) (after_restart w start)
 restarts first acts w start f none = restarted first acts start w (after_restart w start) (restart_later w start none) refl refl refl f
 
-pub rounds_of : (first : ℕ) (acts : List (Act Entry)) (w : Written) (time : ℕ) → Follows first acts w → round_now w time ≡ round_of w.tally.plan (collected first acts time)
+pub rounds_of : (first : ℕ) (acts : List (Act Entry)) (w : Written) (time : ℕ) → Follows first acts w → round_now w time ≡ round_of w.tally.plan (collection_after first acts time)
 rounds_of first acts w time f = collects first acts time w (round_now w time) refl refl refl f
 
 pub is_round : (w : Written) (time : ℕ) (r : rounds.Collected) → r.start ≡ w.start → r.time ≡ time → r.points ≡ points_of w.tally.plan.streams w.tally.series → r ≡ round_now w time

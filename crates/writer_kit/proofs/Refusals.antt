@@ -5,19 +5,19 @@ use Rattle.std.specs.Option.{option_map}
 use Rattle.std.proofs.lemmas.Bool.{le-leb, lt-leb, leb-false}
 use Rattle.attr_kit.specs.Refusing.{first, when}
 use Rattle.agg_kit.specs.Entries.{Entry}
-use Rattle.agg_kit.proofs.Refusals.{early-is, refused-is}
+use Rattle.agg_kit.proofs.Refusals.{early-is, first_refusal-is}
 use Rattle.agg_kit.specs.Feeds.{AllWhole}
 use Rattle.agg_kit.specs.Measuring.{fault_of, early_fault_of}
-use Rattle.agg_kit.specs.Refusals.{refused}
+use Rattle.agg_kit.specs.Refusals.{first_refusal}
 use Rattle.agg_kit.specs.Rounds.{StandsFor}
-use Rattle.agg_kit.specs.declared.fault.MeasureFault.{MeasureFault}
+use Rattle.agg_kit.specs.declared.fault.TallyFault.{TallyFault}
 use Rattle.plan_kit.specs.Plans.{feeds_of}
 use Rattle.writer_kit.specs.Refusals.{no_memory, measure_fault, fault_now, early_fault, collect_fault, restart_fault}
 use Rattle.writer_kit.specs.Written.{Written}
 use Rattle.writer_kit.specs.declared.fault.CollectFault.TheVariants as collect
 use Rattle.writer_kit.specs.declared.fault.MeasureFault as measures
 use Rattle.writer_kit.specs.declared.fault.MeasureFault.TheVariants as measure
-use Rattle.agg_kit.specs.declared.fault.MeasureFault.TheVariants as tallies
+use Rattle.agg_kit.specs.declared.fault.TallyFault.TheVariants as tallies
 use Rattle.writer_kit.specs.declared.fault.RestartFault.TheVariants as restart
 
 -- a recording, by the points
@@ -25,7 +25,7 @@ pub now_closed : (w : Written) (e : Entry) → w.closed ≡ true → fault_now w
 unfolding fault_now
 now_closed w e c = rw c refl
 
-pub now_refused : (w : Written) (e : Entry) (f : MeasureFault) → w.closed ≡ false → fault_of w.tally e ≡ Some f → fault_now w e ≡ Some (measure.Refused f)
+pub now_refused : (w : Written) (e : Entry) (f : TallyFault) → w.closed ≡ false → fault_of w.tally e ≡ Some f → fault_now w e ≡ Some (measure.Refused f)
 unfolding fault_now
 now_refused w e f c r = rw (c, r) refl
 
@@ -33,7 +33,7 @@ pub now_accepted : (w : Written) (e : Entry) → w.closed ≡ false → fault_of
 unfolding fault_now
 now_accepted w e c r = rw (c, r) refl
 
-pub all_told : {R : Type 0} (w : Written) (e : Entry) (r : Result R measures.MeasureFault) (f : MeasureFault) → r ≡ Err (measure.Refused f) → w.closed ≡ false → (f ≢ tallies.NoMemory → fault_of w.tally e ≡ Some f)
+pub all_told : {R : Type 0} (w : Written) (e : Entry) (r : Result R measures.MeasureFault) (f : TallyFault) → r ≡ Err (measure.Refused f) → w.closed ≡ false → (f ≢ tallies.NoMemory → fault_of w.tally e ≡ Some f)
     → IfErr r (λ g. g ≢ no_memory → fault_now w e ≡ Some g)
 all_told w e r f is open_ told =
     subst (λ x. IfErr x (λ g. g ≢ no_memory → fault_now w e ≡ Some g)) (sym is) (λ other. now_refused w e f open_ (told (λ same. other (ap measure.Refused same))))
@@ -43,7 +43,7 @@ pub early_accepted : (w : Written) (e : Entry) → w.closed ≡ false → early_
 unfolding early_fault
 early_accepted w e c r = rw (c, r) refl
 
-pub all_short : {R : Type 0} (w : Written) (e : Entry) (r : Result R measures.MeasureFault) (f : MeasureFault) → r ≡ Err (measure.Refused f) → w.closed ≡ false
+pub all_short : {R : Type 0} (w : Written) (e : Entry) (r : Result R measures.MeasureFault) (f : TallyFault) → r ≡ Err (measure.Refused f) → w.closed ≡ false
     → (f ≡ tallies.NoMemory → early_fault_of w.tally e ≡ None) → IfErr r (λ g. g ≡ no_memory → early_fault w e ≡ None)
 all_short w e r f is open_ short =
     subst (λ x. IfErr x (λ g. g ≡ no_memory → early_fault w e ≡ None)) (sym is) (λ same. early_accepted w e open_ (short (inner same)))
@@ -57,7 +57,7 @@ none_told r x P is = subst (λ y. IfErr y P) (sym is) tt
 -- by the points it is refused as by the recordings for which they stand
 pub now_is : (w : Written) (h : List Entry) (e : Entry) → StandsFor w.tally h → fault_now w e ≡ measure_fault w h e
 unfolding fault_now measure_fault
-now_is w h e s = ap (λ o. first (when w.closed measure.Closed ∷ option_map (λ f. measure.Refused f) o ∷ [])) (refused-is w.tally h e s)
+now_is w h e s = ap (λ o. first (when w.closed measure.Closed ∷ option_map (λ f. measure.Refused f) o ∷ [])) (first_refusal-is w.tally h e s)
 
 -- where every feed keeps all keys, nothing is looked for after memory is wanted
 pub early_is : (w : Written) (e : Entry) → AllWhole (feeds_of w.tally.plan e.instrument) → early_fault w e ≡ fault_now w e
@@ -69,7 +69,7 @@ pub now_open : (w : Written) (e : Entry) → fault_now w e ≡ None → (w.close
 unfolding fault_now
 now_open w e none = by w.closed (fault_of w.tally e) none
   where
-    by : (b : Bool) (o : Option MeasureFault) → first (when b measure.Closed ∷ option_map (λ f. measure.Refused f) o ∷ []) ≡ None → (b ≡ false) × (o ≡ None)
+    by : (b : Bool) (o : Option TallyFault) → first (when b measure.Closed ∷ option_map (λ f. measure.Refused f) o ∷ []) ≡ None → (b ≡ false) × (o ≡ None)
     by true o e = cc
     by false (Some f) e = cc
     by false None e = (refl, refl)

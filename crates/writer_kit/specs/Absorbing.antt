@@ -8,7 +8,7 @@ use Rattle.agg_kit.specs.Recorders as recorders
 use Rattle.agg_kit.specs.Rounds.{StandsFor}
 use Rattle.agg_kit.specs.Taken.{HasRecorded}
 use Rattle.agg_kit.specs.Tallies.{Tallied}
-use Rattle.agg_kit.specs.declared.fault.MeasureFault.TheVariants as tallies
+use Rattle.agg_kit.specs.declared.fault.TallyFault.TheVariants as tallies
 use Rattle.schedule_kit.specs.Schedule.{Act}
 use Rattle.writer_kit.specs.Following.{Follows}
 use Rattle.writer_kit.specs.PlanFeeds.{AllFeeds}

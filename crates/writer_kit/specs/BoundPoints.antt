@@ -2,7 +2,7 @@
 use Rattle.std.specs.Prelude.{◌≡◌, ◌≢◌, true, false, None, Some, [], ℤ}
 use Rattle.agg_kit.specs.BoundPoints.{IsBound, entry_at}
 use Rattle.agg_kit.specs.Measuring.{fault_of, early_fault_of}
-use Rattle.agg_kit.specs.declared.fault.MeasureFault.TheVariants as tallies
+use Rattle.agg_kit.specs.declared.fault.TallyFault.TheVariants as tallies
 use Rattle.writer_kit.specs.Written.{Written}
 use Rattle.writer_kit.specs.declared.bound.BoundPoint.{BoundPoint}
 use Rattle.writer_kit.specs.declared.fault.BoundFault.{BoundFault}

@@ -1,7 +1,7 @@
 -- What a writer is after events that it accepted.
 use Rattle.std.specs.Prelude.{◌≡◌, ℕ, Bool, not, is_none, List}
 use Rattle.agg_kit.specs.Entries.{Entry}
-use Rattle.agg_kit.specs.Refusals.{refused}
+use Rattle.agg_kit.specs.Refusals.{first_refusal}
 use Rattle.agg_kit.specs.Rounds.{StandsFor, round}
 use Rattle.plan_kit.specs.Plans.{Planned}
 use Rattle.round_kit.specs.Rounds.{points_of}
@@ -11,7 +11,7 @@ use Rattle.writer_kit.specs.Written.{Written}
 
 -- whether a recording is accepted after those that an incarnation has
 abbrev pub fits : Planned → List Entry → Entry → Bool
-fits plan h e = is_none (refused plan h e)
+fits plan h e = is_none (first_refusal plan h e)
 
 -- a writer that began at `first` has accepted these events, the newest first: its times and whether it is open are read off them, and its points are the round of what was recorded since its start
 pub record Follows (first : ℕ) (acts : List (Act Entry)) (w : Written) : Type 0 where

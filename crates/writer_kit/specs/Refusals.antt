@@ -4,8 +4,8 @@ use Rattle.std.specs.Option.{option_map}
 use Rattle.attr_kit.specs.Refusing.{first, when}
 use Rattle.agg_kit.specs.Entries.{Entry}
 use Rattle.agg_kit.specs.Measuring.{fault_of, early_fault_of}
-use Rattle.agg_kit.specs.Refusals.{refused}
-use Rattle.agg_kit.specs.declared.fault.MeasureFault.TheVariants as tallies
+use Rattle.agg_kit.specs.Refusals.{first_refusal}
+use Rattle.agg_kit.specs.declared.fault.TallyFault.TheVariants as tallies
 use Rattle.writer_kit.specs.Written.{Written}
 use Rattle.writer_kit.specs.declared.fault.CollectFault.{CollectFault}
 use Rattle.writer_kit.specs.declared.fault.CollectFault.TheVariants as collect
@@ -20,7 +20,7 @@ no_memory = measure.Refused tallies.NoMemory
 
 -- why a recording is refused where the writer's points stand for the recordings h: it is closed, or else what its tally refuses
 unfoldable pub measure_fault : Written → List Entry → Entry → Option MeasureFault
-measure_fault w h e = first (when w.closed measure.Closed ∷ option_map (λ f. measure.Refused f) (refused w.tally.plan h e) ∷ [])
+measure_fault w h e = first (when w.closed measure.Closed ∷ option_map (λ f. measure.Refused f) (first_refusal w.tally.plan h e) ∷ [])
 
 -- the same by the points of the writer
 unfoldable pub fault_now : Written → Entry → Option MeasureFault

@@ -1,7 +1,7 @@
 //! Why a writer refuses.
 ghost use Rattle.std.specs.Prelude.{◌≡◌};
 
-use agg_kit::MeasureFault as TallyFault;
+use agg_kit::TallyFault;
 use attr_kit::NoMemory;
 use thiserror::Error;
 

@@ -1,17 +1,23 @@
 //! What a writer's steps mean for its schedule.
-ghost use Rattle.std.specs.Prelude.{◌≡◌, ℕ, Bool, None, List, [], ◌∷◌};
+ghost use Rattle.std.specs.Prelude.{◌≡◌, ℕ, Bool, None, List, [], ◌∷◌, ◌++◌};
 ghost use Rattle.agg_kit.specs.Entries.{Entry};
 ghost use Rattle.agg_kit.specs.Feeds.{AllWhole};
 ghost use Rattle.agg_kit.specs.Rounds.{StandsFor};
+ghost use Rattle.agg_kit.specs.Taken.{HasRecorded};
+ghost use Rattle.agg_kit.specs.Tallies.{Tallied};
 ghost use Rattle.plan_kit.specs.Plans.{Planned, feeds_of};
 ghost use Rattle.point_kit.specs.declared.writer_id.WriterId.{WriterId};
 ghost use Rattle.schedule_kit.specs.Schedule.Act.{Measured, Collected, Restarted};
+ghost use Rattle.turn_kit.specs.History.{weigh_log};
 ghost use Rattle.writer_kit.specs.Absorbing.{AbsorbingAppends, RecordersAreEvents};
 ghost use Rattle.writer_kit.specs.Following.{Follows, round_of};
 ghost use Rattle.writer_kit.specs.Recording.{new_writer, recorded, after_collect, after_restart, round_now};
 ghost use Rattle.writer_kit.specs.Refusals.{measure_fault, fault_now, early_fault, collect_fault, restart_fault};
-ghost use Rattle.writer_kit.specs.Schedules.{Act, collected};
+ghost use Rattle.writer_kit.specs.Schedules.{Act, collection_after};
+ghost use Rattle.writer_kit.specs.Shared.{History, AreToldBy, IsToldBy, absorbs, changes_of, entries_of};
 ghost use Rattle.writer_kit.specs.Written.{Written};
+ghost use Rattle.writer_kit.specs.declared.shared.change.WriterChange.{WriterChange};
+ghost use Rattle.writer_kit.specs.declared.shared.change.WriterChange.TheVariants as changes;
 
 /// The steps of a writer are events of its schedule: a new writer follows none, one that follows events follows after a
 /// step these events and one more, and its round is that of the collection which is read off them.
@@ -25,7 +31,7 @@ pub fn steps_are_events()
     ensures restarted { (first : ℕ) (acts : List (Act Entry)) (w : Written) (start : ℕ) → Follows first acts w
         → restart_fault w start ≡ None → Follows first (Restarted start ∷ acts) (after_restart w start) }
     ensures round { (first : ℕ) (acts : List (Act Entry)) (w : Written) (time : ℕ) → Follows first acts w
-        → round_now w time ≡ round_of w.tally.plan (collected first acts time) }
+        → round_now w time ≡ round_of w.tally.plan (collection_after first acts time) }
 {}
 
 /// Whatever recordings a writer's points stand for, it refuses one more as the definition says of these. Where every feed
@@ -43,4 +49,18 @@ pub fn refusals_are_of_recordings()
 pub fn absorbing_is_measuring()
     ensures appends { AbsorbingAppends }
     ensures events { RecordersAreEvents }
+{}
+
+/// How the history of a shared writer is told. One that took no recorder in is told by itself, and by no other. A recorder is told
+/// by whatever recordings it accepted since it was empty, which are then measured entries, and a history with one change more where
+/// that change is told.
+#[tactic(auto, using(crate::proofs::Sharing::tells_itself, crate::proofs::Sharing::tells_only, crate::proofs::Sharing::tells_recorder, crate::proofs::Sharing::tells_more, crate::proofs::Sharing::entries_more))]
+pub fn histories_are_told()
+    ensures itself { (p : Planned) (h : History) → weigh_log absorbs h ≡ 0 → AreToldBy p h h }
+    ensures only { (p : Planned) (h told : History) → weigh_log absorbs h ≡ 0 → AreToldBy p h told → told ≡ h }
+    ensures recorder { (p : Planned) (n : ℕ) (r : Tallied) (k : List Entry) → r.plan ≡ p → HasRecorded r k
+        → IsToldBy p n (changes.Absorbed r) (changes_of n k) }
+    ensures entries { (h : History) (n : ℕ) (k : List Entry) → entries_of (h ++ changes_of n k) ≡ entries_of h ++ k }
+    ensures more { (p : Planned) (h told some : History) (n : ℕ) (c : WriterChange) → AreToldBy p h told → IsToldBy p n c some
+        → AreToldBy p (h ++ (n, c) ∷ []) (told ++ some) }
 {}

@@ -3,7 +3,7 @@
 ghost use Rattle.std.specs.Prelude.{◌≡◌, ◌↔◌, ◌<◌, ◌≤◌, ◌^◌, IfOk, IfErr};
 ghost use Rattle.turn_kit.specs.Public.{IsFirst, IsBadLimit, HasAsked, Closes, AreOut, told_out};
 ghost use Rattle.turn_kit.specs.declared.fault.TurnFault.TheVariants.{BadLimit};
-ghost use Rattle.writer_kit.specs.Shared.{IsAt, IsSameShared, Serves, first_of, most_of, told};
+ghost use Rattle.writer_kit.specs.Shared.{IsAt, IsSameShared, Serves, first_of, most_of, after_writer_change};
 
 mod change;
 mod steps;
@@ -69,8 +69,8 @@ impl<G> SharedWriter<G> {
     /// memory.
     pub fn close(self, seat: Seat<Writer>) -> Result<Writer, SeatsOut<G>>
         requires { IsAt self seat }
-        ensures ok { IfOk result (Closes (λ w. w) told (first_of self) seat) }
-        ensures serves { IfOk result (λ w. (c : Closes (λ w. w) told (first_of self) seat w) × Serves (first_of self) c.history w) }
+        ensures ok { IfOk result (Closes (λ w. w) after_writer_change (first_of self) seat) }
+        ensures serves { IfOk result (λ w. (c : Closes (λ w. w) after_writer_change (first_of self) seat w) × Serves (first_of self) c.history w) }
         ensures err { IfErr result (λ e. (e.writer ≡ self) × IsAt e.writer e.seat × HasAsked seat e.seat) }
         ensures out { IfErr result (λ e. (e.out ≡ told_out e.seat) × (0 < e.out) × AreOut seat e.out) }
     {

@@ -1,6 +1,6 @@
-//! Paces at the end of time, the text of a fault, and recorders of one writer.
+//! Paces at the end of time, and the text of a fault.
 use super::*;
-use attr_kit::{AttrSet, NoMemory, Seq, Txt};
+use attr_kit::{NoMemory, Seq, Txt};
 use plan_kit::{DEFAULT_LIMIT, Instrument, Kind, Plan};
 use point_kit::{Payload, WriterId};
 use std::alloc::Global;
@@ -64,22 +64,5 @@ fn faults_are_told(rt: HostRuntime) -> Result<(), Fail> {
         text.as_str(),
         "the time is not after 200, the last collection or the start"
     );
-    Ok(())
-}
-
-#[test]
-fn two_recorders_of_one_writer(rt: HostRuntime) -> Result<(), Fail> {
-    let alloc = rt.alloc();
-    let none = AttrSet::empty(alloc);
-    let mut writer = counting_from(alloc, 100)?;
-    let mut first = writer.recorder(alloc)?;
-    let mut second = writer.recorder(alloc)?;
-    first.measure(0, &none, 3)?;
-    second.measure(0, &none, 4)?;
-    writer.measure(0, &none, 5)?;
-    writer.absorb(&mut first)?;
-    writer.absorb(&mut second)?;
-    assert!(rt; held(&writer) == Some(12));
-    assert!(rt; first.is_empty() && second.is_empty());
     Ok(())
 }

@@ -12,7 +12,7 @@ ghost use Rattle.writer_kit.specs.Recording.{recorded, after_collect, after_rest
 ghost use Rattle.writer_kit.specs.Refusals.{no_memory, fault_now, early_fault, collect_fault, restart_fault};
 
 use crate::{AbsorbFault, BoundFault, BoundPoint, CollectFault, MeasureFault, RestartFault};
-use agg_kit::{MeasureFault as TallyFault, Recorder, Tally};
+use agg_kit::{Recorder, Tally, TallyFault};
 use attr_kit::{AttrSet, NoMemory};
 use bumpalo::Bump;
 use plan_kit::Plan;
@@ -140,7 +140,8 @@ impl Writer {
         ensures ok { OnOk result (HasInstrument self.now.tally instrument) }
         ensures value { IfOk result (λ b. (b.point.instrument ≡ instrument) × (b.point.attrs ≡ attrs.now) × (b.start ≡ self.now.start)) }
         ensures home { IfOk result (λ b. IsAtHome self.now b) }
-        ensures err { IfErr result (λ f. f ≢ TallyFault.NoMemory → (f ≡ TallyFault.NoInstrument) × LacksInstrument self.now.tally instrument) }
+        ensures err { IfErr result (λ f. f ≢ TallyFault.NoMemory
+            → (f ≡ TallyFault.NoInstrument) × LacksInstrument self.now.tally instrument) }
         ensures no_memory { IfErr result (λ f. f ≡ TallyFault.NoMemory → HasInstrument self.now.tally instrument) }
     {
         Ok(BoundPoint {

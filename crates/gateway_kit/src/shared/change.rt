@@ -1,6 +1,6 @@
 //! A gateway as a machine: its state, and what a change makes of it.
-ghost use Rattle.gateway_kit.specs.View.{View};
-ghost use Rattle.gateway_kit.specs.Shared.{told};
+ghost use Rattle.gateway_kit.specs.GatewayState.{GatewayState};
+ghost use Rattle.gateway_kit.specs.Shared.{after_gateway_change};
 
 use crate::gateway::Gateway;
 use point_kit::Export;
@@ -18,9 +18,9 @@ pub enum GatewayChange {
 impl Machine for Gateway {
     type Entry = GatewayChange;
 
-    ghost State = { View };
+    ghost State = { GatewayState };
 
     ghost state = { λ g. g };
 
-    ghost after = { told };
+    ghost after = { after_gateway_change };
 }

@@ -1,4 +1,4 @@
-//! The parts of a gateway after a restart.
+//! The incarnations of a gateway after a restart.
 use super::builders::{newest, single, told};
 use crate::Gateway;
 use std::alloc::Global;
@@ -13,7 +13,7 @@ fn restarted(alloc: Global) -> Result<Gateway, Fail> {
 }
 
 #[test]
-fn a_part_is_one_incarnation(rt: HostRuntime) -> Result<(), Fail> {
+fn each_start_is_an_incarnation_of_its_own(rt: HostRuntime) -> Result<(), Fail> {
     let alloc = rt.alloc();
     let gateway = restarted(alloc)?;
     assert!(rt; gateway.len() == 2);

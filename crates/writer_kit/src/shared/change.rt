@@ -1,8 +1,9 @@
 //! A writer as a machine: its state, and what a change makes of it.
-ghost use Rattle.writer_kit.specs.Shared.{told};
+ghost use Rattle.writer_kit.specs.Shared.{after_writer_change};
 ghost use Rattle.writer_kit.specs.Written.{Written};
 
 use crate::Writer;
+use agg_kit::Recorder;
 use attr_kit::AttrSet;
 use turn_kit::Machine;
 
@@ -13,6 +14,8 @@ pub enum WriterChange {
     Measured(usize, AttrSet, i64),
     /// The points were collected, as of a time.
     Collected(u64),
+    /// A recorder was taken in, as it was then.
+    Absorbed(Recorder),
 }
 
 impl Machine for Writer {
@@ -22,5 +25,5 @@ impl Machine for Writer {
 
     ghost state = { λ w. w };
 
-    ghost after = { told };
+    ghost after = { after_writer_change };
 }

@@ -1,13 +1,16 @@
 //! The changes of a shared writer, each made while the turn is held.
+ghost use Rattle.std.specs.Prelude.{◌≡◌};
 ghost use Rattle.agg_kit.specs.Entries.{entry_of};
-ghost use Rattle.writer_kit.specs.Shared.{IsRound, MayRefuse, MayRefuseRound};
-ghost use Rattle.writer_kit.specs.declared.shared.change.WriterChange.TheVariants.{Measured, Collected};
+ghost use Rattle.agg_kit.specs.Measuring.{empty_tally};
+ghost use Rattle.writer_kit.specs.Shared.{IsRound, MayRefuse, MayRefuseRound, MayRefuseRecorder};
+ghost use Rattle.writer_kit.specs.declared.shared.change.WriterChange.TheVariants.{Measured, Collected, Absorbed};
 
-use crate::{CollectFault, MeasureFault, Writer};
+use crate::{AbsorbFault, CollectFault, MeasureFault, Writer};
+use agg_kit::Recorder;
 use attr_kit::AttrSet;
 use bumpalo::Bump;
 use round_kit::Round;
-use turn_kit::Step;
+use turn_kit::{Step, StepMut};
 
 /// Records a value.
 #[derive(Drop)]
@@ -28,7 +31,7 @@ impl<'a> Step<Writer> for Measure<'a> {
 
     ghost refuses = { λ m w f. MayRefuse w (entry_of m.instrument m.attrs.now m.value) f };
 
-    #[tactic(auto, using(crate::proofs::Sharing::told_measured, crate::proofs::Sharing::may_refuse))]
+    #[tactic(auto, using(crate::proofs::Sharing::after_writer_change_measured, crate::proofs::Sharing::may_refuse))]
     fn step(self, machine: &mut Writer) -> Result<(), MeasureFault> {
         machine.measure(self.instrument, self.attrs, self.value)
     }
@@ -52,8 +55,28 @@ impl<'b> Step<Writer> for Collect<'b> {
 
     ghost refuses = { λ c w f. MayRefuseRound w c.time f };
 
-    #[tactic(auto, using(crate::proofs::Sharing::told_collected, crate::proofs::Sharing::is_round, crate::proofs::Sharing::may_refuse_round))]
+    #[tactic(auto, using(crate::proofs::Sharing::after_writer_change_collected, crate::proofs::Sharing::is_round, crate::proofs::Sharing::may_refuse_round))]
     fn step(self, machine: &mut Writer) -> Result<Round<'b>, CollectFault> {
         machine.collect(self.arena, self.time)
+    }
+}
+
+/// A recorder is taken in.
+impl StepMut<Writer> for Recorder {
+    type Reply = ();
+
+    type Refusal = AbsorbFault;
+
+    ghost needs = { λ r w. r.plan ≡ w.tally.plan };
+
+    ghost entry = { λ r. Absorbed r };
+
+    ghost replies = { λ r w u s. s ≡ empty_tally r.plan };
+
+    ghost refuses = { λ r w f. MayRefuseRecorder w r f };
+
+    #[tactic(auto, using(crate::proofs::Sharing::after_writer_change_absorbed, crate::proofs::Sharing::may_refuse_recorder))]
+    fn step_mut(&mut self, machine: &mut Writer) -> Result<(), AbsorbFault> {
+        machine.absorb(self)
     }
 }

@@ -1,12 +1,14 @@
 //! The calls that ask for the turn once and wait for nobody.
-ghost use Rattle.std.specs.Prelude.{OnErr, IfOk, IfErr};
+ghost use Rattle.std.specs.Prelude.{◌≡◌, OnOk, OnErr, IfOk, IfErr};
+ghost use Rattle.agg_kit.specs.Measuring.{empty_tally};
 ghost use Rattle.turn_kit.specs.Public.{IsLeft, AtBusy, AtExhausted, AtRefused};
-ghost use Rattle.writer_kit.specs.Shared.{IsAt, IsRound, Accepts, Adds, HasAllMeasured, IsNewest, LooksAt, Sees, IsExhausted, IsRefused, MayRefuseRound, Declines};
-ghost use Rattle.writer_kit.specs.declared.shared.change.WriterChange.TheVariants.{Measured, Collected};
+ghost use Rattle.writer_kit.specs.Shared.{IsAt, IsRound, Accepts, Adds, HasAllMeasured, IsNewest, LooksAt, Sees, IsExhausted, IsRefused, MayRefuseRound, MayRefuseRecorder, Declines, first_of};
+ghost use Rattle.writer_kit.specs.declared.shared.change.WriterChange.TheVariants.{Measured, Collected, Absorbed};
 
 use super::SharedWriter;
 use super::steps::{Collect, Measure};
-use crate::{CollectFault, MeasureFault, Writer};
+use crate::{AbsorbFault, CollectFault, MeasureFault, Writer};
+use agg_kit::Recorder;
 use attr_kit::AttrSet;
 use bumpalo::Bump;
 use round_kit::Round;
@@ -41,6 +43,32 @@ impl<G: GiveBack> SharedWriter<G> {
                 value,
             },
         )
+    }
+
+    /// Asks for the turn once, and takes in what a recorder of the writer's plan holds where it is had, as `Writer::absorb` does: the
+    /// history has one change more, which is told by the recordings that the recorder had accepted since it was empty. The
+    /// recorder is empty then.
+    ///
+    /// Refused: `Busy` where the turn is held, which it never is to the first seat before its first split; `Exhausted`
+    /// where as many changes were accepted as the limit allows; `Refused` with what the writer refuses. Writer and recorder are
+    /// as they were then. The turn is held while the recorder's points come in.
+    pub fn try_absorb(
+        &self,
+        seat: &mut Seat<Writer>,
+        recorder: &mut Recorder,
+    ) -> Result<(), ChangeFault<AbsorbFault>>
+        requires seat { IsAt self.now seat.old }
+        requires plan { recorder.old.plan ≡ (first_of self.now).tally.plan }
+        ensures seat { IsAt self.now seat.new }
+        ensures ok { IfOk result (λ r. Accepts self.now (Absorbed recorder.old) (λ w. Unit {0}) seat.old seat.new) }
+        ensures serves { IfOk result (λ r. Adds self.now (Absorbed recorder.old) seat.old seat.new) }
+        ensures emptied { OnOk result (recorder.new ≡ empty_tally recorder.old.plan) }
+        ensures kept { OnErr result (recorder.new ≡ recorder.old) }
+        ensures busy { IfErr result (AtBusy (IsLeft seat.old seat.new)) }
+        ensures exhausted { IfErr result (AtExhausted (IsExhausted self.now seat.old seat.new)) }
+        ensures refused { IfErr result (AtRefused (λ f. IsRefused self.now (λ w. MayRefuseRecorder w recorder.old f) seat.old seat.new)) }
+    {
+        self.turn.try_change_mut(seat, recorder)
     }
 
     /// Asks for the turn once, and collects where it is had, as `Writer::collect` does: the round is placed in the arena

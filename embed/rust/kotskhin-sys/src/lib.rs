@@ -61,6 +61,8 @@ pub const BAD_VERSION: i32 = 62;
 pub const NOT_CANONICAL: i32 = 63;
 pub const BAD_CHECKSUM: i32 = 64;
 pub const BAD_EXPORT: i32 = 65;
+pub const RECORDER_FULL: i32 = 70;
+pub const OTHER_PLAN: i32 = 71;
 
 unsafe extern "C" {
     pub fn kit_ask_sum(
@@ -276,6 +278,21 @@ unsafe extern "C" {
         export: *mut Handle,
         place: *mut u64,
     ) -> i32;
+    pub fn kit_recorder_open(recorder: *mut Handle, writer: *mut Handle) -> i32;
+    pub fn kit_recorder_measure(
+        recorder: *mut Handle,
+        instrument: usize,
+        attributes: *mut Handle,
+        value: i64,
+    ) -> i32;
+    pub fn kit_recorder_measure_held(
+        recorder: *mut Handle,
+        instrument: usize,
+        number: usize,
+        value: i64,
+    ) -> i32;
+    pub fn kit_recorder_is_empty(recorder: *mut Handle, empty: *mut bool) -> i32;
+    pub fn kit_writer_absorb(writer: *mut Handle, recorder: *mut Handle, place: *mut u64) -> i32;
     pub fn kit_export_encode(export: *mut Handle, bytes: *mut Handle) -> i32;
     pub fn kit_export_decode(
         export: *mut Handle,

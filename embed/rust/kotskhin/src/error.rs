@@ -38,6 +38,10 @@ pub enum Error {
     Exhausted,
     /// The writer that is shared gave 4,096 seats.
     SeatsFull,
+    /// The recorder may not hold this by itself: a writer takes in what it holds first, or the recording itself.
+    RecorderFull,
+    /// The recorder is of another plan than the writer.
+    OtherPlan,
     /// The key of this pair is empty.
     EmptyKey { pair: u64 },
     /// The name of this instrument breaks the rule of names.
@@ -94,6 +98,8 @@ fn refusal(code: i32, place: u64, second: u64) -> Error {
         sys::BUSY => Error::Busy,
         sys::EXHAUSTED => Error::Exhausted,
         sys::SEATS_FULL => Error::SeatsFull,
+        sys::RECORDER_FULL => Error::RecorderFull,
+        sys::OTHER_PLAN => Error::OtherPlan,
         sys::EMPTY_KEY => Error::EmptyKey { pair: place },
         sys::BAD_NAME => Error::BadName { instrument: place },
         sys::BAD_UNIT => Error::BadUnit { instrument: place },
@@ -168,6 +174,8 @@ impl fmt::Display for Error {
             Error::Busy => write!(f, "another call has the writer"),
             Error::Exhausted => write!(f, "the writer accepted as many changes as it may"),
             Error::SeatsFull => write!(f, "the writer gave as many seats as it may"),
+            Error::RecorderFull => write!(f, "the recorder is full"),
+            Error::OtherPlan => write!(f, "the recorder is of another plan than the writer"),
             Error::EmptyKey { pair } => write!(f, "the key of pair {pair} is empty"),
             Error::BadName { instrument } => write!(
                 f,

@@ -4,18 +4,20 @@ use crate::error::{Error, checked, checked_at};
 use crate::export::Export;
 use crate::handle::Handle;
 use crate::plan::Plan;
+use crate::recorder::Recorder;
 use crate::seat::Seat;
 use kotskhin_sys::{
-    kit_writer_collect, kit_writer_hold, kit_writer_measure, kit_writer_measure_held,
-    kit_writer_restart, kit_writer_share, kit_writer_shutdown, kit_writer_start,
+    kit_recorder_open, kit_writer_absorb, kit_writer_collect, kit_writer_hold, kit_writer_measure,
+    kit_writer_measure_held, kit_writer_restart, kit_writer_share, kit_writer_shutdown,
+    kit_writer_start,
 };
 
 /// The number of a set that a writer holds. At another writer it is that of another set, or of none.
 #[derive(Clone, Copy, Debug, PartialEq, Eq)]
 pub struct SetNumber(pub(crate) usize);
 
-/// The points of a plan's instruments since a start. One thread at a time has it: share it by seats or by a `Mutex`, or give each
-/// thread its own, under another instance.
+/// The points of a plan's instruments since a start. One thread at a time has it: give threads recorders that it absorbs, share it by
+/// seats or by a `Mutex`, or give each thread a writer of its own, under another instance.
 pub struct Writer(Handle);
 
 impl Writer {
@@ -80,6 +82,23 @@ impl Writer {
         let code = unsafe {
             kit_writer_measure_held(self.0.change(), instrument, set.0, value, &mut place)
         };
+        checked_at(code, place)
+    }
+
+    /// A recorder of the writer's plan, for one thread, with the sets that the writer holds: it has recorded nothing. Refused: `NoMemory`.
+    pub fn recorder(&self) -> Result<Recorder, Error> {
+        let mut recorder = Handle::empty();
+        // SAFETY: the recorder is ours alone, and the writer stays on this thread; they are two.
+        checked(unsafe { kit_recorder_open(recorder.change(), self.0.read()) })?;
+        Ok(Recorder(recorder))
+    }
+
+    /// Takes in what a recorder holds, as if each of its recordings had been made here. The recorder holds nothing then, and goes on.
+    /// Refused, and both stay as they were: `OtherPlan`, `Closed`, `Overflow`, `NoMemory`.
+    pub fn absorb(&mut self, recorder: &mut Recorder) -> Result<(), Error> {
+        let mut place = 0;
+        // SAFETY: both handles are ours alone, and they are two.
+        let code = unsafe { kit_writer_absorb(self.0.change(), recorder.0.change(), &mut place) };
         checked_at(code, place)
     }
 

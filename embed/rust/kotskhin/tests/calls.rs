@@ -3,8 +3,9 @@
 use kotskhin::metrics::{Counter, Meter};
 use kotskhin::{
     Aggregation, Ask, AttributeValue, Attributes, DEFAULT_LIMIT, Envelope, Error, Export, Gateway,
-    Instruments, Kind, Message, Node, Plan, Seat, View, Views, Writer,
+    Instruments, Kind, Message, Node, Plan, Recorder, Seat, View, Views, Writer,
 };
+use std::sync::Mutex;
 use std::thread;
 
 fn plan() -> Result<Plan, Error> {
@@ -359,6 +360,102 @@ fn threads_have_seats_at_one_writer() -> Result<(), Error> {
         first.collect(200).err(),
         Some(Error::TimeNotAfter { last: 200 })
     );
+    Ok(())
+}
+
+// Records by a recorder, which the writer takes in where it is full; what an empty one has no room for the writer records.
+fn record(
+    writer: &Mutex<Writer>,
+    recorder: &mut Recorder,
+    set: &Attributes,
+    value: i64,
+) -> Result<(), Error> {
+    match recorder.measure(0, set, value) {
+        Err(Error::RecorderFull) => {}
+        told => return told,
+    }
+    let mut writer = writer.lock().expect("no call panics");
+    writer.absorb(recorder)?;
+    match recorder.measure(0, set, value) {
+        Err(Error::RecorderFull) => writer.measure(0, set, value),
+        told => told,
+    }
+}
+
+#[test]
+fn threads_have_recorders_of_one_writer() -> Result<(), Error> {
+    let mut instruments = Instruments::new();
+    instruments.add("app", "requests", "1", Kind::Counter)?;
+    let limited = Plan::build(&instruments, 2)?;
+    let writer = Mutex::new(Writer::start(&limited, "shop", 1, 100)?);
+    thread::scope(|scope| -> Result<(), Error> {
+        let mut hands = Vec::new();
+        for _ in 0..4 {
+            let mut recorder = writer.lock().expect("no call panics").recorder()?;
+            let writer = &writer;
+            hands.push(scope.spawn(move || -> Result<(), Error> {
+                for number in 0..1000_i64 {
+                    let set = Attributes::new([("number", number % 3)])?;
+                    record(writer, &mut recorder, &set, 1)?;
+                }
+                writer
+                    .lock()
+                    .expect("no call panics")
+                    .absorb(&mut recorder)?;
+                assert_eq!(recorder.is_empty(), Ok(true));
+                Ok(())
+            }));
+        }
+        hands
+            .into_iter()
+            .try_for_each(|hand| hand.join().expect("it ends"))
+    })?;
+    let mut writer = writer.into_inner().expect("no call panics");
+    let mut gateway = Gateway::open(1)?;
+    gateway.take(&writer.collect(200)?)?;
+    let rows = gateway.rows(&requests()?)?;
+    let totals: Result<Vec<_>, _> = (0..rows.count()?).map(|row| rows.sum(row)).collect();
+    let totals = totals?;
+    assert_eq!((totals.len(), totals.iter().sum::<i64>()), (3, 4000));
+    Ok(())
+}
+
+#[test]
+fn recorders_are_refused_and_change_nothing() -> Result<(), Error> {
+    let (mut writer, none) = (writer(1)?, Attributes::none()?);
+    let set = writer.hold(&none)?;
+    let mut recorder = writer.recorder()?;
+    let later = writer.hold(&Attributes::new([("key", "value")])?)?;
+    assert_eq!(recorder.is_empty(), Ok(true));
+    recorder.measure_held(0, set, 3)?;
+    recorder.measure(0, &none, 4)?;
+    assert_eq!(recorder.measure(0, &none, -1), Err(Error::Negative));
+    assert_eq!(recorder.measure(1, &none, 1), Err(Error::NoInstrument));
+    assert_eq!(recorder.measure_held(0, later, 1), Err(Error::NoSet));
+    assert_eq!(
+        recorder.measure(0, &none, i64::MAX),
+        Err(Error::RecorderFull)
+    );
+    let mut instruments = Instruments::new();
+    instruments.add("app", "requests", "1", Kind::UpDown)?;
+    let falling = Plan::build(&instruments, DEFAULT_LIMIT)?;
+    let mut other = Writer::start(&falling, "shop", 2, 100)?;
+    assert_eq!(other.absorb(&mut recorder), Err(Error::OtherPlan));
+    assert_eq!(
+        other.recorder()?.measure(0, &none, 1),
+        Err(Error::RecorderFull)
+    );
+    writer.absorb(&mut recorder)?;
+    recorder.measure(0, &none, i64::MAX)?;
+    assert_eq!(
+        writer.absorb(&mut recorder),
+        Err(Error::Overflow { stream: 0 })
+    );
+    let mut gateway = Gateway::open(1)?;
+    gateway.take(&writer.shutdown(200)?)?;
+    assert_eq!(gateway.table(&requests()?)?, TOTAL_OF_7);
+    assert_eq!(writer.absorb(&mut recorder), Err(Error::Closed));
+    assert_eq!(recorder.is_empty(), Ok(false));
     Ok(())
 }
 

@@ -1,4 +1,4 @@
-use Rattle.std.proofs.Common.{◌∙◌, ◌∷◌, List, length, sym, ap, subst, arith, rules}
+use Rattle.std.proofs.Common.{◌≡◌, ◌∙◌, ◌∷◌, List, length, sym, ap, subst, arith, rules}
 use Rattle.agg_kit.specs.Absorbing.{AreAllSound, AreBothSound}
 use Rattle.agg_kit.specs.Feeds.{entries_of}
 use Rattle.agg_kit.specs.Steps.{Stored}
@@ -6,51 +6,31 @@ use Rattle.agg_kit.specs.Tallies.{Points}
 use Rattle.agg_kit.proofs.ComingIn.{as-many, first-both, first-once, others-both, none-left, length-entries}
 use Rattle.agg_kit.proofs.absorbing.+absorb_each.Goals as goal
 
+split : (series later : List Stored) (points more : Stored) (rest others : List Stored) → series ≡ points ∷ rest → later ≡ more ∷ others → AreAllSound (entries_of series) (entries_of later) → AreAllSound (points.entries ∷ entries_of rest) (more.entries ∷ entries_of others)
+split series later points more rest others is later_is sound =
+    subst (λ (l : List Stored). AreAllSound (points.entries ∷ entries_of rest) (entries_of l)) later_is (subst (λ (l : List Stored). AreAllSound (entries_of l) (entries_of later)) is sound)
+
 pub returns-in_default-clause-emptied : goal.returns-in_default-clause-emptied
 returns-in_default-clause-emptied t c =
     none-left c.args.later.now (sym (length-entries c.args.later.now) ∙ as-many (entries_of c.args.series.now) (entries_of c.args.later.now) c.requires.sound ∙ length-entries c.args.series.now ∙ c.in_default.ensures.cases)
 
 pub fits-requires-clause-sound : goal.fits-requires-clause-sound
 fits-requires-clause-sound t c =
-    let x = c.in-Some.ensures.cases.0 in
-    let y = c.in-Some-split_first_mut.ensures.cases.0 in
-    let p = c.in-Some.points.now in
-    let m = c.in-Some-split_first_mut.more.now in
-    let rest = c.in-Some.rest.now in
-    let others = c.in-Some-split_first_mut.others.now in
-    let s = subst (λ (l : List Stored). AreAllSound (p.entries ∷ entries_of rest) (entries_of l)) y (subst (λ (l : List Stored). AreAllSound (entries_of l) (entries_of c.args.later.now)) x c.requires.sound) in
-    subst (λ (es : Points). AreBothSound es m.entries) (sym c.reserve_for.ensures.entries) (first-both p.entries m.entries (entries_of rest) (entries_of others) s)
+    let s = split c.args.series.now c.args.later.now c.in-Some.points.now c.in-Some-split_first_mut.more.now c.in-Some.rest.now c.in-Some-split_first_mut.others.now c.in-Some.ensures.cases.0 c.in-Some-split_first_mut.ensures.cases.0 c.requires.sound in
+    subst (λ (es : Points). AreBothSound es c.in-Some-split_first_mut.more.now.entries) (sym c.reserve_for.ensures.entries) (first-both c.in-Some.points.now.entries c.in-Some-split_first_mut.more.now.entries (entries_of c.in-Some.rest.now) (entries_of c.in-Some-split_first_mut.others.now) s)
 
 pub fits-requires-clause-once : goal.fits-requires-clause-once
 fits-requires-clause-once t c =
-    let x = c.in-Some.ensures.cases.0 in
-    let y = c.in-Some-split_first_mut.ensures.cases.0 in
-    let p = c.in-Some.points.now in
-    let m = c.in-Some-split_first_mut.more.now in
-    let rest = c.in-Some.rest.now in
-    let others = c.in-Some-split_first_mut.others.now in
-    let s = subst (λ (l : List Stored). AreAllSound (p.entries ∷ entries_of rest) (entries_of l)) y (subst (λ (l : List Stored). AreAllSound (entries_of l) (entries_of c.args.later.now)) x c.requires.sound) in
-    first-once p.entries m.entries (entries_of rest) (entries_of others) s
+    let s = split c.args.series.now c.args.later.now c.in-Some.points.now c.in-Some-split_first_mut.more.now c.in-Some.rest.now c.in-Some-split_first_mut.others.now c.in-Some.ensures.cases.0 c.in-Some-split_first_mut.ensures.cases.0 c.requires.sound in
+    first-once c.in-Some.points.now.entries c.in-Some-split_first_mut.more.now.entries (entries_of c.in-Some.rest.now) (entries_of c.in-Some-split_first_mut.others.now) s
 
 pub absorb_each-requires : goal.absorb_each-requires
 absorb_each-requires t c =
-    let x = c.in-Some.ensures.cases.0 in
-    let y = c.in-Some-split_first_mut.ensures.cases.0 in
-    let p = c.in-Some.points.now in
-    let m = c.in-Some-split_first_mut.more.now in
-    let rest = c.in-Some.rest.now in
-    let others = c.in-Some-split_first_mut.others.now in
-    let s = subst (λ (l : List Stored). AreAllSound (p.entries ∷ entries_of rest) (entries_of l)) y (subst (λ (l : List Stored). AreAllSound (entries_of l) (entries_of c.args.later.now)) x c.requires.sound) in
-    let n = ap length x in
-    (search rules, (c.requires.overflow, (others-both p.entries m.entries (entries_of rest) (entries_of others) s, omega (arith, n, c.requires.bound))))
+    let s = split c.args.series.now c.args.later.now c.in-Some.points.now c.in-Some-split_first_mut.more.now c.in-Some.rest.now c.in-Some-split_first_mut.others.now c.in-Some.ensures.cases.0 c.in-Some-split_first_mut.ensures.cases.0 c.requires.sound in
+    let n = ap length c.in-Some.ensures.cases.0 in
+    (search rules, (c.requires.overflow, (others-both c.in-Some.points.now.entries c.in-Some-split_first_mut.more.now.entries (entries_of c.in-Some.rest.now) (entries_of c.in-Some-split_first_mut.others.now) s, omega (arith, n, c.requires.bound))))
 
 pub take_in-requires-clause-sound : goal.take_in-requires-clause-sound
 take_in-requires-clause-sound t c =
-    let x = c.in-Some.ensures.cases.0 in
-    let y = c.in-Some-split_first_mut.ensures.cases.0 in
-    let p = c.in-Some.points.now in
-    let m = c.in-Some-split_first_mut.more.now in
-    let rest = c.in-Some.rest.now in
-    let others = c.in-Some-split_first_mut.others.now in
-    let s = subst (λ (l : List Stored). AreAllSound (p.entries ∷ entries_of rest) (entries_of l)) y (subst (λ (l : List Stored). AreAllSound (entries_of l) (entries_of c.args.later.now)) x c.requires.sound) in
-    subst (λ (es : Points). AreBothSound es m.entries) (sym c.reserve_for.ensures.entries) (first-both p.entries m.entries (entries_of rest) (entries_of others) s)
+    let s = split c.args.series.now c.args.later.now c.in-Some.points.now c.in-Some-split_first_mut.more.now c.in-Some.rest.now c.in-Some-split_first_mut.others.now c.in-Some.ensures.cases.0 c.in-Some-split_first_mut.ensures.cases.0 c.requires.sound in
+    subst (λ (es : Points). AreBothSound es c.in-Some-split_first_mut.more.now.entries) (sym c.reserve_for.ensures.entries) (first-both c.in-Some.points.now.entries c.in-Some-split_first_mut.more.now.entries (entries_of c.in-Some.rest.now) (entries_of c.in-Some-split_first_mut.others.now) s)

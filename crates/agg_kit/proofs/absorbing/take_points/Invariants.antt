@@ -2,7 +2,7 @@ use Rattle.std.proofs.Common.{◌≡◌, ◌≤◌, true, false, length, reverse
 use Rattle.agg_kit.specs.Absorbing.{AreBothSound}
 use Rattle.agg_kit.specs.Absorbs.{absorb, fits}
 use Rattle.agg_kit.specs.Feeding.{overflow_set}
-use Rattle.agg_kit.specs.Steps.{held}
+use Rattle.agg_kit.specs.Steps.{has_point}
 use Rattle.agg_kit.proofs.absorbing.take_points.Given as goal
 
 abbrev pub invariant-loop-set : goal.invariant-loop-set
@@ -11,7 +11,7 @@ invariant-loop-set l = record {
   stay : fits l.limit l.series.entries (reverse l.later.entries) ≡ true;
   room : length l.later.entries ≤ l.series.room;
   sound : AreBothSound l.series.entries (reverse l.later.entries);
-  spare_is : held l.series.entries overflow_set ≡ false → l.spare ≡ overflow_set;
+  spare_is : has_point l.series.entries overflow_set ≡ false → l.spare ≡ overflow_set;
 }
 
 abbrev pub decreases-loop-set : goal.decreases-loop-set

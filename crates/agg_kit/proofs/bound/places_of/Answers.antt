@@ -25,7 +25,7 @@ loop-feed-preserved c =
     let at = c.in-Some.place in
     let below = stream-below (length ss) fs i f c.requires.feeds c.loop-feed-test.true c.feed-item.is in
     let taken : take (i + 1) fs ≡ take i fs ++ f ∷ [] = take_more fs i f c.loop-feed-test.true ∙ ap (λ (x : Feed). take i fs ++ x ∷ []) (sym c.feed-item.is) in
-    let found = found-at p (kept f.keep a) c.index.result.now.entries c.limit-limit.result c.chosen-set.result.now c.find.result (Some at) c.limit-limit.ensures.value (c.chosen-set.ensures ∙ c.in_ok-only.ensures.value) c.in-Some.is c.find.ensures in
+    let found = found-at p (kept f.keep a) c.index.result.now.entries c.limit-limit.result c.set_or-set.result.now c.find.result (Some at) c.limit-limit.ensures.value (c.set_or-set.ensures ∙ c.in_ok-only.ensures.value) c.in-Some.is c.find.ensures in
     let here = ap (λ (es : Points). place_of p.limit es (kept f.keep a)) (entries-read ss f.stream c.index.result.now below c.index.ensures) ∙ found in
     let more = at-push p (take i fs) c.loop-feed.places.items f at a (entries_of ss) c.loop-feed.invariant here in
     subst (λ (gs : List Feed). AreAt p gs c.push.new.self.items a (entries_of ss)) (sym taken)

@@ -4,15 +4,15 @@ use Rattle.attr_kit.specs.declared.attr_set.AttrSet.{AttrSet}
 use Rattle.plan_kit.specs.Plans.{AreFeeds, rises}
 use Rattle.agg_kit.specs.Feeding.{set_eq, overflow_set}
 use Rattle.agg_kit.specs.Feeds.{shape_at}
-use Rattle.agg_kit.specs.Steps.{own_count, held, place}
+use Rattle.agg_kit.specs.Steps.{own_count, has_point, place}
 use Rattle.agg_kit.specs.Tallies.{Points}
 use Rattle.agg_kit.proofs.Recorders.{if_ok, keeps-here, keeps-more, place-own, place-roomy}
 use Rattle.agg_kit.proofs.recorder.+keep_each.Goals as goal
 use Rattle.agg_kit.proofs.recorder.+keep_each.Goals.{then-not-has_room+in_ok-only+else-not-has_own+in-Some-1, then-not-has_room+in_ok-only+else-not-has_own+in-None-1, else-not-has_room}
 
-own-place : (limit : ℕ) (es : Points) (o x k : AttrSet) (b : Bool) → o ≡ overflow_set → x ≡ k → b ≡ (held es x || set_eq o x) → b ≡ true → place limit es k ≡ k
+own-place : (limit : ℕ) (es : Points) (o x k : AttrSet) (b : Bool) → o ≡ overflow_set → x ≡ k → b ≡ (has_point es x || set_eq o x) → b ≡ true → place limit es k ≡ k
 own-place limit es o x k b is at told holds =
-    place-own limit es k (subst (λ (x : AttrSet). (held es x || set_eq overflow_set x) ≡ true) at (ap (λ (o : AttrSet). held es x || set_eq o x) (sym is) ∙ sym told ∙ holds))
+    place-own limit es k (subst (λ (x : AttrSet). (has_point es x || set_eq overflow_set x) ≡ true) at (ap (λ (o : AttrSet). has_point es x || set_eq o x) (sym is) ∙ sym told ∙ holds))
 
 pub returns-clause-value : goal.returns-clause-value
 returns-clause-value t c =
@@ -25,8 +25,8 @@ returns-clause-value t c =
     let up : rises (shape_at p f.stream) ≡ true = ap rises (sym c.shape_of.ensures.value) ∙ sym c.only_rises.ensures ∙ c.if-not-only_rises.false in
     let goes : place p.limit s.entries (kept f.keep a) ≡ kept f.keep a =
     elim c.if-not-has_room.branch [
-      | then-not-has_room+in_ok-only+else-not-has_own+in-Some-1 w ↦ own-place p.limit s.entries c.args.overflow.now w.chosen.result.now (kept f.keep a) w.has_own.result c.requires.overflow (w.chosen.ensures ∙ w.in_ok-only.ensures.value) w.has_own.ensures w.if-not-has_own.false
-      | then-not-has_room+in_ok-only+else-not-has_own+in-None-1 w ↦ own-place p.limit s.entries c.args.overflow.now w.chosen.result.now (kept f.keep a) w.has_own.result c.requires.overflow (w.chosen.ensures ∙ w.in_ok-only.ensures.value) w.has_own.ensures w.if-not-has_own.false
+      | then-not-has_room+in_ok-only+else-not-has_own+in-Some-1 w ↦ own-place p.limit s.entries c.args.overflow.now w.set_or.result.now (kept f.keep a) w.has_own.result c.requires.overflow (w.set_or.ensures ∙ w.in_ok-only.ensures.value) w.has_own.ensures w.if-not-has_own.false
+      | then-not-has_room+in_ok-only+else-not-has_own+in-None-1 w ↦ own-place p.limit s.entries c.args.overflow.now w.set_or.result.now (kept f.keep a) w.has_own.result c.requires.overflow (w.set_or.ensures ∙ w.in_ok-only.ensures.value) w.has_own.ensures w.if-not-has_own.false
       | else-not-has_room w ↦ place-roomy p.limit s.entries (kept f.keep a) (subst (λ (n : ℕ). own_count s.entries < n) c.limit.ensures.value (c.has_room.ensures.0 w.if-not-has_room.false))
     ] in
     let here = keeps-here p f a ss s fits.0 c.index-points.ensures up goes in

@@ -3,7 +3,7 @@ use Rattle.std.proofs.lemmas.Int.{to_z-of_z}
 use Rattle.point_kit.specs.declared.shape.Shape.{Shape}
 use Rattle.plan_kit.specs.Plans.{lacks, AreFeeds}
 use Rattle.plan_kit.specs.declared.feed.Feed.{Feed}
-use Rattle.agg_kit.specs.Feeds.{entries_of, shape_at, applied}
+use Rattle.agg_kit.specs.Feeds.{entries_of, shape_at, after_feeds}
 use Rattle.agg_kit.specs.FreshPoints.{add_at, payload_with}
 use Rattle.agg_kit.specs.Payloads.{is_out_of_range}
 use Rattle.agg_kit.specs.Sound.{AreSound}
@@ -81,7 +81,7 @@ returns-clause-value t c =
     (simp (to_z-of_z, c.ranges.value) at c.in_ok-record_at.ensures.value)
     added
     ((simp (to_z-of_z, c.ranges.value) at c.add.ensures) ∙ ap (λ (s : Shape). add_at s now.entries c.unwrap.result.0.now c.args.value) c.shape_of-shape.ensures.value)
-    ∙ ap (λ (fs : List Feed). applied c.args.plan.now fs c.args.attrs.now c.args.value (entries_of c.args.series.now.items)) (sym c.in-Some.ensures.cases.0)
+    ∙ ap (λ (fs : List Feed). after_feeds c.args.plan.now fs c.args.attrs.now c.args.value (entries_of c.args.series.now.items)) (sym c.in-Some.ensures.cases.0)
 
 pub returns-clause-ok : goal.returns-clause-ok
 returns-clause-ok t c =

@@ -3,13 +3,13 @@ use Rattle.std.proofs.lemmas.Int.{to_z-of_z}
 use Rattle.point_kit.specs.declared.shape.Shape.{Shape}
 use Rattle.plan_kit.specs.Plans.{lacks, AreFeeds}
 use Rattle.plan_kit.specs.declared.feed.Feed.{Feed}
-use Rattle.agg_kit.specs.Feeds.{entries_of, shape_at, applied}
-use Rattle.agg_kit.specs.FreshPoints.{add_at, inserted, payload_with, CanInsert}
+use Rattle.agg_kit.specs.Feeds.{entries_of, shape_at, after_feeds}
+use Rattle.agg_kit.specs.FreshPoints.{add_at, with_fresh, payload_with, CanInsert}
 use Rattle.agg_kit.specs.Payloads.{is_out_of_range}
 use Rattle.agg_kit.specs.Sound.{AreSound}
 use Rattle.agg_kit.specs.Steps.{Stored, place}
 use Rattle.agg_kit.specs.Tallies.{Points}
-use Rattle.agg_kit.specs.declared.fault.MeasureFault.TheVariants as faults
+use Rattle.agg_kit.specs.declared.fault.TallyFault.TheVariants as faults
 use Rattle.agg_kit.proofs.Here.{fits, rest-fits, rest-sound, absent-first, absent-whole, absent-held, there-within, there-added, there-out, there-first, there-whole, stays, still}
 use Rattle.agg_kit.proofs.Records.{set-other, same_entries, entries-read, stored-length, sound-shape, recorded-here, whole-listed, if_err_so, on_err, on_err_map, step-along, if_err}
 use Rattle.agg_kit.proofs.Steps.{absent}
@@ -22,7 +22,7 @@ shape_of-shape-requires t c =
 
 pub fresh-requires-clause-absent : goal.fresh-requires-clause-absent
 fresh-requires-clause-absent t c =
-    absent c.index_mut-points.result.now.entries (place c.limit-limit.result c.index_mut-points.result.now.entries c.chosen-set.result.now) (sym c.find.ensures ∙ c.in_default-find.is)
+    absent c.index_mut-points.result.now.entries (place c.limit-limit.result c.index_mut-points.result.now.entries c.set_or-set.result.now) (sym c.find.ensures ∙ c.in_default-find.is)
 
 pub record_each-requires : goal.record_each-requires
 record_each-requires t c = (
@@ -60,7 +60,7 @@ pub returns-in_default-fresh-clause-err : goal.returns-in_default-fresh-clause-e
 returns-in_default-fresh-clause-err t c =
     let first = absent-first c.args.plan.now c.args.attrs.now c.args.value c.args.series.now.items c.in-Some.feed.now c.in-Some.rest.now c.args.feeds.now c.in-Some.ensures.cases.0 c.requires.feeds
     c.index_mut-points.result.now c.index_mut-points.ensures.value
-    c.limit-limit.result c.chosen-set.result.now c.find.result c.limit-limit.ensures.value (c.chosen-set.ensures ∙ c.in_ok-only.ensures.value) c.find.ensures
+    c.limit-limit.result c.set_or-set.result.now c.find.result c.limit-limit.ensures.value (c.set_or-set.ensures ∙ c.in_ok-only.ensures.value) c.find.ensures
     c.in_default-find.is c.ranges.value c.fresh.new.self c.fresh.ensures.entries in
     if_err _ _ c.record_each.result (λ f told n. first ∙ told n) (simp (to_z-of_z, c.ranges.value) at c.record_each.ensures.err)
 
@@ -68,7 +68,7 @@ pub returns-in_default-fresh-clause-no_memory : goal.returns-in_default-fresh-cl
 returns-in_default-fresh-clause-no_memory t c =
     let whole = absent-whole c.args.plan.now c.args.attrs.now c.args.value c.args.series.now.items c.in-Some.feed.now c.in-Some.rest.now c.args.feeds.now c.in-Some.ensures.cases.0 c.requires.feeds
     c.index_mut-points.result.now c.index_mut-points.ensures.value
-    c.limit-limit.result c.chosen-set.result.now c.find.result c.limit-limit.ensures.value (c.chosen-set.ensures ∙ c.in_ok-only.ensures.value) c.find.ensures
+    c.limit-limit.result c.set_or-set.result.now c.find.result c.limit-limit.ensures.value (c.set_or-set.ensures ∙ c.in_ok-only.ensures.value) c.find.ensures
     c.in_default-find.is c.ranges.value c.fresh.new.self c.fresh.ensures.entries in
     if_err _ _ c.record_each.result (λ f told n. whole (told n)) (simp (to_z-of_z, c.ranges.value) at c.record_each.ensures.no_memory)
 
@@ -76,7 +76,7 @@ pub returns-in_default-fresh-clause-held : goal.returns-in_default-fresh-clause-
 returns-in_default-fresh-clause-held t c = λ had all.
     absurd (absent-held c.args.plan.now c.args.attrs.now c.args.value c.args.series.now.items c.in-Some.feed.now c.in-Some.rest.now c.args.feeds.now c.in-Some.ensures.cases.0 c.requires.feeds
     c.index_mut-points.result.now c.index_mut-points.ensures.value
-    c.limit-limit.result c.chosen-set.result.now c.find.result c.limit-limit.ensures.value (c.chosen-set.ensures ∙ c.in_ok-only.ensures.value) c.find.ensures
+    c.limit-limit.result c.set_or-set.result.now c.find.result c.limit-limit.ensures.value (c.set_or-set.ensures ∙ c.in_ok-only.ensures.value) c.find.ensures
     c.in_default-find.is all)
 
 pub returns-in_default-fresh-clause-others : goal.returns-in_default-fresh-clause-others
@@ -92,7 +92,7 @@ pub returns-in_err-record_each-clause-err : goal.returns-in_err-record_each-clau
 returns-in_err-record_each-clause-err t c =
     let first = absent-first c.args.plan.now c.args.attrs.now c.args.value c.args.series.now.items c.in-Some.feed.now c.in-Some.rest.now c.args.feeds.now c.in-Some.ensures.cases.0 c.requires.feeds
     c.index_mut-points.result.now c.index_mut-points.ensures.value
-    c.limit-limit.result c.chosen-set.result.now c.find.result c.limit-limit.ensures.value (c.chosen-set.ensures ∙ c.in_ok-only.ensures.value) c.find.ensures
+    c.limit-limit.result c.set_or-set.result.now c.find.result c.limit-limit.ensures.value (c.set_or-set.ensures ∙ c.in_ok-only.ensures.value) c.find.ensures
     c.in_default-find.is c.ranges.value c.fresh.new.self c.fresh.ensures.entries in
     let rest-told = simp (to_z-of_z, c.ranges.value) at c.in_err-record_each.ensures.err in
     let told = λ (n : c.in_err-record_each.field-0.0 ≢ faults.NoMemory). first ∙ rest-told n in
@@ -102,7 +102,7 @@ pub returns-in_err-record_each-clause-no_memory : goal.returns-in_err-record_eac
 returns-in_err-record_each-clause-no_memory t c =
     let whole = absent-whole c.args.plan.now c.args.attrs.now c.args.value c.args.series.now.items c.in-Some.feed.now c.in-Some.rest.now c.args.feeds.now c.in-Some.ensures.cases.0 c.requires.feeds
     c.index_mut-points.result.now c.index_mut-points.ensures.value
-    c.limit-limit.result c.chosen-set.result.now c.find.result c.limit-limit.ensures.value (c.chosen-set.ensures ∙ c.in_ok-only.ensures.value) c.find.ensures
+    c.limit-limit.result c.set_or-set.result.now c.find.result c.limit-limit.ensures.value (c.set_or-set.ensures ∙ c.in_ok-only.ensures.value) c.find.ensures
     c.in_default-find.is c.ranges.value c.fresh.new.self c.fresh.ensures.entries in
     let rest-told = simp (to_z-of_z, c.ranges.value) at c.in_err-record_each.ensures.no_memory in
     let told = λ (n : c.in_err-record_each.field-0.0 ≡ faults.NoMemory). whole (rest-told n) in
@@ -112,7 +112,7 @@ pub returns-in_err-record_each-clause-held : goal.returns-in_err-record_each-cla
 returns-in_err-record_each-clause-held t c = λ had all.
     absurd (absent-held c.args.plan.now c.args.attrs.now c.args.value c.args.series.now.items c.in-Some.feed.now c.in-Some.rest.now c.args.feeds.now c.in-Some.ensures.cases.0 c.requires.feeds
     c.index_mut-points.result.now c.index_mut-points.ensures.value
-    c.limit-limit.result c.chosen-set.result.now c.find.result c.limit-limit.ensures.value (c.chosen-set.ensures ∙ c.in_ok-only.ensures.value) c.find.ensures
+    c.limit-limit.result c.set_or-set.result.now c.find.result c.limit-limit.ensures.value (c.set_or-set.ensures ∙ c.in_ok-only.ensures.value) c.find.ensures
     c.in_default-find.is all)
 
 pub returns-in_err-record_each-clause-others : goal.returns-in_err-record_each-clause-others
@@ -136,19 +136,19 @@ returns-in_default-find-clause-value t c =
     (c.record_each-in_default-find.ensures.others c.in-Some.feed.now.stream fits.1) c.index_mut.ensures.value in
     let old = c.index_mut-points.result.now in
     let point = simp (to_z-of_z, c.ranges.value) at c.in-Ok.ensures.point in
-    let steps = step-along old.entries (inserted c.in-Ok.fresh old.entries) c.args.value _ _ _ _ _ _ c.shape_of-shape.ensures.value c.limit-limit.ensures.value (c.chosen-set.ensures ∙ c.in_ok-only.ensures.value) point in
+    let steps = step-along old.entries (with_fresh c.in-Ok.fresh old.entries) c.args.value _ _ _ _ _ _ c.shape_of-shape.ensures.value c.limit-limit.ensures.value (c.set_or-set.ensures ∙ c.in_ok-only.ensures.value) point in
     recorded-here c.args.plan.now c.in-Some.feed.now c.in-Some.rest.now c.args.attrs.now c.args.value c.args.series.now.items c.record_each-in_default-find.new.series.items old c.fresh.new.self c.index_mut.result.now
-    c.insert.new.self (inserted c.in-Ok.fresh) there c.fresh.ensures.entries c.index_mut.ensures.value
-    ((simp (to_z-of_z, c.ranges.value) at c.in_ok-record_each.ensures.value) ∙ ap (applied c.args.plan.now c.in-Some.rest.now c.args.attrs.now c.args.value)
+    c.insert.new.self (with_fresh c.in-Ok.fresh) there c.fresh.ensures.entries c.index_mut.ensures.value
+    ((simp (to_z-of_z, c.ranges.value) at c.in_ok-record_each.ensures.value) ∙ ap (after_feeds c.args.plan.now c.in-Some.rest.now c.args.attrs.now c.args.value)
     (same_entries c.args.series.now.items c.in-Some.feed.now.stream c.fresh.new.self c.index_mut-points.result.now c.index_mut-points.ensures.value c.fresh.ensures.entries))
     steps c.insert.ensures.value
-    ∙ ap (λ (fs : List Feed). applied c.args.plan.now fs c.args.attrs.now c.args.value (entries_of c.args.series.now.items)) (sym c.in-Some.ensures.cases.0)
+    ∙ ap (λ (fs : List Feed). after_feeds c.args.plan.now fs c.args.attrs.now c.args.value (entries_of c.args.series.now.items)) (sym c.in-Some.ensures.cases.0)
 
 pub returns-in_default-find-clause-ok : goal.returns-in_default-find-clause-ok
 returns-in_default-find-clause-ok t c =
     absent-first c.args.plan.now c.args.attrs.now c.args.value c.args.series.now.items c.in-Some.feed.now c.in-Some.rest.now c.args.feeds.now c.in-Some.ensures.cases.0 c.requires.feeds
     c.index_mut-points.result.now c.index_mut-points.ensures.value
-    c.limit-limit.result c.chosen-set.result.now c.find.result c.limit-limit.ensures.value (c.chosen-set.ensures ∙ c.in_ok-only.ensures.value) c.find.ensures
+    c.limit-limit.result c.set_or-set.result.now c.find.result c.limit-limit.ensures.value (c.set_or-set.ensures ∙ c.in_ok-only.ensures.value) c.find.ensures
     c.in_default-find.is c.ranges.value c.fresh.new.self c.fresh.ensures.entries
     ∙ (simp (to_z-of_z, c.ranges.value) at c.in_ok-record_each.ensures.ok)
 
@@ -163,7 +163,7 @@ returns-then-not-takes-clause-err t c = λ _.
     let told = simp (to_z-of_z, c.ranges.value) at c.takes.ensures in
     there-out c.args.plan.now c.args.attrs.now c.args.value c.args.series.now.items c.in-Some.feed.now c.in-Some.rest.now c.args.feeds.now c.in-Some.ensures.cases.0 c.requires.feeds
     c.index_mut-points.result.now c.index_mut-points.ensures.value
-    c.limit-limit.result c.chosen-set.result.now c.find.result c.limit-limit.ensures.value (c.chosen-set.ensures ∙ c.in_ok-only.ensures.value) c.find.ensures
+    c.limit-limit.result c.set_or-set.result.now c.find.result c.limit-limit.ensures.value (c.set_or-set.ensures ∙ c.in_ok-only.ensures.value) c.find.ensures
     c.in-Some-find.place c.in-Some-find.is (told (shape_at c.args.plan.now c.in-Some.feed.now.stream) ∙ ap not c.if-not-takes.true)
 
 pub returns-in_err-record_each-2-clause-err : goal.returns-in_err-record_each-2-clause-err
@@ -171,7 +171,7 @@ returns-in_err-record_each-2-clause-err t c =
     let told = simp (to_z-of_z, c.ranges.value) at c.takes.ensures in
     let first = there-first c.args.plan.now c.args.attrs.now c.args.value c.args.series.now.items c.in-Some.feed.now c.in-Some.rest.now c.args.feeds.now c.in-Some.ensures.cases.0 c.requires.feeds
     c.index_mut-points.result.now c.index_mut-points.ensures.value
-    c.limit-limit.result c.chosen-set.result.now c.find.result c.limit-limit.ensures.value (c.chosen-set.ensures ∙ c.in_ok-only.ensures.value) c.find.ensures
+    c.limit-limit.result c.set_or-set.result.now c.find.result c.limit-limit.ensures.value (c.set_or-set.ensures ∙ c.in_ok-only.ensures.value) c.find.ensures
     c.in-Some-find.place c.in-Some-find.is (told (shape_at c.args.plan.now c.in-Some.feed.now.stream) ∙ ap not c.if-not-takes.false) in
     let rest-told = simp (to_z-of_z, c.ranges.value) at c.in_err-record_each-2.ensures.err in
     let so = λ (n : c.in_err-record_each-2.field-0.0 ≢ faults.NoMemory). first ∙ rest-told n in
@@ -182,7 +182,7 @@ returns-in_err-record_each-2-clause-no_memory t c =
     let told = simp (to_z-of_z, c.ranges.value) at c.takes.ensures in
     let whole = there-whole c.args.plan.now c.args.attrs.now c.args.value c.args.series.now.items c.in-Some.feed.now c.in-Some.rest.now c.args.feeds.now c.in-Some.ensures.cases.0 c.requires.feeds
     c.index_mut-points.result.now c.index_mut-points.ensures.value
-    c.limit-limit.result c.chosen-set.result.now c.find.result c.limit-limit.ensures.value (c.chosen-set.ensures ∙ c.in_ok-only.ensures.value) c.find.ensures
+    c.limit-limit.result c.set_or-set.result.now c.find.result c.limit-limit.ensures.value (c.set_or-set.ensures ∙ c.in_ok-only.ensures.value) c.find.ensures
     c.in-Some-find.place c.in-Some-find.is (told (shape_at c.args.plan.now c.in-Some.feed.now.stream) ∙ ap not c.if-not-takes.false) in
     let rest-told = simp (to_z-of_z, c.ranges.value) at c.in_err-record_each-2.ensures.no_memory in
     let so = λ (n : c.in_err-record_each-2.field-0.0 ≡ faults.NoMemory). whole (rest-told n) in
@@ -202,7 +202,7 @@ add-requires-clause-within t c =
     subst (λ (s : Stored). c.in-Some-find.place < length s.entries) (sym here)
     (there-within c.args.plan.now c.args.attrs.now c.args.value c.args.series.now.items c.in-Some.feed.now c.in-Some.rest.now c.args.feeds.now c.in-Some.ensures.cases.0 c.requires.feeds
     c.index_mut-points.result.now c.index_mut-points.ensures.value
-    c.limit-limit.result c.chosen-set.result.now c.find.result c.limit-limit.ensures.value (c.chosen-set.ensures ∙ c.in_ok-only.ensures.value) c.find.ensures
+    c.limit-limit.result c.set_or-set.result.now c.find.result c.limit-limit.ensures.value (c.set_or-set.ensures ∙ c.in_ok-only.ensures.value) c.find.ensures
     c.in-Some-find.place c.in-Some-find.is)
 
 pub add-requires-clause-sound : goal.add-requires-clause-sound
@@ -239,22 +239,22 @@ returns-clause-value t c =
     let i = c.in-Some-find.place in
     let added = there-added c.args.plan.now c.args.attrs.now c.args.value c.args.series.now.items c.in-Some.feed.now c.in-Some.rest.now c.args.feeds.now c.in-Some.ensures.cases.0 c.requires.feeds
     c.index_mut-points.result.now c.index_mut-points.ensures.value
-    c.limit-limit.result c.chosen-set.result.now c.find.result c.limit-limit.ensures.value (c.chosen-set.ensures ∙ c.in_ok-only.ensures.value) c.find.ensures
+    c.limit-limit.result c.set_or-set.result.now c.find.result c.limit-limit.ensures.value (c.set_or-set.ensures ∙ c.in_ok-only.ensures.value) c.find.ensures
     c.in-Some-find.place c.in-Some-find.is in
     recorded-here c.args.plan.now c.in-Some.feed.now c.in-Some.rest.now c.args.attrs.now c.args.value c.args.series.now.items c.record_each-2.new.series.items old old now c.add.new.self
     (λ es. add_at (shape_at c.args.plan.now c.in-Some.feed.now.stream) es i c.args.value) there refl c.index_mut-2.ensures.value
-    ((simp (to_z-of_z, c.ranges.value) at c.in_ok-record_each-2.ensures.value) ∙ ap (applied c.args.plan.now c.in-Some.rest.now c.args.attrs.now c.args.value)
+    ((simp (to_z-of_z, c.ranges.value) at c.in_ok-record_each-2.ensures.value) ∙ ap (after_feeds c.args.plan.now c.in-Some.rest.now c.args.attrs.now c.args.value)
     (same_entries c.args.series.now.items c.in-Some.feed.now.stream old old c.index_mut-points.ensures.value refl))
     added
     ((simp (to_z-of_z, c.ranges.value) at c.add.ensures) ∙ ap (λ (s : Shape). add_at s now.entries i c.args.value) c.shape_of-shape.ensures.value)
-    ∙ ap (λ (fs : List Feed). applied c.args.plan.now fs c.args.attrs.now c.args.value (entries_of c.args.series.now.items)) (sym c.in-Some.ensures.cases.0)
+    ∙ ap (λ (fs : List Feed). after_feeds c.args.plan.now fs c.args.attrs.now c.args.value (entries_of c.args.series.now.items)) (sym c.in-Some.ensures.cases.0)
 
 pub returns-clause-ok : goal.returns-clause-ok
 returns-clause-ok t c =
     let told = simp (to_z-of_z, c.ranges.value) at c.takes.ensures in
     there-first c.args.plan.now c.args.attrs.now c.args.value c.args.series.now.items c.in-Some.feed.now c.in-Some.rest.now c.args.feeds.now c.in-Some.ensures.cases.0 c.requires.feeds
     c.index_mut-points.result.now c.index_mut-points.ensures.value
-    c.limit-limit.result c.chosen-set.result.now c.find.result c.limit-limit.ensures.value (c.chosen-set.ensures ∙ c.in_ok-only.ensures.value) c.find.ensures
+    c.limit-limit.result c.set_or-set.result.now c.find.result c.limit-limit.ensures.value (c.set_or-set.ensures ∙ c.in_ok-only.ensures.value) c.find.ensures
     c.in-Some-find.place c.in-Some-find.is (told (shape_at c.args.plan.now c.in-Some.feed.now.stream) ∙ ap not c.if-not-takes.false)
     ∙ (simp (to_z-of_z, c.ranges.value) at c.in_ok-record_each-2.ensures.ok)
 

@@ -20,19 +20,19 @@ pub returns-in_err-read_seal-clause-err : goal.returns-in_err-read_seal-clause-e
 returns-in_err-read_seal-clause-err c =
     let p = err_from_is_err_and c.from_residual-in_err-read_seal.result c.from_residual-in_err-read_seal.ensures.1 in
     let bytes = c.args.bytes.now in
-    let taken = c.split_at.ensures.front ∙ ap (λ (n : ℕ). take (length bytes - n) bytes) c.left.ensures in
-    rw (p.1, p.2) (λ _ x _. no_seal head parts parts_code bytes c.read_head.new.reader.rest c.read.new.reader.rest c.split_at.result.0.now c.in_ok-parts.parts c.checksum.result (sym c.new-reader.ensures.rest ∙ c.in_ok-read_head.ensures.ok) c.in_ok-parts.ensures.found taken c.checksum.ensures c.in_err-read_seal.ensures.err x)
+    let taken = c.split_at.ensures.front ∙ ap (λ (n : ℕ). take (length bytes - n) bytes) c.rest_len.ensures in
+    rw (p.1, p.2) (λ _ x _. no_seal head parts parts_code bytes c.read_head.new.reader.rest c.read_written.new.reader.rest c.split_at.result.0.now c.in_ok-parts.parts c.checksum.result (sym c.new-reader.ensures.rest ∙ c.in_ok-read_head.ensures.ok) c.in_ok-parts.ensures.found taken c.checksum.ensures c.in_err-read_seal.ensures.err x)
 
 pub returns-in_err-read_seal-clause-fault : goal.returns-in_err-read_seal-clause-fault
 returns-in_err-read_seal-clause-fault c =
     let p = err_from_is_err_and c.from_residual-in_err-read_seal.result c.from_residual-in_err-read_seal.ensures.1 in
     let bytes = c.args.bytes.now in
-    let taken = c.split_at.ensures.front ∙ ap (λ (n : ℕ). take (length bytes - n) bytes) c.left.ensures in
+    let taken = c.split_at.ensures.front ∙ ap (λ (n : ℕ). take (length bytes - n) bytes) c.rest_len.ensures in
     let ends = c.in_ok-parts.ensures.end ∙ c.in_ok-read_head.ensures.end ∙ c.new-reader.ensures.end in
-    rw (p.1, p.2) (seal_fault head parts bytes c.read_head.new.reader.rest c.read.new.reader.rest c.split_at.result.0.now c.in_ok-parts.parts c.checksum.result c.read.new.reader.end (sym c.new-reader.ensures.rest ∙ c.in_ok-read_head.ensures.ok) c.in_ok-parts.ensures.found taken c.checksum.ensures ends c.in_err-read_seal.field-0.0 c.in_err-read_seal.ensures.fault)
+    rw (p.1, p.2) (seal_fault head parts bytes c.read_head.new.reader.rest c.read_written.new.reader.rest c.split_at.result.0.now c.in_ok-parts.parts c.checksum.result c.read_written.new.reader.end (sym c.new-reader.ensures.rest ∙ c.in_ok-read_head.ensures.ok) c.in_ok-parts.ensures.found taken c.checksum.ensures ends c.in_err-read_seal.field-0.0 c.in_err-read_seal.ensures.fault)
 
 pub returns-clause-ok : goal.returns-clause-ok
 returns-clause-ok c =
     let bytes = c.args.bytes.now in
-    let taken = c.split_at.ensures.front ∙ ap (λ (n : ℕ). take (length bytes - n) bytes) c.left.ensures in
-    is_sealed head parts bytes c.read_head.new.reader.rest c.read.new.reader.rest c.split_at.result.0.now c.in_ok-parts.parts c.checksum.result (sym c.new-reader.ensures.rest ∙ c.in_ok-read_head.ensures.ok) c.in_ok-parts.ensures.found taken c.checksum.ensures c.in_ok-read_seal.ensures.ok
+    let taken = c.split_at.ensures.front ∙ ap (λ (n : ℕ). take (length bytes - n) bytes) c.rest_len.ensures in
+    is_sealed head parts bytes c.read_head.new.reader.rest c.read_written.new.reader.rest c.split_at.result.0.now c.in_ok-parts.parts c.checksum.result (sym c.new-reader.ensures.rest ∙ c.in_ok-read_head.ensures.ok) c.in_ok-parts.ensures.found taken c.checksum.ensures c.in_ok-read_seal.ensures.ok

@@ -22,9 +22,9 @@ no_other x y e h =
 pub returns-in_err-key-clause-found : goal.returns-in_err-key-clause-found
 returns-in_err-key-clause-found c =
     let p = err_from_is_err_and c.from_residual-in_err-key.result c.from_residual-in_err-key.ensures.1 in
-    rw (p.1, p.2) (λ ne. no_rest (key_before c.args.before) c.args.reader.now.rest c.read_shared.new.reader.rest c.in_ok-shared.shared c.in_ok-shared.ensures.found (c.in_err-key.ensures.err ne))
+    rw (p.1, p.2) (λ ne. no_rest (c.args.history.now, key_before c.args.before) c.args.reader.now.rest c.read_shared.new.reader.rest c.in_ok-shared.shared c.in_ok-shared.ensures.found (c.in_err-key.ensures.err ne))
 
 pub returns-then-ne-clause-found : goal.returns-then-ne-clause-found
 returns-then-ne-clause-found c =
-    λ _. no_such (key_before c.args.before) c.args.reader.now.rest c.read_shared.new.reader.rest c.read_rest.new.reader.rest c.in_ok-shared.shared c.in_ok-key.key c.in_ok-shared.ensures.found c.in_ok-key.ensures.ok c.in_ok-key.ensures.inherits
+    λ _. no_such (c.args.history.now, key_before c.args.before) c.args.reader.now.rest c.read_shared.new.reader.rest c.read_rest.new.reader.rest c.in_ok-shared.shared c.in_ok-key.key c.in_ok-shared.ensures.found c.in_ok-key.ensures.ok c.in_ok-key.ensures.inherits
     (λ e. no_other c.common.result c.in_ok-shared.shared (c.common.ensures ∙ e) c.if-ne.ensures)

@@ -14,8 +14,8 @@ returns-in-Some-same_gateway c = sym (refusals.same_gateway c.args.setup.now c.i
 pub returns-in-Some-late_writer : goal.returns-in-Some-late_writer
 returns-in-Some-late_writer c = sym (refusals.end_not_after c.args.setup.now c.in-Some-late_writer.writer (search rules) (search rules) (search rules) (search rules))
 
-pub returns-in-Some-crowded : goal.returns-in-Some-crowded
-returns-in-Some-crowded c = sym (refusals.too_many_jobs c.args.setup.now c.in-Some-crowded.writer (search rules) (search rules) (search rules) (search rules) (search rules))
+pub returns-in-Some-first_crowd : goal.returns-in-Some-first_crowd
+returns-in-Some-first_crowd c = sym (refusals.too_many_jobs c.args.setup.now c.in-Some-first_crowd.writer (search rules) (search rules) (search rules) (search rules) (search rules))
 
 pub returns : goal.returns
 returns c = sym (refusals.not_refused c.args.setup.now (search rules) (search rules) (search rules) (search rules) (search rules))

@@ -22,18 +22,18 @@ returns g c =
     let size : length c.in_ok-results.results.items ≡ length c.in_ok-posts.posts.items = search rules in
     let long : length c.in_ok-results.results.items ≡ length c.args.ids.now = size ∙ count in
     record {
-      ok = ok_then c.gathered.result (λ gs. map Ok gs.items ≡ c.in_ok-results.results.items) (λ gs. AreWhole c.args.exports.now c.args.ids.now gs.items)
+      ok = ok_then c.gather.result (λ gs. map Ok gs.items ≡ c.in_ok-results.results.items) (λ gs. AreWhole c.args.exports.now c.args.ids.now gs.items)
           (λ gs is. all_whole exports ids gs.items
           (answers_each (λ i v. IsWhole c.args.exports.now (slice_index c.args.ids.now i) v) rs gs.items (length ids) is long
           (λ i d l. let k = (c.in_ok-results.ensures.each i d (omega (arith, l, count))).1 in
           let id = id_at (λ p. p.id) posts i k.job (omega (arith, l, count)) (k.job_is k.job) ∙ ap (λ l. slice_index l i) same in
           subst (λ n. IfOk (slice_index_or c.in_ok-results.results.items i d) (λ v. IsWhole c.args.exports.now n v)) id k.call.met.0)))
-          c.gathered.ensures.ok;
-      err = err_then c.gathered.result _ (StopsServing c.args.exports.now (length c.args.ids.now))
+          c.gather.ensures.ok;
+      err = err_then c.gather.result _ (StopsServing c.args.exports.now (length c.args.ids.now))
           (λ h is. gathered_stops (StopsServing c.args.exports.now (length c.args.ids.now)) rs
           (λ i d l. let k = (c.in_ok-results.ensures.each i d (omega (arith, l, count, long))).1 in
           let less = subst (λ p. p.gateway < length c.args.ids.now) (k.job_is k.job) (c.in_ok-posts.ensures.gateways i k.job (omega (arith, l, count, long))) in
           let posted = subst (λ p. IsPosted c.args.exports.now (view p.pass) p.unsent) (k.job_is k.job) (c.in_ok-posts.ensures.told i k.job (omega (arith, l, count, long))) in
           err_then (slice_index_or c.in_ok-results.results.items i d) (IsLacking k.job.gateway k.job.unsent) (StopsServing c.args.exports.now (length c.args.ids.now))
-          (λ e lacks. lacking_stops exports (length ids) k.job.gateway (view k.job.pass).sent k.job.unsent e less posted.1 lacks) k.call.met.1) tt h is) c.gathered.ensures.err;
+          (λ e lacks. lacking_stops exports (length ids) k.job.gateway (view k.job.pass).sent k.job.unsent e less posted.1 lacks) k.call.met.1) tt h is) c.gather.ensures.err;
     }

@@ -7,7 +7,7 @@ use Rattle.fleet_kit.proofs.writers.export_closed.Goals as goal
 
 pub returns-in-Ok : goal.returns-in-Ok
 returns-in-Ok c = record {
-  ok = ok_then c.collected.result _ _
-      (λ e copy es weighs. exports_mixed (first_of c.args.shared) _ (family c.args.main) _ c.in-Ok.writer c.in-Ok.ensures.serves.0 c.in-Ok.ensures.serves.1 c.requires.empty c.args.time e copy es weighs) c.collected.ensures.ok;
-  err = err_then c.collected.result _ _ (λ h is. inr is) c.collected.ensures.err;
+  ok = ok_then c.collection_of.result _ _
+      (λ e copy es weighs. exports_mixed (first_of c.args.shared) _ (family c.args.main) _ c.in-Ok.writer c.in-Ok.ensures.serves.0 c.in-Ok.ensures.serves.1 c.requires.empty c.args.time e copy es weighs) c.collection_of.ensures.ok;
+  err = err_then c.collection_of.result _ _ (λ h is. inr is) c.collection_of.ensures.err;
 }

@@ -1,4 +1,4 @@
-use Rattle.std.proofs.Common.{◌∙◌, Some, ap, sym, arith, get_or, slice_get, ℕ, List}
+use Rattle.std.proofs.Common.{◌∙◌, Some, ap, sym, arith, slice_get, ℕ, List}
 use Rattle.std.specs.Option.{option_map}
 use Rattle.attr_kit.specs.Exact.{exact_texts}
 use Rattle.attr_kit.specs.declared.attr_value.AttrValue.{AttrValue}

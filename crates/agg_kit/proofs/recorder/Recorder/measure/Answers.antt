@@ -2,11 +2,11 @@ use Rattle.std.proofs.Common.{◌≡◌, ◌∙◌, ◌≢◌, Some, None, true,
 use Rattle.std.proofs.lemmas.Int.{to_z-of_z}
 use Rattle.agg_kit.specs.Entries.{Entry, entry_of}
 use Rattle.agg_kit.specs.Feeds.{IsHeld}
-use Rattle.agg_kit.specs.Recorders.{keeps_sets, record_fault_of, told}
+use Rattle.agg_kit.specs.Recorders.{keeps_sets, record_fault_of, as_record_fault}
 use Rattle.agg_kit.specs.Tallies.{Tallied}
-use Rattle.agg_kit.specs.declared.fault.MeasureFault.TheVariants as faults
+use Rattle.agg_kit.specs.declared.fault.TallyFault.TheVariants as faults
 use Rattle.agg_kit.specs.declared.fault.RecordFault.{RecordFault}
-use Rattle.agg_kit.proofs.Recorders.{record-full, record-told, rises-either}
+use Rattle.agg_kit.proofs.Recorders.{record-full, record-as_record_fault, rises-either}
 use Rattle.agg_kit.proofs.Taken.{has-more}
 use Rattle.agg_kit.proofs.recorder.Recorder.measure.Goals as goal
 use Rattle.agg_kit.proofs.recorder.Recorder.measure.Goals.{in-Ok, in-Err}
@@ -34,7 +34,7 @@ returns-clause-ok c =
     let e : Entry = entry_of c.args.instrument c.args.attrs.now c.args.value in
     let keeps = sym (c.in_ok-keeps_sets.ensures.value c.args.value) ∙ c.if-not-branch.false in
     elim c.match-measure.branch [
-      | in-Ok w ↦ rw w.result-is (ap (λ (t : Tallied). record_fault_of t e) (sym c.self.view_is) ∙ record-told t e None keeps (simp to_z-of_z at w.in-Ok.ensures.ok))
+      | in-Ok w ↦ rw w.result-is (ap (λ (t : Tallied). record_fault_of t e) (sym c.self.view_is) ∙ record-as_record_fault t e None keeps (simp to_z-of_z at w.in-Ok.ensures.ok))
       | in-Err w ↦ rw w.result-is tt
     ]
 
@@ -47,9 +47,9 @@ returns-clause-err c =
     elim c.match-measure.branch [
       | in-Ok w ↦ rw w.result-is tt
       | in-Err w ↦ rw w.result-is (λ n.
-          let some : w.in-Err.fault ≢ faults.NoMemory = λ x. n (w.from.ensures ∙ ap told x) in
+          let some : w.in-Err.fault ≢ faults.NoMemory = λ x. n (w.from.ensures ∙ ap as_record_fault x) in
           let why = simp to_z-of_z at w.in-Err.ensures.err in
-          ap (λ (t : Tallied). record_fault_of t e) (sym c.self.view_is) ∙ record-told t e (Some w.in-Err.fault) keeps (why some) ∙ ap (λ (f : RecordFault). Some f) (sym w.from.ensures))
+          ap (λ (t : Tallied). record_fault_of t e) (sym c.self.view_is) ∙ record-as_record_fault t e (Some w.in-Err.fault) keeps (why some) ∙ ap (λ (f : RecordFault). Some f) (sym w.from.ensures))
     ]
 
 pub returns-clause-recorded : goal.returns-clause-recorded
@@ -61,6 +61,6 @@ returns-clause-recorded c =
     elim c.match-measure.branch [
       | in-Ok w ↦ rw w.result-is
           (has-more c.args.self.now c.measure.new.self t c.measure.new.self e c.self.view_is refl c.in_ok-keeps_sets.ensures.rising
-          (record-told t e None keeps (simp to_z-of_z at w.in-Ok.ensures.ok)) (simp to_z-of_z at w.in-Ok.ensures.value))
+          (record-as_record_fault t e None keeps (simp to_z-of_z at w.in-Ok.ensures.ok)) (simp to_z-of_z at w.in-Ok.ensures.value))
       | in-Err w ↦ rw w.result-is tt
     ]

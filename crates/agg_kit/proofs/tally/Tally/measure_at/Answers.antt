@@ -5,14 +5,14 @@ use Rattle.plan_kit.specs.declared.instrument.Kind.{Kind}
 use Rattle.plan_kit.specs.declared.feed.Feed.{Feed}
 use Rattle.agg_kit.specs.BoundPoints.{AreKnown}
 use Rattle.agg_kit.specs.Entries.{Entry, entry_of}
-use Rattle.agg_kit.specs.Feeds.{entries_of, applied, whole_first}
+use Rattle.agg_kit.specs.Feeds.{entries_of, after_feeds, whole_first}
 use Rattle.agg_kit.specs.Kept.{whole_feed}
 use Rattle.agg_kit.specs.Measuring.{after_measure, fault_of, early_fault_of}
 use Rattle.agg_kit.specs.Refusals.{is_negative_for}
 use Rattle.agg_kit.specs.Tallies.{Tallied}
-use Rattle.agg_kit.proofs.Records.{stored-length, sound-length, sound-applied, sound-either, rising-feeds, some-kind, on_ok, if_err, if_some}
+use Rattle.agg_kit.proofs.Records.{stored-length, sound-length, sound-after_feeds, sound-either, rising-feeds, some-kind, on_ok, if_err, if_some}
 use Rattle.agg_kit.proofs.Refusals.{all-part, whole-part, kind-there, kind-gone, into-gone, into-negative, into-points}
-use Rattle.agg_kit.proofs.Rounds.{applied-is}
+use Rattle.agg_kit.proofs.Rounds.{after_feeds-is}
 use Rattle.agg_kit.proofs.tally.Tally.measure_at.Goals as goal
 
 pub returns-in_default-clause-err : goal.returns-in_default-clause-err
@@ -67,9 +67,9 @@ invariant_of-self c =
     let rise = rising-feeds p (length p.streams) kind.0 c.in-Some.feeds.now c.args.value refl feeds (subst (AllRise p kind.0) (sym c.in-Some.ensures.value) (c.in-Some.ensures.rising kind.0 kind.1)) fine in
     record {
       overflow_is = c.self.invariant.overflow_is;
-      sound = sound-either c.record.result p.streams before (applied p c.in-Some.feeds.now c.args.attrs.now c.args.value before) (entries_of c.record.new.series.items)
+      sound = sound-either c.record.result p.streams before (after_feeds p c.in-Some.feeds.now c.args.attrs.now c.args.value before) (entries_of c.record.new.series.items)
           (simp to_z-of_z at c.record.ensures.value) c.record.ensures.unchanged c.self.invariant.sound
-          (sound-applied p (length p.streams) c.in-Some.feeds.now c.args.attrs.now c.args.value before refl feeds rise c.self.invariant.sound);
+          (sound-after_feeds p (length p.streams) c.in-Some.feeds.now c.args.attrs.now c.args.value before refl feeds rise c.self.invariant.sound);
       lone_is = c.self.invariant.lone_is;
     }
 
@@ -79,12 +79,9 @@ returns-clause-ok c =
     let t : Tallied = record { plan = c.self.inside.plan; series = entries_of c.self.inside.series.items } in
     let e : Entry = entry_of c.args.instrument c.args.attrs.now c.args.value in
     let fit : FitsSigned w64 c.args.value = c.ranges.value in
-    let some = kind-there t.plan c.args.instrument (c.in-Some.ensures.variant.0 refl) in
-    let negative = simp to_z-of_z at c.if-is_negative.ensures in
-    let rises : is_negative_for (kind_of t.plan c.args.instrument) c.args.value ≡ false = sym (negative ∙ ap (λ (k : Option Kind). is_negative_for k c.args.value) c.kind.ensures.value) in
+    let rises : is_negative_for (kind_of t.plan c.args.instrument) c.args.value ≡ false = sym ((simp to_z-of_z at c.if-is_negative.ensures) ∙ ap (λ (k : Option Kind). is_negative_for k c.args.value) c.kind.ensures.value) in
     let feeds : AreFeeds (length t.plan.streams) c.in-Some.feeds.now = subst (AreFeeds (length t.plan.streams)) (sym c.in-Some.ensures.value) c.in-Some.ensures.feeds in
-    let first = into-points t c.args.self.now e (λ fs. fs) c.in-Some.feeds.now c.self.view_is c.in-Some.ensures.value (all-part c.in-Some.feeds.now) feeds some rises in
-    on_ok _ _ c.record.result (λ ok. first ∙ ok) (simp to_z-of_z at c.record.ensures.ok)
+    on_ok _ _ c.record.result (λ ok. into-points t c.args.self.now e (λ fs. fs) c.in-Some.feeds.now c.self.view_is c.in-Some.ensures.value (all-part c.in-Some.feeds.now) feeds (kind-there t.plan c.args.instrument (c.in-Some.ensures.variant.0 refl)) rises ∙ ok) (simp to_z-of_z at c.record.ensures.ok)
 
 pub returns-clause-value : goal.returns-clause-value
 returns-clause-value c =
@@ -94,7 +91,7 @@ returns-clause-value c =
     let feeds : AreFeeds (length t.plan.streams) c.in-Some.feeds.now = subst (AreFeeds (length t.plan.streams)) (sym c.in-Some.ensures.value) c.in-Some.ensures.feeds in
     let long = sound-length t.plan.streams t.series c.self.invariant.sound in
     on_ok _ _ c.record.result
-    (λ now. (λ i. record { plan = t.plan; series = (now ∙ applied-is t e c.in-Some.feeds.now c.in-Some.ensures.value feeds long) i }) ∙ ap (λ (x : Tallied). after_measure x e) c.self.view_is)
+    (λ now. (λ i. record { plan = t.plan; series = (now ∙ after_feeds-is t e c.in-Some.feeds.now c.in-Some.ensures.value feeds long) i }) ∙ ap (λ (x : Tallied). after_measure x e) c.self.view_is)
     (simp to_z-of_z at c.record.ensures.value)
 
 pub returns-clause-err : goal.returns-clause-err
@@ -103,12 +100,9 @@ returns-clause-err c =
     let t : Tallied = record { plan = c.self.inside.plan; series = entries_of c.self.inside.series.items } in
     let e : Entry = entry_of c.args.instrument c.args.attrs.now c.args.value in
     let fit : FitsSigned w64 c.args.value = c.ranges.value in
-    let some = kind-there t.plan c.args.instrument (c.in-Some.ensures.variant.0 refl) in
-    let negative = simp to_z-of_z at c.if-is_negative.ensures in
-    let rises : is_negative_for (kind_of t.plan c.args.instrument) c.args.value ≡ false = sym (negative ∙ ap (λ (k : Option Kind). is_negative_for k c.args.value) c.kind.ensures.value) in
+    let rises : is_negative_for (kind_of t.plan c.args.instrument) c.args.value ≡ false = sym ((simp to_z-of_z at c.if-is_negative.ensures) ∙ ap (λ (k : Option Kind). is_negative_for k c.args.value) c.kind.ensures.value) in
     let feeds : AreFeeds (length t.plan.streams) c.in-Some.feeds.now = subst (AreFeeds (length t.plan.streams)) (sym c.in-Some.ensures.value) c.in-Some.ensures.feeds in
-    let first = into-points t c.args.self.now e (λ fs. fs) c.in-Some.feeds.now c.self.view_is c.in-Some.ensures.value (all-part c.in-Some.feeds.now) feeds some rises in
-    if_err _ _ c.record.result (λ f told n. first ∙ told n) (simp to_z-of_z at c.record.ensures.err)
+    if_err _ _ c.record.result (λ f told n. into-points t c.args.self.now e (λ fs. fs) c.in-Some.feeds.now c.self.view_is c.in-Some.ensures.value (all-part c.in-Some.feeds.now) feeds (kind-there t.plan c.args.instrument (c.in-Some.ensures.variant.0 refl)) rises ∙ told n) (simp to_z-of_z at c.record.ensures.err)
 
 pub returns-clause-no_memory : goal.returns-clause-no_memory
 unfolding early_fault_of
@@ -116,9 +110,6 @@ returns-clause-no_memory c =
     let t : Tallied = record { plan = c.self.inside.plan; series = entries_of c.self.inside.series.items } in
     let e : Entry = entry_of c.args.instrument c.args.attrs.now c.args.value in
     let fit : FitsSigned w64 c.args.value = c.ranges.value in
-    let some = kind-there t.plan c.args.instrument (c.in-Some.ensures.variant.0 refl) in
-    let negative = simp to_z-of_z at c.if-is_negative.ensures in
-    let rises : is_negative_for (kind_of t.plan c.args.instrument) c.args.value ≡ false = sym (negative ∙ ap (λ (k : Option Kind). is_negative_for k c.args.value) c.kind.ensures.value) in
+    let rises : is_negative_for (kind_of t.plan c.args.instrument) c.args.value ≡ false = sym ((simp to_z-of_z at c.if-is_negative.ensures) ∙ ap (λ (k : Option Kind). is_negative_for k c.args.value) c.kind.ensures.value) in
     let feeds : AreFeeds (length t.plan.streams) c.in-Some.feeds.now = subst (AreFeeds (length t.plan.streams)) (sym c.in-Some.ensures.value) c.in-Some.ensures.feeds in
-    let first = into-points t c.args.self.now e whole_first c.in-Some.feeds.now c.self.view_is c.in-Some.ensures.value (whole-part c.in-Some.feeds.now) feeds some rises in
-    if_err _ _ c.record.result (λ f told n. first ∙ told n) (simp to_z-of_z at c.record.ensures.no_memory)
+    if_err _ _ c.record.result (λ f told n. into-points t c.args.self.now e whole_first c.in-Some.feeds.now c.self.view_is c.in-Some.ensures.value (whole-part c.in-Some.feeds.now) feeds (kind-there t.plan c.args.instrument (c.in-Some.ensures.variant.0 refl)) rises ∙ told n) (simp to_z-of_z at c.record.ensures.no_memory)

@@ -2,10 +2,10 @@ use Rattle.std.proofs.Common.{◌≡◌, ◌∙◌, ℕ, [], length, replicate, 
 use Rattle.plan_kit.specs.Plans.{Planned}
 use Rattle.agg_kit.specs.Feeds.{entries_of}
 use Rattle.agg_kit.specs.Measuring.{empty_tally}
-use Rattle.agg_kit.specs.Recorders.{absorbed}
+use Rattle.agg_kit.specs.Recorders.{series_with}
 use Rattle.agg_kit.specs.Sound.{AllSound}
 use Rattle.agg_kit.specs.Tallies.{Tallied}
-use Rattle.agg_kit.proofs.ComingIn.{all-absorbed}
+use Rattle.agg_kit.proofs.ComingIn.{all-series_with}
 use Rattle.agg_kit.proofs.Records.{on_ok, sound-either, sound-nothing, stored-length}
 use Rattle.agg_kit.proofs.Rounds.{begins}
 use Rattle.agg_kit.proofs.tally.Tally.take_from.Goals as goal
@@ -18,9 +18,9 @@ invariant_of-self c =
     let same : c.other.inside.plan ≡ p = ap (λ (t : Tallied). t.plan) c.other.view_is ∙ c.requires ∙ sym (ap (λ (t : Tallied). t.plan) c.self.view_is) in
     record {
       overflow_is = c.self.invariant.overflow_is;
-      sound = sound-either c.absorb_into.result p.streams before (absorbed p.limit before later) (entries_of c.absorb_into.new.series.items)
-          (on_ok _ _ c.absorb_into.result (λ e. e ∙ ap (λ n. absorbed n before later) c.limit.ensures.value) c.absorb_into.ensures.value) c.absorb_into.ensures.unchanged c.self.invariant.sound
-          (all-absorbed p.limit p.streams before later c.self.invariant.sound (subst (λ (q : Planned). AllSound q.streams later) same c.other.invariant.sound));
+      sound = sound-either c.absorb_into.result p.streams before (series_with p.limit before later) (entries_of c.absorb_into.new.series.items)
+          (on_ok _ _ c.absorb_into.result (λ e. e ∙ ap (λ n. series_with n before later) c.limit.ensures.value) c.absorb_into.ensures.value) c.absorb_into.ensures.unchanged c.self.invariant.sound
+          (all-series_with p.limit p.streams before later c.self.invariant.sound (subst (λ (q : Planned). AllSound q.streams later) same c.other.invariant.sound));
       lone_is = c.self.invariant.lone_is;
     }
 

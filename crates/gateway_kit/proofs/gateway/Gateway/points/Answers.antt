@@ -1,7 +1,7 @@
 use Rattle.std.proofs.Common.{sym, ap, ◌∙◌}
 use Rattle.std.specs.FinMap.{entries}
-use Rattle.gateway_kit.specs.Parts.{listed}
-use Rattle.gateway_kit.specs.View.{View}
+use Rattle.gateway_kit.specs.Incarnations.{all_points}
+use Rattle.gateway_kit.specs.GatewayState.{GatewayState}
 use Rattle.gateway_kit.proofs.Joining.{entries_points}
 use Rattle.gateway_kit.proofs.Served.{filter_all}
 use Rattle.gateway_kit.proofs.gateway.Gateway.points.Goals as goal
@@ -10,7 +10,7 @@ pub returns : goal.returns
 returns c =
     record {
       value =
-          filter_all (listed c.as_slice.result.now) ∙ ap listed c.as_slice.ensures.value
+          filter_all (all_points c.as_slice.result.now) ∙ ap all_points c.as_slice.ensures.value
           ∙ sym (entries_points c.self.inside.incarnations.items c.self.invariant.0.sorted)
-          ∙ ap (λ (v : View). entries v.points) c.self.view_is;
+          ∙ ap (λ (v : GatewayState). entries v.points) c.self.view_is;
     }

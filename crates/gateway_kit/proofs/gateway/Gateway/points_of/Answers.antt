@@ -1,7 +1,7 @@
 use Rattle.std.proofs.Common.{filter, sym, ap, ◌∙◌}
 use Rattle.std.specs.FinMap.{entries}
-use Rattle.gateway_kit.specs.Parts.{listed}
-use Rattle.gateway_kit.specs.View.{View}
+use Rattle.gateway_kit.specs.Incarnations.{all_points}
+use Rattle.gateway_kit.specs.GatewayState.{GatewayState}
 use Rattle.gateway_kit.specs.Walks.{is_of}
 use Rattle.gateway_kit.proofs.Joining.{entries_points}
 use Rattle.gateway_kit.proofs.gateway.Gateway.points_of.Goals as goal
@@ -11,7 +11,7 @@ returns c =
     record {
       value =
           ap (filter (λ e. is_of c.args.service.now e.0.writer))
-          (ap listed c.as_slice.ensures.value
+          (ap all_points c.as_slice.ensures.value
           ∙ sym (entries_points c.self.inside.incarnations.items c.self.invariant.0.sorted)
-          ∙ ap (λ (v : View). entries v.points) c.self.view_is);
+          ∙ ap (λ (v : GatewayState). entries v.points) c.self.view_is);
     }

@@ -10,7 +10,7 @@ use Rattle.gateway_kit.specs.Keys.{ItemKey, entry_of, item_cmp}
 use Rattle.gateway_kit.specs.declared.changes.Changes.{Changes}
 use Rattle.gateway_kit.proofs.Entries.{as_T, none_before}
 use Rattle.gateway_kit.proofs.ExportEntries.{mapped_more, keys_of_items}
-use Rattle.gateway_kit.proofs.KeyOrders.{item_total}
+use Rattle.gateway_kit.specs.KeyOrders.{item_total}
 use Rattle.gateway_kit.proofs.Moved.{got_map}
 use Rattle.gateway_kit.proofs.incarnation.Incarnation.changes_with.Goals as goal
 
@@ -31,8 +31,8 @@ loop-item-preserved c =
     (subst (λ (came : List Entry). Drafts (map entry_of c.items-items.result.now) came c.bring.new.self.updates.items c.bring.new.self.fresh.items) (sym (mapped_more entry_of xs i x within c.item-item.is))
     (rw c.payload_of.ensures at stepped)))
 
-pub finished-requires : goal.finished-requires
-finished-requires c = subst (λ (ks : List ItemKey). IsDistinct (eq_by_cmp item_cmp) ks) (keys_of_items c.loop-item.draft.fresh.items) c.loop-item.invariant.brings.apart
+pub finish-requires : goal.finish-requires
+finish-requires c = subst (λ (ks : List ItemKey). IsDistinct (eq_by_cmp item_cmp) ks) (keys_of_items c.loop-item.draft.fresh.items) c.loop-item.invariant.brings.apart
 
 pub returns : goal.returns
 returns c =
@@ -40,4 +40,4 @@ returns c =
     let xs = c.items-item-items.result.now in
     let all : take c.loop-item.item-index xs ≡ xs = grind (arith, common_steps) in
     let whole : take c.loop-item.item-index (entries c.args.other.now.cells) ≡ entries c.args.other.now.cells = ap (take c.loop-item.item-index) (sym c.items-item-items.ensures.entries) ∙ take-map entry_of c.loop-item.item-index xs ∙ ap (map entry_of) all ∙ c.items-item-items.ensures.entries in
-    IfOk-weaker c.finished.result _ (λ (h : Changes). Prepares (entries c.args.self.now.cells) (entries c.args.other.now.cells) h) (λ h told. rw (← es) (told (entries c.args.other.now.cells) c.items-items.ensures.sorted (rw (es, ← whole) c.loop-item.invariant))) c.finished.ensures
+    IfOk-weaker c.finish.result _ (λ (h : Changes). Prepares (entries c.args.self.now.cells) (entries c.args.other.now.cells) h) (λ h told. rw (← es) (told (entries c.args.other.now.cells) c.items-items.ensures.sorted (rw (es, ← whole) c.loop-item.invariant))) c.finish.ensures

@@ -2,8 +2,8 @@ use Rattle.std.proofs.Common.{List, map, sym, ap, ◌∙◌}
 use Rattle.std.specs.FinMap.{entries-from_sorted}
 use Rattle.gateway_kit.specs.Changing.{Entry}
 use Rattle.gateway_kit.specs.Keys.{item_cmp, entry_of}
-use Rattle.gateway_kit.specs.Part.{Part}
-use Rattle.gateway_kit.specs.Tallies.{conflicts_in, part_conflicts}
+use Rattle.gateway_kit.specs.IncarnationState.{IncarnationState}
+use Rattle.gateway_kit.specs.Tallies.{conflicts_in, incarnation_conflicts}
 use Rattle.gateway_kit.proofs.Entries.{as_T}
 use Rattle.gateway_kit.proofs.incarnation.Incarnation.conflicts.Goals as goal
 
@@ -11,4 +11,4 @@ pub returns : goal.returns
 returns c =
     c.self.invariant.tallied.conflicts
     ∙ ap (λ (es : List Entry). conflicts_in es) (sym (entries-from_sorted item_cmp (map entry_of c.self.inside.items.items) (as_T c.self.invariant.sorted)))
-    ∙ ap (λ (p : Part). part_conflicts p) c.self.view_is
+    ∙ ap (λ (p : IncarnationState). incarnation_conflicts p) c.self.view_is

@@ -1,7 +1,7 @@
 use Rattle.std.proofs.Common.{◌∙◌, ap, sym, map}
 use Rattle.std.specs.FinMap.{entries, entries-from_sorted}
 use Rattle.gateway_kit.specs.Keys.{item_cmp, entry_of}
-use Rattle.gateway_kit.specs.Part.{Part}
+use Rattle.gateway_kit.specs.IncarnationState.{IncarnationState}
 use Rattle.gateway_kit.specs.Times.{latest}
 use Rattle.gateway_kit.proofs.Entries.{as_T}
 use Rattle.gateway_kit.proofs.incarnation.Incarnation.newest.Goals as goal
@@ -10,4 +10,4 @@ pub returns : goal.returns
 returns c =
     c.self.invariant.tallied.newest
     ∙ ap latest (sym (entries-from_sorted item_cmp (map entry_of c.self.inside.items.items) (as_T c.self.invariant.sorted)))
-    ∙ ap (λ (p : Part). latest (entries p.cells)) c.self.view_is
+    ∙ ap (λ (p : IncarnationState). latest (entries p.cells)) c.self.view_is

@@ -1,6 +1,6 @@
 use Rattle.std.proofs.Common.{◌<◌, ◌≤◌, Some, sym, ap, subst, ◌∙◌}
 use Rattle.std.specs.FinMap.{get}
-use Rattle.gateway_kit.specs.View.{View}
+use Rattle.gateway_kit.specs.GatewayState.{GatewayState}
 use Rattle.point_kit.specs.Exports.{Points}
 use Rattle.gossip_kit.specs.Bodies.{cells_of, delta_of}
 use Rattle.gossip_kit.specs.Gossip.{Brings, acknowledged, last_number}
@@ -19,7 +19,7 @@ returns-clause-value c =
           ap cells_of w.body-is ∙ w.in_ok-cells.ensures ∙ carried_recent node c.args.to low
       | else-number-lt-LAST_NUMBER+in_ok-try_copy w ↦
           let high : last_number ≤ node.change = subst (λ (n : NodeView). last_number ≤ n.change) c.self.view_is w.if-number-lt-LAST_NUMBER.false in
-          ap cells_of w.body-is ∙ ap (λ (g : View). g.points) w.in_ok-try_copy.ensures.value ∙ ap (λ (n : NodeView). n.gateway.points) c.self.view_is ∙ carried_all node c.args.to high
+          ap cells_of w.body-is ∙ ap (λ (g : GatewayState). g.points) w.in_ok-try_copy.ensures.value ∙ ap (λ (n : NodeView). n.gateway.points) c.self.view_is ∙ carried_all node c.args.to high
     ]
 
 pub returns-clause-delta : goal.returns-clause-delta

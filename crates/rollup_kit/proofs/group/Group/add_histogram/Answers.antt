@@ -1,4 +1,4 @@
-use Rattle.std.proofs.Common.{slice_index, arith, rules}
+use Rattle.std.proofs.Common.{slice_index, arith}
 use Rattle.std.proofs.lemmas.Int.{ints}
 use Rattle.rollup_kit.proofs.Bounds.{histogram_at}
 use Rattle.rollup_kit.proofs.group.Group.add_histogram.Goals as goal

@@ -5,7 +5,7 @@ use Rattle.std.proofs.lemmas.List.{set-get_or}
 use Rattle.world_kit.proofs.Places.{stands_at}
 use Rattle.world_kit.proofs.GatewayEvents.{answer_none, answer_some, comes_here, goes_elsewhere, hand_nowhere, hand_other, hand_past, hand_wants, hand_zero, hands, hands_delta, with_both}
 use Rattle.world_kit.proofs.Replies.{left_as, seen_as, same_as, wants_as}
-use Rattle.gateway_kit.specs.View.{View}
+use Rattle.gateway_kit.specs.GatewayState.{GatewayState}
 use Rattle.gossip_kit.specs.Views.{MessageView}
 use Rattle.world_kit.specs.contracts.world.World as world
 use Rattle.world_kit.specs.declared.event.Event.TheVariants as event
@@ -36,7 +36,7 @@ returns-then-to-id-clause-ok c =
     left_as _ _ _ _ c.self.view_is (hand_other _ c.args.mail c.args.gateway c.index-sent.result.now c.index.result.now low
     (stands_at mails (c.args.mail - 1) c.index-sent.result.now high c.index-sent.ensures)
     (stands_at nodes c.args.gateway c.index.result.now (grind (arith, common_steps)) c.index.ensures)
-    (λ same. c.if-to-id.true (c.to.ensures.value ∙ same ∙ sym (c.id.ensures.value ∙ ap (λ (g : View). g.id) c.gateway.ensures.value))))
+    (λ same. c.if-to-id.true (c.to.ensures.value ∙ same ∙ sym (c.id.ensures.value ∙ ap (λ (g : GatewayState). g.id) c.gateway.ensures.value))))
 
 pub returns-in_err-reserve-clause-no_memory : goal.returns-in_err-reserve-clause-no_memory
 returns-in_err-reserve-clause-no_memory c =
@@ -47,7 +47,7 @@ returns-in_err-reserve-clause-no_memory c =
     wants_as _ _ _ _ c.self.view_is (hand_wants _ c.args.mail c.args.gateway c.index-sent.result.now c.index.result.now low
     (stands_at mails (c.args.mail - 1) c.index-sent.result.now high c.index-sent.ensures)
     (stands_at nodes c.args.gateway c.index.result.now (grind (arith, common_steps)) c.index.ensures)
-    (sym c.to.ensures.value ∙ c.if-to-id.false ∙ c.id.ensures.value ∙ ap (λ (g : View). g.id) c.gateway.ensures.value))
+    (sym c.to.ensures.value ∙ c.if-to-id.false ∙ c.id.ensures.value ∙ ap (λ (g : GatewayState). g.id) c.gateway.ensures.value))
 
 pub returns-in-Err-NotAddressed-clause-ok : goal.returns-in-Err-NotAddressed-clause-ok
 returns-in-Err-NotAddressed-clause-ok c =

@@ -9,7 +9,7 @@ use Rattle.world_kit.proofs.Places.{stands_at}
 use Rattle.world_kit.proofs.Replies.{left_as, seen_as, same_as, wants_as}
 use Rattle.world_kit.proofs.WriterEvents.{measure_nowhere, measure_refused, measure_wants, measures, with_writers}
 use Rattle.world_kit.specs.contracts.world.World as world
-use Rattle.agg_kit.specs.declared.fault.MeasureFault.TheVariants.{NoInstrument, Negative, Overflow, NoMemory}
+use Rattle.agg_kit.specs.declared.fault.TallyFault.TheVariants.{NoInstrument, Negative, Overflow, NoMemory}
 use Rattle.world_kit.specs.declared.event.Refusal.{Refusal}
 use Rattle.world_kit.specs.Told.{measure_refusal}
 use Rattle.writer_kit.specs.declared.fault.MeasureFault.{MeasureFault}

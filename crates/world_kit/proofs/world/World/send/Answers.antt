@@ -3,7 +3,7 @@ use Rattle.std.proofs.lemmas.Grind.{common_steps}
 use Rattle.world_kit.proofs.Places.{stands_at}
 use Rattle.world_kit.proofs.GatewayEvents.{send_nowhere, send_none, send_wants, sends, with_mails}
 use Rattle.world_kit.proofs.Replies.{left_as, seen_as, wants_as}
-use Rattle.gateway_kit.specs.View.{View}
+use Rattle.gateway_kit.specs.GatewayState.{GatewayState}
 use Rattle.gossip_kit.specs.Gossip.{Brings, acknowledged}
 use Rattle.gossip_kit.specs.Views.{MessageView}
 use Rattle.world_kit.specs.contracts.world.World as world
@@ -29,7 +29,7 @@ returns-clause-ok c =
     let grown : c.push.new.self.items ≡ mails ++ mail ∷ [] = c.in_ok-push.ensures.items in
     let count : c.len-3.result ≡ length mails + 1 = grind (arith, common_steps) in
     let comes : mail.from ≡ c.index-2.result.now.gateway.id = c.in_ok-mail.ensures.from in
-    let goes : mail.to ≡ c.index.result.now.gateway.id = c.in_ok-mail.ensures.to ∙ c.id-receiver.ensures.value ∙ ap (λ (g : View). g.id) c.gateway.ensures.value in
+    let goes : mail.to ≡ c.index.result.now.gateway.id = c.in_ok-mail.ensures.to ∙ c.id-receiver.ensures.value ∙ ap (λ (g : GatewayState). g.id) c.gateway.ensures.value in
     seen_as _ _ _ _ _ c.self.view_is
     (subst (λ (n : ℕ). Acts (event.Send c.args.from c.args.to) w (reply.Sent n) (with_mails w c.push.new.self.items)) (sym count)
     (subst (λ (ms : List MessageView). Acts (event.Send c.args.from c.args.to) w (reply.Sent (length mails + 1)) (with_mails w ms)) (sym grown)

@@ -1,0 +1,131 @@
+//! The incarnations of a gateway, in the order of their keys.
+ghost use Rattle.std.specs.Prelude.{◌≡◌, ◌≢◌, ◌<◌, ◌≤◌, ◌+◌, ◌^◌, IsTrue, IfOk, OnOk, OnErr, map, [], ◌∷◌, length, IsSome, IsOk};
+ghost use Rattle.std.specs.FinMap.{from_entries};
+ghost use Rattle.std.specs.FinMap.Entries.{is_sorted, find};
+ghost use Rattle.point_kit.specs.Exports.{state};
+ghost use Rattle.gateway_kit.specs.Growth.{GrowsBy, cells_at};
+ghost use Rattle.gateway_kit.specs.Keys.{incarnation_cmp, item_cmp};
+ghost use Rattle.gateway_kit.specs.Numbers.{IncarnationsMove};
+ghost use Rattle.gateway_kit.specs.Incarnations.{IsWhole, keyed_cells, all_points};
+ghost use Rattle.gateway_kit.specs.Places.{IsPlace};
+ghost use Rattle.gateway_kit.specs.Tallies.{conflicts_of};
+ghost use Rattle.gateway_kit.specs.Recent.{recent_incarnations};
+
+use crate::growth::Growth;
+use crate::incarnation::Incarnation;
+use attr_kit::{NoMemory, TryCopy};
+use point_kit::{Cell, Export, Key, WriterId};
+use std::alloc::{AllocError, AllocFailed, Global};
+
+/// The place of an incarnation, or where it belongs: O(log n).
+pub(crate) fn incarnation_place(
+    incarnations: &[Incarnation],
+    writer: &WriterId,
+    start: u64,
+) -> Result<usize, usize>
+    requires { IsTrue (is_sorted incarnation_cmp (map keyed_cells incarnations.now)) }
+    ensures { IsPlace incarnation_cmp (map keyed_cells incarnations.now) (writer.now, start) result }
+{
+    incarnations.binary_search_by(|incarnation| incarnation.order(writer, start))
+}
+
+/// How many cells all incarnations have: one walk over the incarnations.
+pub(crate) fn all_len(incarnations: &[Incarnation]) -> usize
+    requires { length (all_points incarnations.now) ≤ 2 ^ 62 }
+    ensures { result ≡ length (all_points incarnations.now) }
+{
+    let mut len = 0;
+    for incarnation in incarnations {
+        len += incarnation.items().len();
+    }
+    len
+}
+
+/// How many cells of all incarnations are conflicts: one walk over the incarnations.
+pub(crate) fn all_conflicts(incarnations: &[Incarnation]) -> u64
+    requires { conflicts_of incarnations.now ≤ 2 ^ 62 }
+    ensures { result ≡ conflicts_of incarnations.now }
+{
+    let mut conflicts = 0;
+    for incarnation in incarnations {
+        conflicts += incarnation.conflicts();
+    }
+    conflicts
+}
+
+/// Copies of what of incarnations is numbered above a number. Of an incarnation without such a key nothing is walked over.
+pub(crate) fn all_since(
+    alloc: Global,
+    incarnations: &[Incarnation],
+    number: u64,
+) -> Result<Vec<Incarnation>, NoMemory>
+    ensures { IfOk result (λ kept. map keyed_cells kept.items ≡ map keyed_cells (recent_incarnations number incarnations.now)) }
+{
+    let mut kept = Vec::new(alloc);
+    for incarnation in incarnations {
+        if incarnation.may_exceed(number) {
+            let recent = incarnation.since(alloc, number)?;
+            if !recent.items().is_empty() {
+                kept.push(recent)?;
+            }
+        }
+    }
+    Ok(kept)
+}
+
+/// Joins an export, which has points, into its incarnation, and numbers the keys that change.
+pub(crate) fn take_in(
+    incarnations: &mut Vec<Incarnation>,
+    len: usize,
+    number: u64,
+    export: &Export,
+) -> Result<Growth, NoMemory>
+    requires whole { IsWhole incarnations.old.items len }
+    requires points { export.now.points ≢ [] }
+    ensures grows { IfOk result (λ g. GrowsBy incarnations.old.items incarnations.new.items len (state (export.now ∷ [])) g) }
+    ensures moves { OnOk result (IncarnationsMove number incarnations.old.items incarnations.new.items) }
+    ensures unchanged { OnErr result (incarnations.new.items ≡ incarnations.old.items) }
+{
+    match incarnation_place(incarnations.as_slice(), export.writer(), export.start()) {
+        Ok(place) => incarnations[place].take(len, number, export),
+        Err(place) => {
+            let alloc = *incarnations.allocator();
+            let writer = export.writer().try_copy()?;
+            let mut incarnation = Incarnation::new(alloc, writer, export.start());
+            let growth = incarnation.take(len, number, export)?;
+            incarnations.insert(place, incarnation)?;
+            Ok(growth)
+        }
+    }
+}
+
+/// Joins a cell into the incarnation of its key.
+pub(crate) fn join_in(
+    incarnations: &mut Vec<Incarnation>,
+    len: usize,
+    key: Key,
+    cell: Cell,
+) -> Result<Growth, NoMemory>
+    requires whole { IsWhole incarnations.old.items len }
+    ensures grows { IfOk result (λ g. GrowsBy incarnations.old.items incarnations.new.items len (from_entries ((key, cell) ∷ [])) g) }
+    ensures held { IsSome (find item_cmp (key.stream, key.attrs) (cells_at (key.writer, key.start) incarnations.old.items)) → IsOk result }
+    ensures moves { OnOk result (IncarnationsMove 0 incarnations.old.items incarnations.new.items) }
+    ensures unchanged { OnErr result (incarnations.new.items ≡ incarnations.old.items) }
+{
+    let Key {
+        writer,
+        start,
+        stream,
+        attrs,
+    } = key;
+    match incarnation_place(incarnations.as_slice(), &writer, start) {
+        Ok(place) => incarnations[place].join(len, stream, attrs, cell),
+        Err(place) => {
+            let alloc = *incarnations.allocator();
+            let mut incarnation = Incarnation::new(alloc, writer, start);
+            let growth = incarnation.join(len, stream, attrs, cell)?;
+            incarnations.insert(place, incarnation)?;
+            Ok(growth)
+        }
+    }
+}

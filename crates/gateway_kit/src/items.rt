@@ -1,0 +1,182 @@
+//! The points of an incarnation, in the order of their keys.
+ghost use Rattle.std.specs.Prelude.{◌≡◌, ◌≤◌, ℕ, OnOk, IfOk, IsTrue, map, [], ◌+◌, vec_capacity, ◌++◌, ◌∷◌, ◌<◌};
+ghost use Rattle.std.specs.FinMap.Entries.{is_sorted};
+ghost use Rattle.gateway_kit.specs.Amending.{with_change, with_changes};
+ghost use Rattle.gateway_kit.specs.Bounding.{AreBounds};
+ghost use Rattle.gateway_kit.specs.Changing.{replacement, woven_items};
+ghost use Rattle.gateway_kit.specs.Keys.{entry_of, item_cmp};
+ghost use Rattle.gateway_kit.specs.Places.{IsPlace};
+ghost use Rattle.gateway_kit.specs.Numbers.{ItemsMove};
+ghost use Rattle.gateway_kit.specs.Tallies.{IsTally, are_up_to};
+ghost use Rattle.gateway_kit.specs.declared.item.Item.{Item};
+ghost use Rattle.gateway_kit.specs.Recent.{newer};
+
+use crate::bounds::Bounds;
+use crate::cells::{conflict_of, is_further};
+use crate::item::Item;
+use crate::ordered::renumber_all;
+use crate::tally::Tally;
+use crate::trail::follow_all;
+use crate::weave::weave;
+use attr_kit::{AttrSet, NoMemory, TryCopy};
+use point_kit::{Cell, Stream};
+use std::alloc::{AllocError, Global};
+use std::mem;
+
+/// The place of a key among items, or where it belongs: O(log n).
+pub(crate) fn place_of(items: &[Item], stream: &Stream, attrs: &AttrSet) -> Result<usize, usize>
+    requires { IsTrue (is_sorted item_cmp (map entry_of items.now)) }
+    ensures { IsPlace item_cmp (map entry_of items.now) (stream.now, attrs.now) result }
+{
+    items.binary_search_by(|item| item.order(stream, attrs))
+}
+
+/// The place of a key among items, or where it belongs. The item at the guess is asked first, and where it has the key that
+/// is all: else O(log n). Any number may be the guess.
+pub(crate) fn place_near(
+    items: &[Item],
+    guess: usize,
+    stream: &Stream,
+    attrs: &AttrSet,
+) -> Result<usize, usize>
+    requires { IsTrue (is_sorted item_cmp (map entry_of items.now)) }
+    ensures { IsPlace item_cmp (map entry_of items.now) (stream.now, attrs.now) result }
+{
+    if guess < items.len() && items[guess].is_of(stream, attrs) {
+        return Ok(guess);
+    }
+    place_of(items, stream, attrs)
+}
+
+// Keeps a copy of an item where it is numbered above a number.
+fn keep_newer(kept: &mut Vec<Item>, item: &Item, number: u64) -> Result<(), NoMemory>
+    ensures { OnOk result (kept.new.items ≡ kept.old.items ++ newer number (item.now ∷ [])) }
+{
+    if number < item.number {
+        kept.push(item.try_copy()?)?;
+    }
+    Ok(())
+}
+
+/// Copies of the items numbered above a number. Spans and blocks of places whose bound is not above it are passed over.
+pub(crate) fn newer_items(
+    alloc: Global,
+    items: &[Item],
+    bounds: &Bounds,
+    number: u64,
+) -> Result<Vec<Item>, NoMemory>
+    requires { AreBounds bounds.now items.now }
+    ensures { IfOk result (λ kept. kept.items ≡ newer number items.now) }
+{
+    let mut kept = Vec::new(alloc);
+    let mut place = 0;
+    while place < items.len() {
+        let passed = bounds.passable(place, number);
+        if passed > 0 {
+            place += passed;
+        } else {
+            keep_newer(&mut kept, &items[place], number)?;
+            place += 1;
+        }
+    }
+    Ok(kept)
+}
+
+/// The tally of items: one walk.
+pub(crate) fn tally_of(items: &[Item]) -> Tally
+    ensures { IsTally (map entry_of items.now) result }
+{
+    let mut tally = Tally::NONE;
+    for item in items {
+        tally = tally.and(&item.cell);
+    }
+    tally
+}
+
+/// Puts a new cell at a place, where it is further than the one that stands there; past the end nothing. Its key gets the
+/// number, and the bounds of its place rise to it. Of the tally before it makes the one after.
+pub(crate) fn put_cell(
+    items: &mut Vec<Item>,
+    bounds: &mut Bounds,
+    tally: Tally,
+    number: u64,
+    place: usize,
+    cell: Cell,
+) -> Tally
+    requires { IsTally (map entry_of items.old.items) tally }
+    ensures put { map entry_of items.new.items ≡ with_change replacement (map entry_of items.old.items) place cell }
+    ensures tally { IsTally (map entry_of items.new.items) result }
+    ensures moves { ItemsMove number items.old.items items.new.items }
+    ensures up_to { (n : ℕ) → number ≤ n → IsTrue (are_up_to n items.old.items) → IsTrue (are_up_to n items.new.items) }
+    ensures bounded { AreBounds bounds.old items.old.items → AreBounds bounds.new items.new.items }
+{
+    if place >= items.len() {
+        return tally;
+    }
+    let held = &items[place].cell;
+    if !is_further(&cell, held) {
+        return tally;
+    }
+    let tally = Tally {
+        newest: tally.newest.max(cell.time),
+        conflicts: tally.conflicts + conflict_of(&cell) - conflict_of(held),
+    };
+    bounds.raise(place, number);
+    items[place].put(number, cell);
+    tally
+}
+
+/// Puts the new cells at their places, and numbers their keys. Of the tally before it makes the one after.
+pub(crate) fn put_cells(
+    items: &mut Vec<Item>,
+    bounds: &mut Bounds,
+    tally: Tally,
+    number: u64,
+    updates: Vec<(usize, Cell)>,
+) -> Tally
+    requires { IsTally (map entry_of items.old.items) tally }
+    ensures put { map entry_of items.new.items ≡ with_changes replacement (map entry_of items.old.items) updates.items }
+    ensures tally { IsTally (map entry_of items.new.items) result }
+    ensures moves { ItemsMove number items.old.items items.new.items }
+    ensures up_to { (n : ℕ) → number ≤ n → IsTrue (are_up_to n items.old.items) → IsTrue (are_up_to n items.new.items) }
+    ensures bounded { AreBounds bounds.old items.old.items → AreBounds bounds.new items.new.items }
+{
+    let mut tally = tally;
+    for (place, cell) in updates {
+        tally = put_cell(items, bounds, tally, number, place, cell);
+    }
+    tally
+}
+
+/// Weaves new items in where there is room for them, all under one number. Places move then, so their bounds are gone. Of the
+/// tally before it makes the one after.
+pub(crate) fn put_items(
+    items: &mut Vec<Item>,
+    bounds: &mut Bounds,
+    tally: Tally,
+    number: u64,
+    mut fresh: Vec<Item>,
+    room: Vec<Item>,
+) -> Tally
+    requires empty { room.items ≡ [] }
+    requires tallied { IsTally (map entry_of items.old.items) tally }
+    requires sorted { IsTrue (is_sorted item_cmp (map entry_of items.old.items)) }
+    requires fresh_sorted { IsTrue (is_sorted item_cmp (map entry_of fresh.items)) }
+    ensures tally { IsTally (map entry_of items.new.items) result }
+    ensures moves { ItemsMove number items.old.items items.new.items }
+    ensures up_to { (n : ℕ) → number ≤ n → IsTrue (are_up_to n items.old.items) → IsTrue (are_up_to n items.new.items) }
+    ensures bounded { AreBounds bounds.old items.old.items → AreBounds bounds.new items.new.items }
+    ensures woven { map entry_of items.new.items ≡ woven_items items.old.items fresh.items (vec_capacity room) }
+{
+    if !fresh.is_empty() && fresh.len() <= room.capacity().saturating_sub(items.len()) {
+        renumber_all(&mut fresh, number);
+        let alloc = *items.allocator();
+        let mine = mem::replace(items, Vec::new(alloc));
+        *items = weave(mine, fresh, room);
+        bounds.clear();
+        follow_all(items);
+        tally_of(items.as_slice())
+    } else {
+        tally
+    }
+}

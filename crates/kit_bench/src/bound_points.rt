@@ -1,0 +1,184 @@
+//! Recordings at a bound point of a tally and of a recorder, beside those that find the set, and an atomic addition.
+ghost use Rattle.agg_kit.specs.BoundPoints.{IsBound};
+ghost use Rattle.agg_kit.specs.Recorders.{IsOwnBound};
+
+use crate::clock::tell;
+use crate::tallies::{plan, set, tally};
+use agg_kit::{Bound, RecordFault, Recorder, Tally, TallyFault};
+use attr_kit::AttrSet;
+use plan_kit::Kind;
+use std::alloc::Global;
+use std::sync::atomic::{AtomicU64, Ordering};
+use std::time::{Duration, Instant};
+
+// Of so many times the least is told.
+const ROUNDS: u32 = 7;
+
+// Values differ from turn to turn, so that no compiler adds them up.
+fn value(turn: u32) -> i64 {
+    i64::from(turn % 8)
+}
+
+fn add(sum: &AtomicU64, turns: u32) {
+    for turn in 0..turns {
+        let _ = sum.fetch_add(u64::from(turn % 8), Ordering::SeqCst);
+    }
+}
+
+fn record(tally: &mut Tally, set: &AttrSet, turns: u32) -> Result<(), TallyFault> {
+    for turn in 0..turns {
+        tally.measure(0, set, value(turn))?;
+    }
+    Ok(())
+}
+
+fn record_bound(tally: &mut Tally, point: &mut Bound, turns: u32) -> Result<(), TallyFault>
+    requires { IsBound tally.old point.old }
+    ensures { IsBound tally.new point.new }
+{
+    for turn in 0..turns {
+        tally.measure_bound(point, value(turn))?;
+    }
+    Ok(())
+}
+
+fn record_own(recorder: &mut Recorder, point: &mut Bound, turns: u32) -> Result<(), RecordFault>
+    requires { IsOwnBound recorder.old point.old }
+    ensures { IsOwnBound recorder.new point.new }
+{
+    for turn in 0..turns {
+        recorder.measure_bound(point, value(turn))?;
+    }
+    Ok(())
+}
+
+fn time_add(rt: &HostRuntime, sum: &AtomicU64, turns: u32) -> anyhow::Result<Duration> {
+    let start = Instant::now(rt)?;
+    add(sum, turns);
+    Ok(start.elapsed(rt)?)
+}
+
+fn time_found(
+    rt: &HostRuntime,
+    tally: &mut Tally,
+    set: &AttrSet,
+    turns: u32,
+) -> anyhow::Result<Duration> {
+    let start = Instant::now(rt)?;
+    record(tally, set, turns)?;
+    Ok(start.elapsed(rt)?)
+}
+
+fn time_bound(
+    rt: &HostRuntime,
+    tally: &mut Tally,
+    point: &mut Bound,
+    turns: u32,
+) -> anyhow::Result<Duration>
+    requires { IsBound tally.old point.old }
+    ensures { IsBound tally.new point.new }
+{
+    let start = Instant::now(rt)?;
+    record_bound(tally, point, turns)?;
+    Ok(start.elapsed(rt)?)
+}
+
+fn time_own(
+    rt: &HostRuntime,
+    recorder: &mut Recorder,
+    point: &mut Bound,
+    turns: u32,
+) -> anyhow::Result<Duration>
+    requires { IsOwnBound recorder.old point.old }
+    ensures { IsOwnBound recorder.new point.new }
+{
+    let start = Instant::now(rt)?;
+    record_own(recorder, point, turns)?;
+    Ok(start.elapsed(rt)?)
+}
+
+fn atomic(rt: &HostRuntime, turns: u32) -> anyhow::Result<()> {
+    let sum = AtomicU64::new(0);
+    let mut least = Duration::MAX;
+    for _ in 0..ROUNDS {
+        least = least.min(time_add(rt, &sum, turns)?);
+    }
+    tell(rt, "atomic addition", u64::from(turns), least)
+}
+
+fn found(rt: &HostRuntime, tally: &mut Tally, set: &AttrSet, turns: u32) -> anyhow::Result<()> {
+    let mut least = Duration::MAX;
+    for _ in 0..ROUNDS {
+        least = least.min(time_found(rt, tally, set, turns)?);
+    }
+    tell(rt, "found", u64::from(turns), least)
+}
+
+fn bound(rt: &HostRuntime, tally: &mut Tally, point: &mut Bound, turns: u32) -> anyhow::Result<()>
+    requires { IsBound tally.old point.old }
+{
+    let mut least = Duration::MAX;
+    for _ in 0..ROUNDS {
+        least = least.min(time_bound(rt, tally, point, turns)?);
+    }
+    tell(rt, "bound", u64::from(turns), least)
+}
+
+fn own(
+    rt: &HostRuntime,
+    recorder: &mut Recorder,
+    point: &mut Bound,
+    turns: u32,
+) -> anyhow::Result<()>
+    requires { IsOwnBound recorder.old point.old }
+{
+    let mut least = Duration::MAX;
+    for _ in 0..ROUNDS {
+        least = least.min(time_own(rt, recorder, point, turns)?);
+    }
+    tell(rt, "bound in a recorder", u64::from(turns), least)
+}
+
+// One set that is held: found at each recording, and bound once.
+fn beside(rt: &HostRuntime, tally: &mut Tally, set: &AttrSet, turns: u32) -> anyhow::Result<()> {
+    tally.measure(0, set, 1)?;
+    found(rt, tally, set, turns)?;
+    let mut point = tally.bind(0, set)?;
+    bound(rt, tally, &mut point, turns)
+}
+
+fn beside_own(
+    rt: &HostRuntime,
+    recorder: &mut Recorder,
+    set: &AttrSet,
+    turns: u32,
+) -> anyhow::Result<()> {
+    recorder.measure(0, set, 1)?;
+    let mut point = recorder.bind(0, set)?;
+    own(rt, recorder, &mut point, turns)
+}
+
+fn of_kind(rt: &HostRuntime, kind: Kind, pairs: u32, turns: u32) -> anyhow::Result<()> {
+    let set = set(rt.alloc(), pairs, 0)?;
+    let mut tally = tally(rt.alloc(), kind, Vec::new(rt.alloc()))?;
+    beside(rt, &mut tally, &set, turns)
+}
+
+fn by_recorder(rt: &HostRuntime, alloc: Global, pairs: u32, turns: u32) -> anyhow::Result<()> {
+    let set = set(alloc, pairs, 0)?;
+    let mut recorder = Recorder::new(alloc, &plan(alloc, Kind::Counter, Vec::new(alloc))?)?;
+    beside_own(rt, &mut recorder, &set, turns)
+}
+
+/// Recordings at one set of no, 4 and 10 attributes, of a counter and a histogram; of a counter in a recorder too.
+pub fn run(rt: &HostRuntime, turns: u32) -> anyhow::Result<()> {
+    atomic(rt, turns)?;
+    for pairs in [0, 4, 10] {
+        eprintln!(rt; "counter, attributes: {pairs}")?;
+        of_kind(rt, Kind::Counter, pairs, turns)?;
+        by_recorder(rt, rt.alloc(), pairs, turns)?;
+        eprintln!(rt; "histogram, attributes: {pairs}")?;
+        of_kind(rt, Kind::Histogram, pairs, turns)?;
+    }
+    Ok(())
+}

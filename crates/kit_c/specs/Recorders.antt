@@ -1,0 +1,88 @@
+-- Recorders behind handles: what they record, and writers that take them in.
+use Rattle.std.specs.Prelude.{◌≡◌, ◌≢◌, ℕ, ℤ, Bool, slice_get, Option, Some, None, IsTrue, ◌↔◌}
+use Rattle.std.specs.Option.{option_map}
+use Rattle.agg_kit.specs.Entries.{entry_of}
+use Rattle.agg_kit.specs.Measuring.{after_measure, empty_tally}
+use Rattle.agg_kit.specs.Recorders.{record_fault_of}
+use Rattle.agg_kit.specs.Tallies.{Tallied}
+use Rattle.attr_kit.specs.declared.attr_set.AttrSet.{AttrSet}
+use Rattle.writer_kit.specs.Absorbing.{absorb_fault, no_memory_for, with_recordings}
+use Rattle.kit_c.specs.Holdings.{Holding}
+use Rattle.kit_c.specs.RecorderSets.{Recording}
+use Rattle.kit_c.specs.declared.fault.Fault.{Fault}
+use Rattle.kit_c.specs.declared.fault.Fault.TheVariants as faults
+use Rattle.kit_c.specs.declared.held.Held.{Held}
+use Rattle.kit_c.specs.declared.held.Held.TheVariants.{Attributes, Recorder, Writer}
+
+-- a thing is no writer
+abbrev pub opening_fault : Held → Option Fault
+opening_fault (Writer h) = None
+opening_fault h = Some faults.WrongKind
+
+-- the second handle has a recorder of the first one's plan, which holds its sets and has recorded nothing
+abbrev pub IsRecorderOf : Option Held → Option Held → Type 0
+IsRecorderOf (Some (Writer h)) (Some (Recorder r)) = (r.recorder ≡ empty_tally h.writer.tally.plan) × (r.sets ≡ h.sets)
+IsRecorderOf m n = ⊥
+
+-- a recording by a recorder, of the things
+abbrev pub record_fault : ℕ → ℤ → Held → Held → Option Fault
+record_fault i x (Recorder r) (Attributes a) = option_map (λ f. faults.Record f) (record_fault_of r.recorder (entry_of i a x))
+record_fault i x h other = Some faults.WrongKind
+
+abbrev pub after_record : ℕ → ℤ → Held → Held → Held
+after_record i x (Recorder r) (Attributes a) = Recorder (record r { recorder = after_measure r.recorder (entry_of i a x) })
+after_record i x h other = h
+
+-- a recording at a set that there may not be
+abbrev pub own_set_fault : ℕ → ℤ → Tallied → Option AttrSet → Option Fault
+own_set_fault i x r (Some a) = option_map (λ f. faults.Record f) (record_fault_of r (entry_of i a x))
+own_set_fault i x r None = Some faults.NoSet
+
+abbrev pub recorder_at : ℕ → ℤ → Tallied → Option AttrSet → Tallied
+recorder_at i x r (Some a) = after_measure r (entry_of i a x)
+recorder_at i x r None = r
+
+-- a recording at the set of a number
+abbrev pub number_fault : ℕ → ℕ → ℤ → Held → Option Fault
+number_fault i n x (Recorder r) = own_set_fault i x r.recorder (slice_get r.sets n)
+number_fault i n x h = Some faults.WrongKind
+
+abbrev pub after_number : ℕ → ℕ → ℤ → Held → Held
+after_number i n x (Recorder r) = Recorder (record r { recorder = recorder_at i x r.recorder (slice_get r.sets n) })
+after_number i n x h = h
+
+-- a thing is no recorder
+abbrev pub recorder_fault : Held → Option Fault
+recorder_fault (Recorder r) = None
+recorder_fault h = Some faults.WrongKind
+
+-- a thing is a recorder that holds no recordings, or is not
+abbrev pub TellsEmpty : Bool → Held → Type 0
+TellsEmpty b (Recorder r) = IsTrue b ↔ (r.recorder ≡ empty_tally r.recorder.plan)
+TellsEmpty b h = ⊥
+
+-- a writer took in what a recorder of its plan held: the recorder holds nothing then, and both hold their sets
+pub record Absorbs (h : Holding) (r : Recording) (k : Holding) (s : Recording) : Type 0 where
+  pub plan : r.recorder.plan ≡ h.writer.tally.plan
+  pub fits : absorb_fault h.writer r.recorder ≡ None
+  pub writer : k.writer ≡ with_recordings h.writer r.recorder
+  pub writer_sets : k.sets ≡ h.sets
+  pub recorder : s.recorder ≡ empty_tally r.recorder.plan
+  pub recorder_sets : s.sets ≡ r.sets
+
+-- the same of handles: the first took in the second, and they are then the third and the fourth
+abbrev pub HasAbsorbed : Option Held → Option Held → Option Held → Option Held → Type 0
+HasAbsorbed (Some (Writer h)) (Some (Recorder r)) (Some (Writer k)) (Some (Recorder s)) = Absorbs h r k s
+HasAbsorbed m n o p = ⊥
+
+-- why a writer refuses a recorder: they are of different plans, or what the writer says of one of its own
+abbrev pub WhyNotAbsorbed : Holding → Recording → Fault → Type 0
+WhyNotAbsorbed h r faults.OtherPlan = r.recorder.plan ≢ h.writer.tally.plan
+WhyNotAbsorbed h r (faults.Absorb f) =
+    (r.recorder.plan ≡ h.writer.tally.plan) × (f ≢ no_memory_for → absorb_fault h.writer r.recorder ≡ Some f)
+WhyNotAbsorbed h r other = ⊥
+
+-- the second is refused at the first, which is then the third
+abbrev pub AbsorbRefused : Held → Held → Held → Fault → Type 0
+AbsorbRefused (Writer h) (Recorder r) k f = (k ≡ Writer h) × WhyNotAbsorbed h r f
+AbsorbRefused h other k f = (k ≡ h) × (f ≡ faults.WrongKind)

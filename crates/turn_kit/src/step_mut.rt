@@ -1,0 +1,173 @@
+//! Changes that are made with a value which the caller keeps.
+ghost use Rattle.std.specs.Prelude.{◌≡◌, [], ◌∷◌, true, Some, IfOk, IfErr, OnOk, OnErr};
+ghost use Rattle.turn_kit.specs.Places.{AllMeet, Answered, Grows, HasRoom, HasTurn, IsAt, IsIdle, IsSamePlace, Owns, StepsTo};
+ghost use Rattle.turn_kit.specs.Public.{IsOf, IsLeft, Enters, Exhausts, Refuses, opening, limit_of};
+ghost use Rattle.turn_kit.specs.Public.{AtBusy, AtExhausted, AtRefused};
+
+use crate::board::{CHANGES, MACHINE, Place, Top};
+use crate::fault::ChangeFault;
+use crate::giving::{GiveBack, Waking};
+use crate::machine::Machine;
+use crate::plays::{Commit, Told};
+use crate::seat::Seat;
+use crate::steps::{ask, count, give};
+use crate::turn::Turn;
+use crate::waits::ask_until;
+use std::marker::Brand;
+use std::snapshot::Snapshot;
+use std::sync::Wait;
+
+/// One change that is made with a value which its caller keeps, while the turn is held.
+///
+/// `Ok` is one accepted entry, and says what the value is then. `Err` leaves the state and the value as they were.
+pub trait StepMut<M: Machine> {
+    type Reply;
+
+    type Refusal;
+
+    // What it relies on where it finds the machine so.
+    ghost needs: { Self → M → Type 0 };
+
+    // The entry that the step adds to the history where it is accepted.
+    ghost entry: { Self → M.Entry };
+
+    // What it may reply, with the value that it leaves, and how it may refuse, where it found the machine so.
+    ghost replies: { Self → M → Self.Reply → Self → Type 0 };
+
+    ghost refuses: { Self → M → Self.Refusal → Type 0 };
+
+    fn step_mut(&mut self, machine: &mut M) -> Result<Self::Reply, Self::Refusal>
+        requires { needs self.old machine.old }
+        ensures accepted { OnOk result (M.after (M.state machine.old) (entry self.old) ≡ Some (M.state machine.new)) }
+        ensures ok { IfOk result (λ r. replies self.old machine.old r self.new) }
+        ensures unchanged { OnErr result (M.state machine.new ≡ M.state machine.old) }
+        ensures kept { OnErr result (self.new ≡ self.old) }
+        ensures err { IfErr result (refuses self.old machine.old) };
+}
+
+/// Adds the entry of a step whose value is kept to the history.
+fn commit_mut<M: Machine, T: StepMut<M>, J: Told<M::Entry>>(
+    top: &Top<M>,
+    place: &mut Place<M>,
+    step: &Snapshot<T>,
+)
+    requires entry { J.entry ≡ Some (T.entry step.now.value) }
+    requires place { IsAt top.now.table_id place.old }
+    requires seated { place.old.me.0.who.seated ≡ true }
+    requires room { HasRoom place.old.me }
+    ensures place { IsSamePlace place.old place.new }
+    ensures told { Grows (T.entry step.now.value) place.old.me place.new.me }
+{
+    let _ = step;
+    top.fetch_add::<Commit<J>>(place, CHANGES, 1);
+}
+
+/// Makes the step on the machine where it lies, with the value that is kept.
+fn step_in_place_mut<M: Machine, T: StepMut<M>>(
+    top: &Top<M>,
+    place: &mut Place<M>,
+    step: &mut T,
+) -> Result<T::Reply, T::Refusal>
+    requires place { place.old.table_id ≡ top.now.table_id }
+    requires hand { (x : M) × (place.old.me.1 ≡ (0, x) ∷ []) × T.needs step.old x }
+    ensures place { IsSamePlace place.old place.new }
+    ensures did { StepsTo M.state M.after (T.entry step.old) (λ m r. T.replies step.old m r step.new) (T.refuses step.old)
+        place.old.me place.new.me result }
+    ensures kept { OnErr result (step.new ≡ step.old) }
+{
+    step.step_mut(place.slot_mut(top, MACHINE))
+}
+
+/// Makes the step with the value that is kept, where the limit leaves room for one more, and gives the turn back.
+fn change_held_mut<G: GiveBack, M: Machine, T: StepMut<M>>(
+    top: &Top<M>,
+    place: &mut Place<M>,
+    limit: u64,
+    step: &mut T,
+) -> Result<T::Reply, ChangeFault<T::Refusal>>
+    requires place { IsAt top.now.table_id place.old }
+    requires limit { limit ≡ place.old.me.0.limit }
+    requires turn { HasTurn M.state M.after place.old.me }
+    requires met { (start : M) → place.old.me.0.start ≡ Some start → AllMeet M.state M.after start (T.needs step.old) }
+    ensures place { IsSamePlace place.old place.new × IsIdle place.new }
+    ensures own { Owns place.new.me.0 }
+    ensures answer { Answered M.state M.after ⊥ place.old.me.0 place.new.me.0
+        (T.entry step.old) (λ m r. T.replies step.old m r step.new) (T.refuses step.old) result }
+    ensures kept { OnErr result (step.new ≡ step.old) }
+{
+    if count(top, place) >= limit {
+        give::<G, _>(top, place);
+        return Err(ChangeFault::Exhausted);
+    }
+    let told = Snapshot::of(&*step);
+    match step_in_place_mut(top, place, step) {
+        Ok(reply) => {
+            commit_mut::<M, T, Brand>(top, place, &told);
+            give::<G, _>(top, place);
+            Ok(reply)
+        }
+        Err(refusal) => {
+            give::<G, _>(top, place);
+            Err(ChangeFault::Refused(refusal))
+        }
+    }
+}
+
+impl<M: Machine, G: GiveBack> Turn<M, G> {
+    /// Asks for the turn once, and makes the step with a value that the caller keeps where it is had, as `try_change` does. Each
+    /// machine that the turn may have then meets what the step needs.
+    ///
+    /// Refused as `try_change` is. The value is as it was then.
+    pub fn try_change_mut<T: StepMut<M>>(
+        &self,
+        seat: &mut Seat<M>,
+        step: &mut T,
+    ) -> Result<T::Reply, ChangeFault<T::Refusal>>
+        requires seat { IsOf self.now seat.old }
+        requires met { AllMeet M.state M.after (opening self.now) (T.needs step.old) }
+        ensures seat { IsOf self.now seat.new }
+        ensures ok { IfOk result (λ r. Enters M.state M.after (opening self.now) (limit_of self.now)
+            (T.entry step.old) (λ m. T.replies step.old m r step.new) seat.old seat.new) }
+        ensures kept { OnErr result (step.new ≡ step.old) }
+        ensures busy { IfErr result (AtBusy (IsLeft seat.old seat.new)) }
+        ensures exhausted { IfErr result (AtExhausted (Exhausts M.state M.after (opening self.now)
+            (limit_of self.now) seat.old seat.new)) }
+        ensures refused { IfErr result (AtRefused (λ r. Refuses M.state M.after (opening self.now)
+            (limit_of self.now) (λ m. T.refuses step.old m r) seat.old seat.new)) }
+    {
+        let top = &self.board.shared;
+        if !ask(top, &mut seat.place) {
+            return Err(ChangeFault::Busy);
+        }
+        change_held_mut::<G, _, _>(top, &mut seat.place, self.limit, step)
+    }
+}
+
+impl<M: Machine> Turn<M> {
+    /// Asks for the turn until it is had, and then makes the step with a value that the caller keeps, once. Each machine that the
+    /// turn may have then meets what the step needs.
+    ///
+    /// Refused as `change` is. The value is as it was then.
+    pub fn change_mut<T: StepMut<M>, R: Wait>(
+        &self,
+        rt: &R,
+        seat: &mut Seat<M>,
+        step: &mut T,
+    ) -> Result<T::Reply, ChangeFault<T::Refusal>>
+        requires seat { IsOf self.now seat.old }
+        requires met { AllMeet M.state M.after (opening self.now) (T.needs step.old) }
+        ensures seat { IsOf self.now seat.new }
+        ensures ok { IfOk result (λ r. Enters M.state M.after (opening self.now) (limit_of self.now)
+            (T.entry step.old) (λ m. T.replies step.old m r step.new) seat.old seat.new) }
+        ensures kept { OnErr result (step.new ≡ step.old) }
+        ensures busy { IfErr result (AtBusy ⊥) }
+        ensures exhausted { IfErr result (AtExhausted (Exhausts M.state M.after (opening self.now)
+            (limit_of self.now) seat.old seat.new)) }
+        ensures refused { IfErr result (AtRefused (λ r. Refuses M.state M.after (opening self.now)
+            (limit_of self.now) (λ m. T.refuses step.old m r) seat.old seat.new)) }
+    {
+        let top = &self.board.shared;
+        ask_until(rt, top, &mut seat.place);
+        change_held_mut::<Waking, _, _>(top, &mut seat.place, self.limit, step)
+    }
+}
