@@ -1,7 +1,7 @@
 """What the gate cost: processor minutes by crate and kind of work, as a table."""
 import collections
 
-KINDS = ("proofs", "tests", "builds", "edits")
+KINDS = ("proofs", "tests", "builds", "runs", "edits")
 
 
 def read(ledger):
@@ -29,7 +29,7 @@ def table(ledger, head, stages, took):
     crates = sorted({crate for crate, _ in used}, key=lambda it: -sum(used[it, kind][0] for kind in KINDS))
     lines = ["# The gate's last cost", "", *head, "", "| Stage | Minutes by the clock |", "|---|---|"]
     lines += [f"| {name} | {minutes(seconds) or '0.0'} |" for name, seconds in stages]
-    lines += ["", "Processor minutes:", "", "| Crate | Proofs | Tests' own proofs | Builds | Edits | Together |", "|---|---|---|---|---|---|"]
+    lines += ["", "Processor minutes:", "", "| Crate or runner | Proofs | Tests' own proofs | Builds | Runs | Edits | Together |", "|---|---|---|---|---|---|---|"]
     for crate in crates:
         spent = [used[crate, kind][0] for kind in KINDS]
         lines.append(f"| {crate} | {' | '.join(minutes(it) for it in spent)} | {minutes(sum(spent))} |")

@@ -27,6 +27,7 @@ from kit import ONE_JOB, patiently, rt, rtlib, version, what_is_free, whole_gate
 
 HERE = pathlib.Path(__file__).resolve().parent
 TOP = HERE.parents[1]
+TIMED = [sys.executable, str(HERE / "timed.py")]
 BEGAN = time.time()
 MINUTES = float(os.environ.get("GATE_MINUTES", "165"))
 # What proofs have more than edits have: with the runners of tests/, the last line then still comes in time.
@@ -98,11 +99,27 @@ class Passing(io.TextIOBase):
         return types.SimpleNamespace(write=lambda text: self.write(text.decode(errors="replace")), flush=self.flush)
 
 
+def tell_runs(ledger):
+    """Has the ledger tell what each run of a program, or of a crate's tests, cost."""
+    run, drop_to_nobody, here = rt.run, rt.drop_to_nobody, threading.local()
+
+    def run_of(crate, *given):
+        here.name = crate.name
+        return run(crate, *given)
+
+    def timed_words():
+        words = drop_to_nobody()
+        return words if words is None else [*TIMED, "--run", here.name, ledger, *words]
+
+    rt.run, rt.drop_to_nobody = run_of, timed_words
+
+
 def prepare(ledger):
     """Has the toolchain's gate keep its work, tell its costs and leave the edits to this one."""
     os.environ["GATE_LEDGER"] = ledger
     guarded = rtlib.guarded
-    rtlib.guarded = lambda: [*guarded(), sys.executable, str(HERE / "timed.py")]
+    rtlib.guarded = lambda: [*guarded(), *TIMED]
+    tell_runs(ledger)
     # (the folder is new in each run, so nothing in it is taken on trust from an earlier one)
     rtlib.VERDICT = re.compile(rtlib.VERDICT.pattern.replace(r"statements=trusted\n", r"statements=trusted( incremental=trusted)?\n"), re.M)
     rt.Crate = Crate
@@ -117,14 +134,15 @@ def prepare(ledger):
     rt.in_lanes = tests_after_proofs
 
 
-def runners():
+def runners(ledger):
     """Runs each tests/NAME/run.py but this one; gives how many passed, and the names of those that failed."""
     passed, failed = 0, []
     for runner in sorted(TOP.glob("tests/*/run.py")):
         if runner.parent != HERE:
             sys.stdout.flush()
-            if subprocess.run([sys.executable, str(runner)], cwd=TOP, stdin=subprocess.DEVNULL).returncode:
-                failed.append(f"tests/{runner.parent.name}")
+            name = f"tests/{runner.parent.name}"
+            if subprocess.run([*TIMED, "--run", name, ledger, sys.executable, str(runner)], cwd=TOP, stdin=subprocess.DEVNULL).returncode:
+                failed.append(name)
             else:
                 passed += 1
     return passed, failed
@@ -155,7 +173,7 @@ def whole(from_nothing, ledger):
         rt.say(f"NO TIME: {MINUTES + MORE_MINUTES:.0f} minutes were over before all was proved")
     stages.append(("proofs, tests, programs", time.time() - at))
     at = time.time()
-    good, bad = runners() if not failed else (0, [])
+    good, bad = runners(ledger) if not failed else (0, [])
     stages.append(("runners of tests/", time.time() - at))
     at, os.environ["GATE_UNTIL"] = time.time(), str(BEGAN + 60 * MINUTES)
     found = {it: rt.edits_of(it) for it in rtlib.crates_below(str(TOP)) if Crate.proved.get((it.name, False)) and Crate.proved.get((it.name, True), True)}
