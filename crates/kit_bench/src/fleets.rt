@@ -59,7 +59,8 @@ impl Way {
     }
 }
 
-type Totals = IndexMap<AttrSet, i64>;
+/// A total for each set.
+pub type Totals = IndexMap<AttrSet, i64>;
 
 // The job of a recorder.
 fn job(alloc: Global, writer: usize, work: Work<'_>) -> anyhow::Result<Job> {
@@ -111,8 +112,8 @@ fn setup(alloc: Global, work: Work<'_>) -> anyhow::Result<FleetSetup> {
     })
 }
 
-// Adds a value under a set.
-fn add(totals: &mut Totals, attrs: &AttrSet, value: i64) -> anyhow::Result<()> {
+/// Adds a value under a set.
+pub fn add(totals: &mut Totals, attrs: &AttrSet, value: i64) -> anyhow::Result<()> {
     match totals.get_mut(attrs) {
         Some(total) => *total = total.wrapping_add(value),
         None => {

@@ -2,7 +2,7 @@
 //!
 //! - `kit_bench` runs small sizes of all parts, so that all of it is tried.
 //! - `kit_bench full` runs the sizes that docs tell of, and `kit_bench full rollups` those of one part: `turns`, `recordings`,
-//!   `bound`, `recorders`, `writers`, `fleets`, `gateways`, `gossip`, `bytes`, `rounds` or `rollups`.
+//!   `bound`, `threads`, `fleets`, `gateways`, `gossip`, `bytes`, `rounds` or `rollups`.
 //! - `kit_bench hold-gateway 1000000` holds so many points and ends, so that its memory can be measured from outside;
 //!   `hold-tree` and `hold-map` hold the same points in maps of `std`.
 //!
@@ -18,15 +18,14 @@ mod fleets;
 mod gateways;
 mod gossip;
 mod held;
+mod lanes;
 mod measures;
 mod mutexes;
-mod recorders;
-mod recordings;
 mod rollups;
 mod rounds;
-mod shared_writers;
 mod takes;
 mod tallies;
+mod threads;
 mod turns;
 mod words;
 
@@ -93,12 +92,9 @@ fn main(rt: HostRuntime) -> anyhow::Result<()> {
     if words.has(Part::Turns) {
         changes::run(&rt, words.size(7, 1), words.size(400_000, 1_000))?;
     }
-    if words.has(Part::Recorders) {
+    if words.has(Part::Threads) {
         let (rounds, sets) = (words.size(5, 1), words.size(1_000, 5));
-        recorders::run(&rt, rounds, sets, words.size(400_000, 2_000))?;
-    }
-    if words.has(Part::Writers) {
-        recordings::run(&rt, words.size(7, 1), words.size(400_000, 100))?;
+        threads::run(&rt, rounds, sets, words.size(400_000, 2_000))?;
     }
     if words.has(Part::Fleets) {
         let (rounds, sets) = (words.size(9, 3), words.size(1_000, 20));

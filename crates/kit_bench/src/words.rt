@@ -8,8 +8,7 @@ pub enum Part {
     Turns,
     Recordings,
     Bound,
-    Recorders,
-    Writers,
+    Threads,
     Fleets,
     Gateways,
     Gossip,
@@ -39,12 +38,11 @@ pub struct Words {
     pub count: u32,
 }
 
-const PARTS: [(&str, Part); 11] = [
+const PARTS: [(&str, Part); 10] = [
     ("turns", Part::Turns),
     ("recordings", Part::Recordings),
     ("bound", Part::Bound),
-    ("recorders", Part::Recorders),
-    ("writers", Part::Writers),
+    ("threads", Part::Threads),
     ("fleets", Part::Fleets),
     ("gateways", Part::Gateways),
     ("gossip", Part::Gossip),
