@@ -62,7 +62,10 @@ fn point(
 }
 
 // What `build` answers for these points, collected at 200 since 100.
-fn export_of(alloc: Global, points: Vec<ExportPoint>) -> Result<Result<Export, ExportFault>, NoMemory> {
+fn export_of(
+    alloc: Global,
+    points: Vec<ExportPoint>,
+) -> Result<Result<Export, ExportFault>, NoMemory> {
     Ok(Export::build(alloc, writer(alloc)?, 100, 200, Seq::from_vec(points)))
 }
 
