@@ -11,43 +11,43 @@ use Rattle.schedule_kit.specs.Members.{In}
 use Rattle.schedule_kit.proofs.Members.{In-append, In-left, In-right}
 use Rattle.std.specs.Option.{option_or}
 use Rattle.fleet_kit.proofs.Exports.{got}
-use Rattle.fleet_kit.specs.Posting.{and_got, and_sent, places_told, Flows, IsUnsent}
-use Rattle.fleet_kit.specs.declared.posts.Told.{Told}
+use Rattle.fleet_kit.specs.Posting.{and_got, and_sent, traffic_of, Flows, IsUnsent}
+use Rattle.fleet_kit.specs.declared.posts.Traffic.{Traffic}
 
-only : (u v w : Told) (port : ℕ) → get_elem? (u ∷ []) port ≡ some v → (u ≡ v) × (set (u ∷ []) port w ≡ w ∷ [])
+only : (u v w : Traffic) (port : ℕ) → get_elem? (u ∷ []) port ≡ some v → (u ≡ v) × (set (u ∷ []) port w ≡ w ∷ [])
 only u v w zero e = (some-injective u v e, refl)
 only u v w (suc port) e = absurd (some-ne-none v (sym e))
 
-seen : (u v w : Told) (views : List Told) (port : ℕ) → views ≡ u ∷ [] → get_elem? views port ≡ some v → (u ≡ v) × (set views port w ≡ w ∷ [])
+seen : (u v w : Traffic) (views : List Traffic) (port : ℕ) → views ≡ u ∷ [] → get_elem? views port ≡ some v → (u ≡ v) × (set views port w ≡ w ∷ [])
 seen u v w views port h at = let r = only u v w port (ap (λ l. get_elem? l port) (sym h) ∙ at) in (r.0, ap (λ l. set l port w) h ∙ r.1)
 
-pub learns : (port : ℕ) (v : Told) → Learns Flows port v (λ items. v.sent ≡ v.got ++ items)
-learns port v items views h at = let is = (seen (places_told (h.0 ++ items) h.0) v v views port h.1 at).0 in ap (λ (u : Told). u.sent) (sym is) ∙ ap (λ (u : Told). u.got ++ items) is
+pub learns : (port : ℕ) (v : Traffic) → Learns Flows port v (λ items. v.sent ≡ v.got ++ items)
+learns port v items views h at = let is = (seen (traffic_of (h.0 ++ items) h.0) v v views port h.1 at).0 in ap (λ (u : Traffic). u.sent) (sym is) ∙ ap (λ (u : Traffic). u.got ++ items) is
 
-pub learns_nothing : (port : ℕ) (v : Told) → Learns Flows port v (λ _. Unit {0})
+pub learns_nothing : (port : ℕ) (v : Traffic) → Learns Flows port v (λ _. Unit {0})
 learns_nothing port v items views h at = tt
 
-pub begins : Flows [] (places_told [] [] ∷ [])
+pub begins : Flows [] (traffic_of [] [] ∷ [])
 begins = ([], refl)
 
-pub sends : (n port : ℕ) (v : Told) (x : ℕ) → Pushes Flows n port v x (λ w. w ≡ and_sent v x)
-sends n port v x items views room h at = let w = places_told (v.sent ++ x ∷ []) v.got in (
+pub sends : (n port : ℕ) (v : Traffic) (x : ℕ) → Pushes Flows n port v x (λ w. w ≡ and_sent v x)
+sends n port v x items views room h at = let w = traffic_of (v.sent ++ x ∷ []) v.got in (
   w,
   (
     v.got,
-    (seen (places_told (h.0 ++ items) h.0) v w views port h.1 at).1
-        ∙ ap (λ l. places_told l v.got ∷ []) (ap (λ l. l ++ x ∷ []) (learns port v items views h at) ∙ append_assoc v.got items (x ∷ [])),
+    (seen (traffic_of (h.0 ++ items) h.0) v w views port h.1 at).1
+        ∙ ap (λ l. traffic_of l v.got ∷ []) (ap (λ l. l ++ x ∷ []) (learns port v items views h at) ∙ append_assoc v.got items (x ∷ [])),
   ),
   refl,
 )
 
-pub gets : (port : ℕ) (v : Told) → Pops Flows port v (λ x w. w ≡ and_got v x)
-gets port v x items views h at = let w = places_told v.sent (v.got ++ x ∷ []) in (
+pub gets : (port : ℕ) (v : Traffic) → Pops Flows port v (λ x w. w ≡ and_got v x)
+gets port v x items views h at = let w = traffic_of v.sent (v.got ++ x ∷ []) in (
   w,
   (
     v.got ++ x ∷ [],
-    (seen (places_told (h.0 ++ x ∷ items) h.0) v w views port h.1 at).1
-        ∙ ap (λ l. places_told l (v.got ++ x ∷ []) ∷ []) (learns port v (x ∷ items) views h at ∙ sym (append_assoc v.got (x ∷ []) items)),
+    (seen (traffic_of (h.0 ++ x ∷ items) h.0) v w views port h.1 at).1
+        ∙ ap (λ l. traffic_of l (v.got ++ x ∷ []) ∷ []) (learns port v (x ∷ items) views h at ∙ sym (append_assoc v.got (x ∷ []) items)),
   ),
   refl,
 )
@@ -108,21 +108,21 @@ unsent_all exports sent None before = λ w e at. before w e (got exports w e at)
 unsent_all exports sent (Some u) before = before.1
 
 -- what is known of the exports before a place
-abbrev pub IsLookedAt : ℕ → List Export → Told → Option ℕ → Type 0
+abbrev pub IsLookedAt : ℕ → List Export → Traffic → Option ℕ → Type 0
 IsLookedAt n exports v o = (v.got ≡ []) × AreBelow n v.sent × UnsentBelow n exports v.sent o
 
-pub looked_sent : (n : ℕ) (exports : List Export) (v w : Told) (o p : Option ℕ) (e : Export) → slice_get exports n ≡ Some e → w ≡ and_sent v n → p ≡ o → IsLookedAt n exports v o → IsLookedAt (n + 1) exports w p
+pub looked_sent : (n : ℕ) (exports : List Export) (v w : Traffic) (o p : Option ℕ) (e : Export) → slice_get exports n ≡ Some e → w ≡ and_sent v n → p ≡ o → IsLookedAt n exports v o → IsLookedAt (n + 1) exports w p
 looked_sent n exports v w o p e at is same kept =
-    subst (λ (x : Told × Option ℕ). IsLookedAt (n + 1) exports x.0 x.1) (λ i. (sym is i, sym same i)) (kept.0, below_more n v.sent kept.1, unsent_sent n exports v.sent o e at kept.2)
+    subst (λ (x : Traffic × Option ℕ). IsLookedAt (n + 1) exports x.0 x.1) (λ i. (sym is i, sym same i)) (kept.0, below_more n v.sent kept.1, unsent_sent n exports v.sent o e at kept.2)
 
-pub looked_empty : (n : ℕ) (exports : List Export) (v w : Told) (o p : Option ℕ) (e : Export) → slice_get exports n ≡ Some e → e.points ≡ [] → w ≡ v → p ≡ o → IsLookedAt n exports v o → IsLookedAt (n + 1) exports w p
+pub looked_empty : (n : ℕ) (exports : List Export) (v w : Traffic) (o p : Option ℕ) (e : Export) → slice_get exports n ≡ Some e → e.points ≡ [] → w ≡ v → p ≡ o → IsLookedAt n exports v o → IsLookedAt (n + 1) exports w p
 looked_empty n exports v w o p e at none is same kept =
-    subst (λ (x : Told × Option ℕ). IsLookedAt (n + 1) exports x.0 x.1) (λ i. (sym is i, sym same i)) (kept.0, below_same n v.sent kept.1, unsent_empty n exports v.sent o e at none kept.2)
+    subst (λ (x : Traffic × Option ℕ). IsLookedAt (n + 1) exports x.0 x.1) (λ i. (sym is i, sym same i)) (kept.0, below_same n v.sent kept.1, unsent_empty n exports v.sent o e at none kept.2)
 
-pub looked_lost : (n : ℕ) (exports : List Export) (v w : Told) (o p : Option ℕ) (e : Export) → slice_get exports n ≡ Some e → e.points ≢ [] → w ≡ v → p ≡ option_or o (Some n) → IsLookedAt n exports v o
+pub looked_lost : (n : ℕ) (exports : List Export) (v w : Traffic) (o p : Option ℕ) (e : Export) → slice_get exports n ≡ Some e → e.points ≢ [] → w ≡ v → p ≡ option_or o (Some n) → IsLookedAt n exports v o
     → IsLookedAt (n + 1) exports w p
 looked_lost n exports v w o p e at points is next kept =
-    subst (λ (x : Told × Option ℕ). IsLookedAt (n + 1) exports x.0 x.1) (λ i. (sym is i, sym next i)) (kept.0, below_same n v.sent kept.1, unsent_lost n exports v.sent o e at points kept.1 kept.2)
+    subst (λ (x : Traffic × Option ℕ). IsLookedAt (n + 1) exports x.0 x.1) (λ i. (sym is i, sym next i)) (kept.0, below_same n v.sent kept.1, unsent_lost n exports v.sent o e at points kept.1 kept.2)
 
 pub none_long : {A : Type 0} (xs : List A) → (length xs == 0) ≡ true → xs ≡ []
 none_long [] e = refl
@@ -132,6 +132,6 @@ pub some_long : {A : Type 0} (xs : List A) → (length xs == 0) ≡ false → xs
 some_long xs e none = absurd (true≢false (sym (ap (λ l. length l == 0) none) ∙ e))
 
 -- what was received is all that was sent
-pub got_all : (v : Told) (items : List ℕ) → length items ≡ 0 → v.sent ≡ v.got ++ items → v.sent ≡ v.got
+pub got_all : (v : Traffic) (items : List ℕ) → length items ≡ 0 → v.sent ≡ v.got ++ items → v.sent ≡ v.got
 got_all v [] none is = is ∙ append-nil v.got
 got_all v (x ∷ items) none is = absurd (omega (arith, none))

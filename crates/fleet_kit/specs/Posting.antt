@@ -4,22 +4,22 @@ use Rattle.point_kit.specs.declared.export.Export.{Export}
 use Rattle.rollup_kit.specs.Fleets.{AreCovered}
 use Rattle.schedule_kit.specs.Members.{In}
 use Rattle.fleet_kit.specs.Halts.{HasPoints}
-use Rattle.fleet_kit.specs.declared.posts.Told.{Told}
+use Rattle.fleet_kit.specs.declared.posts.Traffic.{Traffic}
 
 -- these places were sent, and those received
-abbrev pub places_told : List ℕ → List ℕ → Told
-places_told sent got = record { sent = sent; got = got }
+abbrev pub traffic_of : List ℕ → List ℕ → Traffic
+traffic_of sent got = record { sent = sent; got = got }
 
 -- one more place is sent, or received
-abbrev pub and_sent : Told → ℕ → Told
-and_sent v place = places_told (v.sent ++ place ∷ []) v.got
+abbrev pub and_sent : Traffic → ℕ → Traffic
+and_sent v place = traffic_of (v.sent ++ place ∷ []) v.got
 
-abbrev pub and_got : Told → ℕ → Told
-and_got v place = places_told v.sent (v.got ++ place ∷ [])
+abbrev pub and_got : Traffic → ℕ → Traffic
+and_got v place = traffic_of v.sent (v.got ++ place ∷ [])
 
 -- the one pass knows that what was sent is what was received, and then what the channel holds
-abbrev pub Flows : List ℕ → List Told → Type 0
-Flows places passes = (got : List ℕ) × (passes ≡ places_told (got ++ places) got ∷ [])
+abbrev pub Flows : List ℕ → List Traffic → Type 0
+Flows places passes = (got : List ℕ) × (passes ≡ traffic_of (got ++ places) got ∷ [])
 
 -- the place of the first export with points that was not sent, where there is one
 abbrev pub IsUnsent : List Export → List ℕ → Option ℕ → Type 0
@@ -27,5 +27,5 @@ IsUnsent exports sent None = AreCovered exports sent
 IsUnsent exports sent (Some u) = HasPoints exports u × (In u sent → ⊥) × ((w : ℕ) (e : Export) → w < u → slice_get exports w ≡ Some e → In w sent ⊎ (e.points ≡ []))
 
 -- nothing was received yet, and all exports with points were sent but for the one that is unsent and later ones
-abbrev pub IsPosted : List Export → Told → Option ℕ → Type 0
+abbrev pub IsPosted : List Export → Traffic → Option ℕ → Type 0
 IsPosted exports v unsent = (v.got ≡ []) × IsUnsent exports v.sent unsent

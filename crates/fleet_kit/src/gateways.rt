@@ -7,7 +7,7 @@ ghost use Rattle.fleet_kit.specs.Posting.{IsPosted};
 ghost use Rattle.fleet_kit.specs.Serving.{IsServed, IsWhole, AreWhole};
 
 use crate::halt::{Halt, gather};
-use crate::posts::{Got, Places, Post, Told, posts_for};
+use crate::posts::{Got, Places, Post, Traffic, posts_for};
 use attr_kit::NoMemory;
 use crossbeam_channel::Pass;
 use gateway_kit::Gateway;
@@ -24,7 +24,7 @@ fn serve<R: Wait>(
     id: u32,
     exports: &[Export],
     places: &Places,
-    mut pass: Pass<usize, Told>,
+    mut pass: Pass<usize, Traffic>,
 ) -> Result<Gateway, NoMemory>
     requires at { IsSeatAt (receives_on places.now) pass }
     requires new { (view pass).got ≡ [] }

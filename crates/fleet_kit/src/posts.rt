@@ -15,7 +15,7 @@ use std::collections::LinkedList;
 use std::sync::Wait;
 
 /// The places that were sent over a channel, and those that were received. No value of it is made.
-pub(crate) struct Told {
+pub(crate) struct Traffic {
     pub(crate) sent: LinkedList<usize>,
     pub(crate) got: LinkedList<usize>,
 }
@@ -23,48 +23,48 @@ pub(crate) struct Told {
 /// The rule of a channel: what was sent comes, in order.
 pub(crate) struct InOrder;
 
-impl Protocol<usize, Told> for InOrder {
+impl Protocol<usize, Traffic> for InOrder {
     ghost use Rattle.std.specs.Prelude.{[]};
-    ghost use Rattle.fleet_kit.specs.Posting.{places_told, Flows};
+    ghost use Rattle.fleet_kit.specs.Posting.{traffic_of, Flows};
 
     ghost holds = { Flows };
 
-    ghost first = { places_told [] [] };
+    ghost first = { traffic_of [] [] };
 }
 
 // A place is sent.
 struct Sent;
 
-impl Outcome<usize, Told> for Sent {
+impl Outcome<usize, Traffic> for Sent {
     ghost use Rattle.std.specs.Prelude.{◌≡◌};
     ghost use Rattle.fleet_kit.specs.Posting.{and_sent};
 
     ghost then = { λ v place w. w ≡ and_sent v place };
 }
 
-impl Lesson<usize, Told> for Sent {
+impl Lesson<usize, Traffic> for Sent {
     ghost fact = { λ _ _. Unit {0} };
 }
 
 /// A place is received. Where there is none, all were.
 pub(crate) struct Got;
 
-impl Outcome<usize, Told> for Got {
+impl Outcome<usize, Traffic> for Got {
     ghost use Rattle.std.specs.Prelude.{◌≡◌};
     ghost use Rattle.fleet_kit.specs.Posting.{and_got};
 
     ghost then = { λ v place w. w ≡ and_got v place };
 }
 
-impl Lesson<usize, Told> for Got {
+impl Lesson<usize, Traffic> for Got {
     ghost use Rattle.std.specs.Prelude.{◌≡◌, ◌++◌};
 
     ghost fact = { λ v places. v.sent ≡ v.got ++ places };
 }
 
-type Sender = RuledSender<usize, Told, InOrder>;
+type Sender = RuledSender<usize, Traffic, InOrder>;
 
-pub(crate) type Places = RuledReceiver<usize, Told, InOrder>;
+pub(crate) type Places = RuledReceiver<usize, Traffic, InOrder>;
 
 /// What the thread of a gateway begins with: the gateway's place and id, the places that it is told, and the first place of
 /// an export with points that could not be sent.
@@ -73,13 +73,13 @@ pub(crate) struct Post {
     pub(crate) gateway: usize,
     pub(crate) id: u32,
     pub(crate) places: Places,
-    pub(crate) pass: Pass<usize, Told>,
+    pub(crate) pass: Pass<usize, Traffic>,
     pub(crate) unsent: Option<usize>,
     ghost at: { IsSeatAt (receives_on places) pass },
 }
 
 // Sends a place, and says whether it is sent.
-fn is_sent<R: Wait>(rt: &R, sender: &Sender, pass: &mut Pass<usize, Told>, place: usize) -> bool
+fn is_sent<R: Wait>(rt: &R, sender: &Sender, pass: &mut Pass<usize, Traffic>, place: usize) -> bool
     requires { IsSeatAt (sends_on sender.now) pass.old }
     ensures at { IsSeatAt (sends_on sender.now) pass.new }
     ensures told { MatchBool result (view pass.new ≡ and_sent (view pass.old) place) (view pass.new ≡ view pass.old) }
@@ -98,7 +98,7 @@ fn post_all<R: Wait>(
     ensures of { IfOk result (λ p. (p.gateway ≡ gateway) × (p.id ≡ id)) }
     ensures told { IfOk result (λ p. IsPosted exports.now (view p.pass) p.unsent) }
 {
-    let (sender, places, mut pass) = bounded_with::<usize, Told, InOrder, Global>(
+    let (sender, places, mut pass) = bounded_with::<usize, Traffic, InOrder, Global>(
         alloc,
         exports.len().max(1),
     )?;

@@ -98,6 +98,7 @@ fn export_at<R: Threads + Wait + Sync, G: Gate + Sync>(
 {
     let writers = setup.writers.as_slice();
     let (id, plan, start) = &writers[place];
+    // What every plan says: no stream stands twice.
     let _first = plan.stream(0);
     let writer = Writer::start(alloc, id.try_copy()?, plan.try_copy()?, *start)?;
     export_of(

@@ -1,4 +1,4 @@
-//! Worked exports, one for each refusal, the joins that show the rule for ties, and copies.
+//! Worked exports that are refused, and the joins that show the rule for ties. The program `refusals` has those of histograms, and copies.
 use super::*;
 use attr_kit::{AttrSet, NoMemory, Seq, TryCopy, Txt};
 use std::alloc::Global;
@@ -62,7 +62,10 @@ fn point(
 }
 
 // What `build` answers for these points, collected at 200 since 100.
-fn built(alloc: Global, points: Vec<ExportPoint>) -> Result<Result<Export, ExportFault>, NoMemory> {
+fn export_of(
+    alloc: Global,
+    points: Vec<ExportPoint>,
+) -> Result<Result<Export, ExportFault>, NoMemory> {
     Ok(Export::build(alloc, writer(alloc)?, 100, 200, Seq::from_vec(points)))
 }
 
@@ -73,33 +76,7 @@ fn fault_of_one(
 ) -> Result<Option<ExportFault>, NoMemory> {
     let mut points = Vec::new(alloc);
     points.push(point(alloc, "size", shape, payload)?)?;
-    Ok(built(alloc, points)?.err())
-}
-
-#[test]
-fn histograms_of_one_bound(rt: HostRuntime) -> Result<(), Fail> {
-    let alloc = rt.alloc();
-    let cases = [
-        (2, None, None),
-        (3, None, Some(ExportFault::CountMismatch(0))),
-        (2, Some((2, 3)), None),
-        (2, Some((3, 2)), Some(ExportFault::BadRange(0))),
-    ];
-    for (count, range, want) in cases {
-        let payload = counts(alloc, &[1, 1], count, range)?;
-        assert!(rt; fault_of_one(alloc, histogram(alloc, &[10])?, payload)? == want);
-    }
-    let none_but_a_range = counts(alloc, &[0, 0], 0, Some((1, 1)))?;
-    assert!(rt;
-        fault_of_one(alloc, histogram(alloc, &[10])?, none_but_a_range)?
-            == Some(ExportFault::BadRange(0))
-    );
-    let one_bucket = counts(alloc, &[2], 2, None)?;
-    assert!(rt;
-        fault_of_one(alloc, histogram(alloc, &[10])?, one_bucket)?
-            == Some(ExportFault::BucketCount(0))
-    );
-    Ok(())
+    Ok(export_of(alloc, points)?.err())
 }
 
 #[test]
@@ -134,7 +111,7 @@ fn an_earlier_refusal_at_a_later_place(rt: HostRuntime) -> Result<(), Fail> {
     let one_bucket = counts(alloc, &[2], 2, None)?;
     points.push(point(alloc, "size", histogram(alloc, &[10])?, one_bucket)?)?;
     points.push(point(alloc, "g", Shape::Gauge, Payload::Sum(1))?)?;
-    assert!(rt; built(alloc, points)? == Err(ExportFault::WrongShape(1)));
+    assert!(rt; export_of(alloc, points)? == Err(ExportFault::WrongShape(1)));
     Ok(())
 }
 
@@ -145,36 +122,12 @@ fn a_key_stands_once(rt: HostRuntime) -> Result<(), Fail> {
     for name in ["a", "b", "a"] {
         points.push(point(alloc, name, Shape::Gauge, Payload::Gauge(1))?)?;
     }
-    match built(alloc, points)? {
+    match export_of(alloc, points)? {
         Ok(_) => assert!(rt; false),
         Err(fault) => {
             let told = format!(in alloc; "{fault}")?;
             assert_eq!(rt; told.as_str(), "point 2 has the key of an earlier point");
         }
-    }
-    Ok(())
-}
-
-#[test]
-fn exports_keep_their_points(rt: HostRuntime) -> Result<(), Fail> {
-    let alloc = rt.alloc();
-    let mut points = Vec::new(alloc);
-    let shared = stream(alloc, "g", Shape::Gauge)?;
-    points.push(ExportPoint {
-        stream: shared.try_copy()?,
-        attrs: AttrSet::empty(alloc),
-        payload: Payload::Gauge(7),
-    })?;
-    match built(alloc, points)? {
-        Ok(export) => {
-            assert!(rt;
-                *export.writer() == writer(alloc)? && export.writer().instance_number() == 1
-            );
-            assert!(rt; export.start() == 100 && export.time() == 200);
-            assert!(rt; export.points().len() == 1 && export.points()[0].stream == shared);
-            assert!(rt; export.try_copy()? == export);
-        }
-        Err(_) => assert!(rt; false),
     }
     Ok(())
 }
@@ -206,35 +159,5 @@ fn ties_are_conflicts_until_a_later_time(rt: HostRuntime) -> Result<(), Fail> {
     let wide = cell(200, counts(alloc, &[1, 1], 2, Some((1, 4)))?);
     assert!(rt; narrow.try_copy()? == narrow);
     assert!(rt; narrow.join(wide).held == Held::Conflict);
-    Ok(())
-}
-
-#[test]
-fn keys_are_copied_and_ordered(rt: HostRuntime) -> Result<(), Fail> {
-    let alloc = rt.alloc();
-    let key = Key {
-        writer: writer(alloc)?,
-        start: 100,
-        stream: Stream {
-            scope: text(alloc, "app")?,
-            name: text(alloc, "size")?,
-            unit: text(alloc, "By")?,
-            shape: histogram(alloc, &[0, 5])?,
-        },
-        attrs: AttrSet::empty(alloc),
-    };
-    let mut later = key.try_copy()?;
-    assert!(rt; later == key);
-    later.start = 101;
-    later.stream.shape = Shape::Gauge;
-    assert!(rt; key < later);
-    Ok(())
-}
-
-fn crosses<T: Send + Sync>(_value: &T) {}
-
-#[test]
-fn shared_streams_cross_threads(rt: HostRuntime) -> Result<(), Fail> {
-    crosses(&stream(rt.alloc(), "g", Shape::Gauge)?);
     Ok(())
 }

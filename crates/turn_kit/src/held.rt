@@ -59,10 +59,10 @@ pub(crate) fn change_held<G: GiveBack, M: Machine, T: Step<M>>(
         give::<G, _>(top, place);
         return Err(ChangeFault::Exhausted);
     }
-    let told = Snapshot::of(&step);
+    let before = Snapshot::of(&step);
     match step_in_place(top, place, step) {
         Ok(reply) => {
-            commit::<M, T, Brand>(top, place, &told);
+            commit::<M, T, Brand>(top, place, &before);
             give::<G, _>(top, place);
             Ok(reply)
         }

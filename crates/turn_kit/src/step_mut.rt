@@ -4,13 +4,12 @@ ghost use Rattle.turn_kit.specs.Places.{AllMeet, Answered, Grows, HasRoom, HasTu
 ghost use Rattle.turn_kit.specs.Public.{IsOf, IsLeft, Enters, Exhausts, Refuses, opening, limit_of};
 ghost use Rattle.turn_kit.specs.Public.{AtBusy, AtExhausted, AtRefused};
 
-use crate::board::{CHANGES, MACHINE, Place, Top};
+use crate::board::{MACHINE, Place, Top};
 use crate::fault::ChangeFault;
 use crate::giving::{GiveBack, Waking};
 use crate::machine::Machine;
-use crate::plays::{Commit, Told};
 use crate::seat::Seat;
-use crate::steps::{ask, count, give};
+use crate::steps::{ask, commit, count, give};
 use crate::turn::Turn;
 use crate::waits::ask_until;
 use std::marker::Brand;
@@ -43,23 +42,6 @@ pub trait StepMut<M: Machine> {
         ensures unchanged { OnErr result (M.state machine.new ≡ M.state machine.old) }
         ensures kept { OnErr result (self.new ≡ self.old) }
         ensures err { IfErr result (refuses self.old machine.old) };
-}
-
-/// Adds the entry of a step whose value is kept to the history.
-fn commit_mut<M: Machine, T: StepMut<M>, J: Told<M::Entry>>(
-    top: &Top<M>,
-    place: &mut Place<M>,
-    step: &Snapshot<T>,
-)
-    requires entry { J.entry ≡ Some (T.entry step.now.value) }
-    requires place { IsAt top.now.table_id place.old }
-    requires seated { place.old.me.0.who.seated ≡ true }
-    requires room { HasRoom place.old.me }
-    ensures place { IsSamePlace place.old place.new }
-    ensures told { Grows (T.entry step.now.value) place.old.me place.new.me }
-{
-    let _ = step;
-    top.fetch_add::<Commit<J>>(place, CHANGES, 1);
 }
 
 /// Makes the step on the machine where it lies, with the value that is kept.
@@ -99,10 +81,10 @@ fn change_held_mut<G: GiveBack, M: Machine, T: StepMut<M>>(
         give::<G, _>(top, place);
         return Err(ChangeFault::Exhausted);
     }
-    let told = Snapshot::of(&*step);
+    let before = Snapshot::of(&*step);
     match step_in_place_mut(top, place, step) {
         Ok(reply) => {
-            commit_mut::<M, T, Brand>(top, place, &told);
+            commit::<M, T, Brand>(top, place, &before);
             give::<G, _>(top, place);
             Ok(reply)
         }

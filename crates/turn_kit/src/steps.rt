@@ -7,8 +7,7 @@ ghost use Rattle.turn_kit.specs.Places.{HasRoom, Grows, IsWhole, IsMade, HasPlac
 use crate::board::{CHANGES, MADE, OUT, Place, TURN, Top};
 use crate::giving::GiveBack;
 use crate::machine::Machine;
-use crate::plays::{Ask, Commit, Count, CountOut, Draw, Give, LookMade, Told};
-use crate::step::Step;
+use crate::plays::{Ask, ChangeEntry, Commit, Count, CountOut, Draw, Give, LookMade};
 use std::snapshot::Snapshot;
 
 /// Nobody holds the turn.
@@ -50,20 +49,20 @@ pub(crate) fn count<M: Machine>(top: &Top<M>, place: &mut Place<M>) -> u64
     top.load::<Count>(place, CHANGES)
 }
 
-/// Adds the entry of the step to the history.
-pub(crate) fn commit<M: Machine, T: Step<M>, J: Told<M::Entry>>(
+/// Adds the entry of a change to the history. What was changed by gives it, as it was before the change.
+pub(crate) fn commit<M: Machine, T, J: ChangeEntry<M::Entry>>(
     top: &Top<M>,
     place: &mut Place<M>,
-    step: &Snapshot<T>,
+    by: &Snapshot<T>,
 )
-    requires entry { J.entry ≡ Some (T.entry step.now.value) }
+    requires entry { (e : M.Entry) × (J.entry ≡ Some e) }
     requires place { IsAt top.now.table_id place.old }
     requires seated { place.old.me.0.who.seated ≡ true }
     requires room { HasRoom place.old.me }
     ensures place { IsSamePlace place.old place.new }
-    ensures told { Grows (T.entry step.now.value) place.old.me place.new.me }
+    ensures told { (e : M.Entry) → J.entry ≡ Some e → Grows e place.old.me place.new.me }
 {
-    let _ = step;
+    let _ = by;
     top.fetch_add::<Commit<J>>(place, CHANGES, 1);
 }
 

@@ -9,14 +9,14 @@ use Rattle.world_kit.proofs.Bridging.{its}
 use Rattle.world_kit.specs.Answering.{AnswersRecorded, entries_fed, recorded}
 use Rattle.world_kit.specs.declared.setup.Setup.{Setup}
 use Rattle.world_kit.specs.Exact.{AreTold}
-use Rattle.world_kit.specs.Held.{Held}
+use Rattle.world_kit.specs.WorldState.{WorldState}
 use Rattle.world_kit.specs.Judged.{Deeds, fits_at}
 use Rattle.world_kit.specs.Recording.{rounding}
 use Rattle.world_kit.specs.Setups.{starts_of, gateways_of, writers_of}
 use Rattle.world_kit.specs.Stands.{Stands}
 
 -- what is answered is what was recorded
-pub answers : (s : Setup) (ds : Deeds) (w : Held) → Stands s ds w → AreTold s → AnswersRecorded s ds w
+pub answers : (s : Setup) (ds : Deeds) (w : WorldState) → Stands s ds w → AreTold s → AnswersRecorded s ds w
 unfolding recorded
 answers s ds w st told g n at ask adds =
     ap (rollup_rows ask) (its s ds w st told g n at)

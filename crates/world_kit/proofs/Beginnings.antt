@@ -18,7 +18,7 @@ use Rattle.world_kit.specs.Building.{AreStarted, fresh, same_gateway, same_gatew
 use Rattle.world_kit.specs.declared.fault.SetupFault.TheVariants.{SameGateway}
 use Rattle.world_kit.specs.declared.setup.Setup.{Setup}
 use Rattle.world_kit.specs.declared.setup.WriterSetup.{WriterSetup}
-use Rattle.world_kit.specs.Held.{Held}
+use Rattle.world_kit.specs.WorldState.{WorldState}
 use Rattle.world_kit.specs.Judged.{changed_events}
 use Rattle.world_kit.specs.Setups.{no_writer}
 use Rattle.world_kit.specs.Stands.{AreApart, Stands, WriterStands}
@@ -110,7 +110,7 @@ unfolding changed_events
 no_events s g = refl
 
 -- a world in which nothing happened
-pub begins : (s : Setup) (w : Held) → same_gateway s.gateways ≡ None → AreStarted s.writers w.writers → w.nodes ≡ map fresh s.gateways → w.exports ≡ [] → w.mails ≡ [] → Stands s [] w
+pub begins : (s : Setup) (w : WorldState) → same_gateway s.gateways ≡ None → AreStarted s.writers w.writers → w.nodes ≡ map fresh s.gateways → w.exports ≡ [] → w.mails ≡ [] → Stands s [] w
 begins s w none started nodes exports mails = record {
   apart = apart s none;
   plans = started_plans s.writers w.writers started;

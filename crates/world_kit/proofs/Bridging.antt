@@ -18,7 +18,7 @@ use Rattle.rollup_kit.proofs.Naming.{rounding_sound}
 use Rattle.rollup_kit.specs.Naming.{Name, key_at}
 use Rattle.world_kit.specs.declared.setup.Setup.{Setup}
 use Rattle.world_kit.specs.declared.setup.WriterSetup.{WriterSetup}
-use Rattle.world_kit.specs.Held.{Held}
+use Rattle.world_kit.specs.WorldState.{WorldState}
 use Rattle.world_kit.specs.Judged.{Deeds, fits_at}
 use Rattle.world_kit.specs.Recording.{rounding}
 use Rattle.world_kit.specs.Setups.{ArePlans, writer_at, starts_of, gateways_of, writers_of}
@@ -33,7 +33,7 @@ state_named : (s : Setup) → ArePlans s → (ds : Deeds) (h : Holder) → state
 unfolding state_at
 state_named s plans ds h = ap (state_of key_cmp payload_eq) (flat_same (made_points s) (points (rounding s)) (made_named (writers_of s) plans) (taken_collections (starts_of s) ds h))
 
-module _ (s : Setup) (ds : Deeds) (w : Held) (st : Stands s ds w) (told : IsTold (λ v. (writer_at s v).id) (starts_of s)) (g : ℕ) (n : NodeView) (at_g : slice_get w.nodes g ≡ Some n) where
+module _ (s : Setup) (ds : Deeds) (w : WorldState) (st : Stands s ds w) (told : IsTold (λ v. (writer_at s v).id) (starts_of s)) (g : ℕ) (n : NodeView) (at_g : slice_get w.nodes g ≡ Some n) where
   pub its : n.gateway.points ≡ state (rounding s) (taken_collections (starts_of s) ds (AtGateway g))
   its = st.nodes.points g n at_g ∙ state_named s st.plans ds (AtGateway g)
 

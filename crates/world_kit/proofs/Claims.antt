@@ -45,14 +45,14 @@ use Rattle.world_kit.specs.Stands.{AreApart, MailsStand, NodesStand}
 use Rattle.world_kit.specs.States.{made_points, state_at}
 use Rattle.world_kit.proofs.Places.{in_push, in_set}
 
-abbrev Held : Type 0
-Held = Option (Cell Payload)
+abbrev MaybeCell : Type 0
+MaybeCell = Option (Cell Payload)
 
-abbrev J : Held → Held → Held
+abbrev J : MaybeCell → MaybeCell → MaybeCell
 J = join_options (join_cells payload_eq)
 
 -- whether two cells are one can be told
-alike : (a b : Held) → (a ≡ b) ⊎ (a ≢ b)
+alike : (a b : MaybeCell) → (a ≡ b) ⊎ (a ≢ b)
 alike None None = inl refl
 alike None (Some b) = inr (λ e. not_None e)
 alike (Some a) None = inr (λ e. not_None (sym e))

@@ -28,7 +28,7 @@ use Rattle.world_kit.specs.declared.event.Refusal.TheVariants.{NoGateway, NoExpo
 use Rattle.world_kit.specs.declared.event.Reply.TheVariants as reply
 use Rattle.world_kit.specs.declared.setup.Setup.{Setup}
 use Rattle.world_kit.specs.Claims.{GossipStands, IsClaimed, MailClaims}
-use Rattle.world_kit.specs.Held.{Held}
+use Rattle.world_kit.specs.WorldState.{WorldState}
 use Rattle.world_kit.specs.Judged.{Deeds, changed_events, is_within, fits_at, judgement}
 use Rattle.world_kit.specs.Setups.{gateways_of, starts_of}
 use Rattle.world_kit.specs.Stands.{Acts, NodesStand, Stands, MailStands}
@@ -36,19 +36,19 @@ use Rattle.world_kit.specs.States.{state_at}
 use Rattle.world_kit.specs.Wanting.{Wants}
 
 -- a world with other nodes
-abbrev pub with_nodes : Held → List NodeView → Held
+abbrev pub with_nodes : WorldState → List NodeView → WorldState
 with_nodes w ns = record { writers = w.writers; nodes = ns; exports = w.exports; mails = w.mails }
 
 -- a world with other mails
-abbrev pub with_mails : Held → List MessageView → Held
+abbrev pub with_mails : WorldState → List MessageView → WorldState
 with_mails w ms = record { writers = w.writers; nodes = w.nodes; exports = w.exports; mails = ms }
 
 -- a world with one mail more
-abbrev pub with_mail : Held → MessageView → Held
+abbrev pub with_mail : WorldState → MessageView → WorldState
 with_mail w m = with_mails w (w.mails ++ m ∷ [])
 
 -- a world with other nodes and mails
-abbrev pub with_both : Held → List NodeView → List MessageView → Held
+abbrev pub with_both : WorldState → List NodeView → List MessageView → WorldState
 with_both w ns ms = record { writers = w.writers; nodes = ns; exports = w.exports; mails = ms }
 
 -- the mail of a number, which was handed
@@ -58,7 +58,7 @@ handed_known s ds n g mail known low = rw (ne_eqb n (mails ds + 1) (omega (arith
 mail_after : (s : Setup) (ds : Deeds) (ns : List NodeView) (n : ℕ) (m : MessageView) (mail : Mail) {ms : List MessageView} → GossipStands s ds ns ms → 0 < n → slice_get ms (n - 1) ≡ Some m → mail_of ds n ≡ Some mail → MailClaims s ds ns n mail m
 mail_after s ds ns n m mail st low at known = let back : n - 1 + 1 ≡ n = omega (arith, low) in subst (λ (k : ℕ). MailClaims s ds ns k mail m) back (st.mails (n - 1) m mail at (ap (mail_of ds) back ∙ known))
 
-module _ (w : Held) where
+module _ (w : WorldState) where
   pub deliver_nowhere : (x g : ℕ) → length w.nodes ≤ g → Acts (event.Deliver x g) w (reply.Refused NoGateway) w
   deliver_nowhere x g past = refused_acts _ w NoGateway (λ s ds st. gathered_none s g _ (let c = st.nodes.count in omega arith))
 

@@ -17,7 +17,7 @@ use Rattle.world_kit.specs.Converging.{AnswersAlike, Converges}
 use Rattle.world_kit.specs.declared.event.Event.{Event}
 use Rattle.world_kit.specs.declared.event.Reply.{Reply}
 use Rattle.world_kit.specs.declared.setup.Setup.{Setup}
-use Rattle.world_kit.specs.Held.{Held}
+use Rattle.world_kit.specs.WorldState.{WorldState}
 use Rattle.world_kit.specs.Judged.{Deeds, after, deeds, reply_to}
 use Rattle.world_kit.specs.Setups.{starts_of}
 use Rattle.world_kit.specs.Stands.{Acts, Stands}
@@ -41,13 +41,13 @@ pub replies_length : (s : Setup) (E : List Event) → length (replies s E) ≡ l
 replies_length s E = replies_from_length s [] E
 
 -- an event more, in its place
-pub stands_more : (s : Setup) (E : List Event) (i : ℕ) (e : Event) (old : Held) (said : Reply) (new : Held) → take (i + 1) E ≡ take i E ++ e ∷ [] → Acts e old said new → Stands s (deeds s (take i E)) old → Stands s (deeds s (take (i + 1) E)) new
-stands_more s E i e old said new next acts st = subst (λ (l : Deeds). Stands s l new) (sym (ap (deeds s) next ∙ deeds_push s (take i E) e)) (acts.stands s (deeds s (take i E)) st)
+pub stands_more : (s : Setup) (E : List Event) (i : ℕ) (e : Event) (old : WorldState) (answer : Reply) (new : WorldState) → take (i + 1) E ≡ take i E ++ e ∷ [] → Acts e old answer new → Stands s (deeds s (take i E)) old → Stands s (deeds s (take (i + 1) E)) new
+stands_more s E i e old answer new next acts st = subst (λ (l : Deeds). Stands s l new) (sym (ap (deeds s) next ∙ deeds_push s (take i E) e)) (acts.stands s (deeds s (take i E)) st)
 
-pub replies_more : (s : Setup) (E : List Event) (i : ℕ) (e : Event) (old : Held) (said : Reply) (new : Held) (rs : List Reply) → take (i + 1) E ≡ take i E ++ e ∷ [] → Acts e old said new → Stands s (deeds s (take i E)) old → rs ≡ replies s (take i E)
-    → rs ++ said ∷ [] ≡ replies s (take (i + 1) E)
-replies_more s E i e old said new rs next acts st so_far =
-    ap (λ l. l ++ said ∷ []) so_far ∙ ap (λ r. replies s (take i E) ++ r ∷ []) (acts.reply s (deeds s (take i E)) st) ∙ sym (ap (replies s) next ∙ replies_push s (take i E) e)
+pub replies_more : (s : Setup) (E : List Event) (i : ℕ) (e : Event) (old : WorldState) (answer : Reply) (new : WorldState) (rs : List Reply) → take (i + 1) E ≡ take i E ++ e ∷ [] → Acts e old answer new → Stands s (deeds s (take i E)) old → rs ≡ replies s (take i E)
+    → rs ++ answer ∷ [] ≡ replies s (take (i + 1) E)
+replies_more s E i e old answer new rs next acts st so_far =
+    ap (λ l. l ++ answer ∷ []) so_far ∙ ap (λ r. replies s (take i E) ++ r ∷ []) (acts.reply s (deeds s (take i E)) st) ∙ sym (ap (replies s) next ∙ replies_push s (take i E) e)
 
 -- all of a list
 pub take_whole : {A : Type 0} (xs : List A) (i : ℕ) → length xs ≤ i → take i xs ≡ xs
@@ -65,8 +65,8 @@ same_states s ds g h same = same_took key_total key_exact payload_eq payload_equ
     moved a b t m i = let c = filter_map-In (made_of (made (starts_of s) ds)) m (took ds a) i in In-filter_map (made_of (made (starts_of s) ds)) m c.0 (took ds b) (t c.0 c.1) c.2
 
 -- so have gateways equal points
-pub converges : (s : Setup) (ds : Deeds) (w : Held) → Stands s ds w → Converges ds w
+pub converges : (s : Setup) (ds : Deeds) (w : WorldState) → Stands s ds w → Converges ds w
 converges s ds w st g h m n at_g at_h same = st.nodes.points g m at_g ∙ same_states s ds (AtGateway g) (AtGateway h) same ∙ sym (st.nodes.points h n at_h)
 
-pub answers_alike : (s : Setup) (ds : Deeds) (w : Held) → Stands s ds w → AnswersAlike ds w
+pub answers_alike : (s : Setup) (ds : Deeds) (w : WorldState) → Stands s ds w → AnswersAlike ds w
 answers_alike s ds w st g h m n at_g at_h same ask = ap (rollup_rows ask) (converges s ds w st g h m n at_g at_h same)

@@ -10,14 +10,14 @@ use Rattle.world_kit.specs.declared.event.Refusal.TheVariants.{NoWriter, NoGatew
 use Rattle.world_kit.specs.declared.event.Reply.{Reply}
 use Rattle.world_kit.specs.declared.event.Reply.TheVariants as reply
 use Rattle.world_kit.specs.declared.setup.Setup.{Setup}
-use Rattle.world_kit.specs.Held.{Held}
+use Rattle.world_kit.specs.WorldState.{WorldState}
 use Rattle.world_kit.specs.Judged.{Deeds, after, cons_deed, is_within, at_gateway, guard, judgement, reply_of, reply_to, reply_to_judged, at_writer}
 use Rattle.world_kit.specs.Setups.{gateways_of}
 use Rattle.world_kit.specs.Stands.{Acts, Stands}
 use Rattle.world_kit.specs.Wanting.{TakesMemory, Wants}
 
 -- a refused event leaves the world
-pub refused_acts : (event : Event) (w : Held) (r : Refusal) → ((s : Setup) (ds : Deeds) → Stands s ds w → judgement s ds event ≡ Err r) → Acts event w (reply.Refused r) w
+pub refused_acts : (event : Event) (w : WorldState) (r : Refusal) → ((s : Setup) (ds : Deeds) → Stands s ds w → judgement s ds event ≡ Err r) → Acts event w (reply.Refused r) w
 unfolding after reply_to
 refused_acts event w r is = record {
   stands = λ s ds st. subst (λ (l : Deeds). Stands s l w) (sym (ap (λ j. cons_deed j ds) (is s ds st))) st;
@@ -25,29 +25,29 @@ refused_acts event w r is = record {
 }
 
 -- an accepted one comes to its deed
-pub accepted_acts : (event : Event) (old new : Held) (said : Reply) (d : Deed Entry) → ((s : Setup) (ds : Deeds) → Stands s ds old → (judgement s ds event ≡ Ok d) × Stands s (d ∷ ds) new × (said ≡ reply_of s ds d)) → Acts event old said new
+pub accepted_acts : (event : Event) (old new : WorldState) (answer : Reply) (d : Deed Entry) → ((s : Setup) (ds : Deeds) → Stands s ds old → (judgement s ds event ≡ Ok d) × Stands s (d ∷ ds) new × (answer ≡ reply_of s ds d)) → Acts event old answer new
 unfolding after reply_to
-accepted_acts event old new said d is = record {
+accepted_acts event old new answer d is = record {
   stands = λ s ds st. subst (λ (l : Deeds). Stands s l new) (sym (ap (λ j. cons_deed j ds) (is s ds st).0)) (is s ds st).1;
   reply = λ s ds st. (is s ds st).2 ∙ sym (ap (reply_to_judged s ds) (is s ds st).0);
 }
 
 -- an event that is accepted may want memory
-pub accepted_wants : (event : Event) (w : Held) (d : Deed Entry) → ((s : Setup) (ds : Deeds) → Stands s ds w → judgement s ds event ≡ Ok d) → Wants event w
+pub accepted_wants : (event : Event) (w : WorldState) (d : Deed Entry) → ((s : Setup) (ds : Deeds) → Stands s ds w → judgement s ds event ≡ Ok d) → Wants event w
 accepted_wants event w d is = record { accepted = λ s ds st. subst (λ (j : Result (Deed Entry) Refusal). IfErr j (TakesMemory s event)) (sym (is s ds st)) tt }
 
 -- seen from within
-pub seen_as : (event : Event) (old seen : Held) (said : Reply) (new : Held) → seen ≡ old → Acts event seen said new → Acts event old said new
-seen_as event old seen said new same acts = subst (λ (w : Held). Acts event w said new) same acts
+pub seen_as : (event : Event) (old seen : WorldState) (answer : Reply) (new : WorldState) → seen ≡ old → Acts event seen answer new → Acts event old answer new
+seen_as event old seen answer new same acts = subst (λ (w : WorldState). Acts event w answer new) same acts
 
-pub left_as : (event : Event) (old seen : Held) (said : Reply) → seen ≡ old → Acts event seen said seen → Acts event old said old
-left_as event old seen said same acts = subst (λ (w : Held). Acts event w said w) same acts
+pub left_as : (event : Event) (old seen : WorldState) (answer : Reply) → seen ≡ old → Acts event seen answer seen → Acts event old answer old
+left_as event old seen answer same acts = subst (λ (w : WorldState). Acts event w answer w) same acts
 
 -- a world that is as it was
-pub same_as : (event : Event) (old new seen : Held) (said : Reply) → seen ≡ old → new ≡ seen → Acts event seen said seen → Acts event old said new
-same_as event old new seen said same kept acts = subst (λ (w : Held). Acts event w said new) same (subst (Acts event seen said) (sym kept) acts)
+pub same_as : (event : Event) (old new seen : WorldState) (answer : Reply) → seen ≡ old → new ≡ seen → Acts event seen answer seen → Acts event old answer new
+same_as event old new seen answer same kept acts = subst (λ (w : WorldState). Acts event w answer new) same (subst (Acts event seen answer) (sym kept) acts)
 
-pub wants_as : {A E : Type 0} (event : Event) (old seen : Held) (r : Result A E) → seen ≡ old → Wants event seen → OnErr r (Wants event old)
+pub wants_as : {A E : Type 0} (event : Event) (old seen : WorldState) (r : Result A E) → seen ≡ old → Wants event seen → OnErr r (Wants event old)
 wants_as event old seen (Ok a) same wants = tt
 wants_as event old seen (Err e) same wants = subst (Wants event) same wants
 

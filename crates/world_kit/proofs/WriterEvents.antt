@@ -39,7 +39,7 @@ use Rattle.world_kit.specs.declared.event.Refusal.TheVariants as refusal
 use Rattle.world_kit.specs.declared.event.Reply.TheVariants as reply
 use Rattle.world_kit.specs.declared.setup.Setup.{Setup}
 use Rattle.world_kit.specs.declared.setup.WriterSetup.{WriterSetup}
-use Rattle.world_kit.specs.Held.{Held}
+use Rattle.world_kit.specs.WorldState.{WorldState}
 use Rattle.world_kit.specs.Judged.{Deeds, collected_at, fits_at, guard, judgement, refusal_at, refusal_of, unless}
 use Rattle.world_kit.specs.Setups.{no_writer, writer_at, starts_of, gateways_of}
 use Rattle.world_kit.specs.Stands.{Acts, Stands, WriterStands}
@@ -57,11 +57,11 @@ use Rattle.writer_kit.specs.Refusals.{early_fault, fault_now, measure_fault, col
 use Rattle.writer_kit.specs.Written.{Written}
 
 -- a world with other writers
-abbrev pub with_writers : Held → List Written → Held
+abbrev pub with_writers : WorldState → List Written → WorldState
 with_writers w ws = record { writers = ws; nodes = w.nodes; exports = w.exports; mails = w.mails }
 
 -- the same, and other exports
-abbrev pub with_export : Held → List Written → List Export → Held
+abbrev pub with_export : WorldState → List Written → List Export → WorldState
 with_export w ws es = record { writers = ws; nodes = w.nodes; exports = es; mails = w.mails }
 
 start_in : (ws : List WriterSetup) (v : ℕ) → slice_index (map (λ w. w.start) ws) v ≡ (get_or ws v no_writer).start
@@ -178,7 +178,7 @@ overflow_alone t h e f none some =
 none_some : {A : Type 0} (o : Option A) (a : A) → o ≡ None → o ≡ Some a → ⊥
 none_some o a none some = cc
 
-module _ (w : Held) (v : ℕ) where
+module _ (w : WorldState) (v : ℕ) where
   pub measure_nowhere : (i : ℕ) (a : AttrSet) (val : ℤ) → length w.writers ≤ v → Acts (event.Measure v i a val) w (reply.Refused refusal.NoWriter) w
   measure_nowhere i a val past = refused_acts _ w refusal.NoWriter (λ s ds st. written_none s v _ (let c = st.writers.count in omega arith))
 
@@ -189,7 +189,7 @@ module _ (w : Held) (v : ℕ) where
   pub restart_nowhere : (start : ℕ) → length w.writers ≤ v → Acts (event.Restart v start) w (reply.Refused refusal.NoWriter) w
   restart_nowhere start past = refused_acts _ w refusal.NoWriter (λ s ds st. written_none s v _ (let c = st.writers.count in omega arith))
 
-module _ (w : Held) (v : ℕ) (x : Written) (at_v : slice_get w.writers v ≡ Some x) where
+module _ (w : WorldState) (v : ℕ) (x : Written) (at_v : slice_get w.writers v ≡ Some x) where
   here : v < length w.writers
   here = slice_get_within w.writers v x at_v
 

@@ -12,7 +12,7 @@ use Rattle.schedule_kit.specs.Deeds.Holder.{AtGateway}
 use Rattle.schedule_kit.specs.Rows.{values_fed, keys_fed}
 use Rattle.schedule_kit.specs.Taken.{recorded_up_to, incarnations}
 use Rattle.world_kit.specs.declared.setup.Setup.{Setup}
-use Rattle.world_kit.specs.Held.{Held}
+use Rattle.world_kit.specs.WorldState.{WorldState}
 use Rattle.world_kit.specs.Judged.{Deeds}
 use Rattle.world_kit.specs.Recording.{rounding}
 use Rattle.world_kit.specs.Setups.{starts_of, writers_of}
@@ -34,5 +34,5 @@ unfoldable pub recorded : Setup → Deeds → ℕ → Ask → List Row
 recorded s ds g ask = recorded_rows ask (values_recorded s ds g) (keys_recorded s ds g)
 
 -- each gateway's roll-up for each ask of a sum or a histogram stream is what was recorded
-abbrev pub AnswersRecorded : Setup → Deeds → Held → Type 0
+abbrev pub AnswersRecorded : Setup → Deeds → WorldState → Type 0
 AnswersRecorded s ds w = (g : ℕ) (n : NodeView) → slice_get w.nodes g ≡ Some n → (ask : Ask) → AddsUp ask.stream.shape → rollup_rows ask n.gateway.points ≡ recorded s ds g ask

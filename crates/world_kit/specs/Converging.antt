@@ -11,15 +11,15 @@ use Rattle.world_kit.specs.declared.fault.ReplayFault.TheVariants as replay
 use Rattle.world_kit.specs.declared.fault.SetupFault.TheVariants as setup
 use Rattle.world_kit.specs.declared.setup.Setup.{Setup}
 use Rattle.world_kit.specs.Building.{setup_fault}
-use Rattle.world_kit.specs.Held.{Held}
+use Rattle.world_kit.specs.WorldState.{WorldState}
 use Rattle.world_kit.specs.Judged.{Deeds}
 
 -- gateways that took the same exports, in any order, with repeats and through any merges and mails, hold equal points
-abbrev pub Converges : Deeds → Held → Type 0
+abbrev pub Converges : Deeds → WorldState → Type 0
 Converges ds w = (g h : ℕ) (m n : NodeView) → slice_get w.nodes g ≡ Some m → slice_get w.nodes h ≡ Some n → TookSame ds (AtGateway g) (AtGateway h) → m.gateway.points ≡ n.gateway.points
 
 -- and answer every query alike
-abbrev pub AnswersAlike : Deeds → Held → Type 0
+abbrev pub AnswersAlike : Deeds → WorldState → Type 0
 AnswersAlike ds w = (g h : ℕ) (m n : NodeView) → slice_get w.nodes g ≡ Some m → slice_get w.nodes h ≡ Some n → TookSame ds (AtGateway g) (AtGateway h)
     → (ask : Ask) → rollup_rows ask m.gateway.points ≡ rollup_rows ask n.gateway.points
 

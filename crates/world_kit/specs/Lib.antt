@@ -5,7 +5,7 @@ pub mod Converging
 pub mod Copying
 pub mod Exact
 pub mod Faults
-pub mod Held
+pub mod WorldState
 pub mod Judged
 pub mod Merging
 pub mod Recording

@@ -13,7 +13,7 @@ use Rattle.world_kit.specs.declared.event.Reply.{Reply}
 use Rattle.world_kit.specs.declared.setup.Setup.{Setup}
 use Rattle.world_kit.specs.declared.setup.WriterSetup.{WriterSetup}
 use Rattle.world_kit.specs.Claims.{GossipStands}
-use Rattle.world_kit.specs.Held.{Held}
+use Rattle.world_kit.specs.WorldState.{WorldState}
 use Rattle.world_kit.specs.Judged.{Deeds, after, fits_at, reply_to}
 use Rattle.world_kit.specs.Setups.{ArePlans, writer_at, starts_of, gateways_of}
 use Rattle.world_kit.specs.States.{IsExportOf, state_at}
@@ -62,7 +62,7 @@ abbrev pub AreApart : Setup → Type 0
 AreApart s = (g h : ℕ) → g < gateways_of s → h < gateways_of s → slice_index s.gateways g ≡ slice_index s.gateways h → g ≡ h
 
 -- a world of a setup stands for deeds
-pub record Stands (s : Setup) (ds : Deeds) (w : Held) : Type 0 where
+pub record Stands (s : Setup) (ds : Deeds) (w : WorldState) : Type 0 where
   pub apart : AreApart s
   pub plans : ArePlans s
   pub lawful : AreLawful (fits_at s) (starts_of s) (gateways_of s) ds
@@ -73,6 +73,6 @@ pub record Stands (s : Setup) (ds : Deeds) (w : Held) : Type 0 where
   pub gossip : GossipStands s ds w.nodes w.mails
 
 -- an event leads a world that stands for deeds to one that stands for them and the event, with the reply of the definition
-pub record Acts (event : Event) (old : Held) (said : Reply) (new : Held) : Type 0 where
+pub record Acts (event : Event) (old : WorldState) (answer : Reply) (new : WorldState) : Type 0 where
   pub stands : (s : Setup) (ds : Deeds) → Stands s ds old → Stands s (after s ds event) new
-  pub reply : (s : Setup) (ds : Deeds) → Stands s ds old → said ≡ reply_to s ds event
+  pub reply : (s : Setup) (ds : Deeds) → Stands s ds old → answer ≡ reply_to s ds event

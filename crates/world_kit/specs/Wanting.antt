@@ -9,7 +9,7 @@ use Rattle.world_kit.specs.declared.event.Refusal.TheVariants.{Overflow}
 use Rattle.world_kit.specs.declared.event.Reply.{Reply}
 use Rattle.world_kit.specs.declared.event.Reply.TheVariants as reply
 use Rattle.world_kit.specs.declared.setup.Setup.{Setup}
-use Rattle.world_kit.specs.Held.{Held}
+use Rattle.world_kit.specs.WorldState.{WorldState}
 use Rattle.world_kit.specs.Judged.{Deeds, judgement}
 use Rattle.world_kit.specs.Setups.{writer_at}
 use Rattle.world_kit.specs.Stands.{Stands}
@@ -20,7 +20,7 @@ TakesMemory s (event.Measure w i a v) (Overflow stream) = AllWhole (feeds_of (wr
 TakesMemory s _ _ = ⊥
 
 -- an event that wants memory is not refused, but for a refusal that takes memory to find
-pub record Wants (event : Event) (w : Held) : Type 0 where
+pub record Wants (event : Event) (w : WorldState) : Type 0 where
   pub accepted : (s : Setup) (ds : Deeds) → Stands s ds w → IfErr (judgement s ds event) (TakesMemory s event)
 
 -- of a reply to a refused event

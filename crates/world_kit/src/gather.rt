@@ -5,6 +5,7 @@ ghost use Rattle.world_kit.specs.Merging.{Merges};
 ghost use Rattle.world_kit.specs.Stands.{Acts};
 ghost use Rattle.world_kit.specs.Wanting.{OnRefused, Wants};
 
+use crate::world::export_in;
 use crate::{Refusal, Reply, World};
 use attr_kit::NoMemory;
 use gossip_kit::{HandFault, Message, Node};
@@ -20,13 +21,9 @@ impl World {
         if gateway >= self.nodes.len() {
             return Ok(Reply::Refused(Refusal::NoGateway));
         }
-        if export == 0 {
+        let Some(brought) = export_in(self.exports.as_slice(), export) else {
             return Ok(Reply::Refused(Refusal::NoExport));
-        }
-        if export > self.exports.len() as u64 {
-            return Ok(Reply::Refused(Refusal::NoExport));
-        }
-        let brought = &self.exports[(export - 1) as usize];
+        };
         let changed = self.nodes[gateway].take(brought)?;
         Ok(Reply::Changed(changed))
     }

@@ -1,7 +1,7 @@
 //! Worlds.
 ghost use Rattle.std.specs.Prelude.{◌≡◌, slice_get};
 ghost use Rattle.std.specs.Option.{option_copied};
-ghost use Rattle.world_kit.specs.Held.{export_at};
+ghost use Rattle.world_kit.specs.WorldState.{export_at};
 
 use gossip_kit::{Message, Node};
 use point_kit::Export;
@@ -23,9 +23,9 @@ impl Model for World {
     ghost use Rattle.gossip_kit.specs.contracts.node.Node as node;
     ghost use Rattle.point_kit.specs.contracts.export.Export as export;
     ghost use Rattle.writer_kit.specs.contracts.writer.Writer as writer;
-    ghost use Rattle.world_kit.specs.Held.{Held};
+    ghost use Rattle.world_kit.specs.WorldState.{WorldState};
 
-    ghost Value = { Held };
+    ghost Value = { WorldState };
 
     ghost coded = { Prim.hlevel (codes, message.the_row.coded, node.the_row.coded, export.the_row.coded, writer.the_row.coded) };
 
@@ -44,10 +44,7 @@ impl World {
     pub fn export(&self, number: u64) -> Option<&Export>
         ensures value { option_copied result ≡ export_at self.now.exports number }
     {
-        if number == 0 {
-            return None;
-        }
-        self.exports.get((number - 1) as usize)
+        export_in(self.exports.as_slice(), number)
     }
 
     /// The writer at a place. Takes no memory and constant time.
@@ -56,4 +53,14 @@ impl World {
     {
         self.writers.get(place)
     }
+}
+
+/// The export of a number, from 1, among all of them.
+pub(crate) fn export_in(exports: &[Export], number: u64) -> Option<&Export>
+    ensures value { option_copied result ≡ export_at exports.now number }
+{
+    if number == 0 {
+        return None;
+    }
+    exports.get((number - 1) as usize)
 }

@@ -7,7 +7,7 @@ use Rattle.world_kit.proofs.Replays.{answers_alike, converges, replies_length, r
 use Rattle.world_kit.specs.declared.event.Event.{Event}
 use Rattle.world_kit.specs.declared.event.Reply.{Reply}
 use Rattle.world_kit.specs.declared.setup.Setup.{Setup}
-use Rattle.world_kit.specs.Held.{Held}
+use Rattle.world_kit.specs.WorldState.{WorldState}
 use Rattle.world_kit.specs.Judged.{deeds}
 use Rattle.world_kit.specs.Stands.{Stands}
 use Rattle.world_kit.proofs.replaying.replay.Goals as goal
@@ -42,7 +42,7 @@ loop-event-preserved c =
     )
 
 -- all events are done
-ends : (s : Setup) (events : List Event) (i : ℕ) (w : Held) → length events ≤ i → Stands s (deeds s (take i events)) w → Stands s (deeds s events) w
+ends : (s : Setup) (events : List Event) (i : ℕ) (w : WorldState) → length events ≤ i → Stands s (deeds s (take i events)) w → Stands s (deeds s events) w
 ends s events i w past st = subst (λ (l : List Event). Stands s (deeds s l) w) (take_whole events i past) st
 
 pub returns-clause-converges : goal.returns-clause-converges

@@ -5,7 +5,7 @@ use Rattle.point_kit.specs.declared.export.Export.{Export}
 use Rattle.writer_kit.specs.Written.{Written}
 
 -- its writers and gateways by their places, its exports and mails in the order of their numbers
-pub record Held : Type 0 where
+pub record WorldState : Type 0 where
   pub writers : List Written
   pub nodes : List NodeView
   pub exports : List Export
