@@ -8,14 +8,15 @@ or any. A word of a group in capitals is one of the specs of the crate.
 
 In every page each relative link leads to a file and to a heading, each crate that is named is one, and no line cites a paper by number.
 In PAGES each file of the repository that is named in code letters is there, and each other name in code letters stands in the code. The
-files of specs/ that DEFINITIONS names exist. README's table has each crate once, and ARCHITECTURE's has what crates.txt says. In READ_PAGES
-no sentence has more than MOST_WORDS words, code in letters counted as one; a heading, a cell of a table and a list's item stand by themselves.
+files of specs/ that DEFINITIONS names exist. README's table has each crate once, and ARCHITECTURE's has what crates.txt says. The crates
+that README copies are COPIED and those that it stands on. In READ_PAGES no sentence has more than MOST_WORDS words, code in letters counted
+as one; a heading, a cell of a table and a list's item stand by themselves.
 
 The page of each library, the first comment of its lib.rt, names the file of its caller, whose lines it shows; but for PAGES_ALONE. Each name that it
 links stands in the crate, and each file of specs/ that it names.
 
 Each public type of a library that Rattle calls is imported by a caller in crates/uses. Of those of OF_CONTRACTS no value is made, so a clause of a
-caller names them.
+caller names them. GUIDE names each caller.
 
     tests/docs/run.py [FOLDER]      FOLDER in place of this repository
 
@@ -26,12 +27,14 @@ import re
 import sys
 
 TOP = pathlib.Path(sys.argv[1] if sys.argv[1:] else pathlib.Path(__file__).resolve().parents[2]).resolve()
-PAGES = ["README.md", *(f"docs/{it}.md" for it in ("ARCHITECTURE", "DECISIONS", "DEFINITIONS", "GOSSIP", "HISTORIES", "PERFORMANCE", "PROMISES"))]
+PAGES = ["README.md", *(f"docs/{it}.md" for it in ("ARCHITECTURE", "DECISIONS", "DEFINITIONS", "GOSSIP", "GUIDE", "HISTORIES", "PERFORMANCE", "PROMISES", "SCRIPTS"))]
 # What its users read from its beginning to its end.
 READ_PAGES = ["README.md", "docs/GUIDE.md", "docs/SCRIPTS.md"]
 MOST_WORDS = 29
+# The crate that README copies to another repository.
+COPIED = "first"
 # Names in code letters that are none of the kit's.
-FOREIGN = {"arrayvec::ArrayString", "Equivalent", "clap"}
+FOREIGN = {"arrayvec::ArrayString", "Equivalent", "clap", "HANDLES"}
 # Libraries whose pages show no caller: laws without calls, and the callers themselves.
 PAGES_ALONE = {"schedule_kit", "uses"}
 # The public types, by their crates, that contracts speak of and that no code makes.
@@ -239,6 +242,17 @@ class Docs:
             if crate not in drawn or wrong:
                 self.fault("docs/ARCHITECTURE.md", f"{crate} is not drawn as crates.txt has it: {', '.join(sorted(wrong)) or 'missing'}")
 
+    def check_copied(self):
+        loop = re.search(r"^for crate in (.*); do$", text_of(TOP / "README.md"), re.M)
+        reached, waiting = set(), [COPIED]
+        while waiting:
+            name = waiting.pop()
+            waiting += [it for it in self.crates[name] if it in self.crates and it not in reached]
+            reached.add(name)
+        wrong = reached ^ set(loop[1].split() if loop else [])
+        if wrong:
+            self.fault("README.md", f"what it copies is not {COPIED} and the crates below: {', '.join(sorted(wrong))}")
+
     def check_library_pages(self):
         for crate in self.crates:
             file = TOP / "crates" / crate / "src" / "lib.rt"
@@ -266,6 +280,11 @@ class Docs:
     def check_callers(self):
         """What a library re-exports in its lib.rt and defines as a type has a caller: one that imports it, or whose clauses name it."""
         texts = [text_of(it) for it in TOP.glob("crates/uses/src/**/*.rt")]
+        guide = text_of(TOP / "docs" / "GUIDE.md")
+        for name in re.findall(r"^pub fn (\w+)", "\n".join(texts), re.M):
+            self.claims += 1
+            if f"`{name}`" not in guide:
+                self.fault("docs/GUIDE.md", f"its callers are without `{name}`")
         imports = [it for text in texts for it in re.findall(r"^use (\w+)::([^;]*);", text, re.M)]
         called = {(crate, name) for crate, names in imports for name in re.findall(r"\w+", names)}
         cited = {it for text in texts for it in re.findall(r"^ghost use Rattle\.(\w+)\.specs\.declared\.[\w.]*?(\w+)(?:\.TheVariants)?(?:\.\{| as )", text, re.M)}
@@ -290,6 +309,7 @@ class Docs:
             self.check_sentences(page)
         self.check_definitions()
         self.check_tables()
+        self.check_copied()
         self.check_library_pages()
         self.check_callers()
 

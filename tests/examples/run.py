@@ -12,7 +12,8 @@ there does all of it.
 
 What PAGES quote of the crates must stand there: a comment `<!-- FILE: fn NAME -->` names what the next block, fenced as
 `rust`, has whole, and `, body` after it asks for the lines between its braces. Under the words `otm --help`, `otm help fleet` and
-`otm --version` COMMANDS_PAGE shows what these print.
+`otm --version` COMMANDS_PAGE shows what these print, and below SENTENCES_HEADING each reason that a bad line gets here, and no
+other. Each text of REASONS is part of what some bad line gets.
 
 This ends with a status other than 0 where one differs, or where there is no program or no script."""
 import os
@@ -28,6 +29,8 @@ BUILDS = ("otm", "otm.by-rattle")
 SECONDS = 60
 PAGES = ("README.md", "docs/GUIDE.md", "docs/SCRIPTS.md")
 COMMANDS_PAGE = "docs/SCRIPTS.md"
+SENTENCES_HEADING = "## What is wrong with a bad line"
+REASONS = "crates/script_kit/src/reason.rt"
 
 NO_COMMAND = b"""error: 'otm' requires a subcommand but one was not provided
   [subcommands: run, fleet, help]
@@ -222,7 +225,9 @@ LATE = [
     (b"newest 1 b 100", "'b' names no writer"),
 ]
 
-# What is said of the bad lines of rows; of those that are not here, that `begin` is refused.
+REFUSED = "'begin' is refused"
+
+# What is said of the bad lines of rows; of those that are not here, REFUSED.
 ROW_SENTENCES = {
     "bad-double-space": SPACES,
     "bad-id-range": "'4294967296' is too great for the id of a gateway",
@@ -331,6 +336,25 @@ def shown():
         yield f"{COMMANDS_PAGE}: {words}", "" if block in page else "another text, or none"
 
 
+def reason_in(sentence):
+    """What a sentence says of its word, without the word; and without the form or the noun that it names."""
+    return re.sub(r"^(wants|is too great for) .*", r"\1", re.sub(r"^'[^']*' ", "", sentence))
+
+
+def told_sentences():
+    """Each reason that a bad line gets here, or that COMMANDS_PAGE tells, and each text of REASONS; and what is wrong with it, or an empty text."""
+    section = (TOP / COMMANDS_PAGE).read_text().split(SENTENCES_HEADING)[1].split("\n## ")[0]
+    told = {reason_in(it) for cell in re.findall(r"^\| (`.*?) \| ", section, re.M) for it in re.findall(r"`([^`]+)`", cell)}
+    sentences = {it for _, lines in bad_lines() for _, it in lines} | {*ROW_SENTENCES.values(), REFUSED}
+    # (of a kind the page tells once, and beside it what a view may have)
+    tried = {reason_in(it) for it in sentences} - {NO_KIND_ASKED}
+    for reason in sorted(told | tried):
+        yield f"{COMMANDS_PAGE}: {reason}", "" if reason in told & tried else "no bad line gets it" if reason in told else "the page has it not"
+    for text in re.findall(r'"([^"]+)"', (TOP / REASONS).read_text()):
+        if "{" not in text:
+            yield f"{REASONS}: {text}", "" if any(text in it for it in sentences) else "no bad line gets it"
+
+
 def said(text, sentence):
     """What the standard error says of the bad line that the last line of this text tells."""
     return text.splitlines()[-1] + b": " + sentence.encode() + b"\n"
@@ -350,7 +374,7 @@ def cases(program):
         yield script.name, ended(program, ["run"], (0, script.with_suffix(".out").read_bytes(), b""), input=script.read_bytes())
     for script in sorted(ROWS.glob("*.otm")):
         text = script.with_suffix(".out").read_bytes()
-        wanted = (1, text, said(text, ROW_SENTENCES.get(script.stem, "'begin' is refused"))) if BAD_END.fullmatch(text) else (0, text, b"")
+        wanted = (1, text, said(text, ROW_SENTENCES.get(script.stem, REFUSED))) if BAD_END.fullmatch(text) else (0, text, b"")
         yield script.stem, ended(program, ["run"], wanted, input=script.read_bytes())
     for before, lines in bad_lines():
         for line, sentence in lines:
@@ -370,7 +394,7 @@ def main():
     failed = not list((TOP / "examples").glob("*.otm")) or not list(ROWS.glob("*.otm")) or not any(path.name == BUILDS[0] for path in programs)
     if failed:
         print("NO PROGRAM OR NO SCRIPT: rt ci, or rt run in crates/otm, makes the program")
-    for name, told in [*quotes(), *shown()]:
+    for name, told in [*quotes(), *shown(), *told_sentences()]:
         failed = failed or bool(told)
         print(f"{name}: {'NOT AS TOLD: ' + told if told else 'as told'}")
     for program in programs:
