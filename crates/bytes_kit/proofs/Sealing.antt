@@ -89,18 +89,18 @@ module _ {A : Type 0} (head : List ℕ) (parts : A → List ℕ) where
 abbrev pub fault_of : Parts → Option ExportFault
 fault_of p = export_fault p.1.0 p.1.1.0 p.1.1.1
 
-made : (x : Parts) → fault_of x ≡ None → Export
-made x sound = record { writer = x.0; start = x.1.0; time = x.1.1.0; points = x.1.1.1; sound = sound }
+export_of : (x : Parts) → fault_of x ≡ None → Export
+export_of x sound = record { writer = x.0; start = x.1.0; time = x.1.1.0; points = x.1.1.1; sound = sound }
 
-same_made : (x y : Parts) → x ≡ y → (s : fault_of x ≡ None) (t : fault_of y ≡ None) → made x s ≡ made y t
-same_made x y h s t =
+same_export_of : (x y : Parts) → x ≡ y → (s : fault_of x ≡ None) (t : fault_of y ≡ None) → export_of x s ≡ export_of y t
+same_export_of x y h s t =
     let one : IsProp (fault_of x ≡ None) = hlevel props in
-    subst (λ (z : Parts). (u : fault_of z ≡ None) → made x s ≡ made z u) h (λ u. ap (λ q. made x q) (one s u)) t
+    subst (λ (z : Parts). (u : fault_of z ≡ None) → export_of x s ≡ export_of z u) h (λ u. ap (λ q. export_of x q) (one s u)) t
 
 -- exports of the same parts are one
 pub same_export : (a b : Export) → parts_of a ≡ parts_of b → a ≡ b
-unfolding made
-same_export a b h = same_made (parts_of a) (parts_of b) h a.sound b.sound
+unfolding export_of
+same_export a b h = same_export_of (parts_of a) (parts_of b) h a.sound b.sound
 
 -- the fault of parts that make an export
 pub sound_parts : (x : Parts) (e : Export) → x ≡ parts_of e → fault_of x ≡ None

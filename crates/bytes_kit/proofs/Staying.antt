@@ -26,8 +26,8 @@ use Rattle.point_kit.proofs.StateLaws.{get-join_maps, get-state_of}
 use Rattle.bytes_kit.specs.MessageFits.{IsSoundEntry, IsSoundPoints}
 
 -- two sound cells of one key joined are sound
-joined : (k : Key) (a b : Cell Payload) → IsSoundEntry (k, a) → IsSoundEntry (k, b) → IsSoundEntry (k, join_cells payload_eq a b)
-joined k a b p q = elim (nat_lt a.time b.time) as (λ t. IsSoundEntry (k, if t then b else if nat_lt b.time a.time then a else record { time = a.time; held = join_held payload_eq a.held b.held })) [
+join_sound : (k : Key) (a b : Cell Payload) → IsSoundEntry (k, a) → IsSoundEntry (k, b) → IsSoundEntry (k, join_cells payload_eq a b)
+join_sound k a b p q = elim (nat_lt a.time b.time) as (λ t. IsSoundEntry (k, if t then b else if nat_lt b.time a.time then a else record { time = a.time; held = join_held payload_eq a.held b.held })) [
   | true ↦ q
   | false ↦ elim (nat_lt b.time a.time) as (λ t. IsSoundEntry (k, if t then a else record { time = a.time; held = join_held payload_eq a.held b.held })) [
     | true ↦ p
@@ -38,7 +38,7 @@ joined k a b p q = elim (nat_lt a.time b.time) as (λ t. IsSoundEntry (k, if t t
 options : (k : Key) (a b : Option (Cell Payload)) → IfSome a (λ c. IsSoundEntry (k, c)) → IfSome b (λ c. IsSoundEntry (k, c)) → IfSome (join_options (join_cells payload_eq) a b) (λ c. IsSoundEntry (k, c))
 options k None b p q = q
 options k (Some a) None p q = p
-options k (Some a) (Some b) p q = joined k a b p q
+options k (Some a) (Some b) p q = join_sound k a b p q
 
 -- sound at each key
 here : (m : Points) → IsSoundPoints m → (k : Key) (o : Option (Cell Payload)) → get m k ≡ o → IfSome o (λ c. IsSoundEntry (k, c))

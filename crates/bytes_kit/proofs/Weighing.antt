@@ -27,7 +27,7 @@ use Rattle.bytes_kit.specs.Checksum.{checksum}
 use Rattle.bytes_kit.specs.Format.{Parts, parts, parts_of, head, with_checksum, bytes_of, varint, integer, text, text_or_place, text_behind, list_of, pair_behind, past_pair, forms_behind, past_all, list_behind, value, past_value, attributes, past_attributes, shape, stream, past_stream, stream_or_last, past_stream_or_last, point_stream, past_point_stream, payload, point, past_point, writer, past_writer}
 use Rattle.bytes_kit.specs.Laws.{varint_bytes, integer_bytes}
 use Rattle.bytes_kit.specs.MessageLaws.{entry_bytes}
-use Rattle.bytes_kit.specs.Messages.{Earlier, Entry, common, common_of, has_few_bounds, is_light, common_form, key_rest, past_rest, key, entry, past_entry, nothing_earlier, cell, cells, payload_or_conflict, body_bytes, message_head, said, said_of, bytes_of_message, bytes_of_said, Said}
+use Rattle.bytes_kit.specs.Messages.{Earlier, Entry, common, common_of, has_few_bounds, is_light, common_form, key_rest, past_rest, key, entry, past_entry, nothing_earlier, cell, cells, payload_or_conflict, body_bytes, message_head, message_parts, parts_of_message, bytes_of_message, bytes_of_message_parts, MessageParts}
 use Rattle.bytes_kit.specs.Past.{Past, no_past, place_of, more_texts, texts_behind, past_text, is_short, is_last}
 use Rattle.bytes_kit.specs.Weights.{text_weight, list_weight, value_weight, pair_weight, shape_weight, stream_weight, payload_weight, held_stream_weight, point_weight, points_weight, export_weight, held_weight, entry_weight, carried_weight, message_weight}
 use Rattle.bytes_kit.specs.declared.carried.Carried.{Carried}
@@ -352,9 +352,9 @@ carried_weighs (bodies.Whole es) = omega (arith, cells_weigh es)
 carried_weighs (bodies.Delta number es) = omega (arith, cells_weigh es, length-append (varint number) (cells es))
 carried_weighs (bodies.Ack number) = omega arith
 
-said_weighs : (s : Said) → carried_weight s.2 ≤ 65 * length (bytes_of_said s)
-said_weighs s =
-    omega (arith, carried_weighs s.2, length-append (varint s.0) (varint s.1 ++ body_bytes s.2), length-append (varint s.1) (body_bytes s.2), length-append message_head (said s), sealed_long (message_head ++ said s))
+message_parts_weigh : (s : MessageParts) → carried_weight s.2 ≤ 65 * length (bytes_of_message_parts s)
+message_parts_weigh s =
+    omega (arith, carried_weighs s.2, length-append (varint s.0) (varint s.1 ++ body_bytes s.2), length-append (varint s.1) (body_bytes s.2), length-append message_head (message_parts s), sealed_long (message_head ++ message_parts s))
 
 pub message_weighs : (m : MessageView) → message_weight m ≤ 65 * length (bytes_of_message m)
-message_weighs m = said_weighs (said_of m)
+message_weighs m = message_parts_weigh (parts_of_message m)

@@ -6,7 +6,7 @@ use Rattle.point_kit.specs.declared.export_fault.ExportFault.{ExportFault}
 use Rattle.bytes_kit.specs.Checksum.{checksum}
 use Rattle.bytes_kit.specs.Format.{Parts, parts, head, head_of, bytes_of_parts}
 use Rattle.bytes_kit.specs.MessageFits.{carried_fault}
-use Rattle.bytes_kit.specs.Messages.{Said, said, bytes_of_said, message_head}
+use Rattle.bytes_kit.specs.Messages.{MessageParts, message_parts, bytes_of_message_parts, message_head}
 use Rattle.bytes_kit.specs.declared.fault.DecodeFault.{DecodeFault}
 use Rattle.bytes_kit.specs.declared.fault.DecodeFault.TheVariants as faults
 
@@ -77,9 +77,9 @@ Explains bytes fault = IsPartsFault head parts bytes fault
 
 -- the bytes are those of a message with a cell that no export brings
 abbrev pub MakesNoMessage : List ℕ → ExportFault → Type 0
-MakesNoMessage bytes fault = (s : Said) × (bytes ≡ bytes_of_said s) × (carried_fault s.2 ≡ Some fault)
+MakesNoMessage bytes fault = (s : MessageParts) × (bytes ≡ bytes_of_message_parts s) × (carried_fault s.2 ≡ Some fault)
 
 -- what a fault of decoding a message says of the bytes
 abbrev pub ExplainsMessage : List ℕ → DecodeFault → Type 0
 ExplainsMessage bytes (faults.BadExport fault) = MakesNoMessage bytes fault
-ExplainsMessage bytes fault = IsPartsFault message_head said bytes fault
+ExplainsMessage bytes fault = IsPartsFault message_head message_parts bytes fault

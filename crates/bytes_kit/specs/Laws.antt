@@ -110,7 +110,7 @@ module _ {A B : Type 0} (first : A → List ℕ) (second : B → List ℕ) where
   pair_bytes some p = omega (arith, some p.0, length-append (first p.0) (second p.1))
 
 -- a value that can be made again of its parts
-pub code_through : {A B : Type 0} (code : B → List ℕ) (parts : A → B) (made : B → A) → ((a : A) → made (parts a) ≡ a) → IsCode code → IsCode (λ a. code (parts a))
-code_through code parts made back is a b s t e =
+pub code_through : {A B : Type 0} (code : B → List ℕ) (parts : A → B) (whole : B → A) → ((a : A) → whole (parts a) ≡ a) → IsCode code → IsCode (λ a. code (parts a))
+code_through code parts whole back is a b s t e =
     let both = is (parts a) (parts b) s t e in
-    (sym (back a) ∙ ap made both.0 ∙ back b, both.1)
+    (sym (back a) ∙ ap whole both.0 ∙ back b, both.1)

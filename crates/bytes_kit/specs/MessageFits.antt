@@ -20,7 +20,7 @@ use Rattle.point_kit.specs.declared.payload.Payload.TheVariants as payloads
 use Rattle.point_kit.specs.declared.shape.Shape.{Shape}
 use Rattle.point_kit.specs.declared.shape.Shape.TheVariants as shapes
 use Rattle.bytes_kit.specs.Fits.{IsNumber, IsWriter, IsStream, IsSet, IsPayload}
-use Rattle.bytes_kit.specs.Messages.{Entry, Said, said_of}
+use Rattle.bytes_kit.specs.Messages.{Entry, MessageParts, parts_of_message}
 use Rattle.bytes_kit.specs.declared.carried.Carried.{Carried}
 use Rattle.bytes_kit.specs.declared.carried.Carried.TheVariants as bodies
 use Rattle.bytes_kit.specs.declared.fault.DecodeFault.{DecodeFault}
@@ -56,8 +56,8 @@ IsCarried (bodies.Whole es) = IsCells es
 IsCarried (bodies.Delta number es) = IsNumber number × IsCells es
 IsCarried (bodies.Ack number) = IsNumber number
 
-abbrev pub IsSaid : Said → Type 0
-IsSaid s = IsId s.0 × (IsId s.1 × IsCarried s.2)
+abbrev pub IsMessageParts : MessageParts → Type 0
+IsMessageParts s = IsId s.0 × (IsId s.1 × IsCarried s.2)
 
 -- the keys of what is carried rise
 abbrev pub IsInOrder : Carried → Type 0
@@ -72,7 +72,7 @@ IsOneOf points delta None = Unit {0}
 
 -- what every message is
 abbrev pub IsMessage : MessageView → Type 0
-IsMessage m = IsSaid (said_of m) × IsOneOf m.points m.delta m.ack
+IsMessage m = IsMessageParts (parts_of_message m) × IsOneOf m.points m.delta m.ack
 
 -- a cell that an export, or several, can bring: its time is after the start, and its payload is one of its stream's shape
 abbrev pub IsSoundEntry : Entry → Type 0

@@ -133,14 +133,14 @@ abbrev pub message_head : List ℕ
 message_head = head_of 77
 
 -- from whom, to whom, and what is carried
-abbrev pub Said : Type 0
-Said = ℕ × ℕ × Carried
+abbrev pub MessageParts : Type 0
+MessageParts = ℕ × ℕ × Carried
 
-abbrev pub said : Said → List ℕ
-said s = varint s.0 ++ (varint s.1 ++ body_bytes s.2)
+abbrev pub message_parts : MessageParts → List ℕ
+message_parts s = varint s.0 ++ (varint s.1 ++ body_bytes s.2)
 
-abbrev pub bytes_of_said : Said → List ℕ
-bytes_of_said s = with_checksum (message_head ++ said s)
+abbrev pub bytes_of_message_parts : MessageParts → List ℕ
+bytes_of_message_parts s = with_checksum (message_head ++ message_parts s)
 
 -- of an Ack its number, of a delta its number and the cells, else the cells
 abbrev pub body_bytes_of : Points → Option ℕ → Option ℕ → Carried
@@ -148,8 +148,8 @@ body_bytes_of points delta (Some number) = bodies.Ack number
 body_bytes_of points (Some number) None = bodies.Delta number (entries points)
 body_bytes_of points None None = bodies.Whole (entries points)
 
-abbrev pub said_of : MessageView → Said
-said_of m = (m.from, m.to, body_bytes_of m.points m.delta m.ack)
+abbrev pub parts_of_message : MessageView → MessageParts
+parts_of_message m = (m.from, m.to, body_bytes_of m.points m.delta m.ack)
 
 abbrev pub bytes_of_message : MessageView → List ℕ
-bytes_of_message m = bytes_of_said (said_of m)
+bytes_of_message m = bytes_of_message_parts (parts_of_message m)

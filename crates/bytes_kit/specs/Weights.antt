@@ -12,7 +12,7 @@ use Rattle.point_kit.specs.declared.payload.Payload.TheVariants as payloads
 use Rattle.point_kit.specs.declared.shape.Shape.{Shape}
 use Rattle.point_kit.specs.declared.shape.Shape.TheVariants as shapes
 use Rattle.point_kit.specs.declared.stream.Stream.{Stream}
-use Rattle.bytes_kit.specs.Messages.{Entry, said_of}
+use Rattle.bytes_kit.specs.Messages.{Entry, parts_of_message}
 use Rattle.bytes_kit.specs.Past.{is_short, is_last}
 use Rattle.bytes_kit.specs.declared.carried.Carried.{Carried}
 use Rattle.bytes_kit.specs.declared.carried.Carried.TheVariants as bodies
@@ -76,4 +76,4 @@ carried_weight (bodies.Delta number es) = list_weight entry_weight es
 carried_weight (bodies.Ack number) = 0
 
 abbrev pub message_weight : MessageView → ℕ
-message_weight m = carried_weight (said_of m).2
+message_weight m = carried_weight (parts_of_message m).2

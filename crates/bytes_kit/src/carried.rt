@@ -104,8 +104,8 @@ impl Carried {
     }
 }
 
-// The cells joined one by one, in the order of their keys.
-fn joined(alloc: Global, id: u32, cells: Vec<(Key, Cell)>) -> Result<Gateway, NoMemory>
+// Joins cells one by one, in the order of their keys.
+fn gather(alloc: Global, id: u32, cells: Vec<(Key, Cell)>) -> Result<Gateway, NoMemory>
     requires { is_sorted key_cmp cells.items ≡ true }
     ensures { IfOk result (λ g. g.points ≡ from_entries cells.items) }
 {
@@ -121,5 +121,5 @@ fn gateway_of(alloc: Global, id: u32, cells: Seq<(Key, Cell)>) -> Result<Gateway
     requires { is_sorted key_cmp cells ≡ true }
     ensures { IfOk result (λ g. entries g.points ≡ cells) }
 {
-    joined(alloc, id, cells.into_vec())
+    gather(alloc, id, cells.into_vec())
 }

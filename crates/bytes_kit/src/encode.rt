@@ -52,8 +52,8 @@ fn write_sealed(export: &Export, out: &mut Vec<u8>) -> Result<(), NoMemory>
 ///
 /// Each export has one form, told in docs/BYTES.md, and [`crate::decode_export`] gives the export back of it: that asks for
 /// values of the sizes that the types have, which `value` says of every export that was written. Refused only where memory
-/// is; the buffer is then empty. O(n) in the bytes, and a hash look-up for each text; beside the buffer memory for each text of
-/// at most 64 bytes that comes, once.
+/// is; the buffer is then empty. O(n) in the bytes, and a hash look-up for each text but those that came of late; beside the
+/// buffer memory for each text of at most 64 bytes that comes, once.
 pub fn encode_export_into(export: &Export, out: &mut Vec<u8>) -> Result<(), NoMemory>
     ensures ok { OnOk result (out.new.items ≡ bytes_of export.now) }
     ensures value { OnOk result (IsExport export.now) }

@@ -1,5 +1,5 @@
 //! What came before a form: texts that are not written again, and the last stream.
-ghost use Rattle.std.specs.Prelude.{◌≡◌, ◌<◌, ◌≤◌, ◌^◌, length, true, IfNone, IfOk, IfSome, OnOk, Some, None};
+ghost use Rattle.std.specs.Prelude.{◌≡◌, ◌+◌, ◌<◌, ◌≤◌, ◌^◌, length, true, IfNone, IfOk, IfSome, OnOk, Some, None};
 ghost use Rattle.bytes_kit.specs.Fits.{IsStream};
 ghost use Rattle.bytes_kit.specs.Past.{no_past, place_of, past_text, with_stream, is_last};
 
@@ -12,12 +12,46 @@ use std::marker::Model;
 /// So long is a text that has a place.
 pub(crate) const LONGEST: usize = 64;
 
+// How many places are noted.
+const NOTES: usize = 1024;
+
 /// The texts that came, each once, in the order in which they first came; and the stream that came last. A long text has no
 /// place: it would be copied for each of its uses, and what is read would take many times the memory of its bytes.
 #[derive(Drop)]
 pub(crate) struct History {
     texts: IndexSet<Txt>,
     stream: Option<SharedStream>,
+    /// The place of the text that was noted last of those that share a note: a guess, which is looked at before the hash.
+    notes: [u32; NOTES],
+}
+
+// Eight bytes as a number.
+fn word(bytes: &[u8; 30], place: usize) -> u64
+    requires { place + 8 ≤ 30 }
+{
+    u64::from_le_bytes([
+        bytes[place],
+        bytes[place + 1],
+        bytes[place + 2],
+        bytes[place + 3],
+        bytes[place + 4],
+        bytes[place + 5],
+        bytes[place + 6],
+        bytes[place + 7],
+    ])
+}
+
+// Which note is a text's: a number that most texts have alone, made of fewer steps than a hash.
+fn note_of(text: &Txt) -> usize
+    ensures { result < NOTES }
+{
+    let Some(short) = text.short() else {
+        return text.as_str().len() % NOTES;
+    };
+    let bytes = short.room();
+    let word = word(bytes, 0) ^ word(bytes, 8) ^ word(bytes, 16) ^ word(bytes, 22);
+    let mixed = word.wrapping_mul(0x9e37_79b9_7f4a_7c15) >> 32;
+    mixed as usize % NOTES
 }
 
 impl Model for History {
@@ -40,17 +74,62 @@ impl History {
         History {
             texts: IndexSet::new(alloc),
             stream: None,
+            notes: [0; NOTES],
         }
     }
 
-    /// The place of a text among those that came. A hash look-up.
+    // The place of a text among those that came. A hash look-up.
     #[tactic(auto, unfolding(crate::specs::Past::place_of))]
-    pub(crate) fn place(&self, text: &Txt) -> Option<usize>
+    fn place(&self, text: &Txt) -> Option<usize>
         ensures value { result ≡ place_of self.now.texts text.now }
         ensures small { IfSome result (λ place. place < 2 ^ 63) }
     {
         let _len = self.texts.len();
         self.texts.get_index_of(text)
+    }
+
+    // The place of a text where it is the noted one.
+    fn recall(&self, note: usize, text: &Txt) -> Option<usize>
+        requires { note < NOTES }
+        ensures value { IfSome result (λ place. place_of self.now.texts text.now ≡ Some place) }
+        ensures small { IfSome result (λ place. place < 2 ^ 63) }
+    {
+        let place = self.notes[note];
+        match self.text_at(u64::from(place)) {
+            Some(found) if *found == *text => Some(place as usize),
+            _ => None,
+        }
+    }
+
+    // Notes a place, if it is a number of 32 bits.
+    fn note(&mut self, note: usize, place: usize)
+        requires { note < NOTES }
+        ensures { self.new ≡ self.old }
+    {
+        if let Ok(place) = u32::try_from(place) {
+            self.notes[note] = place;
+        }
+    }
+
+    /// The place of a text among those that came; where it has none, it comes now. A hash look-up, but for texts that are noted.
+    pub(crate) fn enter(&mut self, text: &Txt) -> Result<Option<usize>, NoMemory>
+        ensures value { IfOk result (λ place. place ≡ place_of self.old.texts text.now) }
+        ensures small { IfOk result (λ place. IfSome place (λ n. n < 2 ^ 63)) }
+        ensures history { OnOk result (self.new ≡ past_text self.old text.now) }
+    {
+        let note = note_of(text);
+        if let Some(place) = self.recall(note, text) {
+            return Ok(Some(place));
+        }
+        let place = self.place(text);
+        match place {
+            Some(place) => self.note(note, place),
+            None => {
+                self.note(note, self.count());
+                self.add(text)?;
+            }
+        }
+        Ok(place)
     }
 
     /// How many texts came.
@@ -69,9 +148,9 @@ impl History {
         self.texts.get_index(place as usize)
     }
 
-    /// A text that had no place came.
+    // A text that had no place came.
     #[tactic(auto, unfolding(crate::specs::Past::place_of))]
-    pub(crate) fn add(&mut self, text: &Txt) -> Result<(), NoMemory>
+    fn add(&mut self, text: &Txt) -> Result<(), NoMemory>
         requires { place_of self.old.texts text.now ≡ None }
         ensures { OnOk result (self.new ≡ past_text self.old text.now) }
     {

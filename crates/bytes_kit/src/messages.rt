@@ -2,8 +2,8 @@
 ghost use Rattle.std.specs.Prelude.{◌≡◌, ◌≢◌, ◌++◌, [], IfErr, IfOk, OnErr, OnOk};
 ghost use Rattle.gossip_kit.specs.Views.{MessageView};
 ghost use Rattle.bytes_kit.specs.Explaining.{ExplainsMessage, IsPartsFault};
-ghost use Rattle.bytes_kit.specs.MessageFits.{GivesMessage, IsInOrder, IsMessage, IsSaid, IsSoundPoints};
-ghost use Rattle.bytes_kit.specs.Messages.{Said, bytes_of_message, bytes_of_said, message_head, said, said_of};
+ghost use Rattle.bytes_kit.specs.MessageFits.{GivesMessage, IsInOrder, IsMessage, IsMessageParts, IsSoundPoints};
+ghost use Rattle.bytes_kit.specs.Messages.{MessageParts, bytes_of_message, bytes_of_message_parts, message_head, message_parts, parts_of_message};
 ghost use Rattle.bytes_kit.specs.Explaining.{IsReadFault};
 ghost use Rattle.bytes_kit.specs.Reading.{Reads};
 ghost use Rattle.bytes_kit.specs.declared.fault.DecodeFault.TheVariants as faults;
@@ -23,8 +23,8 @@ use std::alloc::Global;
 const HEAD: [u8; 5] = [75, 84, 83, 77, 2];
 
 // What stands between the head and the checksum.
-fn write_said(message: &Message, out: &mut Vec<u8>) -> Result<(), NoMemory>
-    ensures written { OnOk result (out.new.items ≡ out.old.items ++ said (said_of message.now)) }
+fn write_parts(message: &Message, out: &mut Vec<u8>) -> Result<(), NoMemory>
+    ensures written { OnOk result (out.new.items ≡ out.old.items ++ message_parts (parts_of_message message.now)) }
     ensures value { OnOk result (IsMessage message.now) }
 {
     message.from().write(out)?;
@@ -39,7 +39,7 @@ fn write_sealed(message: &Message, out: &mut Vec<u8>) -> Result<(), NoMemory>
     ensures value { OnOk result (IsMessage message.now) }
 {
     out.extend_from_slice(&HEAD)?;
-    write_said(message, out)?;
+    write_parts(message, out)?;
     seal(out)
 }
 
@@ -48,7 +48,7 @@ fn write_sealed(message: &Message, out: &mut Vec<u8>) -> Result<(), NoMemory>
 /// Each message has one form, told in docs/BYTES.md: of two whose sender, receiver, number and cells are equal the bytes
 /// are equal. [`decode_message`] gives the message back of it where each cell is one that an export can bring, as all cells
 /// are that came by exports. Refused only where memory is; the buffer is then empty. O(n) in the bytes, and a hash look-up for
-/// each text; beside the buffer memory for each text of at most 64 bytes that comes, once.
+/// each text but those that came of late; beside the buffer memory for each text of at most 64 bytes that comes, once.
 pub fn encode_message_into(message: &Message, out: &mut Vec<u8>) -> Result<(), NoMemory>
     ensures ok { OnOk result (out.new.items ≡ bytes_of_message message.now) }
     ensures value { OnOk result (IsMessage message.now) }
@@ -73,8 +73,8 @@ pub fn encode_message(alloc: Global, message: &Message) -> Result<Vec<u8>, NoMem
 }
 
 // Sender, receiver and what is carried.
-fn read_said(reader: &mut Reader<'_>) -> Result<(u32, u32, Carried), DecodeFault>
-    ensures found { Reads said IsSaid reader.old.rest result reader.new.rest }
+fn read_parts(reader: &mut Reader<'_>) -> Result<(u32, u32, Carried), DecodeFault>
+    ensures found { Reads message_parts IsMessageParts reader.old.rest result reader.new.rest }
     ensures sorted { IfOk result (λ s. IsInOrder s.2) }
     ensures end { reader.new.end ≡ reader.old.end }
     ensures fault { IfErr result (IsReadFault reader.old.end) }
@@ -87,14 +87,14 @@ fn read_said(reader: &mut Reader<'_>) -> Result<(u32, u32, Carried), DecodeFault
 
 // The same of all bytes, between head and checksum.
 fn read_message(alloc: Global, bytes: &[u8]) -> Result<(u32, u32, Carried), DecodeFault>
-    ensures ok { IfOk result (λ s. bytes.now ≡ bytes_of_said s) }
+    ensures ok { IfOk result (λ s. bytes.now ≡ bytes_of_message_parts s) }
     ensures sorted { IfOk result (λ s. IsInOrder s.2) }
-    ensures err { IfErr result (λ f. f ≢ faults.NoMemory → (s : Said) → IsSaid s → bytes.now ≢ bytes_of_said s) }
-    ensures fault { IfErr result (λ f. IsPartsFault message_head said bytes.now f) }
+    ensures err { IfErr result (λ f. f ≢ faults.NoMemory → (s : MessageParts) → IsMessageParts s → bytes.now ≢ bytes_of_message_parts s) }
+    ensures fault { IfErr result (λ f. IsPartsFault message_head message_parts bytes.now f) }
 {
     let mut reader = Reader::new(alloc, bytes);
     read_head(&mut reader, b'M')?;
-    let parts = read_said(&mut reader)?;
+    let parts = read_parts(&mut reader)?;
     let (body, _) = bytes.split_at(bytes.len() - reader.rest_len());
     read_seal(&mut reader, checksum(body))?;
     Ok(parts)

@@ -33,10 +33,9 @@ fn read_new(
     ensures fault { IfErr result (IsReadFault reader.old.end) }
 {
     let text = Txt::read(reader)?;
-    if history.place(&text).is_some() {
+    if history.enter(&text)?.is_some() {
         return Err(DecodeFault::NotCanonical(place));
     }
-    history.add(&text)?;
     Ok(text)
 }
 
@@ -48,13 +47,14 @@ impl Passage for Txt {
     ghost is_value = { IsText };
 
     fn write_behind(&self, history: &mut History, out: &mut Vec<u8>) -> Result<(), NoMemory> {
-        if let Some(place) = history.place(self) {
-            let _bytes = self.as_str().as_bytes();
-            return (place as u64 + 1).write(out);
+        let _bytes = self.as_str().as_bytes();
+        match history.enter(self)? {
+            Some(place) => (place as u64 + 1).write(out),
+            None => {
+                out.push(0)?;
+                self.write(out)
+            }
         }
-        out.push(0)?;
-        self.write(out)?;
-        history.add(self)
     }
 
     fn read_behind(reader: &mut Reader<'_>, history: &mut History) -> Result<Txt, DecodeFault> {

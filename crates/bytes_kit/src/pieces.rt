@@ -53,13 +53,24 @@ impl Piece for u64 {
 
     ghost is_value = { IsNumber };
 
+    #[inline]
     #[tactic(auto, unfolding(crate::specs::Format::varint))]
     fn write(&self, out: &mut Vec<u8>) -> Result<(), NoMemory> {
+        // Most numbers are one group.
+        if *self < 128 {
+            out.push(*self as u8)?;
+            return Ok(());
+        }
         write_groups(*self, 9, out)
     }
 
+    #[inline]
     #[tactic(auto, unfolding(crate::specs::Format::varint))]
     fn read(reader: &mut Reader<'_>) -> Result<u64, DecodeFault> {
+        // Most numbers are one group.
+        if let Some(group) = reader.last_group() {
+            return Ok(u64::from(group));
+        }
         read_groups(reader, 9)
     }
 

@@ -1,5 +1,5 @@
 //! A cursor over bytes.
-ghost use Rattle.std.specs.Prelude.{◌≡◌, ◌-◌, ◌<◌, ◌≤◌, ◌++◌, [], ◌∷◌, List, ℕ, true, false, length, IfOk, OnErr, IfErr, ◌≢◌};
+ghost use Rattle.std.specs.Prelude.{◌≡◌, ◌-◌, ◌<◌, ◌≤◌, ◌++◌, [], ◌∷◌, List, ℕ, true, false, length, IfOk, OnErr, IfErr, IfNone, IfSome, ◌≢◌};
 ghost use Rattle.bytes_kit.specs.declared.fault.DecodeFault.TheVariants as faults;
 
 use crate::DecodeFault;
@@ -84,6 +84,23 @@ impl<'a> Reader<'a> {
                 Ok(*byte)
             }
             [] => Err(DecodeFault::Truncated(self.end)),
+        }
+    }
+
+    /// The next byte, if it is below 128 and so the last group of a number. Else nothing is passed.
+    #[inline]
+    pub(crate) fn last_group(&mut self) -> Option<u8>
+        ensures some { IfSome result (λ b. self.old.rest ≡ b ∷ self.new.rest) }
+        ensures last { IfSome result (λ b. b < 128) }
+        ensures none { IfNone result (self.new.rest ≡ self.old.rest) }
+        ensures end { self.new.end ≡ self.old.end }
+    {
+        match self.rest {
+            [byte, rest @ ..] if *byte < 128 => {
+                self.rest = rest;
+                Some(*byte)
+            }
+            _ => None,
         }
     }
 

@@ -13,4 +13,4 @@ kept (Ok g) es fs same h is = ap entries is ∙ gathered es (ap (is_sorted key_c
 kept (Err e) es fs same h is = tt
 
 pub returns : goal.returns
-returns c = kept c.joined.result c.into_vec.result.items c.args.cells c.into_vec.ensures c.requires c.joined.ensures
+returns c = kept c.gather.result c.into_vec.result.items c.args.cells c.into_vec.ensures c.requires c.gather.ensures

@@ -26,5 +26,5 @@ pub returns-clause-found : goal.returns-clause-found
 returns-clause-found c =
     let x : Parts = (c.in_ok-writer.writer, (c.in_ok-writer.start, (c.in_ok-writer.time, c.in_ok-writer.points))) in
     let found = c.in_ok-build.field-0 in
-    let made : parts_of found ≡ x = λ i. (c.in_ok-build.ensures.writer i, (c.in_ok-build.ensures.start i, (c.in_ok-build.ensures.taken_at i, c.in_ok-build.ensures.points i))) in
-    λ e fit is. same_export found e (made ∙ same_parts head parts parts_code c.args.bytes.now x (parts_of e) c.in_ok-writer.ensures.ok is)
+    let has_parts : parts_of found ≡ x = λ i. (c.in_ok-build.ensures.writer i, (c.in_ok-build.ensures.start i, (c.in_ok-build.ensures.taken_at i, c.in_ok-build.ensures.points i))) in
+    λ e fit is. same_export found e (has_parts ∙ same_parts head parts parts_code c.args.bytes.now x (parts_of e) c.in_ok-writer.ensures.ok is)

@@ -1,7 +1,7 @@
 use Rattle.std.proofs.Common.{◌≡◌, ◌++◌}
 use Rattle.std.specs.FinMap.{from_entries}
 use Rattle.std.specs.Vec.Iter.{into_iter_items}
-use Rattle.bytes_kit.proofs.carried.joined.Given as goal
+use Rattle.bytes_kit.proofs.carried.gather.Given as goal
 
 -- the cells so far are joined
 abbrev pub invariant-loop-key : goal.invariant-loop-key

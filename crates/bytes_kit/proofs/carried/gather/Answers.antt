@@ -4,7 +4,7 @@ use Rattle.std.specs.Vec.Iter.{into_iter_items}
 use Rattle.point_kit.specs.Orders.{key_cmp}
 use Rattle.bytes_kit.specs.Messages.{Entry}
 use Rattle.bytes_kit.proofs.Gathering.{gather_more}
-use Rattle.bytes_kit.proofs.carried.joined.Goals as goal
+use Rattle.bytes_kit.proofs.carried.gather.Goals as goal
 
 pub loop-key-preserved : goal.loop-key-preserved
 loop-key-preserved c =
