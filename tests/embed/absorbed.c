@@ -3,11 +3,11 @@
  *     absorbed [LISTS [SEED]]      10,000 lists, and seed 1, where nothing else is said
  *
  * Each list of recordings is split at random between two recorders and a writer, which takes the recorders in at random moments. A second
- * writer of the same identity records the same, one by one in the order of absorbing. Their exports are equal byte for byte: totals, ranges
- * and buckets, which sets went to the overflow set, and the order in which sets were seen first. Instruments are of all kinds, one feeds two
- * streams, of which one keeps a key alone, and some limits are reached. A writer that refuses a recorder leaves both as they were, and
- * would have refused one of the recordings. Before that one list whose tables are known, and after it threads with a recorder each
- * beside one that collects. Prints the first check that does not hold and exits with 1, or exits with 0. */
+ * writer of the same identity records the same, one by one in the order of absorbing. Their exports are equal byte for byte: totals,
+ * ranges and buckets, which sets went to the overflow set, and the order in which sets were seen first. Instruments are of all kinds, one
+ * feeds two streams, of which one keeps a key alone, and some limits are reached. A writer that refuses a recorder leaves both as they
+ * were, and would have refused one of the recordings. Before that one list whose tables are known, and after it threads with a recorder
+ * each beside one that collects. Prints the first check that does not hold and exits with 1, or exits with 0. */
 #include <kotskhin.h>
 #include <pthread.h>
 #include <stdio.h>
