@@ -22,10 +22,12 @@ int main() {
     Attributes none({});
     size_t number = writer.hold(none);
     std::mutex lock;
+    std::vector<Recorder> recorders; /* (opened before the first thread has the writer: it is in one call at a time) */
+    for (int i = 0; i < 4; i++) recorders.push_back(writer.recorder());
     std::vector<std::thread> threads;
     bool emptied = true;
-    for (int i = 0; i < 4; i++) {
-        threads.emplace_back([&, recorder = writer.recorder()]() mutable {
+    for (auto &own : recorders) {
+        threads.emplace_back([&, recorder = std::move(own)]() mutable {
             for (int i = 1; i <= 1000; i++) {
                 recorder.measure_held(0, number, 1);
                 if (i % 100) continue;

@@ -6,9 +6,9 @@
 The archive is crates/kit_c/out/libkit_c.a, which `rt lib` builds in crates/kit_c, and the gate before it calls this: nothing is
 proved here. The declarations are held to the exports (embed/build). Then the first script, in C and C++ under each
 compiler that is there, in Rust, Go and Python: each must print examples/first.out. In C every refusal is raised once, each growth of
-each call is refused in turn, threads record, and exports go as bytes, which are then changed, cut and made up, each plainly and under
-AddressSanitizer with its leak check. In Rust and Go the tests
-run, and callers in Rust that misuse the types must not compile. Then exports between processes: examples/pipe, a writer in C and a gateway in
+each call is refused in turn, threads record, recorders come to what one writer records one by one, and exports go as bytes, which are then
+changed, cut and made up, each plainly and under AddressSanitizer with its leak check. In Rust and Go the tests run, and callers in
+Rust that misuse the types must not compile. Then exports between processes: examples/pipe, a writer in C and a gateway in
 Rust, and examples/broker, where there is a redis-server. What the machine has not is told and passed over.
 
 This ends with a status other than 0 where one fails or differs. It leaves nothing in the tree but what lies in out/."""
@@ -31,6 +31,7 @@ C = ["-std=c11", "-Wall", "-Wextra", "-Werror"]
 CPP = ["-std=c++17", "-Wall", "-Wextra", "-Werror"]
 ASAN = ["-g", "-fsanitize=address", "-fno-omit-frame-pointer"]
 FEW = ("2000", "50000")
+FEW_LISTS = ("1000",)
 WRAPPED = ["-Wl,--wrap=malloc,--wrap=realloc"]
 ERROR = re.compile(r"^// (error\[E\d+\])$", re.M)
 
@@ -70,11 +71,15 @@ class Run:
             self.run(what, program, *words, prints=prints, env={**os.environ, "ASAN_OPTIONS": "detect_leaks=1"})
 
     def covered(self):
-        """Whether handles.c has a row for each call that the header has."""
-        names = re.compile(r"int32_t kit_(\w+)\(")
-        wanted = set(names.findall((EMBED / "c" / "kotskhin.h").read_text(encoding="utf-8")))
+        """Whether handles.c has a row for each call that the header has, and refusals.c raises each code, but for one that takes too long."""
+        header = (EMBED / "c" / "kotskhin.h").read_text(encoding="utf-8")
+        wanted = set(re.findall(r"int32_t kit_(\w+)\(", header))
         rows = set(re.findall(r"ROW\((\w+),", (HERE / "handles.c").read_text(encoding="utf-8"))) - {"name"}
         self.say("C: handles.c has each call", f"not {sorted(wanted ^ rows)}" if wanted != rows else None)
+        answers = re.search(r"What calls answer.*?};", header, re.S)[0]
+        codes = set(re.findall(r"(KIT_\w+) = [1-9]", answers)) - {"KIT_EXHAUSTED"}
+        raised = set(re.findall(r"== (KIT_\w+)", (HERE / "refusals.c").read_text(encoding="utf-8")))
+        self.say("C: refusals.c raises each code", f"not {sorted(codes - raised)}" if codes - raised else None)
 
     def c(self):
         self.covered()
@@ -87,6 +92,7 @@ class Run:
                 self.compiled(f"C, {compiler}{how}: refusals", compiler, HERE / "refusals.c", C + flags + WRAPPED)
                 self.compiled(f"C, {compiler}{how}: handles", compiler, HERE / "handles.c", C + flags + WRAPPED)
                 self.compiled(f"C, {compiler}{how}: threads", compiler, HERE / "threads.c", C + flags)
+                self.compiled(f"C, {compiler}{how}: recorders", compiler, HERE / "absorbed.c", C + flags, words=FEW_LISTS if how else ())
                 self.compiled(f"C, {compiler}{how}: bytes", compiler, HERE / "mutated.c", C + flags + WRAPPED, words=FEW if how else ())
             self.installed(compiler)
 
