@@ -2,10 +2,10 @@
 use Rattle.std.proofs.Common.{◌≡◌, ℕ, zero, suc, ◌+◌, ◌<◌, ◌≤◌, false, cond, List, [], ◌∷◌, map, length, get_or, Some, Ok, Err, Result, refl, sym, ap, ◌∙◌, arith, add-one}
 use Rattle.std.specs.Prelude.{T}
 use Rattle.std.specs.List.{insert}
-use Rattle.std.specs.List.Sorted.{IsBinarySearchResult, IsSearchInRange}
+use Rattle.std.specs.List.Sorted.{IsBinarySearchResult, IsNonDecreasingBy, IsSearchInRange}
 use Rattle.std.specs.declared.cmp.Ordering.{Ordering}
 use Rattle.std.specs.declared.cmp.Ordering.TheVariants.{Less, Equal, Greater}
-use Rattle.std.specs.Ordering.{is_lt, is_eq, ordering_reverse}
+use Rattle.std.specs.Ordering.{is_lt, is_eq, ordering_index, ordering_reverse}
 use Rattle.std.specs.Cmp.{IsTotalOrder}
 use Rattle.std.specs.FinMap.{IsAntisymmetric}
 use Rattle.std.specs.FinMap.Entries.{by_order, find, is_sorted, below_all, put}
@@ -37,7 +37,7 @@ module _ {A K V : Type 0} {R : K → K → Ordering} (o : IsTotalOrder R) (anti 
         fits = λ v. ap (λ l. f x ∷ l) (rest.fits v) ∙ ap (λ r. by_order r ((q, v) ∷ f x ∷ map f xs) (((f x).0, v) ∷ map f xs) (f x ∷ put R q v (map f xs))) (sym above);
       }
 
-  below_at : (k : K) (xs : List A) (j : ℕ) (d : A) → T (below_all R k (map f xs)) → j < length xs → R k (f (get_or xs j d)).0 ≡ Less
+  pub below_at : (k : K) (xs : List A) (j : ℕ) (d : A) → T (below_all R k (map f xs)) → j < length xs → R k (f (get_or xs j d)).0 ≡ Less
   below_at k [] j d b h = absurd (omega arith)
   below_at k (x ∷ xs) zero d b h = less _ (first _ _ b)
   below_at k (x ∷ xs) (suc j) d b h = below_at k xs j d (second _ _ b) (omega arith)
@@ -47,6 +47,10 @@ module _ {A K V : Type 0} {R : K → K → Ordering} (o : IsTotalOrder R) (anti 
   rises [] k d s h = absurd (omega arith)
   rises (x ∷ xs) zero d s h = ap is_lt (turned_greater o (f x).0 (f (get_or xs 0 d)).0 (below_at (f x).0 xs 0 d (first _ _ s) (omega arith)))
   rises (x ∷ xs) (suc k) d s h = rises xs k d (second _ _ s) (omega arith)
+
+  -- the answers to a key do not fall along a list in order
+  pub does_not_fall : (q : K) (xs : List A) → T (is_sorted R (map f xs)) → IsNonDecreasingBy (λ y. ordering_index (R (f y).0 q)) xs
+  does_not_fall q xs s = searchable_from_sorted o (λ y. (f y).0) xs q (λ k d _ l. rw (add-one k) (rises xs k d s l))
 
   found : (q : K) (xs : List A) (i : ℕ) (d : A) → i < length xs → R (f (get_or xs i d)).0 q ≡ Equal → IsAt R (map f xs) q i
   found q [] i d h e = absurd (omega arith)
@@ -63,5 +67,5 @@ module _ {A K V : Type 0} {R : K → K → Ordering} (o : IsTotalOrder R) (anti 
       at_none zero v h = refl
       at_none (suc i) v h = absurd (omega arith)
   placed q (x ∷ xs) s (Err i) bound is =
-      let parts = is (searchable_from_sorted o (λ y. (f y).0) (x ∷ xs) q (λ k d _ l. rw (add-one k) (rises (x ∷ xs) k d s l))) in
+      let parts = is (does_not_fall q (x ∷ xs) s) in
       gap q (x ∷ xs) i x bound (λ k h. parts.0 k x (omega arith) h) (λ k g h. parts.1 k x g h)

@@ -1,5 +1,5 @@
 -- Two lists in one order, as one.
-use Rattle.std.specs.Prelude.{◌≡◌, ℕ, ◌+◌, ◌<◌, List, [], ◌∷◌, length, slice_index_or}
+use Rattle.std.specs.Prelude.{◌≡◌, ℕ, ◌+◌, ◌<◌, List, [], ◌∷◌, ◌++◌, length, take, drop, Option, Some, None, slice_index_or}
 use Rattle.std.specs.List.Sorted.{IsNonDecreasingBy}
 use Rattle.std.specs.Ordering.{ordering_index}
 use Rattle.std.specs.declared.cmp.Ordering.TheVariants.{Less}
@@ -16,6 +16,23 @@ module _ {A : Type 0} (R : A → A → Ordering) where
   abbrev pub weave : List A → List A → List A
   weave [] ys = ys
   weave (x ∷ xs) ys = weave_one x xs (weave xs) ys
+
+-- how the first of a list compares with a value
+abbrev pub front_order : {A : Type 0} → (A → A → Ordering) → List A → A → Option Ordering
+front_order R [] y = None
+front_order R (x ∷ xs) y = Some (R x y)
+
+-- what was moved from the front of one list to the end of another goes before a value, whatever follows it
+abbrev pub MovedBefore : {A : Type 0} → (A → A → Ordering) → A → List A → List A → List A → List A → Type 0
+MovedBefore {A} R y room xs room_after xs_after = (ys : List A) → room_after ++ weave R xs_after (y ∷ ys) ≡ room ++ weave R xs (y ∷ ys)
+
+-- a value was woven in, whatever follows it
+abbrev pub IsWoven : {A : Type 0} → (A → A → Ordering) → A → List A → List A → List A → List A → Type 0
+IsWoven {A} R y room xs room_after xs_after = (ys : List A) → room_after ++ weave R xs_after ys ≡ room ++ weave R xs (y ∷ ys)
+
+-- so many of a list go before a value, whatever follows it
+abbrev pub GoBefore : {A : Type 0} → (A → A → Ordering) → ℕ → List A → A → Type 0
+GoBefore {A} R count xs y = (ys : List A) → weave R xs (y ∷ ys) ≡ take count xs ++ weave R (drop count xs) (y ∷ ys)
 
 -- the order of values is that of their keys
 abbrev pub by_key : {A K V : Type 0} → (K → K → Ordering) → (A → K × V) → A → A → Ordering

@@ -61,7 +61,7 @@ impl Draft {
                     self.updates.push((place, cell))?;
                 }
             }
-            Err(_) => {
+            Err(gap) => {
                 let here = self.place_in(items.len(), place);
                 let item = Item {
                     stream: stream.try_copy()?,
@@ -71,7 +71,7 @@ impl Draft {
                         held: copy_held(payload)?,
                     },
                     number: 0,
-                    hint: Hint::at(here),
+                    hint: Hint::of_new(gap, here),
                 };
                 self.fresh.push(item)?;
             }

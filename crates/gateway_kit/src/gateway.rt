@@ -1,8 +1,7 @@
 //! A gateway: the newest point of every key that it was told of.
 ghost use Rattle.std.specs.Prelude.{IsOk, IsSome, nat_lt, ◌≡◌, ◌<◌, ◌≤◌, ◌^◌, IfOk, OnOk, OnErr, Ok, [], ◌∷◌, ◌↔◌, IsTrue, count_by, filter, option_copied};
 ghost use Rattle.std.specs.FinMap as finite;
-ghost use Rattle.point_kit.specs.Exports.{state, JoinsExports, join_points, changed_points};
-ghost use Rattle.point_kit.specs.Join.{IsCommutative, IsAssociative, IsIdempotent, JoinsAbove, JoinsLeast};
+ghost use Rattle.point_kit.specs.Exports.{state, join_points, changed_points};
 ghost use Rattle.gateway_kit.specs.Numbering.{IsNumberedBy, ViewMoves, number_of};
 ghost use Rattle.std.specs.FinMap.{entries, retain_keys};
 ghost use Rattle.gateway_kit.specs.Queries.{has_conflict, newest_time};
@@ -53,7 +52,7 @@ impl Model for Gateway {
 }
 
 impl Gateway {
-    /// A gateway without points. Takes no memory.
+    /// A gateway without points. Takes no memory: O(1).
     pub fn new(alloc: Global, id: u32) -> Gateway
         ensures id { result.id ≡ id }
         ensures value { result.points ≡ finite.empty }
@@ -67,6 +66,7 @@ impl Gateway {
         }
     }
 
+    /// The id that it was made with: O(1).
     pub fn id(&self) -> u32
         ensures value { result ≡ self.now.id }
     {
@@ -91,7 +91,7 @@ impl Gateway {
         }
     }
 
-    /// All points, in the order of their keys. Takes no memory.
+    /// All points, in the order of their keys. Takes no memory; O(n + m) for all n points of m incarnations, and O(1) to begin.
     pub fn points(&self) -> Points<'_>
         ensures value { points_left result ≡ entries self.now.points }
     {
@@ -102,8 +102,8 @@ impl Gateway {
         }
     }
 
-    /// The points whose writer is of a service, in the order of their keys. Takes no memory; incarnations of other
-    /// services are passed over whole.
+    /// The points whose writer is of a service, in the order of their keys. Takes no memory; O(n + m) for the n points of the
+    /// service and all m incarnations: those of other services are passed over whole.
     pub fn points_of<'a>(&'a self, service: &'a str) -> Points<'a>
         ensures value { points_left result ≡ filter (λ e. is_of service.now e.0.writer) (entries self.now.points) }
     {
@@ -212,10 +212,10 @@ impl Gateway {
     /// Joins what another gateway holds, key by key, and answers the number of keys whose cell changed, the new ones
     /// among them.
     ///
-    /// One walk over both, O(n + k); no key that is held is copied. Refused with `NoMemory`, with nothing changed, where a
+    /// One walk over both: O(k log (n / k)) comparisons where the other's k points are few and their keys are held, and O(n + k)
+    /// where some are new; no key that is held is copied. Refused with `NoMemory`, with nothing changed, where a
     /// growth was refused, or where the gateway would come to hold more than 2^62 points. An empty gateway changes nothing
     /// and takes no memory.
-    #[tactic(auto, using(point_kit::proofs::PointLaws::points_commute, point_kit::proofs::PointLaws::points_associate, point_kit::proofs::PointLaws::points_idempotent, point_kit::proofs::PointLaws::points_above, point_kit::proofs::PointLaws::points_least, point_kit::proofs::PointLaws::states_join))]
     pub fn merge(&mut self, other: &Gateway) -> Result<u64, NoMemory>
         ensures id { self.new.id ≡ self.old.id }
         ensures ok { OnOk result (self.new.points ≡ join_points self.old.points other.now.points) }
@@ -223,18 +223,6 @@ impl Gateway {
         ensures numbers { self.new.numbers ≡ self.old.numbers }
         ensures unchanged { OnErr result (self.new ≡ self.old) }
         ensures no_points { other.now.points ≡ finite.empty → result ≡ Ok 0 }
-
-        // Neither the order nor the grouping of merges matters, nor what comes again.
-        ensures commutative { IsCommutative join_points }
-        ensures associative { IsAssociative join_points }
-        ensures idempotent { IsIdempotent join_points }
-
-        // The join is the least that has all that both have.
-        ensures above { JoinsAbove join_points }
-        ensures least { JoinsLeast join_points }
-
-        // What comes of two lists of exports is the join of what comes of each.
-        ensures states { JoinsExports }
     {
         self.merge_under(0, other)
     }

@@ -1,11 +1,11 @@
 //! Guesses at where points stand.
 use std::marker::Model;
 
-/// Where an item stands among those of its incarnation, and where the one stands whose point came after its own in the last
-/// export that was taken. Contracts see nothing of either: they are guesses, and any number may be one.
+/// Where the item stands whose point came after an item's own in the last export that was taken, and of a new item where it
+/// belongs. Contracts see nothing of either: they are guesses, and any number may be one.
 #[derive(Debug, Drop)]
 pub(crate) struct Hint {
-    own: u32,
+    gap: u32,
     next: u32,
 }
 
@@ -20,18 +20,26 @@ fn short(place: usize) -> u32 {
     u32::try_from(place).unwrap_or(u32::MAX)
 }
 
+/// Notes that what stands from one place up to another comes behind so many new ones.
+pub(crate) fn shift(places: &mut [u32], from: usize, to: usize, before: usize) {
+    for place in from..to.min(places.len()) {
+        places[place] = short(place.saturating_add(before));
+    }
+}
+
 impl Hint {
-    /// Of an item at a place, with the next one's point after it.
-    pub(crate) fn at(place: usize) -> Hint {
+    /// Of a new item, which belongs at a gap among those that are there, and until then stands at a place behind them. Its next
+    /// one's point is taken for the next new item's.
+    pub(crate) fn of_new(gap: usize, place: usize) -> Hint {
         Hint {
-            own: short(place),
+            gap: short(gap),
             next: short(place.saturating_add(1)),
         }
     }
 
     pub(crate) fn copy(&self) -> Hint {
         Hint {
-            own: self.own,
+            gap: self.gap,
             next: self.next,
         }
     }
@@ -45,17 +53,19 @@ impl Hint {
         self.next = short(place);
     }
 
-    /// Notes that what stood at its own place now stands at another.
-    pub(crate) fn move_to(&self, place: usize, places: &mut [u32]) {
-        let own = self.own as usize;
-        if own < places.len() {
-            places[own] = short(place);
+    /// Notes where a new item comes to stand, behind so many new ones, and those from a place up to its gap. The place behind.
+    pub(crate) fn move_to(&self, from: usize, before: usize, places: &mut [u32]) -> usize {
+        let gap = self.gap as usize;
+        shift(places, from, gap, before);
+        let place = self.next().saturating_sub(1);
+        if place < places.len() {
+            places[place] = short(gap.saturating_add(before));
         }
+        gap.max(from)
     }
 
-    /// Stands at another place, where all have moved to these.
-    pub(crate) fn follow(&mut self, place: usize, places: &[u32]) {
-        self.own = short(place);
+    /// What stood at a place has moved to the one that stands there in a list.
+    pub(crate) fn follow(&mut self, places: &[u32]) {
         let next = self.next as usize;
         if next < places.len() {
             self.next = places[next];

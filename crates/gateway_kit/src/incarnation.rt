@@ -311,7 +311,7 @@ impl Incarnation {
                     attrs,
                     cell,
                     number: 0,
-                    hint: Hint::at(place),
+                    hint: Hint::of_new(place, place),
                 };
                 let before = self.conflicts();
                 self.join_new(place, item)?;

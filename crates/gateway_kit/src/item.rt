@@ -17,7 +17,7 @@ pub(crate) struct Item {
     pub(crate) cell: Cell,
     /// The number that the key was given when its cell last changed, 0 where it was given none.
     pub(crate) number: u64,
-    /// Where it stands, and the item of the point that came next: guesses.
+    /// Where the item of the point stands that came next, and of a new one where it belongs: guesses.
     pub(crate) hint: Hint,
 }
 
@@ -62,11 +62,11 @@ impl Item {
         }
     }
 
-    /// Stands at another place, where all have moved to these.
-    pub(crate) fn follow(&mut self, place: usize, places: &[u32])
+    /// Follows those that have moved: the places to which they have stand in a list.
+    pub(crate) fn follow(&mut self, places: &[u32])
         ensures { self.new ≡ self.old }
     {
-        self.hint.follow(place, places);
+        self.hint.follow(places);
     }
 }
 

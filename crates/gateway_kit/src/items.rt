@@ -16,7 +16,7 @@ use crate::cells::{conflict_of, is_further};
 use crate::item::Item;
 use crate::ordered::renumber_all;
 use crate::tally::Tally;
-use crate::trail::follow_all;
+use crate::trail::places_after;
 use crate::weave::weave;
 use attr_kit::{AttrSet, NoMemory, TryCopy};
 use point_kit::{Cell, Stream};
@@ -148,6 +148,28 @@ pub(crate) fn put_cells(
     tally
 }
 
+// Sets the guesses of an item right, where there is one.
+fn follow(items: &mut Vec<Item>, place: usize, places: &[u32])
+    ensures { items.new.items ≡ items.old.items }
+{
+    if place < items.len() {
+        items[place].follow(places);
+    }
+}
+
+// Sets the guesses right after new items came in between, by where each item has moved to, and makes the tally: one walk.
+fn settle(items: &mut Vec<Item>, places: &[u32]) -> Tally
+    ensures same { items.new.items ≡ items.old.items }
+    ensures tally { IsTally (map entry_of items.old.items) result }
+{
+    let mut tally = Tally::NONE;
+    for place in 0..items.len() {
+        tally = tally.and(&items[place].cell);
+        follow(items, place, places);
+    }
+    tally
+}
+
 /// Weaves new items in where there is room for them, all under one number. Places move then, so their bounds are gone. Of the
 /// tally before it makes the one after.
 pub(crate) fn put_items(
@@ -171,11 +193,11 @@ pub(crate) fn put_items(
     if !fresh.is_empty() && fresh.len() <= room.capacity().saturating_sub(items.len()) {
         renumber_all(&mut fresh, number);
         let alloc = *items.allocator();
+        let places = places_after(alloc, items.len(), fresh.as_slice());
         let mine = mem::replace(items, Vec::new(alloc));
         *items = weave(mine, fresh, room);
         bounds.clear();
-        follow_all(items);
-        tally_of(items.as_slice())
+        settle(items, &places)
     } else {
         tally
     }

@@ -3,6 +3,7 @@
 //! - A [`Gateway`] takes exports (`take`), merges with others (`merge`), and is asked what it holds: `find`, `points`,
 //!   `points_of`, `newest`, `conflicts`. What it holds is the join of all that it took, so order and repeats do not matter.
 //! - [`Points`] walks over what is held in key order, each point a [`PointRef`].
+//! - [`states_join`] has the laws of that join as its contract: it is the least state above both.
 //! - `take_numbered`, `merge_numbered` and `since` number each key by its last change, for those who tell others what is new.
 //! - A [`SharedGateway`] is one that threads take exports into, each by a seat of its own, with one history. Contracts speak of
 //!   that history's entries, each a [`GatewayChange`]. It is closed unless other seats are out ([`SeatsOut`]).
@@ -30,6 +31,7 @@ mod incarnation;
 mod incarnations;
 mod item;
 mod items;
+mod laws;
 mod merge_draft;
 mod merging;
 mod ordered;
@@ -42,5 +44,6 @@ mod trail;
 mod weave;
 
 pub use gateway::Gateway;
+pub use laws::states_join;
 pub use points::{PointRef, Points};
 pub use shared::{GatewayChange, SeatsOut, SharedGateway};

@@ -1,5 +1,5 @@
 //! Lists in the order of their keys.
-ghost use Rattle.std.specs.Prelude.{◌≡◌, ◌↔◌, ◌≤◌, ◌+◌, ◌^◌, ◌-◌, ℕ, IsTrue, IfOk, MatchResult, length, map, min, vec_len};
+ghost use Rattle.std.specs.Prelude.{◌≡◌, ◌↔◌, ◌<◌, ◌≤◌, ◌+◌, ◌^◌, ◌-◌, ℕ, IsTrue, IfOk, MatchResult, length, map, min, vec_len};
 ghost use Rattle.std.specs.Cmp.{IsTotalOrder};
 ghost use Rattle.std.specs.FinMap.{IsAntisymmetric};
 ghost use Rattle.std.specs.FinMap.Entries.{find, is_sorted};
@@ -62,8 +62,49 @@ fn begin<T: Keyed>(values: &[T], hint: usize, key: &T) -> usize
     }
 }
 
-/// The place of a key or where it belongs, found by going up from a hint. A walk over a second list that hands each place on
-/// as the next hint takes O(n + k) in all.
+// Whether so many values from a place on are there, and the last of them is below a key.
+fn is_below<T: Keyed>(values: &[T], place: usize, count: usize, key: &T) -> bool
+    requires some { 0 < count }
+    requires within { place ≤ length values.now }
+    ensures within { IsTrue result → place + count ≤ length values.now }
+    ensures below { IsTrue result → AreBelow (by_key T.compare T.entry) values.now key.now (place + count) }
+{
+    if count > values.len() - place {
+        return false;
+    }
+    let last = place + (count - 1);
+    match values[last].order(key) {
+        Ordering::Less => true,
+        _ => false,
+    }
+}
+
+/// Goes up from a place past values that are below a key, in a list in order past all of them: O(log n) comparisons for n of
+/// them. Steps double while what they end at is below the key, and then halve.
+pub(crate) fn skip_below<T: Keyed>(values: &[T], from: usize, key: &T) -> usize
+    requires { from ≤ length values.now }
+    ensures within { result ≤ length values.now }
+    ensures on { from ≤ result }
+    ensures below { AreBelow (by_key T.compare T.entry) values.now key.now from
+        → AreBelow (by_key T.compare T.entry) values.now key.now result }
+{
+    let mut place = from;
+    let mut step = 1;
+    'double: while is_below(values, place, step, key) {
+        place += step;
+        step = step.saturating_mul(2);
+    }
+    'halve: while step > 1 {
+        step /= 2;
+        if is_below(values, place, step, key) {
+            place += step;
+        }
+    }
+    place
+}
+
+/// The place of a key or where it belongs, found by going up from a hint: O(log n) comparisons for n values in between. A walk
+/// over a second list that hands each place on as the next hint takes O(n + k) in all, and O(k log (n / k)) where k are few.
 pub(crate) fn place_from<T: Keyed>(values: &[T], hint: usize, key: &T) -> Result<usize, usize>
     requires { IsTrue (is_sorted T.compare (map T.entry values.now)) }
     ensures { IsPlace T.compare (map T.entry values.now) (T.entry key.now).0 result }
@@ -71,7 +112,7 @@ pub(crate) fn place_from<T: Keyed>(values: &[T], hint: usize, key: &T) -> Result
     let mut place = begin(values, hint, key);
     while place < values.len() {
         match values[place].order(key) {
-            Ordering::Less => place += 1,
+            Ordering::Less => place = skip_below(values, place + 1, key),
             Ordering::Equal => return Ok(place),
             Ordering::Greater => return Err(place),
         }

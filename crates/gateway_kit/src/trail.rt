@@ -6,6 +6,7 @@ ghost use Rattle.gateway_kit.specs.Keys.{entry_of, item_cmp};
 
 use crate::changes::Changes;
 use crate::draft::Draft;
+use crate::hint::shift;
 use crate::item::Item;
 use crate::items::place_near;
 use attr_kit::NoMemory;
@@ -67,28 +68,16 @@ pub(crate) fn draft_changes(
     draft.finish(alloc, items.as_slice())
 }
 
-// Sets the guesses of an item right, where there is one.
-fn follow(items: &mut Vec<Item>, place: usize, places: &[u32])
-    ensures { items.new.items ≡ items.old.items }
-{
-    if place < items.len() {
-        items[place].follow(place, places);
-    }
-}
-
-/// Sets the guesses right after new items came in between: each speaks of a place among those that there were and the new
-/// ones behind them. Where there is no memory for that they stay, and most fail once.
-pub(crate) fn follow_all(items: &mut Vec<Item>)
-    ensures { items.new.items ≡ items.old.items }
-{
-    let alloc = *items.allocator();
-    let Ok(mut places) = vec![in alloc; 0u32; items.len()] else {
-        return;
+/// Where the items that there are, and the new ones behind them, come to stand once the new ones are woven in: guesses. None
+/// where there is no memory for them; then the guesses of all stay, and most fail once.
+pub(crate) fn places_after(alloc: Global, len: usize, fresh: &[Item]) -> Vec<u32> {
+    let Ok(mut places) = vec![in alloc; 0u32; len.saturating_add(fresh.len())] else {
+        return Vec::new(alloc);
     };
-    for place in 0..items.len() {
-        items[place].hint.move_to(place, &mut places);
+    let mut from = 0;
+    for index in 0..fresh.len() {
+        from = fresh[index].hint.move_to(from, index, &mut places);
     }
-    for place in 0..items.len() {
-        follow(items, place, &places);
-    }
+    shift(&mut places, from, len, fresh.len());
+    places
 }

@@ -4,8 +4,16 @@ use Rattle.gateway_kit.specs.Places.{IsPlace}
 use Rattle.gateway_kit.specs.Weave.{by_key}
 use Rattle.gateway_kit.proofs.Entries.{as_T}
 use Rattle.gateway_kit.proofs.Places.{placed}
-use Rattle.gateway_kit.proofs.Seeking.{above_here, all_below, tied_here}
+use Rattle.gateway_kit.proofs.Seeking.{above_here, all_below, below_here, tied_here}
 use Rattle.gateway_kit.proofs.ordered.place_from.Goals as goal
+
+pub loop-place-preserved : goal.loop-place-preserved
+loop-place-preserved g c =
+    let K = g.T.Keyed in
+    record {
+      within = c.skip_below-place.ensures.within;
+      below = c.skip_below-place.ensures.below (below_here (by_key K.compare K.entry) c.args.values.now c.args.key.now c.loop-place.place c.index-values-place.result c.loop-place-test.true c.index-values-place.is (sym c.order.ensures ∙ c.in-Less.is));
+    }
 
 pub returns-in-Equal : goal.returns-in-Equal
 returns-in-Equal g c =

@@ -1,15 +1,13 @@
-use Rattle.std.proofs.Common.{◌≡◌, ◌+◌, ◌≤◌, ◌++◌, vec_len, vec_capacity, length}
-use Rattle.std.specs.Vec.Iter.{into_iter_items}
+use Rattle.std.proofs.Common.{◌≡◌, ◌+◌, ◌≤◌, ◌++◌, true, List, length, map, vec_len, vec_capacity}
+use Rattle.std.specs.FinMap.Entries.{is_sorted}
 use Rattle.gateway_kit.specs.Weave.{by_key, weave}
-use Rattle.gateway_kit.proofs.Ahead.{ahead}
 use Rattle.gateway_kit.proofs.weave.weave.Given as goal
 
--- what is in the room and the weave of what is left are the weave of both lists
-abbrev pub invariant-walk : goal.invariant-walk
-invariant-walk g l = record {
-  told : l.room.items ++ weave (by_key g.T.Keyed.compare g.T.Keyed.entry) (ahead l.left (into_iter_items l.mine)) (ahead l.right (into_iter_items l.theirs)) ≡ weave (by_key g.T.Keyed.compare g.T.Keyed.entry) l.fn.mine.items l.fn.theirs.items;
-  fits : vec_len l.room + (length (ahead l.left (into_iter_items l.mine)) + length (ahead l.right (into_iter_items l.theirs))) ≤ vec_capacity l.room;
+-- what is in the room, and what is left woven with anything, are the first list woven with what was put in and that
+abbrev pub invariant-loop-value : goal.invariant-loop-value
+invariant-loop-value g l = record {
+  woven : (rest : List g.row.T.Denot) → l.room.items ++ weave (by_key g.T.Keyed.compare g.T.Keyed.entry) l.mine.items rest ≡ weave (by_key g.T.Keyed.compare g.T.Keyed.entry) l.fn.mine.items (l.yielded ++ rest);
+  sorted : is_sorted g.T.Keyed.compare (map g.T.Keyed.entry l.mine.items) ≡ true;
+  len : vec_len l.room + length l.mine.items ≤ vec_len l.fn.mine + length l.yielded;
+  capacity : vec_capacity l.fn.room ≤ vec_capacity l.room;
 }
-
-abbrev pub decreases-walk : goal.decreases-walk
-decreases-walk g l = length (ahead l.left (into_iter_items l.mine)) + length (ahead l.right (into_iter_items l.theirs))

@@ -31,6 +31,6 @@ returns-in_default c =
 
 pub returns-in_ok-push-in-Err : goal.returns-in_ok-push-in-Err
 returns-in_ok-push-in-Err c =
-    let placed : IsPlace item_cmp (map entry_of c.args.items.now) (c.args.stream.now, c.args.attrs.now) (Err c.in-Err.field-0) = rw c.in-Err.is at c.requires.placed in
+    let placed : IsPlace item_cmp (map entry_of c.args.items.now) (c.args.stream.now, c.args.attrs.now) (Err c.in-Err.gap) = rw c.in-Err.is at c.requires.placed in
     λ came first so_far.
     rw c.in_ok-push-in-Err.ensures.items (drafts_fresh (map entry_of c.args.items.now) came c.args.self.now.updates.items c.args.self.now.fresh.items so_far (c.args.stream.now, c.args.attrs.now) (record { time = c.args.time; held = held_as (option_copied c.args.payload) }) first (record { stream = c.in_ok-try_copy-in-Err.field-0; attrs = c.in_ok-try_copy-in-Err-2.field-0; cell = record { time = c.args.time; held = c.in_ok-copy_held-in-Err.field-0 }; number = 0; hint = tt }) (λ i. ((c.in_ok-try_copy-in-Err.ensures.value i, c.in_ok-try_copy-in-Err-2.ensures.value i), record { time = c.args.time; held = c.in_ok-copy_held-in-Err.ensures i })) placed.none)
