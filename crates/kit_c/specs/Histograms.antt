@@ -1,17 +1,17 @@
 -- Rows of histograms, as numbers.
-use Rattle.std.specs.Prelude.{ℕ, ℤ, List, length, is_none, slice_get, Option, Some, None}
-use Rattle.attr_kit.specs.Refusing.{when}
+use Rattle.std.specs.Prelude.{ℕ, ℤ, List, [], ◌∷◌, length, slice_get, Option, Some, None}
+use Rattle.attr_kit.specs.Refusing.{first}
 use Rattle.rollup_kit.specs.declared.row.Row as rows
 use Rattle.rollup_kit.specs.declared.row.Total.{Total}
 use Rattle.rollup_kit.specs.declared.row.Total.TheVariants as totals
-use Rattle.kit_c.specs.Rows.{in_rows, row_at}
+use Rattle.kit_c.specs.Rows.{in_rows, row_at, wide_count, wide_sum}
 use Rattle.kit_c.specs.declared.fault.Fault.{Fault}
 use Rattle.kit_c.specs.declared.fault.Fault.TheVariants as faults
 use Rattle.kit_c.specs.declared.held.Held.{Held}
 
--- a total is no histogram
+-- a total is no histogram, or one whose count is no u64 or whose sum is no i64
 abbrev pub no_histogram : Total → Option Fault
-no_histogram (totals.Hist count sum buckets range) = None
+no_histogram (totals.Hist count sum buckets range) = first (wide_count count ∷ wide_sum sum ∷ [])
 no_histogram other = Some faults.WrongKind
 
 abbrev pub histogram_fault : ℕ → Held → Option Fault
@@ -26,9 +26,14 @@ no_range other = Some faults.WrongKind
 abbrev pub range_fault : ℕ → Held → Option Fault
 range_fault n h = in_rows n (λ r. no_range r.total) h
 
--- a total is no histogram, or one that has no bucket of a number
+-- the count of a bucket that there may not be
+abbrev pub of_bucket : Option ℕ → Option Fault
+of_bucket None = Some faults.NoBucket
+of_bucket (Some n) = wide_count n
+
+-- a total is no histogram, or one that has no bucket of a number, or one whose count is no u64
 abbrev pub no_bucket : ℕ → Total → Option Fault
-no_bucket k (totals.Hist count sum buckets range) = when (is_none (slice_get buckets k)) faults.NoBucket
+no_bucket k (totals.Hist count sum buckets range) = of_bucket (slice_get buckets k)
 no_bucket k other = Some faults.WrongKind
 
 abbrev pub bucket_fault : ℕ → ℕ → Held → Option Fault

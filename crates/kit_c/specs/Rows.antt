@@ -1,5 +1,7 @@
 -- Rows behind handles, as numbers.
-use Rattle.std.specs.Prelude.{ℕ, ℤ, pos, List, [], slice_get, Option, Some, None}
+use Rattle.std.specs.Prelude.{ℕ, ℤ, ◌^◌, List, [], slice_get, nat_le, not, Option, Some, None}
+use Rattle.agg_kit.specs.Payloads.{fits_sum}
+use Rattle.attr_kit.specs.Refusing.{when}
 use Rattle.rollup_kit.specs.declared.row.Row as rows
 use Rattle.rollup_kit.specs.declared.row.Total.{Total}
 use Rattle.rollup_kit.specs.declared.row.Total.TheVariants as totals
@@ -8,9 +10,13 @@ use Rattle.kit_c.specs.declared.fault.Fault.TheVariants as faults
 use Rattle.kit_c.specs.declared.held.Held.{Held}
 use Rattle.kit_c.specs.declared.held.Held.TheVariants.{Rows}
 
--- a total that the number which is to tell it has no room for
-abbrev pub too_wide : ℤ
-too_wide = pos 40
+-- a sum that is no i64
+abbrev pub wide_sum : ℤ → Option Fault
+wide_sum t = when (not (fits_sum t)) faults.TooWide
+
+-- a count that is no u64
+abbrev pub wide_count : ℕ → Option Fault
+wide_count n = when (nat_le (2 ^ 64) n) faults.TooWide
 
 -- the rows that a thing has
 abbrev pub rows_of : Held → List rows.Row
@@ -42,9 +48,9 @@ counts_of (Some r) = Some (r.points, r.conflicts)
 abbrev pub counts_at : ℕ → Held → Option (ℕ × ℕ)
 counts_at n h = counts_of (row_at n h)
 
--- a total is no sum
+-- a total is no sum, or one that is no i64
 abbrev pub no_sum : Total → Option Fault
-no_sum (totals.Sum t) = None
+no_sum (totals.Sum t) = wide_sum t
 no_sum other = Some faults.WrongKind
 
 abbrev pub sum_fault : ℕ → Held → Option Fault

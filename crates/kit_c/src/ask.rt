@@ -232,7 +232,7 @@ pub extern "C" fn kit_rows_table(alloc: Global, rows: &mut KitHandle, text: &mut
     }
 }
 
-fn of_service(held: &mut Held, service: Txt) -> Result<(), Fault>
+fn set_service(held: &mut Held, service: Txt) -> Result<(), Fault>
     ensures ok { OnOk result (ask_fault held.old ≡ None) }
     ensures value { OnOk result (held.new ≡ asked_of_service service held.old) }
     ensures err { IfErr result (λ f. ask_fault held.old ≡ Some f) }
@@ -263,7 +263,7 @@ pub extern "C" fn kit_ask_service(alloc: Global, ask: &mut KitHandle, service: &
     let Some(mut held) = ask.take(alloc) else {
         return NOTHING;
     };
-    let outcome = of_service(&mut held, service);
+    let outcome = set_service(&mut held, service);
     ask.put(held);
     match outcome {
         Ok(()) => OK,
@@ -271,7 +271,7 @@ pub extern "C" fn kit_ask_service(alloc: Global, ask: &mut KitHandle, service: &
     }
 }
 
-fn only(held: &mut Held, pairs: Seq<(Txt, AttrValue)>) -> Result<(), Fault>
+fn set_pairs(held: &mut Held, pairs: Seq<(Txt, AttrValue)>) -> Result<(), Fault>
     ensures ok { OnOk result (ask_fault held.old ≡ None) }
     ensures value { OnOk result (held.new ≡ asked_only pairs held.old) }
     ensures err { IfErr result (λ f. ask_fault held.old ≡ Some f) }
@@ -304,7 +304,7 @@ pub extern "C" fn kit_ask_only(alloc: Global, ask: &mut KitHandle, pairs: &mut K
     let Some(mut held) = ask.take(alloc) else {
         return NOTHING;
     };
-    let outcome = only(&mut held, copy);
+    let outcome = set_pairs(&mut held, copy);
     ask.put(held);
     match outcome {
         Ok(()) => OK,
@@ -312,7 +312,7 @@ pub extern "C" fn kit_ask_only(alloc: Global, ask: &mut KitHandle, pairs: &mut K
     }
 }
 
-fn keeping(held: &mut Held, list: AllowList) -> Result<(), Fault>
+fn set_keys(held: &mut Held, list: AllowList) -> Result<(), Fault>
     ensures ok { OnOk result (ask_fault held.old ≡ None) }
     ensures value { OnOk result (held.new ≡ asked_keeping list held.old) }
     ensures err { IfErr result (λ f. ask_fault held.old ≡ Some f) }
@@ -345,7 +345,7 @@ pub extern "C" fn kit_ask_keep(alloc: Global, ask: &mut KitHandle, keys: &mut Ki
     let Some(mut held) = ask.take(alloc) else {
         return NOTHING;
     };
-    let outcome = keeping(&mut held, list);
+    let outcome = set_keys(&mut held, list);
     ask.put(held);
     match outcome {
         Ok(()) => OK,

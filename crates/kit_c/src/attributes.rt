@@ -192,6 +192,7 @@ pub extern "C" fn kit_attributes_make(
         → option_map code_of (first (full_fault attributes.old.inner.value ∷ set_fault pairs.old.inner.value ∷ [])) ≡ Some result }
     ensures place { result ≢ no_memory
         → place.new ≡ place_after (first (full_fault attributes.old.inner.value ∷ set_fault pairs.old.inner.value ∷ [])) place.old }
+    ensures no_memory { result ≡ no_memory → place.new ≡ place.old }
     ensures unchanged { result ≢ pos 0 → attributes.new.inner.value ≡ attributes.old.inner.value }
     ensures kept { pairs.new.inner.value ≡ pairs.old.inner.value }
 {

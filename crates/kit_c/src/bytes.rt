@@ -140,11 +140,13 @@ pub extern "C" fn kit_export_decode(
 ) -> i32
     ensures ok { result ≡ pos 0 → full_fault export.old.inner.value ≡ None }
     ensures value { result ≡ pos 0 → IsReadFrom bytes.now export.new.inner.value }
-    ensures full { export.old.inner.value ≢ None → result ≡ pos 4 }
+    ensures told { result ≡ pos 0 → place.new ≡ place.old }
+    ensures full { export.old.inner.value ≢ None → (result ≡ pos 4) × (place.new ≡ place.old) }
     ensures err { result ≢ pos 0 → result ≢ no_memory → export.old.inner.value ≡ None
         → (f : Fault) × (result ≡ code_of f) × (place.new ≡ unwrap_or (place_of f) place.old) × IsDecodeFault bytes.now f }
     ensures found { (e : Export) → IsExport e → bytes.now ≡ bytes_of e → export.old.inner.value ≡ None → result ≢ pos 0
         → result ≡ no_memory }
+    ensures no_memory { result ≡ no_memory → place.new ≡ place.old }
     ensures unchanged { result ≢ pos 0 → export.new.inner.value ≡ export.old.inner.value }
 {
     if export.full {

@@ -1,5 +1,5 @@
 //! Why calls are refused, and the codes that say so.
-ghost use Rattle.std.specs.Prelude.{◌≡◌, ◌≢◌, pos, OnOk, OnErr, IfErr, IfOk};
+ghost use Rattle.std.specs.Prelude.{◌≡◌, ◌≢◌, pos, None, OnOk, OnErr, IfErr, IfOk};
 ghost use Rattle.std.specs.Option.{unwrap_or};
 ghost use Rattle.kit_c.specs.Codes.{code_of, recording_code, record_code, absorbing_code, collection_code, restart_code, attributes_code, plan_code, handing_code, decoding_code, no_memory};
 ghost use Rattle.kit_c.specs.Places.{decoding_place, place_of, plan_place, second_of};
@@ -266,7 +266,8 @@ impl Fault {
 
     /// The place or the time that a refusal carries.
     fn place(&self) -> Option<u64>
-        ensures { result ≡ place_of self.now }
+        ensures value { result ≡ place_of self.now }
+        ensures no_memory { code_of self.now ≡ no_memory → result ≡ None }
     {
         match self {
             Fault::Measure(MeasureFault::Refused(TallyFault::Overflow(stream))) => Some(
@@ -284,7 +285,8 @@ impl Fault {
 
     /// The second place of the refusals that carry two.
     fn second(&self) -> Option<u64>
-        ensures { result ≡ second_of self.now }
+        ensures value { result ≡ second_of self.now }
+        ensures no_memory { code_of self.now ≡ no_memory → result ≡ None }
     {
         match self {
             Fault::Plan(PlanFault::BadAggregation(_, view)) => Some(*view as u64),
@@ -295,7 +297,8 @@ impl Fault {
 }
 
 fn plan_place(fault: &PlanFault) -> Option<u64>
-    ensures { result ≡ plan_place fault.now }
+    ensures value { result ≡ plan_place fault.now }
+    ensures no_memory { plan_code fault.now ≡ no_memory → result ≡ None }
 {
     match fault {
         PlanFault::BadName(instrument) => Some(*instrument as u64),
@@ -311,7 +314,8 @@ fn plan_place(fault: &PlanFault) -> Option<u64>
 }
 
 fn decoding_place(fault: &DecodeFault) -> Option<u64>
-    ensures { result ≡ decoding_place fault.now }
+    ensures value { result ≡ decoding_place fault.now }
+    ensures no_memory { decoding_code fault.now ≡ no_memory → result ≡ None }
 {
     match fault {
         DecodeFault::Truncated(at) => Some(*at as u64),
@@ -330,6 +334,7 @@ pub(crate) fn code_with_place(fault: Fault, place: &mut u64) -> i32
     ensures code { result ≡ code_of fault }
     ensures refused { result ≢ pos 0 }
     ensures place { place.new ≡ unwrap_or (place_of fault) place.old }
+    ensures no_memory { result ≡ no_memory → place.new ≡ place.old }
 {
     if let Some(told) = fault.place() {
         *place = told;
@@ -338,11 +343,12 @@ pub(crate) fn code_with_place(fault: Fault, place: &mut u64) -> i32
 }
 
 /// The same of a refusal that may carry two.
-pub(crate) fn refused_twice(fault: Fault, first: &mut u64, second: &mut u64) -> i32
+pub(crate) fn code_with_places(fault: Fault, first: &mut u64, second: &mut u64) -> i32
     ensures code { result ≡ code_of fault }
     ensures refused { result ≢ pos 0 }
     ensures first { first.new ≡ unwrap_or (place_of fault) first.old }
     ensures second { second.new ≡ unwrap_or (second_of fault) second.old }
+    ensures no_memory { result ≡ no_memory → (first.new ≡ first.old) × (second.new ≡ second.old) }
 {
     if let Some(told) = fault.second() {
         *second = told;

@@ -4,19 +4,18 @@ ghost use Rattle.std.specs.Option.{option_map};
 ghost use Rattle.kit_c.specs.Codes.{code_of};
 ghost use Rattle.kit_c.specs.Faults.{of_one};
 ghost use Rattle.kit_c.specs.Histograms.{bucket_at, bucket_fault, histogram_at, histogram_fault, range_at, range_fault};
-ghost use Rattle.kit_c.specs.Rows.{too_wide};
 
 use crate::fault::{Fault, NOTHING, OK};
 use crate::handle::KitHandle;
 use crate::held::Held;
-use crate::rows::row;
+use crate::rows::{narrow_count, narrow_sum, row};
 use rollup_kit::Total;
 use std::alloc::Global;
 
 fn histogram(held: &Held, number: usize) -> Result<(u64, i64, usize), Fault>
     ensures value { IfOk result (λ t. histogram_at number held.now ≡ Some t) }
     ensures ok { OnOk result (histogram_fault number held.now ≡ None) }
-    ensures err { IfErr result (λ f. code_of f ≢ too_wide → histogram_fault number held.now ≡ Some f) }
+    ensures err { IfErr result (λ f. histogram_fault number held.now ≡ Some f) }
 {
     let Total::Hist {
         count,
@@ -27,13 +26,7 @@ fn histogram(held: &Held, number: usize) -> Result<(u64, i64, usize), Fault>
     else {
         return Err(Fault::WrongKind);
     };
-    let Ok(count) = u64::try_from(*count) else {
-        return Err(Fault::TooWide);
-    };
-    let Ok(sum) = i64::try_from(*sum) else {
-        return Err(Fault::TooWide);
-    };
-    Ok((count, sum, buckets.len()))
+    Ok((narrow_count(*count)?, narrow_sum(*sum)?, buckets.len()))
 }
 
 /// Tells how many values a row of a histogram is of, their sum, and how many buckets there are: one more than bounds.
@@ -52,8 +45,7 @@ pub extern "C" fn kit_rows_histogram(
     ensures ok { result ≡ pos 0 → of_one rows.old.inner.value (histogram_fault number) ≡ None }
     ensures value { result ≡ pos 0 → (h : _) → rows.old.inner.value ≡ Some h
         → histogram_at number h ≡ Some (count.new, sum.new, buckets.new) }
-    ensures err { result ≢ pos 0 → result ≢ too_wide
-        → option_map code_of (of_one rows.old.inner.value (histogram_fault number)) ≡ Some result }
+    ensures err { result ≢ pos 0 → option_map code_of (of_one rows.old.inner.value (histogram_fault number)) ≡ Some result }
     ensures count { result ≢ pos 0 → count.new ≡ count.old }
     ensures sum { result ≢ pos 0 → sum.new ≡ sum.old }
     ensures buckets { result ≢ pos 0 → buckets.new ≡ buckets.old }
@@ -128,7 +120,7 @@ pub extern "C" fn kit_rows_range(
 fn bucket(held: &Held, number: usize, place: usize) -> Result<u64, Fault>
     ensures value { IfOk result (λ n. bucket_at number place held.now ≡ Some n) }
     ensures ok { OnOk result (bucket_fault number place held.now ≡ None) }
-    ensures err { IfErr result (λ f. code_of f ≢ too_wide → bucket_fault number place held.now ≡ Some f) }
+    ensures err { IfErr result (λ f. bucket_fault number place held.now ≡ Some f) }
 {
     let Total::Hist { buckets, .. } = &row(held, number)?.total else {
         return Err(Fault::WrongKind);
@@ -136,10 +128,7 @@ fn bucket(held: &Held, number: usize, place: usize) -> Result<u64, Fault>
     let Some(count) = buckets.get(place) else {
         return Err(Fault::NoBucket);
     };
-    match u64::try_from(*count) {
-        Ok(count) => Ok(count),
-        Err(_) => Err(Fault::TooWide),
-    }
+    narrow_count(*count)
 }
 
 /// Tells how many values a bucket of a row of a histogram has. Buckets are numbered from 0: that of a number has the values up to
@@ -158,7 +147,7 @@ pub extern "C" fn kit_rows_bucket(
     ensures ok { result ≡ pos 0 → of_one rows.old.inner.value (bucket_fault number bucket_number) ≡ None }
     ensures value { result ≡ pos 0 → (h : _) → rows.old.inner.value ≡ Some h
         → bucket_at number bucket_number h ≡ Some count.new }
-    ensures err { result ≢ pos 0 → result ≢ too_wide
+    ensures err { result ≢ pos 0
         → option_map code_of (of_one rows.old.inner.value (bucket_fault number bucket_number)) ≡ Some result }
     ensures unchanged { result ≢ pos 0 → count.new ≡ count.old }
     ensures kept { rows.new.inner.value ≡ rows.old.inner.value }

@@ -37,7 +37,7 @@ impl HeldSet {
 }
 
 // Records at a point that is kept. One of an earlier start is looked up anew.
-fn measured_at_point(
+fn measure_at_point(
     writer: &mut Writer,
     point: &mut BoundPoint,
     value: i64,
@@ -65,7 +65,7 @@ fn measured_at_point(
 }
 
 // Records at a set. Where the value went is kept for the next one, if memory is given.
-fn measured_at_set(
+fn measure_at_set(
     writer: &mut Writer,
     set: &mut HeldSet,
     instrument: usize,
@@ -83,7 +83,7 @@ fn measured_at_set(
     // What the plan says of the feeds of all its instruments.
     let _ = writer.tally().plan().streams_len();
     if let Some(place) = set.place_of(instrument) {
-        return measured_at_point(writer, &mut set.points[place], value);
+        return measure_at_point(writer, &mut set.points[place], value);
     }
     writer.measure(instrument, &set.attrs, value)?;
     if let Ok(point) = writer.bind(instrument, &set.attrs) {
@@ -94,7 +94,7 @@ fn measured_at_set(
 
 // Records at the set of a number.
 #[tactic(auto, using(crate::proofs::Holdings::attrs_stay, crate::proofs::Holdings::attrs_read, crate::proofs::Holdings::attrs_past))]
-fn measured_by_number(
+fn measure_by_number(
     writer: &mut Writer,
     sets: &mut Vec<HeldSet>,
     instrument: usize,
@@ -114,7 +114,7 @@ fn measured_by_number(
     if number >= sets.len() {
         return Err(Fault::NoSet);
     }
-    measured_at_set(writer, &mut sets[number], instrument, value)?;
+    measure_at_set(writer, &mut sets[number], instrument, value)?;
     Ok(())
 }
 
@@ -207,7 +207,7 @@ impl HoldingWriter {
             → set_fault instrument value self.old.writer (slice_get self.old.sets number) ≡ Some f) }
         ensures unchanged { OnErr result (self.new ≡ self.old) }
     {
-        measured_by_number(&mut self.writer, &mut self.sets, instrument, number, value)
+        measure_by_number(&mut self.writer, &mut self.sets, instrument, number, value)
     }
 
     /// Notes a collection of the writer, and closes it where asked.
@@ -246,7 +246,7 @@ impl HoldingWriter {
     }
 
     /// Copies of the sets, by their numbers.
-    pub(crate) fn copied_sets(&self) -> Result<Seq<AttrSet>, NoMemory>
+    pub(crate) fn copy_sets(&self) -> Result<Seq<AttrSet>, NoMemory>
         ensures { IfOk result (λ sets. sets ≡ self.now.sets) }
     {
         let mut sets = Vec::with_capacity(*self.sets.allocator(), self.sets.len())?;

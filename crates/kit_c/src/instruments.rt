@@ -10,7 +10,7 @@ ghost use Rattle.kit_c.specs.Plans.{instrument_of, instruments_fault, instrument
 ghost use Rattle.kit_c.specs.Places.{place_after, second_after};
 ghost use Rattle.kit_c.specs.declared.held.Held.TheVariants as things;
 
-use crate::fault::{FULL, Fault, OK, refused_twice};
+use crate::fault::{FULL, Fault, OK, code_with_places};
 use crate::handle::KitHandle;
 use crate::held::Held;
 use crate::list::push;
@@ -212,6 +212,7 @@ pub extern "C" fn kit_plan_build(
         (full_fault plan.old.inner.value ∷ planning_fault instruments.old.inner.value views.old.inner.value limit ∷ [])) place.old }
     ensures second { result ≢ no_memory → second.new ≡ second_after (first
         (full_fault plan.old.inner.value ∷ planning_fault instruments.old.inner.value views.old.inner.value limit ∷ [])) second.old }
+    ensures no_memory { result ≡ no_memory → (place.new ≡ place.old) × (second.new ≡ second.old) }
     ensures unchanged { result ≢ pos 0 → plan.new.inner.value ≡ plan.old.inner.value }
     ensures instruments { instruments.new.inner.value ≡ instruments.old.inner.value }
     ensures views { views.new.inner.value ≡ views.old.inner.value }
@@ -221,6 +222,6 @@ pub extern "C" fn kit_plan_build(
     }
     match plan_of_parts(alloc, instruments, views, limit) {
         Ok(made) => plan.fill(alloc, Held::Plan(made)),
-        Err(fault) => refused_twice(fault, place, second),
+        Err(fault) => code_with_places(fault, place, second),
     }
 }

@@ -92,11 +92,13 @@ pub extern "C" fn kit_message_decode(
 ) -> i32
     ensures ok { result ≡ pos 0 → full_fault message.old.inner.value ≡ None }
     ensures value { result ≡ pos 0 → IsMessageOf bytes.now message.new.inner.value }
-    ensures full { message.old.inner.value ≢ None → result ≡ pos 4 }
+    ensures told { result ≡ pos 0 → place.new ≡ place.old }
+    ensures full { message.old.inner.value ≢ None → (result ≡ pos 4) × (place.new ≡ place.old) }
     ensures err { result ≢ pos 0 → result ≢ no_memory → message.old.inner.value ≡ None
         → (f : Fault) × (result ≡ code_of f) × (place.new ≡ unwrap_or (place_of f) place.old) × IsMessageFault bytes.now f }
     ensures found { (m : MessageView) → IsMessage m → IsSoundPoints m.points → bytes.now ≡ bytes_of_message m
         → message.old.inner.value ≡ None → result ≢ pos 0 → result ≡ no_memory }
+    ensures no_memory { result ≡ no_memory → place.new ≡ place.old }
     ensures unchanged { result ≢ pos 0 → message.new.inner.value ≡ message.old.inner.value }
 {
     if message.full {

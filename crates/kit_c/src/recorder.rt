@@ -38,7 +38,7 @@ impl RecorderSet {
 }
 
 // Records at a set. Where the value went is kept for the next one, if memory is given.
-fn measured_at_set(
+fn measure_at_set(
     recorder: &mut Recorder,
     set: &mut RecorderSet,
     instrument: usize,
@@ -68,7 +68,7 @@ fn measured_at_set(
 
 // Records at the set of a number.
 #[tactic(auto, using(crate::proofs::RecorderSets::attrs_stay, crate::proofs::RecorderSets::attrs_read, crate::proofs::RecorderSets::attrs_past))]
-fn measured_by_number(
+fn measure_by_number(
     recorder: &mut Recorder,
     sets: &mut Vec<RecorderSet>,
     instrument: usize,
@@ -88,7 +88,7 @@ fn measured_by_number(
     if number >= sets.len() {
         return Err(Fault::NoSet);
     }
-    measured_at_set(recorder, &mut sets[number], instrument, value)?;
+    measure_at_set(recorder, &mut sets[number], instrument, value)?;
     Ok(())
 }
 
@@ -147,7 +147,7 @@ impl HoldingRecorder {
         let Some(instruments) = instruments_len(recorder.plan()) else {
             return Err(NoMemory);
         };
-        let sets = new_sets(alloc, holder.copied_sets()?.into_vec())?;
+        let sets = new_sets(alloc, holder.copy_sets()?.into_vec())?;
         Ok(HoldingRecorder {
             recorder,
             sets,
@@ -188,7 +188,7 @@ impl HoldingRecorder {
             → own_set_fault instrument value self.old.recorder (slice_get self.old.sets number) ≡ Some f) }
         ensures unchanged { OnErr result (self.new ≡ self.old) }
     {
-        measured_by_number(
+        measure_by_number(
             &mut self.recorder,
             &mut self.sets,
             instrument,

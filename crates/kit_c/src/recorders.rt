@@ -57,7 +57,7 @@ pub extern "C" fn kit_recorder_open(
     }
 }
 
-fn recorded(held: &mut Held, instrument: usize, set: &Held, value: i64) -> Result<(), Fault>
+fn measure_at_recorder(held: &mut Held, instrument: usize, set: &Held, value: i64) -> Result<(), Fault>
     ensures ok { OnOk result (record_fault instrument value held.old set.now ≡ None) }
     ensures value { OnOk result (held.new ≡ after_record instrument value held.old set.now) }
     ensures err { IfErr result (λ f. code_of f ≢ no_memory → record_fault instrument value held.old set.now ≡ Some f) }
@@ -105,7 +105,7 @@ pub extern "C" fn kit_recorder_measure(
         recorder.put(held);
         return NOTHING;
     };
-    let outcome = recorded(&mut held, instrument, &set, value);
+    let outcome = measure_at_recorder(&mut held, instrument, &set, value);
     recorder.put(held);
     attributes.put(set);
     match outcome {
@@ -114,7 +114,7 @@ pub extern "C" fn kit_recorder_measure(
     }
 }
 
-fn recorded_by_number(
+fn measure_held_at_recorder(
     held: &mut Held,
     instrument: usize,
     number: usize,
@@ -153,7 +153,7 @@ pub extern "C" fn kit_recorder_measure_held(
     let Some(mut held) = recorder.take(alloc) else {
         return NOTHING;
     };
-    let outcome = recorded_by_number(&mut held, instrument, number, value);
+    let outcome = measure_held_at_recorder(&mut held, instrument, number, value);
     recorder.put(held);
     match outcome {
         Ok(()) => OK,
@@ -232,6 +232,7 @@ pub extern "C" fn kit_writer_absorb(
 ) -> i32
     ensures value { result ≡ pos 0 → HasAbsorbed writer.old.inner.value recorder.old.inner.value
         writer.new.inner.value recorder.new.inner.value }
+    ensures told { result ≡ pos 0 → place.new ≡ place.old }
     ensures err { result ≢ pos 0 → TwoRefused AbsorbRefused writer.old.inner.value recorder.old.inner.value
         writer.new.inner.value place.old place.new result }
     ensures unchanged { result ≢ pos 0 → writer.new.inner.value ≡ writer.old.inner.value }

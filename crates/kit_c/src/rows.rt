@@ -4,7 +4,7 @@ ghost use Rattle.std.specs.Option.{option_map};
 ghost use Rattle.kit_c.specs.Asks.{table_fault};
 ghost use Rattle.kit_c.specs.Codes.{code_of};
 ghost use Rattle.kit_c.specs.Faults.{of_one};
-ghost use Rattle.kit_c.specs.Rows.{counts_at, gauge_at, gauge_fault, row_at, row_fault, rows_of, sum_at, sum_fault, too_wide};
+ghost use Rattle.kit_c.specs.Rows.{counts_at, gauge_at, gauge_fault, row_at, row_fault, rows_of, sum_at, sum_fault, wide_count, wide_sum};
 
 use crate::fault::{Fault, NOTHING, OK};
 use crate::handle::KitHandle;
@@ -105,16 +105,39 @@ pub extern "C" fn kit_rows_counts(
     }
 }
 
+/// A sum as a number of 64 bits.
+#[tactic(auto, using(crate::proofs::Widths::is_narrow_sum, crate::proofs::Widths::is_wide_sum))]
+pub(crate) fn narrow_sum(sum: i128) -> Result<i64, Fault>
+    ensures ok { OnOk result (wide_sum sum ≡ None) }
+    ensures value { IfOk result (λ n. n ≡ sum) }
+    ensures err { IfErr result (λ f. wide_sum sum ≡ Some f) }
+{
+    match i64::try_from(sum) {
+        Ok(narrow) => Ok(narrow),
+        Err(_) => Err(Fault::TooWide),
+    }
+}
+
+/// A count as a number of 64 bits.
+#[tactic(auto, using(crate::proofs::Widths::is_narrow_count, crate::proofs::Widths::is_wide_count))]
+pub(crate) fn narrow_count(count: u128) -> Result<u64, Fault>
+    ensures ok { OnOk result (wide_count count ≡ None) }
+    ensures value { IfOk result (λ n. n ≡ count) }
+    ensures err { IfErr result (λ f. wide_count count ≡ Some f) }
+{
+    match u64::try_from(count) {
+        Ok(narrow) => Ok(narrow),
+        Err(_) => Err(Fault::TooWide),
+    }
+}
+
 fn sum(held: &Held, number: usize) -> Result<i64, Fault>
     ensures value { IfOk result (λ n. sum_at number held.now ≡ Some n) }
     ensures ok { OnOk result (sum_fault number held.now ≡ None) }
-    ensures err { IfErr result (λ f. code_of f ≢ too_wide → sum_fault number held.now ≡ Some f) }
+    ensures err { IfErr result (λ f. sum_fault number held.now ≡ Some f) }
 {
     match &row(held, number)?.total {
-        Total::Sum(total) => match i64::try_from(*total) {
-            Ok(total) => Ok(total),
-            Err(_) => Err(Fault::TooWide),
-        },
+        Total::Sum(total) => narrow_sum(*total),
         _ => Err(Fault::WrongKind),
     }
 }
@@ -132,8 +155,7 @@ pub extern "C" fn kit_rows_sum(
 ) -> i32
     ensures ok { result ≡ pos 0 → of_one rows.old.inner.value (sum_fault number) ≡ None }
     ensures value { result ≡ pos 0 → (h : _) → rows.old.inner.value ≡ Some h → sum_at number h ≡ Some total.new }
-    ensures err { result ≢ pos 0 → result ≢ too_wide
-        → option_map code_of (of_one rows.old.inner.value (sum_fault number)) ≡ Some result }
+    ensures err { result ≢ pos 0 → option_map code_of (of_one rows.old.inner.value (sum_fault number)) ≡ Some result }
     ensures unchanged { result ≢ pos 0 → total.new ≡ total.old }
     ensures kept { rows.new.inner.value ≡ rows.old.inner.value }
 {

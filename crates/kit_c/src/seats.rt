@@ -33,7 +33,7 @@ fn share_writer(alloc: Global, held: &Held) -> Result<Box<Held>, Fault>
     let Held::Writer(holder) = held else {
         return Err(Fault::WrongKind);
     };
-    let sets = holder.copied_sets()?;
+    let sets = holder.copy_sets()?;
     let writer = holder.writer().try_copy()?;
     let Ok((writer, seat)) = SharedWriter::new(alloc, writer, MOST_CHANGES) else {
         return Err(Fault::NoMemory);
@@ -107,6 +107,7 @@ pub extern "C" fn kit_seat_measure(
 ) -> i32
     ensures value { result ≡ pos 0
         → HasMeasured instrument value seat.old.inner.value attributes.old.inner.value seat.new.inner.value }
+    ensures told { result ≡ pos 0 → place.new ≡ place.old }
     ensures err { result ≢ pos 0 → TwoRefused (MeasureRefused instrument value) seat.old.inner.value attributes.old.inner.value
         seat.new.inner.value place.old place.new result }
     ensures kept { attributes.new.inner.value ≡ attributes.old.inner.value }
@@ -140,7 +141,7 @@ fn set_at(sets: &Seq<AttrSet>, number: usize) -> Result<&AttrSet, Fault>
 }
 
 #[tactic(auto, using(crate::proofs::Desks::why_no_set))]
-fn measured_by_number(
+fn measure_held_at_seat(
     held: &mut Held,
     instrument: usize,
     number: usize,
@@ -182,13 +183,14 @@ pub extern "C" fn kit_seat_measure_held(
 ) -> i32
     ensures value { result ≡ pos 0
         → HasMeasuredAt instrument number value seat.old.inner.value seat.new.inner.value }
+    ensures told { result ≡ pos 0 → place.new ≡ place.old }
     ensures err { result ≢ pos 0 → OneRefused (NumberRefused instrument number value) seat.old.inner.value
         seat.new.inner.value place.old place.new result }
 {
     let Some(mut held) = seat.take(alloc) else {
         return NOTHING;
     };
-    let outcome = measured_by_number(&mut held, instrument, number, value);
+    let outcome = measure_held_at_seat(&mut held, instrument, number, value);
     seat.put(held);
     match outcome {
         Ok(()) => OK,
@@ -307,7 +309,7 @@ fn collect_at_seat(alloc: Global, held: &mut Held, time: u64) -> Result<Box<Held
 
 // Collects into a handle that has nothing.
 #[tactic(auto, using(crate::proofs::Desks::one_refused))]
-fn collected_into(
+fn collect_into(
     alloc: Global,
     seat: &mut KitHandle,
     time: u64,
@@ -316,6 +318,7 @@ fn collected_into(
 ) -> i32
     requires { export.old.inner.value ≡ None }
     ensures value { result ≡ pos 0 → HasCollected time seat.old.inner.value seat.new.inner.value export.new.inner.value }
+    ensures told { result ≡ pos 0 → place.new ≡ place.old }
     ensures err { result ≢ pos 0
         → OneRefused (CollectRefused time) seat.old.inner.value seat.new.inner.value place.old place.new result }
     ensures unchanged { result ≢ pos 0 → export.new.inner.value ≡ None }
@@ -348,7 +351,9 @@ pub extern "C" fn kit_seat_collect(
 ) -> i32
     ensures ok { result ≡ pos 0 → full_fault export.old.inner.value ≡ None }
     ensures value { result ≡ pos 0 → HasCollected time seat.old.inner.value seat.new.inner.value export.new.inner.value }
-    ensures full { export.old.inner.value ≢ None → (result ≡ pos 4) × (seat.new.inner.value ≡ seat.old.inner.value) }
+    ensures told { result ≡ pos 0 → place.new ≡ place.old }
+    ensures full { export.old.inner.value ≢ None
+        → (result ≡ pos 4) × (seat.new.inner.value ≡ seat.old.inner.value) × (place.new ≡ place.old) }
     ensures err { result ≢ pos 0 → export.old.inner.value ≡ None
         → OneRefused (CollectRefused time) seat.old.inner.value seat.new.inner.value place.old place.new result }
     ensures unchanged { result ≢ pos 0 → export.new.inner.value ≡ export.old.inner.value }
@@ -356,5 +361,5 @@ pub extern "C" fn kit_seat_collect(
     if export.full {
         return FULL;
     }
-    collected_into(alloc, seat, time, export, place)
+    collect_into(alloc, seat, time, export, place)
 }

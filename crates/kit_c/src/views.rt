@@ -75,7 +75,7 @@ pub extern "C" fn kit_view_of_every(alloc: Global, view: &mut KitHandle) -> i32
     view.fill(alloc, Held::View(plain(NameRule::Every)))
 }
 
-fn of_kind(held: &mut Held, kind: Kind) -> Result<(), Fault>
+fn set_kind(held: &mut Held, kind: Kind) -> Result<(), Fault>
     ensures ok { OnOk result (view_fault held.old ≡ None) }
     ensures value { OnOk result (held.new ≡ with_kind kind held.old) }
     ensures err { IfErr result (λ f. view_fault held.old ≡ Some f) }
@@ -107,7 +107,7 @@ pub extern "C" fn kit_view_kind(alloc: Global, view: &mut KitHandle, kind: u8) -
     let Some(mut held) = view.take(alloc) else {
         return NOTHING;
     };
-    let outcome = of_kind(&mut held, kind);
+    let outcome = set_kind(&mut held, kind);
     view.put(held);
     match outcome {
         Ok(()) => OK,
@@ -115,7 +115,7 @@ pub extern "C" fn kit_view_kind(alloc: Global, view: &mut KitHandle, kind: u8) -
     }
 }
 
-fn of_scope(held: &mut Held, scope: Txt) -> Result<(), Fault>
+fn set_scope(held: &mut Held, scope: Txt) -> Result<(), Fault>
     ensures ok { OnOk result (view_fault held.old ≡ None) }
     ensures value { OnOk result (held.new ≡ with_scope scope held.old) }
     ensures err { IfErr result (λ f. view_fault held.old ≡ Some f) }
@@ -146,7 +146,7 @@ pub extern "C" fn kit_view_scope(alloc: Global, view: &mut KitHandle, scope: &[u
     let Some(mut held) = view.take(alloc) else {
         return NOTHING;
     };
-    let outcome = of_scope(&mut held, scope);
+    let outcome = set_scope(&mut held, scope);
     view.put(held);
     match outcome {
         Ok(()) => OK,
@@ -193,7 +193,7 @@ pub extern "C" fn kit_view_rename(alloc: Global, view: &mut KitHandle, name: &[u
     }
 }
 
-fn keeping(held: &mut Held, list: AllowList) -> Result<(), Fault>
+fn set_keys(held: &mut Held, list: AllowList) -> Result<(), Fault>
     ensures ok { OnOk result (view_fault held.old ≡ None) }
     ensures value { OnOk result (held.new ≡ with_keys list held.old) }
     ensures err { IfErr result (λ f. view_fault held.old ≡ Some f) }
@@ -226,7 +226,7 @@ pub extern "C" fn kit_view_keep(alloc: Global, view: &mut KitHandle, keys: &mut 
     let Some(mut held) = view.take(alloc) else {
         return NOTHING;
     };
-    let outcome = keeping(&mut held, list);
+    let outcome = set_keys(&mut held, list);
     view.put(held);
     match outcome {
         Ok(()) => OK,
@@ -248,7 +248,7 @@ fn aggregation_of(number: u8) -> Result<Aggregation, Fault>
     }
 }
 
-fn aggregating(held: &mut Held, aggregation: Aggregation) -> Result<(), Fault>
+fn set_aggregation(held: &mut Held, aggregation: Aggregation) -> Result<(), Fault>
     ensures ok { OnOk result (view_fault held.old ≡ None) }
     ensures value { OnOk result (held.new ≡ with_aggregation aggregation held.old) }
     ensures err { IfErr result (λ f. view_fault held.old ≡ Some f) }
@@ -280,7 +280,7 @@ pub extern "C" fn kit_view_aggregation(alloc: Global, view: &mut KitHandle, numb
     let Some(mut held) = view.take(alloc) else {
         return NOTHING;
     };
-    let outcome = aggregating(&mut held, aggregation);
+    let outcome = set_aggregation(&mut held, aggregation);
     view.put(held);
     match outcome {
         Ok(()) => OK,
@@ -307,7 +307,7 @@ pub extern "C" fn kit_view_buckets(alloc: Global, view: &mut KitHandle, bounds: 
     let Some(mut held) = view.take(alloc) else {
         return NOTHING;
     };
-    let outcome = aggregating(&mut held, Aggregation::Buckets(bounds));
+    let outcome = set_aggregation(&mut held, Aggregation::Buckets(bounds));
     view.put(held);
     match outcome {
         Ok(()) => OK,

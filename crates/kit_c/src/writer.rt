@@ -83,7 +83,7 @@ pub extern "C" fn kit_writer_start(
     }
 }
 
-fn recorded(held: &mut Held, instrument: usize, set: &Held, value: i64) -> Result<(), Fault>
+fn measure_at_writer(held: &mut Held, instrument: usize, set: &Held, value: i64) -> Result<(), Fault>
     ensures ok { OnOk result (recording_fault instrument value held.old set.now ≡ None) }
     ensures value { OnOk result (held.new ≡ after_recording instrument value held.old set.now) }
     ensures err { IfErr result (λ f. code_of f ≢ no_memory → recording_fault instrument value held.old set.now ≡ Some f) }
@@ -122,6 +122,7 @@ pub extern "C" fn kit_writer_measure(
         → option_map code_of (of_two writer.old.inner.value attributes.old.inner.value (recording_fault instrument value)) ≡ Some result }
     ensures place { result ≢ no_memory → place.new
         ≡ place_after (of_two writer.old.inner.value attributes.old.inner.value (recording_fault instrument value)) place.old }
+    ensures no_memory { result ≡ no_memory → place.new ≡ place.old }
     ensures unchanged { result ≢ pos 0 → writer.new.inner.value ≡ writer.old.inner.value }
     ensures kept { attributes.new.inner.value ≡ attributes.old.inner.value }
 {
@@ -132,7 +133,7 @@ pub extern "C" fn kit_writer_measure(
         writer.put(held);
         return NOTHING;
     };
-    let outcome = recorded(&mut held, instrument, &set, value);
+    let outcome = measure_at_writer(&mut held, instrument, &set, value);
     writer.put(held);
     attributes.put(set);
     match outcome {
@@ -141,7 +142,7 @@ pub extern "C" fn kit_writer_measure(
     }
 }
 
-fn held_too(held: &mut Held, set: &Held) -> Result<usize, Fault>
+fn hold_at_writer(held: &mut Held, set: &Held) -> Result<usize, Fault>
     ensures ok { OnOk result (holding_fault held.old set.now ≡ None) }
     ensures value { OnOk result (held.new ≡ after_holding held.old set.now) }
     ensures number { IfOk result (λ n. n ≡ sets_len held.old) }
@@ -185,7 +186,7 @@ pub extern "C" fn kit_writer_hold(
         writer.put(held);
         return NOTHING;
     };
-    let outcome = held_too(&mut held, &set);
+    let outcome = hold_at_writer(&mut held, &set);
     writer.put(held);
     attributes.put(set);
     match outcome {
@@ -197,7 +198,7 @@ pub extern "C" fn kit_writer_hold(
     }
 }
 
-fn recorded_by_number(
+fn measure_held_at_writer(
     held: &mut Held,
     instrument: usize,
     number: usize,
@@ -233,12 +234,13 @@ pub extern "C" fn kit_writer_measure_held(
         → option_map code_of (of_one writer.old.inner.value (numbered_fault instrument number value)) ≡ Some result }
     ensures place { result ≢ no_memory
         → place.new ≡ place_after (of_one writer.old.inner.value (numbered_fault instrument number value)) place.old }
+    ensures no_memory { result ≡ no_memory → place.new ≡ place.old }
     ensures unchanged { result ≢ pos 0 → writer.new.inner.value ≡ writer.old.inner.value }
 {
     let Some(mut held) = writer.take(alloc) else {
         return NOTHING;
     };
-    let outcome = recorded_by_number(&mut held, instrument, number, value);
+    let outcome = measure_held_at_writer(&mut held, instrument, number, value);
     writer.put(held);
     match outcome {
         Ok(()) => OK,
@@ -275,7 +277,7 @@ fn collect_writer(
 }
 
 // Collects into a handle that is to be empty.
-fn collected_into(
+fn collect_into(
     alloc: Global,
     writer: &mut KitHandle,
     time: u64,
@@ -290,6 +292,7 @@ fn collected_into(
         → option_map code_of (collecting_fault time writer.old.inner.value export.old.inner.value) ≡ Some result }
     ensures place { result ≢ no_memory
         → place.new ≡ place_after (collecting_fault time writer.old.inner.value export.old.inner.value) place.old }
+    ensures no_memory { result ≡ no_memory → place.new ≡ place.old }
     ensures unchanged { result ≢ pos 0 → writer.new.inner.value ≡ writer.old.inner.value }
     ensures held { result ≢ pos 0 → export.new.inner.value ≡ export.old.inner.value }
 {
@@ -330,10 +333,11 @@ pub extern "C" fn kit_writer_collect(
         → option_map code_of (collecting_fault time writer.old.inner.value export.old.inner.value) ≡ Some result }
     ensures place { result ≢ no_memory
         → place.new ≡ place_after (collecting_fault time writer.old.inner.value export.old.inner.value) place.old }
+    ensures no_memory { result ≡ no_memory → place.new ≡ place.old }
     ensures unchanged { result ≢ pos 0 → writer.new.inner.value ≡ writer.old.inner.value }
     ensures held { result ≢ pos 0 → export.new.inner.value ≡ export.old.inner.value }
 {
-    collected_into(alloc, writer, time, false, export, place)
+    collect_into(alloc, writer, time, false, export, place)
 }
 
 /// Collects for the last time, and closes the writer (OpenTelemetry Metrics SDK, "MetricReader", Shutdown).
@@ -354,10 +358,11 @@ pub extern "C" fn kit_writer_shutdown(
         → option_map code_of (collecting_fault time writer.old.inner.value export.old.inner.value) ≡ Some result }
     ensures place { result ≢ no_memory
         → place.new ≡ place_after (collecting_fault time writer.old.inner.value export.old.inner.value) place.old }
+    ensures no_memory { result ≡ no_memory → place.new ≡ place.old }
     ensures unchanged { result ≢ pos 0 → writer.new.inner.value ≡ writer.old.inner.value }
     ensures held { result ≢ pos 0 → export.new.inner.value ≡ export.old.inner.value }
 {
-    collected_into(alloc, writer, time, true, export, place)
+    collect_into(alloc, writer, time, true, export, place)
 }
 
 fn restart_writer(held: &mut Held, start: u64) -> Result<(), Fault>
@@ -392,6 +397,7 @@ pub extern "C" fn kit_writer_restart(
         → option_map code_of (of_one writer.old.inner.value (restarting_fault start)) ≡ Some result }
     ensures place { result ≢ no_memory
         → place.new ≡ place_after (of_one writer.old.inner.value (restarting_fault start)) place.old }
+    ensures no_memory { result ≡ no_memory → place.new ≡ place.old }
     ensures unchanged { result ≢ pos 0 → writer.new.inner.value ≡ writer.old.inner.value }
 {
     let Some(mut held) = writer.take(alloc) else {

@@ -3,20 +3,20 @@ use Rattle.agg_kit.specs.BoundPoints.{entry_at}
 use Rattle.std.proofs.Common.{FitsSigned, is_ok, w64}
 use Rattle.std.proofs.lemmas.Int.{to_z-of_z}
 use Rattle.kit_c.proofs.Holdings.{feeds_here, keeps_measured, knows_push, knows_set}
-use Rattle.kit_c.proofs.holding.measured_at_set.Goals as goal
+use Rattle.kit_c.proofs.holding.measure_at_set.Goals as goal
 
 pub returns-in-Some-clause-keeps : goal.returns-in-Some-clause-keeps
 returns-in-Some-clause-keeps c =
     let w = c.args.writer.now in
     let feeds = feeds_here c.plan.result.now c.tally.result.now w.tally c.plan.ensures.value c.tally.ensures.value c.streams_len.ensures.feeds in
     let small : FitsSigned w64 c.args.value = c.ranges.value in
-    let value = simp to_z-of_z at c.measured_at_point.ensures.value in
-    keeps_measured w c.measured_at_point.new.writer (entry_at c.index_mut.result.now.point c.args.value) c.measured_at_point.result feeds value c.measured_at_point.ensures.unchanged
+    let value = simp to_z-of_z at c.measure_at_point.ensures.value in
+    keeps_measured w c.measure_at_point.new.writer (entry_at c.index_mut.result.now.point c.args.value) c.measure_at_point.result feeds value c.measure_at_point.ensures.unchanged
 
 pub returns-in-Some-clause-knows : goal.returns-in-Some-clause-knows
 returns-in-Some-clause-knows c =
-    knows_set c.args.writer.now c.measured_at_point.new.writer c.args.set.now c.in-Some.place c.index_mut.result.now c.measured_at_point.new.point
-    (returns-in-Some-clause-keeps c) c.requires c.in-Some.ensures.0 c.index_mut.ensures.value c.measured_at_point.ensures.attrs c.measured_at_point.ensures.begun c.measured_at_point.ensures.home
+    knows_set c.args.writer.now c.measure_at_point.new.writer c.args.set.now c.in-Some.place c.index_mut.result.now c.measure_at_point.new.point
+    (returns-in-Some-clause-keeps c) c.requires c.in-Some.ensures.0 c.index_mut.ensures.value c.measure_at_point.ensures.attrs c.measure_at_point.ensures.begun c.measure_at_point.ensures.home
 
 pub returns-in_default-bind-clause-keeps : goal.returns-in_default-bind-clause-keeps
 returns-in_default-bind-clause-keeps c =

@@ -5,7 +5,7 @@ use Rattle.writer_kit.specs.BoundPoints.{RefusesAt}
 use Rattle.writer_kit.specs.declared.fault.BoundFault.TheVariants as bounds
 use Rattle.writer_kit.specs.declared.fault.MeasureFault.TheVariants as measure
 use Rattle.writer_kit.proofs.Refusals.{now_closed, now_refused}
-use Rattle.kit_c.proofs.holding.measured_at_point.Goals as goal
+use Rattle.kit_c.proofs.holding.measure_at_point.Goals as goal
 
 pub returns-in-Err-Closed-clause-err : goal.returns-in-Err-Closed-clause-err
 returns-in-Err-Closed-clause-err c =

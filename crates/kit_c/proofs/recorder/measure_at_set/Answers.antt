@@ -3,7 +3,7 @@ use Rattle.agg_kit.specs.BoundPoints.{entry_at}
 use Rattle.std.proofs.Common.{FitsSigned, is_ok, w64}
 use Rattle.std.proofs.lemmas.Int.{to_z-of_z}
 use Rattle.kit_c.proofs.RecorderSets.{feeds_here, keeps_measured, knows_push, knows_set}
-use Rattle.kit_c.proofs.recorder.measured_at_set.Goals as goal
+use Rattle.kit_c.proofs.recorder.measure_at_set.Goals as goal
 
 pub returns-in-Some-clause-keeps : goal.returns-in-Some-clause-keeps
 returns-in-Some-clause-keeps c =
