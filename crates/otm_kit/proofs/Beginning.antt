@@ -8,7 +8,7 @@ use Rattle.plan_kit.specs.PlanFaults.{plan_fault}
 use Rattle.plan_kit.specs.Plans.{Planned}
 use Rattle.point_kit.specs.declared.writer_id.WriterId.{WriterId}
 use Rattle.world_kit.specs.Building.{setup_fault}
-use Rattle.world_kit.specs.Held.{Held}
+use Rattle.world_kit.specs.WorldState.{WorldState}
 use Rattle.world_kit.specs.Stands.{Stands}
 use Rattle.world_kit.specs.declared.setup.Setup.{Setup}
 use Rattle.world_kit.specs.declared.setup.WriterSetup.{WriterSetup}
@@ -64,6 +64,6 @@ begin_sound d is vs limit setup a none same e =
     let here : setup_fault (setup_of d) ≡ None = ap setup_fault (sym same) ∙ e in
     rw (sound, here) refl
 
-pub stands_first : (d : Declared) (setup : Setup) (world : Held) → setup ≡ setup_of d → Stands setup [] world → Stands (setup_of d) (deeds_of_commands d []) world
+pub stands_first : (d : Declared) (setup : Setup) (world : WorldState) → setup ≡ setup_of d → Stands setup [] world → Stands (setup_of d) (deeds_of_commands d []) world
 unfolding deeds_of_commands
 stands_first d setup world same s = subst (λ (x : Setup). Stands x [] world) same s

@@ -26,7 +26,7 @@ use Rattle.world_kit.specs.declared.setup.WriterSetup.{WriterSetup}
 use Rattle.plan_kit.specs.Feeds.{plan_of}
 use Rattle.point_kit.specs.declared.writer_id.WriterId.{WriterId}
 use Rattle.std.proofs.lemmas.List.{get_or-map, length-map}
-use Rattle.world_kit.specs.Held.{Held}
+use Rattle.world_kit.specs.WorldState.{WorldState}
 use Rattle.world_kit.specs.Judged.{Deeds, after}
 use Rattle.world_kit.specs.Stands.{Acts, Stands}
 use Rattle.world_kit.specs.declared.event.Event.{Event}
@@ -62,7 +62,7 @@ runs_more d cs c e reply old new is r acts i w g = record {
   world = subst (λ (ds : Deeds). Stands (setup_of d) ds new.world) (sym (deeds_of_commands_more d cs c e is)) (acts.stands (setup_of d) (deeds_of_commands d cs) r.world);
 }
 
-pub told_event : (d : Declared) (cs : List Command) (c : Command) (e : Event) (reply : Reply) (old new : Held) → event_of d c ≡ Ok e → Stands (setup_of d) (deeds_of_commands d cs) old → Acts e old reply new
+pub told_event : (d : Declared) (cs : List Command) (c : Command) (e : Event) (reply : Reply) (old new : WorldState) → event_of d c ≡ Ok e → Stands (setup_of d) (deeds_of_commands d cs) old → Acts e old reply new
     → told_of d cs c ≡ Ok (reply_text reply)
 told_event d cs c e reply old new is stands acts = rw is (sym (ap (λ r. Ok (reply_text r)) (acts.reply (setup_of d) (deeds_of_commands d cs) stands)))
 
@@ -138,9 +138,9 @@ begin_done lines draft text none w e =
 
 pub begin_bad : (lines : List Line) (draft : Declared) (fault : BeginFault) (text : List ℕ) → text ≡ refusal_line (begin_text fault) → Waits lines draft → begin_fault draft ≡ Some fault → bad text reason.Refused ≡ effect_of lines line.Begin
 unfolding effect_of
-begin_bad lines draft fault text said w e =
+begin_bad lines draft fault text tells w e =
     let unsound : begin_fault (declared_by lines) ≡ Some fault = ap begin_fault (sym w.is) ∙ e in
-    rw (said, w.begun, unsound) refl
+    rw (tells, w.begun, unsound) refl
 
 pub goes_first : (lines : List Line) (draft : Declared) (r : Running) → Waits lines draft → Runs draft [] r → Goes (lines ++ line.Begin ∷ []) r
 goes_first lines draft r w runs = record {

@@ -13,7 +13,7 @@ use Rattle.script_kit.specs.Words.{pieces_of, is_filled}
 use Rattle.script_kit.specs.declared.fault.ScriptFault.TheVariants as faults
 use Rattle.script_kit.specs.declared.line.Line.{Line}
 use Rattle.otm_kit.specs.Effects.{Effect, done, bad}
-use Rattle.otm_kit.specs.Says.{Said, Wrong, said, says, wrong_of, bad_line_of, reason_of, sentence_for, behind, then_says, piece_effect, lines_of, effect_text}
+use Rattle.otm_kit.specs.Says.{Output, Wrong, output_of, says, wrong_of, bad_line_of, reason_of, sentence_for, behind, then_says, piece_effect, lines_of, effect_text}
 use Rattle.otm_kit.specs.Standing.{Does, Fails, FailsNext, IsAfter, Tells, TellsOf}
 use Rattle.otm_kit.specs.declared.desk.Desk.{Desk}
 use Rattle.otm_kit.specs.declared.ended.Ended.{Ended}
@@ -26,7 +26,7 @@ pub record Told (script : List ℕ) (old now : Option (List ℕ)) (desk : Desk) 
   pub stands : IsAfter (lines_of before) desk
   pub numbered : number ≡ length before + 1
   pub appends : Appends old now written
-  pub to_say : said (pieces_of script) [] ≡ behind written (said (pieces_of rest) before)
+  pub to_say : output_of (pieces_of script) [] ≡ behind written (output_of (pieces_of rest) before)
 
 pub told_none : (script : List ℕ) (old : Option (List ℕ)) (desk : Desk) → IsAfter [] desk → Told script old old desk 1 script
 told_none script old desk e = record { before = []; written = []; stands = e; numbered = omega arith; appends = Appends-nil old; to_say = refl }
@@ -42,10 +42,10 @@ split_some p (x ∷ xs) =
 some_piece : (script : List ℕ) → (p : List ℕ) × ((ps : List (List ℕ)) × (pieces_of script ≡ p ∷ ps))
 some_piece script = split_some (λ b. b == 10) script
 
-said_more : (piece after : List ℕ) (before : List (List ℕ)) → said (piece ∷ pieces_of after) before
-    ≡ then_says (length before + 1) piece (piece_effect (lines_of before) piece) (said (pieces_of after) (before ++ piece ∷ []))
-unfolding said
-said_more piece after before = let p = some_piece after in rw p.1.1 refl
+output_more : (piece after : List ℕ) (before : List (List ℕ)) → output_of (piece ∷ pieces_of after) before
+    ≡ then_says (length before + 1) piece (piece_effect (lines_of before) piece) (output_of (pieces_of after) (before ++ piece ∷ []))
+unfolding output_of
+output_more piece after before = let p = some_piece after in rw p.1.1 refl
 
 pub front_none : (old : Option (List ℕ)) (text : List ℕ) → AppendsFront old old text
 front_none old text = (text, ([], refl, Appends-nil old))
@@ -60,7 +60,7 @@ front_after old mid new written text rest p q = (
   ),
 )
 
-behind_behind : (a b : List ℕ) (s : Said) → behind a (behind b s) ≡ behind (a ++ b) s
+behind_behind : (a b : List ℕ) (s : Output) → behind a (behind b s) ≡ behind (a ++ b) s
 behind_behind a b s = rw append_assoc refl
 
 lines_push : (pieces : List (List ℕ)) (piece : List ℕ) (line : Line) → line_of piece ≡ Ok line → lines_of (pieces ++ piece ∷ []) ≡ lines_of pieces ++ line ∷ []
@@ -69,16 +69,16 @@ lines_push pieces piece line e = rw (filter_map-append, e) refl
 -- what there is to say, at the next line
 opened : (script : List ℕ) (old now : Option (List ℕ)) (desk : Desk) (number : ℕ) (rest piece after : List ℕ)
     → (t : Told script old now desk number rest) → pieces_of rest ≡ piece ∷ pieces_of after
-    → said (pieces_of script) [] ≡ behind t.written (then_says number piece (piece_effect (lines_of t.before) piece) (said (pieces_of after) (t.before ++ piece ∷ [])))
+    → output_of (pieces_of script) [] ≡ behind t.written (then_says number piece (piece_effect (lines_of t.before) piece) (output_of (pieces_of after) (t.before ++ piece ∷ [])))
 opened script old now desk number rest piece after t cut =
-    let here : said (pieces_of rest) t.before ≡ then_says number piece (piece_effect (lines_of t.before) piece) (said (pieces_of after) (t.before ++ piece ∷ [])) =
-    ap (λ ps. said ps t.before) cut ∙ rw t.numbered (said_more piece after t.before) in
+    let here : output_of (pieces_of rest) t.before ≡ then_says number piece (piece_effect (lines_of t.before) piece) (output_of (pieces_of after) (t.before ++ piece ∷ [])) =
+    ap (λ ps. output_of ps t.before) cut ∙ rw t.numbered (output_more piece after t.before) in
     t.to_say ∙ ap (behind t.written) here
 
 pub told_more : (script : List ℕ) (old mid new : Option (List ℕ)) (desk desk' : Desk) (number : ℕ) (rest piece after : List ℕ)
     → (t : Told script old mid desk number rest) → pieces_of rest ≡ piece ∷ pieces_of after → Does (lines_of t.before) piece mid new desk' → Told script old new desk' (number + 1) after
 told_more script old mid new desk desk' number rest piece after t cut d =
-    let last : Said = said (pieces_of after) (t.before ++ piece ∷ []) in
+    let last : Output = output_of (pieces_of after) (t.before ++ piece ∷ []) in
     record {
       before = t.before ++ piece ∷ [];
       written = t.written ++ d.printed;
@@ -93,18 +93,18 @@ pub told_bad : (script : List ℕ) (old mid new : Option (List ℕ)) (desk : Des
     → Appends old new (says script) × (wrong_of script ≡ Some (record { number = number; line = piece; reason = f.why }))
 unfolding says wrong_of
 told_bad script old mid new desk number rest piece after t cut end d =
-    let last : Said = said (pieces_of after) (t.before ++ piece ∷ []) in
-    let whole : said (pieces_of script) [] ≡ record { text = t.written ++ d.printed; wrong = Some (record { number = number; line = piece; reason = d.why }) } =
+    let last : Output = output_of (pieces_of after) (t.before ++ piece ∷ []) in
+    let whole : output_of (pieces_of script) [] ≡ record { text = t.written ++ d.printed; wrong = Some (record { number = number; line = piece; reason = d.why }) } =
     opened script old mid desk number rest piece after t cut ∙ ap (λ f. behind t.written (then_says number piece f last)) d.effect in
-    let P : Said → Type 0 = λ s. Appends old new s.text in
-    (subst P (sym whole) (Appends-trans old mid new t.written d.printed t.appends d.appends), ap (λ (s : Said). s.wrong) whole)
+    let P : Output → Type 0 = λ s. Appends old new s.text in
+    (subst P (sym whole) (Appends-trans old mid new t.written d.printed t.appends d.appends), ap (λ (s : Output). s.wrong) whole)
 
 pub told_front : (script : List ℕ) (old mid new : Option (List ℕ)) (desk : Desk) (number : ℕ) (rest piece after : List ℕ)
     → (t : Told script old mid desk number rest) → pieces_of rest ≡ piece ∷ pieces_of after → AppendsFront mid new (effect_text (piece_effect (lines_of t.before) piece))
     → AppendsFront old new (says script)
 unfolding says
 told_front script old mid new desk number rest piece after t cut p =
-    let last : Said = said (pieces_of after) (t.before ++ piece ∷ []) in
+    let last : Output = output_of (pieces_of after) (t.before ++ piece ∷ []) in
     let whole = opened script old mid desk number rest piece after t cut in
     let text : (f : Effect) → AppendsFront mid new (effect_text f) → AppendsFront old new ((behind t.written (then_says number piece f last)).text) =
     elim [
@@ -112,7 +112,7 @@ told_front script old mid new desk number rest piece after t cut p =
       | (bad text why) ↦ λ q. let P : List ℕ → Type 0 = λ x. AppendsFront old new (t.written ++ x) in
           subst P (append-nil text) (front_after old mid new t.written text [] t.appends q)
     ] in
-    let P : Said → Type 0 = λ s. AppendsFront old new s.text in
+    let P : Output → Type 0 = λ s. AppendsFront old new s.text in
     subst P (sym whole) (text (piece_effect (lines_of t.before) piece) p)
 
 abbrev pub cut_at : ℕ → List ℕ → Wrong
@@ -121,13 +121,13 @@ cut_at number rest = record { number = number; line = rest; reason = reason.Cut 
 -- what there is to say where no line feed is left
 at_last : (script : List ℕ) (old now : Option (List ℕ)) (desk : Desk) (number : ℕ) (rest : List ℕ)
     → (t : Told script old now desk number rest) → pieces_of rest ≡ rest ∷ []
-    → said (pieces_of script) [] ≡ record { text = t.written; wrong = if is_filled rest then Some (cut_at number rest) else None }
-unfolding said
+    → output_of (pieces_of script) [] ≡ record { text = t.written; wrong = if is_filled rest then Some (cut_at number rest) else None }
+unfolding output_of
 at_last script old now desk number rest t cut =
     let b : Option Wrong = if is_filled rest then Some (cut_at (length t.before + 1) rest) else None in
-    let last : said (pieces_of rest) t.before ≡ record { text = []; wrong = b } = ap (λ ps. said ps t.before) cut in
+    let last : output_of (pieces_of rest) t.before ≡ record { text = []; wrong = b } = ap (λ ps. output_of ps t.before) cut in
     let near : behind t.written (record { text = []; wrong = b }) ≡ record { text = t.written; wrong = b } = rw append-nil refl in
-    let P : ℕ → Type 0 = λ n. said (pieces_of script) [] ≡ record { text = t.written; wrong = if is_filled rest then Some (cut_at n rest) else None } in
+    let P : ℕ → Type 0 = λ n. output_of (pieces_of script) [] ≡ record { text = t.written; wrong = if is_filled rest then Some (cut_at n rest) else None } in
     subst P (sym t.numbered) (t.to_say ∙ ap (behind t.written) last ∙ near)
 
 pub told_end : (script : List ℕ) (old now : Option (List ℕ)) (desk : Desk) (number : ℕ) (rest : List ℕ)
@@ -136,8 +136,8 @@ pub told_end : (script : List ℕ) (old now : Option (List ℕ)) (desk : Desk) (
 unfolding says wrong_of
 told_end script old now desk number rest t cut e =
     let whole = at_last script old now desk number rest t cut in
-    let P : Said → Type 0 = λ s. Appends old now s.text in
-    (subst P (sym whole) t.appends, ap (λ (s : Said). s.wrong) whole ∙ ap (λ b. if b then Some (cut_at number rest) else None) e)
+    let P : Output → Type 0 = λ s. Appends old now s.text in
+    (subst P (sym whole) t.appends, ap (λ (s : Output). s.wrong) whole ∙ ap (λ b. if b then Some (cut_at number rest) else None) e)
 
 pub told_cut : (script : List ℕ) (old now : Option (List ℕ)) (desk : Desk) (number : ℕ) (rest : List ℕ)
     → Told script old now desk number rest → pieces_of rest ≡ rest ∷ [] → is_filled rest ≡ true
@@ -145,21 +145,21 @@ pub told_cut : (script : List ℕ) (old now : Option (List ℕ)) (desk : Desk) (
 unfolding says wrong_of
 told_cut script old now desk number rest t cut e =
     let whole = at_last script old now desk number rest t cut in
-    let P : Said → Type 0 = λ s. Appends old now s.text in
-    (subst P (sym whole) t.appends, ap (λ (s : Said). s.wrong) whole ∙ ap (λ b. if b then Some (cut_at number rest) else None) e)
+    let P : Output → Type 0 = λ s. Appends old now s.text in
+    (subst P (sym whole) t.appends, ap (λ (s : Output). s.wrong) whole ∙ ap (λ b. if b then Some (cut_at number rest) else None) e)
 
-said_so : {Z : Type 0} (script : List ℕ) (w : Wrong) (o : Option (String Z)) → wrong_of script ≡ Some w → IfSome o (λ text. string_bytes text ≡ sentence_of w.line w.reason)
+sentence_is : {Z : Type 0} (script : List ℕ) (w : Wrong) (o : Option (String Z)) → wrong_of script ≡ Some w → IfSome o (λ text. string_bytes text ≡ sentence_of w.line w.reason)
     → IfSome o (λ text. sentence_for script ≡ Some (string_bytes text))
-said_so script w None is h = h
-said_so script w (Some text) is h = ap (option_map (λ (v : Wrong). sentence_of v.line v.reason)) is ∙ ap (λ (t : List ℕ). Some t) (sym h)
+sentence_is script w None is h = h
+sentence_is script w (Some text) is h = ap (option_map (λ (v : Wrong). sentence_of v.line v.reason)) is ∙ ap (λ (t : List ℕ). Some t) (sym h)
 
 -- what an end tells of a bad line it tells of the script
 pub tells_of : (script : List ℕ) (end : Ended) (w : Wrong) → wrong_of script ≡ Some w → Tells end w.line w.reason → TellsOf end script
-tells_of script end w is t = (t.reason ∙ sym (ap (option_map (λ (v : Wrong). v.reason)) is), said_so script w end.sentence is t.sentence)
+tells_of script end w is t = (t.reason ∙ sym (ap (option_map (λ (v : Wrong). v.reason)) is), sentence_is script w end.sentence is t.sentence)
 
 -- what a run wrote that ended at a bad line, which line it is, and what its end tells
 pub record EndsBad (script : List ℕ) (old new : Option (List ℕ)) (end : Ended) (n : ℕ) : Type 0 where
-  pub said : Appends old new (says script)
+  pub wrote : Appends old new (says script)
   pub at : bad_line_of script ≡ Some n
   pub tells : TellsOf end script
 
@@ -173,7 +173,7 @@ ends_bad script old mid new desk number rest piece after last end n t cut same n
     let fails = failing n fault (lines_of t.before) t.stands in
     let wrong = told_bad script old mid new desk number rest piece after t cut last fails in
     record {
-      said = wrong.0;
+      wrote = wrong.0;
       at = ap (option_map (λ (w : Wrong). w.number)) wrong.1 ∙ ap (λ (k : ℕ). Some k) (sym (numbered n fault));
       tells = subst (λ (e : Ended). TellsOf e script) same (tells_of script last _ wrong.1 fails.tells);
     }

@@ -31,32 +31,32 @@ pub record Wrong : Type 0 where
   pub reason : Reason
 
 -- what pieces print, and the bad one
-pub record Said : Type 0 where
+pub record Output : Type 0 where
   pub text : List ℕ
   pub wrong : Option Wrong
 
-abbrev pub behind : List ℕ → Said → Said
-behind text said = record { text = text ++ said.text; wrong = said.wrong }
+abbrev pub behind : List ℕ → Output → Output
+behind text rest = record { text = text ++ rest.text; wrong = rest.wrong }
 
 -- a piece of this number that has this effect, and then the pieces behind it
-abbrev pub then_says : ℕ → List ℕ → Effect → Said → Said
+abbrev pub then_says : ℕ → List ℕ → Effect → Output → Output
 then_says number piece (done text) rest = behind text rest
 then_says number piece (bad text why) rest = record { text = text; wrong = Some (record { number = number; line = piece; reason = why }) }
 
--- What the last pieces of a script say behind these. The last of all is a line that was cut, and is to be empty.
-unfoldable pub said : List (List ℕ) → List (List ℕ) → Said
-said [] before = record { text = []; wrong = None }
-said (piece ∷ []) before = record { text = []; wrong = if is_filled piece then Some (record { number = length before + 1; line = piece; reason = reason.Cut }) else None }
-said (piece ∷ next ∷ more) before =
-    then_says (length before + 1) piece (piece_effect (lines_of before) piece) (said (next ∷ more) (before ++ piece ∷ []))
+-- The output of the last pieces of a script behind these. The last of all is a line that was cut, and is to be empty.
+unfoldable pub output_of : List (List ℕ) → List (List ℕ) → Output
+output_of [] before = record { text = []; wrong = None }
+output_of (piece ∷ []) before = record { text = []; wrong = if is_filled piece then Some (record { number = length before + 1; line = piece; reason = reason.Cut }) else None }
+output_of (piece ∷ next ∷ more) before =
+    then_says (length before + 1) piece (piece_effect (lines_of before) piece) (output_of (next ∷ more) (before ++ piece ∷ []))
 
 -- the text that a script prints, up to its first bad line
 unfoldable pub says : List ℕ → List ℕ
-says script = (said (pieces_of script) []).text
+says script = (output_of (pieces_of script) []).text
 
 -- the first bad line
 unfoldable pub wrong_of : List ℕ → Option Wrong
-wrong_of script = (said (pieces_of script) []).wrong
+wrong_of script = (output_of (pieces_of script) []).wrong
 
 -- its number, from 1
 abbrev pub bad_line_of : List ℕ → Option ℕ

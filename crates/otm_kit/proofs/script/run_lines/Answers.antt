@@ -15,7 +15,7 @@ returns-in_err-do_line-clause-bad g c =
     let p = err_from_is_err_and c.from_residual.result c.from_residual.ensures.1 in
     let its = c.in_err-do_line.ensures in
     let told : c.in_err-do_line.field-0.0 ≡ p.0 = cc in
-    rw p.1 (λ n is. (ends_bad _ _ _ _ _ _ _ c.in-Some.text.now c.in-Some.after.now _ _ n c.loop-text.invariant.told c.in-Some.ensures.some told its.number its.bad is).said)
+    rw p.1 (λ n is. (ends_bad _ _ _ _ _ _ _ c.in-Some.text.now c.in-Some.after.now _ _ n c.loop-text.invariant.told c.in-Some.ensures.some told its.number its.bad is).wrote)
 
 pub returns-in_err-do_line-clause-bad_line : goal.returns-in_err-do_line-clause-bad_line
 returns-in_err-do_line-clause-bad_line g c =
