@@ -97,7 +97,7 @@ fn time_own(
     Ok(start.elapsed(rt)?)
 }
 
-fn atomic(rt: &HostRuntime, turns: u32) -> anyhow::Result<()> {
+fn tell_atomic(rt: &HostRuntime, turns: u32) -> anyhow::Result<()> {
     let sum = AtomicU64::new(0);
     let mut least = Duration::MAX;
     for _ in 0..ROUNDS {
@@ -106,7 +106,12 @@ fn atomic(rt: &HostRuntime, turns: u32) -> anyhow::Result<()> {
     tell(rt, "atomic addition", u64::from(turns), least)
 }
 
-fn found(rt: &HostRuntime, tally: &mut Tally, set: &AttrSet, turns: u32) -> anyhow::Result<()> {
+fn tell_found(
+    rt: &HostRuntime,
+    tally: &mut Tally,
+    set: &AttrSet,
+    turns: u32,
+) -> anyhow::Result<()> {
     let mut least = Duration::MAX;
     for _ in 0..ROUNDS {
         least = least.min(time_found(rt, tally, set, turns)?);
@@ -114,7 +119,12 @@ fn found(rt: &HostRuntime, tally: &mut Tally, set: &AttrSet, turns: u32) -> anyh
     tell(rt, "found", u64::from(turns), least)
 }
 
-fn bound(rt: &HostRuntime, tally: &mut Tally, point: &mut Bound, turns: u32) -> anyhow::Result<()>
+fn tell_bound(
+    rt: &HostRuntime,
+    tally: &mut Tally,
+    point: &mut Bound,
+    turns: u32,
+) -> anyhow::Result<()>
     requires { IsBound tally.old point.old }
 {
     let mut least = Duration::MAX;
@@ -124,7 +134,7 @@ fn bound(rt: &HostRuntime, tally: &mut Tally, point: &mut Bound, turns: u32) -> 
     tell(rt, "bound", u64::from(turns), least)
 }
 
-fn own(
+fn tell_own(
     rt: &HostRuntime,
     recorder: &mut Recorder,
     point: &mut Bound,
@@ -142,9 +152,9 @@ fn own(
 // One set that is held: found at each recording, and bound once.
 fn beside(rt: &HostRuntime, tally: &mut Tally, set: &AttrSet, turns: u32) -> anyhow::Result<()> {
     tally.measure(0, set, 1)?;
-    found(rt, tally, set, turns)?;
+    tell_found(rt, tally, set, turns)?;
     let mut point = tally.bind(0, set)?;
-    bound(rt, tally, &mut point, turns)
+    tell_bound(rt, tally, &mut point, turns)
 }
 
 fn beside_own(
@@ -155,7 +165,7 @@ fn beside_own(
 ) -> anyhow::Result<()> {
     recorder.measure(0, set, 1)?;
     let mut point = recorder.bind(0, set)?;
-    own(rt, recorder, &mut point, turns)
+    tell_own(rt, recorder, &mut point, turns)
 }
 
 fn of_kind(rt: &HostRuntime, kind: Kind, pairs: u32, turns: u32) -> anyhow::Result<()> {
@@ -172,7 +182,7 @@ fn by_recorder(rt: &HostRuntime, alloc: Global, pairs: u32, turns: u32) -> anyho
 
 /// Recordings at one set of no, 4 and 10 attributes, of a counter and a histogram; of a counter in a recorder too.
 pub fn run(rt: &HostRuntime, turns: u32) -> anyhow::Result<()> {
-    atomic(rt, turns)?;
+    tell_atomic(rt, turns)?;
     for pairs in [0, 4, 10] {
         eprintln!(rt; "counter, attributes: {pairs}")?;
         of_kind(rt, Kind::Counter, pairs, turns)?;

@@ -91,7 +91,7 @@ fn keeping(alloc: Global) -> anyhow::Result<Tally> {
 }
 
 // A counter under a view that keeps one key of four.
-fn kept(rt: &HostRuntime, turns: u32) -> anyhow::Result<()> {
+fn run_kept_key(rt: &HostRuntime, turns: u32) -> anyhow::Result<()> {
     let sets = sets(rt.alloc(), 4, 1)?;
     let mut counter = keeping(rt.alloc())?;
     time_measures(
@@ -108,6 +108,6 @@ pub fn run(rt: &HostRuntime, turns: u32, many: u32) -> anyhow::Result<()> {
     for pairs in [0, 4, 10] {
         kinds_of(rt, pairs, 1, turns)?;
     }
-    kept(rt, turns)?;
+    run_kept_key(rt, turns)?;
     kinds_of(rt, 4, many, turns / many.max(1))
 }

@@ -83,7 +83,7 @@ fn in_a_kept_arena(rt: &HostRuntime, tally: &Tally, series: u32) -> anyhow::Resu
     )
 }
 
-fn copied_out(rt: &HostRuntime, tally: &Tally, series: u32) -> anyhow::Result<()> {
+fn copy_out(rt: &HostRuntime, tally: &Tally, series: u32) -> anyhow::Result<()> {
     let writer = writer(rt.alloc())?;
     let bump = Bump::new(rt.alloc());
     let (round, _) = time_place(rt, &bump, tally)?;
@@ -99,5 +99,5 @@ pub fn run(rt: &HostRuntime, series: u32) -> anyhow::Result<()> {
     let tally = tally_of(rt.alloc(), series)?;
     in_new_arenas(rt, &tally, series)?;
     in_a_kept_arena(rt, &tally, series)?;
-    copied_out(rt, &tally, series)
+    copy_out(rt, &tally, series)
 }

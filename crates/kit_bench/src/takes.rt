@@ -53,7 +53,7 @@ fn time_conflicts(rt: &HostRuntime, gateway: &Gateway) -> anyhow::Result<Duratio
     Ok(took)
 }
 
-fn timed(
+fn time_case(
     rt: &HostRuntime,
     case: Case,
     gateway: &mut Gateway,
@@ -68,7 +68,7 @@ fn timed(
 // The time of a case, and of a count of conflicts after it.
 fn once(rt: &HostRuntime, case: Case) -> anyhow::Result<(Duration, Duration)> {
     let mut gateway = holding(rt.alloc(), Times::at(200), case.held)?;
-    timed(rt, case, &mut gateway)
+    time_case(rt, case, &mut gateway)
 }
 
 // Tells the least time of a case, and lowers the least time of a count of conflicts.
@@ -107,7 +107,7 @@ fn of(what: &'static str, way: Way, held: Keys, time: u64, came: Keys) -> Case {
 }
 
 // Sets of one pair, the points of an export in the order of their keys.
-fn rising(rt: &HostRuntime, points: u32, all: Keys) -> anyhow::Result<()> {
+fn run_rising(rt: &HostRuntime, points: u32, all: Keys) -> anyhow::Result<()> {
     let none = Keys { count: 0, ..all };
     let most = all.only(Which::Most);
     let half = all.starting(all.count / 2);
@@ -128,7 +128,7 @@ fn rising(rt: &HostRuntime, points: u32, all: Keys) -> anyhow::Result<()> {
 }
 
 // Sets of 4 pairs, which come in another order than they are held in.
-fn scattered(rt: &HostRuntime, points: u32, all: Keys) -> anyhow::Result<()> {
+fn run_scattered(rt: &HostRuntime, points: u32, all: Keys) -> anyhow::Result<()> {
     let none = Keys { count: 0, ..all };
     let most = all.only(Which::Most);
     let cases = [
@@ -144,8 +144,8 @@ fn scattered(rt: &HostRuntime, points: u32, all: Keys) -> anyhow::Result<()> {
 /// Takes and merges, of so many keys each, in rounds of so many points together.
 pub fn run(rt: &HostRuntime, points: u32, sizes: &[u32]) -> anyhow::Result<()> {
     for count in sizes {
-        rising(rt, points, Keys::first(Sets::Numbers, *count))?;
-        scattered(rt, points, Keys::first(Sets::Scattered, *count))?;
+        run_rising(rt, points, Keys::first(Sets::Numbers, *count))?;
+        run_scattered(rt, points, Keys::first(Sets::Scattered, *count))?;
     }
     Ok(())
 }
