@@ -1,6 +1,4 @@
-use Rattle.std.proofs.Common.{◌≤◌, Ok, Err, Result, ℕ, length, sym, ◌∙◌, arith}
-use Rattle.std.specs.List.Sorted.{IsBinarySearchResult, IsSearchInRange}
-use Rattle.gateway_kit.specs.Places.{IsPlace}
+use Rattle.std.proofs.Common.{◌≤◌, Ok, Err, length, sym, ◌∙◌, arith}
 use Rattle.gateway_kit.specs.Weave.{by_key}
 use Rattle.gateway_kit.proofs.Entries.{as_T}
 use Rattle.gateway_kit.proofs.Places.{placed}

@@ -1,4 +1,4 @@
-use Rattle.std.proofs.Common.{◌≡◌, ◌<◌, refl, length, ◌∙◌, arith, rules}
+use Rattle.std.proofs.Common.{◌<◌, refl, length, ◌∙◌, arith, rules}
 use Rattle.std.proofs.lemmas.Grind.{common_steps}
 use Rattle.gateway_kit.proofs.Moved.{set_same}
 use Rattle.gateway_kit.proofs.Movement.{before_set}

@@ -1,5 +1,3 @@
-use Rattle.std.proofs.Common.{◌≡◌, ◌≤◌, ◌+◌, length, sym, ap, ◌∙◌, arith}
-use Rattle.std.proofs.lemmas.Grind.{common_steps}
 use Rattle.gateway_kit.specs.Weave.{by_key}
 use Rattle.gateway_kit.proofs.Ahead.{go_below}
 use Rattle.gateway_kit.proofs.Entries.{as_T}
