@@ -1,5 +1,5 @@
 -- A writer's points stay where they are while it takes a recorder in.
-use Rattle.std.proofs.Common.{◌≡◌, ◌∙◌, ℕ, pos, zero, suc, inl, inr, List, [], ◌∷◌, Some, position, refl, sym, ap}
+use Rattle.std.proofs.Common.{◌≡◌, ◌∙◌, ℕ, pos, zero, suc, inl, inr, List, [], ◌∷◌, Some, position, sym, ap}
 use Rattle.std.specs.Map.{keys_of}
 use Rattle.attr_kit.specs.declared.attr_set.AttrSet.{AttrSet}
 use Rattle.point_kit.specs.declared.payload.Payload.{Payload}
@@ -11,7 +11,7 @@ use Rattle.agg_kit.specs.BoundPoints.{place_of, AreAt, IsBound}
 use Rattle.agg_kit.specs.Feeding.{set_eq}
 use Rattle.agg_kit.specs.Feeds.{series_at}
 use Rattle.agg_kit.specs.Recorders.{series_with, with_recorder}
-use Rattle.agg_kit.specs.Steps.{payload_after, place, step}
+use Rattle.agg_kit.specs.Steps.{payload_after, place}
 use Rattle.agg_kit.specs.Tallies.{Points, Tallied}
 use Rattle.agg_kit.specs.declared.bound.Bound.{Bound}
 use Rattle.agg_kit.proofs.BoundPoints.{has_point-at, place-kept, step-stays}

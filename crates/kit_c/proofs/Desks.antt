@@ -1,5 +1,5 @@
 -- How calls of seats are refused, from what the calls of things say.
-use Rattle.std.proofs.Common.{◌≡◌, ℕ, Option, None, Some, refl}
+use Rattle.std.proofs.Common.{◌≡◌, ℕ, Option, None, Some}
 use Rattle.std.specs.Prelude.{ℤ}
 use Rattle.std.specs.Option.{unwrap_or}
 use Rattle.kit_c.specs.Codes.{code_of}

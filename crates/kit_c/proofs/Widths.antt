@@ -6,7 +6,6 @@ use Rattle.agg_kit.specs.Payloads.{fits_sum}
 use Rattle.agg_kit.proofs.Parts.{fits-signed, signed-fits}
 use Rattle.attr_kit.specs.Refusing.{when}
 use Rattle.kit_c.specs.Rows.{wide_count, wide_sum}
-use Rattle.kit_c.specs.declared.fault.Fault.{Fault}
 use Rattle.kit_c.specs.declared.fault.Fault.TheVariants as faults
 
 pub is_narrow_sum : (n : ℤ) → FitsSigned w64 n → wide_sum n ≡ None

@@ -1,5 +1,5 @@
 -- Writers that threads share, behind handles: what each call says to the history that all of them make.
-use Rattle.std.specs.Prelude.{◌≡◌, ◌^◌, ℕ, ℤ, pos, List, [], ◌∷◌, slice_get, Option, Some, None}
+use Rattle.std.specs.Prelude.{◌≡◌, ◌^◌, ℕ, ℤ, pos, List, slice_get, Option, Some, None}
 use Rattle.std.specs.Arc.{arc_value}
 use Rattle.std.specs.Option.{unwrap_or}
 use Rattle.agg_kit.specs.Entries.{entry_of}

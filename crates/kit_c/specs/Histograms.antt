@@ -1,5 +1,5 @@
 -- Rows of histograms, as numbers.
-use Rattle.std.specs.Prelude.{ℕ, ℤ, List, [], ◌∷◌, length, slice_get, Option, Some, None}
+use Rattle.std.specs.Prelude.{ℕ, ℤ, [], ◌∷◌, length, slice_get, Option, Some, None}
 use Rattle.attr_kit.specs.Refusing.{first}
 use Rattle.rollup_kit.specs.declared.row.Row as rows
 use Rattle.rollup_kit.specs.declared.row.Total.{Total}

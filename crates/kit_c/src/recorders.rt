@@ -57,7 +57,12 @@ pub extern "C" fn kit_recorder_open(
     }
 }
 
-fn measure_at_recorder(held: &mut Held, instrument: usize, set: &Held, value: i64) -> Result<(), Fault>
+fn measure_at_recorder(
+    held: &mut Held,
+    instrument: usize,
+    set: &Held,
+    value: i64,
+) -> Result<(), Fault>
     ensures ok { OnOk result (record_fault instrument value held.old set.now ≡ None) }
     ensures value { OnOk result (held.new ≡ after_record instrument value held.old set.now) }
     ensures err { IfErr result (λ f. code_of f ≢ no_memory → record_fault instrument value held.old set.now ≡ Some f) }

@@ -83,7 +83,12 @@ pub extern "C" fn kit_writer_start(
     }
 }
 
-fn measure_at_writer(held: &mut Held, instrument: usize, set: &Held, value: i64) -> Result<(), Fault>
+fn measure_at_writer(
+    held: &mut Held,
+    instrument: usize,
+    set: &Held,
+    value: i64,
+) -> Result<(), Fault>
     ensures ok { OnOk result (recording_fault instrument value held.old set.now ≡ None) }
     ensures value { OnOk result (held.new ≡ after_recording instrument value held.old set.now) }
     ensures err { IfErr result (λ f. code_of f ≢ no_memory → recording_fault instrument value held.old set.now ≡ Some f) }
