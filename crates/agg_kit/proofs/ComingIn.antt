@@ -11,7 +11,7 @@ use Rattle.attr_kit.specs.declared.attr_set.AttrSet.{AttrSet}
 use Rattle.point_kit.specs.declared.payload.Payload.{Payload}
 use Rattle.point_kit.specs.declared.shape.Shape.{Shape}
 use Rattle.point_kit.specs.declared.stream.Stream.{Stream}
-use Rattle.agg_kit.specs.Absorbing.{count_at, total_at, payload_joined, AreAllSound, AreBothSound, Knows, TakesSound, Walks}
+use Rattle.agg_kit.specs.Absorbing.{count_at, total_at, payload_joined, AreAllSound, AreBothSound, Counts, Knows, TakesSound, Walks}
 use Rattle.agg_kit.specs.Absorbs.{payload_of_both, point_with, with_point, absorb, fits}
 use Rattle.agg_kit.specs.Feeding.{set_eq, has_set, overflow_set, is_own}
 use Rattle.agg_kit.specs.Feeds.{entries_of}
@@ -20,6 +20,7 @@ use Rattle.agg_kit.specs.Parts.{count_of}
 use Rattle.agg_kit.specs.Payloads.{payload_of, is_out_of_range}
 use Rattle.agg_kit.specs.Recorders.{series_with}
 use Rattle.agg_kit.specs.Sound.{IsSound, AreSound, AreOnce, AllSound}
+use Rattle.agg_kit.specs.Stamps.{Stamped, newer, newest_over, put_over}
 use Rattle.agg_kit.specs.Steps.{Stored, own_count, has_point, place}
 use Rattle.agg_kit.specs.Tallies.{Points}
 use Rattle.agg_kit.specs.declared.absorbing.Walk.{Walk}
@@ -58,12 +59,55 @@ once-absorb limit es (e ∷ ms) o =
     let b = place limit es e.0 in
     once-absorb limit (with_point limit es e) ms (subst AreOnce (sym (keys-insert es b (point_with es b e.1))) (once-add (keys_of es) b o))
 
-pub all-series_with : (limit : ℕ) (ss : List Stream) (ess mss : List Points) → AllSound ss ess → AllSound ss mss → AllSound ss (series_with limit ess mss)
-all-series_with limit [] [] mss s t = tt
-all-series_with limit [] (es ∷ ess) mss s t = absurd s
-all-series_with limit (x ∷ ss) [] mss s t = absurd s
-all-series_with limit (x ∷ ss) (es ∷ ess) [] s t = absurd t
-all-series_with limit (x ∷ ss) (es ∷ ess) (ms ∷ mss) s t = (sound-absorb x.shape limit es ms s.0 t.0, once-absorb limit es ms s.1, all-series_with limit ss ess mss s.2 t.2)
+-- the payload of the newest point, if there is one
+abbrev IsSoundBest : Shape → Option (ℕ × Payload) → Type 0
+IsSoundBest shape None = Unit {0}
+IsSoundBest shape (Some x) = IsSound shape x.1
+
+sound-newer : (shape : Shape) (best : Option (ℕ × Payload)) (n : ℕ) (p : Payload) → IsSoundBest shape best → IsSound shape p → IsSoundBest shape (newer best (n, p))
+sound-newer shape None n p b s = s
+sound-newer shape (Some x) n p b s = by (nat_lt x.0 n)
+  where
+    by : (t : Bool) → IsSoundBest shape (if t then Some (n, p) else Some x)
+    by true = s
+    by false = b
+
+sound-newest : (shape : Shape) (limit : ℕ) (es ms : Points) (ns : List ℕ) (best : Option (ℕ × Payload)) → IsSoundBest shape best → AreSound shape ms → IsSoundBest shape (newest_over limit es ms ns best)
+sound-newest shape limit es [] ns best b s = b
+sound-newest shape limit es (e ∷ ms) [] best b s = b
+sound-newest shape limit es (e ∷ ms) (n ∷ ns) best b s = sound-newest shape limit (with_point limit es e) ms ns _ (by (set_eq (place limit es e.0) overflow_set)) s.1
+  where
+    by : (t : Bool) → IsSoundBest shape (cond t (newer best (n, e.1)) best)
+    by true = sound-newer shape best n e.1 b s.0
+    by false = b
+
+sound-put_over : (shape : Shape) (es : Points) (best : Option (ℕ × Payload)) → AreSound shape es → IsSoundBest shape best → AreSound shape (put_over es best)
+sound-put_over shape es None s b = s
+sound-put_over shape es (Some x) s b = by (has_point es overflow_set)
+  where
+    by : (t : Bool) → AreSound shape (cond t (put es overflow_set x.1) es)
+    by true = sound-insert shape es overflow_set x.1 s b
+    by false = s
+
+once-put_over : (es : Points) (best : Option (ℕ × Payload)) → AreOnce (keys_of es) → AreOnce (keys_of (put_over es best))
+once-put_over es None o = o
+once-put_over es (Some x) o = by (has_point es overflow_set)
+  where
+    by : (t : Bool) → AreOnce (keys_of (cond t (put es overflow_set x.1) es))
+    by true = subst AreOnce (sym (keys-insert es overflow_set x.1)) (once-add (keys_of es) overflow_set o)
+    by false = o
+
+pub all-series_with : (limit : ℕ) (ss : List Stream) (ess mss : List Points) (nss : List Stamped) → AllSound ss ess → AllSound ss mss → AllSound ss (series_with limit ess mss nss)
+all-series_with limit [] [] mss nss s t = tt
+all-series_with limit [] (es ∷ ess) mss nss s t = absurd s
+all-series_with limit (x ∷ ss) [] mss nss s t = absurd s
+all-series_with limit (x ∷ ss) (es ∷ ess) [] nss s t = absurd t
+all-series_with limit (x ∷ ss) (es ∷ ess) (ms ∷ mss) [] s t = s
+all-series_with limit (x ∷ ss) (es ∷ ess) (ms ∷ mss) (ns ∷ nss) s t = (
+  sound-put_over x.shape (absorb limit es ms) (newest_over limit es ms ns.stamps None) (sound-absorb x.shape limit es ms s.0 t.0) (sound-newest x.shape limit es ms ns.stamps None tt t.0),
+  once-put_over (absorb limit es ms) (newest_over limit es ms ns.stamps None) (once-absorb limit es ms s.1),
+  all-series_with limit ss ess mss nss s.2 t.2,
+)
 
 -- ---- one point more
 
@@ -175,6 +219,21 @@ module _ (w n : Walk) (es : Points) (limit : ℕ) (a : AttrSet) (p : Payload) (k
         count = c ∙ ap (λ m. m + count_of p) k.count ∙ sym (ap (λ o. option_map_or count_of o 0) here ∙ amount.1);
         sum = f ∙ ap (λ m. m +ℤ total_of p) k.sum ∙ sym (ap (λ o. option_map_or total_of o (pos 0)) here ∙ amount.0);
       }
+
+-- ---- how many sets have their own points after a point
+
+module _ (n limit : ℕ) (es : Points) (a : AttrSet) (p : Payload) (k : n ≡ own_count es) where
+  pub own-there : has_point es a ≡ true → n ≡ own_count (with_point limit es (a, p))
+  own-there h = k ∙ sym (count-has_point es (place limit es a) (point_with es (place limit es a) p) (ap (has_point es) (place-has_point limit es a h) ∙ h))
+
+  pub own-new : is_own a ≡ true → has_point es a ≡ false → own_count es < limit → n + 1 ≡ own_count (with_point limit es (a, p))
+  own-new o h l =
+      let b = place limit es a in
+      let at : b ≡ a = place-room limit es a h l in
+      ap (λ m. m + 1) k ∙ sym (count-put-new es b (point_with es b p) (ap (has_point es) at ∙ h) ∙ ap (λ (c : AttrSet). own_count es + cond (is_own c) 1 0) at ∙ ap (λ t. own_count es + cond t 1 0) o)
+
+  pub own-over : place limit es a ≡ overflow_set → n ≡ own_count (with_point limit es (a, p))
+  own-over at = k ∙ sym (ap (λ (b : AttrSet). own_count (put es b (point_with es b p))) at ∙ count-over es (point_with es overflow_set p))
 
 -- ---- whether a point stays in range, by the amounts that the walk reads
 
@@ -318,6 +377,37 @@ whole-slice n [] (i ∷ is) e l = absurd (omega (arith, l))
 whole-slice n (x ∷ ns) [] e l = absurd (omega (arith, l))
 whole-slice n (x ∷ ns) (i ∷ is) e l = ap (λ k. take k (x ∷ (ns ++ drop (length ns) is))) e ∙ ap (λ l. x ∷ l) (whole-slice (length is) ns is refl (omega (arith, l)))
 
+left-of : {X : Type 0} (xs : List X) (i : ℕ) (x : X) → slice_get xs i ≡ Some x → drop i xs ≡ x ∷ drop (i + 1) xs
+left-of {X = X} xs i x at = let z : suc i ≡ i + 1 = omega arith in from xs i at ∙ ap (λ n. x ∷ drop n xs) z
+  where
+    from : (xs : List X) (i : ℕ) → slice_get xs i ≡ Some x → drop i xs ≡ x ∷ drop (suc i) xs
+    from [] i at = absurd (cc)
+    from (y ∷ xs) zero at = let same : y ≡ x = cc in ap (λ z. z ∷ xs) same
+    from (y ∷ xs) (suc i) at = from xs i at
+
+none-of : {X : Type 0} (xs : List X) (i : ℕ) → slice_get xs i ≡ None → drop i xs ≡ []
+none-of [] zero e = refl
+none-of [] (suc i) e = refl
+none-of (x ∷ xs) zero e = absurd (cc)
+none-of (x ∷ xs) (suc i) e = none-of xs i e
+
+-- where there are no more stamps, or no more points, the newest is known
+pub newest-out : (limit : ℕ) (es ms : Points) (ns : List ℕ) (i : ℕ) (all best : Option (ℕ × Payload)) → slice_get ns i ≡ None → all ≡ newest_over limit es ms (drop i ns) best → best ≡ all
+newest-out limit es ms ns i all best none h = sym (h ∙ ap (λ l. newest_over limit es ms l best) (none-of ns i none) ∙ by ms)
+  where
+    by : (ms : Points) → newest_over limit es ms [] best ≡ best
+    by [] = refl
+    by (m ∷ ms) = refl
+
+pub newest-end : (limit : ℕ) (es ms : Points) (ns : List ℕ) (i : ℕ) (all best : Option (ℕ × Payload)) → length ms ≤ i → all ≡ newest_over limit es (drop i ms) ns best → best ≡ all
+newest-end limit es ms ns i all best l h = sym (h ∙ ap (λ (x : Points). newest_over limit es x ns best) (gone ms i l))
+  where
+    gone : (ms : Points) (i : ℕ) → length ms ≤ i → drop i ms ≡ []
+    gone [] zero l = refl
+    gone [] (suc i) l = refl
+    gone (m ∷ ms) zero l = absurd (omega (arith, l))
+    gone (m ∷ ms) (suc i) l = gone ms i (omega (arith, l))
+
 -- one point more of those that the walk has seen
 module _ (limit : ℕ) (es ms : Points) (i : ℕ) (e : AttrSet × Payload) (there : slice_get ms i ≡ Some e) where
   taken : take (i + 1) ms ≡ take i ms ++ e ∷ []
@@ -350,6 +440,16 @@ module _ (limit : ℕ) (es ms : Points) (i : ℕ) (e : AttrSet × Payload) (ther
       from [] i at = absurd (cc)
       from (m ∷ ms) zero at = let same : m ≡ e = cc in ap (λ x. x ∷ ms) same
       from (m ∷ ms) (suc i) at = from ms i at
+
+  pub counts-there : (n : ℕ) → AreOnce (keys_of ms) → n ≡ own_count (absorb limit es (take i ms)) → Counts n es (absorb limit es (take i ms)) e.0
+  counts-there n o k = (k, λ own. untouched limit es (take i ms) e.0 own (apart-before o))
+
+  -- the newest of the rest is that of all
+  pub newest-more : (ns : List ℕ) (n : ℕ) (all best : Option (ℕ × Payload)) → slice_get ns i ≡ Some n → all ≡ newest_over limit (absorb limit es (take i ms)) (drop i ms) (drop i ns) best
+      → all ≡ newest_over limit (absorb limit es (take (i + 1) ms)) (drop (i + 1) ms) (drop (i + 1) ns) (cond (set_eq (place limit (absorb limit es (take i ms)) e.0) overflow_set) (newer best (n, e.1)) best)
+  newest-more ns n all best at h =
+      h ∙ (λ j. newest_over limit (absorb limit es (take i ms)) (left j) (left-of ns i n at j) best)
+      ∙ ap (λ (x : Points). newest_over limit x (drop (i + 1) ms) (drop (i + 1) ns) (cond (set_eq (place limit (absorb limit es (take i ms)) e.0) overflow_set) (newer best (n, e.1)) best)) (sym seen-more)
 
   -- the rest stays in range where all does
   pub fits-more : fits limit es ms ≡ fits limit (absorb limit es (take i ms)) (drop i ms)

@@ -9,11 +9,14 @@ pub mod Here
 pub mod Inserts
 pub mod JoinedParts
 pub mod Joins
+pub mod Latest
 pub mod Limits
+pub mod Numbers
 pub mod OwnPoints
 pub mod Parts
 pub mod Payloads
 pub mod Points
+pub mod RecorderParts
 pub mod Recorders
 pub mod Records
 pub mod Refusals
@@ -21,5 +24,6 @@ pub mod RoundLaws
 pub mod Rounds
 pub mod SeriesLaws
 pub mod Sound
+pub mod Stamping
 pub mod Steps
 pub mod Taken

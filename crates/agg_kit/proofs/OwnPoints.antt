@@ -4,14 +4,14 @@ use Rattle.std.specs.List.{list_all}
 use Rattle.attr_kit.specs.declared.attr_set.AttrSet.{AttrSet}
 use Rattle.attr_kit.specs.Keeping.{kept}
 use Rattle.point_kit.specs.declared.shape.Shape.{Shape}
-use Rattle.plan_kit.specs.Plans.{AreFeeds, feeds_of, rises}
+use Rattle.plan_kit.specs.Plans.{AreFeeds, feeds_of}
 use Rattle.plan_kit.specs.declared.feed.Feed.{Feed}
 use Rattle.agg_kit.specs.BoundPoints.{place_of, AreAt, IsBound, entry_at}
 use Rattle.agg_kit.specs.Entries.{Entry, Arrivals, arrivals_from, entry_of}
 use Rattle.agg_kit.specs.Feeding.{set_eq}
 use Rattle.agg_kit.specs.Feeds.{series_at, shape_at}
 use Rattle.agg_kit.specs.Measuring.{points_after, series_after, after_measure}
-use Rattle.agg_kit.specs.Recorders.{keeps_set, keeps_sets, OwnBoundPointsStay}
+use Rattle.agg_kit.specs.Recorders.{tally_in, may_hold, keeps_set, keeps_sets, OwnBoundPointsStay}
 use Rattle.agg_kit.specs.Steps.{place, payload_after, step}
 use Rattle.agg_kit.specs.Tallies.{Points, Tallied}
 use Rattle.agg_kit.specs.declared.bound.Bound.{Bound}
@@ -33,16 +33,16 @@ keeps-still t e (f ∷ fs) [] a fits h = absurd h
 keeps-still t e (f ∷ fs) (i ∷ is) a fits h =
     let k = kept f.keep a in
     let here : keeps_set t.plan a (series_after t e) f ≡ keeps_set t.plan a t.series f =
-    ap (λ (es : Points). rises (shape_at t.plan f.stream) && set_eq (place t.plan.limit es k) k) (at-after t e f.stream fits.0)
-    ∙ ap (λ (x : AttrSet). rises (shape_at t.plan f.stream) && set_eq x k)
+    ap (λ (es : Points). may_hold (shape_at t.plan f.stream) && set_eq (place t.plan.limit es k) k) (at-after t e f.stream fits.0)
+    ∙ ap (λ (x : AttrSet). may_hold (shape_at t.plan f.stream) && set_eq x k)
     (place-still (shape_at t.plan f.stream) t.plan.limit (series_at t.series f.stream) (arrivals_from f.stream (feeds_of t.plan e.instrument) e.attrs e.value) k i h.0) in
     (λ j. here j && keeps-still t e fs is a fits.2 h.1 j)
 
 pub own_bound_stays : OwnBoundPointsStay
 own_bound_stays r e b fits (inl n, own) = (inl n, inl n)
-own_bound_stays r e b fits (inr at, inl n) = (bound_stays r e b fits (inr at), inl n)
+own_bound_stays r e b fits (inr at, inl n) = (bound_stays (tally_in r) e b fits (inr at), inl n)
 own_bound_stays r e b fits (inr at, inr keeps) =
-    (bound_stays r e b fits (inr at), inr (keeps-still r e (feeds_of r.plan b.instrument) b.places.items b.attrs fits at ∙ keeps))
+    (bound_stays (tally_in r) e b fits (inr at), inr (keeps-still (tally_in r) e (feeds_of r.plan b.instrument) b.places.items b.attrs fits at ∙ keeps))
 
 -- so it does of a bound point that knows its places, after a recording or a refusal
 pub keeps-after : {T E : Type 0} (o : Result T E) (r n : Tallied) (b c : Bound) (e : Entry) → OnOk o (n ≡ after_measure r e) → OnErr o (n ≡ r)

@@ -1,5 +1,5 @@
 -- What a recorder stands for, as it takes one more recording and as a tally takes it in.
-use Rattle.std.proofs.Common.{◌≡◌, ℕ, ℤ, ◌+◌, ◌<◌, ◌≤◌, ◌==◌, ◌&&◌, ◌||◌, slice_get, Result, Ok, Err, IfOk, OnOk, OnErr, Bool, true, false, cond, List, [], ◌∷◌, ◌++◌, Option, Some, None, length, map, filter, replicate, get_or, refl, sym, ap, subst, ◌∙◌, arith, suc, zero, if◌then◌else◌, true≢false, nat_lt, ltb-true, ltb-false}
+use Rattle.std.proofs.Common.{◌≡◌, ℕ, ℤ, ◌+◌, ◌<◌, ◌==◌, ◌&&◌, ◌||◌, slice_get, Result, Ok, Err, IfOk, Bool, true, false, cond, List, [], ◌∷◌, ◌++◌, Option, Some, None, length, map, filter, replicate, get_or, refl, sym, ap, subst, ◌∙◌, arith, suc, zero, if◌then◌else◌, true≢false, nat_lt}
 use Rattle.std.specs.Cmp.{unsigned_Decides}
 use Rattle.std.specs.List.{enumerate_from, list_all}
 use Rattle.std.specs.Option.{option_map, option_map_or}
@@ -10,26 +10,28 @@ use Rattle.attr_kit.specs.Keeping.{kept}
 use Rattle.point_kit.specs.declared.shape.Shape.{Shape}
 use Rattle.point_kit.specs.declared.shape.Shape.TheVariants as shapes
 use Rattle.point_kit.specs.declared.stream.Stream.{Stream}
-use Rattle.plan_kit.specs.Plans.{Planned, Source, AreFeeds, feeds_of, rises, stream_of}
+use Rattle.plan_kit.specs.Plans.{Planned, Source, AreFeeds, feeds_of, stream_of}
 use Rattle.plan_kit.specs.declared.feed.Feed.{Feed}
-use Rattle.agg_kit.specs.Absorbs.{absorb, places}
+use Rattle.agg_kit.specs.Absorbs.{absorb}
 use Rattle.agg_kit.specs.Entries.{Entry, Arrivals, arrivals, arrivals_from}
 use Rattle.agg_kit.specs.Feeding.{set_eq, overflow_set, placements, fed}
 use Rattle.agg_kit.specs.Feeds.{entries_of, series_at, shape_at}
 use Rattle.agg_kit.specs.Laws.{is_gauge}
-use Rattle.agg_kit.specs.Measuring.{after_measure, empty_tally, fault_of, points_after, series_after}
-use Rattle.agg_kit.specs.Recorders.{whole_round, Holds, OnlyRises, keeps_set, keeps_sets, keep_sets, record_fault_of, as_record_fault, series_with, AreApart, RecordersHold, AbsorbingIsRecording}
+use Rattle.agg_kit.specs.Measuring.{fault_of, points_after, series_after}
+use Rattle.agg_kit.specs.Recorders.{Recorded, tally_in, empty_recorder, whole_round, Holds, may_hold, keeps_set, keeps_sets, keep_sets, can_stamp_all, record_fault_of, as_record_fault, series_with, RecordersHold, AbsorbingIsRecording}
 use Rattle.agg_kit.specs.Rounds.{points_of, round}
-use Rattle.agg_kit.specs.Sound.{AreOnce}
+use Rattle.agg_kit.specs.Stamps.{Stamped, stamps_at, stamped_of, stamps_of, stamps_after, newest_over, put_over, absorb_stamped}
 use Rattle.agg_kit.specs.Steps.{Stored, own_count, has_point, place, add_under, step}
-use Rattle.agg_kit.specs.Tallies.{Points, Tallied}
+use Rattle.agg_kit.specs.Tallies.{Points}
 use Rattle.agg_kit.specs.declared.fault.TallyFault.{TallyFault}
 use Rattle.agg_kit.specs.declared.fault.RecordFault.TheVariants as record_faults
 use Rattle.agg_kit.proofs.Absorbs.{points_absorbed}
 use Rattle.agg_kit.proofs.Distinct.{same, itself}
+use Rattle.agg_kit.proofs.Latest.{gauges_absorbed}
 use Rattle.agg_kit.proofs.Points.{points-push}
 use Rattle.agg_kit.proofs.Records.{entries-read}
 use Rattle.agg_kit.proofs.Rounds.{got, there, within, at-enumerated, length-round, round-at, round-none, shape-is, arrivals-append, arrivals-push, arrivals_from-none, length-after, at-after}
+use Rattle.agg_kit.proofs.Numbers.{stamps-at, stamps-push, length-stamps}
 use Rattle.agg_kit.proofs.Steps.{place-has_point, place-room}
 
 -- ---- the round without a limit
@@ -44,7 +46,7 @@ at-whole p h m s e =
     let z : 0 + m ≡ m = omega arith in
     got (whole_round p h) m _ [] (at-enumerated (λ s. points_of s.1.shape (arrivals p s.0 h)) 0 p.streams m s e) ∙ ap (λ k. points_of s.shape (arrivals p k h)) z
 
-whole-at : (p : Planned) (h : List Entry) (m : ℕ) → m < length p.streams → series_at (whole_round p h) m ≡ points_of (shape_at p m) (arrivals p m h)
+pub whole-at : (p : Planned) (h : List Entry) (m : ℕ) → m < length p.streams → series_at (whole_round p h) m ≡ points_of (shape_at p m) (arrivals p m h)
 whole-at p h m l =
     let t = there p.streams m l in
     at-whole p h m t.0 t.1 ∙ ap (λ (s : Shape). points_of s (arrivals p m h)) (sym (shape-is p m t.0 t.1))
@@ -58,16 +60,13 @@ whole-none p = each p.streams 0
     each [] n = refl
     each (s ∷ ss) n = ap (λ l. [] ∷ l) (each ss (n + 1))
 
-pub holds-none : (p : Planned) → Holds (empty_tally p) []
-holds-none p = round-none p ∙ sym (whole-none p)
+pub holds-none : (p : Planned) → Holds (empty_recorder p) []
+holds-none p = (round-none p ∙ sym (whole-none p), refl)
 
 pub none-at : (n m : ℕ) → series_at (replicate n []) m ≡ []
 none-at zero m = refl
 none-at (suc n) zero = refl
 none-at (suc n) (suc m) = none-at n m
-
-pub rises-none : (p : Planned) → OnlyRises (empty_tally p)
-rises-none p m h = ap (λ ss. series_at ss m) (round-none p) ∙ none-at (length p.streams) m
 
 -- ---- one more recording
 
@@ -78,17 +77,17 @@ both false c h = absurd (true≢false (sym h))
 pub keeps-first : (p : Planned) (a : AttrSet) (ss : List Points) (f : Feed) (fs : List Feed) → list_all (keeps_set p a ss) (f ∷ fs) ≡ true → keeps_set p a ss f ≡ true
 keeps-first p a ss f fs h = (both (keeps_set p a ss f) (list_all (keeps_set p a ss) fs) h).0
 
-keeps-rest : (p : Planned) (a : AttrSet) (ss : List Points) (f : Feed) (fs : List Feed) → list_all (keeps_set p a ss) (f ∷ fs) ≡ true → list_all (keeps_set p a ss) fs ≡ true
+pub keeps-rest : (p : Planned) (a : AttrSet) (ss : List Points) (f : Feed) (fs : List Feed) → list_all (keeps_set p a ss) (f ∷ fs) ≡ true → list_all (keeps_set p a ss) fs ≡ true
 keeps-rest p a ss f fs h = (both (keeps_set p a ss f) (list_all (keeps_set p a ss) fs) h).1
 
 -- the parts of what a feed keeps
-pub keeps-rises : (p : Planned) (a : AttrSet) (ss : List Points) (f : Feed) → keeps_set p a ss f ≡ true → rises (shape_at p f.stream) ≡ true
-keeps-rises p a ss f h = (both (rises (shape_at p f.stream)) (set_eq (place p.limit (series_at ss f.stream) (kept f.keep a)) (kept f.keep a)) h).0
+pub keeps-may : (p : Planned) (a : AttrSet) (ss : List Points) (f : Feed) → keeps_set p a ss f ≡ true → may_hold (shape_at p f.stream) ≡ true
+keeps-may p a ss f h = (both (may_hold (shape_at p f.stream)) (set_eq (place p.limit (series_at ss f.stream) (kept f.keep a)) (kept f.keep a)) h).0
 
-keeps-place : (p : Planned) (a : AttrSet) (ss : List Points) (f : Feed) → keeps_set p a ss f ≡ true → place p.limit (series_at ss f.stream) (kept f.keep a) ≡ kept f.keep a
+pub keeps-place : (p : Planned) (a : AttrSet) (ss : List Points) (f : Feed) → keeps_set p a ss f ≡ true → place p.limit (series_at ss f.stream) (kept f.keep a) ≡ kept f.keep a
 keeps-place p a ss f h =
     same (place p.limit (series_at ss f.stream) (kept f.keep a)) (kept f.keep a)
-    (both (rises (shape_at p f.stream)) (set_eq (place p.limit (series_at ss f.stream) (kept f.keep a)) (kept f.keep a)) h).1
+    (both (may_hold (shape_at p f.stream)) (set_eq (place p.limit (series_at ss f.stream) (kept f.keep a)) (kept f.keep a)) h).1
 
 -- what a feed with a stream of its own brings to the points of a list
 more-has_point : (p : Planned) (n m : ℕ) (ss : List Points) (xs : Arrivals) (fs : List Feed) (a : AttrSet) (v : ℤ) → AreFeeds n fs → series_at ss m ≡ points_of (shape_at p m) xs → list_all (keeps_set p a ss) fs ≡ true
@@ -121,65 +120,33 @@ more-has_point p n m ss xs (f ∷ fs) a v fit at keeps = by (f.stream == m) refl
         (ap (λ (b : AttrSet). add_under shape (points_of shape xs) b v) (goes is) ∙ sym (points-push shape xs set v))
     by false e rest = rest
 
-pub keeps-all : (r : Tallied) (e : Entry) → record_fault_of r e ≡ None → keeps_sets r e ≡ true
-keeps-all r e = by (keeps_sets r e)
-  where
-    by : (b : Bool) → (if b then option_map as_record_fault (fault_of r e) else Some record_faults.Full) ≡ None → b ≡ true
-    by true h = refl
-    by false h = absurd (cc)
+accepts-parts : (b c : Bool) (o : Option TallyFault) → (if b && c then option_map as_record_fault o else Some record_faults.Full) ≡ None → (b ≡ true) × (c ≡ true)
+accepts-parts true true o h = (refl, refl)
+accepts-parts true false o h = absurd (cc)
+accepts-parts false c o h = absurd (cc)
+
+pub keeps-all : (r : Recorded) (e : Entry) → record_fault_of r e ≡ None → keeps_sets (tally_in r) e ≡ true
+keeps-all r e h = (accepts-parts (keeps_sets (tally_in r) e) (can_stamp_all r e.instrument) (fault_of (tally_in r) e) h).0
+
+pub stamps-all : (r : Recorded) (e : Entry) → record_fault_of r e ≡ None → can_stamp_all r e.instrument ≡ true
+stamps-all r e h = (accepts-parts (keeps_sets (tally_in r) e) (can_stamp_all r e.instrument) (fault_of (tally_in r) e) h).1
 
 pub recorders_hold : RecordersHold
 recorders_hold r k e fit holds fine =
     let p = r.plan in
-    ext_get_or [] (series_after r e) (whole_round p (k ++ e ∷ []))
-    (length-after r e ∙ sym (length-whole p (k ++ e ∷ [])))
-    (λ m l.
-    let l' : m < length p.streams = subst (λ (n : ℕ). m < n) (length-after r e) l in
-    let at : series_at r.series m ≡ points_of (shape_at p m) (arrivals p m k) = ap (λ ss. series_at ss m) holds ∙ whole-at p k m l' in
-    at-after r e m l'
-    ∙ ap (λ (es : Points). points_after (shape_at p m) p.limit es (arrivals_from m (feeds_of p e.instrument) e.attrs e.value)) at
-    ∙ more-has_point p (length p.streams) m r.series (arrivals p m k) (feeds_of p e.instrument) e.attrs e.value fit at (keeps-all r e fine)
-    ∙ ap (points_of (shape_at p m)) (sym (arrivals-push p m k e))
-    ∙ sym (whole-at p (k ++ e ∷ []) m l'))
-
--- a stream that does not only rise takes none
-falls-none : (p : Planned) (m : ℕ) (ss : List Points) (fs : List Feed) (a : AttrSet) (v : ℤ) → list_all (keeps_set p a ss) fs ≡ true → rises (shape_at p m) ≡ false → arrivals_from m fs a v ≡ []
-falls-none p m ss [] a v keeps h = refl
-falls-none p m ss (f ∷ fs) a v keeps h = by (f.stream == m) refl (falls-none p m ss fs a v (keeps-rest p a ss f fs keeps) h)
-  where
-    all : Bool → Arrivals
-    all b = map (λ f. (kept f.keep a, v)) (cond b (f ∷ filter (λ f. f.stream == m) fs) (filter (λ f. f.stream == m) fs))
-
-    by : (b : Bool) → (f.stream == m) ≡ b → arrivals_from m fs a v ≡ [] → all b ≡ []
-    by true e rest = absurd (true≢false (sym (keeps-rises p a ss f (keeps-first p a ss f fs keeps)) ∙ ap (λ n. rises (shape_at p n)) ((unsigned_Decides f.stream m).0 e) ∙ h))
-    by false e rest = rest
-
-beyond : (xs : List Points) (m n : ℕ) → length xs ≡ n → n ≤ m → series_at xs m ≡ []
-beyond [] m n e h = refl
-beyond (x ∷ xs) zero n e h = absurd (omega (arith, e, h))
-beyond (x ∷ xs) (suc m) zero e h = absurd (omega (arith, e))
-beyond (x ∷ xs) (suc m) (suc n) e h = beyond xs m n (omega (arith, e)) (omega (arith, h))
-
-pub rises-still : (r : Tallied) (e : Entry) → keeps_sets r e ≡ true → OnlyRises r → (m : ℕ) → rises (shape_at r.plan m) ≡ false → series_at (series_after r e) m ≡ []
-rises-still r e keeps only m h = by (nat_lt m (length p.streams)) refl
-  where
-    p : Planned
-    p = r.plan
-
-    by : (b : Bool) → nat_lt m (length p.streams) ≡ b → series_at (series_after r e) m ≡ []
-    by true l =
-        at-after r e m (ltb-true m (length p.streams) l)
-        ∙ ap (points_after (shape_at p m) p.limit (series_at r.series m)) (falls-none p m r.series (feeds_of p e.instrument) e.attrs e.value keeps h)
-        ∙ only m h
-    by false l = beyond (series_after r e) m (length p.streams) (length-after r e) (ltb-false m (length p.streams) l)
-
-pub rises-either : {T E : Type 0} (r : Result T E) (t n : Tallied) (e : Entry) → OnOk r (n ≡ after_measure t e) → OnErr r (n ≡ t) → keeps_sets t e ≡ true → OnlyRises t → OnlyRises n
-rises-either (Ok x) t n e now was keeps only = subst OnlyRises (sym now) (rises-still t e keeps only)
-rises-either (Err x) t n e now was keeps only = subst OnlyRises (sym was) only
-
-pub rises-emptied : {T E : Type 0} (r : Result T E) (t n : Tallied) → OnOk r (n ≡ empty_tally t.plan) → OnErr r (n ≡ t) → OnlyRises t → OnlyRises n
-rises-emptied (Ok x) t n now was only = subst OnlyRises (sym now) (rises-none t.plan)
-rises-emptied (Err x) t n now was only = subst OnlyRises (sym was) only
+    let t = tally_in r in
+    let points : (m : ℕ) → m < length p.streams → series_at r.series m ≡ points_of (shape_at p m) (arrivals p m k) = λ m l. ap (λ ss. series_at ss m) holds.0 ∙ whole-at p k m l in (
+      ext_get_or [] (series_after t e) (whole_round p (k ++ e ∷ []))
+          (length-after t e ∙ sym (length-whole p (k ++ e ∷ [])))
+          (λ m l.
+          let l' : m < length p.streams = subst (λ (n : ℕ). m < n) (length-after t e) l in
+          at-after t e m l'
+          ∙ ap (λ (es : Points). points_after (shape_at p m) p.limit es (arrivals_from m (feeds_of p e.instrument) e.attrs e.value)) (points m l')
+          ∙ more-has_point p (length p.streams) m r.series (arrivals p m k) (feeds_of p e.instrument) e.attrs e.value fit (points m l') (keeps-all r e fine)
+          ∙ ap (points_of (shape_at p m)) (sym (arrivals-push p m k e))
+          ∙ sym (whole-at p (k ++ e ∷ []) m l')),
+      ap (stamps_after p (feeds_of p e.instrument) e.attrs r.series) holds.1 ∙ stamps-push p (feeds_of p e.instrument) k e r.series fit points (λ m. arrivals-push p m k e),
+    )
 
 -- ---- what a recorder looks at
 
@@ -203,10 +170,10 @@ place-own limit es a h = by (has_point es a) refl h
     by false k o = either (has_point es a || nat_lt (own_count es) limit) (same overflow_set a o)
 
 -- a feed keeps its set, by the points of its stream as they were read
-pub keeps-here : (p : Planned) (f : Feed) (a : AttrSet) (ss : List Stored) (s : Stored) → f.stream < length ss → s ≡ get_or ss f.stream s → rises (shape_at p f.stream) ≡ true
+pub keeps-here : (p : Planned) (f : Feed) (a : AttrSet) (ss : List Stored) (s : Stored) → f.stream < length ss → s ≡ get_or ss f.stream s → may_hold (shape_at p f.stream) ≡ true
     → place p.limit s.entries (kept f.keep a) ≡ kept f.keep a → keeps_set p a (entries_of ss) f ≡ true
 keeps-here p f a ss s l was up goes =
-    ap (λ (es : Points). rises (shape_at p f.stream) && set_eq (place p.limit es (kept f.keep a)) (kept f.keep a)) (entries-read ss f.stream s l was)
+    ap (λ (es : Points). may_hold (shape_at p f.stream) && set_eq (place p.limit es (kept f.keep a)) (kept f.keep a)) (entries-read ss f.stream s l was)
     ∙ ap (λ b. b && set_eq (place p.limit s.entries (kept f.keep a)) (kept f.keep a)) up
     ∙ ap (λ (x : AttrSet). set_eq x (kept f.keep a)) goes
     ∙ itself (kept f.keep a)
@@ -225,62 +192,88 @@ feeds-gone p i n = by (slice_get p.instruments i) refl
     by None e = refl
     by (Some s) e = absurd (n (within p.instruments i s e))
 
-pub record-full : (r : Tallied) (e : Entry) → keeps_sets r e ≡ false → record_fault_of r e ≡ Some record_faults.Full
-record-full r e h = ap (λ b. if b then option_map as_record_fault (fault_of r e) else Some record_faults.Full) h
+pub record-full : (r : Recorded) (e : Entry) → keeps_sets (tally_in r) e ≡ false → record_fault_of r e ≡ Some record_faults.Full
+record-full r e h = ap (λ b. if b && can_stamp_all r e.instrument then option_map as_record_fault (fault_of (tally_in r) e) else Some record_faults.Full) h
 
-pub record-as_record_fault : (r : Tallied) (e : Entry) (o : Option TallyFault) → keeps_sets r e ≡ true → fault_of r e ≡ o → record_fault_of r e ≡ option_map as_record_fault o
-record-as_record_fault r e o h f = ap (λ b. if b then option_map as_record_fault (fault_of r e) else Some record_faults.Full) h ∙ ap (option_map as_record_fault) f
+pub record-stamps : (r : Recorded) (e : Entry) → keeps_sets (tally_in r) e ≡ true → can_stamp_all r e.instrument ≡ false → record_fault_of r e ≡ Some record_faults.Full
+record-stamps r e h c =
+    ap (λ b. if b && can_stamp_all r e.instrument then option_map as_record_fault (fault_of (tally_in r) e) else Some record_faults.Full) h
+    ∙ ap (λ b. if b then option_map as_record_fault (fault_of (tally_in r) e) else Some record_faults.Full) c
+
+pub record-as_record_fault : (r : Recorded) (e : Entry) (o : Option TallyFault) → keeps_sets (tally_in r) e ≡ true → can_stamp_all r e.instrument ≡ true → fault_of (tally_in r) e ≡ o
+    → record_fault_of r e ≡ option_map as_record_fault o
+record-as_record_fault r e o h c f =
+    ap (λ b. if b && can_stamp_all r e.instrument then option_map as_record_fault (fault_of (tally_in r) e) else Some record_faults.Full) h
+    ∙ ap (λ b. if b then option_map as_record_fault (fault_of (tally_in r) e) else Some record_faults.Full) c
+    ∙ ap (option_map as_record_fault) f
 
 -- ---- a tally that takes a recorder in
 
-length-series_with : (limit : ℕ) (ess mss : List Points) → length (series_with limit ess mss) ≡ length ess
-length-series_with limit [] mss = refl
-length-series_with limit (es ∷ ess) [] = refl
-length-series_with limit (es ∷ ess) (ms ∷ mss) = ap suc (length-series_with limit ess mss)
+length-series_with : (limit : ℕ) (ess mss : List Points) (nss : List Stamped) → length (series_with limit ess mss nss) ≡ length ess
+length-series_with limit [] mss nss = refl
+length-series_with limit (es ∷ ess) [] nss = refl
+length-series_with limit (es ∷ ess) (ms ∷ mss) [] = refl
+length-series_with limit (es ∷ ess) (ms ∷ mss) (ns ∷ nss) = ap suc (length-series_with limit ess mss nss)
 
-pub at-series_with : (limit : ℕ) (ess mss : List Points) (m : ℕ) → m < length ess → m < length mss → series_at (series_with limit ess mss) m ≡ absorb limit (series_at ess m) (series_at mss m)
-at-series_with limit [] mss m k l = absurd (omega (arith, k))
-at-series_with limit (es ∷ ess) [] m k l = absurd (omega (arith, l))
-at-series_with limit (es ∷ ess) (ms ∷ mss) zero k l = refl
-at-series_with limit (es ∷ ess) (ms ∷ mss) (suc m) k l = at-series_with limit ess mss m (omega (arith, k)) (omega (arith, l))
+pub at-series_with : (limit : ℕ) (ess mss : List Points) (nss : List Stamped) (m : ℕ) → m < length ess → m < length mss → m < length nss
+    → series_at (series_with limit ess mss nss) m ≡ absorb_stamped limit (series_at ess m) (series_at mss m) (stamps_at nss m).stamps
+at-series_with limit [] mss nss m k l n = absurd (omega (arith, k))
+at-series_with limit (es ∷ ess) [] nss m k l n = absurd (omega (arith, l))
+at-series_with limit (es ∷ ess) (ms ∷ mss) [] m k l n = absurd (omega (arith, n))
+at-series_with limit (es ∷ ess) (ms ∷ mss) (ns ∷ nss) zero k l n = refl
+at-series_with limit (es ∷ ess) (ms ∷ mss) (ns ∷ nss) (suc m) k l n = at-series_with limit ess mss nss m (omega (arith, k)) (omega (arith, l)) (omega (arith, n))
+
+newest-nothing : (limit : ℕ) (es ms : Points) → newest_over limit es ms [] None ≡ None
+newest-nothing limit es [] = refl
+newest-nothing limit es (e ∷ ms) = refl
+
+-- a stream without stamps takes the points in as they are
+pub absorb-unstamped : (shape : Shape) (limit : ℕ) (es ms : Points) (ys : Arrivals) → is_gauge shape ≡ false → absorb_stamped limit es ms (stamped_of shape ys).stamps ≡ absorb limit es ms
+absorb-unstamped (shapes.Sum m) limit es ms ys g = ap (put_over (absorb limit es ms)) (newest-nothing limit es ms)
+absorb-unstamped shapes.Gauge limit es ms ys g = absurd (true≢false g)
+absorb-unstamped (shapes.Histogram bounds) limit es ms ys g = ap (put_over (absorb limit es ms)) (newest-nothing limit es ms)
+
+stamped-absorbed : (shape : Shape) (limit : ℕ) (xs ys : Arrivals)
+    → absorb_stamped limit (points_of shape (placements limit xs)) (points_of shape ys) (stamped_of shape ys).stamps ≡ points_of shape (placements limit (xs ++ ys))
+stamped-absorbed (shapes.Sum m) limit xs ys = absorb-unstamped (shapes.Sum m) limit (points_of (shapes.Sum m) (placements limit xs)) (points_of (shapes.Sum m) ys) ys refl ∙ points_absorbed (shapes.Sum m) limit xs ys (λ g. absurd (true≢false (sym g)))
+stamped-absorbed shapes.Gauge limit xs ys = gauges_absorbed limit xs ys
+stamped-absorbed (shapes.Histogram bounds) limit xs ys =
+    absorb-unstamped (shapes.Histogram bounds) limit (points_of (shapes.Histogram bounds) (placements limit xs)) (points_of (shapes.Histogram bounds) ys) ys refl ∙ points_absorbed (shapes.Histogram bounds) limit xs ys (λ g. absurd (true≢false (sym g)))
 
 pub at-stream : (p : Planned) (h : List Entry) (m : ℕ) (s : Stream) → stream_of p m ≡ Some s → series_at (round p h) m ≡ points_of s.shape (placements p.limit (arrivals p m h))
 unfolding fed
 at-stream p h m s e = got (round p h) m _ [] (round-at p h m s e)
 
+pub stamps-stream : (p : Planned) (k : List Entry) (m : ℕ) (s : Stream) → stream_of p m ≡ Some s → stamps_at (stamps_of p k) m ≡ stamped_of s.shape (arrivals p m k)
+stamps-stream p k m s e = stamps-at p k m (within p.streams m s e) ∙ ap (λ (x : Shape). stamped_of x (arrivals p m k)) (shape-is p m s e)
+
 -- each stream by itself
-stream-series_with : (p : Planned) (ess mss : List Points) (h k : List Entry) (m : ℕ) (s : Stream) → stream_of p m ≡ Some s → ess ≡ round p h → mss ≡ whole_round p k → AreApart p ess mss
-    → absorb p.limit (series_at ess m) (series_at mss m) ≡ series_at (round p (h ++ k)) m
-stream-series_with p ess mss h k m s e x y o =
+stream-series_with : (p : Planned) (ess mss : List Points) (nss : List Stamped) (h k : List Entry) (m : ℕ) (s : Stream) → stream_of p m ≡ Some s → ess ≡ round p h → mss ≡ whole_round p k → nss ≡ stamps_of p k
+    → absorb_stamped p.limit (series_at ess m) (series_at mss m) (stamps_at nss m).stamps ≡ series_at (round p (h ++ k)) m
+stream-series_with p ess mss nss h k m s e x y z =
     let a : series_at ess m ≡ points_of s.shape (placements p.limit (arrivals p m h)) = ap (λ l. series_at l m) x ∙ at-stream p h m s e in
     let b : series_at mss m ≡ points_of s.shape (arrivals p m k) = ap (λ l. series_at l m) y ∙ at-whole p k m s e in
-    (λ i. absorb p.limit (a i) (b i))
-    ∙ points_absorbed s.shape p.limit (arrivals p m h) (arrivals p m k) (λ g. subst AreOnce (λ i. places p.limit (a i) (b i)) (o m s e g))
+    let c : stamps_at nss m ≡ stamped_of s.shape (arrivals p m k) = ap (λ l. stamps_at l m) z ∙ stamps-stream p k m s e in
+    (λ i. absorb_stamped p.limit (a i) (b i) (c i).stamps)
+    ∙ stamped-absorbed s.shape p.limit (arrivals p m h) (arrivals p m k)
     ∙ ap (λ l. points_of s.shape (placements p.limit l)) (sym (arrivals-append p m h k))
     ∙ sym (at-stream p (h ++ k) m s e)
 
-all-series_with : (p : Planned) (ess mss : List Points) (h k : List Entry) → ess ≡ round p h → mss ≡ whole_round p k → AreApart p ess mss → series_with p.limit ess mss ≡ round p (h ++ k)
-all-series_with p ess mss h k x y o =
+all-series_with : (p : Planned) (ess mss : List Points) (nss : List Stamped) (h k : List Entry) → ess ≡ round p h → mss ≡ whole_round p k → nss ≡ stamps_of p k → series_with p.limit ess mss nss ≡ round p (h ++ k)
+all-series_with p ess mss nss h k x y z =
     let long : length ess ≡ length p.streams = ap length x ∙ length-round p h in
     let wide : length mss ≡ length p.streams = ap length y ∙ length-whole p k in
-    let all = length-series_with p.limit ess mss in
-    ext_get_or [] (series_with p.limit ess mss) (round p (h ++ k))
+    let far : length nss ≡ length p.streams = ap length z ∙ length-stamps p k in
+    let all = length-series_with p.limit ess mss nss in
+    ext_get_or [] (series_with p.limit ess mss nss) (round p (h ++ k))
     (all ∙ long ∙ sym (length-round p (h ++ k)))
     (λ m l.
     let l' : m < length ess = subst (λ (n : ℕ). m < n) all l in
     let l'' : m < length p.streams = subst (λ (n : ℕ). m < n) long l' in
     let s = there p.streams m l'' in
-    at-series_with p.limit ess mss m l' (subst (λ (n : ℕ). m < n) (sym wide) l'')
-    ∙ stream-series_with p ess mss h k m s.0 s.1 x y o)
-
-gauges-fall : (shape : Shape) → is_gauge shape ≡ true → rises shape ≡ false
-gauges-fall (shapes.Sum m) h = absurd (true≢false (sym h))
-gauges-fall shapes.Gauge h = refl
-gauges-fall (shapes.Histogram bounds) h = absurd (true≢false (sym h))
+    at-series_with p.limit ess mss nss m l' (subst (λ (n : ℕ). m < n) (sym wide) l'') (subst (λ (n : ℕ). m < n) (sym far) l'')
+    ∙ stream-series_with p ess mss nss h k m s.0 s.1 x y z)
 
 pub absorbing_is_recording : AbsorbingIsRecording
-absorbing_is_recording t r h k alike only stands holds =
-    all-series_with t.plan t.series r.series h k stands (holds ∙ ap (λ (p : Planned). whole_round p k) alike)
-    (λ m s e g.
-    let falls : rises (shape_at r.plan m) ≡ false = ap (λ (p : Planned). rises (shape_at p m)) alike ∙ ap rises (shape-is t.plan m s e) ∙ gauges-fall s.shape g in
-    subst (λ ms. AreOnce (places t.plan.limit (series_at t.series m) ms)) (sym (only m falls)) tt)
+absorbing_is_recording t r h k alike stands holds =
+    all-series_with t.plan t.series r.series r.stamps h k stands (holds.0 ∙ ap (λ (p : Planned). whole_round p k) alike) (holds.1 ∙ ap (λ (p : Planned). stamps_of p k) alike)

@@ -1,5 +1,5 @@
 -- Each recording of a recorder that is taken in would have been accepted, one after the other.
-use Rattle.std.proofs.Common.{◌≡◌, ◌≢◌, ◌∙◌, ◌⊎◌, inl, inr, ℕ, ℤ, pos, ◌+◌, ◌+ℤ◌, ◌<◌, ◌≤◌, ◌^◌, ◌==◌, ◌||◌, ◌&&◌, not, cond, Bool, true, false, List, [], ◌∷◌, ◌++◌, Option, None, Some, length, map, filter, find, fold, is_none, if◌then◌else◌, int_lt, nat_le, refl, sym, ap, subst, arith, suc, zero, true≢false, append-nil, append_assoc, FitsSigned, w64}
+use Rattle.std.proofs.Common.{◌≡◌, ◌∙◌, ◌⊎◌, inl, inr, ℕ, ℤ, pos, ◌+◌, ◌+ℤ◌, ◌<◌, ◌^◌, ◌==◌, ◌||◌, ◌&&◌, not, cond, Bool, true, false, List, [], ◌∷◌, ◌++◌, Option, None, Some, length, map, filter, find, fold, is_none, if◌then◌else◌, int_lt, nat_le, refl, sym, ap, subst, arith, suc, zero, true≢false, append-nil, append_assoc, FitsSigned, w64}
 use Rattle.std.specs.Cmp.{unsigned_Decides}
 use Rattle.std.specs.List.{list_all}
 use Rattle.std.specs.Map.{lookup}
@@ -22,28 +22,29 @@ use Rattle.agg_kit.specs.Absorbs.{absorb, fits, with_point, point_with}
 use Rattle.agg_kit.specs.Entries.{Entry, Arrivals, arrivals, arrivals_from}
 use Rattle.agg_kit.specs.Feeding.{set_eq, own_sets, goes_to, placements, fed}
 use Rattle.agg_kit.specs.Feeds.{series_at, shape_at}
-use Rattle.agg_kit.specs.Measuring.{after_measure, empty_tally, fault_of, is_over}
+use Rattle.agg_kit.specs.Laws.{is_gauge}
+use Rattle.agg_kit.specs.Measuring.{after_measure, fault_of, is_over}
 use Rattle.agg_kit.specs.Payloads.{total, fits_sum, is_out_of_range, payload_of}
-use Rattle.agg_kit.specs.Recorders.{Holds, OnlyRises, keeps_set, keeps_sets, record_fault_of, as_record_fault, series_with, with_recorder, first_unfit, absorb_fault}
+use Rattle.agg_kit.specs.Recorders.{Recorded, tally_in, recorder_after, empty_recorder, Holds, may_hold, keeps_set, record_fault_of, as_record_fault, with_recorder, first_unfit, absorb_fault}
 use Rattle.agg_kit.specs.Refusals.{is_negative_for, overflows, first_refusal}
-use Rattle.agg_kit.specs.Rounds.{values_of, points_of, round, StandsFor}
-use Rattle.agg_kit.specs.Steps.{place, payload_at}
+use Rattle.agg_kit.specs.Rounds.{values_of, points_of, StandsFor}
+use Rattle.agg_kit.specs.Stamps.{Stamped, stamps_at, stamped_of, stamps_of, absorb_stamped}
+use Rattle.agg_kit.specs.Steps.{place}
 use Rattle.agg_kit.specs.Tallies.{Points, Tallied}
-use Rattle.agg_kit.specs.Taken.{AreTaken, Rises, AreRecorded, HasRecorded, RecordersHave, AbsorbedAreTaken}
+use Rattle.agg_kit.specs.Taken.{AreTaken, FeedsRise, Rises, AreRecorded, HasRecorded, RecordersHave, AbsorbedAreTaken}
 use Rattle.agg_kit.specs.declared.fault.TallyFault.{TallyFault}
 use Rattle.agg_kit.specs.declared.fault.TallyFault.TheVariants as faults
-use Rattle.agg_kit.specs.declared.fault.RecordFault.{RecordFault}
-use Rattle.agg_kit.specs.declared.fault.RecordFault.TheVariants as record_faults
 use Rattle.agg_kit.proofs.Distinct.{or-no, same}
 use Rattle.agg_kit.proofs.Inserts.{lookup-here, lookup-other}
 use Rattle.agg_kit.proofs.Limits.{not-true, not-false, moved, same-fed, placements-push}
 use Rattle.agg_kit.proofs.Parts.{fits-signed, signed-fits}
 use Rattle.agg_kit.proofs.Payloads.{total-push}
 use Rattle.agg_kit.proofs.Points.{payload-is, values-push}
-use Rattle.agg_kit.proofs.Recorders.{holds-none, rises-none, rises-still, recorders_hold, absorbing_is_recording, keeps-all, at-series_with, at-stream, length-whole, both, keeps-first, keeps-rises}
+use Rattle.agg_kit.proofs.Recorders.{holds-none, recorders_hold, absorbing_is_recording, absorb-unstamped, stamps-stream, keeps-all, stamps-all, record-as_record_fault, at-series_with, at-stream, length-whole, both, keeps-first, keeps-rest, keeps-may}
+use Rattle.agg_kit.proofs.Numbers.{length-stamps}
 use Rattle.agg_kit.proofs.Refusals.{Every}
 use Rattle.agg_kit.proofs.RoundLaws.{grown, goes-on}
-use Rattle.agg_kit.proofs.Rounds.{within, length-round, arrivals-append, arrivals-push, arrivals_from-none}
+use Rattle.agg_kit.proofs.Rounds.{within, shape-is, length-round, arrivals-append, arrivals-push, arrivals_from-none}
 
 -- ---- values that are not below 0
 
@@ -71,23 +72,23 @@ append-rise : (xs ys : Arrivals) → AreRising xs → AreRising ys → AreRising
 append-rise [] ys r s = s
 append-rise (x ∷ xs) ys r s = (r.0, append-rise xs ys r.1 s)
 
-all-rise : (a : AttrSet) (v : ℤ) → int_lt v (pos 0) ≡ false → (fs : List Feed) → AreRising (map (λ f. (kept f.keep a, v)) fs)
-all-rise a v h [] = tt
-all-rise a v h (f ∷ fs) = (h, all-rise a v h fs)
+arrivals_from-rise : (p : Planned) (m : ℕ) (fs : List Feed) (a : AttrSet) (v : ℤ) → is_gauge (shape_at p m) ≡ false → FeedsRise p fs v → AreRising (arrivals_from m fs a v)
+arrivals_from-rise p m [] a v g r = tt
+arrivals_from-rise p m (f ∷ fs) a v g r = by (f.stream == m) refl (arrivals_from-rise p m fs a v g r.1)
+  where
+    all : Bool → Arrivals
+    all b = map (λ f. (kept f.keep a, v)) (cond b (f ∷ filter (λ f. f.stream == m) fs) (filter (λ f. f.stream == m) fs))
 
-not-empty : (f : Feed) (fs : List Feed) → f ∷ fs ≢ []
-not-empty f fs e = cc
+    by : (b : Bool) → (f.stream == m) ≡ b → AreRising (arrivals_from m fs a v) → AreRising (all b)
+    by true e rest = (r.0 (ap (λ (n : ℕ). is_gauge (shape_at p n)) ((unsigned_Decides f.stream m).0 e) ∙ g), rest)
+    by false e rest = rest
 
-arrivals_from-rise : (m : ℕ) (fs : List Feed) (a : AttrSet) (v : ℤ) → (fs ≢ [] → int_lt v (pos 0) ≡ false) → AreRising (arrivals_from m fs a v)
-arrivals_from-rise m [] a v h = tt
-arrivals_from-rise m (f ∷ fs) a v h = all-rise a v (h (not-empty f fs)) (filter (λ f. f.stream == m) (f ∷ fs))
-
-recorded-rise : (p : Planned) (r : Tallied) (k : List Entry) (m : ℕ) → r.plan ≡ p → AreRecorded r k → AreRising (arrivals p m k)
-recorded-rise p r [] m is rec = tt
-recorded-rise p r (e ∷ k) m is rec =
+recorded-rise : (p : Planned) (r : Recorded) (k : List Entry) (m : ℕ) → r.plan ≡ p → is_gauge (shape_at p m) ≡ false → AreRecorded r k → AreRising (arrivals p m k)
+recorded-rise p r [] m is g rec = tt
+recorded-rise p r (e ∷ k) m is g rec =
     append-rise (arrivals_from m (feeds_of p e.instrument) e.attrs e.value) (arrivals p m k)
-    (arrivals_from-rise m (feeds_of p e.instrument) e.attrs e.value (subst (λ (q : Planned). Rises q e) is rec.1))
-    (recorded-rise p (after_measure r e) k m is rec.2)
+    (arrivals_from-rise p m (feeds_of p e.instrument) e.attrs e.value g (subst (λ (q : Planned). Rises q e) is rec.1))
+    (recorded-rise p (recorder_after r e) k m is g rec.2)
 
 total-append : (vs ws : List ℤ) → total (vs ++ ws) ≡ total vs +ℤ total ws
 total-append vs = grown (λ ws. total (vs ++ ws) ≡ total vs +ℤ total ws) (ap total (append-nil vs) ∙ omega (arith, ints)) push
@@ -176,15 +177,31 @@ fed-between shape limit xs ys zs a r s low high =
 abbrev InRange : Planned → List Entry → Type 0
 InRange p h = (m : ℕ) (s : Stream) (a : AttrSet) → stream_of p m ≡ Some s → is_out_of_range (payload_of s.shape (values_of (placements p.limit (arrivals p m h)) a)) ≡ false
 
-range-between : (p : Planned) (h : List Entry) (e : Entry) (k : List Entry) → ((m : ℕ) → AreRising (arrivals_from m (feeds_of p e.instrument) e.attrs e.value)) → ((m : ℕ) → AreRising (arrivals p m k))
-    → InRange p h → InRange p ((h ++ e ∷ []) ++ k) → InRange p (h ++ e ∷ [])
-range-between p h e k one more low high m s a at =
-    let xs = arrivals p m h in
-    let ys = arrivals_from m (feeds_of p e.instrument) e.attrs e.value in
-    let zs = arrivals p m k in
-    ap (λ l. is_out_of_range (payload_of s.shape (values_of (placements p.limit l) a))) (arrivals-push p m h e)
-    ∙ fed-between s.shape p.limit xs ys zs a (one m) (more m) (low m s a at)
-    (ap (λ l. is_out_of_range (payload_of s.shape (values_of (placements p.limit l) a))) (sym (arrivals-append p m (h ++ e ∷ []) k ∙ ap (λ l. l ++ zs) (arrivals-push p m h e))) ∙ high m s a at)
+out-gauge : (shape : Shape) (vs : List ℤ) → is_gauge shape ≡ true → is_out_of_range (payload_of shape vs) ≡ false
+out-gauge (shapes.Sum m) vs g = absurd (true≢false (sym g))
+out-gauge shapes.Gauge vs g = refl
+out-gauge (shapes.Histogram bounds) vs g = absurd (true≢false (sym g))
+
+range-between : (p : Planned) (h : List Entry) (e : Entry) (k : List Entry) → ((m : ℕ) → is_gauge (shape_at p m) ≡ false → AreRising (arrivals_from m (feeds_of p e.instrument) e.attrs e.value))
+    → ((m : ℕ) → is_gauge (shape_at p m) ≡ false → AreRising (arrivals p m k)) → InRange p h → InRange p ((h ++ e ∷ []) ++ k) → InRange p (h ++ e ∷ [])
+range-between p h e k one more low high m s a at = by (is_gauge s.shape) refl
+  where
+    xs : Arrivals
+    xs = arrivals p m h
+
+    ys : Arrivals
+    ys = arrivals_from m (feeds_of p e.instrument) e.attrs e.value
+
+    zs : Arrivals
+    zs = arrivals p m k
+
+    by : (b : Bool) → is_gauge s.shape ≡ b → is_out_of_range (payload_of s.shape (values_of (placements p.limit (arrivals p m (h ++ e ∷ []))) a)) ≡ false
+    by true g = out-gauge s.shape (values_of (placements p.limit (arrivals p m (h ++ e ∷ []))) a) g
+    by false g =
+        let g' : is_gauge (shape_at p m) ≡ false = ap is_gauge (shape-is p m s at) ∙ g in
+        ap (λ l. is_out_of_range (payload_of s.shape (values_of (placements p.limit l) a))) (arrivals-push p m h e)
+        ∙ fed-between s.shape p.limit xs ys zs a (one m g') (more m g') (low m s a at)
+        (ap (λ l. is_out_of_range (payload_of s.shape (values_of (placements p.limit l) a))) (sym (arrivals-append p m (h ++ e ∷ []) k ∙ ap (λ l. l ++ zs) (arrivals-push p m h e))) ∙ high m s a at)
 
 -- ---- one recording that is accepted
 
@@ -219,8 +236,8 @@ as_record_fault-none : (o : Option TallyFault) → option_map as_record_fault o 
 as_record_fault-none None h = refl
 as_record_fault-none (Some f) h = absurd (cc)
 
-record-none : (r : Tallied) (e : Entry) → record_fault_of r e ≡ None → fault_of r e ≡ None
-record-none r e h = as_record_fault-none (fault_of r e) (ap (λ b. if b then option_map as_record_fault (fault_of r e) else Some record_faults.Full) (sym (keeps-all r e h)) ∙ h)
+record-none : (r : Recorded) (e : Entry) → record_fault_of r e ≡ None → fault_of (tally_in r) e ≡ None
+record-none r e h = as_record_fault-none (fault_of (tally_in r) e) (sym (record-as_record_fault r e (fault_of (tally_in r) e) (keeps-all r e h) (stamps-all r e h) refl) ∙ h)
 
 neither : {F : Type 0} (b c : Bool) (f g : F) (o : Option F) → first (when b f ∷ when c g ∷ o ∷ []) ≡ None → (b ≡ false) × (c ≡ false)
 neither true c f g o e = absurd (cc)
@@ -235,16 +252,16 @@ fits-instrument r e h =
 
 -- ---- all of them
 
-taken-all : (p : Planned) (h k : List Entry) (r : Tallied) → r.plan ≡ p → AreRecorded r k → InRange p h → InRange p (h ++ k) → AreTaken p h k
+taken-all : (p : Planned) (h k : List Entry) (r : Recorded) → r.plan ≡ p → AreRecorded r k → InRange p h → InRange p (h ++ k) → AreTaken p h k
 taken-all p h [] r is rec low high = tt
 taken-all p h (e ∷ k) r is rec low high =
     let whole : InRange p ((h ++ e ∷ []) ++ k) = subst (InRange p) (sym (append_assoc h (e ∷ []) k)) high in
-    let one : (m : ℕ) → AreRising (arrivals_from m (feeds_of p e.instrument) e.attrs e.value) =
-    λ m. arrivals_from-rise m (feeds_of p e.instrument) e.attrs e.value (subst (λ (q : Planned). Rises q e) is rec.1) in
-    let middle : InRange p (h ++ e ∷ []) = range-between p h e k one (λ m. recorded-rise p (after_measure r e) k m is rec.2) low whole in
+    let one : (m : ℕ) → is_gauge (shape_at p m) ≡ false → AreRising (arrivals_from m (feeds_of p e.instrument) e.attrs e.value) =
+    λ m g. arrivals_from-rise p m (feeds_of p e.instrument) e.attrs e.value g (subst (λ (q : Planned). Rises q e) is rec.1) in
+    let middle : InRange p (h ++ e ∷ []) = range-between p h e k one (λ m g. recorded-rise p (recorder_after r e) k m is g rec.2) low whole in
     let parts : (is_none (kind_of p e.instrument) ≡ false) × (is_negative_for (kind_of p e.instrument) e.value ≡ false) =
-    subst (λ (q : Planned). (is_none (kind_of q e.instrument) ≡ false) × (is_negative_for (kind_of q e.instrument) e.value ≡ false)) is (fits-instrument r e (record-none r e rec.0)) in
-    (accepted p h e parts.0 parts.1 middle, taken-all p (h ++ e ∷ []) k (after_measure r e) is rec.2 middle whole)
+    subst (λ (q : Planned). (is_none (kind_of q e.instrument) ≡ false) × (is_negative_for (kind_of q e.instrument) e.value ≡ false)) is (fits-instrument (tally_in r) e (record-none r e rec.0)) in
+    (accepted p h e parts.0 parts.1 middle, taken-all p (h ++ e ∷ []) k (recorder_after r e) is rec.2 middle whole)
 
 -- ---- accepted recordings come to points in range
 
@@ -393,48 +410,63 @@ absorb-none : (o : Option ℕ) → option_map (λ (m : ℕ). faults.Overflow m) 
 absorb-none None h = refl
 absorb-none (Some m) h = absurd (cc)
 
-whole-in : (t r : Tallied) (h k : List Entry) → r.plan ≡ t.plan → length r.series ≡ length t.plan.streams → StandsFor t h → InRange t.plan h → absorb_fault t r ≡ None
+whole-in : (t : Tallied) (r : Recorded) (h k : List Entry) → r.plan ≡ t.plan → Holds r k → StandsFor t h → InRange t.plan h → absorb_fault t r ≡ None
     → StandsFor (with_recorder t r) (h ++ k) → InRange t.plan (h ++ k)
-whole-in t r h k alike long stands low fits_all after m s a at =
-    let p = t.plan in
-    let less : m < length p.streams = within p.streams m s at in
-    let here : m < length t.series = subst (λ (n : ℕ). m < n) (sym (ap length stands ∙ length-round p h)) less in
-    let other : m < length r.series = subst (λ (n : ℕ). m < n) (sym long) less in
-    let fine : fits p.limit (series_at t.series m) (series_at r.series m) ≡ true =
-    unfit-none 0 p.limit t.series r.series m (absorb-none (first_unfit 0 p.limit t.series r.series) fits_all) here other in
-    let was : series_at t.series m ≡ points_of s.shape (placements p.limit (arrivals p m h)) = ap (λ l. series_at l m) stands ∙ at-stream p h m s at in
-    let is : absorb p.limit (series_at t.series m) (series_at r.series m) ≡ points_of s.shape (placements p.limit (arrivals p m (h ++ k))) =
-    sym (at-series_with p.limit t.series r.series m here other) ∙ ap (λ l. series_at l m) after ∙ at-stream p (h ++ k) m s at in
-    let start : InPoints (series_at t.series m) = subst InPoints (sym was) (points-in s.shape (placements p.limit (arrivals p m h)) (λ b. low m s b at)) in
-    values-in s.shape (placements p.limit (arrivals p m (h ++ k))) a (subst InPoints is (fits-in p.limit (series_at t.series m) (series_at r.series m) start fine))
+whole-in t r h k alike holds stands low fits_all after m s a at = by (is_gauge s.shape) refl
+  where
+    p : Planned
+    p = t.plan
+
+    long : length r.series ≡ length p.streams
+    long = ap length holds.0 ∙ length-whole r.plan k ∙ ap (λ (q : Planned). length q.streams) alike
+
+    far : length r.stamps ≡ length p.streams
+    far = ap length holds.1 ∙ length-stamps r.plan k ∙ ap (λ (q : Planned). length q.streams) alike
+
+    by : (b : Bool) → is_gauge s.shape ≡ b → is_out_of_range (payload_of s.shape (values_of (placements p.limit (arrivals p m (h ++ k))) a)) ≡ false
+    by true g = out-gauge s.shape (values_of (placements p.limit (arrivals p m (h ++ k))) a) g
+    by false g =
+        let less : m < length p.streams = within p.streams m s at in
+        let here : m < length t.series = subst (λ (n : ℕ). m < n) (sym (ap length stands ∙ length-round p h)) less in
+        let other : m < length r.series = subst (λ (n : ℕ). m < n) (sym long) less in
+        let third : m < length r.stamps = subst (λ (n : ℕ). m < n) (sym far) less in
+        let fine : fits p.limit (series_at t.series m) (series_at r.series m) ≡ true =
+        unfit-none 0 p.limit t.series r.series m (absorb-none (first_unfit 0 p.limit t.series r.series) fits_all) here other in
+        let was : series_at t.series m ≡ points_of s.shape (placements p.limit (arrivals p m h)) = ap (λ l. series_at l m) stands ∙ at-stream p h m s at in
+        let none : stamps_at r.stamps m ≡ stamped_of s.shape (arrivals p m k) = ap (λ l. stamps_at l m) (holds.1 ∙ ap (λ (q : Planned). stamps_of q k) alike) ∙ stamps-stream p k m s at in
+        let is : absorb p.limit (series_at t.series m) (series_at r.series m) ≡ points_of s.shape (placements p.limit (arrivals p m (h ++ k))) =
+        sym (ap (λ (n : Stamped). absorb_stamped p.limit (series_at t.series m) (series_at r.series m) n.stamps) none ∙ absorb-unstamped s.shape p.limit (series_at t.series m) (series_at r.series m) (arrivals p m k) g)
+        ∙ sym (at-series_with p.limit t.series r.series r.stamps m here other third) ∙ ap (λ l. series_at l m) after ∙ at-stream p (h ++ k) m s at in
+        let start : InPoints (series_at t.series m) = subst InPoints (sym was) (points-in s.shape (placements p.limit (arrivals p m h)) (λ b. low m s b at)) in
+        values-in s.shape (placements p.limit (arrivals p m (h ++ k))) a (subst InPoints is (fits-in p.limit (series_at t.series m) (series_at r.series m) start fine))
 
 -- ---- what a recorder recorded
 
-held-all : (p : Planned) → ((i : ℕ) → AreFeeds (length p.streams) (feeds_of p i)) → (r : Tallied) (h k : List Entry) → r.plan ≡ p → Holds r h → AreRecorded r k → Holds (fold after_measure r k) (h ++ k)
+held-all : (p : Planned) → ((i : ℕ) → AreFeeds (length p.streams) (feeds_of p i)) → (r : Recorded) (h k : List Entry) → r.plan ≡ p → Holds r h → AreRecorded r k → Holds (fold recorder_after r k) (h ++ k)
 held-all p fit r h [] is holds rec = subst (Holds r) (sym (append-nil h)) holds
 held-all p fit r h (e ∷ k) is holds rec =
     let feeds : AreFeeds (length r.plan.streams) (feeds_of r.plan e.instrument) = subst (λ (q : Planned). AreFeeds (length q.streams) (feeds_of q e.instrument)) (sym is) (fit e.instrument) in
-    subst (Holds (fold after_measure (after_measure r e) k)) (append_assoc h (e ∷ []) k) (held-all p fit (after_measure r e) (h ++ e ∷ []) k is (recorders_hold r h e feeds holds rec.0) rec.2)
+    subst (Holds (fold recorder_after (recorder_after r e) k)) (append_assoc h (e ∷ []) k) (held-all p fit (recorder_after r e) (h ++ e ∷ []) k is (recorders_hold r h e feeds holds rec.0) rec.2)
 
-rising-all : (r : Tallied) (k : List Entry) → OnlyRises r → AreRecorded r k → OnlyRises (fold after_measure r k)
-rising-all r [] only rec = only
-rising-all r (e ∷ k) only rec = rising-all (after_measure r e) k (rises-still r e (keeps-all r e rec.0) only) rec.2
+-- what a recorder recorded, it holds
+pub recorded_holds : (r : Recorded) (k : List Entry) → ((i : ℕ) → AreFeeds (length r.plan.streams) (feeds_of r.plan i)) → HasRecorded r k → Holds r k
+recorded_holds r k fit has = subst (λ (x : Recorded). Holds x k) has.all (held-all r.plan fit (empty_recorder r.plan) [] k refl (holds-none r.plan) has.each)
 
-recorded-push : (r : Tallied) (k : List Entry) (e : Entry) → AreRecorded r k → record_fault_of (fold after_measure r k) e ≡ None → Rises r.plan e → AreRecorded r (k ++ e ∷ [])
+recorded-push : (r : Recorded) (k : List Entry) (e : Entry) → AreRecorded r k → record_fault_of (fold recorder_after r k) e ≡ None → Rises r.plan e → AreRecorded r (k ++ e ∷ [])
 recorded-push r [] e rec none up = (none, up, tt)
-recorded-push r (x ∷ k) e rec none up = (rec.0, rec.1, recorded-push (after_measure r x) k e rec.2 none up)
+recorded-push r (x ∷ k) e rec none up = (rec.0, rec.1, recorded-push (recorder_after r x) k e rec.2 none up)
 
-fold-push : (r : Tallied) (k : List Entry) (e : Entry) → fold after_measure r (k ++ e ∷ []) ≡ after_measure (fold after_measure r k) e
+fold-push : (r : Recorded) (k : List Entry) (e : Entry) → fold recorder_after r (k ++ e ∷ []) ≡ recorder_after (fold recorder_after r k) e
 fold-push r [] e = refl
-fold-push r (x ∷ k) e = fold-push (after_measure r x) k e
+fold-push r (x ∷ k) e = fold-push (recorder_after r x) k e
 
 pub recorders_have : RecordersHave
 recorders_have r k e has none up = record {
-  each = recorded-push (empty_tally r.plan) k e has.each (subst (λ (x : Tallied). record_fault_of x e ≡ None) (sym has.all) none) up;
-  all = fold-push (empty_tally r.plan) k e ∙ ap (λ (x : Tallied). after_measure x e) has.all;
+  each = recorded-push (empty_recorder r.plan) k e has.each (subst (λ (x : Recorded). record_fault_of x e ≡ None) (sym has.all) none) up;
+  all = fold-push (empty_recorder r.plan) k e ∙ ap (λ (x : Recorded). recorder_after x e) has.all;
 }
 
-pub recorded_none : (p : Planned) → HasRecorded (empty_tally p) []
+pub recorded_none : (p : Planned) → HasRecorded (empty_recorder p) []
 recorded_none p = record { each = tt; all = refl }
 
 -- nothing is out of range where nothing is recorded
@@ -444,24 +476,26 @@ range-none p m s a at = none-in s.shape
 pub series_with_taken : AbsorbedAreTaken
 series_with_taken t r h k alike fit stands taken has fits_all =
     let p = t.plan in
-    let holds : Holds r k =
-    subst (λ (x : Tallied). Holds x k) has.all (held-all p fit (empty_tally r.plan) [] k alike (holds-none r.plan) has.each) in
-    let only : OnlyRises r = subst OnlyRises has.all (rising-all (empty_tally r.plan) k (rises-none r.plan) has.each) in
-    let after : StandsFor (with_recorder t r) (h ++ k) = absorbing_is_recording t r h k alike only stands holds in
+    let holds : Holds r k = recorded_holds r k (subst (λ (q : Planned). (i : ℕ) → AreFeeds (length q.streams) (feeds_of q i)) (sym alike) fit) has in
+    let after : StandsFor (with_recorder t r) (h ++ k) = absorbing_is_recording t r h k alike stands holds in
     let low : InRange p h = taken-in p fit [] h (range-none p) taken in
-    let long : length r.series ≡ length p.streams = ap length holds ∙ length-whole r.plan k ∙ ap (λ (q : Planned). length q.streams) alike in
-    let high : InRange p (h ++ k) = whole-in t r h k alike long stands low fits_all after in
-    (taken-all p h k (empty_tally r.plan) alike has.each low high, after)
+    let high : InRange p (h ++ k) = whole-in t r h k alike holds stands low fits_all after in
+    (taken-all p h k (empty_recorder r.plan) alike has.each low high, after)
 
--- where a feed's stream only rises, its instrument takes no value below 0
-pub accepted-rises : (r : Tallied) (e : Entry) → ((k : Kind) → kind_of r.plan e.instrument ≡ Some k → AllRise r.plan k (feeds_of r.plan e.instrument)) → record_fault_of r e ≡ None → Rises r.plan e
-accepted-rises r e all none some = by (feeds_of r.plan e.instrument) refl some
+may-rise : (shape : Shape) → may_hold shape ≡ true → is_gauge shape ≡ false → rises shape ≡ true
+may-rise (shapes.Sum m) h g = h
+may-rise shapes.Gauge h g = absurd (true≢false g)
+may-rise (shapes.Histogram bounds) h g = refl
+
+-- where a feed's stream is no gauge, its instrument takes no value below 0
+pub accepted-rises : (r : Recorded) (e : Entry) → ((k : Kind) → kind_of r.plan e.instrument ≡ Some k → AllRise r.plan k (feeds_of r.plan e.instrument)) → record_fault_of r e ≡ None → Rises r.plan e
+accepted-rises r e all none = at-kind (kind_of p e.instrument) refl parts.0 parts.1
   where
     p : Planned
     p = r.plan
 
     parts : (is_none (kind_of p e.instrument) ≡ false) × (is_negative_for (kind_of p e.instrument) e.value ≡ false)
-    parts = fits-instrument r e (record-none r e none)
+    parts = fits-instrument (tally_in r) e (record-none r e none)
 
     not-negative : (b : Bool) → b ≡ true → (b && int_lt e.value (pos 0)) ≡ false → int_lt e.value (pos 0) ≡ false
     not-negative true h n = n
@@ -472,20 +506,22 @@ accepted-rises r e all none some = by (feeds_of r.plan e.instrument) refl some
     at-stream-of None m k at up h = absurd (true≢false (sym up))
     at-stream-of (Some s) m k at up h = h s at up
 
-    at-kind : (o : Option Kind) (f : Feed) (fs : List Feed) → kind_of p e.instrument ≡ o → feeds_of p e.instrument ≡ f ∷ fs → is_none o ≡ false → is_negative_for o e.value ≡ false → int_lt e.value (pos 0) ≡ false
-    at-kind None f fs is feeds n b = absurd (true≢false n)
-    at-kind (Some k) f fs is feeds n b =
-        let up : rises (shape_at p f.stream) ≡ true = keeps-rises p e.attrs r.series f (keeps-first p e.attrs r.series f fs (ap (λ l. list_all (keeps_set p e.attrs r.series) l) (sym feeds) ∙ keeps-all r e none)) in
-        let rise : AllRise p k (f ∷ fs) = subst (AllRise p k) feeds (all k is) in
-        not-negative (only_rises k) (at-stream-of (stream_of p f.stream) f.stream k refl up rise.0) b
+    each : (k : Kind) (fs : List Feed) → list_all (keeps_set p e.attrs r.series) fs ≡ true → AllRise p k fs → (only_rises k && int_lt e.value (pos 0)) ≡ false → FeedsRise p fs e.value
+    each k [] keeps rise b = tt
+    each k (f ∷ fs) keeps rise b = (
+      λ g.
+          let up : rises (shape_at p f.stream) ≡ true = may-rise (shape_at p f.stream) (keeps-may p e.attrs r.series f (keeps-first p e.attrs r.series f fs keeps)) g in
+          not-negative (only_rises k) (at-stream-of (stream_of p f.stream) f.stream k refl up rise.0) b,
+      each k fs (keeps-rest p e.attrs r.series f fs keeps) rise.1 b,
+    )
 
-    by : (fs : List Feed) → feeds_of p e.instrument ≡ fs → feeds_of p e.instrument ≢ [] → int_lt e.value (pos 0) ≡ false
-    by [] is ne = absurd (ne is)
-    by (f ∷ fs) is ne = at-kind (kind_of p e.instrument) f fs refl is parts.0 parts.1
+    at-kind : (o : Option Kind) → kind_of p e.instrument ≡ o → is_none o ≡ false → is_negative_for o e.value ≡ false → Rises p e
+    at-kind None is n b = absurd (true≢false n)
+    at-kind (Some k) is n b = each k (feeds_of p e.instrument) (keeps-all r e none) (all k is) b
 
--- a recorder that accepts a recording, seen by the tally inside
-pub has-more : (was now inside after : Tallied) (e : Entry) → inside ≡ was → after ≡ now → ((k : Kind) → kind_of inside.plan e.instrument ≡ Some k → AllRise inside.plan k (feeds_of inside.plan e.instrument))
-    → record_fault_of inside e ≡ None → after ≡ after_measure inside e → (k : List Entry) → HasRecorded was k → HasRecorded now (k ++ e ∷ [])
+-- a recorder that accepts a recording, seen by what is inside
+pub has-more : (was now inside after : Recorded) (e : Entry) → inside ≡ was → after ≡ now → ((k : Kind) → kind_of inside.plan e.instrument ≡ Some k → AllRise inside.plan k (feeds_of inside.plan e.instrument))
+    → record_fault_of inside e ≡ None → after ≡ recorder_after inside e → (k : List Entry) → HasRecorded was k → HasRecorded now (k ++ e ∷ [])
 has-more was now inside after e old new all none step k has =
-    subst (λ (r : Tallied). HasRecorded r (k ++ e ∷ [])) (sym step ∙ new)
-    (recorders_have inside k e (subst (λ (r : Tallied). HasRecorded r k) (sym old) has) none (accepted-rises inside e all none))
+    subst (λ (r : Recorded). HasRecorded r (k ++ e ∷ [])) (sym step ∙ new)
+    (recorders_have inside k e (subst (λ (r : Recorded). HasRecorded r k) (sym old) has) none (accepted-rises inside e all none))

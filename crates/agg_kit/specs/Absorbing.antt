@@ -47,3 +47,7 @@ pub record Knows (w : Walk) (es : Points) : Type 0 where
 -- it began at points that are still as they were at a set of its own
 abbrev pub Walks : Walk → Points → Points → AttrSet → Type 0
 Walks w before es a = Knows w es × (is_own a ≡ true → lookup (set_eq a) es ≡ lookup (set_eq a) before)
+
+-- how many sets have their own points is known, and a set of its own is as it was before the walk
+abbrev pub Counts : ℕ → Points → Points → AttrSet → Type 0
+Counts n before es a = (n ≡ own_count es) × (is_own a ≡ true → lookup (set_eq a) es ≡ lookup (set_eq a) before)

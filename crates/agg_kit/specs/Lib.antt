@@ -16,6 +16,7 @@ pub mod Recorders
 pub mod Refusals
 pub mod Rounds
 pub mod Sound
+pub mod Stamps
 pub mod Steps
 pub mod Taken
 pub mod Tallies

@@ -1,21 +1,21 @@
 -- Recorders: what one stands for, why it refuses a recording, and what a tally is that takes it in.
-use Rattle.std.specs.Prelude.{◌≡◌, ◌+◌, ◌&&◌, ◌⊎◌, ℕ, pos, Bool, false, true, List, [], ◌∷◌, ◌++◌, Option, None, Some, length, map, if◌then◌else◌}
+use Rattle.std.specs.Prelude.{◌≡◌, ◌+◌, ◌&&◌, ◌⊎◌, ℕ, pos, Bool, true, List, [], ◌∷◌, ◌++◌, Option, None, Some, length, map, if◌then◌else◌}
 use Rattle.std.specs.List.{enumerate_from, list_all}
 use Rattle.std.specs.Option.{option_map}
 use Rattle.attr_kit.specs.declared.attr_set.AttrSet.{AttrSet}
 use Rattle.attr_kit.specs.Keeping.{kept}
-use Rattle.point_kit.specs.declared.stream.Stream.{Stream}
-use Rattle.plan_kit.specs.Plans.{Planned, AreFeeds, feeds_of, rises, stream_of}
+use Rattle.point_kit.specs.declared.shape.Shape.{Shape}
+use Rattle.point_kit.specs.declared.shape.Shape.TheVariants as shapes
+use Rattle.plan_kit.specs.Plans.{Planned, AreFeeds, feeds_of}
 use Rattle.plan_kit.specs.declared.feed.Feed.{Feed}
-use Rattle.agg_kit.specs.Absorbs.{absorb, fits, places}
+use Rattle.agg_kit.specs.Absorbs.{fits}
 use Rattle.agg_kit.specs.BoundPoints.{IsBound, entry_at}
 use Rattle.agg_kit.specs.Entries.{Entry, arrivals}
 use Rattle.agg_kit.specs.Feeding.{set_eq}
 use Rattle.agg_kit.specs.Feeds.{entries_of, series_at, shape_at}
-use Rattle.agg_kit.specs.Laws.{is_gauge}
-use Rattle.agg_kit.specs.Measuring.{after_measure, fault_of}
-use Rattle.agg_kit.specs.Rounds.{points_of, StandsFor}
-use Rattle.agg_kit.specs.Sound.{AreOnce}
+use Rattle.agg_kit.specs.Measuring.{fault_of, series_after}
+use Rattle.agg_kit.specs.Rounds.{points_of, round, StandsFor}
+use Rattle.agg_kit.specs.Stamps.{Stamped, absorb_stamped, can_stamp, stamps_after, stamps_of}
 use Rattle.agg_kit.specs.Steps.{Stored, place}
 use Rattle.agg_kit.specs.Tallies.{Points, Tallied}
 use Rattle.agg_kit.specs.declared.bound.Bound.{Bound}
@@ -28,25 +28,57 @@ use Rattle.agg_kit.specs.declared.fault.RecordFault.TheVariants as record_faults
 unfoldable pub whole_round : Planned → List Entry → List Points
 whole_round p h = map (λ s. points_of s.1.shape (arrivals p s.0 h)) (enumerate_from 0 p.streams)
 
--- a recorder stands for a list of recordings where its series are their round without a limit
-abbrev pub Holds : Tallied → List Entry → Type 0
-Holds r k = r.series ≡ whole_round r.plan k
+-- what contracts see of a recorder: its plan, the points of each stream, and the stamps of those of gauges
+pub record Recorded : Type 0 where
+  pub plan : Planned
+  pub series : List Points
+  pub stamps : List Stamped
 
--- no stream has points but those whose totals only rise
-abbrev pub OnlyRises : Tallied → Type 0
-OnlyRises r = (m : ℕ) → rises (shape_at r.plan m) ≡ false → series_at r.series m ≡ []
+-- the recorder's points, as a tally
+abbrev pub tally_in : Recorded → Tallied
+tally_in r = record { plan = r.plan; series = r.series }
 
--- a feed's stream only rises, and the set that it keeps has its own point there, or room for one
+-- a tally's points, with stamps
+abbrev pub recorded_in : Tallied → List Stamped → Recorded
+recorded_in t ns = record { plan = t.plan; series = t.series; stamps = ns }
+
+-- a recorder that holds nothing
+abbrev pub empty_recorder : Planned → Recorded
+empty_recorder p = record { plan = p; series = round p []; stamps = stamps_of p [] }
+
+-- a recorder stands for a list of recordings where its points are their round without a limit, with the stamps of these recordings
+abbrev pub Holds : Recorded → List Entry → Type 0
+Holds r k = (r.series ≡ whole_round r.plan k) × (r.stamps ≡ stamps_of r.plan k)
+
+-- a recorder after a recording
+abbrev pub recorder_after : Recorded → Entry → Recorded
+recorder_after r e = record {
+  plan = r.plan;
+  series = series_after (tally_in r) e;
+  stamps = stamps_after r.plan (feeds_of r.plan e.instrument) e.attrs r.series r.stamps;
+}
+
+-- a recorder may hold points of this shape: gauges, and totals that only rise
+abbrev pub may_hold : Shape → Bool
+may_hold (shapes.Sum monotonic) = monotonic
+may_hold shapes.Gauge = true
+may_hold (shapes.Histogram bounds) = true
+
+-- a recorder may hold points of a feed's stream, and the set that the feed keeps has its own point there, or room for one
 abbrev pub keeps_set : Planned → AttrSet → List Points → Feed → Bool
-keeps_set p a ss f = let es = series_at ss f.stream in rises (shape_at p f.stream) && set_eq (place p.limit es (kept f.keep a)) (kept f.keep a)
+keeps_set p a ss f = let es = series_at ss f.stream in may_hold (shape_at p f.stream) && set_eq (place p.limit es (kept f.keep a)) (kept f.keep a)
 
 -- and so it is at each feed of a recording
 abbrev pub keeps_sets : Tallied → Entry → Bool
-keeps_sets r e = list_all (keeps_set r.plan e.attrs r.series) (feeds_of r.plan e.instrument)
+keeps_sets t e = list_all (keeps_set t.plan e.attrs t.series) (feeds_of t.plan e.instrument)
+
+-- each gauge that an instrument feeds can number one more value
+abbrev pub can_stamp_all : Recorded → ℕ → Bool
+can_stamp_all r i = list_all (can_stamp r.plan r.stamps) (feeds_of r.plan i)
 
 -- a bound point is at home in a recorder: what it knows of places is true there, and each is that of a set's own point
-abbrev pub IsOwnBound : Tallied → Bound → Type 0
-IsOwnBound r b = IsBound r b × ((b.places.items ≡ []) ⊎ (keeps_sets r (entry_at b (pos 0)) ≡ true))
+abbrev pub IsOwnBound : Recorded → Bound → Type 0
+IsOwnBound r b = IsBound (tally_in r) b × ((b.places.items ≡ []) ⊎ (keeps_sets (tally_in r) (entry_at b (pos 0)) ≡ true))
 
 -- a tally's refusal as a recorder's: a sum that would leave its range is one that the recorder cannot hold
 abbrev pub as_record_fault : TallyFault → RecordFault
@@ -56,18 +88,20 @@ as_record_fault (faults.Overflow m) = record_faults.Full
 as_record_fault faults.NoMemory = record_faults.NoMemory
 
 -- why a recorder refuses a recording, memory aside
-abbrev pub record_fault_of : Tallied → Entry → Option RecordFault
-record_fault_of r e = if keeps_sets r e then option_map as_record_fault (fault_of r e) else Some record_faults.Full
+abbrev pub record_fault_of : Recorded → Entry → Option RecordFault
+record_fault_of r e =
+    if keeps_sets (tally_in r) e && can_stamp_all r e.instrument then option_map as_record_fault (fault_of (tally_in r) e) else Some record_faults.Full
 
--- the points of each stream, with those of another tally
-abbrev pub series_with : ℕ → List Points → List Points → List Points
-series_with limit [] more = []
-series_with limit (es ∷ ess) [] = es ∷ ess
-series_with limit (es ∷ ess) (ms ∷ mss) = absorb limit es ms ∷ series_with limit ess mss
+-- the points of each stream, with those of a recorder
+abbrev pub series_with : ℕ → List Points → List Points → List Stamped → List Points
+series_with limit [] mss nss = []
+series_with limit (es ∷ ess) [] nss = es ∷ ess
+series_with limit (es ∷ ess) (ms ∷ mss) [] = es ∷ ess
+series_with limit (es ∷ ess) (ms ∷ mss) (ns ∷ nss) = absorb_stamped limit es ms ns.stamps ∷ series_with limit ess mss nss
 
 -- a tally with what a recorder holds
-abbrev pub with_recorder : Tallied → Tallied → Tallied
-with_recorder t r = record t { series = series_with t.plan.limit t.series r.series }
+abbrev pub with_recorder : Tallied → Recorded → Tallied
+with_recorder t r = record t { series = series_with t.plan.limit t.series r.series r.stamps }
 
 -- the first of the streams, counted from n, of which a point would leave its range
 abbrev pub first_unfit : ℕ → ℕ → List Points → List Points → Option ℕ
@@ -76,26 +110,22 @@ first_unfit n limit (es ∷ ess) [] = None
 first_unfit n limit (es ∷ ess) (ms ∷ mss) = if fits limit es ms then first_unfit (n + 1) limit ess mss else Some n
 
 -- why a tally refuses to take a recorder in, memory aside
-abbrev pub absorb_fault : Tallied → Tallied → Option TallyFault
+abbrev pub absorb_fault : Tallied → Recorded → Option TallyFault
 absorb_fault t r = option_map (λ m. faults.Overflow m) (first_unfit 0 t.plan.limit t.series r.series)
-
--- of no gauge do two sets go under one
-abbrev pub AreApart : Planned → List Points → List Points → Type 0
-AreApart p ess mss = (m : ℕ) (s : Stream) → stream_of p m ≡ Some s → is_gauge s.shape ≡ true → AreOnce (places p.limit (series_at ess m) (series_at mss m))
 
 -- a recorder that takes a recording stands for it too, after those that it stood for
 abbrev pub RecordersHold : Type 0
-RecordersHold = (r : Tallied) (k : List Entry) (e : Entry) → AreFeeds (length r.plan.streams) (feeds_of r.plan e.instrument)
-    → Holds r k → record_fault_of r e ≡ None → Holds (after_measure r e) (k ++ e ∷ [])
+RecordersHold = (r : Recorded) (k : List Entry) (e : Entry) → AreFeeds (length r.plan.streams) (feeds_of r.plan e.instrument)
+    → Holds r k → record_fault_of r e ≡ None → Holds (recorder_after r e) (k ++ e ∷ [])
 
 -- a bound point stays at home in a recorder, whatever is recorded
 abbrev pub OwnBoundPointsStay : Type 0
-OwnBoundPointsStay = (r : Tallied) (e : Entry) (b : Bound) → AreFeeds (length r.plan.streams) (feeds_of r.plan b.instrument)
-    → IsOwnBound r b → IsOwnBound (after_measure r e) b
+OwnBoundPointsStay = (r : Recorded) (e : Entry) (b : Bound) → AreFeeds (length r.plan.streams) (feeds_of r.plan b.instrument)
+    → IsOwnBound r b → IsOwnBound (recorder_after r e) b
 
 -- a tally with what a recorder holds stands for its recordings and then the recorder's, in their order
 abbrev pub AbsorbingIsRecording : Type 0
-AbsorbingIsRecording = (t r : Tallied) (h k : List Entry) → r.plan ≡ t.plan → OnlyRises r → StandsFor t h → Holds r k → StandsFor (with_recorder t r) (h ++ k)
+AbsorbingIsRecording = (t : Tallied) (r : Recorded) (h k : List Entry) → r.plan ≡ t.plan → StandsFor t h → Holds r k → StandsFor (with_recorder t r) (h ++ k)
 
 -- ---- of series in memory
 

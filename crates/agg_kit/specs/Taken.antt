@@ -1,9 +1,11 @@
 -- Recordings that are accepted one after the other, and those that a recorder accepted.
-use Rattle.std.specs.Prelude.{◌≡◌, ◌≢◌, ℕ, pos, int_lt, false, length, List, [], ◌∷◌, ◌++◌, None, fold}
+use Rattle.std.specs.Prelude.{◌≡◌, ℕ, ℤ, pos, int_lt, false, length, List, [], ◌∷◌, ◌++◌, None, fold}
 use Rattle.plan_kit.specs.Plans.{Planned, AreFeeds, feeds_of}
+use Rattle.plan_kit.specs.declared.feed.Feed.{Feed}
 use Rattle.agg_kit.specs.Entries.{Entry}
-use Rattle.agg_kit.specs.Measuring.{after_measure, empty_tally}
-use Rattle.agg_kit.specs.Recorders.{record_fault_of, absorb_fault, with_recorder}
+use Rattle.agg_kit.specs.Feeds.{shape_at}
+use Rattle.agg_kit.specs.Laws.{is_gauge}
+use Rattle.agg_kit.specs.Recorders.{Recorded, recorder_after, empty_recorder, record_fault_of, absorb_fault, with_recorder}
 use Rattle.agg_kit.specs.Refusals.{first_refusal}
 use Rattle.agg_kit.specs.Rounds.{StandsFor}
 use Rattle.agg_kit.specs.Tallies.{Tallied}
@@ -13,30 +15,38 @@ abbrev pub AreTaken : Planned → List Entry → List Entry → Type 0
 AreTaken p h [] = Unit {0}
 AreTaken p h (e ∷ k) = (first_refusal p h e ≡ None) × AreTaken p (h ++ e ∷ []) k
 
--- a recording that feeds a stream is not below 0
-abbrev pub Rises : Planned → Entry → Type 0
-Rises p e = feeds_of p e.instrument ≢ [] → int_lt e.value (pos 0) ≡ false
+-- a value that feeds a stream other than a gauge is not below 0
+abbrev pub FeedsRise : Planned → List Feed → ℤ → Type 0
+FeedsRise p [] v = Unit {0}
+FeedsRise p (f ∷ fs) v = (is_gauge (shape_at p f.stream) ≡ false → int_lt v (pos 0) ≡ false) × FeedsRise p fs v
 
--- a recorder accepts each of the recordings, and none that feeds a stream is below 0
-abbrev pub AreRecorded : Tallied → List Entry → Type 0
+abbrev pub Rises : Planned → Entry → Type 0
+Rises p e = FeedsRise p (feeds_of p e.instrument) e.value
+
+-- a recorder accepts each of the recordings, and none that feeds a stream other than a gauge is below 0
+abbrev pub AreRecorded : Recorded → List Entry → Type 0
 AreRecorded r [] = Unit {0}
-AreRecorded r (e ∷ k) = (record_fault_of r e ≡ None) × Rises r.plan e × AreRecorded (after_measure r e) k
+AreRecorded r (e ∷ k) = (record_fault_of r e ≡ None) × Rises r.plan e × AreRecorded (recorder_after r e) k
 
 -- since it was empty, a recorder has accepted these recordings
-pub record HasRecorded (r : Tallied) (k : List Entry) : Type 0 where
-  pub each : AreRecorded (empty_tally r.plan) k
-  pub all : fold after_measure (empty_tally r.plan) k ≡ r
+pub record HasRecorded (r : Recorded) (k : List Entry) : Type 0 where
+  pub each : AreRecorded (empty_recorder r.plan) k
+  pub all : fold recorder_after (empty_recorder r.plan) k ≡ r
+
+-- a recorder has accepted some list of recordings since it was empty
+abbrev pub IsRecorder : Recorded → Type 0
+IsRecorder r = (k : List Entry) × HasRecorded r k
 
 -- what a recorder has recorded, with one recording more: whatever lists it may have accepted
-abbrev pub RecordsAlso : Tallied → Entry → Tallied → Type 0
+abbrev pub RecordsAlso : Recorded → Entry → Recorded → Type 0
 RecordsAlso r e s = (k : List Entry) → HasRecorded r k → HasRecorded s (k ++ e ∷ [])
 
 -- a recorder that accepts one more recording has accepted it too
 abbrev pub RecordersHave : Type 0
-RecordersHave = (r : Tallied) (k : List Entry) (e : Entry) → HasRecorded r k → record_fault_of r e ≡ None → Rises r.plan e → HasRecorded (after_measure r e) (k ++ e ∷ [])
+RecordersHave = (r : Recorded) (k : List Entry) (e : Entry) → HasRecorded r k → record_fault_of r e ≡ None → Rises r.plan e → HasRecorded (recorder_after r e) (k ++ e ∷ [])
 
 -- Where a tally that stands for accepted recordings takes a recorder in, each of the recorder's recordings would have been accepted there, one after the
 -- other, and the tally stands for its recordings and then these.
 abbrev pub AbsorbedAreTaken : Type 0
-AbsorbedAreTaken = (t r : Tallied) (h k : List Entry) → r.plan ≡ t.plan → ((i : ℕ) → AreFeeds (length t.plan.streams) (feeds_of t.plan i))
+AbsorbedAreTaken = (t : Tallied) (r : Recorded) (h k : List Entry) → r.plan ≡ t.plan → ((i : ℕ) → AreFeeds (length t.plan.streams) (feeds_of t.plan i))
     → StandsFor t h → AreTaken t.plan [] h → HasRecorded r k → absorb_fault t r ≡ None → AreTaken t.plan h k × StandsFor (with_recorder t r) (h ++ k)

@@ -1,23 +1,25 @@
 //! How points of later values come into those of a stream, and those of all streams into a tally's.
-ghost use Rattle.std.specs.Prelude.{◌≡◌, ◌≢◌, ◌+◌, ◌<◌, ◌≤◌, ◌^◌, [], length, replicate, true, false, not, None, Some, IfErr, OnOk, OnErr};
+ghost use Rattle.std.specs.Prelude.{◌≡◌, ◌≢◌, ◌+◌, ◌<◌, ◌≤◌, ◌^◌, [], length, replicate, true, false, not, None, Some, IfOk, IfErr, OnOk, OnErr};
 ghost use Rattle.std.specs.Option.{option_map};
 ghost use Rattle.std.specs.Map.{keys_of};
 ghost use Rattle.indexmap.specs.IndexMap.{set_value_at};
-ghost use Rattle.agg_kit.specs.Absorbing.{count_at, total_at, payload_joined, AreAllSound, AreBothSound, Knows, TakesSound, Walks};
+ghost use Rattle.agg_kit.specs.Absorbing.{count_at, total_at, payload_joined, AreAllSound, AreBothSound, Counts, Knows, TakesSound, Walks};
 ghost use Rattle.agg_kit.specs.Absorbs.{absorb, fits, with_point, point_with};
-ghost use Rattle.agg_kit.specs.Feeding.{overflow_set};
+ghost use Rattle.agg_kit.specs.Feeding.{set_eq, overflow_set};
 ghost use Rattle.agg_kit.specs.Feeds.{entries_of};
 ghost use Rattle.agg_kit.specs.Payloads.{is_out_of_range};
 ghost use Rattle.agg_kit.specs.Recorders.{series_with, first_unfit};
 ghost use Rattle.agg_kit.specs.Sound.{AreOnce};
-ghost use Rattle.agg_kit.specs.Steps.{has_point, place};
+ghost use Rattle.agg_kit.specs.Stamps.{newer, newest_over, stamped_in};
+ghost use Rattle.agg_kit.specs.Steps.{has_point, own_count, place};
 ghost use Rattle.agg_kit.specs.Tallies.{Points};
 ghost use Rattle.agg_kit.specs.declared.fault.TallyFault.TheVariants as faults;
 
 use crate::TallyFault;
 use crate::joining::{Amount, amount_in, join};
 use crate::series::{Fresh, Series};
-use attr_kit::{AttrSet, NoMemory};
+use crate::stamps::Stamps;
+use attr_kit::{AttrSet, NoMemory, TryCopy};
 use indexmap::IndexMap;
 use point_kit::Payload;
 use std::mem;
@@ -97,6 +99,52 @@ impl Series {
         true
     }
 
+    // Whether the set of a point that comes in goes under the overflow set. `own` is how many sets have points of their own.
+    fn goes_over(&self, own: &mut u64, limit: u64, overflow: &AttrSet, set: &AttrSet) -> bool
+        requires { overflow.now ≡ overflow_set }
+        ensures over { (es : Points) → Counts own.old self.now.entries es set.now → result ≡ set_eq (place limit es set.now) overflow_set }
+        ensures own { (es : Points) (p : Payload) → Counts own.old self.now.entries es set.now → own.new ≡ own_count (with_point limit es (set.now, p)) }
+    {
+        if *set == *overflow {
+            return true;
+        }
+        if self.points.contains_key(set) {
+            return false;
+        }
+        if *own < limit {
+            *own += 1;
+            return false;
+        }
+        true
+    }
+
+    /// Of later points that go under the overflow set as they come in, the stamp and the payload of the one with the greatest stamp.
+    pub(crate) fn newest_over(
+        &self,
+        limit: u64,
+        overflow: &AttrSet,
+        later: &Series,
+        stamps: &Stamps,
+    ) -> Result<Option<(u64, Payload)>, NoMemory>
+        requires overflow { overflow.now ≡ overflow_set }
+        requires once { AreOnce (keys_of later.now.entries) }
+        ensures { IfOk result (λ newest. newest ≡ newest_over limit self.now.entries later.now.entries stamps.now.kept.stamps None) }
+    {
+        let mut own = self.own;
+        let mut newest = None;
+        for place in 0..later.points.len() {
+            let Some(stamp) = stamps.get(place) else {
+                return Ok(newest);
+            };
+            if let Some((set, payload)) = later.points.get_index(place) {
+                if self.goes_over(&mut own, limit, overflow, set) {
+                    newest = newer(newest, stamp, payload)?;
+                }
+            }
+        }
+        Ok(newest)
+    }
+
     /// Makes room for as many points as later ones are.
     pub(crate) fn reserve_for(&mut self, later: &Series) -> Result<(), NoMemory>
         ensures entries { self.new.entries ≡ self.old.entries }
@@ -173,6 +221,20 @@ impl Series {
     }
 }
 
+// Of a payload with its stamp and another, the one with the greater stamp.
+fn newer(
+    newest: Option<(u64, Payload)>,
+    stamp: u64,
+    payload: &Payload,
+) -> Result<Option<(u64, Payload)>, NoMemory>
+    ensures { IfOk result (λ now. now ≡ newer newest (stamp, payload.now)) }
+{
+    match newest {
+        Some((greatest, last)) if greatest >= stamp => Ok(Some((greatest, last))),
+        _ => Ok(Some((stamp, payload.try_copy()?))),
+    }
+}
+
 // Takes in points, in their order, and leaves none of them.
 fn take_points(
     series: &mut Series,
@@ -202,12 +264,14 @@ pub(crate) fn absorb_each(
     overflow: &AttrSet,
     series: &mut [Series],
     later: &mut [Series],
+    stamps: &[Stamps],
     number: usize,
 ) -> Result<(), TallyFault>
     requires overflow { overflow.now ≡ overflow_set }
     requires sound { AreAllSound (entries_of series.old) (entries_of later.old) }
+    requires long { length stamps.now ≡ length series.old }
     requires bound { number + length series.old < 2 ^ 64 }
-    ensures value { OnOk result (entries_of series.new ≡ series_with limit (entries_of series.old) (entries_of later.old)) }
+    ensures value { OnOk result (entries_of series.new ≡ series_with limit (entries_of series.old) (entries_of later.old) (stamped_in stamps.now)) }
     ensures emptied { OnOk result (entries_of later.new ≡ replicate (length later.old) []) }
     ensures ok { OnOk result (first_unfit number limit (entries_of series.old) (entries_of later.old) ≡ None) }
     ensures err { IfErr result (λ f. f ≢ faults.NoMemory
@@ -221,13 +285,20 @@ pub(crate) fn absorb_each(
     let Some((more, others)) = later.split_first_mut() else {
         return Ok(());
     };
+    let Some((own, behind)) = stamps.split_first() else {
+        return Ok(());
+    };
     let spare = overflow.try_copy()?;
     points.reserve_for(more)?;
     if !points.fits(limit, overflow, more) {
         return Err(TallyFault::Overflow(number));
     }
-    absorb_each(limit, overflow, rest, others, number + 1)?;
+    let newest = points.newest_over(limit, overflow, more, own)?;
+    absorb_each(limit, overflow, rest, others, behind, number + 1)?;
     points.take_in(limit, overflow, spare, more);
+    if let Some((_, payload)) = newest {
+        points.put_over(overflow, payload);
+    }
     Ok(())
 }
 
@@ -237,11 +308,13 @@ pub(crate) fn absorb_into(
     overflow: &AttrSet,
     series: &mut Vec<Series>,
     later: &mut Vec<Series>,
+    stamps: &[Stamps],
 ) -> Result<(), TallyFault>
     requires overflow { overflow.now ≡ overflow_set }
     requires sound { AreAllSound (entries_of series.old.items) (entries_of later.old.items) }
+    requires long { length stamps.now ≡ length series.old.items }
     ensures value { OnOk result (entries_of series.new.items
-        ≡ series_with limit (entries_of series.old.items) (entries_of later.old.items)) }
+        ≡ series_with limit (entries_of series.old.items) (entries_of later.old.items) (stamped_in stamps.now)) }
     ensures emptied { OnOk result (entries_of later.new.items ≡ replicate (length later.old.items) []) }
     ensures ok { OnOk result (first_unfit 0 limit (entries_of series.old.items) (entries_of later.old.items) ≡ None) }
     ensures err { IfErr result (λ f. f ≢ faults.NoMemory
@@ -254,6 +327,7 @@ pub(crate) fn absorb_into(
         overflow,
         series.as_mut_slice(),
         later.as_mut_slice(),
+        stamps,
         0,
     )
 }

@@ -7,7 +7,7 @@ ghost use Rattle.agg_kit.specs.Entries.{Entry};
 ghost use Rattle.agg_kit.specs.Feeds.{AllWhole};
 ghost use Rattle.agg_kit.specs.Laws.{SumsAddUp, CountsAddUp, IsLimited, OwnPointsStay, FedGrows, RoundsHaveFed};
 ghost use Rattle.agg_kit.specs.Measuring.{after_measure, early_fault_of, empty_tally, fault_of};
-ghost use Rattle.agg_kit.specs.Recorders.{Holds, RecordersHold, AbsorbingIsRecording, OwnBoundPointsStay};
+ghost use Rattle.agg_kit.specs.Recorders.{empty_recorder, Holds, RecordersHold, AbsorbingIsRecording, OwnBoundPointsStay};
 ghost use Rattle.agg_kit.specs.Refusals.{first_refusal};
 ghost use Rattle.agg_kit.specs.Rounds.{StandsFor};
 ghost use Rattle.agg_kit.specs.Taken.{AbsorbedAreTaken, HasRecorded, RecordersHave};
@@ -59,9 +59,8 @@ pub fn points_are_absorbed()
 
 /// Taking a recorder in is recording what it holds: one that holds nothing stands for no recordings, one that takes a recording
 /// stands for it too, and a tally with what a recorder holds stands for its recordings followed by the recorder's.
-#[tactic(auto, using(crate::proofs::Recorders::recorders_hold, crate::proofs::Recorders::absorbing_is_recording))]
 pub fn absorbing_is_recording()
-    ensures empty { (p : Planned) → Holds (empty_tally p) [] }
+    ensures empty { (p : Planned) → Holds (empty_recorder p) [] }
     ensures holds { RecordersHold }
     ensures stands { AbsorbingIsRecording }
 {}
@@ -71,7 +70,7 @@ pub fn absorbing_is_recording()
 /// its own, `Plan::streams_len` says.
 #[tactic(auto, using(crate::proofs::Taken::recorded_none))]
 pub fn recorded_is_accepted()
-    ensures empty { (p : Planned) → HasRecorded (empty_tally p) [] }
+    ensures empty { (p : Planned) → HasRecorded (empty_recorder p) [] }
     ensures records { RecordersHave }
     ensures accepted { AbsorbedAreTaken }
 {}

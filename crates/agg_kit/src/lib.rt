@@ -8,7 +8,7 @@
 //!   its range, or want of memory. A refused value is recorded nowhere.
 //! - A [`Bound`] is an instrument and a set whose points a tally has looked up: `Tally::bind` makes one, and
 //!   `Tally::measure_bound` records the same step as `measure` with no look at the set ([`bound_points_stay`]).
-//! - A [`Recorder`] is a thread's own tally of counters and histograms: it records with no lock, or answers a [`RecordFault`].
+//! - A [`Recorder`] is a thread's own tally of counters, histograms and gauges: it records with no lock, or answers a [`RecordFault`].
 //!   `Tally::absorb` takes it in as if each of its recordings had been measured in the tally, one after the other
 //!   ([`absorbing_is_recording`]). It has bound points of its own ([`own_bound_points_stay`]).
 //!
@@ -33,6 +33,7 @@ mod payload;
 mod recorder;
 mod recording;
 mod series;
+mod stamps;
 mod tally;
 
 pub use bound::Bound;

@@ -1,64 +1,79 @@
 //! Recorders: a thread's own tally, which another tally takes in.
-ghost use Rattle.std.specs.Prelude.{◌≡◌, ◌≢◌, ◌↔◌, [], pos, true, length, Some, None, IfOk, IfErr, OnOk, OnErr, IsOk, IsTrue};
-ghost use Rattle.plan_kit.specs.Plans.{AreFeeds, rises};
+ghost use Rattle.std.specs.Prelude.{◌≡◌, ◌≢◌, ◌↔◌, [], pos, true, false, length, Some, None, IfOk, IfErr, OnOk, OnErr, IsOk, IsTrue};
+ghost use Rattle.plan_kit.specs.Plans.{feeds_of, kind_of, AllRise, AreFeeds};
+ghost use Rattle.plan_kit.specs.declared.instrument.Kind.{Kind};
 ghost use Rattle.agg_kit.specs.BoundPoints.{HasInstrument, IsBound, LacksInstrument, entry_at};
 ghost use Rattle.agg_kit.specs.Entries.{entry_of};
 ghost use Rattle.agg_kit.specs.Feeding.{overflow_set};
 ghost use Rattle.agg_kit.specs.Feeds.{IsHeld, AreHeld};
-ghost use Rattle.agg_kit.specs.Measuring.{after_measure, empty_tally, fault_of};
-ghost use Rattle.agg_kit.specs.Recorders.{keep_sets, keeps_sets, record_fault_of, IsOwnBound, OnlyRises};
-ghost use Rattle.agg_kit.specs.Taken.{HasRecorded, RecordsAlso};
-ghost use Rattle.agg_kit.specs.declared.fault.TallyFault.TheVariants as faults;
+ghost use Rattle.agg_kit.specs.Recorders.{recorder_after, can_stamp_all, empty_recorder, keep_sets, keeps_sets, may_hold, record_fault_of, tally_in, IsOwnBound};
+ghost use Rattle.agg_kit.specs.Stamps.{has_gauge};
+ghost use Rattle.agg_kit.specs.Taken.{HasRecorded, IsRecorder, RecordsAlso};
 
 use crate::recording::{kept_set, set_or, shape_of};
 use crate::series::Series;
-use crate::{Bound, RecordFault, Tally, TallyFault};
+use crate::stamps::{Stamps, can_stamp_each, feed_gauge, no_stamps, stamp_each};
+use crate::{Bound, RecordFault, Tally};
 use attr_kit::{AttrSet, NoMemory};
 use plan_kit::{Feed, Plan};
 use point_kit::Shape;
 use std::alloc::Global;
 use std::marker::Model;
 
-/// A thread's own tally, of counters and histograms: what it records needs no lock, and a tally of the same plan takes it in
-/// as if each recording had been measured there ([`crate::absorbing_is_recording`]).
+/// A thread's own tally, of counters, histograms and gauges: what it records needs no lock, and a tally of the same plan takes it
+/// in as if each recording had been measured there ([`crate::absorbing_is_recording`]).
 ///
 /// A recorder lets no set go to the overflow set by the limit: where it has points of their own for as many sets of a stream as
 /// the limit says, it refuses another by `Full`, and so it does where a sum of its own would leave its range and for
-/// instruments with a stream that does not only rise. Whoever gets `Full` has a tally absorb the recorder and records again; where
+/// instruments with a stream of a sum that may fall. Whoever gets `Full` has a tally absorb the recorder and records again; where
 /// the recorder is empty it measures at the tally itself. A recorder that is dropped loses what it holds.
+///
+/// Of a gauge it knows which set was recorded last, since that one counts where sets meet under a tally's overflow set.
 ///
 /// Once a tally has taken it in, its bound points know places that are gone. Release each ([`Bound::release`]): it is looked up
 /// again at its first value.
 #[derive(Drop)]
 pub struct Recorder {
     pub(crate) tally: Tally,
+    // Of each stream; only those of gauges have any.
+    pub(crate) stamps: Vec<Stamps>,
+    // The places of a recording's points, while it is made.
+    spots: Vec<usize>,
 }
 
 impl Model for Recorder {
-    ghost use Rattle.agg_kit.specs.Tallies.{Tallied};
-    ghost use Rattle.agg_kit.specs.Recorders.{OnlyRises};
+    ghost use Rattle.agg_kit.specs.Entries.{Entry};
+    ghost use Rattle.agg_kit.specs.Recorders.{Recorded};
+    ghost use Rattle.agg_kit.specs.Stamps.{stamped_in};
+    ghost use Rattle.agg_kit.specs.Taken.{IsRecorder};
 
-    ghost Value = { Tallied };
+    ghost Value = { Recorded };
 
-    ghost view = { λ r. r.tally };
+    ghost view = { λ r. record { plan = r.tally.plan; series = r.tally.series; stamps = stamped_in r.stamps.items } };
 
-    ghost invariant = { λ r. OnlyRises r.tally };
+    ghost invariant = { λ r. IsRecorder (record { plan = r.tally.plan; series = r.tally.series; stamps = stamped_in r.stamps.items }) };
 }
 
 impl Recorder {
     /// A recorder of a plan, which holds nothing. O(size of the plan).
     pub fn new(alloc: Global, plan: &Plan) -> Result<Recorder, NoMemory>
-        ensures value { IfOk result (λ recorder. recorder ≡ empty_tally plan.now) }
+        ensures value { IfOk result (λ recorder. recorder ≡ empty_recorder plan.now) }
         ensures empty { IfOk result (λ recorder. HasRecorded recorder []) }
     {
+        let stamps = no_stamps(alloc, plan.streams_len())?;
         let tally = Tally::new(alloc, plan.try_copy()?)?;
-        Ok(Recorder { tally })
+        Ok(Recorder {
+            tally,
+            stamps,
+            spots: Vec::new(alloc),
+        })
     }
 
     /// Records a value in the stream of every feed of the instrument, or in none.
     ///
-    /// Refuses, in this order: `Full` where a feed's stream does not only rise, or has no point for the set and no room for one
-    /// of its own; `NoInstrument`; `Negative`; `Full` where a sum or count would leave its range. O(feeds of the instrument).
+    /// Refuses, in this order: `Full` where a feed's stream is a sum that may fall, or has no point for the set and no room for one
+    /// of its own, or is a gauge that has had 2^64 - 1 values; `NoInstrument`; `Negative`; `Full` where a sum or count would leave
+    /// its range. O(feeds of the instrument).
     pub fn measure(
         &mut self,
         instrument: usize,
@@ -66,16 +81,22 @@ impl Recorder {
         value: i64,
     ) -> Result<(), RecordFault>
         ensures ok { OnOk result (record_fault_of self.old (entry_of instrument attrs.now value) ≡ None) }
-        ensures value { OnOk result (self.new ≡ after_measure self.old (entry_of instrument attrs.now value)) }
+        ensures value { OnOk result (self.new ≡ recorder_after self.old (entry_of instrument attrs.now value)) }
         // What it has accepted since it was empty, and this recording.
         ensures recorded { OnOk result (RecordsAlso self.old (entry_of instrument attrs.now value) self.new) }
         ensures err { IfErr result (λ f. f ≢ RecordFault.NoMemory
             → record_fault_of self.old (entry_of instrument attrs.now value) ≡ Some f) }
-        ensures held { IsHeld self.old (entry_of instrument attrs.now value) → IfErr result (λ f. f ≢ RecordFault.NoMemory) }
+        // Points that are there take no memory where every feed keeps all keys and none leads to a gauge.
+        ensures held { IsHeld (tally_in self.old) (entry_of instrument attrs.now value)
+            → has_gauge self.old.plan (feeds_of self.old.plan instrument) ≡ false → IfErr result (λ f. f ≢ RecordFault.NoMemory) }
         ensures unchanged { OnErr result (self.new ≡ self.old) }
     {
         if !self.tally.keeps_sets(instrument, attrs)? {
             return Err(RecordFault::Full);
+        }
+        let plan = self.tally.plan();
+        if feed_gauge(plan, feeds_in(plan, instrument)) {
+            return self.measure_gauge(instrument, attrs, value);
         }
         match self.tally.measure(instrument, attrs, value) {
             Ok(()) => Ok(()),
@@ -88,12 +109,12 @@ impl Recorder {
     ///
     /// Refuses, in this order: `NoInstrument`, `NoMemory`. O(feeds of the instrument times the size of the attributes).
     pub fn bind(&self, instrument: usize, attrs: &AttrSet) -> Result<Bound, RecordFault>
-        ensures ok { OnOk result (HasInstrument self.now instrument) }
+        ensures ok { OnOk result (HasInstrument (tally_in self.now) instrument) }
         ensures value { IfOk result (λ b. (b.instrument ≡ instrument) × (b.attrs ≡ attrs.now)) }
         ensures bound { IfOk result (λ b. IsOwnBound self.now b) }
         ensures err { IfErr result (λ f. f ≢ RecordFault.NoMemory → f ≡ RecordFault.NoInstrument) }
-        ensures lacks { IfErr result (λ f. f ≢ RecordFault.NoMemory → LacksInstrument self.now instrument) }
-        ensures no_memory { IfErr result (λ f. f ≡ RecordFault.NoMemory → HasInstrument self.now instrument) }
+        ensures lacks { IfErr result (λ f. f ≢ RecordFault.NoMemory → LacksInstrument (tally_in self.now) instrument) }
+        ensures no_memory { IfErr result (λ f. f ≡ RecordFault.NoMemory → HasInstrument (tally_in self.now) instrument) }
     {
         let mut bound = self.tally.bind(instrument, attrs)?;
         self.keep_own(&mut bound);
@@ -113,7 +134,7 @@ impl Recorder {
 
     // Lets a bound point forget its places, but where each is that of a set's own point.
     fn keep_own(&self, bound: &mut Bound)
-        requires { IsBound self.now bound.old }
+        requires { IsBound (tally_in self.now) bound.old }
         ensures instrument { bound.new.instrument ≡ bound.old.instrument }
         ensures attrs { bound.new.attrs ≡ bound.old.attrs }
         ensures bound { IsOwnBound self.now bound.new }
@@ -132,9 +153,10 @@ impl Recorder {
     pub fn measure_bound(&mut self, bound: &mut Bound, value: i64) -> Result<(), RecordFault>
         requires { IsOwnBound self.old bound.old }
         ensures ok { OnOk result (record_fault_of self.old (entry_at bound.old value) ≡ None) }
-        ensures value { OnOk result (self.new ≡ after_measure self.old (entry_at bound.old value)) }
+        ensures value { OnOk result (self.new ≡ recorder_after self.old (entry_at bound.old value)) }
         ensures err { IfErr result (λ f. f ≢ RecordFault.NoMemory → record_fault_of self.old (entry_at bound.old value) ≡ Some f) }
-        ensures held { IsHeld self.old (entry_at bound.old value) → IfErr result (λ f. f ≢ RecordFault.NoMemory) }
+        ensures held { IsHeld (tally_in self.old) (entry_at bound.old value)
+            → has_gauge self.old.plan (feeds_of self.old.plan bound.old.instrument) ≡ false → IfErr result (λ f. f ≢ RecordFault.NoMemory) }
         ensures known { bound.old.places.items ≢ [] → IfErr result (λ f. f ≢ RecordFault.NoMemory) }
         ensures unchanged { OnErr result (self.new ≡ self.old) }
         ensures instrument { bound.new.instrument ≡ bound.old.instrument }
@@ -146,58 +168,125 @@ impl Recorder {
             self.rebind(bound);
             return Ok(());
         }
-        self.measure_known(bound, value)?;
-        Ok(())
+        self.measure_known(bound, value)
     }
 
     // Records a value at a bound point that knows its places, each of a set's own point.
-    fn measure_known(&mut self, bound: &mut Bound, value: i64) -> Result<(), TallyFault>
-        requires bound { IsBound self.old bound.old }
-        requires known { bound.old.places.items ≢ [] }
-        requires keeps { keeps_sets self.old (entry_at bound.old (pos 0)) ≡ true }
-        ensures ok { OnOk result (fault_of self.old (entry_at bound.old value) ≡ None) }
-        ensures value { OnOk result (self.new ≡ after_measure self.old (entry_at bound.old value)) }
-        ensures err { IfErr result (λ f. f ≢ faults.NoMemory → fault_of self.old (entry_at bound.old value) ≡ Some f) }
-        ensures known { IfErr result (λ f. f ≢ faults.NoMemory) }
+    fn measure_known(&mut self, bound: &Bound, value: i64) -> Result<(), RecordFault>
+        requires bound { IsBound (tally_in self.old) bound.now }
+        requires known { bound.now.places.items ≢ [] }
+        requires keeps { keeps_sets (tally_in self.old) (entry_at bound.now (pos 0)) ≡ true }
+        ensures ok { OnOk result (record_fault_of self.old (entry_at bound.now value) ≡ None) }
+        ensures value { OnOk result (self.new ≡ recorder_after self.old (entry_at bound.now value)) }
+        ensures err { IfErr result (λ f. record_fault_of self.old (entry_at bound.now value) ≡ Some f) }
+        ensures memory { IfErr result (λ f. f ≢ RecordFault.NoMemory) }
         ensures unchanged { OnErr result (self.new ≡ self.old) }
-        ensures instrument { bound.new.instrument ≡ bound.old.instrument }
-        ensures attrs { bound.new.attrs ≡ bound.old.attrs }
-        ensures bound { IsOwnBound self.new bound.new }
+        ensures bound { IsOwnBound self.new bound.now }
     {
         // What the plan says of the feeds of all its instruments.
         let _ = self.tally.plan().streams_len();
-        self.tally.measure_bound(bound, value)
+        if !self.can_stamp(bound.instrument) {
+            return Err(RecordFault::Full);
+        }
+        let places = bound.places.as_slice();
+        self.tally
+            .measure_at(bound.instrument, &bound.attrs, places, value)?;
+        let plan = self.tally.plan();
+        stamp_each(
+            plan,
+            &mut self.stamps,
+            feeds_in(plan, bound.instrument),
+            places,
+        );
+        Ok(())
+    }
+
+    // Whether each gauge that the instrument feeds can number one more value.
+    fn can_stamp(&self, instrument: usize) -> bool
+        ensures { result ≡ can_stamp_all self.now instrument }
+    {
+        let plan = self.tally.plan();
+        // What the plan says of the feeds of all its instruments.
+        let _ = plan.streams_len();
+        can_stamp_each(plan, &self.stamps, feeds_in(plan, instrument))
+    }
+
+    // Records a value as `measure` does, where the sets are kept, and numbers it in each gauge.
+    fn measure_gauge(
+        &mut self,
+        instrument: usize,
+        attrs: &AttrSet,
+        value: i64,
+    ) -> Result<(), RecordFault>
+        requires { keeps_sets (tally_in self.old) (entry_of instrument attrs.now value) ≡ true }
+        ensures ok { OnOk result (record_fault_of self.old (entry_of instrument attrs.now value) ≡ None) }
+        ensures value { OnOk result (self.new ≡ recorder_after self.old (entry_of instrument attrs.now value)) }
+        ensures recorded { OnOk result (RecordsAlso self.old (entry_of instrument attrs.now value) self.new) }
+        ensures err { IfErr result (λ f. f ≢ RecordFault.NoMemory
+            → record_fault_of self.old (entry_of instrument attrs.now value) ≡ Some f) }
+        ensures unchanged { OnErr result (self.new ≡ self.old) }
+    {
+        // What the plan says of the feeds of all its instruments.
+        let _ = self.tally.plan().streams_len();
+        if !self.can_stamp(instrument) {
+            return Err(RecordFault::Full);
+        }
+        self.tally
+            .find_spots(instrument, attrs, &mut self.stamps, &mut self.spots)?;
+        self.tally.measure(instrument, attrs, value)?;
+        let plan = self.tally.plan();
+        stamp_each(
+            plan,
+            &mut self.stamps,
+            feeds_in(plan, instrument),
+            self.spots.as_slice(),
+        );
+        Ok(())
     }
 
     /// Whether it holds no recordings. O(streams), takes no memory.
     pub fn is_empty(&self) -> bool
-        ensures { IsTrue result ↔ (self.now ≡ empty_tally self.now.plan) }
+        ensures { IsTrue result ↔ (self.now ≡ empty_recorder self.now.plan) }
     {
+        // What the plan says of the feeds of all its instruments.
+        let _ = self.tally.plan().streams_len();
         self.tally.is_empty()
     }
 
     /// The plan. Takes no memory.
     pub fn plan(&self) -> &Plan
         ensures value { result.now ≡ self.now.plan }
-        // No stream that does not only rise has points.
-        ensures rising { OnlyRises self.now }
+        // It has accepted some list of recordings since it was empty.
+        ensures recorder { IsRecorder self.now }
     {
         self.tally.plan()
     }
 }
 
-// Whether the totals of a shape only rise.
-fn only_rises(shape: &Shape) -> bool
-    ensures { result ≡ rises shape.now }
+/// The feeds of an instrument, none where there is no such instrument.
+pub(crate) fn feeds_in(plan: &Plan, instrument: usize) -> &[Feed]
+    ensures value { result.now ≡ feeds_of plan.now instrument }
+    ensures feeds { AreFeeds (length plan.now.streams) result.now }
+    ensures rising { (k : Kind) → kind_of plan.now instrument ≡ Some k → AllRise plan.now k (feeds_of plan.now instrument) }
+{
+    match plan.feeds(instrument) {
+        Some(feeds) => feeds,
+        None => &[],
+    }
+}
+
+// Whether a recorder may hold points of a shape.
+fn may_hold(shape: &Shape) -> bool
+    ensures { result ≡ may_hold shape.now }
 {
     match shape {
         Shape::Sum { monotonic } => *monotonic,
-        Shape::Gauge => false,
+        Shape::Gauge => true,
         Shape::Histogram { .. } => true,
     }
 }
 
-/// Whether each feed's stream only rises, and has a point of its own for the set that the feed keeps, or room for one.
+/// Whether a recorder may hold each feed's stream, and that has a point of its own for the set that the feed keeps, or room for one.
 pub(crate) fn keep_each(
     plan: &Plan,
     overflow: &AttrSet,
@@ -214,7 +303,7 @@ pub(crate) fn keep_each(
     let Some((feed, rest)) = feeds.split_first() else {
         return Ok(true);
     };
-    if !only_rises(shape_of(plan, feed.stream)) {
+    if !may_hold(shape_of(plan, feed.stream)) {
         return Ok(false);
     }
     let points = &series[feed.stream];

@@ -8,7 +8,8 @@ ghost use Rattle.agg_kit.specs.Feeding.{overflow_set};
 ghost use Rattle.agg_kit.specs.Feeds.{entries_of, series_at, IsHeld};
 ghost use Rattle.agg_kit.specs.Kept.{whole_feed, AreLone};
 ghost use Rattle.agg_kit.specs.Measuring.{after_measure, early_fault_of, empty_tally, fault_of};
-ghost use Rattle.agg_kit.specs.Recorders.{absorb_fault, keeps_sets, with_recorder};
+ghost use Rattle.agg_kit.specs.Recorders.{absorb_fault, empty_recorder, keeps_sets, recorded_in, with_recorder};
+ghost use Rattle.agg_kit.specs.Stamps.{stamped_in, AreSpots, HaveRooms};
 ghost use Rattle.agg_kit.specs.Refusals.{is_negative_for};
 ghost use Rattle.agg_kit.specs.declared.fault.TallyFault.TheVariants as faults;
 ghost use Rattle.agg_kit.specs.Sound.{AllSound};
@@ -17,9 +18,10 @@ ghost use Rattle.plan_kit.specs.declared.instrument.Kind.{Kind};
 
 use crate::absorbing::absorb_into;
 use crate::bound::places_of;
-use crate::recorder::keep_each;
+use crate::recorder::{feeds_in, keep_each};
 use crate::recording::record;
 use crate::series::Series;
+use crate::stamps::{Stamps, clear_each, find_spots};
 use crate::{Bound, Recorder, TallyFault};
 use attr_kit::{AttrSet, AttrValue, Keep, NoMemory, Txt};
 use plan_kit::{Feed, Kind, Plan};
@@ -167,7 +169,7 @@ impl Tally {
 
     // Records a value as `measure` does. `places` are those of the feeds' points, or none.
     #[inline(always)]
-    fn measure_at(
+    pub(crate) fn measure_at(
         &mut self,
         instrument: usize,
         attrs: &AttrSet,
@@ -201,7 +203,8 @@ impl Tally {
         )
     }
 
-    // Whether each feed of an instrument leads to a stream that only rises, with a point of its own for the set, or room for one.
+    // Whether a recorder may hold the stream of each feed of an instrument, and that has a point of its own for the set, or room
+    // for one.
     pub(crate) fn keeps_sets(&self, instrument: usize, attrs: &AttrSet) -> Result<bool, NoMemory>
         ensures value { IfOk result (λ keeps. (v : ℤ) → keeps ≡ keeps_sets self.now (entry_of instrument attrs.now v)) }
         ensures rising { (k : Kind) → kind_of self.now.plan instrument ≡ Some k
@@ -214,6 +217,23 @@ impl Tally {
         }
     }
 
+    // The places of a set's points in the streams of an instrument's feeds, or of the next ones, and room for their stamps.
+    pub(crate) fn find_spots(
+        &self,
+        instrument: usize,
+        attrs: &AttrSet,
+        stamps: &mut Vec<Stamps>,
+        spots: &mut Vec<usize>,
+    ) -> Result<(), NoMemory>
+        requires { length stamps.old.items ≡ length self.now.plan.streams }
+        ensures kept { stamped_in stamps.new.items ≡ stamped_in stamps.old.items }
+        ensures spots { OnOk result (AreSpots (feeds_of self.now.plan instrument) spots.new.items attrs.now self.now.series) }
+        ensures rooms { OnOk result (HaveRooms (feeds_of self.now.plan instrument) stamps.new.items) }
+    {
+        let feeds = feeds_in(&self.plan, instrument);
+        find_spots(&self.series, stamps, feeds, attrs, spots)
+    }
+
     /// Takes in what a recorder of the same plan holds, as if each of its recordings had been measured here, one after the other,
     /// and leaves the recorder empty. The sets are moved where there is no point for them. No clause says what room the recorder
     /// has then, and its bound points are to be released or bound again.
@@ -224,21 +244,27 @@ impl Tally {
         requires { recorder.old.plan ≡ self.old.plan }
         ensures ok { OnOk result (absorb_fault self.old recorder.old ≡ None) }
         ensures value { OnOk result (self.new ≡ with_recorder self.old recorder.old) }
-        ensures emptied { OnOk result (recorder.new ≡ empty_tally recorder.old.plan) }
+        ensures emptied { OnOk result (recorder.new ≡ empty_recorder recorder.old.plan) }
         ensures err { IfErr result (λ f. f ≢ TallyFault.NoMemory → absorb_fault self.old recorder.old ≡ Some f) }
         ensures unchanged { OnErr result (self.new ≡ self.old) }
         ensures kept { OnErr result (recorder.new ≡ recorder.old) }
     {
-        self.take_from(&mut recorder.tally)
+        // What the plan says of the feeds of all its instruments.
+        let _ = self.plan().streams_len();
+        self.take_from(&mut recorder.tally, recorder.stamps.as_slice())?;
+        clear_each(recorder.stamps.as_mut_slice());
+        Ok(())
     }
 
-    // The same of a tally of the same plan, in which each set has a point of its own.
-    fn take_from(&mut self, other: &mut Tally) -> Result<(), TallyFault>
-        requires { other.old.plan ≡ self.old.plan }
-        ensures ok { OnOk result (absorb_fault self.old other.old ≡ None) }
-        ensures value { OnOk result (self.new ≡ with_recorder self.old other.old) }
+    // The same of the points of a recorder of the same plan, and of their stamps.
+    fn take_from(&mut self, other: &mut Tally, stamps: &[Stamps]) -> Result<(), TallyFault>
+        requires plan { other.old.plan ≡ self.old.plan }
+        requires long { length stamps.now ≡ length self.old.plan.streams }
+        ensures ok { OnOk result (absorb_fault self.old (recorded_in other.old (stamped_in stamps.now)) ≡ None) }
+        ensures value { OnOk result (self.new ≡ with_recorder self.old (recorded_in other.old (stamped_in stamps.now))) }
         ensures emptied { OnOk result (other.new ≡ empty_tally other.old.plan) }
-        ensures err { IfErr result (λ f. f ≢ TallyFault.NoMemory → absorb_fault self.old other.old ≡ Some f) }
+        ensures err { IfErr result (λ f. f ≢ TallyFault.NoMemory
+            → absorb_fault self.old (recorded_in other.old (stamped_in stamps.now)) ≡ Some f) }
         ensures unchanged { OnErr result (self.new ≡ self.old) }
         ensures kept { OnErr result (other.new ≡ other.old) }
     {
@@ -247,6 +273,7 @@ impl Tally {
             &self.overflow,
             &mut self.series,
             &mut other.series,
+            stamps,
         )
     }
 

@@ -3,9 +3,7 @@ use Rattle.std.proofs.Common.{◌≡◌, ◌<◌, ◌≤◌, ◌+◌, ◌∙◌,
 use Rattle.std.specs.List.{All}
 use Rattle.std.proofs.lemmas.List.Elements.{All-push, All-set, All-weaker}
 use Rattle.agg_kit.specs.Entries.{Entry}
-use Rattle.agg_kit.specs.Measuring.{after_measure}
-use Rattle.agg_kit.specs.Recorders.{IsOwnBound}
-use Rattle.agg_kit.specs.Tallies.{Tallied}
+use Rattle.agg_kit.specs.Recorders.{IsOwnBound, Recorded, recorder_after}
 use Rattle.agg_kit.specs.declared.bound.Bound.{Bound}
 use Rattle.agg_kit.proofs.OwnPoints.{own_bound_stays}
 use Rattle.attr_kit.specs.declared.attr_set.AttrSet.{AttrSet}
@@ -13,31 +11,31 @@ use Rattle.plan_kit.specs.Plans.{AreFeeds, Planned, feeds_of}
 use Rattle.kit_c.specs.RecorderSets.{attrs_in, IsOwnPoint, KeepsOwn, KnowNothing, KnowsOwnPoints}
 use Rattle.kit_c.specs.declared.recorder.RecorderSet.{RecorderSet}
 
-pub keeps_recorded : (r : Tallied) (e : Entry) → ((i : ℕ) → AreFeeds (length r.plan.streams) (feeds_of r.plan i)) → KeepsOwn r (after_measure r e)
-keeps_recorded r e feeds s knows = All-weaker (IsOwnPoint r s.attrs) (IsOwnPoint (after_measure r e) s.attrs) by s.points.items knows
+pub keeps_recorded : (r : Recorded) (e : Entry) → ((i : ℕ) → AreFeeds (length r.plan.streams) (feeds_of r.plan i)) → KeepsOwn r (recorder_after r e)
+keeps_recorded r e feeds s knows = All-weaker (IsOwnPoint r s.attrs) (IsOwnPoint (recorder_after r e) s.attrs) by s.points.items knows
   where
-    by : (b : Bound) → IsOwnPoint r s.attrs b → IsOwnPoint (after_measure r e) s.attrs b
+    by : (b : Bound) → IsOwnPoint r s.attrs b → IsOwnPoint (recorder_after r e) s.attrs b
     by b k = record { attrs = k.attrs; home = own_bound_stays r e b (feeds b.instrument) k.home }
 
-pub keeps_measured : {U F : Type 0} (r t : Tallied) (e : Entry) (o : Result U F) → ((i : ℕ) → AreFeeds (length r.plan.streams) (feeds_of r.plan i))
-    → OnOk o (t ≡ after_measure r e) → OnErr o (t ≡ r) → KeepsOwn r t
+pub keeps_measured : {U F : Type 0} (r t : Recorded) (e : Entry) (o : Result U F) → ((i : ℕ) → AreFeeds (length r.plan.streams) (feeds_of r.plan i))
+    → OnOk o (t ≡ recorder_after r e) → OnErr o (t ≡ r) → KeepsOwn r t
 keeps_measured r t e (Ok u) feeds is same = subst (KeepsOwn r) (sym is) (keeps_recorded r e feeds)
 keeps_measured r t e (Err f) feeds is same = subst (KeepsOwn r) (sym same) (λ s knows. knows)
 
 -- what the plan says of its feeds, of the plan that a recorder has
-pub feeds_here : (p : Planned) (t : Tallied) → p ≡ t.plan → ((i : ℕ) → AreFeeds (length p.streams) (feeds_of p i))
+pub feeds_here : (p : Planned) (t : Recorded) → p ≡ t.plan → ((i : ℕ) → AreFeeds (length p.streams) (feeds_of p i))
     → (i : ℕ) → AreFeeds (length t.plan.streams) (feeds_of t.plan i)
 feeds_here p t is feeds = subst (λ (q : Planned). (i : ℕ) → AreFeeds (length q.streams) (feeds_of q i)) is feeds
 
 -- the point that a set has kept once more, after it was recorded at
-pub knows_set : (r t : Tallied) (s : RecorderSet) (n : ℕ) (old new : Bound) → KeepsOwn r t → KnowsOwnPoints r s → n < length s.points.items
+pub knows_set : (r t : Recorded) (s : RecorderSet) (n : ℕ) (old new : Bound) → KeepsOwn r t → KnowsOwnPoints r s → n < length s.points.items
     → old ≡ get_or s.points.items n old → new.attrs ≡ old.attrs → IsOwnBound t new → All (IsOwnPoint t s.attrs) (set s.points.items n new)
 knows_set r t s n old new keeps knows within was attrs home =
     let k : IsOwnPoint r s.attrs old = subst (IsOwnPoint r s.attrs) (sym was) (knows n old within) in
     All-set (IsOwnPoint t s.attrs) s.points.items n new (record { attrs = attrs ∙ k.attrs; home = home }) (keeps s knows)
 
 -- and once a new one was put behind, where memory was given
-pub knows_push : (r t : Tallied) (s : RecorderSet) (b : Bound) (ok : Bool) (bs : List Bound) → KeepsOwn r t → KnowsOwnPoints r s
+pub knows_push : (r t : Recorded) (s : RecorderSet) (b : Bound) (ok : Bool) (bs : List Bound) → KeepsOwn r t → KnowsOwnPoints r s
     → bs ≡ (if ok then s.points.items ++ b ∷ [] else s.points.items) → b.attrs ≡ s.attrs → IsOwnBound t b → All (IsOwnPoint t s.attrs) bs
 knows_push r t s b ok bs keeps knows is attrs home = subst (All (IsOwnPoint t s.attrs)) (sym is) (by ok)
   where
@@ -60,16 +58,16 @@ attrs_past [] n l = refl
 attrs_past (x ∷ ss) zero l = absurd (omega arith)
 attrs_past (x ∷ ss) (suc n) l = attrs_past ss n (omega arith)
 
-pub all_kept : (r t : Tallied) (ss : List RecorderSet) → KeepsOwn r t → All (KnowsOwnPoints r) ss → All (KnowsOwnPoints t) ss
+pub all_kept : (r t : Recorded) (ss : List RecorderSet) → KeepsOwn r t → All (KnowsOwnPoints r) ss → All (KnowsOwnPoints t) ss
 all_kept r t ss keeps all = All-weaker (KnowsOwnPoints r) (KnowsOwnPoints t) keeps ss all
 
 -- a recording leaves the plan
-pub plan_measured : {U F : Type 0} (r t : Tallied) (e : Entry) (o : Result U F) → OnOk o (t ≡ after_measure r e) → OnErr o (t ≡ r) → r.plan ≡ t.plan
-plan_measured r t e (Ok u) is same = sym (ap (λ (x : Tallied). x.plan) is)
-plan_measured r t e (Err f) is same = sym (ap (λ (x : Tallied). x.plan) same)
+pub plan_measured : {U F : Type 0} (r t : Recorded) (e : Entry) (o : Result U F) → OnOk o (t ≡ recorder_after r e) → OnErr o (t ≡ r) → r.plan ≡ t.plan
+plan_measured r t e (Ok u) is same = sym (ap (λ (x : Recorded). x.plan) is)
+plan_measured r t e (Err f) is same = sym (ap (λ (x : Recorded). x.plan) same)
 
 -- a set that knows no point
-knows_none : (s : RecorderSet) → s.points.items ≡ [] → (r : Tallied) → KnowsOwnPoints r s
+knows_none : (s : RecorderSet) → s.points.items ≡ [] → (r : Recorded) → KnowsOwnPoints r s
 knows_none s none r = subst (All (IsOwnPoint r s.attrs)) (sym none) (λ k d l. absurd (omega arith))
 
 pub know_push : (ss : List RecorderSet) (s : RecorderSet) → s.points.items ≡ [] → KnowNothing ss → KnowNothing (ss ++ s ∷ [])

@@ -2,9 +2,7 @@
 use Rattle.std.specs.Prelude.{◌≡◌, ◌≢◌, ℕ, ℤ, Bool, slice_get, Option, Some, None, IsTrue, ◌↔◌}
 use Rattle.std.specs.Option.{option_map}
 use Rattle.agg_kit.specs.Entries.{entry_of}
-use Rattle.agg_kit.specs.Measuring.{after_measure, empty_tally}
-use Rattle.agg_kit.specs.Recorders.{record_fault_of}
-use Rattle.agg_kit.specs.Tallies.{Tallied}
+use Rattle.agg_kit.specs.Recorders.{Recorded, empty_recorder, record_fault_of, recorder_after}
 use Rattle.attr_kit.specs.declared.attr_set.AttrSet.{AttrSet}
 use Rattle.writer_kit.specs.Absorbing.{absorb_fault, no_memory_for, with_recordings}
 use Rattle.kit_c.specs.Holdings.{Holding}
@@ -21,7 +19,7 @@ opening_fault h = Some faults.WrongKind
 
 -- the second handle has a recorder of the first one's plan, which holds its sets and has recorded nothing
 abbrev pub IsRecorderOf : Option Held → Option Held → Type 0
-IsRecorderOf (Some (Writer h)) (Some (Recorder r)) = (r.recorder ≡ empty_tally h.writer.tally.plan) × (r.sets ≡ h.sets)
+IsRecorderOf (Some (Writer h)) (Some (Recorder r)) = (r.recorder ≡ empty_recorder h.writer.tally.plan) × (r.sets ≡ h.sets)
 IsRecorderOf m n = ⊥
 
 -- a recording by a recorder, of the things
@@ -30,16 +28,16 @@ record_fault i x (Recorder r) (Attributes a) = option_map (λ f. faults.Record f
 record_fault i x h other = Some faults.WrongKind
 
 abbrev pub after_record : ℕ → ℤ → Held → Held → Held
-after_record i x (Recorder r) (Attributes a) = Recorder (record r { recorder = after_measure r.recorder (entry_of i a x) })
+after_record i x (Recorder r) (Attributes a) = Recorder (record r { recorder = recorder_after r.recorder (entry_of i a x) })
 after_record i x h other = h
 
 -- a recording at a set that there may not be
-abbrev pub own_set_fault : ℕ → ℤ → Tallied → Option AttrSet → Option Fault
+abbrev pub own_set_fault : ℕ → ℤ → Recorded → Option AttrSet → Option Fault
 own_set_fault i x r (Some a) = option_map (λ f. faults.Record f) (record_fault_of r (entry_of i a x))
 own_set_fault i x r None = Some faults.NoSet
 
-abbrev pub recorder_at : ℕ → ℤ → Tallied → Option AttrSet → Tallied
-recorder_at i x r (Some a) = after_measure r (entry_of i a x)
+abbrev pub recorder_at : ℕ → ℤ → Recorded → Option AttrSet → Recorded
+recorder_at i x r (Some a) = recorder_after r (entry_of i a x)
 recorder_at i x r None = r
 
 -- a recording at the set of a number
@@ -58,7 +56,7 @@ recorder_fault h = Some faults.WrongKind
 
 -- a thing is a recorder that holds no recordings, or is not
 abbrev pub TellsEmpty : Bool → Held → Type 0
-TellsEmpty b (Recorder r) = IsTrue b ↔ (r.recorder ≡ empty_tally r.recorder.plan)
+TellsEmpty b (Recorder r) = IsTrue b ↔ (r.recorder ≡ empty_recorder r.recorder.plan)
 TellsEmpty b h = ⊥
 
 -- a writer took in what a recorder of its plan held: the recorder holds nothing then, and both hold their sets
@@ -67,7 +65,7 @@ pub record Absorbs (h : Holding) (r : Recording) (k : Holding) (s : Recording) :
   pub fits : absorb_fault h.writer r.recorder ≡ None
   pub writer : k.writer ≡ with_recordings h.writer r.recorder
   pub writer_sets : k.sets ≡ h.sets
-  pub recorder : s.recorder ≡ empty_tally r.recorder.plan
+  pub recorder : s.recorder ≡ empty_recorder r.recorder.plan
   pub recorder_sets : s.sets ≡ r.sets
 
 -- the same of handles: the first took in the second, and they are then the third and the fourth

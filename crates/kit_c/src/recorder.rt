@@ -1,8 +1,7 @@
 //! Recorders with the sets that they hold by number.
 ghost use Rattle.std.specs.Prelude.{◌≡◌, ◌≢◌, ◌↔◌, [], map, slice_get, All, None, Some, IsTrue, OnOk, OnErr, IfErr, IfOk, IfSome};
 ghost use Rattle.agg_kit.specs.Entries.{entry_of};
-ghost use Rattle.agg_kit.specs.Measuring.{after_measure, empty_tally};
-ghost use Rattle.agg_kit.specs.Recorders.{record_fault_of};
+ghost use Rattle.agg_kit.specs.Recorders.{empty_recorder, record_fault_of, recorder_after};
 ghost use Rattle.kit_c.specs.Codes.{code_of, no_memory as refused_memory};
 ghost use Rattle.kit_c.specs.RecorderSets.{IsBoundPlace, KeepsOwn, KnowNothing, KnowsOwnPoints, attrs_in};
 ghost use Rattle.kit_c.specs.Recorders.{own_set_fault, recorder_at};
@@ -46,7 +45,7 @@ fn measure_at_set(
 ) -> Result<(), RecordFault>
     requires { KnowsOwnPoints recorder.old set.old }
     ensures ok { OnOk result (record_fault_of recorder.old (entry_of instrument set.old.attrs value) ≡ None) }
-    ensures value { OnOk result (recorder.new ≡ after_measure recorder.old (entry_of instrument set.old.attrs value)) }
+    ensures value { OnOk result (recorder.new ≡ recorder_after recorder.old (entry_of instrument set.old.attrs value)) }
     ensures err { IfErr result (λ f. f ≢ RecordFault.NoMemory
         → record_fault_of recorder.old (entry_of instrument set.old.attrs value) ≡ Some f) }
     ensures unchanged { OnErr result (recorder.new ≡ recorder.old) }
@@ -139,7 +138,7 @@ impl Model for HoldingRecorder {
 impl HoldingRecorder {
     /// A recorder of a writer's plan, with the sets that the writer holds; it has recorded nothing.
     pub(crate) fn open(alloc: Global, holder: &HoldingWriter) -> Result<HoldingRecorder, NoMemory>
-        ensures recorder { IfOk result (λ r. r.recorder ≡ empty_tally holder.now.writer.tally.plan) }
+        ensures recorder { IfOk result (λ r. r.recorder ≡ empty_recorder holder.now.writer.tally.plan) }
         ensures sets { IfOk result (λ r. r.sets ≡ holder.now.sets) }
     {
         let recorder = holder.writer().recorder(alloc)?;
@@ -164,7 +163,7 @@ impl HoldingRecorder {
     ) -> Result<(), RecordFault>
         ensures ok { OnOk result (record_fault_of self.old.recorder (entry_of instrument attrs.now value) ≡ None) }
         ensures value { OnOk result (self.new
-            ≡ record self.old { recorder = after_measure self.old.recorder (entry_of instrument attrs.now value) }) }
+            ≡ record self.old { recorder = recorder_after self.old.recorder (entry_of instrument attrs.now value) }) }
         ensures err { IfErr result (λ f. f ≢ RecordFault.NoMemory
             → record_fault_of self.old.recorder (entry_of instrument attrs.now value) ≡ Some f) }
         ensures unchanged { OnErr result (self.new ≡ self.old) }
@@ -199,7 +198,7 @@ impl HoldingRecorder {
 
     /// Whether it holds no recordings.
     pub(crate) fn is_empty(&self) -> bool
-        ensures { IsTrue result ↔ (self.now.recorder ≡ empty_tally self.now.recorder.plan) }
+        ensures { IsTrue result ↔ (self.now.recorder ≡ empty_recorder self.now.recorder.plan) }
     {
         self.recorder.is_empty()
     }
@@ -216,7 +215,7 @@ impl HoldingRecorder {
         requires { self.old.recorder.plan ≡ writer.old.tally.plan }
         ensures ok { OnOk result (absorb_fault writer.old self.old.recorder ≡ None) }
         ensures value { OnOk result (writer.new ≡ with_recordings writer.old self.old.recorder) }
-        ensures emptied { OnOk result (self.new ≡ record self.old { recorder = empty_tally self.old.recorder.plan }) }
+        ensures emptied { OnOk result (self.new ≡ record self.old { recorder = empty_recorder self.old.recorder.plan }) }
         ensures err { IfErr result (λ f. f ≢ no_memory_for → absorb_fault writer.old self.old.recorder ≡ Some f) }
         ensures unchanged { OnErr result (writer.new ≡ writer.old) }
         ensures kept { OnErr result (self.new ≡ self.old) }

@@ -1,7 +1,7 @@
 //! A recorder, with which a thread records by itself, and the writer that takes it in.
 ghost use Rattle.std.specs.Prelude.{◌≡◌, MatchBool, IfOk, IfErr, OnOk, OnErr, true, false};
 ghost use Rattle.agg_kit.specs.Entries.{entry_of};
-ghost use Rattle.agg_kit.specs.Measuring.{after_measure, empty_tally};
+ghost use Rattle.agg_kit.specs.Recorders.{empty_recorder, recorder_after};
 ghost use Rattle.turn_kit.specs.Public.{AtBusy};
 ghost use Rattle.writer_kit.specs.Absorbing.{with_recordings};
 ghost use Rattle.writer_kit.specs.Recording.{recorded};
@@ -25,9 +25,9 @@ pub fn record_apart(
 ) -> anyhow::Result<bool>
     requires { recorder.old.plan ≡ writer.old.tally.plan }
     ensures value { IfOk result (λ apart. MatchBool apart
-        ((recorder.new ≡ after_measure recorder.old (entry_of instrument attrs.now value)) × (writer.new ≡ writer.old))
+        ((recorder.new ≡ recorder_after recorder.old (entry_of instrument attrs.now value)) × (writer.new ≡ writer.old))
         ((writer.new ≡ recorded (with_recordings writer.old recorder.old) (entry_of instrument attrs.now value))
-        × (recorder.new ≡ empty_tally recorder.old.plan))) }
+        × (recorder.new ≡ empty_recorder recorder.old.plan))) }
     ensures plan { recorder.new.plan ≡ writer.new.tally.plan }
 {
     match recorder.measure(instrument, attrs, value) {
@@ -46,7 +46,7 @@ pub fn record_apart(
 pub fn take_in(writer: &mut Writer, recorder: &mut Recorder) -> Result<bool, TallyFault>
     requires { recorder.old.plan ≡ writer.old.tally.plan }
     ensures value { IfOk result (λ done. MatchBool done
-        ((writer.new ≡ with_recordings writer.old recorder.old) × (recorder.new ≡ empty_tally recorder.old.plan))
+        ((writer.new ≡ with_recordings writer.old recorder.old) × (recorder.new ≡ empty_recorder recorder.old.plan))
         ((writer.new ≡ writer.old) × (recorder.new ≡ recorder.old))) }
     ensures closed { IfOk result (λ done. done ≡ false → writer.old.closed ≡ true) }
 {
@@ -69,7 +69,7 @@ pub fn hand_over<R: Wait>(
     requires plan { recorder.old.plan ≡ (first_of shared.now).tally.plan }
     ensures seat { IsAt shared.now seat.new }
     ensures taken { OnOk result (Adds shared.now (Absorbed recorder.old) seat.old seat.new) }
-    ensures emptied { OnOk result (recorder.new ≡ empty_tally recorder.old.plan) }
+    ensures emptied { OnOk result (recorder.new ≡ empty_recorder recorder.old.plan) }
     ensures kept { OnErr result (recorder.new ≡ recorder.old) }
     ensures busy { IfErr result (AtBusy ⊥) }
 {

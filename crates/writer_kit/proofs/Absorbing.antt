@@ -1,18 +1,16 @@
 -- A writer that takes a recorder in follows its recordings.
 use Rattle.std.proofs.Common.{◌≡◌, ◌∙◌, ℕ, Bool, true, false, not, is_none, List, [], ◌∷◌, ◌++◌, length, Option, None, Some, fold, refl, sym, ap, subst, append_assoc, append-nil}
 use Rattle.std.specs.Option.{option_map}
-use Rattle.agg_kit.proofs.Recorders.{absorbing_is_recording, holds-none, keeps-all, recorders_hold, rises-none, rises-still}
-use Rattle.agg_kit.proofs.Taken.{series_with_taken}
+use Rattle.agg_kit.proofs.Recorders.{absorbing_is_recording}
+use Rattle.agg_kit.proofs.Taken.{recorded_holds, series_with_taken}
 use Rattle.agg_kit.specs.Entries.{Entry}
-use Rattle.agg_kit.specs.Measuring.{after_measure, empty_tally}
-use Rattle.agg_kit.specs.Recorders.{Holds, OnlyRises}
+use Rattle.agg_kit.specs.Recorders.{Recorded, Holds}
 use Rattle.agg_kit.specs.Recorders as recorders
 use Rattle.agg_kit.specs.Refusals.{first_refusal}
 use Rattle.agg_kit.specs.Rounds.{StandsFor}
-use Rattle.agg_kit.specs.Taken.{AreRecorded, AreTaken, HasRecorded}
-use Rattle.agg_kit.specs.Tallies.{Tallied}
+use Rattle.agg_kit.specs.Taken.{AreTaken, HasRecorded}
 use Rattle.agg_kit.specs.declared.fault.TallyFault.{TallyFault}
-use Rattle.plan_kit.specs.Plans.{Planned, AreFeeds, feeds_of}
+use Rattle.plan_kit.specs.Plans.{Planned}
 use Rattle.attr_kit.specs.Refusing.{first, when}
 use Rattle.schedule_kit.proofs.History.{none_yet}
 use Rattle.schedule_kit.specs.Schedule.{Act, start_of, last_of, is_open, running, AreAccepted}
@@ -26,15 +24,15 @@ use Rattle.writer_kit.specs.declared.fault.AbsorbFault.TheVariants as absorb
 
 -- ---- when a recorder is refused, by its parts
 
-pub absorb_closed : (w : Written) (r : Tallied) → w.closed ≡ true → absorb_fault w r ≡ Some absorb.Closed
+pub absorb_closed : (w : Written) (r : Recorded) → w.closed ≡ true → absorb_fault w r ≡ Some absorb.Closed
 unfolding absorb_fault
 absorb_closed w r c = rw c refl
 
-pub absorb_refused : (w : Written) (r : Tallied) (f : TallyFault) → w.closed ≡ false → recorders.absorb_fault w.tally r ≡ Some f → absorb_fault w r ≡ Some (absorb.Refused f)
+pub absorb_refused : (w : Written) (r : Recorded) (f : TallyFault) → w.closed ≡ false → recorders.absorb_fault w.tally r ≡ Some f → absorb_fault w r ≡ Some (absorb.Refused f)
 unfolding absorb_fault
 absorb_refused w r f c e = rw (c, e) refl
 
-pub absorb_accepted : (w : Written) (r : Tallied) → w.closed ≡ false → recorders.absorb_fault w.tally r ≡ None → absorb_fault w r ≡ None
+pub absorb_accepted : (w : Written) (r : Recorded) → w.closed ≡ false → recorders.absorb_fault w.tally r ≡ None → absorb_fault w r ≡ None
 unfolding absorb_fault
 absorb_accepted w r c e = rw (c, e) refl
 
@@ -58,33 +56,14 @@ runs_on first acts [] = sym (append-nil (running first acts))
 runs_on first acts (e ∷ es) = runs_on first (Measured e ∷ acts) es ∙ ap (λ l. l ++ es) (runs first acts e) ∙ append_assoc (running first acts) (e ∷ []) es
 
 pub absorbing_appends : AbsorbingAppends
-absorbing_appends w r h k plan rises holds stands = absorbing_is_recording w.tally r h k plan rises stands holds
-
--- ---- what a recorder recorded, it holds
-
-holds-all : (p : Planned) → AllFeeds p → (r : Tallied) (h k : List Entry) → r.plan ≡ p → Holds r h → AreRecorded r k → Holds (fold after_measure r k) (h ++ k)
-holds-all p feeds r h [] is holds rec = subst (Holds r) (sym (append-nil h)) holds
-holds-all p feeds r h (e ∷ k) is holds rec =
-    let fed : AreFeeds (length r.plan.streams) (feeds_of r.plan e.instrument) = subst (λ (q : Planned). AreFeeds (length q.streams) (feeds_of q e.instrument)) (sym is) (feeds e.instrument) in
-    subst (Holds (fold after_measure (after_measure r e) k)) (append_assoc h (e ∷ []) k) (holds-all p feeds (after_measure r e) (h ++ e ∷ []) k is (recorders_hold r h e fed holds rec.0) rec.2)
-
-rises-all : (r : Tallied) (k : List Entry) → OnlyRises r → AreRecorded r k → OnlyRises (fold after_measure r k)
-rises-all r [] only rec = only
-rises-all r (e ∷ k) only rec = rises-all (after_measure r e) k (rises-still r e (keeps-all r e rec.0) only) rec.2
-
-recorded_holds : (r : Tallied) (k : List Entry) → AllFeeds r.plan → HasRecorded r k → Holds r k × OnlyRises r
-recorded_holds r k feeds has = (
-  subst (λ (x : Tallied). Holds x k) has.all (holds-all r.plan feeds (empty_tally r.plan) [] k refl (holds-none r.plan) has.each),
-  subst OnlyRises has.all (rises-all (empty_tally r.plan) k (rises-none r.plan) has.each),
-)
+absorbing_appends w r h k plan holds stands = absorbing_is_recording w.tally r h k plan stands holds
 
 -- a writer that takes a recorder in stands for what it stood for, followed by whatever the recorder recorded
-pub recorded_appends : (w : Written) (r : Tallied) (h k : List Entry) → r.plan ≡ w.tally.plan → AllFeeds w.tally.plan → HasRecorded r k → StandsFor w.tally h → StandsFor (with_recordings w r).tally (h ++ k)
+pub recorded_appends : (w : Written) (r : Recorded) (h k : List Entry) → r.plan ≡ w.tally.plan → AllFeeds w.tally.plan → HasRecorded r k → StandsFor w.tally h → StandsFor (with_recordings w r).tally (h ++ k)
 recorded_appends w r h k plan feeds has stands =
-    let held = recorded_holds r k (subst AllFeeds (sym plan) feeds) has in
-    absorbing_appends w r h k plan held.1 held.0 stands
+    absorbing_appends w r h k plan (recorded_holds r k (subst AllFeeds (sym plan) feeds) has) stands
 
-pub absorb_open : (w : Written) (r : Tallied) → absorb_fault w r ≡ None → (w.closed ≡ false) × (recorders.absorb_fault w.tally r ≡ None)
+pub absorb_open : (w : Written) (r : Recorded) → absorb_fault w r ≡ None → (w.closed ≡ false) × (recorders.absorb_fault w.tally r ≡ None)
 unfolding absorb_fault
 absorb_open w r none = by w.closed (recorders.absorb_fault w.tally r) none
   where

@@ -5,7 +5,7 @@ use Rattle.agg_kit.specs.Entries.{Entry, entry_of}
 use Rattle.agg_kit.specs.Feeds.{AllHeld}
 use Rattle.agg_kit.specs.Rounds.{StandsFor, round}
 use Rattle.agg_kit.specs.Taken.{HasRecorded}
-use Rattle.agg_kit.specs.Tallies.{Tallied}
+use Rattle.agg_kit.specs.Recorders.{Recorded}
 use Rattle.agg_kit.specs.declared.fault.TallyFault.TheVariants as tallies
 use Rattle.agg_kit.proofs.Refusals.{first_refusal-is}
 use Rattle.agg_kit.proofs.Rounds.{stands-push}
@@ -60,7 +60,7 @@ after_writer_change_measured w v i a x fits is = ap (λ o. cond (is_none o) (Som
 pub after_writer_change_collected : (w v : Written) (time : ℕ) → collect_fault w time ≡ None → v ≡ record w { last = time; closed = false } → after_writer_change w (Collected time) ≡ Some v
 after_writer_change_collected w v time fits is = ap (λ o. cond (is_none o) (Some (record w { last = time })) None) fits ∙ ap Some (sym (stays_open w v time (collect_open w time fits) is))
 
-pub after_writer_change_absorbed : (w v : Written) (r : Tallied) → absorb_fault w r ≡ None → v ≡ with_recordings w r → after_writer_change w (Absorbed r) ≡ Some v
+pub after_writer_change_absorbed : (w v : Written) (r : Recorded) → absorb_fault w r ≡ None → v ≡ with_recordings w r → after_writer_change w (Absorbed r) ≡ Some v
 after_writer_change_absorbed w v r fits is = ap (λ o. cond (is_none o) (Some (with_recordings w r)) None) fits ∙ ap Some (sym is)
 
 -- what is accepted was refused for no cause, and is what it was said to be
@@ -78,7 +78,7 @@ acts_told n earlier [] = refl
 acts_told n earlier (e ∷ es) = acts_told n (Act.Measured e ∷ earlier) es
 
 -- why a recorder is refused hangs on its points
-of_plan : (w : Written) (r : Tallied) → absorb_fault w r ≡ None → absorb_fault w (record r { plan = w.tally.plan }) ≡ None
+of_plan : (w : Written) (r : Recorded) → absorb_fault w r ≡ None → absorb_fault w (record r { plan = w.tally.plan }) ≡ None
 unfolding absorb_fault
 of_plan w r none = none
 
@@ -122,7 +122,7 @@ one w v n (Collected time) feeds is =
     }
 one w v n (Absorbed r) feeds is =
     let d = chosen (absorb_fault w r) (with_recordings w r) v is in
-    let own : Tallied = record r { plan = w.tally.plan } in
+    let own : Recorded = record r { plan = w.tally.plan } in
     record {
       same_id = ap (λ (u : Written). u.id) d.1;
       same_plan = ap (λ (u : Written). u.tally.plan) d.1;
@@ -151,7 +151,7 @@ pub may_refuse_round : {R : Type 0} (w : Written) (time : ℕ) (r : Result R col
 may_refuse_round w time (Ok x) told no_memory = tt
 may_refuse_round w time (Err f) told no_memory = record { told = told; no_memory = no_memory }
 
-pub may_refuse_recorder : {R : Type 0} (w : Written) (r : Tallied) (x : Result R absorbs.AbsorbFault) → IfErr x (λ f. f ≢ no_memory_for → absorb_fault w r ≡ Some f)
+pub may_refuse_recorder : {R : Type 0} (w : Written) (r : Recorded) (x : Result R absorbs.AbsorbFault) → IfErr x (λ f. f ≢ no_memory_for → absorb_fault w r ≡ Some f)
     → IfErr x (λ f. f ≡ no_memory_for → w.closed ≡ false) → IfErr x (λ f. MayRefuseRecorder w r f)
 may_refuse_recorder w r (Ok x) told no_memory = tt
 may_refuse_recorder w r (Err f) told no_memory = record { told = told; no_memory = no_memory }
@@ -252,7 +252,7 @@ tells_only p (x ∷ xs) told none t = t.4 ∙ by x.1 none t.2 (λ m. tells_only 
     by (Absorbed r) m some rest = absurd (omega (arith, m))
 
 -- a recorder is told by what it recorded
-pub tells_recorder : (p : Planned) (n : ℕ) (r : Tallied) (k : List Entry) → r.plan ≡ p → HasRecorded r k → IsToldBy p n (Absorbed r) (changes_of n k)
+pub tells_recorder : (p : Planned) (n : ℕ) (r : Recorded) (k : List Entry) → r.plan ≡ p → HasRecorded r k → IsToldBy p n (Absorbed r) (changes_of n k)
 tells_recorder p n r k plan has = (k, subst (λ (q : Planned). HasRecorded (record r { plan = q }) k) plan has, refl)
 
 pub entries_more : (h : History) (n : ℕ) (k : List Entry) → entries_of (h ++ changes_of n k) ≡ entries_of h ++ k

@@ -4,7 +4,7 @@ use Rattle.agg_kit.specs.Entries.{Entry, entry_of}
 use Rattle.agg_kit.specs.Feeds.{AllHeld}
 use Rattle.agg_kit.specs.Rounds.{StandsFor}
 use Rattle.agg_kit.specs.Taken.{HasRecorded}
-use Rattle.agg_kit.specs.Tallies.{Tallied}
+use Rattle.agg_kit.specs.Recorders.{Recorded}
 use Rattle.attr_kit.specs.declared.attr_set.AttrSet.{AttrSet}
 use Rattle.plan_kit.specs.Plans.{Planned, feeds_of}
 use Rattle.round_kit.specs.Rounds.{points_of}
@@ -128,7 +128,7 @@ pub record MayRefuseRound (w : Written) (time : ℕ) (f : CollectFault) : Type 0
   pub no_memory : f ≡ collect.NoMemory → collect_fault w time ≡ None
 
 -- A writer may refuse a recorder with this: for the first cause that fits, or for want of memory where it is open.
-pub record MayRefuseRecorder (w : Written) (r : Tallied) (f : AbsorbFault) : Type 0 where
+pub record MayRefuseRecorder (w : Written) (r : Recorded) (f : AbsorbFault) : Type 0 where
   pub told : f ≢ no_memory_for → absorb_fault w r ≡ Some f
   pub no_memory : f ≡ no_memory_for → w.closed ≡ false
 

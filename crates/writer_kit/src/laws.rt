@@ -4,7 +4,7 @@ ghost use Rattle.agg_kit.specs.Entries.{Entry};
 ghost use Rattle.agg_kit.specs.Feeds.{AllWhole};
 ghost use Rattle.agg_kit.specs.Rounds.{StandsFor};
 ghost use Rattle.agg_kit.specs.Taken.{HasRecorded};
-ghost use Rattle.agg_kit.specs.Tallies.{Tallied};
+ghost use Rattle.agg_kit.specs.Recorders.{Recorded};
 ghost use Rattle.plan_kit.specs.Plans.{Planned, feeds_of};
 ghost use Rattle.point_kit.specs.declared.writer_id.WriterId.{WriterId};
 ghost use Rattle.schedule_kit.specs.Schedule.Act.{Measured, Collected, Restarted};
@@ -58,7 +58,7 @@ pub fn absorbing_is_measuring()
 pub fn histories_are_told()
     ensures itself { (p : Planned) (h : History) → weigh_log absorbs h ≡ 0 → AreToldBy p h h }
     ensures only { (p : Planned) (h told : History) → weigh_log absorbs h ≡ 0 → AreToldBy p h told → told ≡ h }
-    ensures recorder { (p : Planned) (n : ℕ) (r : Tallied) (k : List Entry) → r.plan ≡ p → HasRecorded r k
+    ensures recorder { (p : Planned) (n : ℕ) (r : Recorded) (k : List Entry) → r.plan ≡ p → HasRecorded r k
         → IsToldBy p n (changes.Absorbed r) (changes_of n k) }
     ensures entries { (h : History) (n : ℕ) (k : List Entry) → entries_of (h ++ changes_of n k) ≡ entries_of h ++ k }
     ensures more { (p : Planned) (h told some : History) (n : ℕ) (c : WriterChange) → AreToldBy p h told → IsToldBy p n c some

@@ -3,7 +3,7 @@ ghost use Rattle.std.specs.Prelude.{◌≡◌, ◌≢◌, ◌<◌, ◌≤◌, []
 ghost use Rattle.agg_kit.specs.Entries.{entry_of};
 ghost use Rattle.agg_kit.specs.Feeds.{IsHeld};
 ghost use Rattle.agg_kit.specs.Rounds.{StandsFor};
-ghost use Rattle.agg_kit.specs.Measuring.{empty_tally};
+ghost use Rattle.agg_kit.specs.Recorders.{empty_recorder};
 ghost use Rattle.agg_kit.specs.BoundPoints.{HasInstrument, LacksInstrument, entry_at};
 ghost use Rattle.writer_kit.specs.Absorbing.{absorb_fault, no_memory_for, with_recordings};
 ghost use Rattle.writer_kit.specs.BoundPoints.{IsAtHome, RefusesAt};
@@ -199,7 +199,7 @@ impl Writer {
     ///
     /// Refuses with `NoMemory` alone. O(size of the plan).
     pub fn recorder(&self, alloc: Global) -> Result<Recorder, NoMemory>
-        ensures value { IfOk result (λ r. r ≡ empty_tally self.now.tally.plan) }
+        ensures value { IfOk result (λ r. r ≡ empty_recorder self.now.tally.plan) }
     {
         Recorder::new(alloc, self.tally.plan())
     }
@@ -215,7 +215,7 @@ impl Writer {
         requires { recorder.old.plan ≡ self.old.tally.plan }
         ensures ok { OnOk result (absorb_fault self.old recorder.old ≡ None) }
         ensures value { OnOk result (self.new ≡ with_recordings self.old recorder.old) }
-        ensures emptied { OnOk result (recorder.new ≡ empty_tally recorder.old.plan) }
+        ensures emptied { OnOk result (recorder.new ≡ empty_recorder recorder.old.plan) }
         ensures err { IfErr result (λ f. f ≢ no_memory_for → absorb_fault self.old recorder.old ≡ Some f) }
         ensures no_memory { IfErr result (λ f. f ≡ no_memory_for → self.old.closed ≡ false) }
         ensures unchanged { OnErr result (self.new ≡ self.old) }

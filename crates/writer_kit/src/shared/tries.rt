@@ -1,6 +1,6 @@
 //! The calls that ask for the turn once and wait for nobody.
 ghost use Rattle.std.specs.Prelude.{◌≡◌, OnOk, OnErr, IfOk, IfErr};
-ghost use Rattle.agg_kit.specs.Measuring.{empty_tally};
+ghost use Rattle.agg_kit.specs.Recorders.{empty_recorder};
 ghost use Rattle.turn_kit.specs.Public.{IsLeft, AtBusy, AtExhausted, AtRefused};
 ghost use Rattle.writer_kit.specs.Shared.{IsAt, IsRound, Accepts, Adds, HasAllMeasured, IsNewest, LooksAt, Sees, IsExhausted, IsRefused, MayRefuseRound, MayRefuseRecorder, Declines, first_of};
 ghost use Rattle.writer_kit.specs.declared.shared.change.WriterChange.TheVariants.{Measured, Collected, Absorbed};
@@ -62,7 +62,7 @@ impl<G: GiveBack> SharedWriter<G> {
         ensures seat { IsAt self.now seat.new }
         ensures ok { IfOk result (λ r. Accepts self.now (Absorbed recorder.old) (λ w. Unit {0}) seat.old seat.new) }
         ensures serves { IfOk result (λ r. Adds self.now (Absorbed recorder.old) seat.old seat.new) }
-        ensures emptied { OnOk result (recorder.new ≡ empty_tally recorder.old.plan) }
+        ensures emptied { OnOk result (recorder.new ≡ empty_recorder recorder.old.plan) }
         ensures kept { OnErr result (recorder.new ≡ recorder.old) }
         ensures busy { IfErr result (AtBusy (IsLeft seat.old seat.new)) }
         ensures exhausted { IfErr result (AtExhausted (IsExhausted self.now seat.old seat.new)) }

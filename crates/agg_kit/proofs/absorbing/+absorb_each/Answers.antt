@@ -1,8 +1,12 @@
-use Rattle.std.proofs.Common.{◌≡◌, ◌∙◌, ◌∷◌, List, length, sym, ap, subst, arith, rules}
+use Rattle.std.proofs.Common.{◌≡◌, ◌∙◌, ◌∷◌, ℕ, List, Some, None, length, sym, ap, subst, arith, rules}
+use Rattle.point_kit.specs.declared.payload.Payload.{Payload}
 use Rattle.agg_kit.specs.Absorbing.{AreAllSound, AreBothSound}
+use Rattle.agg_kit.specs.Absorbs.{absorb}
 use Rattle.agg_kit.specs.Feeds.{entries_of}
 use Rattle.agg_kit.specs.Steps.{Stored}
 use Rattle.agg_kit.specs.Tallies.{Points}
+use Rattle.agg_kit.specs.Recorders.{series_with}
+use Rattle.agg_kit.specs.Stamps.{absorb_stamped, newest_over, put_over, stamped_in}
 use Rattle.agg_kit.proofs.ComingIn.{as-many, first-both, first-once, others-both, none-left, length-entries}
 use Rattle.agg_kit.proofs.absorbing.+absorb_each.Goals as goal
 
@@ -28,9 +32,28 @@ pub absorb_each-requires : goal.absorb_each-requires
 absorb_each-requires t c =
     let s = split c.args.series.now c.args.later.now c.in-Some.points.now c.in-Some-split_first_mut.more.now c.in-Some.rest.now c.in-Some-split_first_mut.others.now c.in-Some.ensures.cases.0 c.in-Some-split_first_mut.ensures.cases.0 c.requires.sound in
     let n = ap length c.in-Some.ensures.cases.0 in
-    (search rules, (c.requires.overflow, (others-both c.in-Some.points.now.entries c.in-Some-split_first_mut.more.now.entries (entries_of c.in-Some.rest.now) (entries_of c.in-Some-split_first_mut.others.now) s, omega (arith, n, c.requires.bound))))
+    let long = ap length c.in-Some-split_first.ensures.cases.0 in
+    (search rules, (c.requires.overflow, (others-both c.in-Some.points.now.entries c.in-Some-split_first_mut.more.now.entries (entries_of c.in-Some.rest.now) (entries_of c.in-Some-split_first_mut.others.now) s, (omega (arith, n, long, c.requires.long), omega (arith, n, c.requires.bound)))))
 
 pub take_in-requires-clause-sound : goal.take_in-requires-clause-sound
 take_in-requires-clause-sound t c =
     let s = split c.args.series.now c.args.later.now c.in-Some.points.now c.in-Some-split_first_mut.more.now c.in-Some.rest.now c.in-Some-split_first_mut.others.now c.in-Some.ensures.cases.0 c.in-Some-split_first_mut.ensures.cases.0 c.requires.sound in
     subst (λ (es : Points). AreBothSound es c.in-Some-split_first_mut.more.now.entries) (sym c.reserve_for.ensures.entries) (first-both c.in-Some.points.now.entries c.in-Some-split_first_mut.more.now.entries (entries_of c.in-Some.rest.now) (entries_of c.in-Some-split_first_mut.others.now) s)
+
+pub newest_over-requires-clause-once : goal.newest_over-requires-clause-once
+newest_over-requires-clause-once t c =
+    let s = split c.args.series.now c.args.later.now c.in-Some.points.now c.in-Some-split_first_mut.more.now c.in-Some.rest.now c.in-Some-split_first_mut.others.now c.in-Some.ensures.cases.0 c.in-Some-split_first_mut.ensures.cases.0 c.requires.sound in
+    first-once c.in-Some.points.now.entries c.in-Some-split_first_mut.more.now.entries (entries_of c.in-Some.rest.now) (entries_of c.in-Some-split_first_mut.others.now) s
+
+pub returns-in-Some-newest-clause-value : goal.returns-in-Some-newest-clause-value
+returns-in-Some-newest-clause-value t c =
+    let limit = c.args.limit in
+    let es = c.in-Some.points.now.entries in
+    let ms = c.in-Some-split_first_mut.more.now.entries in
+    let n = c.in-Some-split_first.own.now.kept.stamps in
+    let x : ℕ × Payload = (c.in-Some-newest.field-0-0, c.in-Some-newest.payload) in
+    let took : c.take_in.new.self.entries ≡ absorb limit es ms = c.take_in.ensures.value ∙ ap (λ (y : Points). absorb limit y ms) c.reserve_for.ensures.entries in
+    let best : Some x ≡ newest_over limit es ms n None = sym c.in-Some-newest.is ∙ c.in_ok-newest.ensures ∙ ap (λ (y : Points). newest_over limit y ms n None) c.reserve_for.ensures.entries in
+    let here : c.put_over.new.self.entries ≡ absorb_stamped limit es ms n = c.put_over.ensures c.in-Some-newest.field-0-0 ∙ (λ i. put_over (took i) (best i)) in
+    (λ i. here i ∷ c.in_ok-absorb_each.ensures.value i)
+    ∙ (λ i. series_with limit (entries_of (sym c.in-Some.ensures.cases.0 i)) (entries_of (sym c.in-Some-split_first_mut.ensures.cases.0 i)) (stamped_in (sym c.in-Some-split_first.ensures.cases.0 i)))

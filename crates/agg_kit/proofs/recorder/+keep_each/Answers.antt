@@ -1,9 +1,10 @@
 use Rattle.std.proofs.Common.{◌≡◌, ◌∙◌, ◌∷◌, ◌<◌, ℕ, Bool, ◌||◌, length, sym, ap, subst, true}
 use Rattle.attr_kit.specs.Keeping.{kept}
 use Rattle.attr_kit.specs.declared.attr_set.AttrSet.{AttrSet}
-use Rattle.plan_kit.specs.Plans.{AreFeeds, rises}
+use Rattle.plan_kit.specs.Plans.{AreFeeds}
 use Rattle.agg_kit.specs.Feeding.{set_eq, overflow_set}
 use Rattle.agg_kit.specs.Feeds.{shape_at}
+use Rattle.agg_kit.specs.Recorders.{may_hold}
 use Rattle.agg_kit.specs.Steps.{own_count, has_point, place}
 use Rattle.agg_kit.specs.Tallies.{Points}
 use Rattle.agg_kit.proofs.Recorders.{if_ok, keeps-here, keeps-more, place-own, place-roomy}
@@ -22,7 +23,7 @@ returns-clause-value t c =
     let f = c.in-Some.feed.now in
     let s = c.index-points.result.now in
     let fits : AreFeeds (length ss) (f ∷ c.in-Some.rest.now) = subst (AreFeeds (length ss)) c.in-Some.ensures.cases.0 c.requires.feeds in
-    let up : rises (shape_at p f.stream) ≡ true = ap rises (sym c.shape_of.ensures.value) ∙ sym c.only_rises.ensures ∙ c.if-not-only_rises.false in
+    let up : may_hold (shape_at p f.stream) ≡ true = ap may_hold (sym c.shape_of.ensures.value) ∙ sym c.may_hold.ensures ∙ c.if-not-may_hold.false in
     let goes : place p.limit s.entries (kept f.keep a) ≡ kept f.keep a =
     elim c.if-not-has_room.branch [
       | then-not-has_room+in_ok-only+else-not-has_own+in-Some-1 w ↦ own-place p.limit s.entries c.args.overflow.now w.set_or.result.now (kept f.keep a) w.has_own.result c.requires.overflow (w.set_or.ensures ∙ w.in_ok-only.ensures.value) w.has_own.ensures w.if-not-has_own.false

@@ -4,6 +4,7 @@ use Rattle.agg_kit.specs.Feeds.{entries_of}
 use Rattle.agg_kit.specs.Measuring.{empty_tally}
 use Rattle.agg_kit.specs.Recorders.{series_with}
 use Rattle.agg_kit.specs.Sound.{AllSound}
+use Rattle.agg_kit.specs.Stamps.{stamped_in}
 use Rattle.agg_kit.specs.Tallies.{Tallied}
 use Rattle.agg_kit.proofs.ComingIn.{all-series_with}
 use Rattle.agg_kit.proofs.Records.{on_ok, sound-either, sound-nothing, stored-length}
@@ -15,12 +16,12 @@ invariant_of-self c =
     let p = c.self.inside.plan in
     let before = entries_of c.self.inside.series.items in
     let later = entries_of c.other.inside.series.items in
-    let same : c.other.inside.plan ≡ p = ap (λ (t : Tallied). t.plan) c.other.view_is ∙ c.requires ∙ sym (ap (λ (t : Tallied). t.plan) c.self.view_is) in
+    let same : c.other.inside.plan ≡ p = ap (λ (t : Tallied). t.plan) c.other.view_is ∙ c.requires.plan ∙ sym (ap (λ (t : Tallied). t.plan) c.self.view_is) in
     record {
       overflow_is = c.self.invariant.overflow_is;
-      sound = sound-either c.absorb_into.result p.streams before (series_with p.limit before later) (entries_of c.absorb_into.new.series.items)
-          (on_ok _ _ c.absorb_into.result (λ e. e ∙ ap (λ n. series_with n before later) c.limit.ensures.value) c.absorb_into.ensures.value) c.absorb_into.ensures.unchanged c.self.invariant.sound
-          (all-series_with p.limit p.streams before later c.self.invariant.sound (subst (λ (q : Planned). AllSound q.streams later) same c.other.invariant.sound));
+      sound = sound-either c.absorb_into.result p.streams before (series_with p.limit before later (stamped_in c.args.stamps.now)) (entries_of c.absorb_into.new.series.items)
+          (on_ok _ _ c.absorb_into.result (λ e. e ∙ ap (λ n. series_with n before later (stamped_in c.args.stamps.now)) c.limit.ensures.value) c.absorb_into.ensures.value) c.absorb_into.ensures.unchanged c.self.invariant.sound
+          (all-series_with p.limit p.streams before later (stamped_in c.args.stamps.now) c.self.invariant.sound (subst (λ (q : Planned). AllSound q.streams later) same c.other.invariant.sound));
       lone_is = c.self.invariant.lone_is;
     }
 
@@ -43,3 +44,7 @@ returns-clause-emptied c =
     (λ e. begins p (entries_of c.absorb_into.new.later.items) (length c.other.inside.series.items) e (stored-length p.streams c.other.inside.series.items c.other.invariant.sound)
     ∙ ap (λ (t : Tallied). empty_tally t.plan) c.other.view_is)
     c.absorb_into.ensures.emptied
+
+pub absorb_into-requires-clause-long : goal.absorb_into-requires-clause-long
+absorb_into-requires-clause-long c =
+    c.requires.long ∙ ap (λ (t : Tallied). length t.plan.streams) (sym c.self.view_is) ∙ sym (stored-length c.self.inside.plan.streams c.self.inside.series.items c.self.invariant.sound)
