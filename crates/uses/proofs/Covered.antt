@@ -1,5 +1,5 @@
 -- What a collection after two recordings covers.
-use Rattle.std.proofs.Common.{◌≡◌, ◌∙◌, ℕ, pos, List, [], ◌∷◌, None, ap, subst, sym}
+use Rattle.std.proofs.Common.{◌≡◌, ◌∙◌, pos, List, [], ◌∷◌, None, ap, subst, sym}
 use Rattle.agg_kit.specs.Entries.{Entry, entry_of}
 use Rattle.agg_kit.specs.Rounds.{round}
 use Rattle.attr_kit.specs.declared.attr_set.AttrSet.{AttrSet}

@@ -1,5 +1,5 @@
 -- The instruments and views of the callers' plans.
-use Rattle.std.specs.Prelude.{ℕ, List, [], ◌∷◌, None, Some, codes}
+use Rattle.std.specs.Prelude.{[], ◌∷◌, None, codes}
 use Rattle.attr_kit.specs.AllowLists.{listed_keys}
 use Rattle.attr_kit.specs.declared.keep.Keep.TheVariants as keeps
 use Rattle.plan_kit.specs.declared.instrument.Instrument.{Instrument}

@@ -1,13 +1,13 @@
 //! Gateways that take exports and merge, and what they are asked.
-ghost use Rattle.std.specs.Prelude.{◌≡◌, ◌∷◌, [], ℕ, true, None, Some, IfOk, IfSome, codes};
+ghost use Rattle.std.specs.Prelude.{◌≡◌, true, Some, IfOk, IfSome, codes};
 ghost use Rattle.std.specs.FinMap as finite;
-ghost use Rattle.attr_kit.specs.declared.keep.Keep.TheVariants as keeps;
-ghost use Rattle.point_kit.specs.Exports.{join_points, state};
+ghost use Rattle.point_kit.specs.Exports.{join_points};
 ghost use Rattle.point_kit.specs.declared.cell.Held.TheVariants.{One};
 ghost use Rattle.point_kit.specs.declared.payload.Payload.TheVariants as payloads;
 ghost use Rattle.point_kit.specs.declared.shape.Shape.TheVariants as shapes;
 ghost use Rattle.rollup_kit.specs.Rollups.{rollup_rows};
 ghost use Rattle.rollup_kit.specs.TableText.{table_text};
+ghost use Rattle.test_kit.specs.Defaults.{ask_of};
 
 use attr_kit::{Keep, Seq, Txt};
 use gateway_kit::Gateway;
@@ -16,7 +16,9 @@ use rollup_kit::{Ask, rollup, table};
 use std::alloc::Global;
 
 /// All rows of the counter `requests` of the scope `app`, of every service.
-pub fn ask_requests(alloc: Global) -> anyhow::Result<Ask> {
+pub fn ask_requests(alloc: Global) -> anyhow::Result<Ask>
+    ensures { IfOk result (λ ask. ask ≡ ask_of (codes "app") (codes "requests") (codes "1") (shapes.Sum true)) }
+{
     Ok(Ask {
         stream: Stream {
             scope: Txt::from_str(alloc, "app")?,

@@ -1,4 +1,4 @@
-use Rattle.std.proofs.Common.{◌≡◌, ◌∙◌, [], ◌∷◌, ap, sym}
+use Rattle.std.proofs.Common.{◌∙◌, [], ◌∷◌, ap, sym}
 use Rattle.point_kit.specs.Exports.{join_points, state}
 use Rattle.uses.proofs.Gossiped.{agreed}
 use Rattle.uses.proofs.gathering.agree.Goals as goal
