@@ -41,7 +41,19 @@ fn word(bytes: &[u8; 30], place: usize) -> u64
     ])
 }
 
+// Whether two texts that lie in place are equal: of longer ones it is not looked for. Compared as arrays, with no call.
+#[inline]
+fn is_same_in_place(a: &Txt, b: &Txt) -> bool
+    ensures { result ≡ true → a.now ≡ b.now }
+{
+    match (a.short(), b.short()) {
+        (Some(a), Some(b)) => *a == *b,
+        _ => false,
+    }
+}
+
 // Which note is a text's: a number that most texts have alone, made of fewer steps than a hash.
+#[inline]
 fn note_of(text: &Txt) -> usize
     ensures { result < NOTES }
 {
@@ -89,6 +101,7 @@ impl History {
     }
 
     // The place of a text where it is the noted one.
+    #[inline]
     fn recall(&self, note: usize, text: &Txt) -> Option<usize>
         requires { note < NOTES }
         ensures value { IfSome result (λ place. place_of self.now.texts text.now ≡ Some place) }
@@ -96,7 +109,7 @@ impl History {
     {
         let place = self.notes[note];
         match self.text_at(u64::from(place)) {
-            Some(found) if *found == *text => Some(place as usize),
+            Some(found) if is_same_in_place(found, text) => Some(place as usize),
             _ => None,
         }
     }
@@ -111,16 +124,14 @@ impl History {
         }
     }
 
-    /// The place of a text among those that came; where it has none, it comes now. A hash look-up, but for texts that are noted.
-    pub(crate) fn enter(&mut self, text: &Txt) -> Result<Option<usize>, NoMemory>
+    // The place of a text among those that came, by its hash; where it has none, it comes now.
+    #[inline(never)]
+    fn look_up(&mut self, note: usize, text: &Txt) -> Result<Option<usize>, NoMemory>
+        requires { note < NOTES }
         ensures value { IfOk result (λ place. place ≡ place_of self.old.texts text.now) }
         ensures small { IfOk result (λ place. IfSome place (λ n. n < 2 ^ 63)) }
         ensures history { OnOk result (self.new ≡ past_text self.old text.now) }
     {
-        let note = note_of(text);
-        if let Some(place) = self.recall(note, text) {
-            return Ok(Some(place));
-        }
         let place = self.place(text);
         match place {
             Some(place) => self.note(note, place),
@@ -130,6 +141,20 @@ impl History {
             }
         }
         Ok(place)
+    }
+
+    /// The place of a text among those that came; where it has none, it comes now. A hash look-up, but for texts that are noted.
+    #[inline]
+    pub(crate) fn enter(&mut self, text: &Txt) -> Result<Option<usize>, NoMemory>
+        ensures value { IfOk result (λ place. place ≡ place_of self.old.texts text.now) }
+        ensures small { IfOk result (λ place. IfSome place (λ n. n < 2 ^ 63)) }
+        ensures history { OnOk result (self.new ≡ past_text self.old text.now) }
+    {
+        let note = note_of(text);
+        match self.recall(note, text) {
+            Some(place) => Ok(Some(place)),
+            None => self.look_up(note, text),
+        }
     }
 
     /// How many texts came.

@@ -206,7 +206,7 @@ impl Passage for Stream {
     ghost has_bytes = { stream_bytes };
 }
 
-// What is known of the sizes of a shape's parts.
+// What is known of the sizes of a shape's parts: the calls are made for their clauses.
 fn see_shape(shape: &Shape)
     ensures { IsShape shape.now }
 {
@@ -217,7 +217,7 @@ fn see_shape(shape: &Shape)
     }
 }
 
-// What is known of the sizes of a stream's parts.
+// What is known of the sizes of a stream's parts: the calls are made for their clauses.
 fn see_stream(stream: &Stream)
     ensures { IsStream stream.now }
 {

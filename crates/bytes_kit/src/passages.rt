@@ -47,6 +47,7 @@ impl Passage for Txt {
     ghost is_value = { IsText };
 
     fn write_behind(&self, history: &mut History, out: &mut Vec<u8>) -> Result<(), NoMemory> {
+        // The call is made for its clause: a text is UTF-8, of so many bytes.
         let _bytes = self.as_str().as_bytes();
         match history.enter(self)? {
             Some(place) => (place as u64 + 1).write(out),
