@@ -30,6 +30,8 @@ PIPE, BROKER = TOP / "examples" / "pipe", TOP / "examples" / "broker"
 C = ["-std=c11", "-Wall", "-Wextra", "-Werror"]
 CPP = ["-std=c++17", "-Wall", "-Wextra", "-Werror"]
 ASAN = ["-g", "-fsanitize=address", "-fno-omit-frame-pointer"]
+# How long a command may take: some take a minute alone, and more beside proofs.
+SECONDS = 600
 FEW = ("2000", "50000")
 FEW_LISTS = ("1000",)
 WRAPPED = ["-Wl,--wrap=malloc,--wrap=realloc"]
@@ -51,7 +53,7 @@ class Run:
     def run(self, what, *command, prints=None, **given):
         """Runs a command: it must succeed, and print what is wanted where something is."""
         try:
-            done = subprocess.run([str(it) for it in command], stdin=subprocess.DEVNULL, capture_output=True, timeout=120, **given)
+            done = subprocess.run([str(it) for it in command], stdin=subprocess.DEVNULL, capture_output=True, timeout=SECONDS, **given)
         except (OSError, subprocess.TimeoutExpired) as fault:
             self.say(what, repr(fault))
             return False
@@ -181,9 +183,9 @@ class Run:
         if not self.run("Pipe: the writer compiled", compiler, *C, "-O2", self.linked[0], PIPE / "writer.c", *libraries, "-o", writer):
             return
         with subprocess.Popen([writer], stdin=subprocess.DEVNULL, stdout=subprocess.PIPE, stderr=subprocess.PIPE) as sends:
-            done = subprocess.run([gateway], stdin=sends.stdout, capture_output=True, timeout=120, check=False)
+            done = subprocess.run([gateway], stdin=sends.stdout, capture_output=True, timeout=SECONDS, check=False)
             sends.stdout.close()
-            counted, status = sends.stderr.read(), sends.wait(120)
+            counted, status = sends.stderr.read(), sends.wait(SECONDS)
         fault = None
         if status or done.returncode:
             fault = f"status {status} and {done.returncode}\n{(counted + done.stderr).decode(errors='replace')}"
