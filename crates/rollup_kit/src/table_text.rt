@@ -95,25 +95,27 @@ fn push_right(text: &mut String, to: usize, cell: &str) -> Result<(), AllocError
     text.push_str(cell)
 }
 
+// The cells of a line.
+#[derive(Clone, Copy)]
+struct Cells<'a> {
+    attributes: &'a str,
+    points: &'a str,
+    conflicts: &'a str,
+    total: &'a str,
+}
+
 #[tactic(auto, unfolding(crate::specs::TableText::line))]
-fn push_line(
-    text: &mut String,
-    widths: Widths,
-    attributes: &str,
-    points: &str,
-    conflicts: &str,
-    total: &str,
-) -> Result<(), AllocError>
-    ensures { OnOk result (string_bytes text.new ≡ string_bytes text.old
-        ++ line widths.attributes widths.points widths.conflicts attributes.now points.now conflicts.now total.now) }
+fn push_line(text: &mut String, widths: Widths, cells: Cells<'_>) -> Result<(), AllocError>
+    ensures { OnOk result (string_bytes text.new ≡ string_bytes text.old ++ line widths.attributes widths.points widths.conflicts
+        cells.entry.attributes.now cells.entry.points.now cells.entry.conflicts.now cells.entry.total.now) }
 {
-    push_left(text, widths.attributes, attributes)?;
+    push_left(text, widths.attributes, cells.attributes)?;
     push_spaces(text, 2)?;
-    push_right(text, widths.points, points)?;
+    push_right(text, widths.points, cells.points)?;
     push_spaces(text, 2)?;
-    push_right(text, widths.conflicts, conflicts)?;
+    push_right(text, widths.conflicts, cells.conflicts)?;
     push_spaces(text, 2)?;
-    text.push_str(total)?;
+    text.push_str(cells.total)?;
     text.push('\n')
 }
 
@@ -125,28 +127,26 @@ fn push_row(text: &mut String, alloc: Global, widths: Widths, row: &Row) -> Resu
     let points = Column::Points.cell(alloc, row)?;
     let conflicts = Column::Conflicts.cell(alloc, row)?;
     let total = Column::Total.cell(alloc, row)?;
-    push_line(
-        text,
-        widths,
-        attributes.as_str(),
-        points.as_str(),
-        conflicts.as_str(),
-        total.as_str(),
-    )
+    let cells = Cells {
+        attributes: attributes.as_str(),
+        points: points.as_str(),
+        conflicts: conflicts.as_str(),
+        total: total.as_str(),
+    };
+    push_line(text, widths, cells)
 }
 
 fn push_header(text: &mut String, widths: Widths) -> Result<(), AllocError>
     ensures { OnOk result (string_bytes text.new ≡ string_bytes text.old
         ++ line_of widths.attributes widths.points widths.conflicts header) }
 {
-    push_line(
-        text,
-        widths,
-        Column::Attributes.header(),
-        Column::Points.header(),
-        Column::Conflicts.header(),
-        Column::Total.header(),
-    )
+    let cells = Cells {
+        attributes: Column::Attributes.header(),
+        points: Column::Points.header(),
+        conflicts: Column::Conflicts.header(),
+        total: Column::Total.header(),
+    };
+    push_line(text, widths, cells)
 }
 
 fn push_rows(
