@@ -534,10 +534,10 @@ static bool is_empty(kit_handle *recorder) {
     return !kit_recorder_is_empty(recorder, &empty) && empty;
 }
 
-/* A recorder takes what it has room for, and no more before a writer took that in; gauges are none of its own. */
+/* A recorder takes what it has room for, and no more before a writer took that in; sums that may fall are none of its own. */
 static void recorders_full(kit_handle *none, kit_handle *four) {
     kit_handle plan = KIT_EMPTY, writer = KIT_EMPTY, recorder = KIT_EMPTY;
-    plan_under(&plan, KIT_GAUGE, 1);
+    plan_under(&plan, KIT_UP_DOWN, 1);
     CHECK(!kit_writer_start(&writer, &plan, TEXT("shop"), 0, 1, 100) && !kit_recorder_open(&recorder, &writer));
     CHECK(kit_recorder_measure(&recorder, 1, none, 1) == KIT_RECORDER_FULL && is_empty(&recorder));
     CHECK(!kit_recorder_measure(&recorder, 0, none, 7) && kit_recorder_measure(&recorder, 0, four, 1) == KIT_RECORDER_FULL);

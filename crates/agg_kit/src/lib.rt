@@ -21,7 +21,7 @@
 //! What a tally stands for is a list of recordings: [`steps_are_recordings`] and [`rounds_have_what_was_fed`] are the laws. What a
 //! recorder accepted a tally would have accepted, too ([`recorded_is_accepted`]); [`points_are_absorbed`] tells of single points.
 //! What contracts cite stands in `specs/`: `Tallies` (what contracts see of one), `Measuring` (a step and its refusals),
-//! `Rounds` (what a list of recordings comes to), `BoundPoints`, `Recorders`, `Absorbs`, `Refusals`, `Entries`, `Feeding`.
+//! `Rounds` (what a list of recordings comes to), `BoundPoints`, `Recorders`, `Stamps`, `Absorbs`, `Refusals`, `Entries`, `Feeding`.
 #![tactic(auto)]
 
 mod absorbing;

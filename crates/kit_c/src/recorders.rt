@@ -84,7 +84,7 @@ fn measure_at_recorder(
 /// is met.
 ///
 /// Refused, in this order: `NOTHING` of the recorder, then of the attributes; `WRONG_KIND`; `RECORDER_FULL` where a stream of the
-/// instrument does not only rise, or has points for as many sets as the limit says; `NO_INSTRUMENT`; `NEGATIVE`; `RECORDER_FULL` where
+/// instrument is a sum that may fall, or has points for as many sets as the limit says; `NO_INSTRUMENT`; `NEGATIVE`; `RECORDER_FULL` where
 /// a sum would leave its range; `NO_MEMORY`. A full recorder is taken in by a writer (`kit_writer_absorb`), and records again; what an
 /// empty one refuses so is recorded by the writer itself. O(feeds of the instrument).
 #[unsafe(no_mangle)]
