@@ -23,7 +23,7 @@
         }                                                                                             \
     } while (0)
 
-/* Whether recorders take gauges and up-down counters, too. */
+/* Whether recorders take up-down counters, too. */
 enum { ALL_KINDS = 0 };
 
 enum instrument { REQUESTS, SIZE, OPEN, DEPTH, INSTRUMENTS };
@@ -238,6 +238,9 @@ static void absorb(struct split *all, size_t number) {
 
 static bool rises(enum instrument instrument) { return instrument == REQUESTS || instrument == SIZE; }
 
+/* Whether a recorder takes an instrument's values. */
+static bool is_kept(enum instrument instrument) { return ALL_KINDS || instrument != OPEN; }
+
 /* Both writers record, or refuse for one cause. */
 static void measure_both(struct split *all, struct recording it) {
     uint64_t place = 77, other = 77;
@@ -263,9 +266,9 @@ static void record(struct split *all, size_t number, struct recording it, bool h
             return;
         }
         CHECK(code == KIT_RECORDER_FULL);
-        if (tries == 0) absorb(all, number), full += rises(it.instrument);
+        if (tries == 0) absorb(all, number), full += is_kept(it.instrument);
     }
-    CHECK(!ALL_KINDS && !rises(it.instrument));
+    CHECK(!is_kept(it.instrument));
     measure_both(all, it);
 }
 
@@ -336,7 +339,7 @@ static void known(void) {
     CHECK(!recorded(&recorder, SIZE, 2, 7) && !recorded(&recorder, SIZE, 1, 3) && !recorded(&recorder, SIZE, 7, 5));
     CHECK(recorded(&recorder, SIZE, 0, 4) == KIT_RECORDER_FULL && recorded(&recorder, SIZE, 1, -1) == KIT_NEGATIVE);
     CHECK(!kit_writer_absorb(&writer, &recorder, &place) && is_empty(&recorder));
-    CHECK(recorded(&recorder, DEPTH, 0, 9) == (ALL_KINDS ? KIT_OK : KIT_RECORDER_FULL));
+    CHECK(!recorded(&recorder, DEPTH, 0, 9) && recorded(&recorder, OPEN, 0, 9) == (ALL_KINDS ? KIT_OK : KIT_RECORDER_FULL));
     CHECK(!recorded(&recorder, REQUESTS, 3, 4) && !recorded(&recorder, REQUESTS, 0, 8) && !recorded(&recorder, SIZE, 0, 4));
     CHECK(!kit_writer_absorb(&writer, &recorder, &place) && is_empty(&recorder) && place == 77);
     collects(&writer, 150, BY_ROUTES, ALL_ROUTES, ALL_SIZES);
