@@ -5,6 +5,7 @@ use Rattle.std.proofs.lemmas.List.Elements.{All-push, All-set, All-weaker}
 use Rattle.agg_kit.specs.Entries.{Entry}
 use Rattle.agg_kit.proofs.BoundPoints.{bound_stays}
 use Rattle.attr_kit.specs.declared.attr_set.AttrSet.{AttrSet}
+use Rattle.agg_kit.specs.Recorders.{Recorded}
 use Rattle.agg_kit.specs.Tallies.{Tallied}
 use Rattle.plan_kit.specs.Plans.{AreFeeds, Planned, feeds_of}
 use Rattle.writer_kit.specs.Absorbing.{with_recordings}
@@ -50,13 +51,13 @@ pub keeps_restarting : {U F : Type 0} (w v : Written) (start : ℕ) (r : Result 
 keeps_restarting w v start (Ok u) ok is same = subst (Keeps w) (sym is) (keeps_restarted w start (restart_later w start ok))
 keeps_restarting w v start (Err f) ok is same = subst (Keeps w) (sym same) (λ s knows. knows)
 
-keeps_absorbed : (w : Written) (r : Tallied) → Keeps w (with_recordings w r)
+keeps_absorbed : (w : Written) (r : Recorded) → Keeps w (with_recordings w r)
 keeps_absorbed w r s knows = All-weaker (IsKept w s.attrs) (IsKept (with_recordings w r) s.attrs) by s.points.items knows
   where
     by : (b : BoundPoint) → IsKept w s.attrs b → IsKept (with_recordings w r) s.attrs b
     by b k = record { attrs = k.attrs; begun = k.begun; home = λ same. bound-comes w.tally r b.point (k.home same) }
 
-pub keeps_absorbing : {U F : Type 0} (w v : Written) (r : Tallied) (o : Result U F) → OnOk o (v ≡ with_recordings w r) → OnErr o (v ≡ w) → Keeps w v
+pub keeps_absorbing : {U F : Type 0} (w v : Written) (r : Recorded) (o : Result U F) → OnOk o (v ≡ with_recordings w r) → OnErr o (v ≡ w) → Keeps w v
 keeps_absorbing w v r (Ok u) is same = subst (Keeps w) (sym is) (keeps_absorbed w r)
 keeps_absorbing w v r (Err f) is same = subst (Keeps w) (sym same) (λ s knows. knows)
 
