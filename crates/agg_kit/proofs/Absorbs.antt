@@ -9,14 +9,14 @@ use Rattle.attr_kit.specs.declared.attr_set.AttrSet.{AttrSet}
 use Rattle.point_kit.specs.declared.payload.Payload.{Payload}
 use Rattle.point_kit.specs.declared.shape.Shape.{Shape}
 use Rattle.point_kit.specs.declared.shape.Shape.TheVariants as shapes
-use Rattle.agg_kit.specs.Absorbs.{payload_of_both, point_with, with_point, absorb, places, sets_gone_to, AreAlike, PointsAreAbsorbed, PlacesAreKept, OthersAreAbsorbed}
+use Rattle.agg_kit.specs.Absorbs.{payload_of_both, point_with, with_point, absorb, fed_sets, sets_gone_to, AreAlike, PointsAreAbsorbed, PlacesAreKept, OthersAreAbsorbed}
 use Rattle.agg_kit.specs.Entries.{Arrivals}
 use Rattle.agg_kit.specs.Feeding.{set_eq, overflow_set, is_own, has_set, add_once, sets_of, distinct, own_sets, goes_to, placements}
 use Rattle.agg_kit.specs.Laws.{is_gauge}
 use Rattle.agg_kit.specs.Payloads.{payload_of}
 use Rattle.agg_kit.specs.Rounds.{values_of, points_of}
 use Rattle.agg_kit.specs.Sound.{AreOnce}
-use Rattle.agg_kit.specs.Steps.{bounds_of, own_count, has_point, place, payload_at, payload_with_value, add_under, step}
+use Rattle.agg_kit.specs.Steps.{bounds_of, own_count, has_point, fed_set, payload_at, payload_with_value, add_under, step}
 use Rattle.agg_kit.specs.Tallies.{Points}
 use Rattle.agg_kit.proofs.Distinct.{or-no, same, itself, turn, has-push, has-distinct}
 use Rattle.agg_kit.proofs.Inserts.{put, put-yes, put-no, look-yes, look-no, lookup-here, lookup-other, put-twice, put-swap, has_point-here, has_point-still, place-under, Way, There, Room, Full, way, place-now, place-stays}
@@ -74,7 +74,7 @@ has-later xs ys a h =
     either false c h = h
 
 -- the points of values tell where each of their sets goes
-place-goes : (shape : Shape) (limit : ℕ) (zs : Arrivals) (a : AttrSet) → has_set (sets_of zs) a ≡ true → place limit (series_of shape limit zs) a ≡ goes_to (own_sets limit zs) a
+place-goes : (shape : Shape) (limit : ℕ) (zs : Arrivals) (a : AttrSet) → has_set (sets_of zs) a ≡ true → fed_set limit (series_of shape limit zs) a ≡ goes_to (own_sets limit zs) a
 place-goes shape limit zs a h = sym (place-push shape limit zs a (pos 0)) ∙ stays limit zs a (pos 0) a h
 
 pub same-map : (ds : List AttrSet) (f g : AttrSet → AttrSet) → ((a : AttrSet) → has_set ds a ≡ true → f a ≡ g a) → map f ds ≡ map g ds
@@ -139,16 +139,16 @@ own_count-of (e ∷ es) = ap (λ n. cond (is_own e.0) 1 0 + n) (own_count-of es)
 own_count-keys : (es ms : Points) → keys_of es ≡ keys_of ms → own_count es ≡ own_count ms
 own_count-keys es ms k = own_count-of es ∙ ap (λ l. length (filter is_own l)) k ∙ sym (own_count-of ms)
 
-place-keys : (limit : ℕ) (es ms : Points) (a : AttrSet) → keys_of es ≡ keys_of ms → place limit es a ≡ place limit ms a
+place-keys : (limit : ℕ) (es ms : Points) (a : AttrSet) → keys_of es ≡ keys_of ms → fed_set limit es a ≡ fed_set limit ms a
 place-keys limit es ms a k =
     ap (λ h. if h || nat_lt (own_count es) limit then a else overflow_set) (has_point-keys es a ∙ ap (λ l. has_set l a) k ∙ sym (has_point-keys ms a))
     ∙ ap (λ n. if has_point ms a || nat_lt n limit then a else overflow_set) (own_count-keys es ms k)
 
 with_point-keys : (limit : ℕ) (es ms : Points) (e m : AttrSet × Payload) → keys_of es ≡ keys_of ms → e.0 ≡ m.0 → keys_of (with_point limit es e) ≡ keys_of (with_point limit ms m)
 with_point-keys limit es ms e m k s =
-    keys-insert es (place limit es e.0) _
-    ∙ (λ i. add_once (k i) ((ap (place limit es) s ∙ place-keys limit es ms m.0 k) i))
-    ∙ sym (keys-insert ms (place limit ms m.0) _)
+    keys-insert es (fed_set limit es e.0) _
+    ∙ (λ i. add_once (k i) ((ap (fed_set limit es) s ∙ place-keys limit es ms m.0 k) i))
+    ∙ sym (keys-insert ms (fed_set limit ms m.0) _)
 
 module _ (shape : Shape) (limit : ℕ) where
   abbrev more : Payload → ℤ → Payload
@@ -159,7 +159,7 @@ module _ (shape : Shape) (limit : ℕ) where
 
   -- one point taken in, with the payload of no values where its set is new
   abbrev take : Points → AttrSet × Payload → Points
-  take es e = put es (place limit es e.0) (payload_of_both (at es (place limit es e.0)) e.1)
+  take es e = put es (fed_set limit es e.0) (payload_of_both (at es (fed_set limit es e.0)) e.1)
 
   abbrev taken : Points → Points → Points
   taken es ms = fold take es ms
@@ -173,14 +173,14 @@ module _ (shape : Shape) (limit : ℕ) where
       by (Some q) = refl
 
   merged-take : (es : Points) (e : AttrSet × Payload) → IsShaped shape e.1 → with_point limit es e ≡ take es e
-  merged-take es e s = ap (put es (place limit es e.0)) (met-at es (place limit es e.0) e.1 s)
+  merged-take es e s = ap (put es (fed_set limit es e.0)) (met-at es (fed_set limit es e.0) e.1 s)
 
   absorb-taken : (es ms : Points) → AreShaped shape ms → absorb limit es ms ≡ taken es ms
   absorb-taken es [] s = refl
   absorb-taken es (m ∷ ms) s = ap (λ l. absorb limit l ms) (merged-take es m s.0) ∙ absorb-taken (take es m) ms s.1
 
   shaped-take : (es : Points) (e : AttrSet × Payload) → AreShaped shape es → IsShaped shape e.1 → AreShaped shape (take es e)
-  shaped-take es e s k = shaped-put shape es (place limit es e.0) _ s (shaped-payload_of_both shape (at es (place limit es e.0)) e.1 (shaped-at shape es (place limit es e.0) s) k)
+  shaped-take es e s k = shaped-put shape es (fed_set limit es e.0) _ s (shaped-payload_of_both shape (at es (fed_set limit es e.0)) e.1 (shaped-at shape es (fed_set limit es e.0) s) k)
 
   shaped-taken : (es ms : Points) → AreShaped shape es → AreShaped shape ms → AreShaped shape (taken es ms)
   shaped-taken es [] s k = s
@@ -188,13 +188,13 @@ module _ (shape : Shape) (limit : ℕ) where
 
   -- one more value under a set, before a point is taken in and after
   take-after : (es : Points) (b : AttrSet) (v : ℤ) (e : AttrSet × Payload) → has_point es b ≡ true → AreShaped shape es → IsShaped shape e.1
-      → (set_eq (place limit es e.0) b ≡ true → is_gauge shape ≡ false)
+      → (set_eq (fed_set limit es e.0) b ≡ true → is_gauge shape ≡ false)
       → take (add_under shape es b v) e ≡ add_under shape (take es e) b v
   take-after es b v e h s k g =
       ap (λ c. put (add_under shape es b v) c (payload_of_both (at (add_under shape es b v) c) e.1)) (place-under limit es b e.0 _ h) ∙ by (set_eq d b) refl
     where
       d : AttrSet
-      d = place limit es e.0
+      d = fed_set limit es e.0
 
       q : Payload
       q = at es b
@@ -220,34 +220,34 @@ module _ (shape : Shape) (limit : ℕ) where
   -- no point that is taken in goes under the set, or the stream is no gauge
   abbrev IsFree : AttrSet → Points → Points → Type 0
   IsFree b es [] = Unit {0}
-  IsFree b es (m ∷ ms) = (set_eq (place limit es m.0) b ≡ true → is_gauge shape ≡ false) × IsFree b (take es m) ms
+  IsFree b es (m ∷ ms) = (set_eq (fed_set limit es m.0) b ≡ true → is_gauge shape ≡ false) × IsFree b (take es m) ms
 
   taken-after : (es ms : Points) (b : AttrSet) (v : ℤ) → has_point es b ≡ true → AreShaped shape es → AreShaped shape ms → IsFree b es ms
       → taken (add_under shape es b v) ms ≡ add_under shape (taken es ms) b v
   taken-after es [] b v h s k f = refl
   taken-after es (m ∷ ms) b v h s k f =
       ap (λ l. taken l ms) (take-after es b v m h s k.0 f.0)
-      ∙ taken-after (take es m) ms b v (has_point-still es b (place limit es m.0) _ h) (shaped-take es m s k.0) k.1 f.1
+      ∙ taken-after (take es m) ms b v (has_point-still es b (fed_set limit es m.0) _ h) (shaped-take es m s k.0) k.1 f.1
 
   -- a set goes where it went, once others are taken in
-  taken-stays : (es ms : Points) (a : AttrSet) → has_set (keys_of ms) a ≡ false → has_point es (place limit es a) ≡ true → place limit (taken es ms) a ≡ place limit es a
+  taken-stays : (es ms : Points) (a : AttrSet) → has_set (keys_of ms) a ≡ false → has_point es (fed_set limit es a) ≡ true → fed_set limit (taken es ms) a ≡ fed_set limit es a
   taken-stays es [] a n h = refl
   taken-stays es (m ∷ ms) a n h =
       let o = or-no (set_eq a m.0) (has_set (keys_of ms) a) n in
-      let x = payload_of_both (at es (place limit es m.0)) m.1 in
-      let stays : place limit (take es m) a ≡ place limit es a = place-stays limit es a m.0 x o.0 h in
-      taken-stays (take es m) ms a o.1 (ap (has_point (take es m)) stays ∙ has_point-still es (place limit es a) (place limit es m.0) x h) ∙ stays
+      let x = payload_of_both (at es (fed_set limit es m.0)) m.1 in
+      let stays : fed_set limit (take es m) a ≡ fed_set limit es a = place-stays limit es a m.0 x o.0 h in
+      taken-stays (take es m) ms a o.1 (ap (has_point (take es m)) stays ∙ has_point-still es (fed_set limit es a) (fed_set limit es m.0) x h) ∙ stays
 
   -- none of the points shares its place with another, or the stream is no gauge
   abbrev AreFree : Points → Points → Type 0
   AreFree es [] = Unit {0}
-  AreFree es (m ∷ ms) = IsFree (place limit es m.0) (take es m) ms × AreFree (take es m) ms
+  AreFree es (m ∷ ms) = IsFree (fed_set limit es m.0) (take es m) ms × AreFree (take es m) ms
 
   -- one more value in a point that is taken in first
   take-more : (es : Points) (m : AttrSet × Payload) (v : ℤ) → AreShaped shape es → IsShaped shape m.1
-      → take es (m.0, more m.1 v) ≡ add_under shape (take es m) (place limit es m.0) v
+      → take es (m.0, more m.1 v) ≡ add_under shape (take es m) (fed_set limit es m.0) v
   take-more es m v s k =
-      let b = place limit es m.0 in
+      let b = fed_set limit es m.0 in
       let q = at es b in
       ap (put es b) (payload_of_both-after shape q m.1 v (shaped-at shape es b s) k)
       ∙ ap (λ p. put es b (more p v)) (sym (at-here shape es b (payload_of_both q m.1)))
@@ -255,24 +255,24 @@ module _ (shape : Shape) (limit : ℕ) where
 
   held-taken : (es ms : Points) (b : AttrSet) → has_point es b ≡ true → has_point (taken es ms) b ≡ true
   held-taken es [] b h = h
-  held-taken es (m ∷ ms) b h = held-taken (take es m) ms b (has_point-still es b (place limit es m.0) _ h)
+  held-taken es (m ∷ ms) b h = held-taken (take es m) ms b (has_point-still es b (fed_set limit es m.0) _ h)
 
   -- one more value in a point that is taken in
   taken-more : (es ms : Points) (a : AttrSet) (v : ℤ) → AreOnce (keys_of ms) → has_point ms a ≡ true → AreShaped shape es → AreShaped shape ms → AreFree es ms
-      → taken es (add_under shape ms a v) ≡ add_under shape (taken es ms) (place limit (taken es ms) a) v
+      → taken es (add_under shape ms a v) ≡ add_under shape (taken es ms) (fed_set limit (taken es ms) a) v
   taken-more es [] a v o h s k f = absurd (true≢false (sym h))
   taken-more es (m ∷ ms) a v o h s k f = by (λ l t. taken-more (take es m) ms a v o.1 l t k.1 f.1) (set_eq a m.0) refl
     where
       b : AttrSet
-      b = place limit es m.0
+      b = fed_set limit es m.0
 
       q : Payload
       q = at es b
 
-      there : a ≡ m.0 → place limit (taken (take es m) ms) a ≡ b
+      there : a ≡ m.0 → fed_set limit (taken (take es m) ms) a ≡ b
       there e =
-          let now : place limit (take es m) m.0 ≡ b = place-now limit es m.0 (payload_of_both q m.1) in
-          ap (λ c. place limit (taken (take es m) ms) c) e
+          let now : fed_set limit (take es m) m.0 ≡ b = place-now limit es m.0 (payload_of_both q m.1) in
+          ap (λ c. fed_set limit (taken (take es m) ms) c) e
           ∙ taken-stays (take es m) ms m.0 o.0 (ap (has_point (take es m)) now ∙ has_point-here es b (payload_of_both q m.1))
           ∙ now
 
@@ -282,8 +282,8 @@ module _ (shape : Shape) (limit : ℕ) where
       at-later : set_eq a m.0 ≡ false → at (m ∷ ms) a ≡ at ms a
       at-later t = ap (λ o. option_map_or (λ t. t) o (payload_of shape [])) (look-no m ms a t)
 
-      by : (has_point ms a ≡ true → AreShaped shape (take es m) → taken (take es m) (add_under shape ms a v) ≡ add_under shape (taken (take es m) ms) (place limit (taken (take es m) ms) a) v)
-          → (t : Bool) → set_eq a m.0 ≡ t → taken es (add_under shape (m ∷ ms) a v) ≡ add_under shape (taken (take es m) ms) (place limit (taken (take es m) ms) a) v
+      by : (has_point ms a ≡ true → AreShaped shape (take es m) → taken (take es m) (add_under shape ms a v) ≡ add_under shape (taken (take es m) ms) (fed_set limit (taken (take es m) ms) a) v)
+          → (t : Bool) → set_eq a m.0 ≡ t → taken es (add_under shape (m ∷ ms) a v) ≡ add_under shape (taken (take es m) ms) (fed_set limit (taken (take es m) ms) a) v
       by go true t =
           ap (taken es) (put-yes m ms a (more (at (m ∷ ms) a) v) t ∙ ap (λ p. (m.0, more p v) ∷ ms) (at-first t))
           ∙ ap (λ l. taken l ms) (take-more es m v s k.0)
@@ -298,7 +298,7 @@ module _ (shape : Shape) (limit : ℕ) where
       → taken es (add_under shape ms a v) ≡ step shape limit (taken es ms) a v
   taken-first es ms a v h s =
       let p = more (payload_of shape []) v in
-      let b = place limit (taken es ms) a in
+      let b = fed_set limit (taken es ms) a in
       ap (taken es) (sym (add_under-new shape ms a v (none (lookup (set_eq a) ms) h)))
       ∙ fold_push take es ms (a, p)
       ∙ ap (put (taken es ms) b) (payload_of_both-first shape (at (taken es ms) b) v (shaped-at shape (taken es ms) b s))
@@ -316,34 +316,34 @@ module _ (shape : Shape) (limit : ℕ) where
       by false h = taken-first es ms a v h (shaped-taken es ms s (shaped-points shape ys))
 
   -- a set that is taken in stays where it goes
-  first-stays : (es : Points) (m : AttrSet × Payload) (ms : Points) → has_set (keys_of ms) m.0 ≡ false → place limit (taken (take es m) ms) m.0 ≡ place limit es m.0
+  first-stays : (es : Points) (m : AttrSet × Payload) (ms : Points) → has_set (keys_of ms) m.0 ≡ false → fed_set limit (taken (take es m) ms) m.0 ≡ fed_set limit es m.0
   first-stays es m ms n =
-      let b = place limit es m.0 in
+      let b = fed_set limit es m.0 in
       let x = payload_of_both (at es b) m.1 in
-      let now : place limit (take es m) m.0 ≡ b = place-now limit es m.0 x in
+      let now : fed_set limit (take es m) m.0 ≡ b = place-now limit es m.0 x in
       taken-stays (take es m) ms m.0 n (ap (has_point (take es m)) now ∙ has_point-here es b x) ∙ now
 
   abbrev spots : Points → Points → List AttrSet
   spots es [] = []
-  spots es (m ∷ ms) = place limit es m.0 ∷ spots (take es m) ms
+  spots es (m ∷ ms) = fed_set limit es m.0 ∷ spots (take es m) ms
 
-  pub spots-places : (es ms : Points) → AreShaped shape ms → places limit es ms ≡ spots es ms
+  pub spots-places : (es ms : Points) → AreShaped shape ms → fed_sets limit es ms ≡ spots es ms
   spots-places es [] s = refl
-  spots-places es (m ∷ ms) s = ap (λ l. place limit es m.0 ∷ l) (ap (λ l. places limit l ms) (merged-take es m s.0) ∙ spots-places (take es m) ms s.1)
+  spots-places es (m ∷ ms) s = ap (λ l. fed_set limit es m.0 ∷ l) (ap (λ l. fed_sets limit l ms) (merged-take es m s.0) ∙ spots-places (take es m) ms s.1)
 
-  spots-last : (es ms : Points) → AreOnce (keys_of ms) → spots es ms ≡ map (place limit (taken es ms)) (keys_of ms)
+  spots-last : (es ms : Points) → AreOnce (keys_of ms) → spots es ms ≡ map (fed_set limit (taken es ms)) (keys_of ms)
   spots-last es [] o = refl
   spots-last es (m ∷ ms) o = λ i. sym (first-stays es m ms o.0) i ∷ spots-last (take es m) ms o.1 i
 
   free-of : (b : AttrSet) (es ms : Points) → has_set (spots es ms) b ≡ false → IsFree b es ms
   free-of b es [] n = tt
   free-of b es (m ∷ ms) n =
-      let o = or-no (set_eq b (place limit es m.0)) (has_set (spots (take es m) ms) b) n in
-      (λ h. absurd (true≢false (sym h ∙ turn b (place limit es m.0) o.0)), free-of b (take es m) ms o.1)
+      let o = or-no (set_eq b (fed_set limit es m.0)) (has_set (spots (take es m) ms) b) n in
+      (λ h. absurd (true≢false (sym h ∙ turn b (fed_set limit es m.0) o.0)), free-of b (take es m) ms o.1)
 
   once-free : (es ms : Points) → AreOnce (spots es ms) → AreFree es ms
   once-free es [] o = tt
-  once-free es (m ∷ ms) o = (free-of (place limit es m.0) (take es m) ms o.0, once-free (take es m) ms o.1)
+  once-free es (m ∷ ms) o = (free-of (fed_set limit es m.0) (take es m) ms o.0, once-free (take es m) ms o.1)
 
   -- sums and histograms
   all-free : is_gauge shape ≡ false → (b : AttrSet) (es ms : Points) → IsFree b es ms
@@ -352,14 +352,14 @@ module _ (shape : Shape) (limit : ℕ) where
 
   are-free : is_gauge shape ≡ false → (es ms : Points) → AreFree es ms
   are-free g es [] = tt
-  are-free g es (m ∷ ms) = (all-free g (place limit es m.0) (take es m) ms, are-free g (take es m) ms)
+  are-free g es (m ∷ ms) = (all-free g (fed_set limit es m.0) (take es m) ms, are-free g (take es m) ms)
 
   -- where the sets go, by the points of all values
   spots-gone : (xs ys : Arrivals) → taken (series_of shape limit xs) (points_of shape ys) ≡ series_of shape limit (xs ++ ys) → spots (series_of shape limit xs) (points_of shape ys) ≡ sets_gone_to limit xs ys
   spots-gone xs ys h =
       spots-last (series_of shape limit xs) (points_of shape ys) (once-points shape ys)
-      ∙ ap (λ l. map (place limit l) (keys_of (points_of shape ys))) h
-      ∙ ap (map (place limit (series_of shape limit (xs ++ ys)))) (keys-with (λ a. payload_of shape (values_of ys a)) (distinct (sets_of ys)))
+      ∙ ap (λ l. map (fed_set limit l) (keys_of (points_of shape ys))) h
+      ∙ ap (map (fed_set limit (series_of shape limit (xs ++ ys)))) (keys-with (λ a. payload_of shape (values_of ys a)) (distinct (sets_of ys)))
       ∙ same-map (distinct (sets_of ys)) _ _ (λ a k. place-goes shape limit (xs ++ ys) a (has-later xs ys a (sym (has-distinct (sets_of ys) a) ∙ k)))
 
   free : (xs ys : Arrivals) → (is_gauge shape ≡ true → AreOnce (sets_gone_to limit xs ys)) → taken (series_of shape limit xs) (points_of shape ys) ≡ series_of shape limit (xs ++ ys)
@@ -409,7 +409,7 @@ module _ (shape : Shape) (limit : ℕ) where
 
   alike-take : (es ms : Points) (e : AttrSet × Payload) → AreAlike es ms → AreAlike (take es e) (take ms e)
   alike-take es ms e a =
-      let d = place limit es e.0 in
+      let d = fed_set limit es e.0 in
       alike-trans (take es e) (put ms d (payload_of_both (at ms d) e.1)) (take ms e)
       (alike-put es ms d (payload_of_both (at es d) e.1) (payload_of_both (at ms d) e.1) a (λ o. ap (λ p. payload_of_both p e.1) (alike-at es ms d a o)))
       (alike-same (put ms d (payload_of_both (at ms d) e.1)) (take ms e) (ap (λ c. put ms c (payload_of_both (at ms c) e.1)) (place-keys limit es ms e.0 a.0)))
@@ -420,7 +420,7 @@ module _ (shape : Shape) (limit : ℕ) where
 
   alike-step : (es ms : Points) (a : AttrSet) (v : ℤ) → AreAlike es ms → AreAlike (step shape limit es a v) (step shape limit ms a v)
   alike-step es ms a v h =
-      let d = place limit es a in
+      let d = fed_set limit es a in
       alike-trans (step shape limit es a v) (add_under shape ms d v) (step shape limit ms a v)
       (alike-put es ms d (more (at es d) v) (more (at ms d) v) h (λ o. ap (λ p. more p v) (alike-at es ms d h o)))
       (alike-same (add_under shape ms d v) (step shape limit ms a v) (ap (λ c. add_under shape ms c v) (place-keys limit es ms a h.0)))
@@ -443,30 +443,30 @@ module _ (shape : Shape) (limit : ℕ) where
       let k = or-no (set_eq a m.0) (has_set (keys_of ms) a) n in
       (λ h. apart (way limit es m.0) k.0 h, free-own a (take es m) ms o k.1)
     where
-      at-itself : set_eq a m.0 ≡ false → set_eq (place limit es m.0) a ≡ true → place limit es m.0 ≡ m.0 → is_gauge shape ≡ false
+      at-itself : set_eq a m.0 ≡ false → set_eq (fed_set limit es m.0) a ≡ true → fed_set limit es m.0 ≡ m.0 → is_gauge shape ≡ false
       at-itself n h e = absurd (true≢false (sym (ap (λ c. set_eq c a) (sym e) ∙ h) ∙ turn a m.0 n))
 
-      apart : Way limit es m.0 → set_eq a m.0 ≡ false → set_eq (place limit es m.0) a ≡ true → is_gauge shape ≡ false
+      apart : Way limit es m.0 → set_eq a m.0 ≡ false → set_eq (fed_set limit es m.0) a ≡ true → is_gauge shape ≡ false
       apart (There _ e) n h = at-itself n h e
       apart (Room _ _ e) n h = at-itself n h e
-      apart (Full _ _ e) n h = absurd (true≢false (sym o ∙ ap is_own (sym (same (place limit es m.0) a h) ∙ e) ∙ ap not (itself overflow_set)))
+      apart (Full _ _ e) n h = absurd (true≢false (sym o ∙ ap is_own (sym (same (fed_set limit es m.0) a h) ∙ e) ∙ ap not (itself overflow_set)))
 
-  place-own : (es : Points) (a : AttrSet) → is_own (place limit es a) ≡ true → place limit es a ≡ a
+  place-own : (es : Points) (a : AttrSet) → is_own (fed_set limit es a) ≡ true → fed_set limit es a ≡ a
   place-own es a o = by (way limit es a)
     where
-      by : Way limit es a → place limit es a ≡ a
+      by : Way limit es a → fed_set limit es a ≡ a
       by (There _ e) = e
       by (Room _ _ e) = e
       by (Full _ _ e) = absurd (true≢false (sym o ∙ ap is_own e ∙ ap not (itself overflow_set)))
 
   -- one more value in a point that is taken in, of a gauge too
   alike-more : (es ms : Points) (a : AttrSet) (v : ℤ) → AreOnce (keys_of ms) → has_point ms a ≡ true → AreShaped shape es → AreShaped shape ms
-      → AreAlike (taken es (add_under shape ms a v)) (add_under shape (taken es ms) (place limit (taken es ms) a) v)
+      → AreAlike (taken es (add_under shape ms a v)) (add_under shape (taken es ms) (fed_set limit (taken es ms) a) v)
   alike-more es [] a v o h s k = absurd (true≢false (sym h))
   alike-more es (m ∷ ms) a v o h s k = by (λ l t. alike-more (take es m) ms a v o.1 l t k.1) (set_eq a m.0) refl
     where
       b : AttrSet
-      b = place limit es m.0
+      b = fed_set limit es m.0
 
       q : Payload
       q = at es b
@@ -474,8 +474,8 @@ module _ (shape : Shape) (limit : ℕ) where
       all : Points
       all = taken (take es m) ms
 
-      there : a ≡ m.0 → place limit all a ≡ b
-      there e = ap (λ c. place limit all c) e ∙ first-stays es m ms o.0
+      there : a ≡ m.0 → fed_set limit all a ≡ b
+      there e = ap (λ c. fed_set limit all c) e ∙ first-stays es m ms o.0
 
       at-first : set_eq a m.0 ≡ true → at (m ∷ ms) a ≡ m.1
       at-first t = ap (λ o. option_map_or (λ t. t) o (payload_of shape [])) (look-yes m ms a t)
@@ -496,16 +496,16 @@ module _ (shape : Shape) (limit : ℕ) where
           (alike-taken (add_under shape (take es m) b v) (take es m) ms (alike-over (take es m) b _ h i))
           (alike-turned (add_under shape all b v) all (alike-over all b _ (held-taken (take es m) ms b h) i))
 
-      by : (has_point ms a ≡ true → AreShaped shape (take es m) → AreAlike (taken (take es m) (add_under shape ms a v)) (add_under shape all (place limit all a) v))
-          → (t : Bool) → set_eq a m.0 ≡ t → AreAlike (taken es (add_under shape (m ∷ ms) a v)) (add_under shape all (place limit all a) v)
+      by : (has_point ms a ≡ true → AreShaped shape (take es m) → AreAlike (taken (take es m) (add_under shape ms a v)) (add_under shape all (fed_set limit all a) v))
+          → (t : Bool) → set_eq a m.0 ≡ t → AreAlike (taken es (add_under shape (m ∷ ms) a v)) (add_under shape all (fed_set limit all a) v)
       by go true t =
-          alike-trans (taken es (add_under shape (m ∷ ms) a v)) (taken (add_under shape (take es m) b v) ms) (add_under shape all (place limit all a) v)
+          alike-trans (taken es (add_under shape (m ∷ ms) a v)) (taken (add_under shape (take es m) b v) ms) (add_under shape all (fed_set limit all a) v)
           (alike-same _ _
           (ap (taken es) (put-yes m ms a (more (at (m ∷ ms) a) v) t ∙ ap (λ p. (m.0, more p v) ∷ ms) (at-first t))
           ∙ ap (λ l. taken l ms) (take-more es m v s k.0)))
           (subst (λ (c : AttrSet). AreAlike (taken (add_under shape (take es m) b v) ms) (add_under shape all c v)) (sym (there (same a m.0 t))) (first (is_own b) refl))
       by go false t =
-          alike-trans (taken es (add_under shape (m ∷ ms) a v)) (taken (take es m) (add_under shape ms a v)) (add_under shape all (place limit all a) v)
+          alike-trans (taken es (add_under shape (m ∷ ms) a v)) (taken (take es m) (add_under shape ms a v)) (add_under shape all (fed_set limit all a) v)
           (alike-same _ _ (ap (taken es) (put-no m ms a (more (at (m ∷ ms) a) v) t ∙ ap (λ p. m ∷ put ms a (more p v)) (at-later t))))
           (go (ap is_some (sym (look-no m ms a t)) ∙ h) (shaped-take es m s k.0))
 
@@ -536,14 +536,14 @@ module _ (shape : Shape) (limit : ℕ) where
           (alike-step (taken es (points_of shape ys)) (series_of shape limit (xs ++ ys)) y.0 y.1 h)
           (alike-same _ _ (sym (series-push shape limit (xs ++ ys) y.0 y.1) ∙ ap (series_of shape limit) (append_assoc xs ys (y ∷ [])))))
 
-places-keys : (limit : ℕ) (es ms ds ns : Points) → keys_of es ≡ keys_of ms → keys_of ds ≡ keys_of ns → places limit es ds ≡ places limit ms ns
+places-keys : (limit : ℕ) (es ms ds ns : Points) → keys_of es ≡ keys_of ms → keys_of ds ≡ keys_of ns → fed_sets limit es ds ≡ fed_sets limit ms ns
 places-keys limit es ms [] [] k l = refl
 places-keys limit es ms [] (n ∷ ns) k l = cc
 places-keys limit es ms (d ∷ ds) [] k l = cc
 places-keys limit es ms (d ∷ ds) (n ∷ ns) k l =
     let e : d.0 ≡ n.0 = cc in
     let r : keys_of ds ≡ keys_of ns = cc in
-    λ i. (ap (place limit es) e ∙ place-keys limit es ms n.0 k) i ∷ places-keys limit (with_point limit es d) (with_point limit ms n) ds ns (with_point-keys limit es ms d n k e) r i
+    λ i. (ap (fed_set limit es) e ∙ place-keys limit es ms n.0 k) i ∷ places-keys limit (with_point limit es d) (with_point limit ms n) ds ns (with_point-keys limit es ms d n k e) r i
 
 pub places_kept : PlacesAreKept
 places_kept shape limit xs ys =

@@ -17,7 +17,7 @@ use Rattle.agg_kit.specs.FreshPoints.{payload_with, add_at}
 use Rattle.agg_kit.specs.Kept.{whole_feed}
 use Rattle.agg_kit.specs.Measuring.{points_after, series_after, after_measure}
 use Rattle.agg_kit.specs.Payloads.{is_out_of_range}
-use Rattle.agg_kit.specs.Steps.{Stored, has_point, place, payload_after, step}
+use Rattle.agg_kit.specs.Steps.{Stored, has_point, fed_set, payload_after, step}
 use Rattle.agg_kit.specs.Tallies.{Points, Tallied}
 use Rattle.agg_kit.specs.declared.bound.Bound.{Bound}
 use Rattle.agg_kit.specs.declared.fault.TallyFault.TheVariants as faults
@@ -57,7 +57,7 @@ module _ (p : Planned) (a : AttrSet) (v : ℤ) (ss : List Stored) (feed : Feed) 
   later-at = stand.1
 
   abbrev set : AttrSet
-  set = place p.limit old.entries (kept feed.keep a)
+  set = fed_set p.limit old.entries (kept feed.keep a)
 
   here : position (set_eq set) (keys_of old.entries) ≡ Some i
   here = sym (ap (λ (es : Points). place_of p.limit es (kept feed.keep a)) (entries-read ss feed.stream old fit.0 was)) ∙ stand.0
@@ -132,20 +132,20 @@ position-once q xs x i h = by (has_set xs x)
 pub has_point-at : (es : Points) (b : AttrSet) (i : ℕ) → position (set_eq b) (keys_of es) ≡ Some i → has_point es b ≡ true
 has_point-at es b i h = ap is_some ((Found-position (set_eq b) es i h).value ∙ (valued es i (within-has_point es b i h)).1)
 
-pub place-kept : (limit : ℕ) (es : Points) (b a : AttrSet) (w : Payload) → has_point es (place limit es b) ≡ true → place limit (put es (place limit es a) w) b ≡ place limit es b
+pub place-kept : (limit : ℕ) (es : Points) (b a : AttrSet) (w : Payload) → has_point es (fed_set limit es b) ≡ true → fed_set limit (put es (fed_set limit es a) w) b ≡ fed_set limit es b
 place-kept limit es b a w there = by (set_eq b a) refl
   where
-    by : (t : Bool) → set_eq b a ≡ t → place limit (put es (place limit es a) w) b ≡ place limit es b
-    by true e = ap (λ (c : AttrSet). place limit (put es (place limit es c) w) b) (sym (same b a e)) ∙ place-now limit es b w
+    by : (t : Bool) → set_eq b a ≡ t → fed_set limit (put es (fed_set limit es a) w) b ≡ fed_set limit es b
+    by true e = ap (λ (c : AttrSet). fed_set limit (put es (fed_set limit es c) w) b) (sym (same b a e)) ∙ place-now limit es b w
     by false e = place-stays limit es b a w e there
 
 pub step-stays : (shape : Shape) (limit : ℕ) (es : Points) (a b : AttrSet) (v : ℤ) (i : ℕ) → place_of limit es b ≡ Some i → place_of limit (step shape limit es a v) b ≡ Some i
 step-stays shape limit es a b v i h =
-    let c = place limit es b in
-    let w = payload_after shape es (place limit es a) v in
-    ap (λ (x : AttrSet). position (set_eq x) (keys_of (put es (place limit es a) w))) (place-kept limit es b a w (has_point-at es c i h))
-    ∙ ap (position (set_eq c)) (keys-insert es (place limit es a) w)
-    ∙ position-once (set_eq c) (keys_of es) (place limit es a) i h
+    let c = fed_set limit es b in
+    let w = payload_after shape es (fed_set limit es a) v in
+    ap (λ (x : AttrSet). position (set_eq x) (keys_of (put es (fed_set limit es a) w))) (place-kept limit es b a w (has_point-at es c i h))
+    ∙ ap (position (set_eq c)) (keys-insert es (fed_set limit es a) w)
+    ∙ position-once (set_eq c) (keys_of es) (fed_set limit es a) i h
 
 all-stay : (shape : Shape) (limit : ℕ) (es : Points) (xs : Arrivals) (b : AttrSet) (i : ℕ) → place_of limit es b ≡ Some i → place_of limit (points_after shape limit es xs) b ≡ Some i
 all-stay shape limit es [] b i h = h

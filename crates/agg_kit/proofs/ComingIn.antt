@@ -21,7 +21,7 @@ use Rattle.agg_kit.specs.Payloads.{payload_of, is_out_of_range}
 use Rattle.agg_kit.specs.Recorders.{series_with}
 use Rattle.agg_kit.specs.Sound.{IsSound, AreSound, AreOnce, AllSound}
 use Rattle.agg_kit.specs.Stamps.{Stamped, newer, newest_over, put_over}
-use Rattle.agg_kit.specs.Steps.{Stored, own_count, has_point, place}
+use Rattle.agg_kit.specs.Steps.{Stored, own_count, has_point, fed_set}
 use Rattle.agg_kit.specs.Tallies.{Points}
 use Rattle.agg_kit.specs.declared.absorbing.Walk.{Walk}
 use Rattle.agg_kit.specs.declared.joining.Amount.{Amount}
@@ -47,7 +47,7 @@ sound-point_with shape es b p s t = by (lookup (set_eq b) es) refl
     by (Some q) e = sound-payload_of_both shape q p (at-lookup shape es b q s e) t
 
 pub sound-with_point : (shape : Shape) (limit : ℕ) (es : Points) (e : AttrSet × Payload) → AreSound shape es → IsSound shape e.1 → AreSound shape (with_point limit es e)
-sound-with_point shape limit es e s t = sound-insert shape es (place limit es e.0) (point_with es (place limit es e.0) e.1) s (sound-point_with shape es (place limit es e.0) e.1 s t)
+sound-with_point shape limit es e s t = sound-insert shape es (fed_set limit es e.0) (point_with es (fed_set limit es e.0) e.1) s (sound-point_with shape es (fed_set limit es e.0) e.1 s t)
 
 pub sound-absorb : (shape : Shape) (limit : ℕ) (es ms : Points) → AreSound shape es → AreSound shape ms → AreSound shape (absorb limit es ms)
 sound-absorb shape limit es [] s t = s
@@ -56,7 +56,7 @@ sound-absorb shape limit es (e ∷ ms) s t = sound-absorb shape limit (with_poin
 once-absorb : (limit : ℕ) (es ms : Points) → AreOnce (keys_of es) → AreOnce (keys_of (absorb limit es ms))
 once-absorb limit es [] o = o
 once-absorb limit es (e ∷ ms) o =
-    let b = place limit es e.0 in
+    let b = fed_set limit es e.0 in
     once-absorb limit (with_point limit es e) ms (subst AreOnce (sym (keys-insert es b (point_with es b e.1))) (once-add (keys_of es) b o))
 
 -- the payload of the newest point, if there is one
@@ -75,7 +75,7 @@ sound-newer shape (Some x) n p b s = by (nat_lt x.0 n)
 sound-newest : (shape : Shape) (limit : ℕ) (es ms : Points) (ns : List ℕ) (best : Option (ℕ × Payload)) → IsSoundBest shape best → AreSound shape ms → IsSoundBest shape (newest_over limit es ms ns best)
 sound-newest shape limit es [] ns best b s = b
 sound-newest shape limit es (e ∷ ms) [] best b s = b
-sound-newest shape limit es (e ∷ ms) (n ∷ ns) best b s = sound-newest shape limit (with_point limit es e) ms ns _ (by (set_eq (place limit es e.0) overflow_set)) s.1
+sound-newest shape limit es (e ∷ ms) (n ∷ ns) best b s = sound-newest shape limit (with_point limit es e) ms ns _ (by (set_eq (fed_set limit es e.0) overflow_set)) s.1
   where
     by : (t : Bool) → IsSoundBest shape (cond t (newer best (n, e.1)) best)
     by true = sound-newer shape best n e.1 b s.0
@@ -119,13 +119,13 @@ pub untouched : (limit : ℕ) (es ms : Points) (a : AttrSet) → is_own a ≡ tr
 untouched limit es [] a o n = refl
 untouched limit es (e ∷ ms) a o n =
     let k = or-no (set_eq a e.0) (has_set (keys_of ms) a) n in
-    untouched limit (with_point limit es e) ms a o k.1 ∙ lookup-other es a (place limit es e.0) (point_with es (place limit es e.0) e.1) (apart k.0 (way limit es e.0))
+    untouched limit (with_point limit es e) ms a o k.1 ∙ lookup-other es a (fed_set limit es e.0) (point_with es (fed_set limit es e.0) e.1) (apart k.0 (way limit es e.0))
   where
     not-over : (b : Bool) → not b ≡ true → b ≡ false
     not-over true h = absurd (true≢false (sym h))
     not-over false h = refl
 
-    apart : set_eq a e.0 ≡ false → Way limit es e.0 → set_eq a (place limit es e.0) ≡ false
+    apart : set_eq a e.0 ≡ false → Way limit es e.0 → set_eq a (fed_set limit es e.0) ≡ false
     apart k (There h at) = ap (set_eq a) at ∙ k
     apart k (Room h l at) = ap (set_eq a) at ∙ k
     apart k (Full h l at) = ap (set_eq a) at ∙ not-over (set_eq a overflow_set) o
@@ -182,7 +182,7 @@ module _ (w n : Walk) (es : Points) (limit : ℕ) (a : AttrSet) (p : Payload) (k
   -- a set of its own that is there
   pub knows-there : is_own a ≡ true → has_point es a ≡ true → n ≡ w → Knows n (with_point limit es (a, p))
   knows-there o h e =
-      let b = place limit es a in
+      let b = fed_set limit es a in
       let at : b ≡ a = place-has_point limit es a h in
       let x = point_with es b p in
       let over : lookup (set_eq overflow_set) (put es b x) ≡ lookup (set_eq overflow_set) es = lookup-other es overflow_set b x (ap (set_eq overflow_set) at ∙ own-apart a o) in
@@ -195,7 +195,7 @@ module _ (w n : Walk) (es : Points) (limit : ℕ) (a : AttrSet) (p : Payload) (k
   -- one that is new, and that there is room for
   pub knows-new : is_own a ≡ true → has_point es a ≡ false → own_count es < limit → n.own ≡ w.own + 1 → n.over ≡ w.over → Knows n (with_point limit es (a, p))
   knows-new o h l e f =
-      let b = place limit es a in
+      let b = fed_set limit es a in
       let at : b ≡ a = place-room limit es a h l in
       let x = point_with es b p in
       let over : lookup (set_eq overflow_set) (put es b x) ≡ lookup (set_eq overflow_set) es = lookup-other es overflow_set b x (ap (set_eq overflow_set) at ∙ own-apart a o) in
@@ -206,10 +206,10 @@ module _ (w n : Walk) (es : Points) (limit : ℕ) (a : AttrSet) (p : Payload) (k
       }
 
   -- one that goes to the overflow set
-  pub knows-over : (shape : Shape) → AreSound shape es → IsSound shape p → place limit es a ≡ overflow_set
+  pub knows-over : (shape : Shape) → AreSound shape es → IsSound shape p → fed_set limit es a ≡ overflow_set
       → n.own ≡ w.own → n.over.count ≡ w.over.count + count_of p → n.over.sum ≡ w.over.sum +ℤ total_of p → Knows n (with_point limit es (a, p))
   knows-over shape s t at e c f =
-      let b = place limit es a in
+      let b = fed_set limit es a in
       let x = point_with es b p in
       let put-there : put es b x ≡ put es overflow_set (point_with es overflow_set p) = ap (λ (b : AttrSet). put es b (point_with es b p)) at in
       let here : lookup (set_eq overflow_set) (put es b x) ≡ Some (point_with es overflow_set p) = ap (lookup (set_eq overflow_set)) put-there ∙ lookup-here es overflow_set (point_with es overflow_set p) in
@@ -224,15 +224,15 @@ module _ (w n : Walk) (es : Points) (limit : ℕ) (a : AttrSet) (p : Payload) (k
 
 module _ (n limit : ℕ) (es : Points) (a : AttrSet) (p : Payload) (k : n ≡ own_count es) where
   pub own-there : has_point es a ≡ true → n ≡ own_count (with_point limit es (a, p))
-  own-there h = k ∙ sym (count-has_point es (place limit es a) (point_with es (place limit es a) p) (ap (has_point es) (place-has_point limit es a h) ∙ h))
+  own-there h = k ∙ sym (count-has_point es (fed_set limit es a) (point_with es (fed_set limit es a) p) (ap (has_point es) (place-has_point limit es a h) ∙ h))
 
   pub own-new : is_own a ≡ true → has_point es a ≡ false → own_count es < limit → n + 1 ≡ own_count (with_point limit es (a, p))
   own-new o h l =
-      let b = place limit es a in
+      let b = fed_set limit es a in
       let at : b ≡ a = place-room limit es a h l in
       ap (λ m. m + 1) k ∙ sym (count-put-new es b (point_with es b p) (ap (has_point es) at ∙ h) ∙ ap (λ (c : AttrSet). own_count es + cond (is_own c) 1 0) at ∙ ap (λ t. own_count es + cond t 1 0) o)
 
-  pub own-over : place limit es a ≡ overflow_set → n ≡ own_count (with_point limit es (a, p))
+  pub own-over : fed_set limit es a ≡ overflow_set → n ≡ own_count (with_point limit es (a, p))
   own-over at = k ∙ sym (ap (λ (b : AttrSet). own_count (put es b (point_with es b p))) at ∙ count-over es (point_with es overflow_set p))
 
 -- ---- whether a point stays in range, by the amounts that the walk reads
@@ -246,19 +246,19 @@ pub record ComesIn (w : Walk) (before es : Points) (a : AttrSet) (p : Payload) :
   pub sum : amount.sum ≡ total_of p
 
 module _ {w : Walk} {before es : Points} {a : AttrSet} {p : Payload} (c : ComesIn w before es a p) (limit : ℕ) where
-  out-joined : (n : ℕ) (x : ℤ) (b : Bool) → count_at es (place limit es a) ≡ n → total_at es (place limit es a) ≡ x → is_past (x +ℤ c.amount.sum) (n + c.amount.count) ≡ b → is_out_of_range (point_with es (place limit es a) p) ≡ b
-  out-joined n x b count sum told = out-point_with c.sound.0 es (place limit es a) p c.sound.1 c.sound.2 ∙ (λ i. is_past (sum i +ℤ sym c.sum i) (count i + sym c.count i)) ∙ told
+  out-joined : (n : ℕ) (x : ℤ) (b : Bool) → count_at es (fed_set limit es a) ≡ n → total_at es (fed_set limit es a) ≡ x → is_past (x +ℤ c.amount.sum) (n + c.amount.count) ≡ b → is_out_of_range (point_with es (fed_set limit es a) p) ≡ b
+  out-joined n x b count sum told = out-point_with c.sound.0 es (fed_set limit es a) p c.sound.1 c.sound.2 ∙ (λ i. is_past (sum i +ℤ sym c.sum i) (count i + sym c.count i)) ∙ told
 
   -- a set of its own has the point that it had before the walk
   pub held-before : (inside : Points) (has b : Bool) → is_own a ≡ true → inside ≡ before → has ≡ has_point inside a → has ≡ b → has_point es a ≡ b
   held-before inside has b own view is h = ap is_some (c.walks.1 own) ∙ sym (ap (λ (x : Points). has_point x a) view) ∙ sym is ∙ h
 
-  pub own-fits : (x : Amount) (b : Bool) → is_own a ≡ true → place limit es a ≡ a → x.count ≡ count_at before a → x.sum ≡ total_at before a → is_past (x.sum +ℤ c.amount.sum) (x.count + c.amount.count) ≡ b
-      → is_out_of_range (point_with es (place limit es a) p) ≡ b
+  pub own-fits : (x : Amount) (b : Bool) → is_own a ≡ true → fed_set limit es a ≡ a → x.count ≡ count_at before a → x.sum ≡ total_at before a → is_past (x.sum +ℤ c.amount.sum) (x.count + c.amount.count) ≡ b
+      → is_out_of_range (point_with es (fed_set limit es a) p) ≡ b
   own-fits x b own at count sum =
       out-joined x.count x.sum b (ap (count_at es) at ∙ ap (λ o. option_map_or count_of o 0) (c.walks.1 own) ∙ sym count) (ap (total_at es) at ∙ ap (λ o. option_map_or total_of o (pos 0)) (c.walks.1 own) ∙ sym sum)
 
-  pub over-fits : (b : Bool) → place limit es a ≡ overflow_set → is_past (w.over.sum +ℤ c.amount.sum) (w.over.count + c.amount.count) ≡ b → is_out_of_range (point_with es (place limit es a) p) ≡ b
+  pub over-fits : (b : Bool) → fed_set limit es a ≡ overflow_set → is_past (w.over.sum +ℤ c.amount.sum) (w.over.count + c.amount.count) ≡ b → is_out_of_range (point_with es (fed_set limit es a) p) ≡ b
   over-fits b at = out-joined w.over.count w.over.sum b (ap (count_at es) at ∙ sym c.walks.0.count) (ap (total_at es) at ∙ sym c.walks.0.sum)
 
 -- ---- one point as it is put there
@@ -273,9 +273,9 @@ put-there es b x i at =
     let f : Found (set_eq b) es i = Found-position (set_eq b) es i at in
     sym (insert_entry-first set_eq b x es i f.first)
 
-pub new-with_point : (limit : ℕ) (es : Points) (a k : AttrSet) (p : Payload) → lookup (set_eq (place limit es a)) es ≡ None → k ≡ place limit es a → es ++ (k, p) ∷ [] ≡ with_point limit es (a, p)
+pub new-with_point : (limit : ℕ) (es : Points) (a k : AttrSet) (p : Payload) → lookup (set_eq (fed_set limit es a)) es ≡ None → k ≡ fed_set limit es a → es ++ (k, p) ∷ [] ≡ with_point limit es (a, p)
 new-with_point limit es a k p gone at =
-    let b = place limit es a in
+    let b = fed_set limit es a in
     ap (λ (c : AttrSet). es ++ (c, p) ∷ []) at
     ∙ sym (insert_entry-absent set_eq b p es (absent_from_lookup (set_eq b) es gone))
     ∙ ap (λ x. put es b x) (sym (ap (λ o. option_map_or (λ q. payload_of_both q p) o p) gone))
@@ -284,7 +284,7 @@ pub lacks-before : (limit : ℕ) (es ns : Points) (a : AttrSet) (p : Payload) �
 lacks-before limit es ns a p e n = by (has_point es overflow_set) refl
   where
     by : (b : Bool) → has_point es overflow_set ≡ b → b ≡ false
-    by true h = absurd (true≢false (sym (has_point-still es overflow_set (place limit es a) (point_with es (place limit es a) p) h) ∙ ap (λ (es : Points). has_point es overflow_set) (sym e) ∙ n))
+    by true h = absurd (true≢false (sym (has_point-still es overflow_set (fed_set limit es a) (point_with es (fed_set limit es a) p) h) ∙ ap (λ (es : Points). has_point es overflow_set) (sym e) ∙ n))
     by false h = refl
 
 pub not-less : (n limit : ℕ) → (n < limit → ⊥) → limit ≤ n
@@ -295,15 +295,15 @@ not-less n limit f = by (nat_lt n limit) refl
     by false h = ltb-false n limit h
 
 -- a set without a point goes to the overflow set, once there is no room
-pub over-place : (limit : ℕ) (es : Points) (a : AttrSet) → lookup (set_eq (place limit es a)) es ≡ None → (own_count es < limit → ⊥) → place limit es a ≡ overflow_set
+pub over-place : (limit : ℕ) (es : Points) (a : AttrSet) → lookup (set_eq (fed_set limit es a)) es ≡ None → (own_count es < limit → ⊥) → fed_set limit es a ≡ overflow_set
 over-place limit es a gone f = by (has_point es a) refl
   where
-    by : (b : Bool) → has_point es a ≡ b → place limit es a ≡ overflow_set
+    by : (b : Bool) → has_point es a ≡ b → fed_set limit es a ≡ overflow_set
     by true h = absurd (true≢false (sym h ∙ ap (has_point es) (sym (place-has_point limit es a h)) ∙ ap is_some gone))
     by false h = place-full limit es a h (not-less (own_count es) limit f)
 
-pub has_point-over : (limit : ℕ) (es ns : Points) (a : AttrSet) (p : Payload) → ns ≡ with_point limit es (a, p) → place limit es a ≡ overflow_set → has_point ns overflow_set ≡ true
-has_point-over limit es ns a p e at = ap (λ (es : Points). has_point es overflow_set) e ∙ ap (has_point (with_point limit es (a, p))) (sym at) ∙ has_point-here es (place limit es a) (point_with es (place limit es a) p)
+pub has_point-over : (limit : ℕ) (es ns : Points) (a : AttrSet) (p : Payload) → ns ≡ with_point limit es (a, p) → fed_set limit es a ≡ overflow_set → has_point ns overflow_set ≡ true
+has_point-over limit es ns a p e at = ap (λ (es : Points). has_point es overflow_set) e ∙ ap (has_point (with_point limit es (a, p))) (sym at) ∙ has_point-here es (fed_set limit es a) (point_with es (fed_set limit es a) p)
 
 pub over-own : (a : AttrSet) → a ≡ overflow_set → false ≡ is_own a
 over-own a e = sym (ap is_own e ∙ over-not-own)
@@ -313,8 +313,8 @@ over-own a e = sym (ap is_own e ∙ over-not-own)
 pub popped : (os ns : Points) (e : AttrSet × Payload) → os ≡ ns ++ e ∷ [] → reverse os ≡ e ∷ reverse ns
 popped os ns e h = ap reverse h ∙ reverse-append ns (e ∷ [])
 
-pub fits-first : (limit : ℕ) (es ms more : Points) (e : AttrSet × Payload) → ms ≡ e ∷ more → fits limit es ms ≡ true → is_out_of_range (point_with es (place limit es e.0) e.1) ≡ false
-fits-first limit es ms more e is h = by (is_out_of_range (point_with es (place limit es e.0) e.1)) (ap (fits limit es) (sym is) ∙ h)
+pub fits-first : (limit : ℕ) (es ms more : Points) (e : AttrSet × Payload) → ms ≡ e ∷ more → fits limit es ms ≡ true → is_out_of_range (point_with es (fed_set limit es e.0) e.1) ≡ false
+fits-first limit es ms more e is h = by (is_out_of_range (point_with es (fed_set limit es e.0) e.1)) (ap (fits limit es) (sym is) ∙ h)
   where
     by : (b : Bool) → (not b && fits limit (with_point limit es e) more) ≡ true → b ≡ false
     by true h = absurd (true≢false (sym h))
@@ -322,7 +322,7 @@ fits-first limit es ms more e is h = by (is_out_of_range (point_with es (place l
 
 pub fits-rest : (limit : ℕ) (es ns ms more : Points) (e : AttrSet × Payload) → ms ≡ e ∷ more → ns ≡ with_point limit es e → fits limit es ms ≡ true → fits limit ns more ≡ true
 fits-rest limit es ns ms more e is new h =
-    ap (λ (es : Points). fits limit es more) new ∙ by (is_out_of_range (point_with es (place limit es e.0) e.1)) (ap (fits limit es) (sym is) ∙ h)
+    ap (λ (es : Points). fits limit es more) new ∙ by (is_out_of_range (point_with es (fed_set limit es e.0) e.1)) (ap (fits limit es) (sym is) ∙ h)
   where
     by : (b : Bool) → (not b && fits limit (with_point limit es e) more) ≡ true → fits limit (with_point limit es e) more ≡ true
     by true h = absurd (true≢false (sym h))
@@ -446,14 +446,14 @@ module _ (limit : ℕ) (es ms : Points) (i : ℕ) (e : AttrSet × Payload) (ther
 
   -- the newest of the rest is that of all
   pub newest-more : (ns : List ℕ) (n : ℕ) (all best : Option (ℕ × Payload)) → slice_get ns i ≡ Some n → all ≡ newest_over limit (absorb limit es (take i ms)) (drop i ms) (drop i ns) best
-      → all ≡ newest_over limit (absorb limit es (take (i + 1) ms)) (drop (i + 1) ms) (drop (i + 1) ns) (cond (set_eq (place limit (absorb limit es (take i ms)) e.0) overflow_set) (newer best (n, e.1)) best)
+      → all ≡ newest_over limit (absorb limit es (take (i + 1) ms)) (drop (i + 1) ms) (drop (i + 1) ns) (cond (set_eq (fed_set limit (absorb limit es (take i ms)) e.0) overflow_set) (newer best (n, e.1)) best)
   newest-more ns n all best at h =
       h ∙ (λ j. newest_over limit (absorb limit es (take i ms)) (left j) (left-of ns i n at j) best)
-      ∙ ap (λ (x : Points). newest_over limit x (drop (i + 1) ms) (drop (i + 1) ns) (cond (set_eq (place limit (absorb limit es (take i ms)) e.0) overflow_set) (newer best (n, e.1)) best)) (sym seen-more)
+      ∙ ap (λ (x : Points). newest_over limit x (drop (i + 1) ms) (drop (i + 1) ns) (cond (set_eq (fed_set limit (absorb limit es (take i ms)) e.0) overflow_set) (newer best (n, e.1)) best)) (sym seen-more)
 
   -- the rest stays in range where all does
   pub fits-more : fits limit es ms ≡ fits limit (absorb limit es (take i ms)) (drop i ms)
-      → is_out_of_range (point_with (absorb limit es (take i ms)) (place limit (absorb limit es (take i ms)) e.0) e.1) ≡ false
+      → is_out_of_range (point_with (absorb limit es (take i ms)) (fed_set limit (absorb limit es (take i ms)) e.0) e.1) ≡ false
       → fits limit es ms ≡ fits limit (absorb limit es (take (i + 1) ms)) (drop (i + 1) ms)
   fits-more h fine =
       h ∙ ap (fits limit (absorb limit es (take i ms))) left
@@ -461,7 +461,7 @@ module _ (limit : ℕ) (es ms : Points) (i : ℕ) (e : AttrSet × Payload) (ther
       ∙ ap (λ (ns : Points). fits limit ns (drop (i + 1) ms)) (sym seen-more)
 
   pub fits-not : fits limit es ms ≡ fits limit (absorb limit es (take i ms)) (drop i ms)
-      → is_out_of_range (point_with (absorb limit es (take i ms)) (place limit (absorb limit es (take i ms)) e.0) e.1) ≡ true
+      → is_out_of_range (point_with (absorb limit es (take i ms)) (fed_set limit (absorb limit es (take i ms)) e.0) e.1) ≡ true
       → fits limit es ms ≡ false
   fits-not h out =
       h ∙ ap (fits limit (absorb limit es (take i ms))) left
@@ -482,7 +482,7 @@ module _ (limit : ℕ) (es ms : Points) (i : ℕ) (e : AttrSet × Payload) (ther
       at (m ∷ ms) (suc i) h x = at ms i h x.1
 
 -- the overflow set goes to itself
-pub place-over : (limit : ℕ) (es : Points) → place limit es overflow_set ≡ overflow_set
+pub place-over : (limit : ℕ) (es : Points) → fed_set limit es overflow_set ≡ overflow_set
 place-over limit es = by (has_point es overflow_set || nat_lt (own_count es) limit)
   where
     by : (b : Bool) → (if b then overflow_set else overflow_set) ≡ overflow_set

@@ -12,7 +12,7 @@ use Rattle.agg_kit.specs.Feeds.{entries_of, shape_at, first_out, whole_first, Al
 use Rattle.agg_kit.specs.FreshPoints.{payload_with, add_at}
 use Rattle.agg_kit.specs.Payloads.{is_out_of_range}
 use Rattle.agg_kit.specs.Sound.{AllSound}
-use Rattle.agg_kit.specs.Steps.{Stored, has_point, place, step}
+use Rattle.agg_kit.specs.Steps.{Stored, has_point, fed_set, step}
 use Rattle.agg_kit.specs.Tallies.{Points}
 use Rattle.agg_kit.specs.declared.fault.TallyFault.TheVariants as faults
 use Rattle.agg_kit.proofs.Records.{entries-read, first-here, first-rest, found-at, leaves-here, new-fits, new-gone, same_entries, set-here, unmoved, whole-rest}
@@ -32,9 +32,9 @@ module _ (p : Planned) (a : AttrSet) (v : ℤ) (ss : List Stored) (feed : Feed) 
   rest-sound q same sound = subst (AllSound p.streams) (sym (same_entries ss feed.stream q old was same)) sound
 
   module _ (limit : ℕ) (b : AttrSet) (found : Option ℕ) (is-limit : limit ≡ p.limit) (is-set : b ≡ kept feed.keep a)
-      (finds : found ≡ position (set_eq (place limit old.entries b)) (keys_of old.entries)) where
+      (finds : found ≡ position (set_eq (fed_set limit old.entries b)) (keys_of old.entries)) where
     abbrev reached : AttrSet
-    reached = place p.limit old.entries (kept feed.keep a)
+    reached = fed_set p.limit old.entries (kept feed.keep a)
 
     found-in : (at : Option ℕ) → found ≡ at → position (set_eq reached) (keys_of old.entries) ≡ at
     found-in at e = found-at p (kept feed.keep a) old.entries limit b found at is-limit is-set e finds
@@ -56,9 +56,9 @@ module _ (p : Planned) (a : AttrSet) (v : ℤ) (ss : List Stored) (feed : Feed) 
       pub absent-held : AllHeld p all a (entries_of ss) → ⊥
       absent-held all-held =
           let all' : AllHeld p (feed ∷ rest) a (entries_of ss) = subst (λ (fs : List Feed). AllHeld p fs a (entries_of ss)) is all-held in
-          let here : has_point old.entries (place p.limit old.entries a) ≡ true = subst (λ (es : Points). has_point es (place p.limit es a) ≡ true) (entries-read ss feed.stream old fits.0 was) all'.1 in
-          let gone' : lookup (set_eq (place p.limit old.entries a)) old.entries ≡ None = subst (λ (k : Keep). lookup (set_eq (place p.limit old.entries (kept k a))) old.entries ≡ None) all'.0 gone in
-          new-gone old.entries (place p.limit old.entries a) gone' here
+          let here : has_point old.entries (fed_set p.limit old.entries a) ≡ true = subst (λ (es : Points). has_point es (fed_set p.limit es a) ≡ true) (entries-read ss feed.stream old fits.0 was) all'.1 in
+          let gone' : lookup (set_eq (fed_set p.limit old.entries a)) old.entries ≡ None = subst (λ (k : Keep). lookup (set_eq (fed_set p.limit old.entries (kept k a))) old.entries ≡ None) all'.0 gone in
+          new-gone old.entries (fed_set p.limit old.entries a) gone' here
 
     -- the point of the set is there
     module _ (i : ℕ) (there : found ≡ Some i) where

@@ -9,14 +9,14 @@ use Rattle.attr_kit.specs.declared.attr_set.AttrSet.{AttrSet}
 use Rattle.point_kit.specs.declared.payload.Payload.{Payload}
 use Rattle.point_kit.specs.declared.payload.Payload.TheVariants as payloads
 use Rattle.point_kit.specs.declared.shape.Shape.TheVariants as shapes
-use Rattle.agg_kit.specs.Absorbs.{absorb, places, sets_gone_to, with_point}
+use Rattle.agg_kit.specs.Absorbs.{absorb, fed_sets, sets_gone_to, with_point}
 use Rattle.agg_kit.specs.Entries.{Arrivals}
 use Rattle.agg_kit.specs.Feeding.{set_eq, overflow_set, is_own, has_set, sets_of, distinct, own_sets, goes_to, placements}
 use Rattle.agg_kit.specs.Payloads.{latest, payload_of}
 use Rattle.agg_kit.specs.Rounds.{values_of, points_of}
 use Rattle.agg_kit.specs.Sound.{AreOnce}
 use Rattle.agg_kit.specs.Stamps.{last_number, newer, newest_over, put_over, absorb_stamped}
-use Rattle.agg_kit.specs.Steps.{place}
+use Rattle.agg_kit.specs.Steps.{fed_set}
 use Rattle.agg_kit.specs.Tallies.{Points}
 use Rattle.agg_kit.proofs.Absorbs.{same-map, has_point-keys, places_kept, points_absorbed, others_absorbed}
 use Rattle.agg_kit.proofs.Distinct.{same, itself, turn, has-push, has-distinct, once-distinct}
@@ -229,12 +229,12 @@ module _ (g : AttrSet → AttrSet) (t : AttrSet → ℕ) (f : AttrSet → Payloa
   newest_of (d ∷ ds) best = newest_of ds (cond (set_eq (g d) overflow_set) (newer best (t d, f d)) best)
 
   -- the walk goes by the places
-  newest-places : (limit : ℕ) (es : Points) (ds : List AttrSet) (best : Option (ℕ × Payload)) → places limit es (with f ds) ≡ map g ds → newest_over limit es (with f ds) (map t ds) best ≡ newest_of ds best
+  newest-places : (limit : ℕ) (es : Points) (ds : List AttrSet) (best : Option (ℕ × Payload)) → fed_sets limit es (with f ds) ≡ map g ds → newest_over limit es (with f ds) (map t ds) best ≡ newest_of ds best
   newest-places limit es [] best h = refl
   newest-places limit es (d ∷ ds) best h =
-      let e : place limit es d ≡ g d = cc in
-      let r : places limit (with_point limit es (d, f d)) (with f ds) ≡ map g ds = cc in
-      newest-places limit (with_point limit es (d, f d)) ds (cond (set_eq (place limit es d) overflow_set) (newer best (t d, f d)) best) r
+      let e : fed_set limit es d ≡ g d = cc in
+      let r : fed_sets limit (with_point limit es (d, f d)) (with f ds) ≡ map g ds = cc in
+      newest-places limit (with_point limit es (d, f d)) ds (cond (set_eq (fed_set limit es d) overflow_set) (newer best (t d, f d)) best) r
       ∙ ap (λ b. newest_of ds (cond (set_eq b overflow_set) (newer best (t d, f d)) best)) e
 
   -- where none goes under the overflow set

@@ -12,18 +12,18 @@ use Rattle.agg_kit.specs.Feeding.{set_eq}
 use Rattle.agg_kit.specs.Feeds.{series_at, shape_at}
 use Rattle.agg_kit.specs.Measuring.{points_after, series_after, after_measure}
 use Rattle.agg_kit.specs.Recorders.{tally_in, may_hold, keeps_set, keeps_sets, OwnBoundPointsStay}
-use Rattle.agg_kit.specs.Steps.{place, payload_after, step}
+use Rattle.agg_kit.specs.Steps.{fed_set, payload_after, step}
 use Rattle.agg_kit.specs.Tallies.{Points, Tallied}
 use Rattle.agg_kit.specs.declared.bound.Bound.{Bound}
 use Rattle.agg_kit.proofs.BoundPoints.{bound_stays, has_point-at, place-kept, step-stays}
 use Rattle.agg_kit.proofs.Rounds.{at-after}
 
 -- a set whose point is there goes where it went
-place-still : (shape : Shape) (limit : ℕ) (es : Points) (xs : Arrivals) (b : AttrSet) (i : ℕ) → place_of limit es b ≡ Some i → place limit (points_after shape limit es xs) b ≡ place limit es b
+place-still : (shape : Shape) (limit : ℕ) (es : Points) (xs : Arrivals) (b : AttrSet) (i : ℕ) → place_of limit es b ≡ Some i → fed_set limit (points_after shape limit es xs) b ≡ fed_set limit es b
 place-still shape limit es [] b i h = refl
 place-still shape limit es (x ∷ xs) b i h =
     place-still shape limit (step shape limit es x.0 x.1) xs b i (step-stays shape limit es x.0 b x.1 i h)
-    ∙ place-kept limit es b x.0 (payload_after shape es (place limit es x.0) x.1) (has_point-at es (place limit es b) i h)
+    ∙ place-kept limit es b x.0 (payload_after shape es (fed_set limit es x.0) x.1) (has_point-at es (fed_set limit es b) i h)
 
 -- so a recorder keeps the sets whose points are there
 keeps-still : (t : Tallied) (e : Entry) (fs : List Feed) (is : List ℕ) (a : AttrSet) → AreFeeds (length t.plan.streams) fs → AreAt t.plan fs is a t.series
@@ -33,7 +33,7 @@ keeps-still t e (f ∷ fs) [] a fits h = absurd h
 keeps-still t e (f ∷ fs) (i ∷ is) a fits h =
     let k = kept f.keep a in
     let here : keeps_set t.plan a (series_after t e) f ≡ keeps_set t.plan a t.series f =
-    ap (λ (es : Points). may_hold (shape_at t.plan f.stream) && set_eq (place t.plan.limit es k) k) (at-after t e f.stream fits.0)
+    ap (λ (es : Points). may_hold (shape_at t.plan f.stream) && set_eq (fed_set t.plan.limit es k) k) (at-after t e f.stream fits.0)
     ∙ ap (λ (x : AttrSet). may_hold (shape_at t.plan f.stream) && set_eq x k)
     (place-still (shape_at t.plan f.stream) t.plan.limit (series_at t.series f.stream) (arrivals_from f.stream (feeds_of t.plan e.instrument) e.attrs e.value) k i h.0) in
     (λ j. here j && keeps-still t e fs is a fits.2 h.1 j)

@@ -21,7 +21,7 @@ use Rattle.agg_kit.specs.Measuring.{fault_of, points_after, series_after}
 use Rattle.agg_kit.specs.Recorders.{Recorded, tally_in, empty_recorder, whole_round, Holds, may_hold, keeps_set, keeps_sets, keep_sets, can_stamp_all, record_fault_of, as_record_fault, series_with, RecordersHold, AbsorbingIsRecording}
 use Rattle.agg_kit.specs.Rounds.{points_of, round}
 use Rattle.agg_kit.specs.Stamps.{Stamped, stamps_at, stamped_of, stamps_of, stamps_after, newest_over, put_over, absorb_stamped}
-use Rattle.agg_kit.specs.Steps.{Stored, own_count, has_point, place, add_under, step}
+use Rattle.agg_kit.specs.Steps.{Stored, own_count, has_point, fed_set, add_under, step}
 use Rattle.agg_kit.specs.Tallies.{Points}
 use Rattle.agg_kit.specs.declared.fault.TallyFault.{TallyFault}
 use Rattle.agg_kit.specs.declared.fault.RecordFault.TheVariants as record_faults
@@ -82,12 +82,12 @@ keeps-rest p a ss f fs h = (both (keeps_set p a ss f) (list_all (keeps_set p a s
 
 -- the parts of what a feed keeps
 pub keeps-may : (p : Planned) (a : AttrSet) (ss : List Points) (f : Feed) → keeps_set p a ss f ≡ true → may_hold (shape_at p f.stream) ≡ true
-keeps-may p a ss f h = (both (may_hold (shape_at p f.stream)) (set_eq (place p.limit (series_at ss f.stream) (kept f.keep a)) (kept f.keep a)) h).0
+keeps-may p a ss f h = (both (may_hold (shape_at p f.stream)) (set_eq (fed_set p.limit (series_at ss f.stream) (kept f.keep a)) (kept f.keep a)) h).0
 
-pub keeps-place : (p : Planned) (a : AttrSet) (ss : List Points) (f : Feed) → keeps_set p a ss f ≡ true → place p.limit (series_at ss f.stream) (kept f.keep a) ≡ kept f.keep a
+pub keeps-place : (p : Planned) (a : AttrSet) (ss : List Points) (f : Feed) → keeps_set p a ss f ≡ true → fed_set p.limit (series_at ss f.stream) (kept f.keep a) ≡ kept f.keep a
 keeps-place p a ss f h =
-    same (place p.limit (series_at ss f.stream) (kept f.keep a)) (kept f.keep a)
-    (both (may_hold (shape_at p f.stream)) (set_eq (place p.limit (series_at ss f.stream) (kept f.keep a)) (kept f.keep a)) h).1
+    same (fed_set p.limit (series_at ss f.stream) (kept f.keep a)) (kept f.keep a)
+    (both (may_hold (shape_at p f.stream)) (set_eq (fed_set p.limit (series_at ss f.stream) (kept f.keep a)) (kept f.keep a)) h).1
 
 -- what a feed with a stream of its own brings to the points of a list
 more-has_point : (p : Planned) (n m : ℕ) (ss : List Points) (xs : Arrivals) (fs : List Feed) (a : AttrSet) (v : ℤ) → AreFeeds n fs → series_at ss m ≡ points_of (shape_at p m) xs → list_all (keeps_set p a ss) fs ≡ true
@@ -108,8 +108,8 @@ more-has_point p n m ss xs (f ∷ fs) a v fit at keeps = by (f.stream == m) refl
     all : Bool → Arrivals
     all b = map (λ f. (kept f.keep a, v)) (cond b (f ∷ filter (λ f. f.stream == m) fs) (filter (λ f. f.stream == m) fs))
 
-    goes : f.stream ≡ m → place p.limit (points_of shape xs) set ≡ set
-    goes e = ap (λ (es : Points). place p.limit es set) (sym (ap (series_at ss) e ∙ at)) ∙ keeps-place p a ss f (keeps-first p a ss f fs keeps)
+    goes : f.stream ≡ m → fed_set p.limit (points_of shape xs) set ≡ set
+    goes e = ap (λ (es : Points). fed_set p.limit es set) (sym (ap (series_at ss) e ∙ at)) ∙ keeps-place p a ss f (keeps-first p a ss f fs keeps)
 
     by : (b : Bool) → (f.stream == m) ≡ b → points_after shape p.limit (points_of shape xs) (arrivals_from m fs a v) ≡ points_of shape (xs ++ arrivals_from m fs a v)
         → points_after shape p.limit (points_of shape xs) (all b) ≡ points_of shape (xs ++ all b)
@@ -151,30 +151,30 @@ recorders_hold r k e fit holds fine =
 -- ---- what a recorder looks at
 
 -- a set goes to its own point where there is room, and where it has one or is the overflow set
-pub place-roomy : (limit : ℕ) (es : Points) (a : AttrSet) → own_count es < limit → place limit es a ≡ a
+pub place-roomy : (limit : ℕ) (es : Points) (a : AttrSet) → own_count es < limit → fed_set limit es a ≡ a
 place-roomy limit es a l = by (has_point es a) refl
   where
-    by : (b : Bool) → has_point es a ≡ b → place limit es a ≡ a
+    by : (b : Bool) → has_point es a ≡ b → fed_set limit es a ≡ a
     by true h = place-has_point limit es a h
     by false h = place-room limit es a h l
 
-pub place-own : (limit : ℕ) (es : Points) (a : AttrSet) → (has_point es a || set_eq overflow_set a) ≡ true → place limit es a ≡ a
+pub place-own : (limit : ℕ) (es : Points) (a : AttrSet) → (has_point es a || set_eq overflow_set a) ≡ true → fed_set limit es a ≡ a
 place-own limit es a h = by (has_point es a) refl h
   where
     either : (b : Bool) → overflow_set ≡ a → (if b then a else overflow_set) ≡ a
     either true e = refl
     either false e = e
 
-    by : (b : Bool) → has_point es a ≡ b → (b || set_eq overflow_set a) ≡ true → place limit es a ≡ a
+    by : (b : Bool) → has_point es a ≡ b → (b || set_eq overflow_set a) ≡ true → fed_set limit es a ≡ a
     by true k o = place-has_point limit es a k
     by false k o = either (has_point es a || nat_lt (own_count es) limit) (same overflow_set a o)
 
 -- a feed keeps its set, by the points of its stream as they were read
 pub keeps-here : (p : Planned) (f : Feed) (a : AttrSet) (ss : List Stored) (s : Stored) → f.stream < length ss → s ≡ get_or ss f.stream s → may_hold (shape_at p f.stream) ≡ true
-    → place p.limit s.entries (kept f.keep a) ≡ kept f.keep a → keeps_set p a (entries_of ss) f ≡ true
+    → fed_set p.limit s.entries (kept f.keep a) ≡ kept f.keep a → keeps_set p a (entries_of ss) f ≡ true
 keeps-here p f a ss s l was up goes =
-    ap (λ (es : Points). may_hold (shape_at p f.stream) && set_eq (place p.limit es (kept f.keep a)) (kept f.keep a)) (entries-read ss f.stream s l was)
-    ∙ ap (λ b. b && set_eq (place p.limit s.entries (kept f.keep a)) (kept f.keep a)) up
+    ap (λ (es : Points). may_hold (shape_at p f.stream) && set_eq (fed_set p.limit es (kept f.keep a)) (kept f.keep a)) (entries-read ss f.stream s l was)
+    ∙ ap (λ b. b && set_eq (fed_set p.limit s.entries (kept f.keep a)) (kept f.keep a)) up
     ∙ ap (λ (x : AttrSet). set_eq x (kept f.keep a)) goes
     ∙ itself (kept f.keep a)
 

@@ -19,7 +19,7 @@ use Rattle.agg_kit.specs.Feeds.{entries_of, series_at, shape_at, leaves_range, f
 use Rattle.agg_kit.specs.Kept.{whole_feed, AreLone}
 use Rattle.agg_kit.specs.Payloads.{is_out_of_range}
 use Rattle.agg_kit.specs.Sound.{AreSound, AreOnce, AllSound}
-use Rattle.agg_kit.specs.Steps.{Stored, bounds_of, has_point, place, payload_after, payload_with_value, step}
+use Rattle.agg_kit.specs.Steps.{Stored, bounds_of, has_point, fed_set, payload_after, payload_with_value, step}
 use Rattle.agg_kit.specs.Tallies.{Points}
 use Rattle.agg_kit.specs.declared.fault.TallyFault.TheVariants as faults
 use Rattle.agg_kit.proofs.Refusals.{Every}
@@ -63,9 +63,9 @@ entries-read (s ∷ ss) (suc i) y l e = entries-read ss i y (omega arith) e
 
 -- whether a feed's point would be out of range, by the points of its stream as they were read
 pub leaves-here : (p : Planned) (f : Feed) (a : AttrSet) (v : ℤ) (ss : List Stored) (old : Stored) → f.stream < length ss → old ≡ get_or ss f.stream old
-    → leaves_range p a v (entries_of ss) f ≡ is_out_of_range (payload_after (shape_at p f.stream) old.entries (place p.limit old.entries (kept f.keep a)) v)
+    → leaves_range p a v (entries_of ss) f ≡ is_out_of_range (payload_after (shape_at p f.stream) old.entries (fed_set p.limit old.entries (kept f.keep a)) v)
 leaves-here p f a v ss old l e =
-    ap (λ (es : Points). is_out_of_range (payload_after (shape_at p f.stream) es (place p.limit es (kept f.keep a)) v)) (entries-read ss f.stream old l e)
+    ap (λ (es : Points). is_out_of_range (payload_after (shape_at p f.stream) es (fed_set p.limit es (kept f.keep a)) v)) (entries-read ss f.stream old l e)
 
 -- there are points for each stream
 pub sound-length : (ss : List Stream) (xs : List Points) → AllSound ss xs → length xs ≡ length ss
@@ -105,19 +105,19 @@ first-later p a v ss f fs h = ap (λ b. option_map (λ (g : Feed). faults.Overfl
 
 -- the same of all feeds, where the points that were read are in range
 pub first-kept : (p : Planned) (a : AttrSet) (v : ℤ) (ss : List Stored) (old : Stored) (f : Feed) (fs all : List Feed) → all ≡ f ∷ fs → f.stream < length ss → old ≡ get_or ss f.stream old
-    → is_out_of_range (payload_after (shape_at p f.stream) old.entries (place p.limit old.entries (kept f.keep a)) v) ≡ false
+    → is_out_of_range (payload_after (shape_at p f.stream) old.entries (fed_set p.limit old.entries (kept f.keep a)) v) ≡ false
     → first_out p a v (entries_of ss) all ≡ first_out p a v (entries_of ss) fs
 first-kept p a v ss old f fs all is l was ok = ap (first_out p a v (entries_of ss)) is ∙ first-later p a v (entries_of ss) f fs (leaves-here p f a v ss old l was ∙ ok)
 
 pub first-rest : (p : Planned) (a : AttrSet) (v : ℤ) (ss : List Stored) (old q : Stored) (f : Feed) (fs all : List Feed) → all ≡ f ∷ fs → f.stream < length ss → old ≡ get_or ss f.stream old → q.entries ≡ old.entries
-    → is_out_of_range (payload_after (shape_at p f.stream) old.entries (place p.limit old.entries (kept f.keep a)) v) ≡ false
+    → is_out_of_range (payload_after (shape_at p f.stream) old.entries (fed_set p.limit old.entries (kept f.keep a)) v) ≡ false
     → first_out p a v (entries_of ss) all ≡ first_out p a v (entries_of (set ss f.stream q)) fs
 first-rest p a v ss old q f fs all is l was same ok =
     first-kept p a v ss old f fs all is l was ok ∙ ap (λ (es : List Points). first_out p a v es fs) (sym (same_entries ss f.stream q old was same))
 
 -- the same of the feeds before the first that keeps a list
 pub whole-kept : (p : Planned) (a : AttrSet) (v : ℤ) (ss : List Stored) (old : Stored) (f : Feed) (fs all : List Feed) → all ≡ f ∷ fs → f.stream < length ss → old ≡ get_or ss f.stream old
-    → is_out_of_range (payload_after (shape_at p f.stream) old.entries (place p.limit old.entries (kept f.keep a)) v) ≡ false
+    → is_out_of_range (payload_after (shape_at p f.stream) old.entries (fed_set p.limit old.entries (kept f.keep a)) v) ≡ false
     → first_out p a v (entries_of ss) (whole_first fs) ≡ None → first_out p a v (entries_of ss) (whole_first all) ≡ None
 whole-kept p a v ss old f fs all is l was ok h = ap (λ (gs : List Feed). first_out p a v (entries_of ss) (whole_first gs)) is ∙ by (keeps_all f.keep)
   where
@@ -126,7 +126,7 @@ whole-kept p a v ss old f fs all is l was ok h = ap (λ (gs : List Feed). first_
     by false = refl
 
 pub whole-rest : (p : Planned) (a : AttrSet) (v : ℤ) (ss : List Stored) (old q : Stored) (f : Feed) (fs all : List Feed) → all ≡ f ∷ fs → f.stream < length ss → old ≡ get_or ss f.stream old → q.entries ≡ old.entries
-    → is_out_of_range (payload_after (shape_at p f.stream) old.entries (place p.limit old.entries (kept f.keep a)) v) ≡ false
+    → is_out_of_range (payload_after (shape_at p f.stream) old.entries (fed_set p.limit old.entries (kept f.keep a)) v) ≡ false
     → first_out p a v (entries_of (set ss f.stream q)) (whole_first fs) ≡ None → first_out p a v (entries_of ss) (whole_first all) ≡ None
 whole-rest p a v ss old q f fs all is l was same ok h =
     whole-kept p a v ss old f fs all is l was ok (ap (λ (es : List Points). first_out p a v es (whole_first fs)) (sym (same_entries ss f.stream q old was same)) ∙ h)
@@ -141,9 +141,9 @@ whole-listed p a v ss f fs all is n =
 
 -- where the point is that a feed reaches, by the limit and the set that it was looked for under
 pub found-at : (p : Planned) (b : AttrSet) (es : Points) (limit : ℕ) (set : AttrSet) (found at : Option ℕ) → limit ≡ p.limit → set ≡ b → found ≡ at
-    → found ≡ position (set_eq (place limit es set)) (keys_of es) → position (set_eq (place p.limit es b)) (keys_of es) ≡ at
+    → found ≡ position (set_eq (fed_set limit es set)) (keys_of es) → position (set_eq (fed_set p.limit es b)) (keys_of es) ≡ at
 found-at p b es limit set found at e f is h =
-    ap (λ n. position (set_eq (place n es b)) (keys_of es)) (sym e) ∙ ap (λ x. position (set_eq (place limit es x)) (keys_of es)) (sym f) ∙ sym h ∙ is
+    ap (λ n. position (set_eq (place n es b)) (keys_of es)) (sym e) ∙ ap (λ x. position (set_eq (fed_set limit es x)) (keys_of es)) (sym f) ∙ sym h ∙ is
 
 -- the same of a step
 pub step-along : (es xs : Points) (v : ℤ) (s s' : Shape) (n n' : ℕ) (b b' : AttrSet) → s ≡ s' → n ≡ n' → b ≡ b' → xs ≡ step s n es b v → xs ≡ step s' n' es b' v
@@ -187,9 +187,9 @@ same-read xs i x y l e h = read xs i x y (read-there xs i x l e) h
 
 -- where the point of a set is in a stream that is read again, by where it was found as the stream was read first
 pub found-again : (p : Planned) (b : AttrSet) (ss : List Stored) (m : ℕ) (first again : Stored) (limit : ℕ) (set : AttrSet) (found : Option ℕ) (i : ℕ) → m < length ss → first ≡ get_or ss m first → again ≡ get_or ss m again
-    → limit ≡ p.limit → set ≡ b → found ≡ Some i → found ≡ position (set_eq (place limit first.entries set)) (keys_of first.entries) → position (set_eq (place p.limit again.entries b)) (keys_of again.entries) ≡ Some i
+    → limit ≡ p.limit → set ≡ b → found ≡ Some i → found ≡ position (set_eq (fed_set limit first.entries set)) (keys_of first.entries) → position (set_eq (fed_set p.limit again.entries b)) (keys_of again.entries) ≡ Some i
 found-again p b ss m first again limit set found i l was now e f is h =
-    subst (λ (s : Stored). position (set_eq (place p.limit s.entries b)) (keys_of s.entries) ≡ Some i) (sym (same-read ss m first again l was now)) (found-at p b first.entries limit set found (Some i) e f is h)
+    subst (λ (s : Stored). position (set_eq (fed_set p.limit s.entries b)) (keys_of s.entries) ≡ Some i) (sym (same-read ss m first again l was now)) (found-at p b first.entries limit set found (Some i) e f is h)
 
 -- a list of no feeds
 pub no-feeds : (fs : List Feed) → (length fs == 0) ≡ true → fs ≡ []

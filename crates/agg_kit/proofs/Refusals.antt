@@ -16,7 +16,7 @@ use Rattle.agg_kit.specs.Measuring.{points_after, series_after, after_measure, c
 use Rattle.agg_kit.specs.Payloads.{payload_of, is_out_of_range}
 use Rattle.agg_kit.specs.Refusals.{is_negative_for, overflows, first_refusal}
 use Rattle.agg_kit.specs.Rounds.{values_of, round, StandsFor}
-use Rattle.agg_kit.specs.Steps.{has_point, place, payload_at, payload_after, step}
+use Rattle.agg_kit.specs.Steps.{has_point, fed_set, payload_at, payload_after, step}
 use Rattle.agg_kit.specs.Tallies.{Points, Tallied}
 use Rattle.agg_kit.specs.declared.fault.TallyFault.{TallyFault}
 use Rattle.agg_kit.specs.declared.fault.TallyFault.TheVariants as faults
@@ -139,8 +139,8 @@ early-is t e whole = ap (fault_into t e) (whole_first-whole (feeds_of t.plan e.i
 leaves-is : (t : Tallied) (e : Entry) (f : Feed) → f.stream < length t.plan.streams → BringsOne (feeds_of t.plan e.instrument) e.attrs e.value f
     → leaves_range t.plan e.attrs e.value t.series f ≡ is_over (after_measure t e) e.attrs f
 leaves-is t e f l one =
-    ap (λ (x : Shape). is_out_of_range (payload_after x es (place p.limit es b) e.value)) (shape-is p m x.0 x.1)
-    ∙ ap is_out_of_range (sym (payload-put shape es (place p.limit es b) (payload_after shape es (place p.limit es b) e.value)))
+    ap (λ (x : Shape). is_out_of_range (payload_after x es (fed_set p.limit es b) e.value)) (shape-is p m x.0 x.1)
+    ∙ ap is_out_of_range (sym (payload-put shape es (fed_set p.limit es b) (payload_after shape es (fed_set p.limit es b) e.value)))
     ∙ ap (λ (c : AttrSet). is_out_of_range (payload_at shape (step shape p.limit es b e.value) c)) (sym (counted-step shape p.limit es b e.value))
     ∙ ap (λ (ns : Points). is_out_of_range (payload_at shape ns (counted_under ns b))) (sym now)
     ∙ sym (ap (λ o. option_map_or (λ (s : Stream). is_out_of_range (payload_at s.shape (series_at (series_after t e) m) (counted_under (series_at (series_after t e) m) b))) o false) x.1)

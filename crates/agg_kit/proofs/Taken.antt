@@ -29,7 +29,7 @@ use Rattle.agg_kit.specs.Recorders.{Recorded, tally_in, recorder_after, empty_re
 use Rattle.agg_kit.specs.Refusals.{is_negative_for, overflows, first_refusal}
 use Rattle.agg_kit.specs.Rounds.{values_of, points_of, StandsFor}
 use Rattle.agg_kit.specs.Stamps.{Stamped, stamps_at, stamped_of, stamps_of, absorb_stamped}
-use Rattle.agg_kit.specs.Steps.{place}
+use Rattle.agg_kit.specs.Steps.{fed_set}
 use Rattle.agg_kit.specs.Tallies.{Points, Tallied}
 use Rattle.agg_kit.specs.Taken.{AreTaken, FeedsRise, Rises, AreRecorded, HasRecorded, RecordersHave, AbsorbedAreTaken}
 use Rattle.agg_kit.specs.declared.fault.TallyFault.{TallyFault}
@@ -377,7 +377,7 @@ put-in es b q all fine a x is = by (set_eq a b) refl
 fits-in : (limit : ℕ) (es ms : Points) → InPoints es → fits limit es ms ≡ true → InPoints (absorb limit es ms)
 fits-in limit es [] all h = all
 fits-in limit es (e ∷ ms) all h =
-    let b = place limit es e.0 in
+    let b = fed_set limit es e.0 in
     let k = both (not (is_out_of_range (point_with es b e.1))) (fits limit (with_point limit es e) ms) h in
     fits-in limit (with_point limit es e) ms (put-in es b (point_with es b e.1) all (not-true (is_out_of_range (point_with es b e.1)) k.0)) k.1
 

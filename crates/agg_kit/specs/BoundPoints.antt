@@ -9,13 +9,13 @@ use Rattle.agg_kit.specs.Entries.{Entry, entry_of}
 use Rattle.agg_kit.specs.Feeding.{set_eq}
 use Rattle.agg_kit.specs.Feeds.{entries_of, series_at}
 use Rattle.agg_kit.specs.Measuring.{after_measure}
-use Rattle.agg_kit.specs.Steps.{Stored, place}
+use Rattle.agg_kit.specs.Steps.{Stored, fed_set}
 use Rattle.agg_kit.specs.Tallies.{Points, Tallied}
 use Rattle.agg_kit.specs.declared.bound.Bound.{Bound}
 
 -- where the point stands that a value of the set would go to
 abbrev pub place_of : ℕ → Points → AttrSet → Option ℕ
-place_of limit es a = position (set_eq (place limit es a)) (keys_of es)
+place_of limit es a = position (set_eq (fed_set limit es a)) (keys_of es)
 
 -- the points that the feeds' values of a set would go to stand at these places
 abbrev pub AreAt : Planned → List Feed → List ℕ → AttrSet → List Points → Type 0

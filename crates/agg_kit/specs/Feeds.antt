@@ -11,7 +11,7 @@ use Rattle.plan_kit.specs.Plans.{Planned, feeds_of, stream_of}
 use Rattle.plan_kit.specs.declared.feed.Feed.{Feed}
 use Rattle.agg_kit.specs.Entries.{Entry}
 use Rattle.agg_kit.specs.Payloads.{is_out_of_range}
-use Rattle.agg_kit.specs.Steps.{Stored, has_point, place, payload_after, step}
+use Rattle.agg_kit.specs.Steps.{Stored, has_point, fed_set, payload_after, step}
 use Rattle.agg_kit.specs.Tallies.{Points, Tallied}
 use Rattle.agg_kit.specs.declared.fault.TallyFault.{TallyFault}
 use Rattle.agg_kit.specs.declared.fault.TallyFault.TheVariants as faults
@@ -31,7 +31,7 @@ shape_at p m = option_map_or (λ s. s.shape) (stream_of p m) shapes.Gauge
 abbrev pub leaves_range : Planned → AttrSet → ℤ → List Points → Feed → Bool
 leaves_range p a v ss f =
     let es = series_at ss f.stream in
-    is_out_of_range (payload_after (shape_at p f.stream) es (place p.limit es (kept f.keep a)) v)
+    is_out_of_range (payload_after (shape_at p f.stream) es (fed_set p.limit es (kept f.keep a)) v)
 
 -- the refusal of the first feed whose point would be out of range
 abbrev pub first_out : Planned → AttrSet → ℤ → List Points → List Feed → Option TallyFault
@@ -63,7 +63,7 @@ AllWhole (f ∷ fs) = (f.keep ≡ All) × AllWhole fs
 abbrev pub AllHeld : Planned → List Feed → AttrSet → List Points → Type 0
 AllHeld p [] a ss = Unit {0}
 AllHeld p (f ∷ fs) a ss =
-    (f.keep ≡ All) × (has_point (series_at ss f.stream) (place p.limit (series_at ss f.stream) a) ≡ true) × AllHeld p fs a ss
+    (f.keep ≡ All) × (has_point (series_at ss f.stream) (fed_set p.limit (series_at ss f.stream) a) ≡ true) × AllHeld p fs a ss
 
 -- no recording like this one takes memory: each feed of its instrument keeps all keys, and its stream has the point
 abbrev pub IsHeld : Tallied → Entry → Type 0

@@ -16,7 +16,7 @@ use Rattle.agg_kit.specs.Feeds.{entries_of, series_at, shape_at}
 use Rattle.agg_kit.specs.Measuring.{fault_of, series_after}
 use Rattle.agg_kit.specs.Rounds.{points_of, round, StandsFor}
 use Rattle.agg_kit.specs.Stamps.{Stamped, absorb_stamped, can_stamp, stamps_after, stamps_of}
-use Rattle.agg_kit.specs.Steps.{Stored, place}
+use Rattle.agg_kit.specs.Steps.{Stored, fed_set}
 use Rattle.agg_kit.specs.Tallies.{Points, Tallied}
 use Rattle.agg_kit.specs.declared.bound.Bound.{Bound}
 use Rattle.agg_kit.specs.declared.fault.TallyFault.{TallyFault}
@@ -66,7 +66,7 @@ may_hold (shapes.Histogram bounds) = true
 
 -- a recorder may hold points of a feed's stream, and the set that the feed keeps has its own point there, or room for one
 abbrev pub keeps_set : Planned → AttrSet → List Points → Feed → Bool
-keeps_set p a ss f = let es = series_at ss f.stream in may_hold (shape_at p f.stream) && set_eq (place p.limit es (kept f.keep a)) (kept f.keep a)
+keeps_set p a ss f = let es = series_at ss f.stream in may_hold (shape_at p f.stream) && set_eq (fed_set p.limit es (kept f.keep a)) (kept f.keep a)
 
 -- and so it is at each feed of a recording
 abbrev pub keeps_sets : Tallied → Entry → Bool

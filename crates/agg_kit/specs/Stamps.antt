@@ -14,7 +14,7 @@ use Rattle.agg_kit.specs.Entries.{Entry, Arrivals, arrivals}
 use Rattle.agg_kit.specs.Feeding.{set_eq, overflow_set, sets_of, distinct}
 use Rattle.agg_kit.specs.Feeds.{series_at, shape_at}
 use Rattle.agg_kit.specs.Laws.{is_gauge}
-use Rattle.agg_kit.specs.Steps.{has_point, place}
+use Rattle.agg_kit.specs.Steps.{has_point, fed_set}
 use Rattle.agg_kit.specs.Tallies.{Points}
 
 -- of a gauge's points: how many values came, and of each set, at its point's place, which of them was its last, 1 for the first
@@ -80,7 +80,7 @@ abbrev pub newest_over : ℕ → Points → Points → List ℕ → Option (ℕ 
 newest_over limit es [] ns best = best
 newest_over limit es (e ∷ ms) [] best = best
 newest_over limit es (e ∷ ms) (n ∷ ns) best =
-    newest_over limit (with_point limit es e) ms ns (cond (set_eq (place limit es e.0) overflow_set) (newer best (n, e.1)) best)
+    newest_over limit (with_point limit es e) ms ns (cond (set_eq (fed_set limit es e.0) overflow_set) (newer best (n, e.1)) best)
 
 -- the points with this payload under the overflow set, where that has a point
 abbrev pub put_over : Points → Option (ℕ × Payload) → Points

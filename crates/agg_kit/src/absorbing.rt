@@ -11,7 +11,7 @@ ghost use Rattle.agg_kit.specs.Payloads.{is_out_of_range};
 ghost use Rattle.agg_kit.specs.Recorders.{series_with, first_unfit};
 ghost use Rattle.agg_kit.specs.Sound.{AreOnce};
 ghost use Rattle.agg_kit.specs.Stamps.{newer, newest_over, stamped_in};
-ghost use Rattle.agg_kit.specs.Steps.{has_point, own_count, place};
+ghost use Rattle.agg_kit.specs.Steps.{has_point, own_count, fed_set};
 ghost use Rattle.agg_kit.specs.Tallies.{Points};
 ghost use Rattle.agg_kit.specs.declared.fault.TallyFault.TheVariants as faults;
 
@@ -55,7 +55,7 @@ impl Series {
     ) -> bool
         requires { overflow.now ≡ overflow_set }
         ensures fits { (es : Points) → Walks walk.old self.now.entries es set.now → TakesSound es payload.now
-            → is_out_of_range (point_with es (place limit es set.now) payload.now) ≡ not result }
+            → is_out_of_range (point_with es (fed_set limit es set.now) payload.now) ≡ not result }
         ensures goes { (es : Points) → Walks walk.old self.now.entries es set.now → TakesSound es payload.now → result ≡ true
             → Knows walk.new (with_point limit es (set.now, payload.now)) }
     {
@@ -102,7 +102,7 @@ impl Series {
     // Whether the set of a point that comes in goes under the overflow set. `own` is how many sets have points of their own.
     fn goes_over(&self, own: &mut u64, limit: u64, overflow: &AttrSet, set: &AttrSet) -> bool
         requires { overflow.now ≡ overflow_set }
-        ensures over { (es : Points) → Counts own.old self.now.entries es set.now → result ≡ set_eq (place limit es set.now) overflow_set }
+        ensures over { (es : Points) → Counts own.old self.now.entries es set.now → result ≡ set_eq (fed_set limit es set.now) overflow_set }
         ensures own { (es : Points) (p : Payload) → Counts own.old self.now.entries es set.now → own.new ≡ own_count (with_point limit es (set.now, p)) }
     {
         if *set == *overflow {
@@ -179,7 +179,7 @@ impl Series {
         requires spare { has_point self.old.entries overflow_set ≡ false → spare.old ≡ overflow_set }
         requires room { 0 < self.old.room }
         requires sound { TakesSound self.old.entries payload }
-        requires fits { is_out_of_range (point_with self.old.entries (place limit self.old.entries set) payload) ≡ false }
+        requires fits { is_out_of_range (point_with self.old.entries (fed_set limit self.old.entries set) payload) ≡ false }
         ensures value { self.new.entries ≡ with_point limit self.old.entries (set, payload) }
         ensures room { self.old.room ≤ self.new.room + 1 }
         ensures spare { has_point self.new.entries overflow_set ≡ false → spare.new ≡ overflow_set }

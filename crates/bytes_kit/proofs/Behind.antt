@@ -1,7 +1,7 @@
 -- Keys and cells behind others: what is written, and bytes that do not begin with one.
 use Rattle.std.proofs.Common.{◌≡◌, ◌≢◌, ℕ, ◌-◌, List, [], ◌∷◌, ◌++◌, length, map, refl, sym, ap, subst, ◌∙◌, append_assoc, arith, Option, Some, None}
 use Rattle.std.specs.List.{AllByRecursion}
-use Rattle.gateway_kit.specs.Walks.{entry_of_ref}
+use Rattle.gateway_kit.specs.Walks.{keyed_cell_of_ref}
 use Rattle.gateway_kit.specs.declared.points.PointRef.{PointRef}
 use Rattle.std.proofs.lemmas.List.{map-append, append-nil}
 use Rattle.std.specs.Option.{option_map}
@@ -109,35 +109,35 @@ earlier_more p q before es e is after =
 -- ---- walks
 
 -- points that were lent and those that are left, when one more is lent
-pub lent_more : (points : List Entry) (yielded : List PointRef) (p : PointRef) (left now : List Entry) → points ≡ map entry_of_ref yielded ++ left → left ≡ entry_of_ref p ∷ now → points ≡ map entry_of_ref (yielded ++ p ∷ []) ++ now
+pub lent_more : (points : List Entry) (yielded : List PointRef) (p : PointRef) (left now : List Entry) → points ≡ map keyed_cell_of_ref yielded ++ left → left ≡ keyed_cell_of_ref p ∷ now → points ≡ map keyed_cell_of_ref (yielded ++ p ∷ []) ++ now
 lent_more points yielded p left now all step =
-    all ∙ ap (λ (l : List Entry). map entry_of_ref yielded ++ l) step ∙ sym (append_assoc (map entry_of_ref yielded) (entry_of_ref p ∷ []) now)
-    ∙ ap (λ (l : List Entry). l ++ now) (sym (map-append entry_of_ref yielded (p ∷ [])))
+    all ∙ ap (λ (l : List Entry). map keyed_cell_of_ref yielded ++ l) step ∙ sym (append_assoc (map keyed_cell_of_ref yielded) (keyed_cell_of_ref p ∷ []) now)
+    ∙ ap (λ (l : List Entry). l ++ now) (sym (map-append keyed_cell_of_ref yielded (p ∷ [])))
 
-lent_snoc : (yielded : List PointRef) (p : PointRef) → map entry_of_ref (yielded ++ p ∷ []) ≡ map entry_of_ref yielded ++ entry_of_ref p ∷ []
-lent_snoc yielded p = map-append entry_of_ref yielded (p ∷ [])
+lent_snoc : (yielded : List PointRef) (p : PointRef) → map keyed_cell_of_ref (yielded ++ p ∷ []) ≡ map keyed_cell_of_ref yielded ++ keyed_cell_of_ref p ∷ []
+lent_snoc yielded p = map-append keyed_cell_of_ref yielded (p ∷ [])
 
 -- one point more is written
-pub lent_written : (front out new : List ℕ) (yielded : List PointRef) (p : PointRef) (x : Earlier) → out ≡ front ++ forms_behind entry past_entry nothing_earlier (map entry_of_ref yielded) → new ≡ out ++ entry x (entry_of_ref p) → x ≡ past_all past_entry nothing_earlier (map entry_of_ref yielded) → new ≡ front ++ forms_behind entry past_entry nothing_earlier (map entry_of_ref (yielded ++ p ∷ []))
+pub lent_written : (front out new : List ℕ) (yielded : List PointRef) (p : PointRef) (x : Earlier) → out ≡ front ++ forms_behind entry past_entry nothing_earlier (map keyed_cell_of_ref yielded) → new ≡ out ++ entry x (keyed_cell_of_ref p) → x ≡ past_all past_entry nothing_earlier (map keyed_cell_of_ref yielded) → new ≡ front ++ forms_behind entry past_entry nothing_earlier (map keyed_cell_of_ref (yielded ++ p ∷ []))
 lent_written front out new yielded p x so_far step same =
-    written_more entry past_entry nothing_earlier x front out new (map entry_of_ref yielded) (entry_of_ref p) so_far same step
+    written_more entry past_entry nothing_earlier x front out new (map keyed_cell_of_ref yielded) (keyed_cell_of_ref p) so_far same step
     ∙ ap (λ (es : List Entry). front ++ forms_behind entry past_entry nothing_earlier es) (sym (lent_snoc yielded p))
 
 -- and what came once it was
-pub lent_earlier : (q : Past) (yielded : List PointRef) (p : PointRef) (x : Earlier) → q ≡ past_key x (entry_of_ref p).0 → x ≡ past_all past_entry nothing_earlier (map entry_of_ref yielded) → (q, Some (entry_of_ref p).0) ≡ past_all past_entry nothing_earlier (map entry_of_ref (yielded ++ p ∷ []))
+pub lent_earlier : (q : Past) (yielded : List PointRef) (p : PointRef) (x : Earlier) → q ≡ past_key x (keyed_cell_of_ref p).0 → x ≡ past_all past_entry nothing_earlier (map keyed_cell_of_ref yielded) → (q, Some (keyed_cell_of_ref p).0) ≡ past_all past_entry nothing_earlier (map keyed_cell_of_ref (yielded ++ p ∷ []))
 lent_earlier q yielded p x after same =
-    (λ i. (after i, Some (entry_of_ref p).0)) ∙ ap (λ (y : Earlier). past_entry y (entry_of_ref p)) same
-    ∙ sym (past_more entry past_entry nothing_earlier (map entry_of_ref yielded) (entry_of_ref p))
+    (λ i. (after i, Some (keyed_cell_of_ref p).0)) ∙ ap (λ (y : Earlier). past_entry y (keyed_cell_of_ref p)) same
+    ∙ sym (past_more entry past_entry nothing_earlier (map keyed_cell_of_ref yielded) (keyed_cell_of_ref p))
     ∙ ap (λ (es : List Entry). past_all past_entry nothing_earlier es) (sym (lent_snoc yielded p))
 
-pub last_lent : (yielded : List PointRef) (p : PointRef) → Some (entry_of_ref p).0 ≡ last_key (map entry_of_ref (yielded ++ p ∷ []))
-last_lent yielded p = sym (ap last_key (lent_snoc yielded p) ∙ last_more None (map entry_of_ref yielded) (entry_of_ref p))
+pub last_lent : (yielded : List PointRef) (p : PointRef) → Some (keyed_cell_of_ref p).0 ≡ last_key (map keyed_cell_of_ref (yielded ++ p ∷ []))
+last_lent yielded p = sym (ap last_key (lent_snoc yielded p) ∙ last_more None (map keyed_cell_of_ref yielded) (keyed_cell_of_ref p))
 
-pub all_lent : (yielded : List PointRef) (p : PointRef) (before : Option Key) → before ≡ last_key (map entry_of_ref yielded) → AllByRecursion IsEntry (map entry_of_ref yielded) → IsKeyRest (common before (entry_of_ref p).0) (entry_of_ref p).0 → IsCell (entry_of_ref p).1 → AllByRecursion IsEntry (map entry_of_ref (yielded ++ p ∷ []))
+pub all_lent : (yielded : List PointRef) (p : PointRef) (before : Option Key) → before ≡ last_key (map keyed_cell_of_ref yielded) → AllByRecursion IsEntry (map keyed_cell_of_ref yielded) → IsKeyRest (common before (keyed_cell_of_ref p).0) (keyed_cell_of_ref p).0 → IsCell (keyed_cell_of_ref p).1 → AllByRecursion IsEntry (map keyed_cell_of_ref (yielded ++ p ∷ []))
 all_lent yielded p before same all rest fit =
-    let es = map entry_of_ref yielded in
-    let whole : IsKey (entry_of_ref p).0 = key_fits es (entry_of_ref p).0 all (subst (λ (b : Option Key). IsKeyRest (common b (entry_of_ref p).0) (entry_of_ref p).0) same rest) in
-    subst (AllByRecursion IsEntry) (sym (lent_snoc yielded p)) (all_more IsEntry es (entry_of_ref p) all (whole, fit))
+    let es = map keyed_cell_of_ref yielded in
+    let whole : IsKey (keyed_cell_of_ref p).0 = key_fits es (keyed_cell_of_ref p).0 all (subst (λ (b : Option Key). IsKeyRest (common b (keyed_cell_of_ref p).0) (keyed_cell_of_ref p).0) same rest) in
+    subst (AllByRecursion IsEntry) (sym (lent_snoc yielded p)) (all_more IsEntry es (keyed_cell_of_ref p) all (whole, fit))
 
 -- all points are lent
 all_of : (points seen left : List Entry) → points ≡ seen ++ left → left ≡ [] → seen ≡ points

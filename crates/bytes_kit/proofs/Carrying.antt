@@ -8,8 +8,8 @@ use Rattle.gossip_kit.specs.declared.message.Body.TheVariants as messages
 use Rattle.bytes_kit.specs.Fits.{IsNumber}
 use Rattle.bytes_kit.specs.Format.{varint}
 use Rattle.bytes_kit.specs.Laws.{varint_code}
-use Rattle.bytes_kit.specs.MessageFits.{IsCarried, IsCells, IsId, IsListed, IsMessageParts}
-use Rattle.bytes_kit.specs.Messages.{body_bytes, body_bytes_of, cells, message_parts}
+use Rattle.bytes_kit.specs.MessageFits.{IsCarried, IsCells, IsId, IsListed, IsMessageFields}
+use Rattle.bytes_kit.specs.Messages.{body_bytes, body_bytes_of, cells, message_fields}
 use Rattle.bytes_kit.specs.Reading.{NoneAt}
 use Rattle.bytes_kit.specs.declared.carried.Carried.TheVariants as bodies
 use Rattle.bytes_kit.proofs.Soundness.{sorted_of}
@@ -41,13 +41,13 @@ delta_fits b number g is small fit = subst (λ (x : Body). IsCarried (body_bytes
 -- ---- senders and receivers
 
 -- a sender, and then no receiver
-pub no_receiver : (bytes mid : List ℕ) (sender : ℕ) → bytes ≡ varint sender ++ mid → NoneAt varint IsId mid → NoneAt message_parts IsMessageParts bytes
+pub no_receiver : (bytes mid : List ℕ) (sender : ℕ) → bytes ≡ varint sender ++ mid → NoneAt varint IsId mid → NoneAt message_fields IsMessageFields bytes
 no_receiver bytes mid sender is none s rest fit e =
     let both = varint_code sender s.0 mid ((varint s.1 ++ body_bytes s.2) ++ rest) (sym is ∙ e ∙ append_assoc (varint s.0) (varint s.1 ++ body_bytes s.2) rest) in
     none s.1 (body_bytes s.2 ++ rest) fit.1.0 (both.1 ∙ append_assoc (varint s.1) (body_bytes s.2) rest)
 
 -- both, and then no body
-pub no_body : (bytes mid last : List ℕ) (sender receiver : ℕ) → bytes ≡ varint sender ++ mid → mid ≡ varint receiver ++ last → NoneAt body_bytes IsCarried last → NoneAt message_parts IsMessageParts bytes
+pub no_body : (bytes mid last : List ℕ) (sender receiver : ℕ) → bytes ≡ varint sender ++ mid → mid ≡ varint receiver ++ last → NoneAt body_bytes IsCarried last → NoneAt message_fields IsMessageFields bytes
 no_body bytes mid last sender receiver is at none s rest fit e =
     let both = varint_code sender s.0 mid ((varint s.1 ++ body_bytes s.2) ++ rest) (sym is ∙ e ∙ append_assoc (varint s.0) (varint s.1 ++ body_bytes s.2) rest) in
     let more = varint_code receiver s.1 last (body_bytes s.2 ++ rest) (sym at ∙ both.1 ∙ append_assoc (varint s.1) (body_bytes s.2) rest) in

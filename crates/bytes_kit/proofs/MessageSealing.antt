@@ -1,20 +1,20 @@
--- Messages of the same parts, and what is known of a message that is read.
+-- Messages of the same fields, and what is known of a message that is read.
 use Rattle.std.proofs.Common.{◌≡◌, ℕ, List, refl, sym, ap, subst, ◌∙◌, Option, Some, None}
 use Rattle.std.specs.FinMap.{entries, empty, get, get-empty, same_entries_map}
-use Rattle.gossip_kit.specs.Views.{MessageView}
+use Rattle.gossip_kit.specs.Views.{MessageModel}
 use Rattle.point_kit.specs.Exports.{Points}
 use Rattle.point_kit.specs.Orders.{key_cmp}
 use Rattle.point_kit.specs.declared.cell.Cell.{Cell}
 use Rattle.point_kit.specs.declared.export_fault.ExportFault.{ExportFault}
 use Rattle.point_kit.specs.declared.payload.Payload.{Payload}
 use Rattle.bytes_kit.specs.MessageFits.{IsOneOf, IsSoundPoints, carried_fault}
-use Rattle.bytes_kit.specs.Messages.{MessageParts, message_parts, body_bytes_of, parts_of_message, bytes_of_message, bytes_of_message_parts, message_head}
-use Rattle.bytes_kit.specs.MessageLaws.{message_parts_code}
+use Rattle.bytes_kit.specs.Messages.{MessageFields, message_fields, body_bytes_of, fields_of_message, bytes_of_message, bytes_of_message_fields, message_head}
+use Rattle.bytes_kit.specs.MessageLaws.{message_fields_code}
 use Rattle.bytes_kit.specs.declared.carried.Carried.{Carried}
-use Rattle.bytes_kit.proofs.Sealing.{same_parts}
+use Rattle.bytes_kit.proofs.Sealing.{same_fields}
 use Rattle.bytes_kit.proofs.Soundness.{sound_points, points_sound}
 
-abbrev view : ℕ → ℕ → Points → Option ℕ → Option ℕ → MessageView
+abbrev view : ℕ → ℕ → Points → Option ℕ → Option ℕ → MessageModel
 view from to points delta ack = record { from = from; to = to; points = points; delta = delta; ack = ack }
 
 -- bodies of the same form are one
@@ -29,15 +29,15 @@ same_body p q None e None (Some m) h k same = absurd cc
 same_body p q (Some m) None None None h k same = absurd cc
 same_body p q None (Some m) None None h k same = absurd cc
 
--- and messages of the same parts
-pub same_message : (m n : MessageView) → IsOneOf m.points m.delta m.ack → IsOneOf n.points n.delta n.ack → parts_of_message m ≡ parts_of_message n → m ≡ n
+-- and messages of the same fields
+pub same_message : (m n : MessageModel) → IsOneOf m.points m.delta m.ack → IsOneOf n.points n.delta n.ack → fields_of_message m ≡ fields_of_message n → m ≡ n
 same_message m n h k same =
-    let both = same_body m.points n.points m.delta n.delta m.ack n.ack h k (ap (λ (s : MessageParts). s.2) same) in
+    let both = same_body m.points n.points m.delta n.delta m.ack n.ack h k (ap (λ (s : MessageFields). s.2) same) in
     λ i. view ((same i).0) ((same i).1) (both.0 i) (both.1.0 i) (both.1.1 i)
 
--- no two parts have the same bytes
-pub same_message_parts : (bytes : List ℕ) (x y : MessageParts) → bytes ≡ bytes_of_message_parts x → bytes ≡ bytes_of_message_parts y → x ≡ y
-same_message_parts = same_parts message_head message_parts message_parts_code
+-- no two fields have the same bytes
+pub same_message_fields : (bytes : List ℕ) (x y : MessageFields) → bytes ≡ bytes_of_message_fields x → bytes ≡ bytes_of_message_fields y → x ≡ y
+same_message_fields = same_fields message_head message_fields message_fields_code
 
 not_in_empty : (o : Option (Cell Payload)) (c : Cell Payload) → o ≡ None → o ≡ Some c → ⊥
 not_in_empty o c none some = cc
@@ -56,25 +56,25 @@ no_fault points (Some n) None sound = points_sound points sound
 no_fault points None None sound = points_sound points sound
 
 -- and in a sound message none is found
-pub message_sound : (m : MessageView) → IsSoundPoints m.points → carried_fault (parts_of_message m).2 ≡ None
+pub message_sound : (m : MessageModel) → IsSoundPoints m.points → carried_fault (fields_of_message m).2 ≡ None
 message_sound m sound = no_fault m.points m.delta m.ack sound
 
 no_some : (o : Option ExportFault) (f : ExportFault) → o ≡ None → o ≡ Some f → ⊥
 no_some o f none some = cc
 
--- so parts in which one is found are those of no sound message
-pub faulty : (x : MessageParts) (f : ExportFault) (m : MessageView) → IsSoundPoints m.points → carried_fault x.2 ≡ Some f → x ≡ parts_of_message m → ⊥
-faulty x f m sound some same = no_some (carried_fault x.2) f (ap (λ (s : MessageParts). carried_fault s.2) same ∙ message_sound m sound) some
+-- so fields in which one is found are those of no sound message
+pub faulty : (x : MessageFields) (f : ExportFault) (m : MessageModel) → IsSoundPoints m.points → carried_fault x.2 ≡ Some f → x ≡ fields_of_message m → ⊥
+faulty x f m sound some same = no_some (carried_fault x.2) f (ap (λ (s : MessageFields). carried_fault s.2) same ∙ message_sound m sound) some
 
-abbrev three : ℕ → ℕ → Carried → MessageParts
+abbrev three : ℕ → ℕ → Carried → MessageFields
 three from to c = (from, to, c)
 
 -- what is known of a message whose body carries this
-pub view_bytes : (m : MessageView) (bytes : List ℕ) (from to : ℕ) (points : Points) (d a : Option ℕ) (c : Carried) → m ≡ view from to points d a → body_bytes_of points d a ≡ c → bytes ≡ bytes_of_message_parts (from, to, c) → bytes_of_message m ≡ bytes
-view_bytes m bytes from to points d a c is_view is has = ap bytes_of_message is_view ∙ ap bytes_of_message_parts (ap (three from to) is) ∙ sym has
+pub view_bytes : (m : MessageModel) (bytes : List ℕ) (from to : ℕ) (points : Points) (d a : Option ℕ) (c : Carried) → m ≡ view from to points d a → body_bytes_of points d a ≡ c → bytes ≡ bytes_of_message_fields (from, to, c) → bytes_of_message m ≡ bytes
+view_bytes m bytes from to points d a c is_view is has = ap bytes_of_message is_view ∙ ap bytes_of_message_fields (ap (three from to) is) ∙ sym has
 
-pub view_sound : (m : MessageView) (from to : ℕ) (points : Points) (d a : Option ℕ) (c : Carried) → m ≡ view from to points d a → IsOneOf points d a → body_bytes_of points d a ≡ c → carried_fault c ≡ None → IsSoundPoints m.points
-view_sound m from to points d a c is_view h is none = subst (λ (x : MessageView). IsSoundPoints x.points) (sym is_view) (sound_carried points d a h (ap carried_fault is ∙ none))
+pub view_sound : (m : MessageModel) (from to : ℕ) (points : Points) (d a : Option ℕ) (c : Carried) → m ≡ view from to points d a → IsOneOf points d a → body_bytes_of points d a ≡ c → carried_fault c ≡ None → IsSoundPoints m.points
+view_sound m from to points d a c is_view h is none = subst (λ (x : MessageModel). IsSoundPoints x.points) (sym is_view) (sound_carried points d a h (ap carried_fault is ∙ none))
 
-pub view_is : (m n : MessageView) (from to : ℕ) (points : Points) (d a : Option ℕ) (c : Carried) → m ≡ view from to points d a → IsOneOf points d a → body_bytes_of points d a ≡ c → IsOneOf n.points n.delta n.ack → three from to c ≡ parts_of_message n → m ≡ n
+pub view_is : (m n : MessageModel) (from to : ℕ) (points : Points) (d a : Option ℕ) (c : Carried) → m ≡ view from to points d a → IsOneOf points d a → body_bytes_of points d a ≡ c → IsOneOf n.points n.delta n.ack → three from to c ≡ fields_of_message n → m ≡ n
 view_is m n from to points d a c is_view h is k same = is_view ∙ same_message (view from to points d a) n h k (ap (three from to) is ∙ same)

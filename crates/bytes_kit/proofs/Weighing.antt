@@ -5,7 +5,7 @@ use Rattle.std.proofs.lemmas.List.Quantifiers.{position-Some}
 use Rattle.std.specs.Cmp.Lexicographic.{pointwise}
 use Rattle.std.specs.Int.{w32, to_be_bytes}
 use Rattle.std.specs.List.{AllByRecursion, flat_map}
-use Rattle.gossip_kit.specs.Views.{MessageView}
+use Rattle.gossip_kit.specs.Views.{MessageModel}
 use Rattle.attr_kit.specs.Exact.{exact_texts, first_holds, second_holds}
 use Rattle.attr_kit.specs.declared.attr_value.AttrValue.{AttrValue}
 use Rattle.attr_kit.specs.declared.attr_value.AttrValue.TheVariants as values
@@ -24,10 +24,10 @@ use Rattle.point_kit.specs.declared.shape.Shape.TheVariants as shapes
 use Rattle.point_kit.specs.declared.stream.Stream.{Stream}
 use Rattle.point_kit.specs.declared.writer_id.WriterId.{WriterId}
 use Rattle.bytes_kit.specs.Checksum.{checksum}
-use Rattle.bytes_kit.specs.Format.{Parts, parts, parts_of, head, with_checksum, bytes_of, varint, integer, text, text_or_place, text_behind, list_of, pair_behind, past_pair, forms_behind, past_all, list_behind, value, past_value, attributes, past_attributes, shape, stream, past_stream, stream_or_last, past_stream_or_last, point_stream, past_point_stream, payload, point, past_point, writer, past_writer}
+use Rattle.bytes_kit.specs.Format.{Fields, fields, fields_of, head, with_checksum, bytes_of, varint, integer, text, text_or_place, text_behind, list_of, pair_behind, past_pair, forms_behind, past_all, list_behind, value, past_value, attributes, past_attributes, shape, stream, past_stream, stream_or_last, past_stream_or_last, point_stream, past_point_stream, payload, point, past_point, writer, past_writer}
 use Rattle.bytes_kit.specs.Laws.{varint_bytes, integer_bytes}
 use Rattle.bytes_kit.specs.MessageLaws.{entry_bytes}
-use Rattle.bytes_kit.specs.Messages.{Earlier, Entry, common, common_of, has_few_bounds, is_light, common_form, key_rest, past_rest, key, entry, past_entry, nothing_earlier, cell, cells, payload_or_conflict, body_bytes, message_head, message_parts, parts_of_message, bytes_of_message, bytes_of_message_parts, MessageParts}
+use Rattle.bytes_kit.specs.Messages.{Earlier, Entry, common, common_of, has_few_bounds, is_light, common_form, key_rest, past_rest, key, entry, past_entry, nothing_earlier, cell, cells, payload_or_conflict, body_bytes, message_head, message_fields, fields_of_message, bytes_of_message, bytes_of_message_fields, MessageFields}
 use Rattle.bytes_kit.specs.Past.{Past, no_past, place_of, more_texts, texts_behind, past_text, is_short, is_last}
 use Rattle.bytes_kit.specs.Weights.{text_weight, list_weight, value_weight, pair_weight, shape_weight, stream_weight, payload_weight, held_stream_weight, point_weight, points_weight, export_weight, held_weight, entry_weight, carried_weight, message_weight}
 use Rattle.bytes_kit.specs.declared.carried.Carried.{Carried}
@@ -235,8 +235,8 @@ sealed_long : (bytes : List ℕ) → length bytes ≤ length (with_checksum byte
 unfolding with_checksum
 sealed_long bytes = omega (arith, length-append bytes (to_be_bytes w32 (checksum bytes)))
 
-parts_weigh : (x : Parts) → text_weight x.0.service + points_weight None x.1.1.1 ≤ length (parts x)
-parts_weigh x =
+fields_weigh : (x : Fields) → text_weight x.0.service + points_weight None x.1.1.1 ≤ length (fields x)
+fields_weigh x =
     let q = past_writer no_past x.0 in
     let points : points_weight None x.1.1.1 ≤ length (forms_behind point past_point q x.1.1.1) = points_weigh q x.1.1.1 (short_writer no_past x.0 tt) in
     omega (
@@ -252,7 +252,7 @@ parts_weigh x =
 
 pub export_weighs : (e : Export) → export_weight e ≤ length (bytes_of e)
 export_weighs e =
-    omega (arith, parts_weigh (parts_of e), length-append head (parts (parts_of e)), sealed_long (head ++ parts (parts_of e)))
+    omega (arith, fields_weigh (fields_of e), length-append head (fields (fields_of e)), sealed_long (head ++ fields (fields_of e)))
 
 -- ---- messages
 
@@ -352,9 +352,9 @@ carried_weighs (bodies.Whole es) = omega (arith, cells_weigh es)
 carried_weighs (bodies.Delta number es) = omega (arith, cells_weigh es, length-append (varint number) (cells es))
 carried_weighs (bodies.Ack number) = omega arith
 
-message_parts_weigh : (s : MessageParts) → carried_weight s.2 ≤ 65 * length (bytes_of_message_parts s)
-message_parts_weigh s =
-    omega (arith, carried_weighs s.2, length-append (varint s.0) (varint s.1 ++ body_bytes s.2), length-append (varint s.1) (body_bytes s.2), length-append message_head (message_parts s), sealed_long (message_head ++ message_parts s))
+message_fields_weigh : (s : MessageFields) → carried_weight s.2 ≤ 65 * length (bytes_of_message_fields s)
+message_fields_weigh s =
+    omega (arith, carried_weighs s.2, length-append (varint s.0) (varint s.1 ++ body_bytes s.2), length-append (varint s.1) (body_bytes s.2), length-append message_head (message_fields s), sealed_long (message_head ++ message_fields s))
 
-pub message_weighs : (m : MessageView) → message_weight m ≤ 65 * length (bytes_of_message m)
-message_weighs m = message_parts_weigh (parts_of_message m)
+pub message_weighs : (m : MessageModel) → message_weight m ≤ 65 * length (bytes_of_message m)
+message_weighs m = message_fields_weigh (fields_of_message m)

@@ -4,9 +4,9 @@ use Rattle.std.specs.Int.{w32, to_be_bytes}
 use Rattle.point_kit.specs.ExportFaults.{export_fault}
 use Rattle.point_kit.specs.declared.export_fault.ExportFault.{ExportFault}
 use Rattle.bytes_kit.specs.Checksum.{checksum}
-use Rattle.bytes_kit.specs.Format.{Parts, parts, head, head_of, bytes_of_parts}
+use Rattle.bytes_kit.specs.Format.{Fields, fields, head, head_of, bytes_of_fields}
 use Rattle.bytes_kit.specs.MessageFits.{carried_fault}
-use Rattle.bytes_kit.specs.Messages.{MessageParts, message_parts, bytes_of_message_parts, message_head}
+use Rattle.bytes_kit.specs.Messages.{MessageFields, message_fields, bytes_of_message_fields, message_head}
 use Rattle.bytes_kit.specs.declared.fault.DecodeFault.{DecodeFault}
 use Rattle.bytes_kit.specs.declared.fault.DecodeFault.TheVariants as faults
 
@@ -51,35 +51,35 @@ IsSealFault end rest sum (faults.BadChecksum place) = (place ≡ end - length re
 IsSealFault end rest sum (faults.BadExport fault) = ⊥
 IsSealFault end rest sum faults.NoMemory = ⊥
 
--- the bytes begin with head and parts up to this place, and go on with another checksum
+-- the bytes begin with head and fields up to this place, and go on with another checksum
 abbrev pub HasOtherSeal : {A : Type 0} → (A → List ℕ) → List ℕ → ℕ → Type 0
 HasOtherSeal {A} front bytes place = (p : A) × (rest : List ℕ) × (bytes ≡ front p ++ rest) × (place ≡ length (front p)) × (take 4 rest ≢ to_be_bytes w32 (checksum (front p)))
 
--- the bytes are those of parts that make no export
+-- the bytes are those of fields that make no export
 abbrev pub MakesNone : List ℕ → ExportFault → Type 0
-MakesNone bytes fault = (p : Parts) × (bytes ≡ bytes_of_parts p) × (export_fault p.1.0 p.1.1.0 p.1.1.1 ≡ Some fault)
+MakesNone bytes fault = (p : Fields) × (bytes ≡ bytes_of_fields p) × (export_fault p.1.0 p.1.1.0 p.1.1.1 ≡ Some fault)
 
--- what a fault says of bytes of which no head and parts are read
-abbrev pub IsPartsFault : {A : Type 0} → List ℕ → (A → List ℕ) → List ℕ → DecodeFault → Type 0
-IsPartsFault front code bytes (faults.Truncated place) = place ≡ length bytes
-IsPartsFault front code bytes (faults.BadMagic place) = (place < 4) × DifferAt front bytes place
-IsPartsFault front code bytes (faults.BadVersion place) = (place ≡ 4) × DifferAt front bytes place
-IsPartsFault front code bytes (faults.NotCanonical place) = place ≤ length bytes
-IsPartsFault front code bytes (faults.NotText place) = place ≤ length bytes
-IsPartsFault front code bytes (faults.BadChecksum place) = HasOtherSeal (λ p. front ++ code p) bytes place
-IsPartsFault front code bytes (faults.BadExport fault) = ⊥
-IsPartsFault front code bytes faults.NoMemory = Unit {0}
+-- what a fault says of bytes of which no head and fields are read
+abbrev pub IsFieldsFault : {A : Type 0} → List ℕ → (A → List ℕ) → List ℕ → DecodeFault → Type 0
+IsFieldsFault front code bytes (faults.Truncated place) = place ≡ length bytes
+IsFieldsFault front code bytes (faults.BadMagic place) = (place < 4) × DifferAt front bytes place
+IsFieldsFault front code bytes (faults.BadVersion place) = (place ≡ 4) × DifferAt front bytes place
+IsFieldsFault front code bytes (faults.NotCanonical place) = place ≤ length bytes
+IsFieldsFault front code bytes (faults.NotText place) = place ≤ length bytes
+IsFieldsFault front code bytes (faults.BadChecksum place) = HasOtherSeal (λ p. front ++ code p) bytes place
+IsFieldsFault front code bytes (faults.BadExport fault) = ⊥
+IsFieldsFault front code bytes faults.NoMemory = Unit {0}
 
 -- what a fault of decoding an export says of the bytes
 abbrev pub Explains : List ℕ → DecodeFault → Type 0
 Explains bytes (faults.BadExport fault) = MakesNone bytes fault
-Explains bytes fault = IsPartsFault head parts bytes fault
+Explains bytes fault = IsFieldsFault head fields bytes fault
 
 -- the bytes are those of a message with a cell that no export brings
 abbrev pub MakesNoMessage : List ℕ → ExportFault → Type 0
-MakesNoMessage bytes fault = (s : MessageParts) × (bytes ≡ bytes_of_message_parts s) × (carried_fault s.2 ≡ Some fault)
+MakesNoMessage bytes fault = (s : MessageFields) × (bytes ≡ bytes_of_message_fields s) × (carried_fault s.2 ≡ Some fault)
 
 -- what a fault of decoding a message says of the bytes
 abbrev pub ExplainsMessage : List ℕ → DecodeFault → Type 0
 ExplainsMessage bytes (faults.BadExport fault) = MakesNoMessage bytes fault
-ExplainsMessage bytes fault = IsPartsFault message_head message_parts bytes fault
+ExplainsMessage bytes fault = IsFieldsFault message_head message_fields bytes fault

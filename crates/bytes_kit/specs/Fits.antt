@@ -13,7 +13,7 @@ use Rattle.point_kit.specs.declared.shape.Shape.{Shape}
 use Rattle.point_kit.specs.declared.shape.Shape.TheVariants as shapes
 use Rattle.point_kit.specs.declared.stream.Stream.{Stream}
 use Rattle.point_kit.specs.declared.writer_id.WriterId.{WriterId}
-use Rattle.bytes_kit.specs.Format.{zigzag, Parts, parts_of}
+use Rattle.bytes_kit.specs.Format.{zigzag, Fields, fields_of}
 
 -- a number of 64 bits
 abbrev pub IsNumber : ℕ → Type 0
@@ -68,8 +68,8 @@ IsInstance id = length id ≡ 16
 abbrev pub IsWriter : WriterId → Type 0
 IsWriter w = IsText w.service × IsInstance w.instance
 
-abbrev pub IsParts : Parts → Type 0
-IsParts = IsPair IsWriter (IsPair IsNumber (IsPair IsNumber (IsList IsPoint)))
+abbrev pub IsFields : Fields → Type 0
+IsFields = IsPair IsWriter (IsPair IsNumber (IsPair IsNumber (IsList IsPoint)))
 
 abbrev pub IsExport : Export → Type 0
-IsExport e = IsParts (parts_of e)
+IsExport e = IsFields (fields_of e)

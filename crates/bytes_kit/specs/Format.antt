@@ -108,23 +108,23 @@ shape shapes.Gauge = 2 ∷ []
 shape (shapes.Histogram bounds) = 3 ∷ list_of integer bounds
 
 -- scope, name, unit and shape
-abbrev pub StreamParts : Type 0
-StreamParts = List ℕ × (List ℕ × (List ℕ × Shape))
+abbrev pub StreamFields : Type 0
+StreamFields = List ℕ × (List ℕ × (List ℕ × Shape))
 
-abbrev pub parts_of_stream : Stream → StreamParts
-parts_of_stream s = (s.scope, (s.name, (s.unit, s.shape)))
+abbrev pub fields_of_stream : Stream → StreamFields
+fields_of_stream s = (s.scope, (s.name, (s.unit, s.shape)))
 
-abbrev pub stream_parts : Past → StreamParts → List ℕ
-stream_parts = pair_behind text_behind past_text (pair_behind text_behind past_text (pair_behind text_behind past_text (same_behind shape)))
+abbrev pub stream_fields : Past → StreamFields → List ℕ
+stream_fields = pair_behind text_behind past_text (pair_behind text_behind past_text (pair_behind text_behind past_text (same_behind shape)))
 
-abbrev pub past_stream_parts : Past → StreamParts → Past
-past_stream_parts = past_pair past_text (past_pair past_text (past_pair past_text past_same))
+abbrev pub past_stream_fields : Past → StreamFields → Past
+past_stream_fields = past_pair past_text (past_pair past_text (past_pair past_text past_same))
 
 abbrev pub stream : Past → Stream → List ℕ
-stream p s = stream_parts p (parts_of_stream s)
+stream p s = stream_fields p (fields_of_stream s)
 
 abbrev pub past_stream : Past → Stream → Past
-past_stream p s = past_stream_parts p (parts_of_stream s)
+past_stream p s = past_stream_fields p (fields_of_stream s)
 
 -- 0 where it is the last stream; else 1 and the stream
 abbrev pub stream_or_last : Bool → Past → Stream → List ℕ
@@ -148,36 +148,36 @@ payload (payloads.Gauge n) = 1 ∷ integer n
 payload (payloads.Hist count sum buckets None) = 2 ∷ varint count ++ (integer sum ++ list_of varint buckets)
 payload (payloads.Hist count sum buckets (Some range)) = 3 ∷ varint count ++ (integer sum ++ (list_of varint buckets ++ (integer range.0 ++ integer range.1)))
 
-abbrev pub PointParts : Type 0
-PointParts = Stream × (List (List ℕ × AttrValue) × Payload)
+abbrev pub PointFields : Type 0
+PointFields = Stream × (List (List ℕ × AttrValue) × Payload)
 
-abbrev pub parts_of_point : ExportPoint → PointParts
-parts_of_point x = (x.stream, (x.attrs, x.payload))
+abbrev pub fields_of_point : ExportPoint → PointFields
+fields_of_point x = (x.stream, (x.attrs, x.payload))
 
-abbrev pub point_parts : Past → PointParts → List ℕ
-point_parts = pair_behind point_stream past_point_stream (pair_behind attributes past_attributes (same_behind payload))
+abbrev pub point_fields : Past → PointFields → List ℕ
+point_fields = pair_behind point_stream past_point_stream (pair_behind attributes past_attributes (same_behind payload))
 
-abbrev pub past_point_parts : Past → PointParts → Past
-past_point_parts = past_pair past_point_stream (past_pair past_attributes past_same)
+abbrev pub past_point_fields : Past → PointFields → Past
+past_point_fields = past_pair past_point_stream (past_pair past_attributes past_same)
 
 abbrev pub point : Past → ExportPoint → List ℕ
-point p x = point_parts p (parts_of_point x)
+point p x = point_fields p (fields_of_point x)
 
 abbrev pub past_point : Past → ExportPoint → Past
-past_point p x = past_point_parts p (parts_of_point x)
+past_point p x = past_point_fields p (fields_of_point x)
 
 -- the service as a text, and the instance, which no other text is
-abbrev pub writer_parts : Past → List ℕ × List ℕ → List ℕ
-writer_parts = pair_behind text_behind past_text (same_behind text)
+abbrev pub writer_fields : Past → List ℕ × List ℕ → List ℕ
+writer_fields = pair_behind text_behind past_text (same_behind text)
 
-abbrev pub past_writer_parts : Past → List ℕ × List ℕ → Past
-past_writer_parts = past_pair past_text past_same
+abbrev pub past_writer_fields : Past → List ℕ × List ℕ → Past
+past_writer_fields = past_pair past_text past_same
 
 abbrev pub writer : Past → WriterId → List ℕ
-writer p w = writer_parts p (w.service, w.instance)
+writer p w = writer_fields p (w.service, w.instance)
 
 abbrev pub past_writer : Past → WriterId → Past
-past_writer p w = past_writer_parts p (w.service, w.instance)
+past_writer p w = past_writer_fields p (w.service, w.instance)
 
 -- 'K' 'T' 'S', a letter that says what follows, and version 2
 abbrev pub head_of : ℕ → List ℕ
@@ -188,25 +188,25 @@ abbrev pub head : List ℕ
 head = head_of 75
 
 -- writer, start, time and points
-abbrev pub Parts : Type 0
-Parts = WriterId × (ℕ × (ℕ × List ExportPoint))
+abbrev pub Fields : Type 0
+Fields = WriterId × (ℕ × (ℕ × List ExportPoint))
 
-abbrev pub parts_of : Export → Parts
-parts_of e = (e.writer, (e.start, (e.time, e.points)))
+abbrev pub fields_of : Export → Fields
+fields_of e = (e.writer, (e.start, (e.time, e.points)))
 
-abbrev pub parts_behind : Past → Parts → List ℕ
-parts_behind = pair_behind writer past_writer (pair_behind (same_behind varint) past_same (pair_behind (same_behind varint) past_same (list_behind point past_point)))
+abbrev pub fields_behind : Past → Fields → List ℕ
+fields_behind = pair_behind writer past_writer (pair_behind (same_behind varint) past_same (pair_behind (same_behind varint) past_same (list_behind point past_point)))
 
--- the parts, of which nothing came before
-abbrev pub parts : Parts → List ℕ
-parts = parts_behind no_past
+-- the fields, of which nothing came before
+abbrev pub fields : Fields → List ℕ
+fields = fields_behind no_past
 
 -- bytes, and the checksum of them
 unfoldable pub with_checksum : List ℕ → List ℕ
 with_checksum bytes = bytes ++ to_be_bytes w32 (checksum bytes)
 
-abbrev pub bytes_of_parts : Parts → List ℕ
-bytes_of_parts p = with_checksum (head ++ parts p)
+abbrev pub bytes_of_fields : Fields → List ℕ
+bytes_of_fields p = with_checksum (head ++ fields p)
 
 abbrev pub bytes_of : Export → List ℕ
-bytes_of e = bytes_of_parts (parts_of e)
+bytes_of e = bytes_of_fields (fields_of e)

@@ -1,7 +1,7 @@
 -- What a key behind another is known to have.
 use Rattle.std.specs.Prelude.{◌≡◌, Option, Some, None}
 use Rattle.std.specs.Option.{option_map}
-use Rattle.gateway_kit.specs.Walks.{entry_of_ref}
+use Rattle.gateway_kit.specs.Walks.{keyed_cell_of_ref}
 use Rattle.gateway_kit.specs.declared.points.PointRef.{PointRef}
 use Rattle.point_kit.specs.declared.key.Key.{Key}
 use Rattle.bytes_kit.specs.Fits.{IsStream, IsSet}
@@ -16,7 +16,7 @@ IsAny a = Unit {0}
 
 -- the key of a lent point
 abbrev pub key_at : PointRef → Key
-key_at p = (entry_of_ref p).0
+key_at p = (keyed_cell_of_ref p).0
 
 -- the key of the point before, where there is one
 abbrev pub key_before : Option PointRef → Option Key

@@ -109,8 +109,8 @@ module _ {A B : Type 0} (first : A → List ℕ) (second : B → List ℕ) where
   pub pair_bytes : ((a : A) → 0 < length (first a)) → (p : A × B) → 0 < length (pair_of first second p)
   pair_bytes some p = omega (arith, some p.0, length-append (first p.0) (second p.1))
 
--- a value that can be made again of its parts
-pub code_through : {A B : Type 0} (code : B → List ℕ) (parts : A → B) (whole : B → A) → ((a : A) → whole (parts a) ≡ a) → IsCode code → IsCode (λ a. code (parts a))
-code_through code parts whole back is a b s t e =
-    let both = is (parts a) (parts b) s t e in
+-- a value that can be made again of its fields
+pub code_through : {A B : Type 0} (code : B → List ℕ) (fields : A → B) (whole : B → A) → ((a : A) → whole (fields a) ≡ a) → IsCode code → IsCode (λ a. code (fields a))
+code_through code fields whole back is a b s t e =
+    let both = is (fields a) (fields b) s t e in
     (sym (back a) ∙ ap whole both.0 ∙ back b, both.1)

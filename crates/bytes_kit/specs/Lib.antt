@@ -11,7 +11,7 @@ pub mod Left
 pub mod MessageFits
 pub mod MessageLaws
 pub mod Messages
-pub mod PartLaws
+pub mod FieldLaws
 pub mod Past
 pub mod PastFits
 pub mod PastLaws

@@ -5,7 +5,7 @@ use Rattle.std.specs.Option.{option_or}
 use Rattle.std.specs.FinMap.{get, empty}
 use Rattle.std.specs.FinMap.Entries.{is_sorted}
 use Rattle.attr_kit.specs.Refusing.{first, when}
-use Rattle.gossip_kit.specs.Views.{MessageView}
+use Rattle.gossip_kit.specs.Views.{MessageModel}
 use Rattle.point_kit.specs.Exports.{Points}
 use Rattle.point_kit.specs.Orders.{key_cmp}
 use Rattle.point_kit.specs.Payload.{IsSoundHeld, wrong_range_of}
@@ -20,7 +20,7 @@ use Rattle.point_kit.specs.declared.payload.Payload.TheVariants as payloads
 use Rattle.point_kit.specs.declared.shape.Shape.{Shape}
 use Rattle.point_kit.specs.declared.shape.Shape.TheVariants as shapes
 use Rattle.bytes_kit.specs.Fits.{IsNumber, IsWriter, IsStream, IsSet, IsPayload}
-use Rattle.bytes_kit.specs.Messages.{Entry, MessageParts, parts_of_message}
+use Rattle.bytes_kit.specs.Messages.{Entry, MessageFields, fields_of_message}
 use Rattle.bytes_kit.specs.declared.carried.Carried.{Carried}
 use Rattle.bytes_kit.specs.declared.carried.Carried.TheVariants as bodies
 use Rattle.bytes_kit.specs.declared.fault.DecodeFault.{DecodeFault}
@@ -56,8 +56,8 @@ IsCarried (bodies.Whole es) = IsCells es
 IsCarried (bodies.Delta number es) = IsNumber number × IsCells es
 IsCarried (bodies.Ack number) = IsNumber number
 
-abbrev pub IsMessageParts : MessageParts → Type 0
-IsMessageParts s = IsId s.0 × (IsId s.1 × IsCarried s.2)
+abbrev pub IsMessageFields : MessageFields → Type 0
+IsMessageFields s = IsId s.0 × (IsId s.1 × IsCarried s.2)
 
 -- the keys of what is carried rise
 abbrev pub IsInOrder : Carried → Type 0
@@ -71,8 +71,8 @@ IsOneOf points delta (Some number) = (points ≡ empty) × (delta ≡ None)
 IsOneOf points delta None = Unit {0}
 
 -- what every message is
-abbrev pub IsMessage : MessageView → Type 0
-IsMessage m = IsMessageParts (parts_of_message m) × IsOneOf m.points m.delta m.ack
+abbrev pub IsMessage : MessageModel → Type 0
+IsMessage m = IsMessageFields (fields_of_message m) × IsOneOf m.points m.delta m.ack
 
 -- a cell that an export, or several, can bring: its time is after the start, and its payload is one of its stream's shape
 abbrev pub IsSoundEntry : Entry → Type 0
@@ -117,6 +117,6 @@ carried_fault (bodies.Delta number es) = cells_fault 0 es
 carried_fault (bodies.Ack number) = None
 
 -- the message, or want of memory
-abbrev pub GivesMessage : Result MessageView DecodeFault → MessageView → Type 0
+abbrev pub GivesMessage : Result MessageModel DecodeFault → MessageModel → Type 0
 GivesMessage (Ok found) m = found ≡ m
 GivesMessage (Err fault) m = fault ≡ faults.NoMemory

@@ -18,10 +18,10 @@ use Rattle.bytes_kit.specs.Codes.{IsCode}
 use Rattle.bytes_kit.specs.Format.{varint, pair_of, pair_behind, same_behind, past_same, attributes, stream, past_stream, writer, past_writer}
 use Rattle.bytes_kit.specs.KeyForms.{Inherits}
 use Rattle.bytes_kit.specs.Laws.{varint_code, varint_bytes, pair_code, pair_bytes, code_through}
-use Rattle.bytes_kit.specs.Messages.{Earlier, Entry, common, common_form, common_of, is_light, series_parts, key_parts, key_rest, key, payload_or_conflict, cell, entry, past_entry, nothing_earlier, cells, body_bytes, message_parts}
+use Rattle.bytes_kit.specs.Messages.{Earlier, Entry, common, common_form, common_of, is_light, series_fields, key_fields, key_rest, key, payload_or_conflict, cell, entry, past_entry, nothing_earlier, cells, body_bytes, message_fields}
 use Rattle.bytes_kit.specs.Past.{Past, is_short}
 use Rattle.bytes_kit.specs.PastLaws.{IsCodeBehind, pair_behind_code, list_behind_code}
-use Rattle.bytes_kit.specs.PartLaws.{writer_code, stream_code, attributes_code, payload_code, payload_bytes}
+use Rattle.bytes_kit.specs.FieldLaws.{writer_code, stream_code, attributes_code, payload_code, payload_bytes}
 use Rattle.bytes_kit.specs.declared.carried.Carried.TheVariants as bodies
 use Rattle.bytes_kit.specs.declared.keys.Shared.{Shared}
 use Rattle.bytes_kit.specs.declared.keys.Shared.TheVariants as shares
@@ -70,7 +70,7 @@ common_code shares.Incarnation shares.Stream s t e = absurd (omega (arith, ap fi
 common_code shares.Stream shares.Nothing s t e = absurd (omega (arith, ap first e))
 common_code shares.Stream shares.Incarnation s t e = absurd (omega (arith, ap first e))
 
--- where a test of both parts holds, what is shared is equal
+-- where a test of both fields holds, what is shared is equal
 inherits_of : (j k : Key) (p q : Bool) → ((writers.ghosts).eq j.writer k.writer && (j.start == k.start)) && is_short k.writer.service ≡ p → (streams.ghosts).eq j.stream k.stream && is_light k.stream ≡ q → Inherits (Some j) (common_of p q) k
 inherits_of j k true true a b =
     let c = first_holds _ _ a in
@@ -87,22 +87,22 @@ inherits (Some j) k = inherits_of j k (((writers.ghosts).eq j.writer k.writer &&
 abbrev key_of : WriterId → ℕ → Stream → List (List ℕ × AttrValue) → Key
 key_of w n s l = record { writer = w; start = n; stream = s; attrs = l }
 
-series_parts_code : IsCodeBehind series_parts
-series_parts_code = pair_behind_code stream past_stream attributes stream_code attributes_code
+series_fields_code : IsCodeBehind series_fields
+series_fields_code = pair_behind_code stream past_stream attributes stream_code attributes_code
 
-key_parts_code : IsCodeBehind key_parts
-key_parts_code =
-    pair_behind_code writer past_writer (pair_behind (same_behind varint) past_same series_parts) writer_code
-    (pair_behind_code (same_behind varint) past_same series_parts (λ _. varint_code) series_parts_code)
+key_fields_code : IsCodeBehind key_fields
+key_fields_code =
+    pair_behind_code writer past_writer (pair_behind (same_behind varint) past_same series_fields) writer_code
+    (pair_behind_code (same_behind varint) past_same series_fields (λ _. varint_code) series_fields_code)
 
 whole_code : (p : Past) → IsCode (key_rest p shares.Nothing)
-whole_code p = code_through (key_parts p) (λ k. (k.writer, (k.start, (k.stream, k.attrs)))) (λ x. key_of x.0 x.1.0 x.1.1.0 x.1.1.1) (λ _. refl) (key_parts_code p)
+whole_code p = code_through (key_fields p) (λ k. (k.writer, (k.start, (k.stream, k.attrs)))) (λ x. key_of x.0 x.1.0 x.1.1.0 x.1.1.1) (λ _. refl) (key_fields_code p)
 
 -- of two keys that have the same from the one before, what they do not share tells them apart
 pub rest_code : (p : Past) (before : Option Key) (shared : Shared) (a b : Key) (s t : List ℕ) → Inherits before shared a → Inherits before shared b → key_rest p shared a ++ s ≡ key_rest p shared b ++ t → (a ≡ b) × (s ≡ t)
 rest_code z before shares.Nothing a b s t p q e = whole_code z a b s t e
 rest_code z (Some j) shares.Incarnation a b s t p q e =
-    let both = series_parts_code z (a.stream, a.attrs) (b.stream, b.attrs) s t e in
+    let both = series_fields_code z (a.stream, a.attrs) (b.stream, b.attrs) s t e in
     (λ i. key_of ((sym p.0 ∙ q.0) i) ((sym p.1 ∙ q.1) i) (both.0 i).0 (both.0 i).1, both.1)
 rest_code z (Some j) shares.Stream a b s t p q e =
     let both = attributes_code z a.attrs b.attrs s t e in
@@ -161,7 +161,7 @@ body_bytes_code (bodies.Delta m a) (bodies.Ack n) s t e = absurd (omega (arith, 
 body_bytes_code (bodies.Ack m) (bodies.Whole b) s t e = absurd (omega (arith, ap first e))
 body_bytes_code (bodies.Ack m) (bodies.Delta n b) s t e = absurd (omega (arith, ap first e))
 
-pub message_parts_code : IsCode message_parts
-message_parts_code =
+pub message_fields_code : IsCode message_fields
+message_fields_code =
     code_through (pair_of varint (pair_of varint body_bytes)) (λ s. (s.0, (s.1, s.2))) (λ p. (p.0, p.1.0, p.1.1)) (λ _. refl)
     (pair_code varint (pair_of varint body_bytes) varint_code (pair_code varint body_bytes varint_code body_bytes_code))

@@ -1,7 +1,7 @@
 -- The one form of a message.
 use Rattle.std.specs.Prelude.{ℕ, Bool, true, false, ◌&&◌, ◌==◌, List, [], ◌∷◌, ◌++◌, Option, Some, None, nat_le, length}
 use Rattle.std.specs.FinMap.{entries}
-use Rattle.gossip_kit.specs.Views.{MessageView}
+use Rattle.gossip_kit.specs.Views.{MessageModel}
 use Rattle.point_kit.specs.Exports.{Points}
 use Rattle.point_kit.specs.contracts.stream.StreamPartialEq.TheImpl as streams
 use Rattle.point_kit.specs.contracts.writer_id.WriterIdPartialEq.TheImpl as writers
@@ -40,13 +40,13 @@ abbrev pub is_light : Stream → Bool
 is_light s = (is_short s.scope && is_short s.name) && (is_short s.unit && has_few_bounds s.shape)
 
 -- what writer, start and stream share with the key before: a writer of a long name and a stream that is not light are written again
-abbrev pub common_parts : Option Key → WriterId → ℕ → Stream → Shared
-common_parts None w start s = shares.Nothing
-common_parts (Some j) w start s = common_of (((writers.ghosts).eq j.writer w && (j.start == start)) && is_short w.service) ((streams.ghosts).eq j.stream s && is_light s)
+abbrev pub common_fields : Option Key → WriterId → ℕ → Stream → Shared
+common_fields None w start s = shares.Nothing
+common_fields (Some j) w start s = common_of (((writers.ghosts).eq j.writer w && (j.start == start)) && is_short w.service) ((streams.ghosts).eq j.stream s && is_light s)
 
 -- what a key shares with the one before it
 abbrev pub common : Option Key → Key → Shared
-common before k = common_parts before k.writer k.start k.stream
+common before k = common_fields before k.writer k.start k.stream
 
 abbrev pub common_form : Shared → List ℕ
 common_form shares.Nothing = 0 ∷ []
@@ -54,31 +54,31 @@ common_form shares.Incarnation = 1 ∷ []
 common_form shares.Stream = 2 ∷ []
 
 -- writer, start, stream and attributes of a key
-abbrev pub KeyParts : Type 0
-KeyParts = WriterId × (ℕ × (Stream × List (List ℕ × AttrValue)))
+abbrev pub KeyFields : Type 0
+KeyFields = WriterId × (ℕ × (Stream × List (List ℕ × AttrValue)))
 
-abbrev pub key_parts : Past → KeyParts → List ℕ
-key_parts = pair_behind writer past_writer (pair_behind (same_behind varint) past_same (pair_behind stream past_stream attributes))
+abbrev pub key_fields : Past → KeyFields → List ℕ
+key_fields = pair_behind writer past_writer (pair_behind (same_behind varint) past_same (pair_behind stream past_stream attributes))
 
-abbrev pub past_key_parts : Past → KeyParts → Past
-past_key_parts = past_pair past_writer (past_pair past_same (past_pair past_stream past_attributes))
+abbrev pub past_key_fields : Past → KeyFields → Past
+past_key_fields = past_pair past_writer (past_pair past_same (past_pair past_stream past_attributes))
 
 -- stream and attributes
-abbrev pub series_parts : Past → Stream × List (List ℕ × AttrValue) → List ℕ
-series_parts = pair_behind stream past_stream attributes
+abbrev pub series_fields : Past → Stream × List (List ℕ × AttrValue) → List ℕ
+series_fields = pair_behind stream past_stream attributes
 
-abbrev pub past_series_parts : Past → Stream × List (List ℕ × AttrValue) → Past
-past_series_parts = past_pair past_stream past_attributes
+abbrev pub past_series_fields : Past → Stream × List (List ℕ × AttrValue) → Past
+past_series_fields = past_pair past_stream past_attributes
 
 -- what a key does not share
 abbrev pub key_rest : Past → Shared → Key → List ℕ
-key_rest p shares.Nothing k = key_parts p (k.writer, (k.start, (k.stream, k.attrs)))
-key_rest p shares.Incarnation k = series_parts p (k.stream, k.attrs)
+key_rest p shares.Nothing k = key_fields p (k.writer, (k.start, (k.stream, k.attrs)))
+key_rest p shares.Incarnation k = series_fields p (k.stream, k.attrs)
 key_rest p shares.Stream k = attributes p k.attrs
 
 abbrev pub past_rest : Past → Shared → Key → Past
-past_rest p shares.Nothing k = past_key_parts p (k.writer, (k.start, (k.stream, k.attrs)))
-past_rest p shares.Incarnation k = past_series_parts p (k.stream, k.attrs)
+past_rest p shares.Nothing k = past_key_fields p (k.writer, (k.start, (k.stream, k.attrs)))
+past_rest p shares.Incarnation k = past_series_fields p (k.stream, k.attrs)
 past_rest p shares.Stream k = past_attributes p k.attrs
 
 -- what came before a key: texts, and the key before it
@@ -133,14 +133,14 @@ abbrev pub message_head : List ℕ
 message_head = head_of 77
 
 -- from whom, to whom, and what is carried
-abbrev pub MessageParts : Type 0
-MessageParts = ℕ × ℕ × Carried
+abbrev pub MessageFields : Type 0
+MessageFields = ℕ × ℕ × Carried
 
-abbrev pub message_parts : MessageParts → List ℕ
-message_parts s = varint s.0 ++ (varint s.1 ++ body_bytes s.2)
+abbrev pub message_fields : MessageFields → List ℕ
+message_fields s = varint s.0 ++ (varint s.1 ++ body_bytes s.2)
 
-abbrev pub bytes_of_message_parts : MessageParts → List ℕ
-bytes_of_message_parts s = with_checksum (message_head ++ message_parts s)
+abbrev pub bytes_of_message_fields : MessageFields → List ℕ
+bytes_of_message_fields s = with_checksum (message_head ++ message_fields s)
 
 -- of an Ack its number, of a delta its number and the cells, else the cells
 abbrev pub body_bytes_of : Points → Option ℕ → Option ℕ → Carried
@@ -148,8 +148,8 @@ body_bytes_of points delta (Some number) = bodies.Ack number
 body_bytes_of points (Some number) None = bodies.Delta number (entries points)
 body_bytes_of points None None = bodies.Whole (entries points)
 
-abbrev pub parts_of_message : MessageView → MessageParts
-parts_of_message m = (m.from, m.to, body_bytes_of m.points m.delta m.ack)
+abbrev pub fields_of_message : MessageModel → MessageFields
+fields_of_message m = (m.from, m.to, body_bytes_of m.points m.delta m.ack)
 
-abbrev pub bytes_of_message : MessageView → List ℕ
-bytes_of_message m = bytes_of_message_parts (parts_of_message m)
+abbrev pub bytes_of_message : MessageModel → List ℕ
+bytes_of_message m = bytes_of_message_fields (fields_of_message m)

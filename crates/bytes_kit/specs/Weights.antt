@@ -1,6 +1,6 @@
 -- How much is held of an export or a message: points, streams, pairs, bounds and buckets, and bytes of long texts.
 use Rattle.std.specs.Prelude.{ℕ, ◌+◌, if◌then◌else◌, Bool, true, false, List, [], ◌∷◌, length, Option, Some, None}
-use Rattle.gossip_kit.specs.Views.{MessageView}
+use Rattle.gossip_kit.specs.Views.{MessageModel}
 use Rattle.attr_kit.specs.declared.attr_value.AttrValue.{AttrValue}
 use Rattle.attr_kit.specs.declared.attr_value.AttrValue.TheVariants as values
 use Rattle.point_kit.specs.declared.cell.Held.{Held}
@@ -12,7 +12,7 @@ use Rattle.point_kit.specs.declared.payload.Payload.TheVariants as payloads
 use Rattle.point_kit.specs.declared.shape.Shape.{Shape}
 use Rattle.point_kit.specs.declared.shape.Shape.TheVariants as shapes
 use Rattle.point_kit.specs.declared.stream.Stream.{Stream}
-use Rattle.bytes_kit.specs.Messages.{Entry, parts_of_message}
+use Rattle.bytes_kit.specs.Messages.{Entry, fields_of_message}
 use Rattle.bytes_kit.specs.Past.{is_short, is_last}
 use Rattle.bytes_kit.specs.declared.carried.Carried.{Carried}
 use Rattle.bytes_kit.specs.declared.carried.Carried.TheVariants as bodies
@@ -75,5 +75,5 @@ carried_weight (bodies.Whole es) = list_weight entry_weight es
 carried_weight (bodies.Delta number es) = list_weight entry_weight es
 carried_weight (bodies.Ack number) = 0
 
-abbrev pub message_weight : MessageView → ℕ
-message_weight m = carried_weight (parts_of_message m).2
+abbrev pub message_weight : MessageModel → ℕ
+message_weight m = carried_weight (fields_of_message m).2

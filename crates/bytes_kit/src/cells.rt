@@ -1,7 +1,7 @@
 //! Cells under their keys, in the order of the keys.
 ghost use Rattle.std.specs.Prelude.{◌≡◌, ◌++◌, length, true, IfErr, IfOk, OnOk};
 ghost use Rattle.std.specs.FinMap.Entries.{is_sorted};
-ghost use Rattle.gateway_kit.specs.Walks.{entry_of_ref, points_left};
+ghost use Rattle.gateway_kit.specs.Walks.{keyed_cell_of_ref, points_left};
 ghost use Rattle.point_kit.specs.Orders.{key_cmp};
 ghost use Rattle.bytes_kit.specs.Explaining.{IsReadFault};
 ghost use Rattle.bytes_kit.specs.Fits.{IsPayload, IsNumber};
@@ -79,10 +79,10 @@ fn write_entry(
     out: &mut Vec<u8>,
 ) -> Result<(), NoMemory>
     ensures written { OnOk result
-        (out.new.items ≡ out.old.items ++ entry (history.old, key_before before.entry) (entry_of_ref point.entry)) }
+        (out.new.items ≡ out.old.items ++ entry (history.old, key_before before.entry) (keyed_cell_of_ref point.entry)) }
     ensures history { OnOk result (history.new ≡ past_key (history.old, key_before before.entry) (key_at point.entry)) }
     ensures key { OnOk result (IsKeyRest (common (key_before before.entry) (key_at point.entry)) (key_at point.entry)) }
-    ensures cell { OnOk result (IsCell (entry_of_ref point.entry).1) }
+    ensures cell { OnOk result (IsCell (keyed_cell_of_ref point.entry).1) }
 {
     write_key(before, point, history, out)?;
     point.cell.write(out)
@@ -110,7 +110,7 @@ pub(crate) fn write_cells(
 
 // The point that an entry is lent as.
 fn lent(entry: &(Key, Cell)) -> PointRef<'_>
-    ensures { entry_of_ref result ≡ entry.now }
+    ensures { keyed_cell_of_ref result ≡ entry.now }
 {
     let (key, cell) = entry;
     PointRef {

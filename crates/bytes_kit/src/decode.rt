@@ -2,10 +2,10 @@
 ghost use Rattle.std.specs.Prelude.{◌≡◌, ◌≢◌, ◌++◌, List, ℕ, ◌∷◌, ◌⊎◌, IfOk, IfErr, OnOk, OnErr};
 ghost use Rattle.std.specs.Int.{w32, to_be_bytes};
 ghost use Rattle.point_kit.specs.declared.export.Export.{Export};
-ghost use Rattle.bytes_kit.specs.Explaining.{Explains, IsPartsFault, IsHeadFault, IsReadFault, IsSealFault, HasOther};
+ghost use Rattle.bytes_kit.specs.Explaining.{Explains, IsFieldsFault, IsHeadFault, IsReadFault, IsSealFault, HasOther};
 ghost use Rattle.bytes_kit.specs.Faults.{GivesBack};
-ghost use Rattle.bytes_kit.specs.Fits.{IsParts, IsExport};
-ghost use Rattle.bytes_kit.specs.Format.{Parts, parts, head, head_of, bytes_of_parts, bytes_of};
+ghost use Rattle.bytes_kit.specs.Fits.{IsFields, IsExport};
+ghost use Rattle.bytes_kit.specs.Format.{Fields, fields, head, head_of, bytes_of_fields, bytes_of};
 ghost use Rattle.bytes_kit.specs.Reading.{Reads};
 ghost use Rattle.bytes_kit.specs.declared.fault.DecodeFault.TheVariants as faults;
 
@@ -67,7 +67,7 @@ fn read_written(
     alloc: Global,
     reader: &mut Reader<'_>,
 ) -> Result<(WriterId, (u64, (u64, Seq<ExportPoint>))), DecodeFault>
-    ensures found { Reads parts IsParts reader.old.rest result reader.new.rest }
+    ensures found { Reads fields IsFields reader.old.rest result reader.new.rest }
     ensures end { reader.new.end ≡ reader.old.end }
     ensures fault { IfErr result (IsReadFault reader.old.end) }
 {
@@ -76,20 +76,20 @@ fn read_written(
 }
 
 // The same of all bytes, between head and checksum.
-fn read_parts(
+fn read_fields(
     alloc: Global,
     bytes: &[u8],
 ) -> Result<(WriterId, (u64, (u64, Seq<ExportPoint>))), DecodeFault>
-    ensures ok { IfOk result (λ p. bytes.now ≡ bytes_of_parts p) }
-    ensures err { IfErr result (λ f. f ≢ faults.NoMemory → (p : Parts) → IsParts p → bytes.now ≢ bytes_of_parts p) }
-    ensures fault { IfErr result (λ f. IsPartsFault head parts bytes.now f) }
+    ensures ok { IfOk result (λ p. bytes.now ≡ bytes_of_fields p) }
+    ensures err { IfErr result (λ f. f ≢ faults.NoMemory → (p : Fields) → IsFields p → bytes.now ≢ bytes_of_fields p) }
+    ensures fault { IfErr result (λ f. IsFieldsFault head fields bytes.now f) }
 {
     let mut reader = Reader::new(alloc, bytes);
     read_head(&mut reader, b'K')?;
-    let parts = read_written(alloc, &mut reader)?;
+    let fields = read_written(alloc, &mut reader)?;
     let (body, _) = bytes.split_at(bytes.len() - reader.rest_len());
     read_seal(&mut reader, checksum(body))?;
-    Ok(parts)
+    Ok(fields)
 }
 
 /// The export whose bytes these are, in the one form that docs/BYTES.md tells.
@@ -106,6 +106,6 @@ pub fn decode_export(alloc: Global, bytes: &[u8]) -> Result<Export, DecodeFault>
     // The export that has these bytes is read, or there is no memory.
     ensures found { (e : Export) → IsExport e → bytes.now ≡ bytes_of e → GivesBack result e }
 {
-    let (writer, (start, (time, points))) = read_parts(alloc, bytes)?;
+    let (writer, (start, (time, points))) = read_fields(alloc, bytes)?;
     Ok(Export::build(alloc, writer, start, time, points)?)
 }

@@ -1,7 +1,7 @@
 //! The bytes of an export.
 ghost use Rattle.std.specs.Prelude.{◌≡◌, ◌++◌, [], IfOk, OnOk, OnErr};
 ghost use Rattle.bytes_kit.specs.Fits.{IsExport};
-ghost use Rattle.bytes_kit.specs.Format.{parts_of, parts, head, bytes_of, with_checksum};
+ghost use Rattle.bytes_kit.specs.Format.{fields_of, fields, head, bytes_of, with_checksum};
 
 use crate::checksum::checksum;
 use crate::history::History;
@@ -26,8 +26,8 @@ pub(crate) fn seal(out: &mut Vec<u8>) -> Result<(), NoMemory>
 }
 
 // What stands between the head and the checksum.
-fn write_parts(export: &Export, out: &mut Vec<u8>) -> Result<(), NoMemory>
-    ensures written { OnOk result (out.new.items ≡ out.old.items ++ parts (parts_of export.now)) }
+fn write_fields(export: &Export, out: &mut Vec<u8>) -> Result<(), NoMemory>
+    ensures written { OnOk result (out.new.items ≡ out.old.items ++ fields (fields_of export.now)) }
     ensures value { OnOk result (IsExport export.now) }
 {
     let mut history = History::new(*out.allocator());
@@ -37,14 +37,14 @@ fn write_parts(export: &Export, out: &mut Vec<u8>) -> Result<(), NoMemory>
     write_list_behind(export.points(), &mut history, out)
 }
 
-// Head, parts and checksum.
+// Head, fields and checksum.
 fn write_sealed(export: &Export, out: &mut Vec<u8>) -> Result<(), NoMemory>
     requires { out.old.items ≡ [] }
     ensures written { OnOk result (out.new.items ≡ bytes_of export.now) }
     ensures value { OnOk result (IsExport export.now) }
 {
     out.extend_from_slice(&HEAD)?;
-    write_parts(export, out)?;
+    write_fields(export, out)?;
     seal(out)
 }
 

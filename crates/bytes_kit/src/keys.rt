@@ -3,7 +3,7 @@ ghost use Rattle.std.specs.Prelude.{◌≡◌, ◌≢◌, ◌++◌, IfErr, IfOk,
 ghost use Rattle.bytes_kit.specs.Explaining.{IsReadFault};
 ghost use Rattle.bytes_kit.specs.KeyForms.{Inherits, IsAny, IsKeyLike, IsKeyRest, key_before, key_at};
 ghost use Rattle.bytes_kit.specs.MessageFits.{IsKey};
-ghost use Rattle.bytes_kit.specs.Messages.{common, common_form, common_parts, has_few_bounds, is_light, key, past_key, key_rest, past_rest};
+ghost use Rattle.bytes_kit.specs.Messages.{common, common_form, common_fields, has_few_bounds, is_light, key, past_key, key_rest, past_rest};
 ghost use Rattle.bytes_kit.specs.Past.{is_short};
 ghost use Rattle.bytes_kit.specs.Reading.{Reads, NoneAt};
 ghost use Rattle.bytes_kit.specs.declared.fault.DecodeFault.TheVariants as faults;
@@ -53,7 +53,7 @@ fn is_light(stream: &Stream) -> bool
 
 // What writer, start and stream of a key share with the key of the point before it.
 fn common(before: Option<PointRef<'_>>, writer: &WriterId, start: u64, stream: &Stream) -> Shared
-    ensures { result ≡ common_parts (key_before before.entry) writer.now start stream.now }
+    ensures { result ≡ common_fields (key_before before.entry) writer.now start stream.now }
 {
     let Some(before) = before else {
         return Shared::Nothing;

@@ -2,7 +2,7 @@
 ghost use Rattle.std.specs.Prelude.{◌≡◌, ◌≤◌, ◌*◌, ◌∷◌, [], length};
 ghost use Rattle.std.specs.FinMap as finite;
 ghost use Rattle.gossip_kit.specs.Gossip.{CarriesHeld};
-ghost use Rattle.gossip_kit.specs.Views.{MessageView};
+ghost use Rattle.gossip_kit.specs.Views.{MessageModel};
 ghost use Rattle.point_kit.specs.Exports.{Points, join_points, state};
 ghost use Rattle.point_kit.specs.declared.export.Export.{Export};
 ghost use Rattle.bytes_kit.specs.Faults.{GivesBack};
@@ -23,7 +23,7 @@ pub fn one_form()
 
 /// Messages of the same bytes are equal, as every message carries no cells or is no Ack.
 pub fn one_message_form()
-    ensures { (a b : MessageView) → IsOneOf a.points a.delta a.ack → IsOneOf b.points b.delta b.ack
+    ensures { (a b : MessageModel) → IsOneOf a.points a.delta a.ack → IsOneOf b.points b.delta b.ack
         → bytes_of_message a ≡ bytes_of_message b → a ≡ b }
 {}
 
@@ -41,7 +41,7 @@ pub fn stays_sound()
 /// writer and a stream of its own, has at most 65 times as many. So what is read takes memory for no more of them.
 pub fn weighs_no_more()
     ensures exports { (e : Export) → export_weight e ≤ length (bytes_of e) }
-    ensures messages { (m : MessageView) → message_weight m ≤ 65 * length (bytes_of_message m) }
+    ensures messages { (m : MessageModel) → message_weight m ≤ 65 * length (bytes_of_message m) }
 {}
 
 /// Makes the bytes of an export and reads them: an equal export comes back, or `NoMemory`.

@@ -1,9 +1,9 @@
 //! Messages as bytes.
 ghost use Rattle.std.specs.Prelude.{◌≡◌, ◌≢◌, ◌++◌, [], IfErr, IfOk, OnErr, OnOk};
-ghost use Rattle.gossip_kit.specs.Views.{MessageView};
-ghost use Rattle.bytes_kit.specs.Explaining.{ExplainsMessage, IsPartsFault};
-ghost use Rattle.bytes_kit.specs.MessageFits.{GivesMessage, IsInOrder, IsMessage, IsMessageParts, IsSoundPoints};
-ghost use Rattle.bytes_kit.specs.Messages.{MessageParts, bytes_of_message, bytes_of_message_parts, message_head, message_parts, parts_of_message};
+ghost use Rattle.gossip_kit.specs.Views.{MessageModel};
+ghost use Rattle.bytes_kit.specs.Explaining.{ExplainsMessage, IsFieldsFault};
+ghost use Rattle.bytes_kit.specs.MessageFits.{GivesMessage, IsInOrder, IsMessage, IsMessageFields, IsSoundPoints};
+ghost use Rattle.bytes_kit.specs.Messages.{MessageFields, bytes_of_message, bytes_of_message_fields, message_head, message_fields, fields_of_message};
 ghost use Rattle.bytes_kit.specs.Explaining.{IsReadFault};
 ghost use Rattle.bytes_kit.specs.Reading.{Reads};
 ghost use Rattle.bytes_kit.specs.declared.fault.DecodeFault.TheVariants as faults;
@@ -23,8 +23,8 @@ use std::alloc::Global;
 const HEAD: [u8; 5] = [75, 84, 83, 77, 2];
 
 // What stands between the head and the checksum.
-fn write_parts(message: &Message, out: &mut Vec<u8>) -> Result<(), NoMemory>
-    ensures written { OnOk result (out.new.items ≡ out.old.items ++ message_parts (parts_of_message message.now)) }
+fn write_fields(message: &Message, out: &mut Vec<u8>) -> Result<(), NoMemory>
+    ensures written { OnOk result (out.new.items ≡ out.old.items ++ message_fields (fields_of_message message.now)) }
     ensures value { OnOk result (IsMessage message.now) }
 {
     message.from().write(out)?;
@@ -32,14 +32,14 @@ fn write_parts(message: &Message, out: &mut Vec<u8>) -> Result<(), NoMemory>
     write_body(message.body(), out)
 }
 
-// Head, parts and checksum.
+// Head, fields and checksum.
 fn write_sealed(message: &Message, out: &mut Vec<u8>) -> Result<(), NoMemory>
     requires { out.old.items ≡ [] }
     ensures written { OnOk result (out.new.items ≡ bytes_of_message message.now) }
     ensures value { OnOk result (IsMessage message.now) }
 {
     out.extend_from_slice(&HEAD)?;
-    write_parts(message, out)?;
+    write_fields(message, out)?;
     seal(out)
 }
 
@@ -73,8 +73,8 @@ pub fn encode_message(alloc: Global, message: &Message) -> Result<Vec<u8>, NoMem
 }
 
 // Sender, receiver and what is carried.
-fn read_parts(reader: &mut Reader<'_>) -> Result<(u32, u32, Carried), DecodeFault>
-    ensures found { Reads message_parts IsMessageParts reader.old.rest result reader.new.rest }
+fn read_fields(reader: &mut Reader<'_>) -> Result<(u32, u32, Carried), DecodeFault>
+    ensures found { Reads message_fields IsMessageFields reader.old.rest result reader.new.rest }
     ensures sorted { IfOk result (λ s. IsInOrder s.2) }
     ensures end { reader.new.end ≡ reader.old.end }
     ensures fault { IfErr result (IsReadFault reader.old.end) }
@@ -87,17 +87,17 @@ fn read_parts(reader: &mut Reader<'_>) -> Result<(u32, u32, Carried), DecodeFaul
 
 // The same of all bytes, between head and checksum.
 fn read_message(alloc: Global, bytes: &[u8]) -> Result<(u32, u32, Carried), DecodeFault>
-    ensures ok { IfOk result (λ s. bytes.now ≡ bytes_of_message_parts s) }
+    ensures ok { IfOk result (λ s. bytes.now ≡ bytes_of_message_fields s) }
     ensures sorted { IfOk result (λ s. IsInOrder s.2) }
-    ensures err { IfErr result (λ f. f ≢ faults.NoMemory → (s : MessageParts) → IsMessageParts s → bytes.now ≢ bytes_of_message_parts s) }
-    ensures fault { IfErr result (λ f. IsPartsFault message_head message_parts bytes.now f) }
+    ensures err { IfErr result (λ f. f ≢ faults.NoMemory → (s : MessageFields) → IsMessageFields s → bytes.now ≢ bytes_of_message_fields s) }
+    ensures fault { IfErr result (λ f. IsFieldsFault message_head message_fields bytes.now f) }
 {
     let mut reader = Reader::new(alloc, bytes);
     read_head(&mut reader, b'M')?;
-    let parts = read_parts(&mut reader)?;
+    let fields = read_fields(&mut reader)?;
     let (body, _) = bytes.split_at(bytes.len() - reader.rest_len());
     read_seal(&mut reader, checksum(body))?;
-    Ok(parts)
+    Ok(fields)
 }
 
 /// The message whose bytes these are, in the one form that docs/BYTES.md tells.
@@ -117,7 +117,7 @@ pub fn decode_message(alloc: Global, bytes: &[u8]) -> Result<Message, DecodeFaul
     // What each fault says of the bytes.
     ensures fault { IfErr result (ExplainsMessage bytes.now) }
     // The message that has these bytes is read, or there is no memory.
-    ensures found { (m : MessageView) → IsMessage m → IsSoundPoints m.points → bytes.now ≡ bytes_of_message m → GivesMessage result m }
+    ensures found { (m : MessageModel) → IsMessage m → IsSoundPoints m.points → bytes.now ≡ bytes_of_message m → GivesMessage result m }
 {
     let (from, to, carried) = read_message(alloc, bytes)?;
     if let Some(fault) = carried.fault() {

@@ -5,7 +5,7 @@
 
 ghost use Rattle.std.specs.Prelude.{◌≡◌, [], OnOk, pos};
 ghost use Rattle.agg_kit.specs.Entries.{entry_of};
-ghost use Rattle.writer_kit.specs.Recording.{recorded};
+ghost use Rattle.writer_kit.specs.Recording.{after_record};
 
 use attr_kit::{AttrSet, Keep, NoMemory, Seq, Txt};
 use bumpalo::Bump;
@@ -55,7 +55,7 @@ fn ask(alloc: Global) -> Result<Ask, NoMemory> {
 
 // What the service does: it counts three requests, and four.
 fn serve(alloc: Global, writer: &mut Writer) -> Result<(), MeasureFault>
-    ensures { OnOk result (writer.new ≡ recorded (recorded writer.old (entry_of 0 [] (pos 3))) (entry_of 0 [] (pos 4))) }
+    ensures { OnOk result (writer.new ≡ after_record (after_record writer.old (entry_of 0 [] (pos 3))) (entry_of 0 [] (pos 4))) }
 {
     let none = AttrSet::empty(alloc);
     writer.measure(0, &none, 3)?;

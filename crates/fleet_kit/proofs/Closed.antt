@@ -2,9 +2,9 @@
 use Rattle.std.proofs.Common.{◌≡◌, ℕ, ◌+◌, Bool, true, false, cond, is_none, List, [], ◌∷◌, map, Some, None, refl, subst, ◌∙◌, arith}
 use Rattle.agg_kit.specs.Entries.{Entry, entry_of}
 use Rattle.turn_kit.specs.History.{replay, then_next, weigh, weigh_log}
-use Rattle.turn_kit.specs.Places.{ClosedWith}
+use Rattle.turn_kit.specs.TableSeats.{ClosedWith}
 use Rattle.writer_kit.proofs.Sharing.{tells_itself}
-use Rattle.writer_kit.specs.Recording.{recorded}
+use Rattle.writer_kit.specs.Recording.{after_record}
 use Rattle.writer_kit.specs.Refusals.{fault_now}
 use Rattle.writer_kit.specs.Shared.{History, AreToldBy, absorbs, after_writer_change}
 use Rattle.writer_kit.specs.Written.{Written}
@@ -36,8 +36,8 @@ same_but_points [] first w n e = subst (λ (v : Written). v ≡ record first { t
 same_but_points (x ∷ xs) first w n e = by (λ v m r. same_but_points xs v w m r) x.1 n e
   where
     after : ((v : Written) → weigh_log others xs ≡ 0 → replay after_writer_change (Some v) xs ≡ Some w → w ≡ record v { tally = w.tally })
-        → (f : Entry) (b : Bool) → weigh_log others xs ≡ 0 → replay after_writer_change (cond b (Some (recorded first f)) None) xs ≡ Some w → w ≡ record first { tally = w.tally }
-    after go f true n e = go (recorded first f) n e
+        → (f : Entry) (b : Bool) → weigh_log others xs ≡ 0 → replay after_writer_change (cond b (Some (after_record first f)) None) xs ≡ Some w → w ≡ record first { tally = w.tally }
+    after go f true n e = go (after_record first f) n e
     after go f false n e = absurd (stuck xs w e)
 
     by : ((v : Written) → weigh_log others xs ≡ 0 → replay after_writer_change (Some v) xs ≡ Some w → w ≡ record v { tally = w.tally })

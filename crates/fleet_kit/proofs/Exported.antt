@@ -7,7 +7,7 @@ use Rattle.plan_kit.specs.Plans.{Planned}
 use Rattle.point_kit.specs.declared.export.Export.{Export}
 use Rattle.round_kit.specs.Rounds.{points_of}
 use Rattle.round_kit.specs.Rounds as rounds
-use Rattle.turn_kit.specs.Places.{ClosedWith}
+use Rattle.turn_kit.specs.TableSeats.{ClosedWith}
 use Rattle.writer_kit.specs.Recording.{round_now}
 use Rattle.writer_kit.specs.Shared.{History, Serves, after_writer_change, entries_of}
 use Rattle.writer_kit.specs.Written.{Written}

@@ -3,7 +3,7 @@ use Rattle.std.specs.Prelude.{◌≡◌, ℕ, List, [], ◌∷◌, map}
 use Rattle.std.specs.List.{flat_map}
 use Rattle.agg_kit.specs.Entries.{Entry}
 use Rattle.turn_kit.specs.History.{weigh, weigh_all}
-use Rattle.turn_kit.specs.Places.{ClosedWith}
+use Rattle.turn_kit.specs.TableSeats.{ClosedWith}
 use Rattle.writer_kit.specs.Shared.{History, after_writer_change, also_measured, entries_of}
 use Rattle.writer_kit.specs.Written.{Written}
 use Rattle.writer_kit.specs.declared.shared.change.WriterChange.{WriterChange}

@@ -14,8 +14,8 @@ use Rattle.point_kit.specs.Join.{join_cells}
 use Rattle.point_kit.specs.Equality.{payload_eq}
 use Rattle.point_kit.specs.Join.{join_options}
 use Rattle.gateway_kit.specs.Bringing.{Brings, is_new, is_change}
-use Rattle.gateway_kit.specs.Changing.{Entry, Drafts, replacement}
-use Rattle.gateway_kit.specs.Keys.{ItemKey, item_cmp, entry_of}
+use Rattle.gateway_kit.specs.Changing.{KeyedCell, Drafts, replacement}
+use Rattle.gateway_kit.specs.Keys.{ItemKey, item_cmp, keyed_cell_of}
 use Rattle.point_kit.specs.Equality.{cell_eq}
 use Rattle.gateway_kit.specs.declared.item.Item.{Item}
 use Rattle.point_kit.proofs.EqualityLaws.{cell_itself}
@@ -27,10 +27,10 @@ use Rattle.gateway_kit.proofs.Prepared.{brings_none, brings_kept, brings_changed
 pub count_push : {A : Type 0} (p : A → Bool) (xs : List A) (x : A) → count_by p (xs ++ x ∷ []) ≡ count_by p xs + cond (p x) 1 0
 count_push p xs x = sum_by-append (λ y. cond (p y) 1 0) xs (x ∷ []) ∙ ap (λ (n : ℕ). count_by p xs + n) (zero-add (cond (p x) 1 0))
 
-pub drafts_none : (es : List Entry) → Drafts es [] [] []
+pub drafts_none : (es : List KeyedCell) → Drafts es [] [] []
 drafts_none es = record { brings = brings_none item_cmp (join_cells payload_eq) replacement es; changed = refl; new = refl }
 
-module _ (es came : List Entry) (updates : List (ℕ × Cell Payload)) (fresh : List Item) (so_far : Drafts es came updates fresh) (k : ItemKey) (w : Cell Payload) (first : find item_cmp k came ≡ None) where
+module _ (es came : List KeyedCell) (updates : List (ℕ × Cell Payload)) (fresh : List Item) (so_far : Drafts es came updates fresh) (k : ItemKey) (w : Cell Payload) (first : find item_cmp k came ≡ None) where
   change_at : (o : Option (Cell Payload)) → find item_cmp k es ≡ o → is_change item_cmp (join_cells payload_eq) cell_eq es (k, w) ≡ not (option_eq cell_eq o (join_options (join_cells payload_eq) o (Some w)))
   change_at o e = ap (λ x. not (option_eq cell_eq x (join_options (join_cells payload_eq) x (Some w)))) e
 
@@ -45,21 +45,21 @@ module _ (es came : List Entry) (updates : List (ℕ × Cell Payload)) (fresh : 
 
   pub drafts_kept : (v : Cell Payload) → find item_cmp k es ≡ Some v → join_cells payload_eq v w ≡ v → Drafts es (came ++ (k, w) ∷ []) updates fresh
   drafts_kept v there same = record {
-    brings = brings_kept item_cmp (join_cells payload_eq) replacement item_total item_exact es came updates (map entry_of fresh) so_far.brings k w first v there same;
+    brings = brings_kept item_cmp (join_cells payload_eq) replacement item_total item_exact es came updates (map keyed_cell_of fresh) so_far.brings k w first v there same;
     changed = counted false _ (change_at (Some v) there ∙ ap (λ x. not (cell_eq v x)) same ∙ ap not (cell_itself v)) (omega arith);
     new = counted_new false _ (new_at (Some v) there) (omega arith);
   }
 
   pub drafts_changed : T (is_sorted item_cmp es) → (v : Cell Payload) (place : ℕ) (cell : Cell Payload) → find item_cmp k es ≡ Some v → slice_get (map (λ e. e.0) es) place ≡ Some k → cell ≡ join_cells payload_eq v w → cell_eq v cell ≡ false → Drafts es (came ++ (k, w) ∷ []) (updates ++ (place, cell) ∷ []) fresh
   drafts_changed sorted v place cell there at is differs = record {
-    brings = brings_changed item_cmp (join_cells payload_eq) replacement item_total item_exact es came updates (map entry_of fresh) so_far.brings k w first sorted v place cell there at (ap (replacement v) is ∙ joined_stays v w);
+    brings = brings_changed item_cmp (join_cells payload_eq) replacement item_total item_exact es came updates (map keyed_cell_of fresh) so_far.brings k w first sorted v place cell there at (ap (replacement v) is ∙ joined_stays v w);
     changed = counted true _ (change_at (Some v) there ∙ ap (λ x. not (cell_eq v x)) (sym is) ∙ ap not differs) (omega (arith, length-append updates ((place, cell) ∷ [])));
     new = counted_new false _ (new_at (Some v) there) (omega arith);
   }
 
-  pub drafts_fresh : (item : Item) → entry_of item ≡ (k, w) → find item_cmp k es ≡ None → Drafts es (came ++ (k, w) ∷ []) updates (fresh ++ item ∷ [])
+  pub drafts_fresh : (item : Item) → keyed_cell_of item ≡ (k, w) → find item_cmp k es ≡ None → Drafts es (came ++ (k, w) ∷ []) updates (fresh ++ item ∷ [])
   drafts_fresh item is none = record {
-    brings = subst (λ l. Brings item_cmp (join_cells payload_eq) replacement es (came ++ (k, w) ∷ []) updates l) (sym (map-append entry_of fresh (item ∷ []) ∙ ap (λ e. map entry_of fresh ++ e ∷ []) is)) (brings_fresh item_cmp (join_cells payload_eq) replacement item_total item_exact es came updates (map entry_of fresh) so_far.brings k w first none);
+    brings = subst (λ l. Brings item_cmp (join_cells payload_eq) replacement es (came ++ (k, w) ∷ []) updates l) (sym (map-append keyed_cell_of fresh (item ∷ []) ∙ ap (λ e. map keyed_cell_of fresh ++ e ∷ []) is)) (brings_fresh item_cmp (join_cells payload_eq) replacement item_total item_exact es came updates (map keyed_cell_of fresh) so_far.brings k w first none);
     changed = counted true _ (change_at None none) (omega (arith, length-append fresh (item ∷ [])));
     new = counted_new true _ (new_at None none) (omega (arith, length-append fresh (item ∷ [])));
   }

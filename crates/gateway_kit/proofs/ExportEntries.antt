@@ -12,8 +12,8 @@ use Rattle.point_kit.specs.declared.export.Export.{Export}
 use Rattle.point_kit.specs.declared.export_point.ExportPoint.{ExportPoint}
 use Rattle.point_kit.specs.ExportFaults.{same_key}
 use Rattle.point_kit.proofs.Sound.{sound_keys}
-use Rattle.gateway_kit.specs.Changing.{entries_of}
-use Rattle.gateway_kit.specs.Keys.{ItemKey, item_cmp, entry_of}
+use Rattle.gateway_kit.specs.Changing.{keyed_cells_of}
+use Rattle.gateway_kit.specs.Keys.{ItemKey, item_cmp, keyed_cell_of}
 use Rattle.gateway_kit.specs.declared.item.Item.{Item}
 use Rattle.point_kit.specs.declared.cell.Held.TheVariants.{One}
 use Rattle.std.proofs.lemmas.List.{take_more, take-map, map-append}
@@ -57,17 +57,17 @@ first_here f (p ∷ ps) (suc i) x h l is =
     apart p (q ∷ ps) zero x h l is = ap (λ y. eq_by_cmp item_cmp (point_key p) (point_key y)) is ∙ h.0
     apart p (q ∷ ps) (suc i) x h l is = apart p ps i x h.1 (omega arith) is
 
-pub first_point : (e : Export) (i : ℕ) (x : ExportPoint) → i < length e.points → x ≡ get_or e.points i x → find item_cmp (point_key x) (take i (entries_of e)) ≡ None
+pub first_point : (e : Export) (i : ℕ) (x : ExportPoint) → i < length e.points → x ≡ get_or e.points i x → find item_cmp (point_key x) (take i (keyed_cells_of e)) ≡ None
 first_point e i x l is = first_here _ e.points i x (distinct_points e) l is
 
 pub mapped_more : {A B : Type 0} (f : A → B) (xs : List A) (i : ℕ) (x : A) → i < length xs → x ≡ get_or xs i x → take (i + 1) (map f xs) ≡ take i (map f xs) ++ f x ∷ []
 mapped_more f xs i x l is =
     take-map f (i + 1) xs ∙ ap (map f) (take_more xs i x l ∙ ap (λ y. take i xs ++ y ∷ []) (sym is)) ∙ map-append f (take i xs) (x ∷ []) ∙ ap (λ ys. ys ++ f x ∷ []) (sym (take-map f i xs))
 
-pub more_points : (e : Export) (i : ℕ) (x : ExportPoint) → i < length e.points → x ≡ get_or e.points i x → take (i + 1) (entries_of e) ≡ take i (entries_of e) ++ (point_key x, record { time = e.time; held = One x.payload }) ∷ []
+pub more_points : (e : Export) (i : ℕ) (x : ExportPoint) → i < length e.points → x ≡ get_or e.points i x → take (i + 1) (keyed_cells_of e) ≡ take i (keyed_cells_of e) ++ (point_key x, record { time = e.time; held = One x.payload }) ∷ []
 more_points e i x l is = mapped_more (λ p. (point_key p, record { time = e.time; held = One p.payload })) e.points i x l is
 
 -- the keys of items
-pub keys_of_items : (xs : List Item) → map (λ e. e.0) (map entry_of xs) ≡ map (λ x. (entry_of x).0) xs
+pub keys_of_items : (xs : List Item) → map (λ e. e.0) (map keyed_cell_of xs) ≡ map (λ x. (keyed_cell_of x).0) xs
 keys_of_items [] = refl
-keys_of_items (x ∷ xs) = ap (λ l. (entry_of x).0 ∷ l) (keys_of_items xs)
+keys_of_items (x ∷ xs) = ap (λ l. (keyed_cell_of x).0 ∷ l) (keys_of_items xs)

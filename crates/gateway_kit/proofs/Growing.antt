@@ -17,7 +17,7 @@ use Rattle.gateway_kit.specs.Amending.{with_change}
 use Rattle.gateway_kit.specs.Bringing.{is_new, is_change}
 use Rattle.point_kit.specs.Equality.{cell_eq}
 use Rattle.point_kit.specs.declared.cell.Held.TheVariants.{One}
-use Rattle.gateway_kit.specs.Changing.{Entry, Prepares, entries_of, after_growth}
+use Rattle.gateway_kit.specs.Changing.{KeyedCell, Prepares, keyed_cells_of, after_growth}
 use Rattle.gateway_kit.specs.Growth.{Grows, Joins, cells_at}
 use Rattle.gateway_kit.specs.Keys.{IncarnationKey, ItemKey, incarnation_cmp, item_cmp}
 use Rattle.gateway_kit.specs.IncarnationState.{IncarnationState, Cells}
@@ -68,16 +68,16 @@ pub entries-empty : entries no_cells ≡ []
 entries-empty = sym (ap entries (from_sorted-nil {V = Cell Payload} {R = item_cmp})) ∙ entries-from_sorted item_cmp [] tt
 
 -- where something is found there is something
-pub some_found : (es : List Entry) (b : ItemKey) (o : Option (Cell Payload)) → find item_cmp b es ≡ o → is_some o ≡ true → has_some es ≡ true
+pub some_found : (es : List KeyedCell) (b : ItemKey) (o : Option (Cell Payload)) → find item_cmp b es ≡ o → is_some o ≡ true → has_some es ≡ true
 some_found [] b o is some = absurd (true≢false (sym some ∙ ap is_some (sym is)))
 some_found (e ∷ es) b o is some = refl
 
 -- entries with a key among them
-abbrev pub HasEntry : List Entry → Type 0
+abbrev pub HasEntry : List KeyedCell → Type 0
 HasEntry came = (k : ItemKey) × (w : Cell Payload) × (find item_cmp k came ≡ Some w)
 
 -- those of an export with points
-pub export_entry : (e : Export) → e.points ≢ [] → HasEntry (entries_of e)
+pub export_entry : (e : Export) → e.points ≢ [] → HasEntry (keyed_cells_of e)
 export_entry e some = go e.points some
   where
     go : (ps : List ExportPoint) → ps ≢ [] → HasEntry (map (λ q. (point_key q, record { time = e.time; held = One q.payload })) ps)
@@ -93,7 +93,7 @@ pub lone_entry : (k : ItemKey) (w : Cell Payload) → HasEntry ((k, w) ∷ [])
 lone_entry k w = (k, w, ap (λ b. cond b (Some w) None) (itself item_total k))
 
 -- where something comes in there is something then
-pub joins_some : (olds news came : List Entry) (more changed : ℕ) → HasEntry came → Joins olds news came more changed → has_some news ≡ true
+pub joins_some : (olds news came : List KeyedCell) (more changed : ℕ) → HasEntry came → Joins olds news came more changed → has_some news ≡ true
 joins_some olds news came more changed h joins =
     some_found news h.0 (join_options (join_cells payload_eq) (find item_cmp h.0 olds) (find item_cmp h.0 came)) (joins.joined h.0)
     (ap (λ o. is_some (join_options (join_cells payload_eq) (find item_cmp h.0 olds) o)) h.2 ∙ some (find item_cmp h.0 olds))
@@ -109,7 +109,7 @@ within_at f (x ∷ xs) zero k at = omega arith
 within_at f (x ∷ xs) (suc i) k at = let rest = within_at f xs i k at in omega (arith, rest)
 
 -- what was prepared for an incarnation's cells, installed
-pub after_growth_joins : (old : IncarnationState) (cells : Cells) (came : List Entry) (c : Changes) (more changed : ℕ) → Prepares (entries old.cells) came c → cells ≡ from_sorted (after_growth (entries old.cells) c) → more ≡ length c.fresh.items → changed ≡ length c.updates.items + length c.fresh.items → Joins (entries old.cells) (entries cells) came more changed
+pub after_growth_joins : (old : IncarnationState) (cells : Cells) (came : List KeyedCell) (c : Changes) (more changed : ℕ) → Prepares (entries old.cells) came c → cells ≡ from_sorted (after_growth (entries old.cells) c) → more ≡ length c.fresh.items → changed ≡ length c.updates.items + length c.fresh.items → Joins (entries old.cells) (entries cells) came more changed
 after_growth_joins old cells came c more changed prepared is m n =
     let grows : entries (from_sorted {R = item_cmp} (after_growth (entries old.cells) c)) ≡ after_growth (entries old.cells) c = entries-from_sorted item_cmp (after_growth (entries old.cells) c) (as_T (sorted_grown (entries old.cells) c (as_true _ (entries_sorted old.cells)))) in
     record {
@@ -119,7 +119,7 @@ after_growth_joins old cells came c more changed prepared is m n =
     }
 
 -- one incarnation changed in its place, or put in where it belongs
-module _ (olds : List IncarnationState) (len : ℕ) (whole : IsWhole olds len) (a : IncarnationKey) (came : List Entry) (more changed : ℕ) where
+module _ (olds : List IncarnationState) (len : ℕ) (whole : IsWhole olds len) (a : IncarnationKey) (came : List KeyedCell) (more changed : ℕ) where
   pub grows_at : (place : ℕ) (incarnation new : IncarnationState) (cells : Cells) → IsAt incarnation_cmp (map keyed_cells olds) a place → incarnation ≡ get_or olds place incarnation → keyed_cells new ≡ ((incarnation.writer, incarnation.start), cells) → has_some (entries cells) ≡ true → ((b : ItemKey) → find item_cmp b (entries cells) ≡ join_options (join_cells payload_eq) (find item_cmp b (entries incarnation.cells)) (find item_cmp b came)) → more ≡ count_by (is_new item_cmp (entries incarnation.cells)) came → changed ≡ count_by (is_change item_cmp (join_cells payload_eq) cell_eq (entries incarnation.cells)) came → Grows olds (slice_set olds place new) a came more changed
   grows_at place incarnation new cells at is new_is some joined m n =
       let there : find incarnation_cmp a (map keyed_cells olds) ≡ Some incarnation.cells = found_place keyed_cells incarnation_total olds place incarnation a (as_T whole.sorted) at is in
@@ -150,7 +150,7 @@ module _ (olds : List IncarnationState) (len : ℕ) (whole : IsWhole olds len) (
       }
 
 -- the same of calls that join entries into an incarnation
-module _ (olds : List IncarnationState) (len : ℕ) (whole : IsWhole olds len) (a : IncarnationKey) (came : List Entry) (some : HasEntry came) where
+module _ (olds : List IncarnationState) (len : ℕ) (whole : IsWhole olds len) (a : IncarnationKey) (came : List KeyedCell) (some : HasEntry came) where
   pub held_grows : {E : Type 0} (place : ℕ) (incarnation new : IncarnationState) → IsAt incarnation_cmp (map keyed_cells olds) a place → incarnation ≡ get_or olds place incarnation → (r : Result Growth E) → IfOk r (λ g. Joins (entries incarnation.cells) (entries new.cells) came g.more g.changed) → OnOk r ((keyed_cells new).0 ≡ (keyed_cells incarnation).0) → IfOk r (λ g. Grows olds (slice_set olds place new) a came g.more g.changed)
   held_grows place incarnation new at is (Err e) joins same = tt
   held_grows place incarnation new at is (Ok g) joins same = grows_at olds len whole a came g.more g.changed place incarnation new new.cells at is (λ i. (same i, new.cells)) (joins_some (entries incarnation.cells) (entries new.cells) came g.more g.changed some joins) joins.joined joins.more_keys joins.changes

@@ -10,8 +10,8 @@ use Rattle.std.specs.Ordering.{eq_by_cmp}
 use Rattle.point_kit.specs.declared.cell.Cell.{Cell}
 use Rattle.point_kit.specs.declared.payload.Payload.{Payload}
 use Rattle.point_kit.specs.declared.writer_id.WriterId.{WriterId}
-use Rattle.gateway_kit.specs.Changing.{Entry}
-use Rattle.gateway_kit.specs.Keys.{ItemKey, item_cmp, entry_of, key_and_number}
+use Rattle.gateway_kit.specs.Changing.{KeyedCell}
+use Rattle.gateway_kit.specs.Keys.{ItemKey, item_cmp, keyed_cell_of, key_and_number}
 use Rattle.gateway_kit.specs.Numbers.{Moves, ItemsMove, IncarnationMoves, AllAre, IsNumbered, number_after, number_in}
 use Rattle.gateway_kit.specs.IncarnationState.{IncarnationState}
 use Rattle.gateway_kit.specs.Tallies.{are_up_to, rank}
@@ -72,12 +72,12 @@ Has number i = i.number ≡ number
 later : (number : ℕ) (z : Item) (xs : List Item) → AllAre (Has number) (z ∷ xs) → AllAre (Has number) xs
 later number z xs all i x l is = all (suc i) x (omega (arith, l)) is
 
-pub key_and_number_all : (number : ℕ) (xs : List Item) → AllAre (Has number) xs → (q : ItemKey) → number_in item_cmp (map key_and_number xs) q ≡ cond (is_some (find item_cmp q (map entry_of xs))) number 0
+pub key_and_number_all : (number : ℕ) (xs : List Item) → AllAre (Has number) xs → (q : ItemKey) → number_in item_cmp (map key_and_number xs) q ≡ cond (is_some (find item_cmp q (map keyed_cell_of xs))) number 0
 key_and_number_all number [] all q = refl
 key_and_number_all number (z ∷ xs) all q =
     let here : z.number ≡ number = all 0 z (omega arith) refl in
     let rest = key_and_number_all number xs (later number z xs all) q in
-    elim (eq_by_cmp item_cmp q (key_of z)) as (λ b. unwrap_or (cond b (Some z.number) (find item_cmp q (map key_and_number xs))) 0 ≡ cond (is_some (cond b (Some z.cell) (find item_cmp q (map entry_of xs)))) number 0) [
+    elim (eq_by_cmp item_cmp q (key_of z)) as (λ b. unwrap_or (cond b (Some z.number) (find item_cmp q (map key_and_number xs))) 0 ≡ cond (is_some (cond b (Some z.cell) (find item_cmp q (map keyed_cell_of xs)))) number 0) [
       | true ↦ here
       | false ↦ rest
     ]
@@ -90,34 +90,34 @@ all_up_to number (z ∷ xs) all n h =
 
 -- ---- new items
 
-pub woven_move : (number : ℕ) (items fresh : List Item) → is_sorted item_cmp (map entry_of items) ≡ true → is_sorted item_cmp (map entry_of fresh) ≡ true → AllAre (Has number) fresh → ItemsMove number items (weave (λ x y. item_cmp (entry_of x).0 (entry_of y).0) items fresh)
+pub woven_move : (number : ℕ) (items fresh : List Item) → is_sorted item_cmp (map keyed_cell_of items) ≡ true → is_sorted item_cmp (map keyed_cell_of fresh) ≡ true → AllAre (Has number) fresh → ItemsMove number items (weave (λ x y. item_cmp (keyed_cell_of x).0 (keyed_cell_of y).0) items fresh)
 woven_move number items fresh g h all q =
     weave_related item_cmp key_of (λ (i : Item). i.cell) (λ (i : Item). i.number) (At number) (at_stays number) item_total items fresh (as_T g) (as_T h)
-    (λ k. comes_in number (find item_cmp k (map entry_of fresh)) (number_in item_cmp (map key_and_number fresh) k) (key_and_number_all number fresh all k)) q
+    (λ k. comes_in number (find item_cmp k (map keyed_cell_of fresh)) (number_in item_cmp (map key_and_number fresh) k) (key_and_number_all number fresh all k)) q
 
-pub insert_moves : (items : List Item) (item : Item) (place : ℕ) → item.number ≡ 0 → find item_cmp (entry_of item).0 (map entry_of items) ≡ None → ItemsMove 0 items (insert items place item)
+pub insert_moves : (items : List Item) (item : Item) (place : ℕ) → item.number ≡ 0 → find item_cmp (keyed_cell_of item).0 (map keyed_cell_of items) ≡ None → ItemsMove 0 items (insert items place item)
 insert_moves items item place none gone q =
     insert_related item_cmp key_of (λ (i : Item). i.cell) (λ (i : Item). i.number) (At 0) (at_stays 0) item_exact item (comes_in 0 (Some item.cell) item.number none) items place q gone
 
 -- ---- the incarnation
 
-pub numbers_sorted : (items : List Item) → is_sorted item_cmp (map entry_of items) ≡ true → is_sorted item_cmp (map key_and_number items) ≡ true
+pub numbers_sorted : (items : List Item) → is_sorted item_cmp (map keyed_cell_of items) ≡ true → is_sorted item_cmp (map key_and_number items) ≡ true
 numbers_sorted items s = sym (sorted_too item_cmp key_of (λ (i : Item). i.cell) (λ (i : Item). i.number) items) ∙ s
 
 -- the numbers that it shows
-pub numbers_in : (p : IncarnationState) (writer : WriterId) (start : ℕ) (items : List Item) → is_sorted item_cmp (map entry_of items) ≡ true → shows writer start items ≡ p → entries p.numbers ≡ map key_and_number items
+pub numbers_in : (p : IncarnationState) (writer : WriterId) (start : ℕ) (items : List Item) → is_sorted item_cmp (map keyed_cell_of items) ≡ true → shows writer start items ≡ p → entries p.numbers ≡ map key_and_number items
 numbers_in p writer start items sorted is = ap (λ (q : IncarnationState). entries q.numbers) (sym is) ∙ entries-from_sorted item_cmp (map key_and_number items) (as_T (numbers_sorted items sorted))
 
-pub incarnation_moves : (number : ℕ) (old new : IncarnationState) (writer start_writer : WriterId) (start now : ℕ) (items news : List Item) → is_sorted item_cmp (map entry_of items) ≡ true → is_sorted item_cmp (map entry_of news) ≡ true → shows writer start items ≡ old → shows start_writer now news ≡ new → ItemsMove number items news → IncarnationMoves number old new
+pub incarnation_moves : (number : ℕ) (old new : IncarnationState) (writer start_writer : WriterId) (start now : ℕ) (items news : List Item) → is_sorted item_cmp (map keyed_cell_of items) ≡ true → is_sorted item_cmp (map keyed_cell_of news) ≡ true → shows writer start items ≡ old → shows start_writer now news ≡ new → ItemsMove number items news → IncarnationMoves number old new
 incarnation_moves number old new writer other start now items news s t is new_is moves q =
-    subst (λ (es : List Entry). Moves number (find item_cmp q es) (find item_cmp q (entries new.cells)) (number_in item_cmp (entries old.numbers) q) (number_in item_cmp (entries new.numbers) q)) (sym (cells_of old writer start items s is))
-    (subst (λ (es : List Entry). Moves number (find item_cmp q (map entry_of items)) (find item_cmp q es) (number_in item_cmp (entries old.numbers) q) (number_in item_cmp (entries new.numbers) q)) (sym (cells_of new other now news t new_is))
-    (subst (λ (ns : List (ItemKey × ℕ)). Moves number (find item_cmp q (map entry_of items)) (find item_cmp q (map entry_of news)) (number_in item_cmp ns q) (number_in item_cmp (entries new.numbers) q)) (sym (numbers_in old writer start items s is))
-    (subst (λ (ns : List (ItemKey × ℕ)). Moves number (find item_cmp q (map entry_of items)) (find item_cmp q (map entry_of news)) (number_in item_cmp (map key_and_number items) q) (number_in item_cmp ns q)) (sym (numbers_in new other now news t new_is)) (moves q))))
+    subst (λ (es : List KeyedCell). Moves number (find item_cmp q es) (find item_cmp q (entries new.cells)) (number_in item_cmp (entries old.numbers) q) (number_in item_cmp (entries new.numbers) q)) (sym (cells_of old writer start items s is))
+    (subst (λ (es : List KeyedCell). Moves number (find item_cmp q (map keyed_cell_of items)) (find item_cmp q es) (number_in item_cmp (entries old.numbers) q) (number_in item_cmp (entries new.numbers) q)) (sym (cells_of new other now news t new_is))
+    (subst (λ (ns : List (ItemKey × ℕ)). Moves number (find item_cmp q (map keyed_cell_of items)) (find item_cmp q (map keyed_cell_of news)) (number_in item_cmp ns q) (number_in item_cmp (entries new.numbers) q)) (sym (numbers_in old writer start items s is))
+    (subst (λ (ns : List (ItemKey × ℕ)). Moves number (find item_cmp q (map keyed_cell_of items)) (find item_cmp q (map keyed_cell_of news)) (number_in item_cmp (map key_and_number items) q) (number_in item_cmp ns q)) (sym (numbers_in new other now news t new_is)) (moves q))))
 
 -- all of one number, it shows that number of each key
-pub shows_numbered : (number : ℕ) (writer : WriterId) (start : ℕ) (items : List Item) → is_sorted item_cmp (map entry_of items) ≡ true → AllAre (Has number) items → IsNumbered number (shows writer start items)
+pub shows_numbered : (number : ℕ) (writer : WriterId) (start : ℕ) (items : List Item) → is_sorted item_cmp (map keyed_cell_of items) ≡ true → AllAre (Has number) items → IsNumbered number (shows writer start items)
 shows_numbered number writer start items s all q =
     ap (λ (ns : List (ItemKey × ℕ)). number_in item_cmp ns q) (numbers_in (shows writer start items) writer start items s refl)
     ∙ key_and_number_all number items all q
-    ∙ ap (λ (es : List Entry). cond (is_some (find item_cmp q es)) number 0) (sym (cells_of (shows writer start items) writer start items s refl))
+    ∙ ap (λ (es : List KeyedCell). cond (is_some (find item_cmp q es)) number 0) (sym (cells_of (shows writer start items) writer start items s refl))

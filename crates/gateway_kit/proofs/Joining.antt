@@ -26,7 +26,7 @@ use Rattle.point_kit.proofs.OrderLaws.{key_total, key_exact}
 use Rattle.point_kit.proofs.EqualityLaws.{payload_equivalence, payload_exact}
 use Rattle.point_kit.proofs.StateLaws.{get-state_of, get-join_maps}
 use Rattle.gateway_kit.specs.Bringing.{is_new, is_change}
-use Rattle.gateway_kit.specs.Changing.{Entry, entries_of}
+use Rattle.gateway_kit.specs.Changing.{KeyedCell, keyed_cells_of}
 use Rattle.gateway_kit.specs.Growth.{Grows, GrowsBy, cells_at}
 use Rattle.gateway_kit.specs.Keys.{IncarnationKey, ItemKey, incarnation_cmp, item_cmp, whole_key}
 use Rattle.gateway_kit.specs.IncarnationState.{IncarnationState}
@@ -63,7 +63,7 @@ module _ {K P : Type 0} {R : K → K → Ordering} (o : IsTotalOrder R) (anti : 
       ] refl
 
 -- entries of an incarnation, under whole keys
-abbrev pub under : IncarnationKey → List Entry → List (Key × Cell Payload)
+abbrev pub under : IncarnationKey → List KeyedCell → List (Key × Cell Payload)
 under a ts = map (λ t. (whole_key a t.0, t.1)) ts
 
 tied_under : (a : IncarnationKey) (b c : ItemKey) → eq_by_cmp key_cmp (whole_key a b) (whole_key a c) ≡ eq_by_cmp item_cmp b c
@@ -78,28 +78,28 @@ distinct_keys a (k ∷ ks) h = (others a k ks h.0, distinct_keys a ks h.1)
     others a k [] h = tt
     others a k (j ∷ ks) h = (tied_under a k j ∙ h.0, others a k ks h.1)
 
-pub distinct_under : (a : IncarnationKey) (ts : List Entry) → IsDistinct (eq_by_cmp item_cmp) (map (λ t. t.0) ts) → IsDistinct (eq_by_cmp key_cmp) (map (λ t. t.0) (under a ts))
-distinct_under a ts h = subst (IsDistinct (eq_by_cmp key_cmp)) (map_map (whole_key a) (λ (t : Entry). t.0) ts ∙ sym (map_map (λ (t : Key × Cell Payload). t.0) (λ (t : Entry). (whole_key a t.0, t.1)) ts)) (distinct_keys a (map (λ t. t.0) ts) h)
+pub distinct_under : (a : IncarnationKey) (ts : List KeyedCell) → IsDistinct (eq_by_cmp item_cmp) (map (λ t. t.0) ts) → IsDistinct (eq_by_cmp key_cmp) (map (λ t. t.0) (under a ts))
+distinct_under a ts h = subst (IsDistinct (eq_by_cmp key_cmp)) (map_map (whole_key a) (λ (t : KeyedCell). t.0) ts ∙ sym (map_map (λ (t : Key × Cell Payload). t.0) (λ (t : KeyedCell). (whole_key a t.0, t.1)) ts)) (distinct_keys a (map (λ t. t.0) ts) h)
 
-pub find_under : (a c : IncarnationKey) (b : ItemKey) (ts : List Entry) → find key_cmp (whole_key c b) (under a ts) ≡ cond (eq_by_cmp incarnation_cmp c a) (find item_cmp b ts) None
+pub find_under : (a c : IncarnationKey) (b : ItemKey) (ts : List KeyedCell) → find key_cmp (whole_key c b) (under a ts) ≡ cond (eq_by_cmp incarnation_cmp c a) (find item_cmp b ts) None
 find_under a c b [] = elim (eq_by_cmp incarnation_cmp c a) as (λ u. ◌≡◌ {A = Option (Cell Payload)} None (cond u None None)) [ true ↦ refl | false ↦ refl ]
 find_under a c b (t ∷ ts) =
     (λ i. cond ((ap is_eq (compares c a b t.0) ∙ is_eq-then (incarnation_cmp c a) (item_cmp b t.0)) i) (Some t.1) (find_under a c b ts i))
     ∙ elim (eq_by_cmp incarnation_cmp c a) as (λ u. ◌≡◌ {A = Option (Cell Payload)} (cond (cond u (eq_by_cmp item_cmp b t.0) false) (Some t.1) (cond u (find item_cmp b ts) None)) (cond u (cond (eq_by_cmp item_cmp b t.0) (Some t.1) (find item_cmp b ts)) None)) [ true ↦ refl | false ↦ refl ]
 
 -- the state of one export has its entries
-pub state_alone : (e : Export) (q : Key) → get (state (e ∷ [])) q ≡ find key_cmp q (under (e.writer, e.start) (entries_of e))
+pub state_alone : (e : Export) (q : Key) → get (state (e ∷ [])) q ≡ find key_cmp q (under (e.writer, e.start) (keyed_cells_of e))
 state_alone e q =
     get-state_of key_total key_exact payload_eq payload_equivalence payload_exact (flat_map points_of (e ∷ [])) q
     ∙ ap (λ l. best payload_eq (points_under key_cmp q l)) (append-nil (points_of e))
     ∙ best_alone key_total key_exact payload_eq payload_equivalence payload_exact q (points_of e) distinct
-    ∙ ap (find key_cmp q) (map_map (λ p. (p.0, cell_of p.1)) (λ p. (key_of e p, (e.time, p.payload))) e.points ∙ sym (map_map (λ (t : Entry). (whole_key (e.writer, e.start) t.0, t.1)) (λ p. (point_key p, record { time = e.time; held = One p.payload })) e.points))
+    ∙ ap (find key_cmp q) (map_map (λ p. (p.0, cell_of p.1)) (λ p. (key_of e p, (e.time, p.payload))) e.points ∙ sym (map_map (λ (t : KeyedCell). (whole_key (e.writer, e.start) t.0, t.1)) (λ p. (point_key p, record { time = e.time; held = One p.payload })) e.points))
   where
     distinct : IsDistinct (eq_by_cmp key_cmp) (map (λ p. p.0) (points_of e))
     distinct = subst (IsDistinct (eq_by_cmp key_cmp)) (map_map (whole_key (e.writer, e.start)) point_key e.points ∙ sym (map_map (λ p. p.0) (λ p. (key_of e p, (e.time, p.payload))) e.points)) (distinct_keys (e.writer, e.start) (map point_key e.points) (distinct_points e))
 
 -- no key comes twice
-pub apart_entries : (e : Export) → IsDistinct (eq_by_cmp item_cmp) (map (λ t. t.0) (entries_of e))
+pub apart_entries : (e : Export) → IsDistinct (eq_by_cmp item_cmp) (map (λ t. t.0) (keyed_cells_of e))
 apart_entries e = subst (IsDistinct (eq_by_cmp item_cmp)) (sym (map_map (λ t. t.0) (λ p. (point_key p, record { time = e.time; held = One p.payload })) e.points)) (distinct_points e)
 
 -- ---- points in incarnations
@@ -145,7 +145,7 @@ module _ (olds news : List IncarnationState) (len : ℕ) (whole : IsWhole olds l
   }
 
 -- where they are of one incarnation
-module _ (olds news : List IncarnationState) (len : ℕ) (whole : IsWhole olds len) (a : IncarnationKey) (ts : List Entry) (apart : IsDistinct (eq_by_cmp item_cmp) (map (λ t. t.0) ts)) (s : Points) (is : (q : Key) → get s q ≡ find key_cmp q (under a ts)) where
+module _ (olds news : List IncarnationState) (len : ℕ) (whole : IsWhole olds len) (a : IncarnationKey) (ts : List KeyedCell) (apart : IsDistinct (eq_by_cmp item_cmp) (map (λ t. t.0) ts)) (s : Points) (is : (q : Key) → get s q ≡ find key_cmp q (under a ts)) where
   joined_at : (more changed : ℕ) → Grows olds news a ts more changed → (q : Key) → get (from_sorted {R = key_cmp} (all_points news)) q ≡ join_options (join_cells payload_eq) (get (from_sorted {R = key_cmp} (all_points olds)) q) (find key_cmp q (under a ts))
   joined_at more changed grows q = subst (λ x. get (from_sorted {R = key_cmp} (all_points news)) x ≡ join_options (join_cells payload_eq) (get (from_sorted {R = key_cmp} (all_points olds)) x) (find key_cmp x (under a ts))) (split_key q).2 (at (split_key q).0 (split_key q).1)
     where

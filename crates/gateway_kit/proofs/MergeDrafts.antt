@@ -17,9 +17,9 @@ use Rattle.point_kit.specs.declared.payload.Payload.{Payload}
 use Rattle.point_kit.proofs.StateLaws.{get-join_maps}
 use Rattle.gateway_kit.specs.Amending.{with_change, with_changes}
 use Rattle.gateway_kit.specs.Bringing.{Brings, is_new, is_change}
-use Rattle.gateway_kit.specs.Changing.{Entry, Prepares, after_growth, replacement}
+use Rattle.gateway_kit.specs.Changing.{KeyedCell, Prepares, after_growth, replacement}
 use Rattle.gateway_kit.specs.Growth.{cells_at}
-use Rattle.gateway_kit.specs.Keys.{IncarnationKey, incarnation_cmp, item_cmp, entry_of, whole_key}
+use Rattle.gateway_kit.specs.Keys.{IncarnationKey, incarnation_cmp, item_cmp, keyed_cell_of, whole_key}
 use Rattle.gateway_kit.specs.Merging.{MergeDrafts, Merges, join_cell_maps, cells_after, number_within}
 use Rattle.gateway_kit.specs.IncarnationState.{IncarnationState, Cells}
 use Rattle.gateway_kit.specs.Incarnations.{all_points, keyed_cells, has_some, has_cells, entries_at, flatten}
@@ -70,7 +70,7 @@ module _ (olds : List IncarnationState) (sorted : is_sorted incarnation_cmp (map
       (count_map (is_change key_cmp (join_cells payload_eq) cell_eq (all_points olds)) (is_change item_cmp (join_cells payload_eq) cell_eq (cells_at (p.writer, p.start) olds)) (λ t. (whole_key (p.writer, p.start) t.0, t.1))
       (λ t. ap (λ x. not (option_eq cell_eq x (join_options (join_cells payload_eq) x (Some t.1)))) (find_listed olds sorted (p.writer, p.start) t.0)) (entries p.cells))
 
-count_all : (p : Entry → Bool) → ((e : Entry) → p e ≡ true) → (es : List Entry) → count_by p es ≡ length es
+count_all : (p : KeyedCell → Bool) → ((e : KeyedCell) → p e ≡ true) → (es : List KeyedCell) → count_by p es ≡ length es
 count_all p all [] = refl
 count_all p all (e ∷ es) =
     let rest : count_by p es ≡ length es = count_all p all es in
@@ -121,16 +121,16 @@ pub filled_incarnations : (incarnations : List IncarnationState) → list_all ha
 filled_incarnations [] = refl
 filled_incarnations (p ∷ incarnations) = ap (λ b. has_cells p && b) (filled_incarnations incarnations)
 
-some_with_changes : (es : List Entry) (us : List (ℕ × Cell Payload)) → has_some (with_changes replacement es us) ≡ has_some es
+some_with_changes : (es : List KeyedCell) (us : List (ℕ × Cell Payload)) → has_some (with_changes replacement es us) ≡ has_some es
 some_with_changes es [] = refl
 some_with_changes es (u ∷ us) = some_with_changes (with_change replacement es u.0 u.1) us ∙ one es u.0 u.1
   where
-    one : (es : List Entry) (i : ℕ) (c : Cell Payload) → has_some (with_change replacement es i c) ≡ has_some es
+    one : (es : List KeyedCell) (i : ℕ) (c : Cell Payload) → has_some (with_change replacement es i c) ≡ has_some es
     one [] i c = refl
     one (e ∷ es) zero c = refl
     one (e ∷ es) (suc i) c = refl
 
-some_weave : (es fs : List Entry) → has_some es ≡ true → has_some (weave (on_keys item_cmp) es fs) ≡ true
+some_weave : (es fs : List KeyedCell) → has_some es ≡ true → has_some (weave (on_keys item_cmp) es fs) ≡ true
 some_weave [] fs h = absurd (true≢false (sym h))
 some_weave (e ∷ es) [] h = refl
 some_weave (e ∷ es) (f ∷ fs) h = elim (item_cmp e.0 f.0) as (λ r. has_some (by_order r (e ∷ weave (on_keys item_cmp) es (f ∷ fs)) (e ∷ weave (on_keys item_cmp) es fs) (f ∷ weave (on_keys item_cmp) (e ∷ es) fs)) ≡ true) [ Less ↦ refl | Equal ↦ refl | Greater ↦ refl ]
@@ -139,8 +139,8 @@ some_made : (m : Cells) (c : Changes) → has_some (entries m) ≡ true → has_
 some_made m c h =
     let kept : has_some (with_changes replacement (entries m) c.updates.items) ≡ true = some_with_changes (entries m) c.updates.items ∙ h in
     ap has_some (entries_made m c)
-    ∙ elim (nat_le (length (entries m) + length c.fresh.items) (vec_capacity c.room)) as (λ b. has_some (cond b (weave (on_keys item_cmp) (with_changes replacement (entries m) c.updates.items) (map entry_of c.fresh.items)) (with_changes replacement (entries m) c.updates.items)) ≡ true) [
-      | true ↦ some_weave (with_changes replacement (entries m) c.updates.items) (map entry_of c.fresh.items) kept
+    ∙ elim (nat_le (length (entries m) + length c.fresh.items) (vec_capacity c.room)) as (λ b. has_some (cond b (weave (on_keys item_cmp) (with_changes replacement (entries m) c.updates.items) (map keyed_cell_of c.fresh.items)) (with_changes replacement (entries m) c.updates.items)) ≡ true) [
+      | true ↦ some_weave (with_changes replacement (entries m) c.updates.items) (map keyed_cell_of c.fresh.items) kept
       | false ↦ kept
     ]
 

@@ -12,9 +12,9 @@ use Rattle.point_kit.specs.declared.cell.Cell.{Cell}
 use Rattle.point_kit.specs.declared.payload.Payload.{Payload}
 use Rattle.point_kit.specs.declared.writer_id.WriterId.{WriterId}
 use Rattle.gateway_kit.specs.Amending.{with_change}
-use Rattle.gateway_kit.specs.Changing.{Entry, Drafts, replacement}
+use Rattle.gateway_kit.specs.Changing.{KeyedCell, Drafts, replacement}
 use Rattle.gateway_kit.specs.Growth.{Joins}
-use Rattle.gateway_kit.specs.Keys.{ItemKey, item_cmp, entry_of, key_and_number}
+use Rattle.gateway_kit.specs.Keys.{ItemKey, item_cmp, keyed_cell_of, key_and_number}
 use Rattle.gateway_kit.specs.IncarnationState.{IncarnationState}
 use Rattle.gateway_kit.specs.Places.{IsAt, IsGap}
 use Rattle.gateway_kit.specs.Times.{latest}
@@ -26,7 +26,7 @@ use Rattle.gateway_kit.proofs.Joining.{unjoined}
 use Rattle.gateway_kit.specs.KeyOrders.{item_total, item_exact}
 use Rattle.gateway_kit.proofs.Prepared.{brings_held}
 
-module _ (es : List Entry) (k : ItemKey) (w : Cell Payload) where
+module _ (es : List KeyedCell) (k : ItemKey) (w : Cell Payload) where
   -- where the cell that is held stays
   pub joins_kept : (v : Cell Payload) → find item_cmp k es ≡ Some v → join_cells payload_eq v w ≡ v → Joins es es ((k, w) ∷ []) 0 0
   joins_kept v there same =
@@ -48,7 +48,7 @@ module _ (es : List Entry) (k : ItemKey) (w : Cell Payload) where
       }
 
   -- where none is held
-  pub joins_new : (item : Item) → entry_of item ≡ (k, w) → find item_cmp k es ≡ None → Joins es (put item_cmp k w es) ((k, w) ∷ []) 1 1
+  pub joins_new : (item : Item) → keyed_cell_of item ≡ (k, w) → find item_cmp k es ≡ None → Joins es (put item_cmp k w es) ((k, w) ∷ []) 1 1
   joins_new item is none =
       let drafts : Drafts es ((k, w) ∷ []) [] (item ∷ []) = drafts_fresh es [] [] [] (drafts_none es) k w refl item is none in
       record {
@@ -61,50 +61,50 @@ module _ (es : List Entry) (k : ItemKey) (w : Cell Payload) where
       }
 
 -- no key comes twice of one
-pub apart_alone : (k : ItemKey) (w : Cell Payload) → IsDistinct (eq_by_cmp item_cmp) (map (λ (t : Entry). t.0) ((k, w) ∷ []))
+pub apart_alone : (k : ItemKey) (w : Cell Payload) → IsDistinct (eq_by_cmp item_cmp) (map (λ (t : KeyedCell). t.0) ((k, w) ∷ []))
 unfolding IsDistinct
 apart_alone k w = (tt, tt)
 
 -- of items: where the key of the cell stands
-module _ (items : List Item) (sorted : is_sorted item_cmp (map entry_of items) ≡ true) (place : ℕ) (x : Item) (k : ItemKey) (w : Cell Payload) (at : IsAt item_cmp (map entry_of items) k place) (is : x ≡ get_or items place x) where
-  there : find item_cmp k (map entry_of items) ≡ Some x.cell
-  there = found_place entry_of item_total items place x k (as_T sorted) at is
+module _ (items : List Item) (sorted : is_sorted item_cmp (map keyed_cell_of items) ≡ true) (place : ℕ) (x : Item) (k : ItemKey) (w : Cell Payload) (at : IsAt item_cmp (map keyed_cell_of items) k place) (is : x ≡ get_or items place x) where
+  there : find item_cmp k (map keyed_cell_of items) ≡ Some x.cell
+  there = found_place keyed_cell_of item_total items place x k (as_T sorted) at is
 
-  pub kept_at : join_cells payload_eq x.cell w ≡ x.cell → Joins (map entry_of items) (map entry_of items) ((k, w) ∷ []) 0 0
-  kept_at same = joins_kept (map entry_of items) k w x.cell there same
+  pub kept_at : join_cells payload_eq x.cell w ≡ x.cell → Joins (map keyed_cell_of items) (map keyed_cell_of items) ((k, w) ∷ []) 0 0
+  kept_at same = joins_kept (map keyed_cell_of items) k w x.cell there same
 
-  pub changed_at : (news : List Item) (cell : Cell Payload) → map entry_of news ≡ with_change replacement (map entry_of items) place cell → cell ≡ join_cells payload_eq x.cell w → cell_eq x.cell cell ≡ false → Joins (map entry_of items) (map entry_of news) ((k, w) ∷ []) 0 1
+  pub changed_at : (news : List Item) (cell : Cell Payload) → map keyed_cell_of news ≡ with_change replacement (map keyed_cell_of items) place cell → cell ≡ join_cells payload_eq x.cell w → cell_eq x.cell cell ≡ false → Joins (map keyed_cell_of items) (map keyed_cell_of news) ((k, w) ∷ []) 0 1
   changed_at news cell put joined differs =
-      subst (λ (es : List Entry). Joins (map entry_of items) es ((k, w) ∷ []) 0 1) (sym put)
-      (joins_changed (map entry_of items) k w (as_T sorted) x.cell place cell there at joined differs)
+      subst (λ (es : List KeyedCell). Joins (map keyed_cell_of items) es ((k, w) ∷ []) 0 1) (sym put)
+      (joins_changed (map keyed_cell_of items) k w (as_T sorted) x.cell place cell there at joined differs)
 
 -- and where it belongs
-pub new_at : (items : List Item) (item : Item) (place : ℕ) → IsGap item_cmp (map entry_of items) (entry_of item).0 place → Joins (map entry_of items) (map entry_of (insert items place item)) (entry_of item ∷ []) 1 1
+pub new_at : (items : List Item) (item : Item) (place : ℕ) → IsGap item_cmp (map keyed_cell_of items) (keyed_cell_of item).0 place → Joins (map keyed_cell_of items) (map keyed_cell_of (insert items place item)) (keyed_cell_of item ∷ []) 1 1
 new_at items item place gap =
-    subst (λ (es : List Entry). Joins (map entry_of items) es (entry_of item ∷ []) 1 1) (sym (map-insert entry_of items place item ∙ gap.fits item.cell))
-    (joins_new (map entry_of items) (entry_of item).0 item.cell item refl gap.none)
+    subst (λ (es : List KeyedCell). Joins (map keyed_cell_of items) es (keyed_cell_of item ∷ []) 1 1) (sym (map-insert keyed_cell_of items place item ∙ gap.fits item.cell))
+    (joins_new (map keyed_cell_of items) (keyed_cell_of item).0 item.cell item refl gap.none)
 
-pub sorted_at : (items : List Item) (item : Item) (place : ℕ) → is_sorted item_cmp (map entry_of items) ≡ true → IsGap item_cmp (map entry_of items) (entry_of item).0 place → is_sorted item_cmp (map entry_of (insert items place item)) ≡ true
+pub sorted_at : (items : List Item) (item : Item) (place : ℕ) → is_sorted item_cmp (map keyed_cell_of items) ≡ true → IsGap item_cmp (map keyed_cell_of items) (keyed_cell_of item).0 place → is_sorted item_cmp (map keyed_cell_of (insert items place item)) ≡ true
 sorted_at items item place sorted gap =
-    ap (is_sorted item_cmp) (map-insert entry_of items place item ∙ gap.fits item.cell)
-    ∙ as_true _ (is_sorted-put item_cmp item_total (entry_of item).0 item.cell (map entry_of items) (as_T sorted))
+    ap (is_sorted item_cmp) (map-insert keyed_cell_of items place item ∙ gap.fits item.cell)
+    ∙ as_true _ (is_sorted-put item_cmp item_total (keyed_cell_of item).0 item.cell (map keyed_cell_of items) (as_T sorted))
 
-pub latest_insert : (items : List Item) (item : Item) (place : ℕ) → place ≤ length items → latest (map entry_of (insert items place item)) ≡ max (latest (map entry_of items)) item.cell.time
+pub latest_insert : (items : List Item) (item : Item) (place : ℕ) → place ≤ length items → latest (map keyed_cell_of (insert items place item)) ≡ max (latest (map keyed_cell_of items)) item.cell.time
 latest_insert items item zero h = omega arith
 latest_insert [] item (suc place) h = absurd (omega arith)
 latest_insert (x ∷ items) item (suc place) h =
-    let rest : latest (map entry_of (insert items place item)) ≡ max (latest (map entry_of items)) item.cell.time = latest_insert items item place (omega arith) in
+    let rest : latest (map keyed_cell_of (insert items place item)) ≡ max (latest (map keyed_cell_of items)) item.cell.time = latest_insert items item place (omega arith) in
     ap (max x.cell.time) rest ∙ omega arith
 
 -- the same of entries that are equal
-pub joins_alike : (olds others news now : List Entry) (came : Entry) (more changed : ℕ) → olds ≡ others → news ≡ now → Joins olds news (came ∷ []) more changed → Joins others now (came ∷ []) more changed
+pub joins_alike : (olds others news now : List KeyedCell) (came : KeyedCell) (more changed : ℕ) → olds ≡ others → news ≡ now → Joins olds news (came ∷ []) more changed → Joins others now (came ∷ []) more changed
 joins_alike olds others news now came more changed p q joins =
-    subst (λ (es : List Entry). Joins es now (came ∷ []) more changed) p (subst (λ (es : List Entry). Joins olds es (came ∷ []) more changed) q joins)
+    subst (λ (es : List KeyedCell). Joins es now (came ∷ []) more changed) p (subst (λ (es : List KeyedCell). Joins olds es (came ∷ []) more changed) q joins)
 
 -- an incarnation as it is seen
 abbrev pub shows : WriterId → ℕ → List Item → IncarnationState
-shows writer start items = record { writer = writer; start = start; cells = from_sorted {R = item_cmp} (map entry_of items); numbers = from_sorted {R = item_cmp} (map key_and_number items) }
+shows writer start items = record { writer = writer; start = start; cells = from_sorted {R = item_cmp} (map keyed_cell_of items); numbers = from_sorted {R = item_cmp} (map key_and_number items) }
 
 -- the entries that it shows
-pub cells_of : (p : IncarnationState) (writer : WriterId) (start : ℕ) (items : List Item) → is_sorted item_cmp (map entry_of items) ≡ true → shows writer start items ≡ p → entries p.cells ≡ map entry_of items
-cells_of p writer start items sorted is = ap (λ (q : IncarnationState). entries q.cells) (sym is) ∙ entries-from_sorted item_cmp (map entry_of items) (as_T sorted)
+pub cells_of : (p : IncarnationState) (writer : WriterId) (start : ℕ) (items : List Item) → is_sorted item_cmp (map keyed_cell_of items) ≡ true → shows writer start items ≡ p → entries p.cells ≡ map keyed_cell_of items
+cells_of p writer start items sorted is = ap (λ (q : IncarnationState). entries q.cells) (sym is) ∙ entries-from_sorted item_cmp (map keyed_cell_of items) (as_T sorted)

@@ -9,7 +9,7 @@ use Rattle.point_kit.specs.Orders.{key_cmp}
 use Rattle.point_kit.specs.declared.cell.Cell.{Cell}
 use Rattle.point_kit.specs.declared.key.Key.{Key}
 use Rattle.point_kit.specs.declared.payload.Payload.{Payload}
-use Rattle.gateway_kit.specs.Changing.{Entry}
+use Rattle.gateway_kit.specs.Changing.{KeyedCell}
 use Rattle.gateway_kit.specs.Growth.{cells_at}
 use Rattle.gateway_kit.specs.Keys.{IncarnationKey, incarnation_cmp, whole_key}
 use Rattle.gateway_kit.specs.IncarnationState.{IncarnationState}
@@ -49,5 +49,5 @@ pub points_under : (a : IncarnationKey) (ps : List IncarnationState) → is_sort
 points_under a ps sorted = ap (filter (λ e. is_of_incarnation a.0 a.1 e.0)) (entries_points ps sorted) ∙ listed_incarnation a ps (as_T sorted)
 
 -- the greatest time of an incarnation that has cells
-pub newest_under : (a : IncarnationKey) (es : List Entry) → has_some es ≡ true → greatest (map (λ e. e.1.time) (under a es)) ≡ Some (latest es)
-newest_under a es some = ap greatest (map_map (λ (e : Key × Cell Payload). e.1.time) (λ (e : Entry). (whole_key a e.0, e.1)) es) ∙ some_latest es some
+pub newest_under : (a : IncarnationKey) (es : List KeyedCell) → has_some es ≡ true → greatest (map (λ e. e.1.time) (under a es)) ≡ Some (latest es)
+newest_under a es some = ap greatest (map_map (λ (e : Key × Cell Payload). e.1.time) (λ (e : KeyedCell). (whole_key a e.0, e.1)) es) ∙ some_latest es some

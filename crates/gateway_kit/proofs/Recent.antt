@@ -19,9 +19,9 @@ use Rattle.point_kit.specs.declared.payload.Payload.{Payload}
 use Rattle.point_kit.specs.declared.writer_id.WriterId.{WriterId}
 use Rattle.point_kit.specs.Orders.{key_cmp}
 use Rattle.point_kit.proofs.OrderLaws.{key_total, key_exact}
-use Rattle.gateway_kit.specs.Changing.{Entry}
+use Rattle.gateway_kit.specs.Changing.{KeyedCell}
 use Rattle.gateway_kit.specs.Growth.{cells_at}
-use Rattle.gateway_kit.specs.Keys.{IncarnationKey, ItemKey, incarnation_cmp, item_cmp, entry_of, key_and_number, whole_key}
+use Rattle.gateway_kit.specs.Keys.{IncarnationKey, ItemKey, incarnation_cmp, item_cmp, keyed_cell_of, key_and_number, whole_key}
 use Rattle.gateway_kit.specs.Numbers.{AllAre, IsNumbered, number_in, numbers_at}
 use Rattle.gateway_kit.specs.Numbering.{number_of}
 use Rattle.gateway_kit.specs.IncarnationState.{IncarnationState, Cells}
@@ -46,16 +46,16 @@ key_of i = (i.stream, i.attrs)
 
 -- ---- items
 
-below_newer : (number : ℕ) (k : ItemKey) (items : List Item) → T (below_all item_cmp k (map entry_of items)) → T (below_all item_cmp k (map entry_of (newer number items)))
+below_newer : (number : ℕ) (k : ItemKey) (items : List Item) → T (below_all item_cmp k (map keyed_cell_of items)) → T (below_all item_cmp k (map keyed_cell_of (newer number items)))
 below_newer number k [] b = tt
-below_newer number k (z ∷ items) b = elim (nat_lt number z.number) as (λ t. T (below_all item_cmp k (map entry_of (cond t (z ∷ newer number items) (newer number items))))) [
+below_newer number k (z ∷ items) b = elim (nat_lt number z.number) as (λ t. T (below_all item_cmp k (map keyed_cell_of (cond t (z ∷ newer number items) (newer number items))))) [
   | true ↦ both _ _ (first _ _ b) (below_newer number k items (second _ _ b))
   | false ↦ below_newer number k items (second _ _ b)
 ]
 
-pub sorted_newer : (number : ℕ) (items : List Item) → T (is_sorted item_cmp (map entry_of items)) → T (is_sorted item_cmp (map entry_of (newer number items)))
+pub sorted_newer : (number : ℕ) (items : List Item) → T (is_sorted item_cmp (map keyed_cell_of items)) → T (is_sorted item_cmp (map keyed_cell_of (newer number items)))
 sorted_newer number [] s = tt
-sorted_newer number (z ∷ items) s = elim (nat_lt number z.number) as (λ t. T (is_sorted item_cmp (map entry_of (cond t (z ∷ newer number items) (newer number items))))) [
+sorted_newer number (z ∷ items) s = elim (nat_lt number z.number) as (λ t. T (is_sorted item_cmp (map keyed_cell_of (cond t (z ∷ newer number items) (newer number items))))) [
   | true ↦ both _ _ (below_newer number (key_of z) items (first _ _ s)) (sorted_newer number items (second _ _ s))
   | false ↦ sorted_newer number items (second _ _ s)
 ]
@@ -65,18 +65,18 @@ either_none true = refl
 either_none false = refl
 
 -- what is found among them
-found_newer : (number : ℕ) (items : List Item) → T (is_sorted item_cmp (map entry_of items)) → (q : ItemKey) → find item_cmp q (map entry_of (newer number items)) ≡ cond (nat_lt number (number_in item_cmp (map key_and_number items) q)) (find item_cmp q (map entry_of items)) None
+found_newer : (number : ℕ) (items : List Item) → T (is_sorted item_cmp (map keyed_cell_of items)) → (q : ItemKey) → find item_cmp q (map keyed_cell_of (newer number items)) ≡ cond (nat_lt number (number_in item_cmp (map key_and_number items) q)) (find item_cmp q (map keyed_cell_of items)) None
 found_newer number [] s q = either_none (nat_lt number 0)
 found_newer number (z ∷ items) s q =
     let rest = found_newer number items (second _ _ s) q in
     let left = newer number items in
-    elim (eq_by_cmp item_cmp q (key_of z)) as (λ t. eq_by_cmp item_cmp q (key_of z) ≡ t → find item_cmp q (map entry_of (cond (nat_lt number z.number) (z ∷ left) left)) ≡ cond (nat_lt number (unwrap_or (cond t (Some z.number) (find item_cmp q (map key_and_number items))) 0)) (cond t (Some z.cell) (find item_cmp q (map entry_of items))) None) [
-      | true ↦ λ t. elim (nat_lt number z.number) as (λ u. find item_cmp q (map entry_of (cond u (z ∷ left) left)) ≡ cond u (Some z.cell) None) [
-        | true ↦ ap (λ b. cond b (Some z.cell) (find item_cmp q (map entry_of left))) t
-        | false ↦ find_below item_total q (map entry_of left) (below_tied item_total q (key_of z) (map entry_of left) ((Equal-is (item_cmp q (key_of z))).0 t) (below_newer number (key_of z) items (first _ _ s)))
+    elim (eq_by_cmp item_cmp q (key_of z)) as (λ t. eq_by_cmp item_cmp q (key_of z) ≡ t → find item_cmp q (map keyed_cell_of (cond (nat_lt number z.number) (z ∷ left) left)) ≡ cond (nat_lt number (unwrap_or (cond t (Some z.number) (find item_cmp q (map key_and_number items))) 0)) (cond t (Some z.cell) (find item_cmp q (map keyed_cell_of items))) None) [
+      | true ↦ λ t. elim (nat_lt number z.number) as (λ u. find item_cmp q (map keyed_cell_of (cond u (z ∷ left) left)) ≡ cond u (Some z.cell) None) [
+        | true ↦ ap (λ b. cond b (Some z.cell) (find item_cmp q (map keyed_cell_of left))) t
+        | false ↦ find_below item_total q (map keyed_cell_of left) (below_tied item_total q (key_of z) (map keyed_cell_of left) ((Equal-is (item_cmp q (key_of z))).0 t) (below_newer number (key_of z) items (first _ _ s)))
       ]
-      | false ↦ λ t. elim (nat_lt number z.number) as (λ u. find item_cmp q (map entry_of (cond u (z ∷ left) left)) ≡ cond (nat_lt number (number_in item_cmp (map key_and_number items) q)) (find item_cmp q (map entry_of items)) None) [
-        | true ↦ ap (λ b. cond b (Some z.cell) (find item_cmp q (map entry_of left))) t ∙ rest
+      | false ↦ λ t. elim (nat_lt number z.number) as (λ u. find item_cmp q (map keyed_cell_of (cond u (z ∷ left) left)) ≡ cond (nat_lt number (number_in item_cmp (map key_and_number items) q)) (find item_cmp q (map keyed_cell_of items)) None) [
+        | true ↦ ap (λ b. cond b (Some z.cell) (find item_cmp q (map keyed_cell_of left))) t ∙ rest
         | false ↦ rest
       ]
     ] refl
@@ -107,9 +107,9 @@ newer_more number xs i x within is =
     ∙ filter-append (λ (y : Item). nat_lt number y.number) (take i xs) (x ∷ [])
 
 -- the cells that they show
-pub newer_cells : (number : ℕ) (p : IncarnationState) (writer : WriterId) (start : ℕ) (items : List Item) → is_sorted item_cmp (map entry_of items) ≡ true → shows writer start items ≡ p → from_sorted {R = item_cmp} (map entry_of (newer number items)) ≡ recent_cells number p
+pub newer_cells : (number : ℕ) (p : IncarnationState) (writer : WriterId) (start : ℕ) (items : List Item) → is_sorted item_cmp (map keyed_cell_of items) ≡ true → shows writer start items ≡ p → from_sorted {R = item_cmp} (map keyed_cell_of (newer number items)) ≡ recent_cells number p
 newer_cells number p writer start items s is = same_map item_total item_exact _ _ (λ q.
-    get-from_sorted item_cmp (map entry_of (newer number items)) q (sorted_newer number items (as_T s))
+    get-from_sorted item_cmp (map keyed_cell_of (newer number items)) q (sorted_newer number items (as_T s))
     ∙ found_newer number items (as_T s) q
     ∙ (λ i. cond (nat_lt number (number_in item_cmp (sym (numbers_in p writer start items s is) i) q)) (find item_cmp q (sym (cells_of p writer start items s is) i)) None)
     ∙ (λ i. cond (nat_lt number (number_in item_cmp (entries p.numbers) q)) (sym (get-entries p.cells q) i) None)
@@ -119,13 +119,13 @@ entries_none : entries (from_sorted {X = Cell Payload} {R = item_cmp} []) ≡ []
 entries_none = entries-from_sorted item_cmp [] tt
 
 -- where no item has a greater number the incarnation has no such cells
-pub none_recent : (number most : ℕ) (p : IncarnationState) (writer : WriterId) (start : ℕ) (items : List Item) → is_sorted item_cmp (map entry_of items) ≡ true → shows writer start items ≡ p → are_up_to most items ≡ true → has_cells (recent_incarnation number p) ≡ true → nat_lt number most ≡ true
+pub none_recent : (number most : ℕ) (p : IncarnationState) (writer : WriterId) (start : ℕ) (items : List Item) → is_sorted item_cmp (map keyed_cell_of items) ≡ true → shows writer start items ≡ p → are_up_to most items ≡ true → has_cells (recent_incarnation number p) ≡ true → nat_lt number most ≡ true
 none_recent number most p writer start items s is up some = go (nat_lt number most) refl
   where
     none : nat_lt number most ≡ false → has_some (entries (recent_cells number p)) ≡ false
     none g =
         ap (λ (c : Cells). has_some (entries c)) (sym (newer_cells number p writer start items s is))
-        ∙ ap (λ (l : List Item). has_some (entries (from_sorted {R = item_cmp} (map entry_of l)))) (none_newer number most items up g)
+        ∙ ap (λ (l : List Item). has_some (entries (from_sorted {R = item_cmp} (map keyed_cell_of l)))) (none_newer number most items up g)
         ∙ ap has_some entries_none
 
     go : (b : Bool) → nat_lt number most ≡ b → nat_lt number most ≡ true
@@ -172,8 +172,8 @@ filled_recent number (p ∷ ps) =
 
 all_points_cons : (p : IncarnationState) (ps : List IncarnationState) → length (all_points (p ∷ ps)) ≡ length (entries p.cells) + length (all_points ps)
 all_points_cons p ps =
-    length-append (map (λ (t : Entry). (whole_key (p.writer, p.start) t.0, t.1)) (entries p.cells)) (all_points ps)
-    ∙ ap (λ (n : ℕ). n + length (all_points ps)) (length-map (entries p.cells) (λ (t : Entry). (whole_key (p.writer, p.start) t.0, t.1)))
+    length-append (map (λ (t : KeyedCell). (whole_key (p.writer, p.start) t.0, t.1)) (entries p.cells)) (all_points ps)
+    ∙ ap (λ (n : ℕ). n + length (all_points ps)) (length-map (entries p.cells) (λ (t : KeyedCell). (whole_key (p.writer, p.start) t.0, t.1)))
 
 retained : (m : Cells) (test : ItemKey → Bool) → entries (retain_keys m test) ≡ where_key item_cmp test (entries m)
 retained m test = same_entries item_cmp item_total item_exact (entries (retain_keys m test)) (where_key item_cmp test (entries m)) (entries_sorted (retain_keys m test)) (is_sorted-where_key item_cmp test (entries m) (entries_sorted m)) (λ q.
@@ -184,7 +184,7 @@ retained m test = same_entries item_cmp item_total item_exact (entries (retain_k
 
 fewer : (number : ℕ) (p : IncarnationState) → length (entries (recent_cells number p)) ≤ length (entries p.cells)
 fewer number p =
-    let test : Entry → Bool = λ e. nat_lt number (number_in item_cmp (entries p.numbers) e.0) in
+    let test : KeyedCell → Bool = λ e. nat_lt number (number_in item_cmp (entries p.numbers) e.0) in
     let is : length (entries (recent_cells number p)) ≡ length (filter test (entries p.cells)) = ap length (retained p.cells (λ q. nat_lt number (number_in item_cmp (entries p.numbers) q))) in
     let counted = length-filter test (entries p.cells) in
     let few = count_by-le-length test (entries p.cells) in
@@ -224,11 +224,11 @@ all_points_few (z ∷ ps) (suc i) =
     omega (arith, rest, all, so_far)
 
 -- whether a list of items has any, as its entries tell
-pub has_items : (items : List Item) (es : List Entry) → map entry_of items ≡ es → (length items ≡ 0 → ⊥) → has_some es ≡ true
+pub has_items : (items : List Item) (es : List KeyedCell) → map keyed_cell_of items ≡ es → (length items ≡ 0 → ⊥) → has_some es ≡ true
 has_items [] es is some = absurd (some refl)
 has_items (z ∷ items) es is some = sym (ap has_some is)
 
-pub has_none_left : (items : List Item) (es : List Entry) → map entry_of items ≡ es → length items ≡ 0 → has_some es ≡ false
+pub has_none_left : (items : List Item) (es : List KeyedCell) → map keyed_cell_of items ≡ es → length items ≡ 0 → has_some es ≡ false
 has_none_left [] es is none = sym (ap has_some is)
 has_none_left (z ∷ items) es is none = absurd (omega (arith, none))
 
@@ -237,7 +237,7 @@ has_none_left (z ∷ items) es is none = absurd (omega (arith, none))
 nothing_in : (c : Cells) (b : ItemKey) → has_some (entries c) ≡ false → find item_cmp b (entries c) ≡ None
 nothing_in c b none = go (entries c) none
   where
-    go : (es : List Entry) → has_some es ≡ false → find item_cmp b es ≡ None
+    go : (es : List KeyedCell) → has_some es ≡ false → find item_cmp b es ≡ None
     go [] h = refl
     go (e ∷ es) h = absurd (true≢false h)
 
@@ -332,6 +332,6 @@ has_none (z ∷ items) h zero x l is = ap (λ (y : Item). y.number) is ∙ least
     least n g = grind (arith, nat_tests)
 has_none (z ∷ items) h (suc i) x l is = has_none items (second_true (nat_le z.number 0) (are_up_to 0 items) h) i x (omega (arith, l)) is
 
-pub none_numbered : (number most : ℕ) (p : IncarnationState) (writer : WriterId) (start : ℕ) (items : List Item) → is_sorted item_cmp (map entry_of items) ≡ true → shows writer start items ≡ p → are_up_to most items ≡ true → number ≡ 0 → most ≡ 0 → IsNumbered number p
+pub none_numbered : (number most : ℕ) (p : IncarnationState) (writer : WriterId) (start : ℕ) (items : List Item) → is_sorted item_cmp (map keyed_cell_of items) ≡ true → shows writer start items ≡ p → are_up_to most items ≡ true → number ≡ 0 → most ≡ 0 → IsNumbered number p
 none_numbered number most p writer start items s is up zeroed none =
     subst (λ (n : ℕ). IsNumbered n p) (sym zeroed) (subst (λ (q : IncarnationState). IsNumbered 0 q) is (shows_numbered 0 writer start items s (has_none items (subst (λ (n : ℕ). are_up_to n items ≡ true) none up))))

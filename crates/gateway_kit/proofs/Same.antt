@@ -11,7 +11,7 @@ use Rattle.point_kit.specs.Orders.{key_cmp}
 use Rattle.point_kit.specs.declared.cell.Cell.{Cell}
 use Rattle.point_kit.specs.declared.key.Key.{Key}
 use Rattle.point_kit.specs.declared.payload.Payload.{Payload}
-use Rattle.gateway_kit.specs.Changing.{Entry}
+use Rattle.gateway_kit.specs.Changing.{KeyedCell}
 use Rattle.gateway_kit.specs.Growth.{cells_at}
 use Rattle.gateway_kit.specs.Keys.{IncarnationKey, incarnation_cmp, whole_key}
 use Rattle.gateway_kit.specs.IncarnationState.{IncarnationState, Cells}
@@ -42,15 +42,15 @@ same_here f xs ys i x y h k is_x is_y same = same_Some (sym (got_map f xs i x h 
 
 -- ---- incarnations
 
-own_entry : Key × Cell Payload → Entry
+own_entry : Key × Cell Payload → KeyedCell
 own_entry e = ((e.0.stream, e.0.attrs), e.1)
 
-entries_under : (a : IncarnationKey) (es fs : List Entry) → under a es ≡ under a fs → es ≡ fs
+entries_under : (a : IncarnationKey) (es fs : List KeyedCell) → under a es ≡ under a fs → es ≡ fs
 unfolding own_entry
 entries_under a es fs e =
-    sym (map_itself es) ∙ sym (map_map own_entry (λ (t : Entry). (whole_key a t.0, t.1)) es)
+    sym (map_itself es) ∙ sym (map_map own_entry (λ (t : KeyedCell). (whole_key a t.0, t.1)) es)
     ∙ ap (map own_entry) e
-    ∙ map_map own_entry (λ (t : Entry). (whole_key a t.0, t.1)) fs ∙ map_itself fs
+    ∙ map_map own_entry (λ (t : KeyedCell). (whole_key a t.0, t.1)) fs ∙ map_itself fs
 
 -- where all incarnations have cells, one that is found has some
 pub found_filled : (a : IncarnationKey) (ps : List IncarnationState) (m : Cells) → list_all has_cells ps ≡ true → find incarnation_cmp a (map keyed_cells ps) ≡ Some m → has_some (entries m) ≡ true

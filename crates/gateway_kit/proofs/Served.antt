@@ -5,18 +5,18 @@ use Rattle.point_kit.specs.declared.cell.Cell.{Cell}
 use Rattle.point_kit.specs.declared.key.Key.{Key}
 use Rattle.point_kit.specs.declared.payload.Payload.{Payload}
 use Rattle.point_kit.specs.declared.writer_id.WriterId.{WriterId}
-use Rattle.gateway_kit.specs.Changing.{Entry}
+use Rattle.gateway_kit.specs.Changing.{KeyedCell}
 use Rattle.std.proofs.Common.{Option, Some, Bor}
 use Rattle.gateway_kit.specs.declared.item.Item.{Item}
 use Rattle.gateway_kit.specs.declared.points.Points.{Points}
-use Rattle.gateway_kit.specs.Keys.{IncarnationKey, whole_key, entry_of}
+use Rattle.gateway_kit.specs.Keys.{IncarnationKey, whole_key, keyed_cell_of}
 use Rattle.gateway_kit.specs.IncarnationState.{IncarnationState}
 use Rattle.gateway_kit.specs.Incarnations.{all_points}
 use Rattle.gateway_kit.specs.Walks.{items_left, is_asked, points_left}
 use Rattle.gateway_kit.proofs.Entries.{map_map}
 
 -- all entries of an incarnation are of its key
-pub filter_own : (asked : IncarnationKey → Bool) (a : IncarnationKey) (es : List Entry) (rest : List (Key × Cell Payload)) → filter (λ e. asked (e.0.writer, e.0.start)) (map (λ e. (whole_key a e.0, e.1)) es ++ rest) ≡ cond (asked a) (map (λ e. (whole_key a e.0, e.1)) es) [] ++ filter (λ e. asked (e.0.writer, e.0.start)) rest
+pub filter_own : (asked : IncarnationKey → Bool) (a : IncarnationKey) (es : List KeyedCell) (rest : List (Key × Cell Payload)) → filter (λ e. asked (e.0.writer, e.0.start)) (map (λ e. (whole_key a e.0, e.1)) es ++ rest) ≡ cond (asked a) (map (λ e. (whole_key a e.0, e.1)) es) [] ++ filter (λ e. asked (e.0.writer, e.0.start)) rest
 filter_own asked a [] rest = elim (asked a) as (λ b. filter (λ e. asked (e.0.writer, e.0.start)) rest ≡ cond b [] [] ++ filter (λ e. asked (e.0.writer, e.0.start)) rest) [ true ↦ refl | false ↦ refl ]
 filter_own asked a (e ∷ es) rest =
     elim (asked a) as (λ b. filter (λ f. asked (f.0.writer, f.0.start)) (map (λ f. (whole_key a f.0, f.1)) es ++ rest) ≡ cond b (map (λ f. (whole_key a f.0, f.1)) es) [] ++ filter (λ f. asked (f.0.writer, f.0.start)) rest → cond b ((whole_key a e.0, e.1) ∷ filter (λ f. asked (f.0.writer, f.0.start)) (map (λ f. (whole_key a f.0, f.1)) es ++ rest)) (filter (λ f. asked (f.0.writer, f.0.start)) (map (λ f. (whole_key a f.0, f.1)) es ++ rest)) ≡ cond b ((whole_key a e.0, e.1) ∷ map (λ f. (whole_key a f.0, f.1)) es) [] ++ filter (λ f. asked (f.0.writer, f.0.start)) rest) [
@@ -25,7 +25,7 @@ filter_own asked a (e ∷ es) rest =
     ] (filter_own asked a es rest)
 
 -- and so of its writer
-pub filter_incarnation : (asked : WriterId → Bool) (a : IncarnationKey) (es : List Entry) (rest : List (Key × Cell Payload)) → filter (λ e. asked e.0.writer) (map (λ e. (whole_key a e.0, e.1)) es ++ rest) ≡ cond (asked a.0) (map (λ e. (whole_key a e.0, e.1)) es) [] ++ filter (λ e. asked e.0.writer) rest
+pub filter_incarnation : (asked : WriterId → Bool) (a : IncarnationKey) (es : List KeyedCell) (rest : List (Key × Cell Payload)) → filter (λ e. asked e.0.writer) (map (λ e. (whole_key a e.0, e.1)) es ++ rest) ≡ cond (asked a.0) (map (λ e. (whole_key a e.0, e.1)) es) [] ++ filter (λ e. asked e.0.writer) rest
 filter_incarnation asked a es rest = filter_own (λ b. asked b.0) a es rest
 
 pub filter_all : {A : Type 0} (xs : List A) → filter (λ x. true) xs ≡ xs
@@ -40,10 +40,10 @@ passed old here first others none ahead now =
     ∙ ap (λ l. l ++ filter (λ e. is_asked old.service e.0.writer) (all_points others.now)) (sym now)
 
 -- the items of an incarnation under their whole keys
-pub lent : (p : IncarnationState) (items : Bor (List Item)) (bor : Bor IncarnationState) → bor.now ≡ p → map entry_of items.now ≡ entries p.cells → items_left (Some (bor, items)) ≡ map (λ e. (whole_key (p.writer, p.start) e.0, e.1)) (entries p.cells)
+pub lent : (p : IncarnationState) (items : Bor (List Item)) (bor : Bor IncarnationState) → bor.now ≡ p → map keyed_cell_of items.now ≡ entries p.cells → items_left (Some (bor, items)) ≡ map (λ e. (whole_key (p.writer, p.start) e.0, e.1)) (entries p.cells)
 lent p items bor is es =
-    ap (λ (q : IncarnationState). map (λ i. (whole_key (q.writer, q.start) (entry_of i).0, i.cell)) items.now) is
-    ∙ sym (map_map (λ (e : Entry). (whole_key (p.writer, p.start) e.0, e.1)) entry_of items.now)
+    ap (λ (q : IncarnationState). map (λ i. (whole_key (q.writer, q.start) (keyed_cell_of i).0, i.cell)) items.now) is
+    ∙ sym (map_map (λ (e : KeyedCell). (whole_key (p.writer, p.start) e.0, e.1)) keyed_cell_of items.now)
     ∙ ap (map (λ e. (whole_key (p.writer, p.start) e.0, e.1))) es
 
 pub lent_when : {A : Type 0} (asked wanted : Bool) (here all : List A) → asked ≡ true → asked ≡ wanted → here ≡ all → here ≡ cond wanted all []

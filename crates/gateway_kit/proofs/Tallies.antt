@@ -11,8 +11,8 @@ use Rattle.point_kit.specs.declared.key.Key.{Key}
 use Rattle.point_kit.specs.declared.payload.Payload.{Payload}
 use Rattle.point_kit.specs.declared.writer_id.WriterId.{WriterId}
 use Rattle.gateway_kit.specs.Amending.{with_change}
-use Rattle.gateway_kit.specs.Changing.{Entry, replacement}
-use Rattle.gateway_kit.specs.Keys.{entry_of, item_cmp, whole_key}
+use Rattle.gateway_kit.specs.Changing.{KeyedCell, replacement}
+use Rattle.gateway_kit.specs.Keys.{keyed_cell_of, item_cmp, whole_key}
 use Rattle.gateway_kit.specs.IncarnationState.{IncarnationState}
 use Rattle.gateway_kit.specs.Incarnations.{IsWhole, all_points}
 use Rattle.gateway_kit.specs.Queries.{has_conflict}
@@ -23,62 +23,62 @@ use Rattle.gateway_kit.proofs.Counting.{count_cons, count_map}
 use Rattle.gateway_kit.proofs.OneCell.{cells_of, shows}
 use Rattle.gateway_kit.proofs.Times.{below, written}
 
-counted : (e : Entry) (es : List Entry) → conflicts_in (e ∷ es) ≡ conflict e.1 + conflicts_in es
-counted e es = count_cons (λ (d : Entry). has_conflict d.1) e es
+counted : (e : KeyedCell) (es : List KeyedCell) → conflicts_in (e ∷ es) ≡ conflict e.1 + conflicts_in es
+counted e es = count_cons (λ (d : KeyedCell). has_conflict d.1) e es
 
 -- a later cell put at a place
-pub conflicts_put : (xs : List Item) (i : ℕ) (x : Item) (c : Cell Payload) → i < length xs → x ≡ get_or xs i x → rank x.cell < rank c → conflicts_in (with_change replacement (map entry_of xs) i c) + conflict x.cell ≡ conflicts_in (map entry_of xs) + conflict c
+pub conflicts_put : (xs : List Item) (i : ℕ) (x : Item) (c : Cell Payload) → i < length xs → x ≡ get_or xs i x → rank x.cell < rank c → conflicts_in (with_change replacement (map keyed_cell_of xs) i c) + conflict x.cell ≡ conflicts_in (map keyed_cell_of xs) + conflict c
 conflicts_put [] i x c h is up = absurd (omega arith)
 conflicts_put (z ∷ xs) zero x c h is up =
     let comes : replacement z.cell c ≡ c = ap (λ b. cond b c z.cell) (below (rank z.cell) (rank c) (subst (λ (y : Item). rank y.cell < rank c) is up)) in
-    let now : conflicts_in (((entry_of z).0, replacement z.cell c) ∷ map entry_of xs) ≡ conflict c + conflicts_in (map entry_of xs) = counted ((entry_of z).0, replacement z.cell c) (map entry_of xs) ∙ ap (λ (d : Cell Payload). conflict d + conflicts_in (map entry_of xs)) comes in
-    let was : conflicts_in (entry_of z ∷ map entry_of xs) ≡ conflict x.cell + conflicts_in (map entry_of xs) = counted (entry_of z) (map entry_of xs) ∙ ap (λ (y : Item). conflict y.cell + conflicts_in (map entry_of xs)) (sym is) in
-    summed (conflict x.cell) (conflict c) (conflicts_in (map entry_of xs)) _ _ now was
+    let now : conflicts_in (((keyed_cell_of z).0, replacement z.cell c) ∷ map keyed_cell_of xs) ≡ conflict c + conflicts_in (map keyed_cell_of xs) = counted ((keyed_cell_of z).0, replacement z.cell c) (map keyed_cell_of xs) ∙ ap (λ (d : Cell Payload). conflict d + conflicts_in (map keyed_cell_of xs)) comes in
+    let was : conflicts_in (keyed_cell_of z ∷ map keyed_cell_of xs) ≡ conflict x.cell + conflicts_in (map keyed_cell_of xs) = counted (keyed_cell_of z) (map keyed_cell_of xs) ∙ ap (λ (y : Item). conflict y.cell + conflicts_in (map keyed_cell_of xs)) (sym is) in
+    summed (conflict x.cell) (conflict c) (conflicts_in (map keyed_cell_of xs)) _ _ now was
   where
     summed : (a b n now was : ℕ) → now ≡ b + n → was ≡ a + n → now + a ≡ was + b
     summed a b n now was p q = omega arith
 conflicts_put (z ∷ xs) (suc i) x c h is up =
-    let rest : conflicts_in (with_change replacement (map entry_of xs) i c) + conflict x.cell ≡ conflicts_in (map entry_of xs) + conflict c = conflicts_put xs i x c (omega arith) is up in
-    more (conflict z.cell) (conflict x.cell) (conflict c) _ _ _ _ (counted (entry_of z) (with_change replacement (map entry_of xs) i c)) (counted (entry_of z) (map entry_of xs)) rest
+    let rest : conflicts_in (with_change replacement (map keyed_cell_of xs) i c) + conflict x.cell ≡ conflicts_in (map keyed_cell_of xs) + conflict c = conflicts_put xs i x c (omega arith) is up in
+    more (conflict z.cell) (conflict x.cell) (conflict c) _ _ _ _ (counted (keyed_cell_of z) (with_change replacement (map keyed_cell_of xs) i c)) (counted (keyed_cell_of z) (map keyed_cell_of xs)) rest
   where
     more : (z a b m n now was : ℕ) → now ≡ z + m → was ≡ z + n → m + a ≡ n + b → now + a ≡ was + b
     more z a b m n now was p q r = omega arith
 
-pub conflicts_few : (es : List Entry) → conflicts_in es ≤ length es
-conflicts_few es = count_by-le-length (λ (d : Entry). has_conflict d.1) es
+pub conflicts_few : (es : List KeyedCell) → conflicts_in es ≤ length es
+conflicts_few es = count_by-le-length (λ (d : KeyedCell). has_conflict d.1) es
 
 -- a cell that is not earlier, in place of another: what is taken off is there
-module _ (xs : List Item) (i : ℕ) (x : Item) (c : Cell Payload) (within : i < length xs) (is : x ≡ get_or xs i x) (up : rank x.cell < rank c) (before now was : ℕ) (told : before ≡ conflicts_in (map entry_of xs)) (n : now ≡ conflict c) (w : was ≡ conflict x.cell) where
+module _ (xs : List Item) (i : ℕ) (x : Item) (c : Cell Payload) (within : i < length xs) (is : x ≡ get_or xs i x) (up : rank x.cell < rank c) (before now was : ℕ) (told : before ≡ conflicts_in (map keyed_cell_of xs)) (n : now ≡ conflict c) (w : was ≡ conflict x.cell) where
   pub put_under : was ≤ before + now
   put_under = let put = conflicts_put xs i x c within is up in omega (arith, put, told, n, w)
 
-  put_counts : before + now - was ≡ conflicts_in (with_change replacement (map entry_of xs) i c)
+  put_counts : before + now - was ≡ conflicts_in (with_change replacement (map keyed_cell_of xs) i c)
   put_counts = let put = conflicts_put xs i x c within is up in omega (arith, put, told, n, w)
 
-pub written_conflicts : (xs : List Item) (i : ℕ) (x y : Item) (c : Cell Payload) (within : i < length xs) (is : x ≡ get_or xs i x) (lent : y ≡ get_or xs i y) (up : rank x.cell < rank c) (number before now was : ℕ) → before ≡ conflicts_in (map entry_of xs) → now ≡ conflict c → was ≡ conflict x.cell → before + now - was ≡ conflicts_in (map entry_of (slice_set xs i (record { stream = y.stream; attrs = y.attrs; cell = c; number = number; hint = y.hint })))
-written_conflicts xs i x y c within is lent up number before now was told n w = put_counts xs i x c within is up before now was told n w ∙ ap (λ (es : List Entry). conflicts_in es) (sym (written xs i x y c within is lent up number))
+pub written_conflicts : (xs : List Item) (i : ℕ) (x y : Item) (c : Cell Payload) (within : i < length xs) (is : x ≡ get_or xs i x) (lent : y ≡ get_or xs i y) (up : rank x.cell < rank c) (number before now was : ℕ) → before ≡ conflicts_in (map keyed_cell_of xs) → now ≡ conflict c → was ≡ conflict x.cell → before + now - was ≡ conflicts_in (map keyed_cell_of (slice_set xs i (record { stream = y.stream; attrs = y.attrs; cell = c; number = number; hint = y.hint })))
+written_conflicts xs i x y c within is lent up number before now was told n w = put_counts xs i x c within is up before now was told n w ∙ ap (λ (es : List KeyedCell). conflicts_in es) (sym (written xs i x y c within is lent up number))
 
 -- one more entry
-pub conflicts_more : (es : List Entry) (e : Entry) → conflicts_in (es ++ e ∷ []) ≡ conflicts_in es + conflict e.1
-conflicts_more es e = sum_by-append (λ (d : Entry). conflict d.1) es (e ∷ []) ∙ ap (λ (n : ℕ). conflicts_in es + n) (alone (conflict e.1))
+pub conflicts_more : (es : List KeyedCell) (e : KeyedCell) → conflicts_in (es ++ e ∷ []) ≡ conflicts_in es + conflict e.1
+conflicts_more es e = sum_by-append (λ (d : KeyedCell). conflict d.1) es (e ∷ []) ∙ ap (λ (n : ℕ). conflicts_in es + n) (alone (conflict e.1))
   where
     alone : (n : ℕ) → 0 + n ≡ n
     alone n = omega arith
 
-pub conflicts_insert : (items : List Item) (item : Item) (place : ℕ) → conflicts_in (map entry_of (insert items place item)) ≡ conflicts_in (map entry_of items) + conflict item.cell
+pub conflicts_insert : (items : List Item) (item : Item) (place : ℕ) → conflicts_in (map keyed_cell_of (insert items place item)) ≡ conflicts_in (map keyed_cell_of items) + conflict item.cell
 conflicts_insert items item place = of_items (insert items place item) ∙ sum_by-insert (λ (i : Item). conflict i.cell) items place item ∙ ap (λ (n : ℕ). n + conflict item.cell) (sym (of_items items))
   where
-    of_items : (xs : List Item) → conflicts_in (map entry_of xs) ≡ sum_by (λ (i : Item). conflict i.cell) xs
-    of_items xs = count_map (λ (d : Entry). has_conflict d.1) (λ (i : Item). has_conflict i.cell) entry_of (λ i. refl) xs
+    of_items : (xs : List Item) → conflicts_in (map keyed_cell_of xs) ≡ sum_by (λ (i : Item). conflict i.cell) xs
+    of_items xs = count_map (λ (d : KeyedCell). has_conflict d.1) (λ (i : Item). has_conflict i.cell) keyed_cell_of (λ i. refl) xs
 
 -- the conflicts of all incarnations are those of all points
 abbrev points_of : IncarnationState → List (Key × Cell Payload)
-points_of p = map (λ (t : Entry). (whole_key (p.writer, p.start) t.0, t.1)) (entries p.cells)
+points_of p = map (λ (t : KeyedCell). (whole_key (p.writer, p.start) t.0, t.1)) (entries p.cells)
 
 pub conflicts_listed : (incarnations : List IncarnationState) → conflicts_of incarnations ≡ count_by (λ (e : Key × Cell Payload). has_conflict e.1) (all_points incarnations)
 conflicts_listed [] = refl
 conflicts_listed (p ∷ incarnations) =
-    let own : count_by (λ (e : Key × Cell Payload). has_conflict e.1) (points_of p) ≡ incarnation_conflicts p = count_map (λ (e : Key × Cell Payload). has_conflict e.1) (λ (d : Entry). has_conflict d.1) (λ (t : Entry). (whole_key (p.writer, p.start) t.0, t.1)) (λ t. refl) (entries p.cells) in
+    let own : count_by (λ (e : Key × Cell Payload). has_conflict e.1) (points_of p) ≡ incarnation_conflicts p = count_map (λ (e : Key × Cell Payload). has_conflict e.1) (λ (d : KeyedCell). has_conflict d.1) (λ (t : KeyedCell). (whole_key (p.writer, p.start) t.0, t.1)) (λ t. refl) (entries p.cells) in
     let both : count_by (λ (e : Key × Cell Payload). has_conflict e.1) (all_points (p ∷ incarnations)) ≡ count_by (λ (e : Key × Cell Payload). has_conflict e.1) (points_of p) + count_by (λ (e : Key × Cell Payload). has_conflict e.1) (all_points incarnations) = sum_by-append (λ (e : Key × Cell Payload). cond (has_conflict e.1) 1 0) (points_of p) (all_points incarnations) in
     let here : conflicts_of (p ∷ incarnations) ≡ incarnation_conflicts p + conflicts_of incarnations = sum_by-cons incarnation_conflicts p incarnations in
     let rest = conflicts_listed incarnations in
@@ -145,8 +145,8 @@ module _ (olds news : List IncarnationState) (before after total : ℕ) (was : t
       omega (arith, few, long, short, is)
 
 -- the conflicts of an incarnation as its items show them
-pub shown : (p : IncarnationState) (writer : WriterId) (start : ℕ) (items : List Item) (n : ℕ) → is_sorted item_cmp (map entry_of items) ≡ true → shows writer start items ≡ p → n ≡ conflicts_in (map entry_of items) → n ≡ incarnation_conflicts p
-shown p writer start items n sorted is told = told ∙ ap (λ (es : List Entry). conflicts_in es) (sym (cells_of p writer start items sorted is))
+pub shown : (p : IncarnationState) (writer : WriterId) (start : ℕ) (items : List Item) (n : ℕ) → is_sorted item_cmp (map keyed_cell_of items) ≡ true → shows writer start items ≡ p → n ≡ conflicts_in (map keyed_cell_of items) → n ≡ incarnation_conflicts p
+shown p writer start items n sorted is told = told ∙ ap (λ (es : List KeyedCell). conflicts_in es) (sym (cells_of p writer start items sorted is))
 
 pub whole_few : (incarnations : List IncarnationState) (len : ℕ) → IsWhole incarnations len → conflicts_of incarnations ≤ 2 ^ 62
 whole_few incarnations len whole =

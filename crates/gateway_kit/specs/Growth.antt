@@ -10,7 +10,7 @@ use Rattle.point_kit.specs.Orders.{key_cmp}
 use Rattle.point_kit.specs.Equality.{payload_eq}
 use Rattle.point_kit.specs.Join.{join_options}
 use Rattle.gateway_kit.specs.Bringing.{is_new, is_change}
-use Rattle.gateway_kit.specs.Changing.{Entry}
+use Rattle.gateway_kit.specs.Changing.{KeyedCell}
 use Rattle.gateway_kit.specs.Keys.{IncarnationKey, ItemKey, incarnation_cmp, item_cmp}
 use Rattle.gateway_kit.specs.IncarnationState.{IncarnationState, Cells}
 use Rattle.gateway_kit.specs.Incarnations.{IsWhole, all_points, keyed_cells, has_cells, entries_at}
@@ -22,17 +22,17 @@ use Rattle.point_kit.specs.declared.payload.Payload.{Payload}
 use Rattle.gateway_kit.specs.declared.growth.Growth.{Growth}
 
 -- the entries of the incarnation under a key
-abbrev pub cells_at : IncarnationKey → List IncarnationState → List Entry
+abbrev pub cells_at : IncarnationKey → List IncarnationState → List KeyedCell
 cells_at key incarnations = entries_at (find incarnation_cmp key (map keyed_cells incarnations))
 
 -- entries after others came in, how many keys are new and how many changed
-pub record Joins (olds news came : List Entry) (more changed : ℕ) : Type 0 where
+pub record Joins (olds news came : List KeyedCell) (more changed : ℕ) : Type 0 where
   pub joined : (b : ItemKey) → find item_cmp b news ≡ join_options (join_cells payload_eq) (find item_cmp b olds) (find item_cmp b came)
   pub more_keys : more ≡ count_by (is_new item_cmp olds) came
   pub changes : changed ≡ count_by (is_change item_cmp (join_cells payload_eq) cell_eq olds) came
 
 -- an incarnation's entries after others came in
-abbrev pub IncarnationJoins : IncarnationState → IncarnationState → List Entry → Growth → Type 0
+abbrev pub IncarnationJoins : IncarnationState → IncarnationState → List KeyedCell → Growth → Type 0
 IncarnationJoins old new came g = Joins (entries old.cells) (entries new.cells) came g.more g.changed
 
 -- whatever key stands at a place, its cell is joined with one that came
@@ -40,7 +40,7 @@ abbrev pub JoinsAt : IncarnationState → IncarnationState → ℕ → Cell Payl
 JoinsAt old new place cell g = (key : ItemKey) → IsAt item_cmp (entries old.cells) key place → IncarnationJoins old new ((key, cell) ∷ []) g
 
 -- the incarnation under a key is joined with what came, and all others stay
-pub record Grows (olds news : List IncarnationState) (key : IncarnationKey) (came : List Entry) (more changed : ℕ) : Type 0 where
+pub record Grows (olds news : List IncarnationState) (key : IncarnationKey) (came : List KeyedCell) (more changed : ℕ) : Type 0 where
   pub sorted : IsTrue (is_sorted incarnation_cmp (map keyed_cells news))
   pub filled : IsTrue (list_all has_cells news)
   pub cells : Cells

@@ -38,5 +38,5 @@ abbrev pub key_and_number : Item → ItemKey × ℕ
 key_and_number item = ((item.stream, item.attrs), item.number)
 
 -- and with its cell
-abbrev pub entry_of : Item → ItemKey × Cell Payload
-entry_of item = ((item.stream, item.attrs), item.cell)
+abbrev pub keyed_cell_of : Item → ItemKey × Cell Payload
+keyed_cell_of item = ((item.stream, item.attrs), item.cell)

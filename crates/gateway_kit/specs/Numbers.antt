@@ -7,7 +7,7 @@ use Rattle.std.specs.declared.cmp.Ordering.{Ordering}
 use Rattle.point_kit.specs.declared.cell.Cell.{Cell}
 use Rattle.point_kit.specs.declared.payload.Payload.{Payload}
 use Rattle.gateway_kit.specs.Growth.{cells_at}
-use Rattle.gateway_kit.specs.Keys.{IncarnationKey, ItemKey, incarnation_cmp, item_cmp, entry_of, key_and_number}
+use Rattle.gateway_kit.specs.Keys.{IncarnationKey, ItemKey, incarnation_cmp, item_cmp, keyed_cell_of, key_and_number}
 use Rattle.gateway_kit.specs.IncarnationState.{IncarnationState}
 use Rattle.gateway_kit.specs.Incarnations.{entries_at, keyed_numbers}
 use Rattle.gateway_kit.specs.Tallies.{rank}
@@ -32,7 +32,7 @@ Moves number a b n m = ((b ≡ a) × (m ≡ n)) ⊎ ((rank_of a < rank_of b) × 
 
 -- all keys of items
 abbrev pub ItemsMove : ℕ → List Item → List Item → Type 0
-ItemsMove number olds news = (q : ItemKey) → Moves number (find item_cmp q (map entry_of olds)) (find item_cmp q (map entry_of news)) (number_in item_cmp (map key_and_number olds) q) (number_in item_cmp (map key_and_number news) q)
+ItemsMove number olds news = (q : ItemKey) → Moves number (find item_cmp q (map keyed_cell_of olds)) (find item_cmp q (map keyed_cell_of news)) (number_in item_cmp (map key_and_number olds) q) (number_in item_cmp (map key_and_number news) q)
 
 -- all keys of an incarnation
 abbrev pub IncarnationMoves : ℕ → IncarnationState → IncarnationState → Type 0

@@ -6,7 +6,7 @@ use Rattle.std.specs.FinMap.Entries.{is_sorted}
 use Rattle.point_kit.specs.declared.cell.Cell.{Cell}
 use Rattle.point_kit.specs.declared.payload.Payload.{Payload}
 use Rattle.gateway_kit.specs.Bounding.{AreBounds}
-use Rattle.gateway_kit.specs.Keys.{ItemKey, entry_of, item_cmp}
+use Rattle.gateway_kit.specs.Keys.{ItemKey, keyed_cell_of, item_cmp}
 use Rattle.gateway_kit.specs.IncarnationState.{IncarnationState}
 use Rattle.gateway_kit.specs.Queries.{has_conflict}
 use Rattle.gateway_kit.specs.Times.{latest}
@@ -37,8 +37,8 @@ are_up_to number items = list_all (λ i. nat_le i.number number) items
 
 -- items in the order of their keys, their tally, a number that none exceeds, and bounds by their places
 pub record IsKept (items : List Item) (tally : Tally) (number : ℕ) (bounds : Bounds) : Type 0 where
-  pub sorted : IsTrue (is_sorted item_cmp (map entry_of items))
-  pub tallied : IsTally (map entry_of items) tally
+  pub sorted : IsTrue (is_sorted item_cmp (map keyed_cell_of items))
+  pub tallied : IsTally (map keyed_cell_of items) tally
   pub up_to : IsTrue (are_up_to number items)
   pub bounded : AreBounds bounds items
 

@@ -9,13 +9,13 @@ use Rattle.point_kit.specs.declared.writer_id.WriterId.{WriterId}
 use Rattle.gateway_kit.specs.declared.item.Item.{Item}
 use Rattle.gateway_kit.specs.declared.points.PointRef.{PointRef}
 use Rattle.gateway_kit.specs.declared.points.Points.{Points}
-use Rattle.gateway_kit.specs.Keys.{whole_key, entry_of}
+use Rattle.gateway_kit.specs.Keys.{whole_key, keyed_cell_of}
 use Rattle.gateway_kit.specs.IncarnationState.{IncarnationState}
 use Rattle.gateway_kit.specs.Incarnations.{all_points}
 
 -- a lent point, as its key and its cell
-abbrev pub entry_of_ref : PointRef → Key × Cell Payload
-entry_of_ref p = (record { writer = p.writer.now; start = p.start; stream = p.stream.now; attrs = p.attrs.now }, p.cell.now)
+abbrev pub keyed_cell_of_ref : PointRef → Key × Cell Payload
+keyed_cell_of_ref p = (record { writer = p.writer.now; start = p.start; stream = p.stream.now; attrs = p.attrs.now }, p.cell.now)
 
 -- whether a writer is of a service
 abbrev pub is_of : List ℕ → WriterId → Bool
@@ -29,7 +29,7 @@ is_asked (Some service) writer = is_of service.now writer
 -- the items that are left of an incarnation, under their whole keys
 abbrev pub items_left : Option (Bor IncarnationState × Bor (List Item)) → List (Key × Cell Payload)
 items_left None = []
-items_left (Some here) = map (λ i. (whole_key (here.0.now.writer, here.0.now.start) (entry_of i).0, i.cell)) here.1.now
+items_left (Some here) = map (λ i. (whole_key (here.0.now.writer, here.0.now.start) (keyed_cell_of i).0, i.cell)) here.1.now
 
 -- what is left to be lent, in the order of the keys
 abbrev pub points_left : Points → List (Key × Cell Payload)

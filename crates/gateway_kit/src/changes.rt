@@ -1,7 +1,7 @@
 //! What an incarnation is to be changed by.
 ghost use Rattle.std.specs.Prelude.{◌≡◌, [], IsTrue, map};
 ghost use Rattle.std.specs.FinMap.Entries.{is_sorted};
-ghost use Rattle.gateway_kit.specs.Keys.{entry_of, item_cmp};
+ghost use Rattle.gateway_kit.specs.Keys.{keyed_cell_of, item_cmp};
 
 use crate::item::Item;
 use point_kit::Cell;
@@ -15,6 +15,6 @@ pub(crate) struct Changes {
     pub(crate) fresh: Vec<Item>,
     /// Where there are new items: room for them and for those that are there.
     pub(crate) room: Vec<Item>,
-    ghost sorted: { IsTrue (is_sorted item_cmp (map entry_of fresh.items)) },
+    ghost sorted: { IsTrue (is_sorted item_cmp (map keyed_cell_of fresh.items)) },
     ghost empty: { room.items ≡ [] },
 }

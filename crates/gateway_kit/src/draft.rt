@@ -1,10 +1,10 @@
 //! Changes in the making.
 ghost use Rattle.std.specs.Prelude.{List, OnOk, IfOk, IsTrue, map, [], option_copied};
 ghost use Rattle.std.specs.FinMap.Entries.{is_sorted};
-ghost use Rattle.gateway_kit.specs.Changing.{Entry, Drafts, Finishes, TakesIn};
+ghost use Rattle.gateway_kit.specs.Changing.{KeyedCell, Drafts, Finishes, TakesIn};
 ghost use Rattle.std.specs.List.{IsDistinct};
 ghost use Rattle.std.specs.Ordering.{eq_by_cmp};
-ghost use Rattle.gateway_kit.specs.Keys.{entry_of, item_cmp};
+ghost use Rattle.gateway_kit.specs.Keys.{keyed_cell_of, item_cmp};
 ghost use Rattle.gateway_kit.specs.Places.{IsPlace};
 
 use crate::cells::{copy_held, update_of};
@@ -25,7 +25,7 @@ pub(crate) struct Draft {
 
 impl Draft {
     pub(crate) fn new(alloc: Global) -> Draft
-        ensures { (es : List Entry) → Drafts es [] result.updates.items result.fresh.items }
+        ensures { (es : List KeyedCell) → Drafts es [] result.updates.items result.fresh.items }
     {
         Draft {
             updates: Vec::new(alloc),
@@ -51,8 +51,8 @@ impl Draft {
         time: u64,
         payload: Option<&Payload>,
     ) -> Result<(), NoMemory>
-        requires sorted { IsTrue (is_sorted item_cmp (map entry_of items.now)) }
-        requires placed { IsPlace item_cmp (map entry_of items.now) (stream.now, attrs.now) place }
+        requires sorted { IsTrue (is_sorted item_cmp (map keyed_cell_of items.now)) }
+        requires placed { IsPlace item_cmp (map keyed_cell_of items.now) (stream.now, attrs.now) place }
         ensures { OnOk result (TakesIn items.now (stream.now, attrs.now) time (option_copied payload.entry) self.old self.new) }
     {
         match place {
@@ -81,7 +81,7 @@ impl Draft {
 
     /// Makes room beside the n items that are there.
     pub(crate) fn finish(self, alloc: Global, items: &[Item]) -> Result<Changes, NoMemory>
-        requires { IsDistinct (eq_by_cmp item_cmp) (map (λ i. (entry_of i).0) self.fresh.items) }
+        requires { IsDistinct (eq_by_cmp item_cmp) (map (λ i. (keyed_cell_of i).0) self.fresh.items) }
         ensures { IfOk result (λ c. Finishes items.now self c) }
     {
         let Draft { updates, fresh } = self;

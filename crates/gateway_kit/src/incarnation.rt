@@ -3,9 +3,9 @@ ghost use Rattle.std.specs.Prelude.{◌≡◌, ◌^◌, IsTrue, IfOk, OnOk, OnEr
 ghost use Rattle.std.specs.FinMap as finite;
 ghost use Rattle.std.specs.FinMap.{entries, from_sorted};
 ghost use Rattle.std.specs.FinMap.Entries.{is_sorted, find};
-ghost use Rattle.gateway_kit.specs.Changing.{Prepares, entries_of, after_growth};
+ghost use Rattle.gateway_kit.specs.Changing.{Prepares, keyed_cells_of, after_growth};
 ghost use Rattle.gateway_kit.specs.Growth.{IncarnationJoins, Joins, JoinsAt};
-ghost use Rattle.gateway_kit.specs.Keys.{entry_of, item_cmp, incarnation_cmp};
+ghost use Rattle.gateway_kit.specs.Keys.{keyed_cell_of, item_cmp, incarnation_cmp};
 ghost use Rattle.gateway_kit.specs.Numbers.{IsNumbered, IncarnationMoves};
 ghost use Rattle.gateway_kit.specs.Incarnations.{keyed_cells, has_cells};
 ghost use Rattle.gateway_kit.specs.Places.{IsGap};
@@ -49,7 +49,7 @@ impl Model for Incarnation {
     ghost use Rattle.std.specs.Prelude.{map};
     ghost use Rattle.std.specs.FinMap.{from_sorted, code};
     ghost use Rattle.std.specs.Coded.{codes};
-    ghost use Rattle.gateway_kit.specs.Keys.{entry_of, item_cmp, key_and_number};
+    ghost use Rattle.gateway_kit.specs.Keys.{keyed_cell_of, item_cmp, key_and_number};
     ghost use Rattle.gateway_kit.specs.IncarnationState.{IncarnationState};
     ghost use Rattle.gateway_kit.specs.Tallies.{IsKept};
 
@@ -57,7 +57,7 @@ impl Model for Incarnation {
 
     ghost coded = { Prim.hlevel (codes, code) };
 
-    ghost view = { λ i. record { writer = i.writer; start = i.start; cells = from_sorted {R = item_cmp} (map entry_of i.items.items); numbers = from_sorted {R = item_cmp} (map key_and_number i.items.items) } };
+    ghost view = { λ i. record { writer = i.writer; start = i.start; cells = from_sorted {R = item_cmp} (map keyed_cell_of i.items.items); numbers = from_sorted {R = item_cmp} (map key_and_number i.items.items) } };
 
     ghost invariant = { λ i. IsKept i.items.items i.tally i.number i.bounds };
 }
@@ -87,8 +87,8 @@ impl Incarnation {
     }
 
     pub(crate) fn items(&self) -> &[Item]
-        ensures entries { map entry_of result.now ≡ entries self.now.cells }
-        ensures sorted { IsTrue (is_sorted item_cmp (map entry_of result.now)) }
+        ensures entries { map keyed_cell_of result.now ≡ entries self.now.cells }
+        ensures sorted { IsTrue (is_sorted item_cmp (map keyed_cell_of result.now)) }
     {
         self.items.as_slice()
     }
@@ -130,7 +130,7 @@ impl Incarnation {
 
     // What the points of an export, which is of this incarnation, change.
     fn changes_by(&mut self, alloc: Global, export: &Export) -> Result<Changes, NoMemory>
-        ensures prepares { IfOk result (λ c. Prepares (entries self.old.cells) (entries_of export.now) c) }
+        ensures prepares { IfOk result (λ c. Prepares (entries self.old.cells) (keyed_cells_of export.now) c) }
         ensures unchanged { self.new ≡ self.old }
     {
         draft_changes(&mut self.items, alloc, export)
@@ -145,7 +145,7 @@ impl Incarnation {
         export: &Export,
     ) -> Result<Growth, NoMemory>
         requires { len ≤ 2 ^ 62 }
-        ensures joins { IfOk result (λ g. IncarnationJoins self.old self.new (entries_of export.now) g) }
+        ensures joins { IfOk result (λ g. IncarnationJoins self.old self.new (keyed_cells_of export.now) g) }
         ensures same { OnOk result ((keyed_cells self.new).0 ≡ (keyed_cells self.old).0) }
         ensures moves { OnOk result (IncarnationMoves number self.old self.new) }
         ensures bounded { IfOk result (λ g. len + g.more ≤ 2 ^ 62) }
@@ -267,7 +267,7 @@ impl Incarnation {
     fn join_new(&mut self, place: usize, item: Item) -> Result<(), NoMemory>
         requires gap { IsGap item_cmp (entries self.old.cells) (item.stream, item.attrs) place }
         requires no_number { item.number ≡ 0 }
-        ensures joins { OnOk result (Joins (entries self.old.cells) (entries self.new.cells) (entry_of item ∷ []) 1 1) }
+        ensures joins { OnOk result (Joins (entries self.old.cells) (entries self.new.cells) (keyed_cell_of item ∷ []) 1 1) }
         ensures same { OnOk result ((keyed_cells self.new).0 ≡ (keyed_cells self.old).0) }
         ensures moves { OnOk result (IncarnationMoves 0 self.old self.new) }
         ensures unchanged { OnErr result (self.new ≡ self.old) }

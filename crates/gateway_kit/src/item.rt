@@ -1,6 +1,6 @@
 //! One point of an incarnation.
 ghost use Rattle.std.specs.Prelude.{◌≡◌, IsTrue};
-ghost use Rattle.gateway_kit.specs.Keys.{ItemKey, entry_of, item_cmp};
+ghost use Rattle.gateway_kit.specs.Keys.{ItemKey, keyed_cell_of, item_cmp};
 ghost use Rattle.gateway_kit.specs.Numbers.{number_after};
 
 use crate::hint::Hint;
@@ -81,7 +81,7 @@ impl Keyed for Item {
 
     ghost compare = { item_cmp };
 
-    ghost entry = { entry_of };
+    ghost entry = { keyed_cell_of };
 
     ghost IsNumbered = { λ number item. item.number ≡ number };
 

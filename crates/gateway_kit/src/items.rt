@@ -4,7 +4,7 @@ ghost use Rattle.std.specs.FinMap.Entries.{is_sorted};
 ghost use Rattle.gateway_kit.specs.Amending.{with_change, with_changes};
 ghost use Rattle.gateway_kit.specs.Bounding.{AreBounds};
 ghost use Rattle.gateway_kit.specs.Changing.{replacement, woven_items};
-ghost use Rattle.gateway_kit.specs.Keys.{entry_of, item_cmp};
+ghost use Rattle.gateway_kit.specs.Keys.{keyed_cell_of, item_cmp};
 ghost use Rattle.gateway_kit.specs.Places.{IsPlace};
 ghost use Rattle.gateway_kit.specs.Numbers.{ItemsMove};
 ghost use Rattle.gateway_kit.specs.Tallies.{IsTally, are_up_to};
@@ -25,8 +25,8 @@ use std::mem;
 
 /// The place of a key among items, or where it belongs: O(log n).
 pub(crate) fn place_of(items: &[Item], stream: &Stream, attrs: &AttrSet) -> Result<usize, usize>
-    requires { IsTrue (is_sorted item_cmp (map entry_of items.now)) }
-    ensures { IsPlace item_cmp (map entry_of items.now) (stream.now, attrs.now) result }
+    requires { IsTrue (is_sorted item_cmp (map keyed_cell_of items.now)) }
+    ensures { IsPlace item_cmp (map keyed_cell_of items.now) (stream.now, attrs.now) result }
 {
     items.binary_search_by(|item| item.order(stream, attrs))
 }
@@ -39,8 +39,8 @@ pub(crate) fn place_near(
     stream: &Stream,
     attrs: &AttrSet,
 ) -> Result<usize, usize>
-    requires { IsTrue (is_sorted item_cmp (map entry_of items.now)) }
-    ensures { IsPlace item_cmp (map entry_of items.now) (stream.now, attrs.now) result }
+    requires { IsTrue (is_sorted item_cmp (map keyed_cell_of items.now)) }
+    ensures { IsPlace item_cmp (map keyed_cell_of items.now) (stream.now, attrs.now) result }
 {
     if guess < items.len() && items[guess].is_of(stream, attrs) {
         return Ok(guess);
@@ -84,7 +84,7 @@ pub(crate) fn newer_items(
 
 /// The tally of items: one walk.
 pub(crate) fn tally_of(items: &[Item]) -> Tally
-    ensures { IsTally (map entry_of items.now) result }
+    ensures { IsTally (map keyed_cell_of items.now) result }
 {
     let mut tally = Tally::NONE;
     for item in items {
@@ -103,9 +103,9 @@ pub(crate) fn put_cell(
     place: usize,
     cell: Cell,
 ) -> Tally
-    requires { IsTally (map entry_of items.old.items) tally }
-    ensures put { map entry_of items.new.items ≡ with_change replacement (map entry_of items.old.items) place cell }
-    ensures tally { IsTally (map entry_of items.new.items) result }
+    requires { IsTally (map keyed_cell_of items.old.items) tally }
+    ensures put { map keyed_cell_of items.new.items ≡ with_change replacement (map keyed_cell_of items.old.items) place cell }
+    ensures tally { IsTally (map keyed_cell_of items.new.items) result }
     ensures moves { ItemsMove number items.old.items items.new.items }
     ensures up_to { (n : ℕ) → number ≤ n → IsTrue (are_up_to n items.old.items) → IsTrue (are_up_to n items.new.items) }
     ensures bounded { AreBounds bounds.old items.old.items → AreBounds bounds.new items.new.items }
@@ -134,9 +134,9 @@ pub(crate) fn put_cells(
     number: u64,
     updates: Vec<(usize, Cell)>,
 ) -> Tally
-    requires { IsTally (map entry_of items.old.items) tally }
-    ensures put { map entry_of items.new.items ≡ with_changes replacement (map entry_of items.old.items) updates.items }
-    ensures tally { IsTally (map entry_of items.new.items) result }
+    requires { IsTally (map keyed_cell_of items.old.items) tally }
+    ensures put { map keyed_cell_of items.new.items ≡ with_changes replacement (map keyed_cell_of items.old.items) updates.items }
+    ensures tally { IsTally (map keyed_cell_of items.new.items) result }
     ensures moves { ItemsMove number items.old.items items.new.items }
     ensures up_to { (n : ℕ) → number ≤ n → IsTrue (are_up_to n items.old.items) → IsTrue (are_up_to n items.new.items) }
     ensures bounded { AreBounds bounds.old items.old.items → AreBounds bounds.new items.new.items }
@@ -160,7 +160,7 @@ fn follow(items: &mut Vec<Item>, place: usize, places: &[u32])
 // Sets the guesses right after new items came in between, by where each item has moved to, and makes the tally: one walk.
 fn settle(items: &mut Vec<Item>, places: &[u32]) -> Tally
     ensures same { items.new.items ≡ items.old.items }
-    ensures tally { IsTally (map entry_of items.old.items) result }
+    ensures tally { IsTally (map keyed_cell_of items.old.items) result }
 {
     let mut tally = Tally::NONE;
     for place in 0..items.len() {
@@ -181,14 +181,14 @@ pub(crate) fn put_items(
     room: Vec<Item>,
 ) -> Tally
     requires empty { room.items ≡ [] }
-    requires tallied { IsTally (map entry_of items.old.items) tally }
-    requires sorted { IsTrue (is_sorted item_cmp (map entry_of items.old.items)) }
-    requires fresh_sorted { IsTrue (is_sorted item_cmp (map entry_of fresh.items)) }
-    ensures tally { IsTally (map entry_of items.new.items) result }
+    requires tallied { IsTally (map keyed_cell_of items.old.items) tally }
+    requires sorted { IsTrue (is_sorted item_cmp (map keyed_cell_of items.old.items)) }
+    requires fresh_sorted { IsTrue (is_sorted item_cmp (map keyed_cell_of fresh.items)) }
+    ensures tally { IsTally (map keyed_cell_of items.new.items) result }
     ensures moves { ItemsMove number items.old.items items.new.items }
     ensures up_to { (n : ℕ) → number ≤ n → IsTrue (are_up_to n items.old.items) → IsTrue (are_up_to n items.new.items) }
     ensures bounded { AreBounds bounds.old items.old.items → AreBounds bounds.new items.new.items }
-    ensures woven { map entry_of items.new.items ≡ woven_items items.old.items fresh.items (vec_capacity room) }
+    ensures woven { map keyed_cell_of items.new.items ≡ woven_items items.old.items fresh.items (vec_capacity room) }
 {
     if !fresh.is_empty() && fresh.len() <= room.capacity().saturating_sub(items.len()) {
         renumber_all(&mut fresh, number);

@@ -1,7 +1,7 @@
 //! The points of a gateway, lent in the order of their keys.
 ghost use Rattle.std.specs.Prelude.{◌≡◌, ◌∷◌, [], IfNone, IfSome, MatchOption};
 ghost use Rattle.std.specs.Iterator.{YieldsFirstBy, item_count};
-ghost use Rattle.gateway_kit.specs.Walks.{entry_of_ref, is_asked, items_left, points_left};
+ghost use Rattle.gateway_kit.specs.Walks.{keyed_cell_of_ref, is_asked, items_left, points_left};
 
 use crate::incarnation::Incarnation;
 use crate::item::Item;
@@ -41,7 +41,7 @@ impl<'a> Points<'a> {
     // The next item of the incarnation that is lent.
     fn next_here(&mut self) -> Option<PointRef<'a>>
         ensures none { IfNone result (items_left self.old.here ≡ []) }
-        ensures some { IfSome result (λ p. points_left self.old ≡ entry_of_ref p ∷ points_left self.new) }
+        ensures some { IfSome result (λ p. points_left self.old ≡ keyed_cell_of_ref p ∷ points_left self.new) }
         ensures same { MatchOption result (self.new ≡ self.old) (λ p. self.new.ahead ≡ self.old.ahead) }
     {
         let (incarnation, items) = self.here?;
@@ -60,7 +60,7 @@ impl<'a> Points<'a> {
 impl<'a> Iterator for Points<'a> {
     type Item = PointRef<'a>;
 
-    ghost next_gives = { YieldsFirstBy entry_of_ref points_left };
+    ghost next_gives = { YieldsFirstBy keyed_cell_of_ref points_left };
 
     ghost remaining = { item_count points_left };
 

@@ -1,8 +1,8 @@
 //! Where the points of an export stand among items, looked for from one to the next.
 ghost use Rattle.std.specs.Prelude.{◌≡◌, IsTrue, IfOk, map};
 ghost use Rattle.std.specs.FinMap.Entries.{is_sorted};
-ghost use Rattle.gateway_kit.specs.Changing.{Prepares, entries_of};
-ghost use Rattle.gateway_kit.specs.Keys.{entry_of, item_cmp};
+ghost use Rattle.gateway_kit.specs.Changing.{Prepares, keyed_cells_of};
+ghost use Rattle.gateway_kit.specs.Keys.{keyed_cell_of, item_cmp};
 
 use crate::changes::Changes;
 use crate::draft::Draft;
@@ -43,8 +43,8 @@ pub(crate) fn draft_changes(
     alloc: Global,
     export: &Export,
 ) -> Result<Changes, NoMemory>
-    requires { IsTrue (is_sorted item_cmp (map entry_of items.old.items)) }
-    ensures prepares { IfOk result (λ c. Prepares (map entry_of items.old.items) (entries_of export.now) c) }
+    requires { IsTrue (is_sorted item_cmp (map keyed_cell_of items.old.items)) }
+    ensures prepares { IfOk result (λ c. Prepares (map keyed_cell_of items.old.items) (keyed_cells_of export.now) c) }
     ensures unchanged { items.new.items ≡ items.old.items }
 {
     let mut draft = Draft::new(alloc);

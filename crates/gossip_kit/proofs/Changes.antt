@@ -10,14 +10,14 @@ use Rattle.gateway_kit.specs.Numbering.{IsNumberedBy}
 use Rattle.gateway_kit.specs.GatewayState.{GatewayState}
 use Rattle.gateway_kit.proofs.Merged.{joined_empty}
 use Rattle.gossip_kit.specs.Gossip.{Renumbers, next_number}
-use Rattle.gossip_kit.specs.Views.{NodeView}
+use Rattle.gossip_kit.specs.Views.{NodeModel}
 
 -- what is joined into nothing is itself
 pub alone : (m : Points) → join_points empty m ≡ m
 alone m = points_commute empty m ∙ sym (joined_empty m)
 
 -- the numbers of a node are those of its gateway
-abbrev pub AreOwn : NodeView → Type 0
+abbrev pub AreOwn : NodeModel → Type 0
 AreOwn node = node.numbers ≡ node.gateway.numbers
 
 -- where points differ some key changed
@@ -26,7 +26,7 @@ some_changed old new zero count differs = absurd (differs (sym (unchanged_points
 some_changed old new (suc n) count differs = omega arith
 
 -- a call that gave all that it changed the next number, and counted it where it changed a key
-pub renumbers : (old new : NodeView) (g : GatewayState) (number n : ℕ) → AreOwn old → AreOwn new → g ≡ old.gateway → number ≡ next_number old.change → IsNumberedBy number g new.gateway → n ≡ changed_points g.points new.gateway.points → (0 < n → new.change ≡ number) → (n ≡ 0 → new.change ≡ old.change) → Renumbers old new
+pub renumbers : (old new : NodeModel) (g : GatewayState) (number n : ℕ) → AreOwn old → AreOwn new → g ≡ old.gateway → number ≡ next_number old.change → IsNumberedBy number g new.gateway → n ≡ changed_points g.points new.gateway.points → (0 < n → new.change ≡ number) → (n ≡ 0 → new.change ≡ old.change) → Renumbers old new
 renumbers old new g number n own now held next by count raised same = record {
   kept = λ k is. ap (at k) now ∙ by.kept k (is ∙ sym (ap (λ (v : GatewayState). get v.points k) held)) ∙ ap (λ (v : GatewayState). at k v.numbers) held ∙ sym (ap (at k) own);
   renumbered = λ k differs. ap (at k) now ∙ by.numbered k (λ is. differs (is ∙ ap (λ (v : GatewayState). get v.points k) held)) ∙ sym (raised (some (λ is. differs (ap (λ (p : Points). get p k) is))));
@@ -41,7 +41,7 @@ renumbers old new g number n own now held next by count raised same = record {
     some differs = some_changed g.points new.gateway.points n count (λ is. differs (is ∙ ap (λ (v : GatewayState). v.points) held))
 
 -- a call that changes nothing numbers nothing
-pub renumbers_nothing : (old new : NodeView) → new.gateway.points ≡ old.gateway.points → new.numbers ≡ old.numbers → new.change ≡ old.change → Renumbers old new
+pub renumbers_nothing : (old new : NodeModel) → new.gateway.points ≡ old.gateway.points → new.numbers ≡ old.numbers → new.change ≡ old.change → Renumbers old new
 renumbers_nothing old new points numbers change = record {
   kept = λ k is. ap (λ (m : FinMap key_cmp ℕ). unwrap_or (get m k) 0) numbers;
   renumbered = λ k differs. absurd (differs (ap (λ (p : Points). get p k) points));

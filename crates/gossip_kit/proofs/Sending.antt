@@ -18,7 +18,7 @@ use Rattle.point_kit.proofs.PointLaws.{points_commute, points_associate, points_
 use Rattle.point_kit.proofs.StateLaws.{get-join_maps}
 use Rattle.gateway_kit.proofs.Entries.{not_None}
 use Rattle.gossip_kit.specs.Gossip.{CarriesHeld, Brings, acknowledged, carried_to, recent_to, numbered_above, numbered_to, number_of, delta_to, last_number}
-use Rattle.gossip_kit.specs.Views.{NodeView}
+use Rattle.gossip_kit.specs.Views.{NodeModel}
 
 abbrev Held : Type 0
 Held = Option (Cell Payload)
@@ -50,7 +50,7 @@ pub chosen : (b : Bool) (x : Held) (c : Cell Payload) → cond b x None ≡ Some
 chosen true x c e = e
 chosen false x c e = absurd (not_None e)
 
-above_held : (node : NodeView) (a : Option ℕ) → CarriesHeld (option_map_or (numbered_above node) a node.gateway.points) node.gateway.points
+above_held : (node : NodeModel) (a : Option ℕ) → CarriesHeld (option_map_or (numbered_above node) a node.gateway.points) node.gateway.points
 above_held node None k c is = is
 above_held node (Some n) k c is = chosen (nat_lt n (number_of node k)) (get node.gateway.points k) c (sym (retained node.gateway.points (λ x. nat_lt n (number_of node x)) k) ∙ is)
 
@@ -69,7 +69,7 @@ brings_at : (x p : Held) (b : Bool) → (b ≡ false → J x p ≡ p) → J x (J
 brings_at x p true up = twice x p
 brings_at x p false up = ap (J x) (none_right p) ∙ up refl ∙ sym (none_right p)
 
-recent_brings : (node : NodeView) (a : Option ℕ) (acked : Points) → ((n : ℕ) → a ≡ Some n → acked ≡ numbered_to node n) → Brings (option_map_or (numbered_above node) a node.gateway.points) acked node.gateway.points
+recent_brings : (node : NodeModel) (a : Option ℕ) (acked : Points) → ((n : ℕ) → a ≡ Some n → acked ≡ numbered_to node n) → Brings (option_map_or (numbered_above node) a node.gateway.points) acked node.gateway.points
 recent_brings node None acked is p above = all_brings acked node.gateway.points p above
 recent_brings node (Some n) acked is p above = same_map key_total key_exact _ _ (λ k.
     let h = node.gateway.points in
@@ -85,18 +85,18 @@ recent_brings node (Some n) acked is p above = same_map key_total key_exact _ _ 
     ∙ sym (get-join_maps key_total key_exact (join_cells payload_eq) p carried k ∙ ap (J (get p k)) has))
 
 -- what is carried is held under the same keys
-pub carries_held : (node : NodeView) (to : ℕ) → CarriesHeld (carried_to node to) node.gateway.points
+pub carries_held : (node : NodeModel) (to : ℕ) → CarriesHeld (carried_to node to) node.gateway.points
 unfolding carried_to
 carries_held node to = elim (nat_lt node.change last_number) as (λ b. CarriesHeld (if b then recent_to node to else node.gateway.points) node.gateway.points) [
   | true ↦ above_held node (get node.acked to)
   | false ↦ λ k c is. is
 ]
 
-acked_at : (node : NodeView) (to : ℕ) (n : ℕ) → get node.acked to ≡ Some n → acknowledged node to ≡ numbered_to node n
+acked_at : (node : NodeModel) (to : ℕ) (n : ℕ) → get node.acked to ≡ Some n → acknowledged node to ≡ numbered_to node n
 acked_at node to n is = ap (λ (o : Option ℕ). option_map_or (numbered_to node) o empty) is
 
 -- and brings what has all that was acknowledged to or above what is held
-pub carries_enough : (node : NodeView) (to : ℕ) → Brings (carried_to node to) (acknowledged node to) node.gateway.points
+pub carries_enough : (node : NodeModel) (to : ℕ) → Brings (carried_to node to) (acknowledged node to) node.gateway.points
 unfolding carried_to
 carries_enough node to = elim (nat_lt node.change last_number) as (λ b. Brings (if b then recent_to node to else node.gateway.points) (acknowledged node to) node.gateway.points) [
   | true ↦ recent_brings node (get node.acked to) (acknowledged node to) (acked_at node to)
@@ -109,18 +109,18 @@ le-ltb a b h = elim (leb_tells (suc b) a) [
   | inr less ↦ less.0
 ]
 
-pub carried_recent : (node : NodeView) (to : ℕ) → node.change < last_number → recent_to node to ≡ carried_to node to
+pub carried_recent : (node : NodeModel) (to : ℕ) → node.change < last_number → recent_to node to ≡ carried_to node to
 unfolding carried_to
 carried_recent node to low = sym (ap (λ b. if b then recent_to node to else node.gateway.points) (lt-ltb node.change last_number low))
 
-pub carried_all : (node : NodeView) (to : ℕ) → last_number ≤ node.change → node.gateway.points ≡ carried_to node to
+pub carried_all : (node : NodeModel) (to : ℕ) → last_number ≤ node.change → node.gateway.points ≡ carried_to node to
 unfolding carried_to
 carried_all node to high = sym (ap (λ b. if b then recent_to node to else node.gateway.points) (le-ltb last_number node.change high))
 
-pub delta_recent : (node : NodeView) → node.change < last_number → Some node.change ≡ delta_to node
+pub delta_recent : (node : NodeModel) → node.change < last_number → Some node.change ≡ delta_to node
 unfolding delta_to
 delta_recent node low = sym (ap (λ b. if b then Some node.change else None) (lt-ltb node.change last_number low))
 
-pub delta_none : (node : NodeView) → last_number ≤ node.change → None ≡ delta_to node
+pub delta_none : (node : NodeModel) → last_number ≤ node.change → None ≡ delta_to node
 unfolding delta_to
 delta_none node high = sym (ap (λ b. if b then Some node.change else None) (le-ltb last_number node.change high))

@@ -10,7 +10,7 @@ use Rattle.point_kit.specs.declared.payload.Payload.{Payload}
 use Rattle.point_kit.specs.Exports.{Points, join_points}
 use Rattle.point_kit.specs.Join.{IsAtOrBelow}
 use Rattle.gateway_kit.specs.GatewayState.{GatewayState}
-use Rattle.gossip_kit.specs.Views.{MessageView, NodeView}
+use Rattle.gossip_kit.specs.Views.{MessageModel, NodeModel}
 use Rattle.gossip_kit.specs.declared.fault.HandFault.{HandFault}
 use Rattle.gossip_kit.specs.declared.fault.HandFault.TheVariants.{NotAddressed}
 
@@ -23,46 +23,46 @@ abbrev pub next_number : ℕ → ℕ
 next_number n = min (n + 1) last_number
 
 -- the number of the change at which the cell of a key changed last, 0 where it did not change in this node
-abbrev pub number_of : NodeView → Key → ℕ
+abbrev pub number_of : NodeModel → Key → ℕ
 number_of node k = unwrap_or (get node.numbers k) 0
 
 -- a node of a gateway before any change: no key is numbered, and nobody acknowledged anything
-abbrev pub first_node : GatewayState → NodeView
+abbrev pub first_node : GatewayState → NodeModel
 first_node gateway = record { gateway = record gateway { numbers = empty }; change = 0; numbers = empty; acked = empty }
 
 -- one call numbers what it changed: each key that has another cell gets the number of the change, and no other key another number
-pub record Renumbers (old new : NodeView) : Type 0 where
+pub record Renumbers (old new : NodeModel) : Type 0 where
   pub kept : (k : Key) → get new.gateway.points k ≡ get old.gateway.points k → number_of new k ≡ number_of old k
   pub renumbered : (k : Key) → get new.gateway.points k ≢ get old.gateway.points k → number_of new k ≡ new.change
   pub same : new.gateway.points ≡ old.gateway.points → new.change ≡ old.change
   pub raised : new.gateway.points ≢ old.gateway.points → new.change ≡ next_number old.change
 
 -- the cells that are numbered up to n
-abbrev pub numbered_to : NodeView → ℕ → Points
+abbrev pub numbered_to : NodeModel → ℕ → Points
 numbered_to node n = retain_keys node.gateway.points (λ k. nat_le (number_of node k) n)
 
 -- the cells that are numbered above n
-abbrev pub numbered_above : NodeView → ℕ → Points
+abbrev pub numbered_above : NodeModel → ℕ → Points
 numbered_above node n = retain_keys node.gateway.points (λ k. nat_lt n (number_of node k))
 
 -- what the node of an id has acknowledged to this one: its cells numbered up to the greatest number of a handed Ack of that id
-abbrev pub acknowledged : NodeView → ℕ → Points
+abbrev pub acknowledged : NodeModel → ℕ → Points
 acknowledged node to = option_map_or (numbered_to node) (get node.acked to) empty
 
 -- the cells that are numbered above the greatest number that the node of an id acknowledged, or all where it acknowledged none
-abbrev pub recent_to : NodeView → ℕ → Points
+abbrev pub recent_to : NodeModel → ℕ → Points
 recent_to node to = option_map_or (numbered_above node) (get node.acked to) node.gateway.points
 
 -- what a message to the node of an id carries: these, and all where the numbers ended
-unfoldable pub carried_to : NodeView → ℕ → Points
+unfoldable pub carried_to : NodeModel → ℕ → Points
 carried_to node to = if nat_lt node.change last_number then recent_to node to else node.gateway.points
 
 -- the number that a message asks to be acknowledged: none where the numbers ended
-unfoldable pub delta_to : NodeView → Option ℕ
+unfoldable pub delta_to : NodeModel → Option ℕ
 delta_to node = if nat_lt node.change last_number then Some node.change else None
 
 -- the answer of a node to a message: to a delta an Ack of its number, to no other message one
-abbrev pub answer_of : NodeView → MessageView → Option MessageView
+abbrev pub answer_of : NodeModel → MessageModel → Option MessageModel
 answer_of node message = option_map (λ n. record { from = node.gateway.id; to = message.from; points = empty; delta = None; ack = Some n }) message.delta
 
 -- what an id acknowledged, raised to a number, and never lowered
@@ -70,7 +70,7 @@ abbrev pub raised_to : FinMap nat_cmp ℕ → ℕ → ℕ → FinMap nat_cmp ℕ
 raised_to acked id n = insert acked id (max (unwrap_or (get acked id) 0) n)
 
 -- what peers have acknowledged after a message was handed: an Ack alone raises what its sender acknowledged
-abbrev pub acked_after : NodeView → MessageView → FinMap nat_cmp ℕ
+abbrev pub acked_after : NodeModel → MessageModel → FinMap nat_cmp ℕ
 acked_after node message = option_map_or (raised_to node.acked message.from) message.ack node.acked
 
 -- each cell that is carried is held under the same key
@@ -82,9 +82,9 @@ abbrev pub Brings : Points → Points → Points → Type 0
 Brings carried acked held = (p : Points) → IsAtOrBelow join_points acked p → IsAtOrBelow join_points held (join_points p carried)
 
 -- the refusals of a message that is handed to a node
-abbrev pub hand_faults : NodeView → MessageView → List (Option HandFault)
+abbrev pub hand_faults : NodeModel → MessageModel → List (Option HandFault)
 hand_faults node message = when (not (message.to == node.gateway.id)) NotAddressed ∷ []
 
 -- the first that fits
-unfoldable pub hand_fault : NodeView → MessageView → Option HandFault
+unfoldable pub hand_fault : NodeModel → MessageModel → Option HandFault
 hand_fault node message = first (hand_faults node message)

@@ -7,7 +7,7 @@ use Rattle.point_kit.specs.Exports.{Points}
 use Rattle.point_kit.specs.Orders.{key_cmp}
 
 -- a message: from which id to which, the cells that it carries, of a delta its sender's change number, and of an Ack the number that is acknowledged
-pub record MessageView : Type 0 where
+pub record MessageModel : Type 0 where
   pub from : ℕ
   pub to : ℕ
   pub points : Points
@@ -15,7 +15,7 @@ pub record MessageView : Type 0 where
   pub ack : Option ℕ
 
 -- a node: its gateway, how often its points changed, the number of the change of each key that changed, and the greatest number that each peer acknowledged
-pub record NodeView : Type 0 where
+pub record NodeModel : Type 0 where
   pub gateway : GatewayState
   pub change : ℕ
   pub numbers : FinMap key_cmp ℕ

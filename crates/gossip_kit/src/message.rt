@@ -27,11 +27,11 @@ pub struct Message {
 
 impl Model for Message {
     ghost use Rattle.gossip_kit.specs.Bodies.{cells_of, delta_of, ack_of};
-    ghost use Rattle.gossip_kit.specs.Views.{MessageView};
+    ghost use Rattle.gossip_kit.specs.Views.{MessageModel};
     ghost use Rattle.std.specs.Coded.{codes};
     ghost use Rattle.std.specs.FinMap.{code};
 
-    ghost Value = { MessageView };
+    ghost Value = { MessageModel };
 
     ghost coded = { Prim.hlevel (codes, code) };
 

@@ -34,9 +34,9 @@ impl Model for Node {
     ghost use Rattle.std.specs.Coded.{codes};
     ghost use Rattle.std.specs.FinMap.{code};
     ghost use Rattle.gossip_kit.specs.Gossip.{last_number};
-    ghost use Rattle.gossip_kit.specs.Views.{NodeView};
+    ghost use Rattle.gossip_kit.specs.Views.{NodeModel};
 
-    ghost Value = { NodeView };
+    ghost Value = { NodeModel };
 
     ghost coded = { Prim.hlevel (codes, code) };
 
@@ -142,7 +142,7 @@ impl Node {
         ensures value { IfOk result (λ message. message.points ≡ carried_to self.now to) }
         ensures delta { IfOk result (λ message. message.delta ≡ delta_to self.now) }
         ensures ack { IfOk result (λ message. message.ack ≡ None) }
-        ensures held { IfOk result (λ message. CarriesHeld message.points self.now.gateway.points) }
+        ensures carries { IfOk result (λ message. CarriesHeld message.points self.now.gateway.points) }
         ensures brings { IfOk result (λ message. Brings message.points (acknowledged self.now to) self.now.gateway.points) }
     {
         let number = self.change;

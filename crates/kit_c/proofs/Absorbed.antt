@@ -12,7 +12,7 @@ use Rattle.agg_kit.specs.Feeding.{set_eq, overflow_set}
 use Rattle.agg_kit.specs.Feeds.{series_at}
 use Rattle.agg_kit.specs.Recorders.{Recorded, series_with, with_recorder}
 use Rattle.agg_kit.specs.Stamps.{Stamped, absorb_stamped, newest_over, put_over}
-use Rattle.agg_kit.specs.Steps.{has_point, payload_after, place, step}
+use Rattle.agg_kit.specs.Steps.{has_point, payload_after, fed_set, step}
 use Rattle.agg_kit.specs.Tallies.{Points, Tallied}
 use Rattle.agg_kit.specs.declared.bound.Bound.{Bound}
 use Rattle.agg_kit.proofs.BoundPoints.{has_point-at, place-kept, step-stays}
@@ -21,10 +21,10 @@ use Rattle.agg_kit.proofs.Sound.{keys-insert}
 use Rattle.agg_kit.proofs.Steps.{place-has_point}
 
 -- a set's point stands where it stood, whatever payload another set is given: where it goes depends on the sets alone
-put-stays : (limit : ℕ) (es : Points) (a b : AttrSet) (w : Payload) (i : ℕ) → place_of limit es b ≡ Some i → place_of limit (put es (place limit es a) w) b ≡ Some i
+put-stays : (limit : ℕ) (es : Points) (a b : AttrSet) (w : Payload) (i : ℕ) → place_of limit es b ≡ Some i → place_of limit (put es (fed_set limit es a) w) b ≡ Some i
 put-stays limit es a b w i h =
-    let c = place limit es b in
-    let d = place limit es a in
+    let c = fed_set limit es b in
+    let d = fed_set limit es a in
     let u = payload_after Gauge es d (pos 0) in
     ap (λ (x : AttrSet). position (set_eq x) (keys_of (put es d w))) (place-kept limit es b a w (has_point-at es c i h))
     ∙ ap (position (set_eq c)) (keys-insert es d w ∙ sym (keys-insert es d u))
@@ -33,7 +33,7 @@ put-stays limit es a b w i h =
 
 come-in : (limit : ℕ) (es ms : Points) (b : AttrSet) (i : ℕ) → place_of limit es b ≡ Some i → place_of limit (absorb limit es ms) b ≡ Some i
 come-in limit es [] b i h = h
-come-in limit es (m ∷ ms) b i h = come-in limit (with_point limit es m) ms b i (put-stays limit es m.0 b (point_with es (place limit es m.0) m.1) i h)
+come-in limit es (m ∷ ms) b i h = come-in limit (with_point limit es m) ms b i (put-stays limit es m.0 b (point_with es (fed_set limit es m.0) m.1) i h)
 
 -- so it does, whatever payload the overflow set is given where it has a point
 put-over-stays : (limit : ℕ) (es : Points) (best : Option (ℕ × Payload)) (b : AttrSet) (i : ℕ) → place_of limit es b ≡ Some i → place_of limit (put_over es best) b ≡ Some i

@@ -9,17 +9,17 @@ use Rattle.kit_c.specs.Places.{place_of}
 use Rattle.kit_c.specs.declared.desk.Desk as desks
 use Rattle.kit_c.specs.declared.fault.Fault.{Fault}
 use Rattle.kit_c.specs.declared.fault.Fault.TheVariants as faults
-use Rattle.kit_c.specs.declared.held.Held.{Held}
+use Rattle.kit_c.specs.declared.content.Content.{Content}
 
-pub one_refused : (why : Held → Held → Fault → Type 0) (m n : Option Held) (h k : Held) (before told : ℕ) (code : ℤ) (f : Fault)
+pub one_refused : (why : Content → Content → Fault → Type 0) (m n : Option Content) (h k : Content) (before told : ℕ) (code : ℤ) (f : Fault)
     → m ≡ Some h → n ≡ Some k → code ≡ code_of f → told ≡ unwrap_or (place_of f) before → why h k f → OneRefused why m n before told code
 one_refused why m n h k before told code f em en c t w = rw (em, en) (f, c, t, w)
 
-pub plain_refused : (why : Held → Held → Fault → Type 0) (m n : Option Held) (h k : Held) (code : ℤ) (f : Fault)
+pub plain_refused : (why : Content → Content → Fault → Type 0) (m n : Option Content) (h k : Content) (code : ℤ) (f : Fault)
     → m ≡ Some h → n ≡ Some k → code ≡ code_of f → why h k f → PlainRefused why m n code
 plain_refused why m n h k code f em en c w = rw (em, en) (f, c, w)
 
-pub two_refused : (why : Held → Held → Held → Fault → Type 0) (m o n : Option Held) (h other k : Held) (before told : ℕ) (code : ℤ) (f : Fault)
+pub two_refused : (why : Content → Content → Content → Fault → Type 0) (m o n : Option Content) (h other k : Content) (before told : ℕ) (code : ℤ) (f : Fault)
     → m ≡ Some h → o ≡ Some other → n ≡ Some k → code ≡ code_of f → told ≡ unwrap_or (place_of f) before → why h other k f
     → TwoRefused why m o n before told code
 two_refused why m o n h other k before told code f em eo en c t w = rw (em, eo, en) (f, c, t, w)

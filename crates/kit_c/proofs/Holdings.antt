@@ -10,7 +10,7 @@ use Rattle.agg_kit.specs.Tallies.{Tallied}
 use Rattle.plan_kit.specs.Plans.{AreFeeds, Planned, feeds_of}
 use Rattle.writer_kit.specs.Absorbing.{with_recordings}
 use Rattle.writer_kit.specs.BoundPoints.{IsAtHome}
-use Rattle.writer_kit.specs.Recording.{after_restart, recorded}
+use Rattle.writer_kit.specs.Recording.{after_restart, after_record}
 use Rattle.writer_kit.specs.Refusals.{restart_fault}
 use Rattle.writer_kit.specs.Written.{Written}
 use Rattle.writer_kit.specs.declared.bound.BoundPoint.{BoundPoint}
@@ -19,10 +19,10 @@ use Rattle.kit_c.proofs.Absorbed.{bound-comes}
 use Rattle.kit_c.specs.Holdings.{attrs_of, IsKept, Keeps, KnowsPoints}
 use Rattle.kit_c.specs.declared.holding.HeldSet.{HeldSet}
 
-pub keeps_recorded : (w : Written) (e : Entry) → ((i : ℕ) → AreFeeds (length w.tally.plan.streams) (feeds_of w.tally.plan i)) → Keeps w (recorded w e)
-keeps_recorded w e feeds s knows = All-weaker (IsKept w s.attrs) (IsKept (recorded w e) s.attrs) by s.points.items knows
+pub keeps_recorded : (w : Written) (e : Entry) → ((i : ℕ) → AreFeeds (length w.tally.plan.streams) (feeds_of w.tally.plan i)) → Keeps w (after_record w e)
+keeps_recorded w e feeds s knows = All-weaker (IsKept w s.attrs) (IsKept (after_record w e) s.attrs) by s.points.items knows
   where
-    by : (b : BoundPoint) → IsKept w s.attrs b → IsKept (recorded w e) s.attrs b
+    by : (b : BoundPoint) → IsKept w s.attrs b → IsKept (after_record w e) s.attrs b
     by b k = record {
       attrs = k.attrs;
       begun = k.begun;
@@ -42,7 +42,7 @@ keeps_restarted w start later s knows = All-weaker (IsKept w s.attrs) (IsKept (a
         }
 
 pub keeps_measured : {U F : Type 0} (w v : Written) (e : Entry) (r : Result U F) → ((i : ℕ) → AreFeeds (length w.tally.plan.streams) (feeds_of w.tally.plan i))
-    → OnOk r (v ≡ recorded w e) → OnErr r (v ≡ w) → Keeps w v
+    → OnOk r (v ≡ after_record w e) → OnErr r (v ≡ w) → Keeps w v
 keeps_measured w v e (Ok u) feeds is same = subst (Keeps w) (sym is) (keeps_recorded w e feeds)
 keeps_measured w v e (Err f) feeds is same = subst (Keeps w) (sym same) (λ s knows. knows)
 

@@ -26,7 +26,7 @@ use Rattle.std.proofs.cell.Inside.{Good, one}
 use Rattle.std.specs.Box.Ownership.{box_owns}
 use Rattle.std.proofs.ResultValues.{and_tt}
 use Rattle.kit_c.specs.contracts.loose.Loose as loose
-use Rattle.kit_c.specs.contracts.held.Held as held
+use Rattle.kit_c.specs.contracts.content.Content as content
 use Rattle.kit_c.specs.contracts.inner.Inner as inner
 use Rattle.kit_c.specs.Owned.{box_memory}
 use Rattle.std.specs.Global.{Global}
@@ -94,7 +94,7 @@ module _ (P Q : RattleType) {M : Type 1} {𝓤 : Ura M} {𝓛 : Logic 𝓤} {K :
 
 -- a handle's inside, by value: with a box, and with nothing
 abbrev R₀ : RattleType
-R₀ = held.the_row
+R₀ = content.the_row
 
 abbrev Z₀ : RattleType
 Z₀ = heap.the_row

@@ -15,11 +15,11 @@ use Rattle.kit_c.specs.Writers.{HasExport}
 use Rattle.kit_c.specs.declared.desk.Desk as desks
 use Rattle.kit_c.specs.declared.fault.Fault.{Fault}
 use Rattle.kit_c.specs.declared.fault.Fault.TheVariants as faults
-use Rattle.kit_c.specs.declared.held.Held.{Held}
-use Rattle.kit_c.specs.declared.held.Held.TheVariants.{Attributes, Desk, Writer}
+use Rattle.kit_c.specs.declared.content.Content.{Content}
+use Rattle.kit_c.specs.declared.content.Content.TheVariants.{Attributes, Desk, Writer}
 
 -- a thing is no writer that could be shared
-abbrev pub sharing_fault : Held → Option Fault
+abbrev pub sharing_fault : Content → Option Fault
 sharing_fault (Writer w) = None
 sharing_fault h = Some faults.WrongKind
 
@@ -30,7 +30,7 @@ pub record IsFirstPlace (w : Written) (ss : List AttrSet) (d : desks.Desk) : Typ
   pub seat : IsFirst d.seat
   pub sets : d.sets ≡ ss
 
-abbrev pub HasShared : Option Held → Option Held → Type 0
+abbrev pub HasShared : Option Content → Option Content → Type 0
 HasShared (Some (Writer h)) (Some (Desk d)) = IsFirstPlace h.writer h.sets d
 HasShared m n = ⊥
 
@@ -39,7 +39,7 @@ abbrev pub Stays : desks.Desk → desks.Desk → Type 0
 Stays d e = (e.writer ≡ d.writer) × (e.sets ≡ d.sets)
 
 -- what a handle has is another place at the writer of the first, which is then the second
-abbrev pub HasSplit : Option Held → Option Held → Option Held → Type 0
+abbrev pub HasSplit : Option Content → Option Content → Option Content → Type 0
 HasSplit (Some (Desk d)) (Some (Desk e)) (Some (Desk new)) =
     Stays d e × (arc_value new.writer ≡ arc_value d.writer) × (new.sets ≡ d.sets) × Splits d.seat e.seat new.seat
 HasSplit m n o = ⊥
@@ -48,7 +48,7 @@ HasSplit m n o = ⊥
 abbrev pub IsEntered : WriterChange → desks.Desk → desks.Desk → Type 0
 IsEntered c d e = Stays d e × Accepts (arc_value d.writer) c (λ w. Unit {0}) d.seat e.seat × Adds (arc_value d.writer) c d.seat e.seat
 
-abbrev pub HasMeasured : ℕ → ℤ → Option Held → Option Held → Option Held → Type 0
+abbrev pub HasMeasured : ℕ → ℤ → Option Content → Option Content → Option Content → Type 0
 HasMeasured i x (Some (Desk d)) (Some (Attributes a)) (Some (Desk e)) = IsEntered (Measured i a x) d e
 HasMeasured i x m other n = ⊥
 
@@ -57,7 +57,7 @@ abbrev pub EntersAt : ℕ → ℤ → Option AttrSet → desks.Desk → desks.De
 EntersAt i x (Some a) d e = IsEntered (Measured i a x) d e
 EntersAt i x None d e = ⊥
 
-abbrev pub HasMeasuredAt : ℕ → ℕ → ℤ → Option Held → Option Held → Type 0
+abbrev pub HasMeasuredAt : ℕ → ℕ → ℤ → Option Content → Option Content → Type 0
 HasMeasuredAt i n x (Some (Desk d)) (Some (Desk e)) = EntersAt i x (slice_get d.sets n) d e
 HasMeasuredAt i n x m o = ⊥
 
@@ -69,7 +69,7 @@ WhyNot i x a d e (faults.Measure f) = IsRefused (arc_value d.writer) (λ w. MayR
 WhyNot i x a d e other = ⊥
 
 -- the second is refused at the first, which is then the third
-abbrev pub MeasureRefused : ℕ → ℤ → Held → Held → Held → Fault → Type 0
+abbrev pub MeasureRefused : ℕ → ℤ → Content → Content → Content → Fault → Type 0
 MeasureRefused i x (Desk d) (Attributes a) (Desk e) f = Stays d e × WhyNot i x a d e f
 MeasureRefused i x h other k f = (k ≡ h) × (f ≡ faults.WrongKind)
 
@@ -77,7 +77,7 @@ abbrev pub WhyNotAt : ℕ → ℤ → Option AttrSet → desks.Desk → desks.De
 WhyNotAt i x (Some a) d e f = WhyNot i x a d e f
 WhyNotAt i x None d e f = (e.seat ≡ d.seat) × (f ≡ faults.NoSet)
 
-abbrev pub NumberRefused : ℕ → ℕ → ℤ → Held → Held → Fault → Type 0
+abbrev pub NumberRefused : ℕ → ℕ → ℤ → Content → Content → Fault → Type 0
 NumberRefused i n x (Desk d) (Desk e) f = Stays d e × WhyNotAt i x (slice_get d.sets n) d e f
 NumberRefused i n x h k f = (k ≡ h) × (f ≡ faults.WrongKind)
 
@@ -88,12 +88,12 @@ WhyNoSplit d e faults.SeatsFull = IsFull d.seat e.seat
 WhyNoSplit d e faults.NoMemory = e.seat ≡ d.seat
 WhyNoSplit d e other = ⊥
 
-abbrev pub SplitRefused : Held → Held → Fault → Type 0
+abbrev pub SplitRefused : Content → Content → Fault → Type 0
 SplitRefused (Desk d) (Desk e) f = Stays d e × WhyNoSplit d e f
 SplitRefused h k f = (k ≡ h) × (f ≡ faults.WrongKind)
 
 -- a collection was accepted at a place, and the third handle has its export
-abbrev pub HasCollected : ℕ → Option Held → Option Held → Option Held → Type 0
+abbrev pub HasCollected : ℕ → Option Content → Option Content → Option Content → Type 0
 HasCollected time (Some (Desk d)) (Some (Desk e)) made =
     Stays d e × Accepts (arc_value d.writer) (Collected time) (λ w. HasExport w time made) d.seat e.seat
 HasCollected time m n made = ⊥
@@ -105,24 +105,24 @@ WhyNoExport time d e faults.Exhausted = IsExhausted (arc_value d.writer) d.seat 
 WhyNoExport time d e (faults.Collect f) = IsRefused (arc_value d.writer) (λ w. MayRefuseRound w time f) d.seat e.seat
 WhyNoExport time d e other = ⊥
 
-abbrev pub CollectRefused : ℕ → Held → Held → Fault → Type 0
+abbrev pub CollectRefused : ℕ → Content → Content → Fault → Type 0
 CollectRefused time (Desk d) (Desk e) f = Stays d e × WhyNoExport time d e f
 CollectRefused time h k f = (k ≡ h) × (f ≡ faults.WrongKind)
 
 -- how a call of one handle is refused: it had nothing, or it was refused for a cause whose code is answered and whose place is told
-abbrev pub OneRefused : (Held → Held → Fault → Type 0) → Option Held → Option Held → ℕ → ℕ → ℤ → Type 0
+abbrev pub OneRefused : (Content → Content → Fault → Type 0) → Option Content → Option Content → ℕ → ℕ → ℤ → Type 0
 OneRefused why None after before told code = (after ≡ None) × (told ≡ before) × (code ≡ pos 2)
 OneRefused why (Some h) (Some k) before told code = (f : Fault) × (code ≡ code_of f) × (told ≡ unwrap_or (place_of f) before) × why h k f
 OneRefused why (Some h) None before told code = ⊥
 
 -- the same of a call that tells no place
-abbrev pub PlainRefused : (Held → Held → Fault → Type 0) → Option Held → Option Held → ℤ → Type 0
+abbrev pub PlainRefused : (Content → Content → Fault → Type 0) → Option Content → Option Content → ℤ → Type 0
 PlainRefused why None after code = (after ≡ None) × (code ≡ pos 2)
 PlainRefused why (Some h) (Some k) code = (f : Fault) × (code ≡ code_of f) × why h k f
 PlainRefused why (Some h) None code = ⊥
 
 -- the same of a call of two
-abbrev pub TwoRefused : (Held → Held → Held → Fault → Type 0) → Option Held → Option Held → Option Held → ℕ → ℕ → ℤ → Type 0
+abbrev pub TwoRefused : (Content → Content → Content → Fault → Type 0) → Option Content → Option Content → Option Content → ℕ → ℕ → ℤ → Type 0
 TwoRefused why (Some h) (Some other) (Some k) before told code =
     (f : Fault) × (code ≡ code_of f) × (told ≡ unwrap_or (place_of f) before) × why h other k f
 TwoRefused why (Some h) (Some other) None before told code = ⊥

@@ -2,41 +2,41 @@
 use Rattle.std.specs.Prelude.{ℕ, ℤ, Bool, List, [], Option, Some, None}
 use Rattle.agg_kit.specs.Entries.{entry_of}
 use Rattle.attr_kit.specs.declared.attr_value.AttrValue.{AttrValue}
-use Rattle.writer_kit.specs.Recording.{after_collect, after_restart, recorded}
-use Rattle.kit_c.specs.declared.held.Held.{Held}
-use Rattle.kit_c.specs.declared.held.Held.TheVariants.{Attributes, Pairs, Text, Writer}
+use Rattle.writer_kit.specs.Recording.{after_collect, after_restart, after_record}
+use Rattle.kit_c.specs.declared.content.Content.{Content}
+use Rattle.kit_c.specs.declared.content.Content.TheVariants.{Attributes, Pairs, Text, Writer}
 
 -- a writer with a recording of the value x, by the instrument i, at the attributes that the second has
-abbrev pub after_recording : ℕ → ℤ → Held → Held → Held
-after_recording i x (Writer h) (Attributes a) = Writer (record h { writer = recorded h.writer (entry_of i a x) })
+abbrev pub after_recording : ℕ → ℤ → Content → Content → Content
+after_recording i x (Writer h) (Attributes a) = Writer (record h { writer = after_record h.writer (entry_of i a x) })
 after_recording i x it other = it
 
 -- the same of handles, of which one may have nothing
-abbrev pub in_first : (Held → Held → Held) → Option Held → Option Held → Option Held
+abbrev pub in_first : (Content → Content → Content) → Option Content → Option Content → Option Content
 in_first change (Some h) (Some other) = Some (change h other)
 in_first change m n = m
 
 -- the pairs that a handle has
-abbrev pub pairs_of : Option Held → List (List ℕ × AttrValue)
+abbrev pub pairs_of : Option Content → List (List ℕ × AttrValue)
 pairs_of (Some (Pairs ps)) = ps
 pairs_of m = []
 
 -- what a handle has once it was changed
-abbrev pub in_one : (Held → Held) → Option Held → Option Held
+abbrev pub in_one : (Content → Content) → Option Content → Option Content
 in_one change (Some h) = Some (change h)
 in_one change None = None
 
 -- a writer after a collection, which closes it or not
-abbrev pub after_collection : ℕ → Bool → Held → Held
+abbrev pub after_collection : ℕ → Bool → Content → Content
 after_collection time closing (Writer h) = Writer (record h { writer = after_collect h.writer time closing })
 after_collection time closing it = it
 
 -- a writer after a restart
-abbrev pub after_restarting : ℕ → Held → Held
+abbrev pub after_restarting : ℕ → Content → Content
 after_restarting start (Writer h) = Writer (record h { writer = after_restart h.writer start })
 after_restarting start it = it
 
 -- the bytes of a text
-abbrev pub bytes_of : Held → List ℕ
+abbrev pub bytes_of : Content → List ℕ
 bytes_of (Text t) = t
 bytes_of h = []

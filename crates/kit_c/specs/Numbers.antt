@@ -3,26 +3,26 @@ use Rattle.std.specs.Prelude.{ℕ, ℤ, [], ◌∷◌, ◌++◌, length, slice_g
 use Rattle.std.specs.Option.{option_map}
 use Rattle.agg_kit.specs.Entries.{entry_of}
 use Rattle.attr_kit.specs.declared.attr_set.AttrSet.{AttrSet}
-use Rattle.writer_kit.specs.Recording.{recorded}
+use Rattle.writer_kit.specs.Recording.{after_record}
 use Rattle.writer_kit.specs.Refusals.{fault_now}
 use Rattle.writer_kit.specs.Written.{Written}
 use Rattle.kit_c.specs.declared.fault.Fault.{Fault}
 use Rattle.kit_c.specs.declared.fault.Fault.TheVariants as faults
-use Rattle.kit_c.specs.declared.held.Held.{Held}
-use Rattle.kit_c.specs.declared.held.Held.TheVariants.{Attributes, Writer}
+use Rattle.kit_c.specs.declared.content.Content.{Content}
+use Rattle.kit_c.specs.declared.content.Content.TheVariants.{Attributes, Writer}
 
 -- the first can't hold the second: writers hold sets
-abbrev pub holding_fault : Held → Held → Option Fault
+abbrev pub holding_fault : Content → Content → Option Fault
 holding_fault (Writer w) (Attributes a) = None
 holding_fault h other = Some faults.WrongKind
 
 -- a writer that holds one set more
-abbrev pub after_holding : Held → Held → Held
+abbrev pub after_holding : Content → Content → Content
 after_holding (Writer h) (Attributes a) = Writer (record h { sets = h.sets ++ a ∷ [] })
 after_holding it other = it
 
 -- how many sets a writer holds
-abbrev pub sets_len : Held → ℕ
+abbrev pub sets_len : Content → ℕ
 sets_len (Writer h) = length h.sets
 sets_len it = 0
 
@@ -32,14 +32,14 @@ set_fault i x w (Some a) = option_map (λ f. faults.Measure f) (fault_now w (ent
 set_fault i x w None = Some faults.NoSet
 
 abbrev pub recorded_at : ℕ → ℤ → Written → Option AttrSet → Written
-recorded_at i x w (Some a) = recorded w (entry_of i a x)
+recorded_at i x w (Some a) = after_record w (entry_of i a x)
 recorded_at i x w None = w
 
 -- a recording at the set of a number
-abbrev pub numbered_fault : ℕ → ℕ → ℤ → Held → Option Fault
+abbrev pub numbered_fault : ℕ → ℕ → ℤ → Content → Option Fault
 numbered_fault i n x (Writer h) = set_fault i x h.writer (slice_get h.sets n)
 numbered_fault i n x it = Some faults.WrongKind
 
-abbrev pub after_numbered : ℕ → ℕ → ℤ → Held → Held
+abbrev pub after_numbered : ℕ → ℕ → ℤ → Content → Content
 after_numbered i n x (Writer h) = Writer (record h { writer = recorded_at i x h.writer (slice_get h.sets n) })
 after_numbered i n x it = it

@@ -9,8 +9,8 @@ use Rattle.kit_c.specs.Faults.{text_fault}
 use Rattle.kit_c.specs.Kinds.{kind_fault, numbered_kind}
 use Rattle.kit_c.specs.declared.fault.Fault.{Fault}
 use Rattle.kit_c.specs.declared.fault.Fault.TheVariants as faults
-use Rattle.kit_c.specs.declared.held.Held.{Held}
-use Rattle.kit_c.specs.declared.held.Held.TheVariants.{Instruments, Views}
+use Rattle.kit_c.specs.declared.content.Content.{Content}
+use Rattle.kit_c.specs.declared.content.Content.TheVariants.{Instruments, Views}
 
 -- the instrument of these texts and of the kind of a number
 abbrev pub instrument_of : List ℕ → List ℕ → List ℕ → ℕ → Option Instrument
@@ -22,28 +22,28 @@ abbrev pub instruments_fault : List ℕ → List ℕ → List ℕ → ℕ → Op
 instruments_fault scope name unit number = first (kind_fault number ∷ text_fault scope ∷ text_fault name ∷ text_fault unit ∷ [])
 
 -- a handle has something else than instruments; one that has nothing stands for none
-abbrev pub no_instruments : Option Held → Option Fault
+abbrev pub no_instruments : Option Content → Option Fault
 no_instruments None = None
 no_instruments (Some (Instruments is)) = None
 no_instruments (Some h) = Some faults.WrongKind
 
 -- the instruments that a handle has
-abbrev pub instruments_of : Option Held → List Instrument
+abbrev pub instruments_of : Option Content → List Instrument
 instruments_of (Some (Instruments is)) = is
 instruments_of m = []
 
 -- the same of views
-abbrev pub no_views : Option Held → Option Fault
+abbrev pub no_views : Option Content → Option Fault
 no_views None = None
 no_views (Some (Views vs)) = None
 no_views (Some h) = Some faults.WrongKind
 
-abbrev pub views_of : Option Held → List View
+abbrev pub views_of : Option Content → List View
 views_of (Some (Views vs)) = vs
 views_of m = []
 
 -- what handles have makes no plan
-abbrev pub planning_fault : Option Held → Option Held → ℕ → Option Fault
+abbrev pub planning_fault : Option Content → Option Content → ℕ → Option Fault
 planning_fault instruments views limit = first
     (no_instruments instruments ∷ no_views views
     ∷ option_map (λ f. faults.Plan f) (plan_fault (instruments_of instruments) (views_of views) limit) ∷ [])

@@ -9,25 +9,25 @@ use Rattle.kit_c.specs.Holdings.{Holding}
 use Rattle.kit_c.specs.RecorderSets.{Recording}
 use Rattle.kit_c.specs.declared.fault.Fault.{Fault}
 use Rattle.kit_c.specs.declared.fault.Fault.TheVariants as faults
-use Rattle.kit_c.specs.declared.held.Held.{Held}
-use Rattle.kit_c.specs.declared.held.Held.TheVariants.{Attributes, Recorder, Writer}
+use Rattle.kit_c.specs.declared.content.Content.{Content}
+use Rattle.kit_c.specs.declared.content.Content.TheVariants.{Attributes, Recorder, Writer}
 
 -- a thing is no writer
-abbrev pub opening_fault : Held → Option Fault
+abbrev pub opening_fault : Content → Option Fault
 opening_fault (Writer h) = None
 opening_fault h = Some faults.WrongKind
 
 -- the second handle has a recorder of the first one's plan, which holds its sets and has recorded nothing
-abbrev pub IsRecorderOf : Option Held → Option Held → Type 0
+abbrev pub IsRecorderOf : Option Content → Option Content → Type 0
 IsRecorderOf (Some (Writer h)) (Some (Recorder r)) = (r.recorder ≡ empty_recorder h.writer.tally.plan) × (r.sets ≡ h.sets)
 IsRecorderOf m n = ⊥
 
 -- a recording by a recorder, of the things
-abbrev pub record_fault : ℕ → ℤ → Held → Held → Option Fault
+abbrev pub record_fault : ℕ → ℤ → Content → Content → Option Fault
 record_fault i x (Recorder r) (Attributes a) = option_map (λ f. faults.Record f) (record_fault_of r.recorder (entry_of i a x))
 record_fault i x h other = Some faults.WrongKind
 
-abbrev pub after_record : ℕ → ℤ → Held → Held → Held
+abbrev pub after_record : ℕ → ℤ → Content → Content → Content
 after_record i x (Recorder r) (Attributes a) = Recorder (record r { recorder = recorder_after r.recorder (entry_of i a x) })
 after_record i x h other = h
 
@@ -41,21 +41,21 @@ recorder_at i x r (Some a) = recorder_after r (entry_of i a x)
 recorder_at i x r None = r
 
 -- a recording at the set of a number
-abbrev pub number_fault : ℕ → ℕ → ℤ → Held → Option Fault
+abbrev pub number_fault : ℕ → ℕ → ℤ → Content → Option Fault
 number_fault i n x (Recorder r) = own_set_fault i x r.recorder (slice_get r.sets n)
 number_fault i n x h = Some faults.WrongKind
 
-abbrev pub after_number : ℕ → ℕ → ℤ → Held → Held
+abbrev pub after_number : ℕ → ℕ → ℤ → Content → Content
 after_number i n x (Recorder r) = Recorder (record r { recorder = recorder_at i x r.recorder (slice_get r.sets n) })
 after_number i n x h = h
 
 -- a thing is no recorder
-abbrev pub recorder_fault : Held → Option Fault
+abbrev pub recorder_fault : Content → Option Fault
 recorder_fault (Recorder r) = None
 recorder_fault h = Some faults.WrongKind
 
 -- a thing is a recorder that holds no recordings, or is not
-abbrev pub TellsEmpty : Bool → Held → Type 0
+abbrev pub TellsEmpty : Bool → Content → Type 0
 TellsEmpty b (Recorder r) = IsTrue b ↔ (r.recorder ≡ empty_recorder r.recorder.plan)
 TellsEmpty b h = ⊥
 
@@ -69,7 +69,7 @@ pub record Absorbs (h : Holding) (r : Recording) (k : Holding) (s : Recording) :
   pub recorder_sets : s.sets ≡ r.sets
 
 -- the same of handles: the first took in the second, and they are then the third and the fourth
-abbrev pub HasAbsorbed : Option Held → Option Held → Option Held → Option Held → Type 0
+abbrev pub HasAbsorbed : Option Content → Option Content → Option Content → Option Content → Type 0
 HasAbsorbed (Some (Writer h)) (Some (Recorder r)) (Some (Writer k)) (Some (Recorder s)) = Absorbs h r k s
 HasAbsorbed m n o p = ⊥
 
@@ -81,6 +81,6 @@ WhyNotAbsorbed h r (faults.Absorb f) =
 WhyNotAbsorbed h r other = ⊥
 
 -- the second is refused at the first, which is then the third
-abbrev pub AbsorbRefused : Held → Held → Held → Fault → Type 0
+abbrev pub AbsorbRefused : Content → Content → Content → Fault → Type 0
 AbsorbRefused (Writer h) (Recorder r) k f = (k ≡ Writer h) × WhyNotAbsorbed h r f
 AbsorbRefused h other k f = (k ≡ h) × (f ≡ faults.WrongKind)

@@ -7,8 +7,8 @@ use Rattle.rollup_kit.specs.declared.row.Total.{Total}
 use Rattle.rollup_kit.specs.declared.row.Total.TheVariants as totals
 use Rattle.kit_c.specs.declared.fault.Fault.{Fault}
 use Rattle.kit_c.specs.declared.fault.Fault.TheVariants as faults
-use Rattle.kit_c.specs.declared.held.Held.{Held}
-use Rattle.kit_c.specs.declared.held.Held.TheVariants.{Rows}
+use Rattle.kit_c.specs.declared.content.Content.{Content}
+use Rattle.kit_c.specs.declared.content.Content.TheVariants.{Rows}
 
 -- a sum that is no i64
 abbrev pub wide_sum : ℤ → Option Fault
@@ -19,12 +19,12 @@ abbrev pub wide_count : ℕ → Option Fault
 wide_count n = when (nat_le (2 ^ 64) n) faults.TooWide
 
 -- the rows that a thing has
-abbrev pub rows_of : Held → List rows.Row
+abbrev pub rows_of : Content → List rows.Row
 rows_of (Rows rs) = rs
 rows_of h = []
 
 -- the row of a number
-abbrev pub row_at : ℕ → Held → Option rows.Row
+abbrev pub row_at : ℕ → Content → Option rows.Row
 row_at n h = slice_get (rows_of h) n
 
 -- what a row that there may not be refuses
@@ -32,12 +32,12 @@ abbrev pub of_row : Option rows.Row → (rows.Row → Option Fault) → Option F
 of_row None refusal = Some faults.NoRow
 of_row (Some r) refusal = refusal r
 
-abbrev pub in_rows : ℕ → (rows.Row → Option Fault) → Held → Option Fault
+abbrev pub in_rows : ℕ → (rows.Row → Option Fault) → Content → Option Fault
 in_rows n refusal (Rows rs) = of_row (slice_get rs n) refusal
 in_rows n refusal h = Some faults.WrongKind
 
 -- there is no row of a number
-abbrev pub row_fault : ℕ → Held → Option Fault
+abbrev pub row_fault : ℕ → Content → Option Fault
 row_fault n h = in_rows n (λ r. None) h
 
 -- the points of the row of a number, and its conflicts
@@ -45,7 +45,7 @@ abbrev pub counts_of : Option rows.Row → Option (ℕ × ℕ)
 counts_of None = None
 counts_of (Some r) = Some (r.points, r.conflicts)
 
-abbrev pub counts_at : ℕ → Held → Option (ℕ × ℕ)
+abbrev pub counts_at : ℕ → Content → Option (ℕ × ℕ)
 counts_at n h = counts_of (row_at n h)
 
 -- a total is no sum, or one that is no i64
@@ -53,7 +53,7 @@ abbrev pub no_sum : Total → Option Fault
 no_sum (totals.Sum t) = wide_sum t
 no_sum other = Some faults.WrongKind
 
-abbrev pub sum_fault : ℕ → Held → Option Fault
+abbrev pub sum_fault : ℕ → Content → Option Fault
 sum_fault n h = in_rows n (λ r. no_sum r.total) h
 
 -- what a total is as a sum
@@ -66,7 +66,7 @@ sum_of None = None
 sum_of (Some r) = as_sum r.total
 
 -- the sum of the row of a number
-abbrev pub sum_at : ℕ → Held → Option ℤ
+abbrev pub sum_at : ℕ → Content → Option ℤ
 sum_at n h = sum_of (row_at n h)
 
 -- a total is no gauge, or one without a point
@@ -75,7 +75,7 @@ no_gauge (totals.Gauge (Some p)) = None
 no_gauge (totals.Gauge None) = Some faults.NoPoint
 no_gauge other = Some faults.WrongKind
 
-abbrev pub gauge_fault : ℕ → Held → Option Fault
+abbrev pub gauge_fault : ℕ → Content → Option Fault
 gauge_fault n h = in_rows n (λ r. no_gauge r.total) h
 
 -- what a total is as a gauge
@@ -88,5 +88,5 @@ gauge_of None = None
 gauge_of (Some r) = as_gauge r.total
 
 -- the newest point of the row of a number, if there is one
-abbrev pub gauge_at : ℕ → Held → Option (Option (ℕ × ℤ))
+abbrev pub gauge_at : ℕ → Content → Option (Option (ℕ × ℤ))
 gauge_at n h = gauge_of (row_at n h)

@@ -6,8 +6,8 @@ use Rattle.point_kit.specs.declared.writer_id.WriterId.{WriterId}
 use Rattle.round_kit.specs.Rounds.{points_of}
 use Rattle.writer_kit.specs.Following.{Follows}
 use Rattle.writer_kit.specs.Written.{Written}
-use Rattle.kit_c.specs.declared.held.Held.{Held}
-use Rattle.kit_c.specs.declared.held.Held.TheVariants as things
+use Rattle.kit_c.specs.declared.content.Content.{Content}
+use Rattle.kit_c.specs.declared.content.Content.TheVariants as things
 
 -- an instance as the bytes of two numbers, the high one first
 abbrev pub instance_of : ℕ → ℕ → List ℕ
@@ -15,7 +15,7 @@ instance_of high low = to_be_bytes w128 (high * 2 ^ 64 + low)
 
 -- a handle has the writer of an identity, which counts from a start on under the plan that another has, has recorded
 -- nothing and holds no set
-abbrev pub HasStarted : WriterId → ℕ → Option Held → Option Held → Type 0
+abbrev pub HasStarted : WriterId → ℕ → Option Content → Option Content → Type 0
 HasStarted id start (Some (things.Plan p)) (Some (things.Writer h)) =
     (h.sets ≡ []) × (h.writer.id ≡ id) × (h.writer.tally.plan ≡ p) × Follows start [] h.writer
 HasStarted id start m n = ⊥
@@ -28,11 +28,11 @@ pub record Exports (w : Written) (time : ℕ) (e : Export) : Type 0 where
   pub points : e.points ≡ points_of w.tally.plan.streams w.tally.series
 
 -- a handle has it
-abbrev pub HasExport : Written → ℕ → Option Held → Type 0
+abbrev pub HasExport : Written → ℕ → Option Content → Type 0
 HasExport w time (Some (things.Export e)) = Exports w time e
 HasExport w time n = ⊥
 
 -- the same where the first handle has the writer
-abbrev pub IsCollection : ℕ → Option Held → Option Held → Type 0
+abbrev pub IsCollection : ℕ → Option Content → Option Content → Type 0
 IsCollection time (Some (things.Writer h)) n = HasExport h.writer time n
 IsCollection time m n = ⊥

@@ -8,12 +8,12 @@ ghost use Rattle.kit_c.specs.Codes.{code_of, no_memory};
 ghost use Rattle.kit_c.specs.Faults.{full_fault, no_pairs, of_one, of_two, text_fault};
 ghost use Rattle.kit_c.specs.Handles.{in_one, pairs_of};
 ghost use Rattle.kit_c.specs.Keys.{keys_of, no_keys};
-ghost use Rattle.kit_c.specs.declared.held.Held.TheVariants as things;
+ghost use Rattle.kit_c.specs.declared.content.Content.TheVariants as things;
 
 use crate::attributes::copy_of_pairs;
+use crate::content::Content;
 use crate::fault::{FULL, Fault, NO_MEMORY, NOTHING, OK};
 use crate::handle::KitHandle;
-use crate::held::Held;
 use crate::keys::list_of_keys;
 use crate::text::text_of;
 use attr_kit::{AllowList, AttrValue, Keep, Seq, Txt};
@@ -75,7 +75,7 @@ pub extern "C" fn kit_ask_sum(
         return FULL;
     }
     match stream_of(alloc, scope, name, unit, Shape::Sum { monotonic }) {
-        Ok(stream) => ask.fill(alloc, Held::Ask(all(alloc, stream))),
+        Ok(stream) => ask.fill(alloc, Content::Ask(all(alloc, stream))),
         Err(fault) => fault.code(),
     }
 }
@@ -102,7 +102,7 @@ pub extern "C" fn kit_ask_gauge(
         return FULL;
     }
     match stream_of(alloc, scope, name, unit, Shape::Gauge) {
-        Ok(stream) => ask.fill(alloc, Held::Ask(all(alloc, stream))),
+        Ok(stream) => ask.fill(alloc, Content::Ask(all(alloc, stream))),
         Err(fault) => fault.code(),
     }
 }
@@ -134,20 +134,20 @@ pub extern "C" fn kit_ask_histogram(
         Err(_) => return NO_MEMORY,
     };
     match stream_of(alloc, scope, name, unit, Shape::Histogram { bounds }) {
-        Ok(stream) => ask.fill(alloc, Held::Ask(all(alloc, stream))),
+        Ok(stream) => ask.fill(alloc, Content::Ask(all(alloc, stream))),
         Err(fault) => fault.code(),
     }
 }
 
-fn answer_ask(alloc: Global, gateway: &Held, ask: &Held) -> Result<Seq<Row>, Fault>
+fn answer_ask(alloc: Global, gateway: &Content, ask: &Content) -> Result<Seq<Row>, Fault>
     ensures ok { OnOk result (asking_fault gateway.now ask.now ≡ None) }
     ensures value { IfOk result (λ rows. rows ≡ rows_for gateway.now ask.now) }
     ensures err { IfErr result (λ f. code_of f ≢ no_memory → asking_fault gateway.now ask.now ≡ Some f) }
 {
-    let Held::Gateway(gateway) = gateway else {
+    let Content::Gateway(gateway) = gateway else {
         return Err(Fault::WrongKind);
     };
-    let Held::Ask(ask) = ask else {
+    let Content::Ask(ask) = ask else {
         return Err(Fault::WrongKind);
     };
     Ok(rollup(alloc, gateway, ask)?)
@@ -177,28 +177,28 @@ pub extern "C" fn kit_gateway_rows(
     if rows.full {
         return FULL;
     }
-    let Some(held) = gateway.take(alloc) else {
+    let Some(content) = gateway.take(alloc) else {
         return NOTHING;
     };
     let Some(asked) = ask.take(alloc) else {
-        gateway.put(held);
+        gateway.put(content);
         return NOTHING;
     };
-    let outcome = answer_ask(alloc, &held, &asked);
-    gateway.put(held);
+    let outcome = answer_ask(alloc, &content, &asked);
+    gateway.put(content);
     ask.put(asked);
     match outcome {
-        Ok(answer) => rows.fill(alloc, Held::Rows(answer)),
+        Ok(answer) => rows.fill(alloc, Content::Rows(answer)),
         Err(fault) => fault.code(),
     }
 }
 
-fn table_text(alloc: Global, rows: &Held) -> Result<Txt, Fault>
+fn table_text(alloc: Global, rows: &Content) -> Result<Txt, Fault>
     ensures ok { OnOk result (table_fault rows.now ≡ None) }
     ensures value { IfOk result (λ text. text ≡ rows_text rows.now) }
     ensures err { IfErr result (λ f. code_of f ≢ no_memory → table_fault rows.now ≡ Some f) }
 {
-    let Held::Rows(rows) = rows else {
+    let Content::Rows(rows) = rows else {
         return Err(Fault::WrongKind);
     };
     Ok(table(alloc, rows.as_slice())?)
@@ -221,24 +221,24 @@ pub extern "C" fn kit_rows_table(alloc: Global, rows: &mut KitHandle, text: &mut
     if text.full {
         return FULL;
     }
-    let Some(held) = rows.take(alloc) else {
+    let Some(content) = rows.take(alloc) else {
         return NOTHING;
     };
-    let outcome = table_text(alloc, &held);
-    rows.put(held);
+    let outcome = table_text(alloc, &content);
+    rows.put(content);
     match outcome {
-        Ok(table) => text.fill(alloc, Held::Text(table)),
+        Ok(table) => text.fill(alloc, Content::Text(table)),
         Err(fault) => fault.code(),
     }
 }
 
-fn set_service(held: &mut Held, service: Txt) -> Result<(), Fault>
-    ensures ok { OnOk result (ask_fault held.old ≡ None) }
-    ensures value { OnOk result (held.new ≡ asked_of_service service held.old) }
-    ensures err { IfErr result (λ f. ask_fault held.old ≡ Some f) }
-    ensures unchanged { OnErr result (held.new ≡ held.old) }
+fn set_service(content: &mut Content, service: Txt) -> Result<(), Fault>
+    ensures ok { OnOk result (ask_fault content.old ≡ None) }
+    ensures value { OnOk result (content.new ≡ asked_of_service service content.old) }
+    ensures err { IfErr result (λ f. ask_fault content.old ≡ Some f) }
+    ensures unchanged { OnErr result (content.new ≡ content.old) }
 {
-    let Held::Ask(ask) = held else {
+    let Content::Ask(ask) = content else {
         return Err(Fault::WrongKind);
     };
     ask.service = Some(service);
@@ -260,24 +260,24 @@ pub extern "C" fn kit_ask_service(alloc: Global, ask: &mut KitHandle, service: &
         Ok(service) => service,
         Err(fault) => return fault.code(),
     };
-    let Some(mut held) = ask.take(alloc) else {
+    let Some(mut content) = ask.take(alloc) else {
         return NOTHING;
     };
-    let outcome = set_service(&mut held, service);
-    ask.put(held);
+    let outcome = set_service(&mut content, service);
+    ask.put(content);
     match outcome {
         Ok(()) => OK,
         Err(fault) => fault.code(),
     }
 }
 
-fn set_pairs(held: &mut Held, pairs: Seq<(Txt, AttrValue)>) -> Result<(), Fault>
-    ensures ok { OnOk result (ask_fault held.old ≡ None) }
-    ensures value { OnOk result (held.new ≡ asked_only pairs held.old) }
-    ensures err { IfErr result (λ f. ask_fault held.old ≡ Some f) }
-    ensures unchanged { OnErr result (held.new ≡ held.old) }
+fn set_pairs(content: &mut Content, pairs: Seq<(Txt, AttrValue)>) -> Result<(), Fault>
+    ensures ok { OnOk result (ask_fault content.old ≡ None) }
+    ensures value { OnOk result (content.new ≡ asked_only pairs content.old) }
+    ensures err { IfErr result (λ f. ask_fault content.old ≡ Some f) }
+    ensures unchanged { OnErr result (content.new ≡ content.old) }
 {
-    let Held::Ask(ask) = held else {
+    let Content::Ask(ask) = content else {
         return Err(Fault::WrongKind);
     };
     ask.only = pairs;
@@ -301,24 +301,24 @@ pub extern "C" fn kit_ask_only(alloc: Global, ask: &mut KitHandle, pairs: &mut K
         Ok(copy) => copy,
         Err(fault) => return fault.code(),
     };
-    let Some(mut held) = ask.take(alloc) else {
+    let Some(mut content) = ask.take(alloc) else {
         return NOTHING;
     };
-    let outcome = set_pairs(&mut held, copy);
-    ask.put(held);
+    let outcome = set_pairs(&mut content, copy);
+    ask.put(content);
     match outcome {
         Ok(()) => OK,
         Err(fault) => fault.code(),
     }
 }
 
-fn set_keys(held: &mut Held, list: AllowList) -> Result<(), Fault>
-    ensures ok { OnOk result (ask_fault held.old ≡ None) }
-    ensures value { OnOk result (held.new ≡ asked_keeping list held.old) }
-    ensures err { IfErr result (λ f. ask_fault held.old ≡ Some f) }
-    ensures unchanged { OnErr result (held.new ≡ held.old) }
+fn set_keys(content: &mut Content, list: AllowList) -> Result<(), Fault>
+    ensures ok { OnOk result (ask_fault content.old ≡ None) }
+    ensures value { OnOk result (content.new ≡ asked_keeping list content.old) }
+    ensures err { IfErr result (λ f. ask_fault content.old ≡ Some f) }
+    ensures unchanged { OnErr result (content.new ≡ content.old) }
 {
-    let Held::Ask(ask) = held else {
+    let Content::Ask(ask) = content else {
         return Err(Fault::WrongKind);
     };
     ask.keep = Keep::Only(list);
@@ -342,11 +342,11 @@ pub extern "C" fn kit_ask_keep(alloc: Global, ask: &mut KitHandle, keys: &mut Ki
         Ok(list) => list,
         Err(fault) => return fault.code(),
     };
-    let Some(mut held) = ask.take(alloc) else {
+    let Some(mut content) = ask.take(alloc) else {
         return NOTHING;
     };
-    let outcome = set_keys(&mut held, list);
-    ask.put(held);
+    let outcome = set_keys(&mut content, list);
+    ask.put(content);
     match outcome {
         Ok(()) => OK,
         Err(fault) => fault.code(),

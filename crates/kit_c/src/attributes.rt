@@ -8,23 +8,23 @@ ghost use Rattle.kit_c.specs.Codes.{code_of, no_memory};
 ghost use Rattle.kit_c.specs.Faults.{full_fault, no_pairs, set_fault, text_fault};
 ghost use Rattle.kit_c.specs.Handles.{pairs_of};
 ghost use Rattle.kit_c.specs.Places.{place_after};
-ghost use Rattle.kit_c.specs.declared.held.Held.TheVariants.{Attributes, Pairs};
+ghost use Rattle.kit_c.specs.declared.content.Content.TheVariants.{Attributes, Pairs};
 
+use crate::content::Content;
 use crate::fault::{FULL, Fault, OK, code_with_place};
 use crate::handle::KitHandle;
-use crate::held::Held;
 use crate::list::push;
 use crate::text::text_of;
 use attr_kit::{AttrSet, AttrValue, Seq, TryCopy, Txt};
 use std::alloc::Global;
 
-fn push_pair(alloc: Global, held: &mut Held, key: Txt, value: AttrValue) -> Result<(), Fault>
-    ensures ok { OnOk result (no_pairs (Some held.old) ≡ None) }
-    ensures value { OnOk result (held.new ≡ Pairs (pairs_of (Some held.old) ++ (key, value) ∷ [])) }
-    ensures err { IfErr result (λ f. code_of f ≢ no_memory → no_pairs (Some held.old) ≡ Some f) }
-    ensures unchanged { OnErr result (held.new ≡ held.old) }
+fn push_pair(alloc: Global, content: &mut Content, key: Txt, value: AttrValue) -> Result<(), Fault>
+    ensures ok { OnOk result (no_pairs (Some content.old) ≡ None) }
+    ensures value { OnOk result (content.new ≡ Pairs (pairs_of (Some content.old) ++ (key, value) ∷ [])) }
+    ensures err { IfErr result (λ f. code_of f ≢ no_memory → no_pairs (Some content.old) ≡ Some f) }
+    ensures unchanged { OnErr result (content.new ≡ content.old) }
 {
-    let Held::Pairs(pairs) = held else {
+    let Content::Pairs(pairs) = content else {
         return Err(Fault::WrongKind);
     };
     push(alloc, pairs, (key, value))?;
@@ -38,13 +38,13 @@ fn add_pair(alloc: Global, pairs: &mut KitHandle, key: Txt, value: AttrValue) ->
     ensures unchanged { OnErr result (pairs.new.inner.value ≡ pairs.old.inner.value) }
 {
     match pairs.take(alloc) {
-        Some(mut held) => {
-            let outcome = push_pair(alloc, &mut held, key, value);
-            pairs.put(held);
+        Some(mut content) => {
+            let outcome = push_pair(alloc, &mut content, key, value);
+            pairs.put(content);
             outcome
         }
         None => {
-            let mut first = Held::Pairs(Seq::new(alloc));
+            let mut first = Content::Pairs(Seq::new(alloc));
             push_pair(alloc, &mut first, key, value)?;
             pairs.put(Box::new(alloc, first)?);
             Ok(())
@@ -147,17 +147,17 @@ pub(crate) fn copy_of_pairs(
     ensures err { IfErr result (λ f. code_of f ≢ no_memory → no_pairs pairs.old.inner.value ≡ Some f) }
     ensures kept { pairs.new.inner.value ≡ pairs.old.inner.value }
 {
-    let Some(held) = pairs.take(alloc) else {
+    let Some(content) = pairs.take(alloc) else {
         return Ok(Seq::new(alloc));
     };
-    let copy = match &*held {
-        Held::Pairs(pairs) => pairs.try_copy(),
+    let copy = match &*content {
+        Content::Pairs(pairs) => pairs.try_copy(),
         _ => {
-            pairs.put(held);
+            pairs.put(content);
             return Err(Fault::WrongKind);
         }
     };
-    pairs.put(held);
+    pairs.put(content);
     Ok(copy?)
 }
 
@@ -200,7 +200,7 @@ pub extern "C" fn kit_attributes_make(
         return FULL;
     }
     match set_of(alloc, pairs) {
-        Ok(set) => attributes.fill(alloc, Held::Attributes(set)),
+        Ok(set) => attributes.fill(alloc, Content::Attributes(set)),
         Err(fault) => code_with_place(fault, place),
     }
 }

@@ -9,23 +9,23 @@ ghost use Rattle.kit_c.specs.Codes.{code_of, no_memory};
 ghost use Rattle.kit_c.specs.Faults.{full_fault, of_one};
 ghost use Rattle.kit_c.specs.Places.{place_of};
 ghost use Rattle.kit_c.specs.declared.fault.Fault.{Fault};
-ghost use Rattle.kit_c.specs.declared.held.Held.TheVariants as things;
+ghost use Rattle.kit_c.specs.declared.content.Content.TheVariants as things;
 ghost use Rattle.point_kit.specs.declared.export.Export.{Export};
 
+use crate::content::Content;
 use crate::fault::{FULL, Fault, NOTHING, OK, code_with_place};
 use crate::handle::KitHandle;
-use crate::held::Held;
 use attr_kit::Seq;
 use bytes_kit::{decode_export, encode_export};
 use std::alloc::Global;
 
-fn encode(alloc: Global, held: &Held) -> Result<Seq<u8>, Fault>
-    ensures ok { OnOk result (export_fault held.now ≡ None) }
-    ensures value { IfOk result (λ b. b ≡ export_bytes held.now) }
-    ensures form { OnOk result (HasForm (Some held.now)) }
-    ensures err { IfErr result (λ f. code_of f ≢ no_memory → export_fault held.now ≡ Some f) }
+fn encode(alloc: Global, content: &Content) -> Result<Seq<u8>, Fault>
+    ensures ok { OnOk result (export_fault content.now ≡ None) }
+    ensures value { IfOk result (λ b. b ≡ export_bytes content.now) }
+    ensures form { OnOk result (HasForm (Some content.now)) }
+    ensures err { IfErr result (λ f. code_of f ≢ no_memory → export_fault content.now ≡ Some f) }
 {
-    let Held::Export(export) = held else {
+    let Content::Export(export) = content else {
         return Err(Fault::WrongKind);
     };
     Ok(Seq::from_vec(encode_export(alloc, export)?))
@@ -53,27 +53,27 @@ pub extern "C" fn kit_export_encode(
     if bytes.full {
         return FULL;
     }
-    let Some(held) = export.take(alloc) else {
+    let Some(content) = export.take(alloc) else {
         return NOTHING;
     };
-    let made = encode(alloc, &held);
-    export.put(held);
+    let made = encode(alloc, &content);
+    export.put(content);
     match made {
-        Ok(made) => bytes.fill(alloc, Held::Bytes(made)),
+        Ok(made) => bytes.fill(alloc, Content::Bytes(made)),
         Err(fault) => fault.code(),
     }
 }
 
 // Copies the front of bytes that has room, and answers how many there are.
-fn copy_front(held: &Held, into: &mut [u8]) -> Result<usize, Fault>
-    ensures ok { OnOk result (bytes_fault held.now ≡ None) }
+fn copy_front(content: &Content, into: &mut [u8]) -> Result<usize, Fault>
+    ensures ok { OnOk result (bytes_fault content.now ≡ None) }
     ensures value { OnOk result (into.new
-        ≡ take (length into.old) (bytes_in held.now) ++ drop (length (bytes_in held.now)) into.old) }
-    ensures len { IfOk result (λ n. n ≡ length (bytes_in held.now)) }
-    ensures err { IfErr result (λ f. bytes_fault held.now ≡ Some f) }
+        ≡ take (length into.old) (bytes_in content.now) ++ drop (length (bytes_in content.now)) into.old) }
+    ensures len { IfOk result (λ n. n ≡ length (bytes_in content.now)) }
+    ensures err { IfErr result (λ f. bytes_fault content.now ≡ Some f) }
     ensures unchanged { OnErr result (into.new ≡ into.old) }
 {
-    let Held::Bytes(bytes) = held else {
+    let Content::Bytes(bytes) = content else {
         return Err(Fault::WrongKind);
     };
     let bytes = bytes.as_slice();
@@ -101,11 +101,11 @@ pub extern "C" fn kit_bytes_copy(
     ensures told { result ≢ pos 0 → len.new ≡ len.old }
     ensures kept { bytes.new.inner.value ≡ bytes.old.inner.value }
 {
-    let Some(held) = bytes.take(alloc) else {
+    let Some(content) = bytes.take(alloc) else {
         return NOTHING;
     };
-    let outcome = copy_front(&held, into);
-    bytes.put(held);
+    let outcome = copy_front(&content, into);
+    bytes.put(content);
     match outcome {
         Ok(whole) => {
             *len = whole;
@@ -115,13 +115,13 @@ pub extern "C" fn kit_bytes_copy(
     }
 }
 
-fn decode(alloc: Global, bytes: &[u8]) -> Result<Box<Held>, Fault>
+fn decode(alloc: Global, bytes: &[u8]) -> Result<Box<Content>, Fault>
     ensures value { IfOk result (λ made. IsReadFrom bytes.now (Some made.value)) }
     ensures err { IfErr result (λ f. code_of f ≢ no_memory → IsDecodeFault bytes.now f) }
     ensures found { (e : Export) → IsExport e → bytes.now ≡ bytes_of e → IfErr result (λ f. code_of f ≡ no_memory) }
 {
     match decode_export(alloc, bytes) {
-        Ok(export) => Ok(Box::new(alloc, Held::Export(export))?),
+        Ok(export) => Ok(Box::new(alloc, Content::Export(export))?),
         Err(fault) => Err(Fault::Decode(fault)),
     }
 }

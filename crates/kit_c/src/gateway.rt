@@ -7,11 +7,11 @@ ghost use Rattle.kit_c.specs.Codes.{code_of, no_memory};
 ghost use Rattle.kit_c.specs.Faults.{full_fault, of_one, of_two, text_fault};
 ghost use Rattle.kit_c.specs.Gateways.{after_merge, after_take, changes_of, conflicts_of, gateway_fault, identity_of, merging_fault, newest_fault, newest_of, points_of, taking_fault};
 ghost use Rattle.kit_c.specs.Handles.{in_first};
-ghost use Rattle.kit_c.specs.declared.held.Held.TheVariants as things;
+ghost use Rattle.kit_c.specs.declared.content.Content.TheVariants as things;
 
+use crate::content::Content;
 use crate::fault::{FULL, Fault, NOTHING, OK};
 use crate::handle::KitHandle;
-use crate::held::Held;
 use crate::text::text_of;
 use attr_kit::Txt;
 use gateway_kit::Gateway;
@@ -31,20 +31,20 @@ pub extern "C" fn kit_gateway_open(alloc: Global, gateway: &mut KitHandle, id: u
     if gateway.full {
         return FULL;
     }
-    gateway.fill(alloc, Held::Gateway(Gateway::new(alloc, id)))
+    gateway.fill(alloc, Content::Gateway(Gateway::new(alloc, id)))
 }
 
-fn take_export(held: &mut Held, export: &Held) -> Result<u64, Fault>
-    ensures ok { OnOk result (taking_fault held.old export.now ≡ None) }
-    ensures value { OnOk result (held.new ≡ after_take held.old export.now) }
-    ensures changed { IfOk result (λ n. n ≡ changes_of held.old held.new) }
-    ensures err { IfErr result (λ f. code_of f ≢ no_memory → taking_fault held.old export.now ≡ Some f) }
-    ensures unchanged { OnErr result (held.new ≡ held.old) }
+fn take_export(content: &mut Content, export: &Content) -> Result<u64, Fault>
+    ensures ok { OnOk result (taking_fault content.old export.now ≡ None) }
+    ensures value { OnOk result (content.new ≡ after_take content.old export.now) }
+    ensures changed { IfOk result (λ n. n ≡ changes_of content.old content.new) }
+    ensures err { IfErr result (λ f. code_of f ≢ no_memory → taking_fault content.old export.now ≡ Some f) }
+    ensures unchanged { OnErr result (content.new ≡ content.old) }
 {
-    let Held::Gateway(gateway) = held else {
+    let Content::Gateway(gateway) = content else {
         return Err(Fault::WrongKind);
     };
-    let Held::Export(export) = export else {
+    let Content::Export(export) = export else {
         return Err(Fault::WrongKind);
     };
     Ok(gateway.take(export)?)
@@ -71,15 +71,15 @@ pub extern "C" fn kit_gateway_take(
     ensures told { result ≢ pos 0 → changed.new ≡ changed.old }
     ensures kept { export.new.inner.value ≡ export.old.inner.value }
 {
-    let Some(mut held) = gateway.take(alloc) else {
+    let Some(mut content) = gateway.take(alloc) else {
         return NOTHING;
     };
     let Some(other) = export.take(alloc) else {
-        gateway.put(held);
+        gateway.put(content);
         return NOTHING;
     };
-    let outcome = take_export(&mut held, &other);
-    gateway.put(held);
+    let outcome = take_export(&mut content, &other);
+    gateway.put(content);
     export.put(other);
     match outcome {
         Ok(keys) => {
@@ -90,17 +90,17 @@ pub extern "C" fn kit_gateway_take(
     }
 }
 
-fn merge_gateway(held: &mut Held, other: &Held) -> Result<u64, Fault>
-    ensures ok { OnOk result (merging_fault held.old other.now ≡ None) }
-    ensures value { OnOk result (held.new ≡ after_merge held.old other.now) }
-    ensures changed { IfOk result (λ n. n ≡ changes_of held.old held.new) }
-    ensures err { IfErr result (λ f. code_of f ≢ no_memory → merging_fault held.old other.now ≡ Some f) }
-    ensures unchanged { OnErr result (held.new ≡ held.old) }
+fn merge_gateway(content: &mut Content, other: &Content) -> Result<u64, Fault>
+    ensures ok { OnOk result (merging_fault content.old other.now ≡ None) }
+    ensures value { OnOk result (content.new ≡ after_merge content.old other.now) }
+    ensures changed { IfOk result (λ n. n ≡ changes_of content.old content.new) }
+    ensures err { IfErr result (λ f. code_of f ≢ no_memory → merging_fault content.old other.now ≡ Some f) }
+    ensures unchanged { OnErr result (content.new ≡ content.old) }
 {
-    let Held::Gateway(gateway) = held else {
+    let Content::Gateway(gateway) = content else {
         return Err(Fault::WrongKind);
     };
-    let Held::Gateway(other) = other else {
+    let Content::Gateway(other) = other else {
         return Err(Fault::WrongKind);
     };
     Ok(gateway.merge(other)?)
@@ -127,15 +127,15 @@ pub extern "C" fn kit_gateway_merge(
     ensures told { result ≢ pos 0 → changed.new ≡ changed.old }
     ensures kept { other.new.inner.value ≡ other.old.inner.value }
 {
-    let Some(mut held) = gateway.take(alloc) else {
+    let Some(mut content) = gateway.take(alloc) else {
         return NOTHING;
     };
     let Some(from) = other.take(alloc) else {
-        gateway.put(held);
+        gateway.put(content);
         return NOTHING;
     };
-    let outcome = merge_gateway(&mut held, &from);
-    gateway.put(held);
+    let outcome = merge_gateway(&mut content, &from);
+    gateway.put(content);
     other.put(from);
     match outcome {
         Ok(keys) => {
@@ -146,12 +146,12 @@ pub extern "C" fn kit_gateway_merge(
     }
 }
 
-fn conflicts(held: &Held) -> Result<u64, Fault>
-    ensures ok { OnOk result (gateway_fault held.now ≡ None) }
-    ensures value { IfOk result (λ n. n ≡ conflicts_of held.now) }
-    ensures err { IfErr result (λ f. gateway_fault held.now ≡ Some f) }
+fn conflicts(content: &Content) -> Result<u64, Fault>
+    ensures ok { OnOk result (gateway_fault content.now ≡ None) }
+    ensures value { IfOk result (λ n. n ≡ conflicts_of content.now) }
+    ensures err { IfErr result (λ f. gateway_fault content.now ≡ Some f) }
 {
-    let Held::Gateway(gateway) = held else {
+    let Content::Gateway(gateway) = content else {
         return Err(Fault::WrongKind);
     };
     Ok(gateway.conflicts())
@@ -172,11 +172,11 @@ pub extern "C" fn kit_gateway_conflicts(
     ensures unchanged { result ≢ pos 0 → count.new ≡ count.old }
     ensures kept { gateway.new.inner.value ≡ gateway.old.inner.value }
 {
-    let Some(held) = gateway.take(alloc) else {
+    let Some(content) = gateway.take(alloc) else {
         return NOTHING;
     };
-    let outcome = conflicts(&held);
-    gateway.put(held);
+    let outcome = conflicts(&content);
+    gateway.put(content);
     match outcome {
         Ok(told) => {
             *count = told;
@@ -186,15 +186,15 @@ pub extern "C" fn kit_gateway_conflicts(
     }
 }
 
-fn alike(held: &Held, other: &Held) -> Result<bool, Fault>
-    ensures ok { OnOk result (merging_fault held.now other.now ≡ None) }
-    ensures value { IfOk result (λ same. IsTrue same ↔ (points_of held.now ≡ points_of other.now)) }
-    ensures err { IfErr result (λ f. merging_fault held.now other.now ≡ Some f) }
+fn alike(content: &Content, other: &Content) -> Result<bool, Fault>
+    ensures ok { OnOk result (merging_fault content.now other.now ≡ None) }
+    ensures value { IfOk result (λ same. IsTrue same ↔ (points_of content.now ≡ points_of other.now)) }
+    ensures err { IfErr result (λ f. merging_fault content.now other.now ≡ Some f) }
 {
-    let Held::Gateway(gateway) = held else {
+    let Content::Gateway(gateway) = content else {
         return Err(Fault::WrongKind);
     };
-    let Held::Gateway(other) = other else {
+    let Content::Gateway(other) = other else {
         return Err(Fault::WrongKind);
     };
     Ok(gateway.same(other))
@@ -219,15 +219,15 @@ pub extern "C" fn kit_gateway_same(
     ensures kept { gateway.new.inner.value ≡ gateway.old.inner.value }
     ensures other { other.new.inner.value ≡ other.old.inner.value }
 {
-    let Some(held) = gateway.take(alloc) else {
+    let Some(content) = gateway.take(alloc) else {
         return NOTHING;
     };
     let Some(from) = other.take(alloc) else {
-        gateway.put(held);
+        gateway.put(content);
         return NOTHING;
     };
-    let outcome = alike(&held, &from);
-    gateway.put(held);
+    let outcome = alike(&content, &from);
+    gateway.put(content);
     other.put(from);
     match outcome {
         Ok(told) => {
@@ -249,12 +249,12 @@ fn identity(service: Txt, instance_high: u64, instance_low: u64) -> WriterId
 }
 
 #[tactic(auto, unfolding(crate::specs::Gateways::newest_fault, crate::specs::Gateways::newest_of))]
-fn newest(held: &Held, writer: &WriterId, start: u64) -> Result<u64, Fault>
-    ensures ok { OnOk result (newest_fault writer.now start held.now ≡ None) }
-    ensures value { IfOk result (λ time. newest_of writer.now start held.now ≡ Some time) }
-    ensures err { IfErr result (λ f. newest_fault writer.now start held.now ≡ Some f) }
+fn newest(content: &Content, writer: &WriterId, start: u64) -> Result<u64, Fault>
+    ensures ok { OnOk result (newest_fault writer.now start content.now ≡ None) }
+    ensures value { IfOk result (λ time. newest_of writer.now start content.now ≡ Some time) }
+    ensures err { IfErr result (λ f. newest_fault writer.now start content.now ≡ Some f) }
 {
-    let Held::Gateway(gateway) = held else {
+    let Content::Gateway(gateway) = content else {
         return Err(Fault::WrongKind);
     };
     match gateway.newest(writer, start) {
@@ -264,17 +264,21 @@ fn newest(held: &Held, writer: &WriterId, start: u64) -> Result<u64, Fault>
 }
 
 fn newest_of_instance(
-    held: &Held,
+    content: &Content,
     service: Txt,
     instance_high: u64,
     instance_low: u64,
     start: u64,
 ) -> Result<u64, Fault>
-    ensures ok { OnOk result (newest_fault (identity_of service instance_high instance_low) start held.now ≡ None) }
-    ensures value { IfOk result (λ time. newest_of (identity_of service instance_high instance_low) start held.now ≡ Some time) }
-    ensures err { IfErr result (λ f. newest_fault (identity_of service instance_high instance_low) start held.now ≡ Some f) }
+    ensures ok { OnOk result (newest_fault (identity_of service instance_high instance_low) start content.now ≡ None) }
+    ensures value { IfOk result (λ time. newest_of (identity_of service instance_high instance_low) start content.now ≡ Some time) }
+    ensures err { IfErr result (λ f. newest_fault (identity_of service instance_high instance_low) start content.now ≡ Some f) }
 {
-    newest(held, &identity(service, instance_high, instance_low), start)
+    newest(
+        content,
+        &identity(service, instance_high, instance_low),
+        start,
+    )
 }
 
 /// Tells the greatest time that a gateway holds of one incarnation of a service's instance: all that was collected up to then has
@@ -305,11 +309,11 @@ pub extern "C" fn kit_gateway_newest(
         Ok(service) => service,
         Err(fault) => return fault.code(),
     };
-    let Some(held) = gateway.take(alloc) else {
+    let Some(content) = gateway.take(alloc) else {
         return NOTHING;
     };
-    let outcome = newest_of_instance(&held, service, instance_high, instance_low, start);
-    gateway.put(held);
+    let outcome = newest_of_instance(&content, service, instance_high, instance_low, start);
+    gateway.put(content);
     match outcome {
         Ok(told) => {
             *time = told;

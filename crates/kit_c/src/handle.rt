@@ -4,8 +4,8 @@ ghost use Rattle.std.specs.Option.{is_some};
 ghost use Rattle.kit_c.specs.Owned.{box_value};
 ghost use Rattle.kit_c.specs.Codes.{no_memory};
 
+use crate::content::Content;
 use crate::fault::{NO_MEMORY, OK};
-use crate::held::Held;
 use crate::inner::Inner;
 use crate::loose::Loose;
 use std::alloc::Global;
@@ -20,12 +20,12 @@ pub struct KitHandle {
 }
 
 impl KitHandle {
-    fn of(held: Box<Held, Global>) -> KitHandle
-        ensures { result.inner.value ≡ Some held.value }
+    fn of(content: Box<Content, Global>) -> KitHandle
+        ensures { result.inner.value ≡ Some content.value }
     {
         KitHandle {
             full: true,
-            inner: Inner::full(Loose::of(held)),
+            inner: Inner::full(Loose::of(content)),
         }
     }
 
@@ -40,7 +40,7 @@ impl KitHandle {
     }
 
     /// What the handle has, which it then no longer has.
-    pub(crate) fn take(&mut self, alloc: Global) -> Option<Box<Held, Global>>
+    pub(crate) fn take(&mut self, alloc: Global) -> Option<Box<Content, Global>>
         ensures value { box_value result ≡ self.old.inner.value }
         ensures empty { self.new.inner.value ≡ None }
     {
@@ -54,23 +54,23 @@ impl KitHandle {
     }
 
     /// From now on the handle has this.
-    pub(crate) fn put(&mut self, held: Box<Held, Global>)
+    pub(crate) fn put(&mut self, content: Box<Content, Global>)
         requires { self.old.inner.value ≡ None }
-        ensures { self.new.inner.value ≡ Some held.value }
+        ensures { self.new.inner.value ≡ Some content.value }
     {
-        *self = KitHandle::of(held);
+        *self = KitHandle::of(content);
     }
 
     /// From now on the handle has this, if memory is given.
-    pub(crate) fn fill(&mut self, alloc: Global, held: Held) -> i32
+    pub(crate) fn fill(&mut self, alloc: Global, content: Content) -> i32
         requires { self.old.inner.value ≡ None }
         ensures code { (result ≢ pos 0) → result ≡ no_memory }
-        ensures value { result ≡ pos 0 → self.new.inner.value ≡ Some held }
+        ensures value { result ≡ pos 0 → self.new.inner.value ≡ Some content }
         ensures unchanged { result ≢ pos 0 → self.new.inner.value ≡ None }
     {
-        match Box::new(alloc, held) {
-            Ok(held) => {
-                self.put(held);
+        match Box::new(alloc, content) {
+            Ok(content) => {
+                self.put(content);
                 OK
             }
             Err(_) => NO_MEMORY,

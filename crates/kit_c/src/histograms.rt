@@ -5,24 +5,24 @@ ghost use Rattle.kit_c.specs.Codes.{code_of};
 ghost use Rattle.kit_c.specs.Faults.{of_one};
 ghost use Rattle.kit_c.specs.Histograms.{bucket_at, bucket_fault, histogram_at, histogram_fault, range_at, range_fault};
 
+use crate::content::Content;
 use crate::fault::{Fault, NOTHING, OK};
 use crate::handle::KitHandle;
-use crate::held::Held;
 use crate::rows::{narrow_count, narrow_sum, row};
 use rollup_kit::Total;
 use std::alloc::Global;
 
-fn histogram(held: &Held, number: usize) -> Result<(u64, i64, usize), Fault>
-    ensures value { IfOk result (λ t. histogram_at number held.now ≡ Some t) }
-    ensures ok { OnOk result (histogram_fault number held.now ≡ None) }
-    ensures err { IfErr result (λ f. histogram_fault number held.now ≡ Some f) }
+fn histogram(content: &Content, number: usize) -> Result<(u64, i64, usize), Fault>
+    ensures value { IfOk result (λ t. histogram_at number content.now ≡ Some t) }
+    ensures ok { OnOk result (histogram_fault number content.now ≡ None) }
+    ensures err { IfErr result (λ f. histogram_fault number content.now ≡ Some f) }
 {
     let Total::Hist {
         count,
         sum,
         buckets,
         range: _,
-    } = &row(held, number)?.total
+    } = &row(content, number)?.total
     else {
         return Err(Fault::WrongKind);
     };
@@ -51,11 +51,11 @@ pub extern "C" fn kit_rows_histogram(
     ensures buckets { result ≢ pos 0 → buckets.new ≡ buckets.old }
     ensures kept { rows.new.inner.value ≡ rows.old.inner.value }
 {
-    let Some(held) = rows.take(alloc) else {
+    let Some(content) = rows.take(alloc) else {
         return NOTHING;
     };
-    let outcome = histogram(&held, number);
-    rows.put(held);
+    let outcome = histogram(&content, number);
+    rows.put(content);
     match outcome {
         Ok((values, total, parts)) => {
             *count = values;
@@ -67,12 +67,12 @@ pub extern "C" fn kit_rows_histogram(
     }
 }
 
-fn range(held: &Held, number: usize) -> Result<(i64, i64), Fault>
-    ensures value { IfOk result (λ p. range_at number held.now ≡ Some p) }
-    ensures ok { OnOk result (range_fault number held.now ≡ None) }
-    ensures err { IfErr result (λ f. range_fault number held.now ≡ Some f) }
+fn range(content: &Content, number: usize) -> Result<(i64, i64), Fault>
+    ensures value { IfOk result (λ p. range_at number content.now ≡ Some p) }
+    ensures ok { OnOk result (range_fault number content.now ≡ None) }
+    ensures err { IfErr result (λ f. range_fault number content.now ≡ Some f) }
 {
-    match &row(held, number)?.total {
+    match &row(content, number)?.total {
         Total::Hist {
             range: Some(range),
             ..
@@ -102,11 +102,11 @@ pub extern "C" fn kit_rows_range(
     ensures greatest { result ≢ pos 0 → greatest.new ≡ greatest.old }
     ensures kept { rows.new.inner.value ≡ rows.old.inner.value }
 {
-    let Some(held) = rows.take(alloc) else {
+    let Some(content) = rows.take(alloc) else {
         return NOTHING;
     };
-    let outcome = range(&held, number);
-    rows.put(held);
+    let outcome = range(&content, number);
+    rows.put(content);
     match outcome {
         Ok((low, high)) => {
             *least = low;
@@ -117,12 +117,12 @@ pub extern "C" fn kit_rows_range(
     }
 }
 
-fn bucket(held: &Held, number: usize, place: usize) -> Result<u64, Fault>
-    ensures value { IfOk result (λ n. bucket_at number place held.now ≡ Some n) }
-    ensures ok { OnOk result (bucket_fault number place held.now ≡ None) }
-    ensures err { IfErr result (λ f. bucket_fault number place held.now ≡ Some f) }
+fn bucket(content: &Content, number: usize, place: usize) -> Result<u64, Fault>
+    ensures value { IfOk result (λ n. bucket_at number place content.now ≡ Some n) }
+    ensures ok { OnOk result (bucket_fault number place content.now ≡ None) }
+    ensures err { IfErr result (λ f. bucket_fault number place content.now ≡ Some f) }
 {
-    let Total::Hist { buckets, .. } = &row(held, number)?.total else {
+    let Total::Hist { buckets, .. } = &row(content, number)?.total else {
         return Err(Fault::WrongKind);
     };
     let Some(count) = buckets.get(place) else {
@@ -152,11 +152,11 @@ pub extern "C" fn kit_rows_bucket(
     ensures unchanged { result ≢ pos 0 → count.new ≡ count.old }
     ensures kept { rows.new.inner.value ≡ rows.old.inner.value }
 {
-    let Some(held) = rows.take(alloc) else {
+    let Some(content) = rows.take(alloc) else {
         return NOTHING;
     };
-    let outcome = bucket(&held, number, bucket_number);
-    rows.put(held);
+    let outcome = bucket(&content, number, bucket_number);
+    rows.put(content);
     match outcome {
         Ok(told) => {
             *count = told;

@@ -7,7 +7,7 @@ ghost use Rattle.kit_c.specs.Holdings.{IsPlaceOf, Keeps, KnowsPoints, attrs_of};
 ghost use Rattle.kit_c.specs.Numbers.{recorded_at, set_fault};
 ghost use Rattle.kit_c.specs.Recorders.{Absorbs, WhyNotAbsorbed};
 ghost use Rattle.writer_kit.specs.BoundPoints.{IsAtHome};
-ghost use Rattle.writer_kit.specs.Recording.{after_collect, after_restart, recorded};
+ghost use Rattle.writer_kit.specs.Recording.{after_collect, after_restart, after_record};
 ghost use Rattle.writer_kit.specs.Refusals.{fault_now, no_memory, restart_fault};
 
 use crate::fault::Fault;
@@ -44,7 +44,7 @@ fn measure_at_point(
 ) -> Result<(), MeasureFault>
     requires { IsAtHome writer.old point.old }
     ensures ok { OnOk result (fault_now writer.old (entry_at point.old.point value) ≡ None) }
-    ensures value { OnOk result (writer.new ≡ recorded writer.old (entry_at point.old.point value)) }
+    ensures value { OnOk result (writer.new ≡ after_record writer.old (entry_at point.old.point value)) }
     ensures err { IfErr result (λ f. f ≢ no_memory → fault_now writer.old (entry_at point.old.point value) ≡ Some f) }
     ensures unchanged { OnErr result (writer.new ≡ writer.old) }
     ensures instrument { point.new.point.instrument ≡ point.old.point.instrument }
@@ -73,7 +73,7 @@ fn measure_at_set(
 ) -> Result<(), MeasureFault>
     requires { KnowsPoints writer.old set.old }
     ensures ok { OnOk result (fault_now writer.old (entry_of instrument set.old.attrs value) ≡ None) }
-    ensures value { OnOk result (writer.new ≡ recorded writer.old (entry_of instrument set.old.attrs value)) }
+    ensures value { OnOk result (writer.new ≡ after_record writer.old (entry_of instrument set.old.attrs value)) }
     ensures err { IfErr result (λ f. f ≢ no_memory → fault_now writer.old (entry_of instrument set.old.attrs value) ≡ Some f) }
     ensures unchanged { OnErr result (writer.new ≡ writer.old) }
     ensures attrs { set.new.attrs ≡ set.old.attrs }
@@ -172,7 +172,7 @@ impl HoldingWriter {
     ) -> Result<(), MeasureFault>
         ensures ok { OnOk result (fault_now self.old.writer (entry_of instrument attrs.now value) ≡ None) }
         ensures value { OnOk result (self.new
-            ≡ record self.old { writer = recorded self.old.writer (entry_of instrument attrs.now value) }) }
+            ≡ record self.old { writer = after_record self.old.writer (entry_of instrument attrs.now value) }) }
         ensures err { IfErr result (λ f. f ≢ no_memory → fault_now self.old.writer (entry_of instrument attrs.now value) ≡ Some f) }
         ensures unchanged { OnErr result (self.new ≡ self.old) }
     {

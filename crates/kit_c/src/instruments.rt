@@ -8,11 +8,11 @@ ghost use Rattle.kit_c.specs.Faults.{full_fault};
 ghost use Rattle.kit_c.specs.Kinds.{kind_fault, numbered_kind};
 ghost use Rattle.kit_c.specs.Plans.{instrument_of, instruments_fault, instruments_of, no_instruments, no_views, planning_fault, views_of};
 ghost use Rattle.kit_c.specs.Places.{place_after, second_after};
-ghost use Rattle.kit_c.specs.declared.held.Held.TheVariants as things;
+ghost use Rattle.kit_c.specs.declared.content.Content.TheVariants as things;
 
+use crate::content::Content;
 use crate::fault::{FULL, Fault, OK, code_with_places};
 use crate::handle::KitHandle;
-use crate::held::Held;
 use crate::list::push;
 use crate::text::text_of;
 use attr_kit::{Seq, TryCopy};
@@ -53,13 +53,17 @@ fn instrument(
     })
 }
 
-fn push_instrument(alloc: Global, held: &mut Held, instrument: Instrument) -> Result<(), Fault>
-    ensures ok { OnOk result (no_instruments (Some held.old) ≡ None) }
-    ensures value { OnOk result (held.new ≡ things.Instruments (instruments_of (Some held.old) ++ instrument ∷ [])) }
-    ensures err { IfErr result (λ f. code_of f ≢ no_memory → no_instruments (Some held.old) ≡ Some f) }
-    ensures unchanged { OnErr result (held.new ≡ held.old) }
+fn push_instrument(
+    alloc: Global,
+    content: &mut Content,
+    instrument: Instrument,
+) -> Result<(), Fault>
+    ensures ok { OnOk result (no_instruments (Some content.old) ≡ None) }
+    ensures value { OnOk result (content.new ≡ things.Instruments (instruments_of (Some content.old) ++ instrument ∷ [])) }
+    ensures err { IfErr result (λ f. code_of f ≢ no_memory → no_instruments (Some content.old) ≡ Some f) }
+    ensures unchanged { OnErr result (content.new ≡ content.old) }
 {
-    let Held::Instruments(instruments) = held else {
+    let Content::Instruments(instruments) = content else {
         return Err(Fault::WrongKind);
     };
     push(alloc, instruments, instrument)?;
@@ -78,13 +82,13 @@ fn add_instrument(
     ensures unchanged { OnErr result (instruments.new.inner.value ≡ instruments.old.inner.value) }
 {
     match instruments.take(alloc) {
-        Some(mut held) => {
-            let outcome = push_instrument(alloc, &mut held, instrument);
-            instruments.put(held);
+        Some(mut content) => {
+            let outcome = push_instrument(alloc, &mut content, instrument);
+            instruments.put(content);
             outcome
         }
         None => {
-            let mut first = Held::Instruments(Seq::new(alloc));
+            let mut first = Content::Instruments(Seq::new(alloc));
             push_instrument(alloc, &mut first, instrument)?;
             instruments.put(Box::new(alloc, first)?);
             Ok(())
@@ -130,17 +134,17 @@ fn copy_of_instruments(alloc: Global, instruments: &mut KitHandle) -> Result<Seq
     ensures err { IfErr result (λ f. code_of f ≢ no_memory → no_instruments instruments.old.inner.value ≡ Some f) }
     ensures kept { instruments.new.inner.value ≡ instruments.old.inner.value }
 {
-    let Some(held) = instruments.take(alloc) else {
+    let Some(content) = instruments.take(alloc) else {
         return Ok(Seq::new(alloc));
     };
-    let copy = match &*held {
-        Held::Instruments(instruments) => instruments.try_copy(),
+    let copy = match &*content {
+        Content::Instruments(instruments) => instruments.try_copy(),
         _ => {
-            instruments.put(held);
+            instruments.put(content);
             return Err(Fault::WrongKind);
         }
     };
-    instruments.put(held);
+    instruments.put(content);
     Ok(copy?)
 }
 
@@ -150,17 +154,17 @@ fn copy_of_views(alloc: Global, views: &mut KitHandle) -> Result<Seq<View>, Faul
     ensures err { IfErr result (λ f. code_of f ≢ no_memory → no_views views.old.inner.value ≡ Some f) }
     ensures kept { views.new.inner.value ≡ views.old.inner.value }
 {
-    let Some(held) = views.take(alloc) else {
+    let Some(content) = views.take(alloc) else {
         return Ok(Seq::new(alloc));
     };
-    let copy = match &*held {
-        Held::Views(views) => views.try_copy(),
+    let copy = match &*content {
+        Content::Views(views) => views.try_copy(),
         _ => {
-            views.put(held);
+            views.put(content);
             return Err(Fault::WrongKind);
         }
     };
-    views.put(held);
+    views.put(content);
     Ok(copy?)
 }
 
@@ -221,7 +225,7 @@ pub extern "C" fn kit_plan_build(
         return FULL;
     }
     match plan_of_parts(alloc, instruments, views, limit) {
-        Ok(made) => plan.fill(alloc, Held::Plan(made)),
+        Ok(made) => plan.fill(alloc, Content::Plan(made)),
         Err(fault) => code_with_places(fault, place, second),
     }
 }

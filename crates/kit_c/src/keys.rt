@@ -6,23 +6,23 @@ ghost use Rattle.attr_kit.specs.Refusing.{first};
 ghost use Rattle.kit_c.specs.Codes.{code_of, no_memory};
 ghost use Rattle.kit_c.specs.Faults.{text_fault};
 ghost use Rattle.kit_c.specs.Keys.{keys_of, no_keys};
-ghost use Rattle.kit_c.specs.declared.held.Held.TheVariants as things;
+ghost use Rattle.kit_c.specs.declared.content.Content.TheVariants as things;
 
+use crate::content::Content;
 use crate::fault::{Fault, OK};
 use crate::handle::KitHandle;
-use crate::held::Held;
 use crate::list::push;
 use crate::text::text_of;
 use attr_kit::{AllowList, Seq, TryCopy, Txt};
 use std::alloc::Global;
 
-fn push_key(alloc: Global, held: &mut Held, key: Txt) -> Result<(), Fault>
-    ensures ok { OnOk result (no_keys (Some held.old) ≡ None) }
-    ensures value { OnOk result (held.new ≡ things.Keys (keys_of (Some held.old) ++ key ∷ [])) }
-    ensures err { IfErr result (λ f. code_of f ≢ no_memory → no_keys (Some held.old) ≡ Some f) }
-    ensures unchanged { OnErr result (held.new ≡ held.old) }
+fn push_key(alloc: Global, content: &mut Content, key: Txt) -> Result<(), Fault>
+    ensures ok { OnOk result (no_keys (Some content.old) ≡ None) }
+    ensures value { OnOk result (content.new ≡ things.Keys (keys_of (Some content.old) ++ key ∷ [])) }
+    ensures err { IfErr result (λ f. code_of f ≢ no_memory → no_keys (Some content.old) ≡ Some f) }
+    ensures unchanged { OnErr result (content.new ≡ content.old) }
 {
-    let Held::Keys(keys) = held else {
+    let Content::Keys(keys) = content else {
         return Err(Fault::WrongKind);
     };
     push(alloc, keys, key)?;
@@ -36,13 +36,13 @@ fn add_key(alloc: Global, keys: &mut KitHandle, key: Txt) -> Result<(), Fault>
     ensures unchanged { OnErr result (keys.new.inner.value ≡ keys.old.inner.value) }
 {
     match keys.take(alloc) {
-        Some(mut held) => {
-            let outcome = push_key(alloc, &mut held, key);
-            keys.put(held);
+        Some(mut content) => {
+            let outcome = push_key(alloc, &mut content, key);
+            keys.put(content);
             outcome
         }
         None => {
-            let mut first = Held::Keys(Seq::new(alloc));
+            let mut first = Content::Keys(Seq::new(alloc));
             push_key(alloc, &mut first, key)?;
             keys.put(Box::new(alloc, first)?);
             Ok(())
@@ -78,17 +78,17 @@ fn copy_of_keys(alloc: Global, keys: &mut KitHandle) -> Result<Seq<Txt>, Fault>
     ensures err { IfErr result (λ f. code_of f ≢ no_memory → no_keys keys.old.inner.value ≡ Some f) }
     ensures kept { keys.new.inner.value ≡ keys.old.inner.value }
 {
-    let Some(held) = keys.take(alloc) else {
+    let Some(content) = keys.take(alloc) else {
         return Ok(Seq::new(alloc));
     };
-    let copy = match &*held {
-        Held::Keys(keys) => keys.try_copy(),
+    let copy = match &*content {
+        Content::Keys(keys) => keys.try_copy(),
         _ => {
-            keys.put(held);
+            keys.put(content);
             return Err(Fault::WrongKind);
         }
     };
-    keys.put(held);
+    keys.put(content);
     Ok(copy?)
 }
 

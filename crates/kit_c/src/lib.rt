@@ -26,11 +26,11 @@
 mod ask;
 mod attributes;
 mod bytes;
+mod content;
 mod desk;
 mod fault;
 mod gateway;
 mod handle;
-mod held;
 mod histograms;
 mod holding;
 mod inner;

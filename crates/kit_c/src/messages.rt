@@ -4,29 +4,29 @@ ghost use Rattle.std.specs.Prelude.{◌≡◌, ◌≢◌, ◌∷◌, [], pos, No
 ghost use Rattle.attr_kit.specs.Refusing.{first};
 ghost use Rattle.bytes_kit.specs.MessageFits.{IsMessage, IsSoundPoints};
 ghost use Rattle.bytes_kit.specs.Messages.{bytes_of_message};
-ghost use Rattle.gossip_kit.specs.Views.{MessageView};
+ghost use Rattle.gossip_kit.specs.Views.{MessageModel};
 ghost use Rattle.kit_c.specs.Bytes.{HasForm, IsMessageFault, IsMessageOf, export_bytes_message};
 ghost use Rattle.kit_c.specs.Codes.{code_of, no_memory};
 ghost use Rattle.kit_c.specs.Faults.{full_fault, of_one};
 ghost use Rattle.kit_c.specs.Nodes.{message_fault};
 ghost use Rattle.kit_c.specs.Places.{place_of};
 ghost use Rattle.kit_c.specs.declared.fault.Fault.{Fault};
-ghost use Rattle.kit_c.specs.declared.held.Held.TheVariants as things;
+ghost use Rattle.kit_c.specs.declared.content.Content.TheVariants as things;
 
+use crate::content::Content;
 use crate::fault::{FULL, Fault, NOTHING, OK, code_with_place};
 use crate::handle::KitHandle;
-use crate::held::Held;
 use attr_kit::Seq;
 use bytes_kit::{decode_message, encode_message};
 use std::alloc::Global;
 
-fn encode(alloc: Global, held: &Held) -> Result<Seq<u8>, Fault>
-    ensures ok { OnOk result (message_fault held.now ≡ None) }
-    ensures value { IfOk result (λ b. b ≡ export_bytes_message held.now) }
-    ensures form { OnOk result (HasForm (Some held.now)) }
-    ensures err { IfErr result (λ f. code_of f ≢ no_memory → message_fault held.now ≡ Some f) }
+fn encode(alloc: Global, content: &Content) -> Result<Seq<u8>, Fault>
+    ensures ok { OnOk result (message_fault content.now ≡ None) }
+    ensures value { IfOk result (λ b. b ≡ export_bytes_message content.now) }
+    ensures form { OnOk result (HasForm (Some content.now)) }
+    ensures err { IfErr result (λ f. code_of f ≢ no_memory → message_fault content.now ≡ Some f) }
 {
-    let Held::Message(message) = held else {
+    let Content::Message(message) = content else {
         return Err(Fault::WrongKind);
     };
     Ok(Seq::from_vec(encode_message(alloc, message)?))
@@ -54,25 +54,25 @@ pub extern "C" fn kit_message_encode(
     if bytes.full {
         return FULL;
     }
-    let Some(held) = message.take(alloc) else {
+    let Some(content) = message.take(alloc) else {
         return NOTHING;
     };
-    let made = encode(alloc, &held);
-    message.put(held);
+    let made = encode(alloc, &content);
+    message.put(content);
     match made {
-        Ok(made) => bytes.fill(alloc, Held::Bytes(made)),
+        Ok(made) => bytes.fill(alloc, Content::Bytes(made)),
         Err(fault) => fault.code(),
     }
 }
 
-fn decode(alloc: Global, bytes: &[u8]) -> Result<Box<Held>, Fault>
+fn decode(alloc: Global, bytes: &[u8]) -> Result<Box<Content>, Fault>
     ensures value { IfOk result (λ made. IsMessageOf bytes.now (Some made.value)) }
     ensures err { IfErr result (λ f. code_of f ≢ no_memory → IsMessageFault bytes.now f) }
-    ensures found { (m : MessageView) → IsMessage m → IsSoundPoints m.points → bytes.now ≡ bytes_of_message m
+    ensures found { (m : MessageModel) → IsMessage m → IsSoundPoints m.points → bytes.now ≡ bytes_of_message m
         → IfErr result (λ f. code_of f ≡ no_memory) }
 {
     match decode_message(alloc, bytes) {
-        Ok(message) => Ok(Box::new(alloc, Held::Message(message))?),
+        Ok(message) => Ok(Box::new(alloc, Content::Message(message))?),
         Err(fault) => Err(Fault::Decode(fault)),
     }
 }
@@ -96,7 +96,7 @@ pub extern "C" fn kit_message_decode(
     ensures full { message.old.inner.value ≢ None → (result ≡ pos 4) × (place.new ≡ place.old) }
     ensures err { result ≢ pos 0 → result ≢ no_memory → message.old.inner.value ≡ None
         → (f : Fault) × (result ≡ code_of f) × (place.new ≡ unwrap_or (place_of f) place.old) × IsMessageFault bytes.now f }
-    ensures found { (m : MessageView) → IsMessage m → IsSoundPoints m.points → bytes.now ≡ bytes_of_message m
+    ensures found { (m : MessageModel) → IsMessage m → IsSoundPoints m.points → bytes.now ≡ bytes_of_message m
         → message.old.inner.value ≡ None → result ≢ pos 0 → result ≡ no_memory }
     ensures no_memory { result ≡ no_memory → place.new ≡ place.old }
     ensures unchanged { result ≢ pos 0 → message.new.inner.value ≡ message.old.inner.value }

@@ -7,22 +7,22 @@ ghost use Rattle.kit_c.specs.Faults.{full_fault, of_one, of_two};
 ghost use Rattle.kit_c.specs.Gateways.{gateway_fault};
 ghost use Rattle.kit_c.specs.Nodes.{HasHeard, HasMerged, HasTaken, IsFromTo, IsMessageTo, IsNodeOf, answer_in, gateway_in, handing_fault, message_fault, message_in, node_changes, node_fault, node_merging_fault, node_taking_fault};
 ghost use Rattle.kit_c.specs.Owned.{box_value};
-ghost use Rattle.kit_c.specs.declared.held.Held.TheVariants as things;
+ghost use Rattle.kit_c.specs.declared.content.Content.TheVariants as things;
 
+use crate::content::Content;
 use crate::fault::{FULL, Fault, NOTHING, OK};
 use crate::handle::KitHandle;
-use crate::held::Held;
 use attr_kit::Seq;
 use gateway_kit::Gateway;
 use gossip_kit::{Message, Node};
 use std::alloc::Global;
 
-fn open_node(alloc: Global, held: &Held) -> Result<Node, Fault>
-    ensures ok { OnOk result (gateway_fault held.now ≡ None) }
-    ensures value { IfOk result (λ n. IsNodeOf (Some held.now) (Some (things.Node n))) }
-    ensures err { IfErr result (λ f. code_of f ≢ no_memory → gateway_fault held.now ≡ Some f) }
+fn open_node(alloc: Global, content: &Content) -> Result<Node, Fault>
+    ensures ok { OnOk result (gateway_fault content.now ≡ None) }
+    ensures value { IfOk result (λ n. IsNodeOf (Some content.now) (Some (things.Node n))) }
+    ensures err { IfErr result (λ f. code_of f ≢ no_memory → gateway_fault content.now ≡ Some f) }
 {
-    let Held::Gateway(gateway) = held else {
+    let Content::Gateway(gateway) = content else {
         return Err(Fault::WrongKind);
     };
     Ok(Node::new(alloc, gateway.try_copy()?))
@@ -44,23 +44,23 @@ pub extern "C" fn kit_node_open(alloc: Global, node: &mut KitHandle, gateway: &m
     if node.full {
         return FULL;
     }
-    let Some(held) = gateway.take(alloc) else {
+    let Some(content) = gateway.take(alloc) else {
         return NOTHING;
     };
-    let made = open_node(alloc, &held);
-    gateway.put(held);
+    let made = open_node(alloc, &content);
+    gateway.put(content);
     match made {
-        Ok(made) => node.fill(alloc, Held::Node(made)),
+        Ok(made) => node.fill(alloc, Content::Node(made)),
         Err(fault) => fault.code(),
     }
 }
 
-fn copy_gateway(held: &Held) -> Result<Gateway, Fault>
-    ensures ok { OnOk result (node_fault held.now ≡ None) }
-    ensures value { IfOk result (λ g. gateway_in held.now ≡ Some g) }
-    ensures err { IfErr result (λ f. code_of f ≢ no_memory → node_fault held.now ≡ Some f) }
+fn copy_gateway(content: &Content) -> Result<Gateway, Fault>
+    ensures ok { OnOk result (node_fault content.now ≡ None) }
+    ensures value { IfOk result (λ g. gateway_in content.now ≡ Some g) }
+    ensures err { IfErr result (λ f. code_of f ≢ no_memory → node_fault content.now ≡ Some f) }
 {
-    let Held::Node(node) = held else {
+    let Content::Node(node) = content else {
         return Err(Fault::WrongKind);
     };
     Ok(node.gateway().try_copy()?)
@@ -87,28 +87,28 @@ pub extern "C" fn kit_node_gateway(
     if gateway.full {
         return FULL;
     }
-    let Some(held) = node.take(alloc) else {
+    let Some(content) = node.take(alloc) else {
         return NOTHING;
     };
-    let made = copy_gateway(&held);
-    node.put(held);
+    let made = copy_gateway(&content);
+    node.put(content);
     match made {
-        Ok(made) => gateway.fill(alloc, Held::Gateway(made)),
+        Ok(made) => gateway.fill(alloc, Content::Gateway(made)),
         Err(fault) => fault.code(),
     }
 }
 
-fn take_at_node(held: &mut Held, export: &Held) -> Result<u64, Fault>
-    ensures ok { OnOk result (node_taking_fault held.old export.now ≡ None) }
-    ensures value { OnOk result (HasTaken (Some held.old) (Some export.now) (Some held.new)) }
-    ensures changed { IfOk result (λ n. n ≡ node_changes held.old held.new) }
-    ensures err { IfErr result (λ f. code_of f ≢ no_memory → node_taking_fault held.old export.now ≡ Some f) }
-    ensures unchanged { OnErr result (held.new ≡ held.old) }
+fn take_at_node(content: &mut Content, export: &Content) -> Result<u64, Fault>
+    ensures ok { OnOk result (node_taking_fault content.old export.now ≡ None) }
+    ensures value { OnOk result (HasTaken (Some content.old) (Some export.now) (Some content.new)) }
+    ensures changed { IfOk result (λ n. n ≡ node_changes content.old content.new) }
+    ensures err { IfErr result (λ f. code_of f ≢ no_memory → node_taking_fault content.old export.now ≡ Some f) }
+    ensures unchanged { OnErr result (content.new ≡ content.old) }
 {
-    let Held::Node(node) = held else {
+    let Content::Node(node) = content else {
         return Err(Fault::WrongKind);
     };
-    let Held::Export(export) = export else {
+    let Content::Export(export) = export else {
         return Err(Fault::WrongKind);
     };
     Ok(node.take(export)?)
@@ -134,15 +134,15 @@ pub extern "C" fn kit_node_take(
     ensures told { result ≢ pos 0 → changed.new ≡ changed.old }
     ensures kept { export.new.inner.value ≡ export.old.inner.value }
 {
-    let Some(mut held) = node.take(alloc) else {
+    let Some(mut content) = node.take(alloc) else {
         return NOTHING;
     };
     let Some(other) = export.take(alloc) else {
-        node.put(held);
+        node.put(content);
         return NOTHING;
     };
-    let outcome = take_at_node(&mut held, &other);
-    node.put(held);
+    let outcome = take_at_node(&mut content, &other);
+    node.put(content);
     export.put(other);
     match outcome {
         Ok(keys) => {
@@ -153,17 +153,17 @@ pub extern "C" fn kit_node_take(
     }
 }
 
-fn merge_at_node(held: &mut Held, gateway: &Held) -> Result<u64, Fault>
-    ensures ok { OnOk result (node_merging_fault held.old gateway.now ≡ None) }
-    ensures value { OnOk result (HasMerged (Some held.old) (Some gateway.now) (Some held.new)) }
-    ensures changed { IfOk result (λ n. n ≡ node_changes held.old held.new) }
-    ensures err { IfErr result (λ f. code_of f ≢ no_memory → node_merging_fault held.old gateway.now ≡ Some f) }
-    ensures unchanged { OnErr result (held.new ≡ held.old) }
+fn merge_at_node(content: &mut Content, gateway: &Content) -> Result<u64, Fault>
+    ensures ok { OnOk result (node_merging_fault content.old gateway.now ≡ None) }
+    ensures value { OnOk result (HasMerged (Some content.old) (Some gateway.now) (Some content.new)) }
+    ensures changed { IfOk result (λ n. n ≡ node_changes content.old content.new) }
+    ensures err { IfErr result (λ f. code_of f ≢ no_memory → node_merging_fault content.old gateway.now ≡ Some f) }
+    ensures unchanged { OnErr result (content.new ≡ content.old) }
 {
-    let Held::Node(node) = held else {
+    let Content::Node(node) = content else {
         return Err(Fault::WrongKind);
     };
-    let Held::Gateway(gateway) = gateway else {
+    let Content::Gateway(gateway) = gateway else {
         return Err(Fault::WrongKind);
     };
     Ok(node.merge(gateway)?)
@@ -189,15 +189,15 @@ pub extern "C" fn kit_node_merge(
     ensures told { result ≢ pos 0 → changed.new ≡ changed.old }
     ensures kept { gateway.new.inner.value ≡ gateway.old.inner.value }
 {
-    let Some(mut held) = node.take(alloc) else {
+    let Some(mut content) = node.take(alloc) else {
         return NOTHING;
     };
     let Some(from) = gateway.take(alloc) else {
-        node.put(held);
+        node.put(content);
         return NOTHING;
     };
-    let outcome = merge_at_node(&mut held, &from);
-    node.put(held);
+    let outcome = merge_at_node(&mut content, &from);
+    node.put(content);
     gateway.put(from);
     match outcome {
         Ok(keys) => {
@@ -208,12 +208,12 @@ pub extern "C" fn kit_node_merge(
     }
 }
 
-fn send_message(held: &Held, to: u32) -> Result<Message, Fault>
-    ensures ok { OnOk result (node_fault held.now ≡ None) }
-    ensures value { IfOk result (λ m. IsMessageTo to (Some held.now) (Some (things.Message m))) }
-    ensures err { IfErr result (λ f. code_of f ≢ no_memory → node_fault held.now ≡ Some f) }
+fn send_message(content: &Content, to: u32) -> Result<Message, Fault>
+    ensures ok { OnOk result (node_fault content.now ≡ None) }
+    ensures value { IfOk result (λ m. IsMessageTo to (Some content.now) (Some (things.Message m))) }
+    ensures err { IfErr result (λ f. code_of f ≢ no_memory → node_fault content.now ≡ Some f) }
 {
-    let Held::Node(node) = held else {
+    let Content::Node(node) = content else {
         return Err(Fault::WrongKind);
     };
     Ok(node.send(to)?)
@@ -241,35 +241,39 @@ pub extern "C" fn kit_node_send(
     if message.full {
         return FULL;
     }
-    let Some(held) = node.take(alloc) else {
+    let Some(content) = node.take(alloc) else {
         return NOTHING;
     };
-    let made = send_message(&held, to);
-    node.put(held);
+    let made = send_message(&content, to);
+    node.put(content);
     match made {
-        Ok(made) => message.fill(alloc, Held::Message(made)),
+        Ok(made) => message.fill(alloc, Content::Message(made)),
         Err(fault) => fault.code(),
     }
 }
 
 // Hands a message. The room of the answer is taken first, since nothing can be refused once the node has changed.
-fn hand_message(alloc: Global, held: &mut Held, message: &Held) -> Result<Option<Box<Held>>, Fault>
-    ensures ok { OnOk result (handing_fault held.old message.now ≡ None) }
-    ensures value { OnOk result (HasHeard (Some held.old) (Some message.now) (Some held.new)) }
-    ensures answer { IfOk result (λ a. box_value a ≡ answer_in (Some held.old) (Some message.now)) }
-    ensures err { IfErr result (λ f. code_of f ≢ no_memory → handing_fault held.old message.now ≡ Some f) }
-    ensures unchanged { OnErr result (held.new ≡ held.old) }
+fn hand_message(
+    alloc: Global,
+    content: &mut Content,
+    message: &Content,
+) -> Result<Option<Box<Content>>, Fault>
+    ensures ok { OnOk result (handing_fault content.old message.now ≡ None) }
+    ensures value { OnOk result (HasHeard (Some content.old) (Some message.now) (Some content.new)) }
+    ensures answer { IfOk result (λ a. box_value a ≡ answer_in (Some content.old) (Some message.now)) }
+    ensures err { IfErr result (λ f. code_of f ≢ no_memory → handing_fault content.old message.now ≡ Some f) }
+    ensures unchanged { OnErr result (content.new ≡ content.old) }
 {
-    let Held::Node(node) = held else {
+    let Content::Node(node) = content else {
         return Err(Fault::WrongKind);
     };
-    let Held::Message(message) = message else {
+    let Content::Message(message) = message else {
         return Err(Fault::WrongKind);
     };
-    let mut room = Box::new(alloc, Held::Keys(Seq::new(alloc)))?;
+    let mut room = Box::new(alloc, Content::Keys(Seq::new(alloc)))?;
     match node.hand(message) {
         Ok(Some(answer)) => {
-            *room = Held::Message(answer);
+            *room = Content::Message(answer);
             Ok(Some(room))
         }
         Ok(None) => Ok(None),
@@ -299,22 +303,22 @@ pub extern "C" fn kit_node_hand(
     ensures err { result ≢ pos 0 → result ≢ no_memory → option_map code_of (first (full_fault answer.old.inner.value
         ∷ of_two node.old.inner.value message.old.inner.value handing_fault ∷ [])) ≡ Some result }
     ensures unchanged { result ≢ pos 0 → node.new.inner.value ≡ node.old.inner.value }
-    ensures held { result ≢ pos 0 → answer.new.inner.value ≡ answer.old.inner.value }
+    ensures answer_kept { result ≢ pos 0 → answer.new.inner.value ≡ answer.old.inner.value }
     ensures told { result ≢ pos 0 → answered.new ≡ answered.old }
     ensures kept { message.new.inner.value ≡ message.old.inner.value }
 {
     if answer.full {
         return FULL;
     }
-    let Some(mut held) = node.take(alloc) else {
+    let Some(mut content) = node.take(alloc) else {
         return NOTHING;
     };
     let Some(came) = message.take(alloc) else {
-        node.put(held);
+        node.put(content);
         return NOTHING;
     };
-    let outcome = hand_message(alloc, &mut held, &came);
-    node.put(held);
+    let outcome = hand_message(alloc, &mut content, &came);
+    node.put(content);
     message.put(came);
     match outcome {
         Ok(Some(made)) => {
@@ -330,12 +334,12 @@ pub extern "C" fn kit_node_hand(
     }
 }
 
-fn read(held: &Held) -> Result<(u32, u32, usize), Fault>
-    ensures ok { OnOk result (message_fault held.now ≡ None) }
-    ensures value { IfOk result (λ t. IsFromTo t.0 t.1 t.2 (message_in held.now)) }
-    ensures err { IfErr result (λ f. message_fault held.now ≡ Some f) }
+fn read(content: &Content) -> Result<(u32, u32, usize), Fault>
+    ensures ok { OnOk result (message_fault content.now ≡ None) }
+    ensures value { IfOk result (λ t. IsFromTo t.0 t.1 t.2 (message_in content.now)) }
+    ensures err { IfErr result (λ f. message_fault content.now ≡ Some f) }
 {
-    let Held::Message(message) = held else {
+    let Content::Message(message) = content else {
         return Err(Fault::WrongKind);
     };
     Ok((message.from(), message.to(), message.points_len()))
@@ -361,11 +365,11 @@ pub extern "C" fn kit_message_read(
     ensures points { result ≢ pos 0 → points.new ≡ points.old }
     ensures kept { message.new.inner.value ≡ message.old.inner.value }
 {
-    let Some(held) = message.take(alloc) else {
+    let Some(content) = message.take(alloc) else {
         return NOTHING;
     };
-    let outcome = read(&held);
-    message.put(held);
+    let outcome = read(&content);
+    message.put(content);
     match outcome {
         Ok((sender, receiver, carried)) => {
             *from = sender;

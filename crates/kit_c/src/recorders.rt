@@ -8,18 +8,18 @@ ghost use Rattle.kit_c.specs.Faults.{full_fault, of_one, of_two};
 ghost use Rattle.kit_c.specs.Handles.{in_first, in_one};
 ghost use Rattle.kit_c.specs.Recorders.{AbsorbRefused, HasAbsorbed, IsRecorderOf, TellsEmpty, after_number, after_record, number_fault, opening_fault, record_fault, recorder_fault};
 
+use crate::content::Content;
 use crate::fault::{FULL, Fault, NOTHING, OK, code_with_place};
 use crate::handle::KitHandle;
-use crate::held::Held;
 use crate::recorder::HoldingRecorder;
 use std::alloc::Global;
 
-fn open_recorder(alloc: Global, held: &Held) -> Result<HoldingRecorder, Fault>
-    ensures ok { OnOk result (opening_fault held.now ≡ None) }
-    ensures value { IfOk result (λ r. IsRecorderOf (Some held.now) (Some (Held.Recorder r))) }
-    ensures err { IfErr result (λ f. code_of f ≢ no_memory → opening_fault held.now ≡ Some f) }
+fn open_recorder(alloc: Global, content: &Content) -> Result<HoldingRecorder, Fault>
+    ensures ok { OnOk result (opening_fault content.now ≡ None) }
+    ensures value { IfOk result (λ r. IsRecorderOf (Some content.now) (Some (Content.Recorder r))) }
+    ensures err { IfErr result (λ f. code_of f ≢ no_memory → opening_fault content.now ≡ Some f) }
 {
-    let Held::Writer(holder) = held else {
+    let Content::Writer(holder) = content else {
         return Err(Fault::WrongKind);
     };
     Ok(HoldingRecorder::open(alloc, holder)?)
@@ -46,32 +46,32 @@ pub extern "C" fn kit_recorder_open(
     if recorder.full {
         return FULL;
     }
-    let Some(held) = writer.take(alloc) else {
+    let Some(content) = writer.take(alloc) else {
         return NOTHING;
     };
-    let made = open_recorder(alloc, &held);
-    writer.put(held);
+    let made = open_recorder(alloc, &content);
+    writer.put(content);
     match made {
-        Ok(made) => recorder.fill(alloc, Held::Recorder(made)),
+        Ok(made) => recorder.fill(alloc, Content::Recorder(made)),
         Err(fault) => fault.code(),
     }
 }
 
 fn measure_at_recorder(
-    held: &mut Held,
+    content: &mut Content,
     instrument: usize,
-    set: &Held,
+    set: &Content,
     value: i64,
 ) -> Result<(), Fault>
-    ensures ok { OnOk result (record_fault instrument value held.old set.now ≡ None) }
-    ensures value { OnOk result (held.new ≡ after_record instrument value held.old set.now) }
-    ensures err { IfErr result (λ f. code_of f ≢ no_memory → record_fault instrument value held.old set.now ≡ Some f) }
-    ensures unchanged { OnErr result (held.new ≡ held.old) }
+    ensures ok { OnOk result (record_fault instrument value content.old set.now ≡ None) }
+    ensures value { OnOk result (content.new ≡ after_record instrument value content.old set.now) }
+    ensures err { IfErr result (λ f. code_of f ≢ no_memory → record_fault instrument value content.old set.now ≡ Some f) }
+    ensures unchanged { OnErr result (content.new ≡ content.old) }
 {
-    let Held::Recorder(recorder) = held else {
+    let Content::Recorder(recorder) = content else {
         return Err(Fault::WrongKind);
     };
-    let Held::Attributes(attributes) = set else {
+    let Content::Attributes(attributes) = set else {
         return Err(Fault::WrongKind);
     };
     match recorder.measure(instrument, attributes, value) {
@@ -103,15 +103,15 @@ pub extern "C" fn kit_recorder_measure(
     ensures unchanged { result ≢ pos 0 → recorder.new.inner.value ≡ recorder.old.inner.value }
     ensures kept { attributes.new.inner.value ≡ attributes.old.inner.value }
 {
-    let Some(mut held) = recorder.take(alloc) else {
+    let Some(mut content) = recorder.take(alloc) else {
         return NOTHING;
     };
     let Some(set) = attributes.take(alloc) else {
-        recorder.put(held);
+        recorder.put(content);
         return NOTHING;
     };
-    let outcome = measure_at_recorder(&mut held, instrument, &set, value);
-    recorder.put(held);
+    let outcome = measure_at_recorder(&mut content, instrument, &set, value);
+    recorder.put(content);
     attributes.put(set);
     match outcome {
         Ok(()) => OK,
@@ -120,17 +120,17 @@ pub extern "C" fn kit_recorder_measure(
 }
 
 fn measure_held_at_recorder(
-    held: &mut Held,
+    content: &mut Content,
     instrument: usize,
     number: usize,
     value: i64,
 ) -> Result<(), Fault>
-    ensures ok { OnOk result (number_fault instrument number value held.old ≡ None) }
-    ensures value { OnOk result (held.new ≡ after_number instrument number value held.old) }
-    ensures err { IfErr result (λ f. code_of f ≢ no_memory → number_fault instrument number value held.old ≡ Some f) }
-    ensures unchanged { OnErr result (held.new ≡ held.old) }
+    ensures ok { OnOk result (number_fault instrument number value content.old ≡ None) }
+    ensures value { OnOk result (content.new ≡ after_number instrument number value content.old) }
+    ensures err { IfErr result (λ f. code_of f ≢ no_memory → number_fault instrument number value content.old ≡ Some f) }
+    ensures unchanged { OnErr result (content.new ≡ content.old) }
 {
-    let Held::Recorder(recorder) = held else {
+    let Content::Recorder(recorder) = content else {
         return Err(Fault::WrongKind);
     };
     recorder.measure_held(instrument, number, value)
@@ -155,23 +155,23 @@ pub extern "C" fn kit_recorder_measure_held(
         → option_map code_of (of_one recorder.old.inner.value (number_fault instrument number value)) ≡ Some result }
     ensures unchanged { result ≢ pos 0 → recorder.new.inner.value ≡ recorder.old.inner.value }
 {
-    let Some(mut held) = recorder.take(alloc) else {
+    let Some(mut content) = recorder.take(alloc) else {
         return NOTHING;
     };
-    let outcome = measure_held_at_recorder(&mut held, instrument, number, value);
-    recorder.put(held);
+    let outcome = measure_held_at_recorder(&mut content, instrument, number, value);
+    recorder.put(content);
     match outcome {
         Ok(()) => OK,
         Err(fault) => fault.code(),
     }
 }
 
-fn emptiness(held: &Held) -> Result<bool, Fault>
-    ensures ok { OnOk result (recorder_fault held.now ≡ None) }
-    ensures value { IfOk result (λ b. TellsEmpty b held.now) }
-    ensures err { IfErr result (λ f. recorder_fault held.now ≡ Some f) }
+fn emptiness(content: &Content) -> Result<bool, Fault>
+    ensures ok { OnOk result (recorder_fault content.now ≡ None) }
+    ensures value { IfOk result (λ b. TellsEmpty b content.now) }
+    ensures err { IfErr result (λ f. recorder_fault content.now ≡ Some f) }
 {
-    let Held::Recorder(recorder) = held else {
+    let Content::Recorder(recorder) = content else {
         return Err(Fault::WrongKind);
     };
     Ok(recorder.is_empty())
@@ -192,11 +192,11 @@ pub extern "C" fn kit_recorder_is_empty(
     ensures unchanged { result ≢ pos 0 → empty.new ≡ empty.old }
     ensures kept { recorder.new.inner.value ≡ recorder.old.inner.value }
 {
-    let Some(held) = recorder.take(alloc) else {
+    let Some(content) = recorder.take(alloc) else {
         return NOTHING;
     };
-    let outcome = emptiness(&held);
-    recorder.put(held);
+    let outcome = emptiness(&content);
+    recorder.put(content);
     match outcome {
         Ok(told) => {
             *empty = told;
@@ -206,16 +206,16 @@ pub extern "C" fn kit_recorder_is_empty(
     }
 }
 
-fn absorb_recorder(held: &mut Held, other: &mut Held) -> Result<(), Fault>
-    ensures value { OnOk result (HasAbsorbed (Some held.old) (Some other.old) (Some held.new) (Some other.new)) }
-    ensures err { IfErr result (λ f. AbsorbRefused held.old other.old held.new f) }
-    ensures unchanged { OnErr result (held.new ≡ held.old) }
+fn absorb_recorder(content: &mut Content, other: &mut Content) -> Result<(), Fault>
+    ensures value { OnOk result (HasAbsorbed (Some content.old) (Some other.old) (Some content.new) (Some other.new)) }
+    ensures err { IfErr result (λ f. AbsorbRefused content.old other.old content.new f) }
+    ensures unchanged { OnErr result (content.new ≡ content.old) }
     ensures kept { OnErr result (other.new ≡ other.old) }
 {
-    let Held::Writer(holder) = held else {
+    let Content::Writer(holder) = content else {
         return Err(Fault::WrongKind);
     };
-    let Held::Recorder(recorder) = other else {
+    let Content::Recorder(recorder) = other else {
         return Err(Fault::WrongKind);
     };
     holder.absorb(recorder)
@@ -243,15 +243,15 @@ pub extern "C" fn kit_writer_absorb(
     ensures unchanged { result ≢ pos 0 → writer.new.inner.value ≡ writer.old.inner.value }
     ensures kept { result ≢ pos 0 → recorder.new.inner.value ≡ recorder.old.inner.value }
 {
-    let Some(mut held) = writer.take(alloc) else {
+    let Some(mut content) = writer.take(alloc) else {
         return NOTHING;
     };
     let Some(mut other) = recorder.take(alloc) else {
-        writer.put(held);
+        writer.put(content);
         return NOTHING;
     };
-    let outcome = absorb_recorder(&mut held, &mut other);
-    writer.put(held);
+    let outcome = absorb_recorder(&mut content, &mut other);
+    writer.put(content);
     recorder.put(other);
     match outcome {
         Ok(()) => OK,

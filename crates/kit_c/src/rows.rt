@@ -6,18 +6,18 @@ ghost use Rattle.kit_c.specs.Codes.{code_of};
 ghost use Rattle.kit_c.specs.Faults.{of_one};
 ghost use Rattle.kit_c.specs.Rows.{counts_at, gauge_at, gauge_fault, row_at, row_fault, rows_of, sum_at, sum_fault, wide_count, wide_sum};
 
+use crate::content::Content;
 use crate::fault::{Fault, NOTHING, OK};
 use crate::handle::KitHandle;
-use crate::held::Held;
 use rollup_kit::{Row, Total};
 use std::alloc::Global;
 
-fn len(held: &Held) -> Result<usize, Fault>
-    ensures ok { OnOk result (table_fault held.now ≡ None) }
-    ensures value { IfOk result (λ n. n ≡ length (rows_of held.now)) }
-    ensures err { IfErr result (λ f. table_fault held.now ≡ Some f) }
+fn len(content: &Content) -> Result<usize, Fault>
+    ensures ok { OnOk result (table_fault content.now ≡ None) }
+    ensures value { IfOk result (λ n. n ≡ length (rows_of content.now)) }
+    ensures err { IfErr result (λ f. table_fault content.now ≡ Some f) }
 {
-    let Held::Rows(rows) = held else {
+    let Content::Rows(rows) = content else {
         return Err(Fault::WrongKind);
     };
     Ok(rows.len())
@@ -34,11 +34,11 @@ pub extern "C" fn kit_rows_len(alloc: Global, rows: &mut KitHandle, count: &mut 
     ensures unchanged { result ≢ pos 0 → count.new ≡ count.old }
     ensures kept { rows.new.inner.value ≡ rows.old.inner.value }
 {
-    let Some(held) = rows.take(alloc) else {
+    let Some(content) = rows.take(alloc) else {
         return NOTHING;
     };
-    let outcome = len(&held);
-    rows.put(held);
+    let outcome = len(&content);
+    rows.put(content);
     match outcome {
         Ok(told) => {
             *count = told;
@@ -48,12 +48,12 @@ pub extern "C" fn kit_rows_len(alloc: Global, rows: &mut KitHandle, count: &mut 
     }
 }
 
-pub(crate) fn row(held: &Held, number: usize) -> Result<&Row, Fault>
-    ensures ok { OnOk result (row_fault number held.now ≡ None) }
-    ensures value { IfOk result (λ r. row_at number held.now ≡ Some r.now) }
-    ensures err { IfErr result (λ f. row_fault number held.now ≡ Some f) }
+pub(crate) fn row(content: &Content, number: usize) -> Result<&Row, Fault>
+    ensures ok { OnOk result (row_fault number content.now ≡ None) }
+    ensures value { IfOk result (λ r. row_at number content.now ≡ Some r.now) }
+    ensures err { IfErr result (λ f. row_fault number content.now ≡ Some f) }
 {
-    let Held::Rows(rows) = held else {
+    let Content::Rows(rows) = content else {
         return Err(Fault::WrongKind);
     };
     match rows.get(number) {
@@ -62,12 +62,12 @@ pub(crate) fn row(held: &Held, number: usize) -> Result<&Row, Fault>
     }
 }
 
-fn counts(held: &Held, number: usize) -> Result<(u64, u64), Fault>
-    ensures ok { OnOk result (row_fault number held.now ≡ None) }
-    ensures value { IfOk result (λ n. counts_at number held.now ≡ Some n) }
-    ensures err { IfErr result (λ f. row_fault number held.now ≡ Some f) }
+fn counts(content: &Content, number: usize) -> Result<(u64, u64), Fault>
+    ensures ok { OnOk result (row_fault number content.now ≡ None) }
+    ensures value { IfOk result (λ n. counts_at number content.now ≡ Some n) }
+    ensures err { IfErr result (λ f. row_fault number content.now ≡ Some f) }
 {
-    let row = row(held, number)?;
+    let row = row(content, number)?;
     Ok((row.points, row.conflicts))
 }
 
@@ -90,11 +90,11 @@ pub extern "C" fn kit_rows_counts(
     ensures conflicts { result ≢ pos 0 → conflicts.new ≡ conflicts.old }
     ensures kept { rows.new.inner.value ≡ rows.old.inner.value }
 {
-    let Some(held) = rows.take(alloc) else {
+    let Some(content) = rows.take(alloc) else {
         return NOTHING;
     };
-    let outcome = counts(&held, number);
-    rows.put(held);
+    let outcome = counts(&content, number);
+    rows.put(content);
     match outcome {
         Ok((told, left_out)) => {
             *points = told;
@@ -131,12 +131,12 @@ pub(crate) fn narrow_count(count: u128) -> Result<u64, Fault>
     }
 }
 
-fn sum(held: &Held, number: usize) -> Result<i64, Fault>
-    ensures value { IfOk result (λ n. sum_at number held.now ≡ Some n) }
-    ensures ok { OnOk result (sum_fault number held.now ≡ None) }
-    ensures err { IfErr result (λ f. sum_fault number held.now ≡ Some f) }
+fn sum(content: &Content, number: usize) -> Result<i64, Fault>
+    ensures value { IfOk result (λ n. sum_at number content.now ≡ Some n) }
+    ensures ok { OnOk result (sum_fault number content.now ≡ None) }
+    ensures err { IfErr result (λ f. sum_fault number content.now ≡ Some f) }
 {
-    match &row(held, number)?.total {
+    match &row(content, number)?.total {
         Total::Sum(total) => narrow_sum(*total),
         _ => Err(Fault::WrongKind),
     }
@@ -159,11 +159,11 @@ pub extern "C" fn kit_rows_sum(
     ensures unchanged { result ≢ pos 0 → total.new ≡ total.old }
     ensures kept { rows.new.inner.value ≡ rows.old.inner.value }
 {
-    let Some(held) = rows.take(alloc) else {
+    let Some(content) = rows.take(alloc) else {
         return NOTHING;
     };
-    let outcome = sum(&held, number);
-    rows.put(held);
+    let outcome = sum(&content, number);
+    rows.put(content);
     match outcome {
         Ok(told) => {
             *total = told;
@@ -173,12 +173,12 @@ pub extern "C" fn kit_rows_sum(
     }
 }
 
-fn gauge(held: &Held, number: usize) -> Result<(u64, i64), Fault>
-    ensures value { IfOk result (λ p. gauge_at number held.now ≡ Some (Some p)) }
-    ensures ok { OnOk result (gauge_fault number held.now ≡ None) }
-    ensures err { IfErr result (λ f. gauge_fault number held.now ≡ Some f) }
+fn gauge(content: &Content, number: usize) -> Result<(u64, i64), Fault>
+    ensures value { IfOk result (λ p. gauge_at number content.now ≡ Some (Some p)) }
+    ensures ok { OnOk result (gauge_fault number content.now ≡ None) }
+    ensures err { IfErr result (λ f. gauge_fault number content.now ≡ Some f) }
 {
-    match &row(held, number)?.total {
+    match &row(content, number)?.total {
         Total::Gauge(Some(point)) => Ok(*point),
         Total::Gauge(None) => Err(Fault::NoPoint),
         _ => Err(Fault::WrongKind),
@@ -205,11 +205,11 @@ pub extern "C" fn kit_rows_gauge(
     ensures unchanged { result ≢ pos 0 → value.new ≡ value.old }
     ensures kept { rows.new.inner.value ≡ rows.old.inner.value }
 {
-    let Some(held) = rows.take(alloc) else {
+    let Some(content) = rows.take(alloc) else {
         return NOTHING;
     };
-    let outcome = gauge(&held, number);
-    rows.put(held);
+    let outcome = gauge(&content, number);
+    rows.put(content);
     match outcome {
         Ok((at, newest)) => {
             *time = at;

@@ -6,14 +6,14 @@ ghost use Rattle.kit_c.specs.Desks.{CollectRefused, HasCollected, HasMeasured, H
 ghost use Rattle.kit_c.specs.Faults.{full_fault, of_one};
 ghost use Rattle.kit_c.specs.Writers.{HasExport};
 ghost use Rattle.kit_c.specs.declared.fault.Fault.TheVariants as faults;
-ghost use Rattle.kit_c.specs.declared.held.Held.TheVariants as things;
+ghost use Rattle.kit_c.specs.declared.content.Content.TheVariants as things;
 ghost use Rattle.writer_kit.specs.Shared.{MayRefuseRound};
 ghost use Rattle.writer_kit.specs.declared.shared.change.WriterChange.TheVariants.{Collected};
 
+use crate::content::Content;
 use crate::desk::Desk;
 use crate::fault::{FULL, Fault, NOTHING, OK, code_with_place};
 use crate::handle::KitHandle;
-use crate::held::Held;
 use attr_kit::{AttrSet, Seq, TryCopy};
 use bumpalo::Bump;
 use std::alloc::Global;
@@ -25,12 +25,12 @@ use writer_kit::{CollectFault, SharedWriter, Writer};
 const MOST_CHANGES: u64 = 1 << 62;
 
 // The first place at a copy of a writer, so that a refusal leaves the writer as it was.
-fn share_writer(alloc: Global, held: &Held) -> Result<Box<Held>, Fault>
-    ensures ok { OnOk result (sharing_fault held.now ≡ None) }
-    ensures value { IfOk result (λ made. HasShared (Some held.now) (Some made.value)) }
-    ensures err { IfErr result (λ f. code_of f ≢ no_memory → sharing_fault held.now ≡ Some f) }
+fn share_writer(alloc: Global, content: &Content) -> Result<Box<Content>, Fault>
+    ensures ok { OnOk result (sharing_fault content.now ≡ None) }
+    ensures value { IfOk result (λ made. HasShared (Some content.now) (Some made.value)) }
+    ensures err { IfErr result (λ f. code_of f ≢ no_memory → sharing_fault content.now ≡ Some f) }
 {
-    let Held::Writer(holder) = held else {
+    let Content::Writer(holder) = content else {
         return Err(Fault::WrongKind);
     };
     let sets = holder.copy_sets()?;
@@ -39,7 +39,7 @@ fn share_writer(alloc: Global, held: &Held) -> Result<Box<Held>, Fault>
         return Err(Fault::NoMemory);
     };
     let writer = Arc::new(alloc, writer.into_quiet())?;
-    Ok(Box::new(alloc, Held::Desk(Desk { writer, seat, sets }))?)
+    Ok(Box::new(alloc, Content::Desk(Desk { writer, seat, sets }))?)
 }
 
 /// Shares a writer: from now on its handle has the first place at it, which `kit_seat_split` makes others of, one for each thread.
@@ -54,29 +54,34 @@ pub extern "C" fn kit_writer_share(alloc: Global, writer: &mut KitHandle) -> i32
         → option_map code_of (of_one writer.old.inner.value sharing_fault) ≡ Some result }
     ensures unchanged { result ≢ pos 0 → writer.new.inner.value ≡ writer.old.inner.value }
 {
-    let Some(held) = writer.take(alloc) else {
+    let Some(content) = writer.take(alloc) else {
         return NOTHING;
     };
-    match share_writer(alloc, &held) {
+    match share_writer(alloc, &content) {
         Ok(made) => {
             writer.put(made);
             OK
         }
         Err(fault) => {
-            writer.put(held);
+            writer.put(content);
             fault.code()
         }
     }
 }
 
-fn measure_at_seat(held: &mut Held, instrument: usize, set: &Held, value: i64) -> Result<(), Fault>
-    ensures value { OnOk result (HasMeasured instrument value (Some held.old) (Some set.now) (Some held.new)) }
-    ensures err { IfErr result (λ f. MeasureRefused instrument value held.old set.now held.new f) }
+fn measure_at_seat(
+    content: &mut Content,
+    instrument: usize,
+    set: &Content,
+    value: i64,
+) -> Result<(), Fault>
+    ensures value { OnOk result (HasMeasured instrument value (Some content.old) (Some set.now) (Some content.new)) }
+    ensures err { IfErr result (λ f. MeasureRefused instrument value content.old set.now content.new f) }
 {
-    let Held::Desk(desk) = held else {
+    let Content::Desk(desk) = content else {
         return Err(Fault::WrongKind);
     };
-    let Held::Attributes(attributes) = set else {
+    let Content::Attributes(attributes) = set else {
         return Err(Fault::WrongKind);
     };
     match desk
@@ -112,15 +117,15 @@ pub extern "C" fn kit_seat_measure(
         seat.new.inner.value place.old place.new result }
     ensures kept { attributes.new.inner.value ≡ attributes.old.inner.value }
 {
-    let Some(mut held) = seat.take(alloc) else {
+    let Some(mut content) = seat.take(alloc) else {
         return NOTHING;
     };
     let Some(set) = attributes.take(alloc) else {
-        seat.put(held);
+        seat.put(content);
         return NOTHING;
     };
-    let outcome = measure_at_seat(&mut held, instrument, &set, value);
-    seat.put(held);
+    let outcome = measure_at_seat(&mut content, instrument, &set, value);
+    seat.put(content);
     attributes.put(set);
     match outcome {
         Ok(()) => OK,
@@ -142,15 +147,15 @@ fn set_at(sets: &Seq<AttrSet>, number: usize) -> Result<&AttrSet, Fault>
 
 #[tactic(auto, using(crate::proofs::Desks::why_no_set))]
 fn measure_held_at_seat(
-    held: &mut Held,
+    content: &mut Content,
     instrument: usize,
     number: usize,
     value: i64,
 ) -> Result<(), Fault>
-    ensures value { OnOk result (HasMeasuredAt instrument number value (Some held.old) (Some held.new)) }
-    ensures err { IfErr result (λ f. NumberRefused instrument number value held.old held.new f) }
+    ensures value { OnOk result (HasMeasuredAt instrument number value (Some content.old) (Some content.new)) }
+    ensures err { IfErr result (λ f. NumberRefused instrument number value content.old content.new f) }
 {
-    let Held::Desk(desk) = held else {
+    let Content::Desk(desk) = content else {
         return Err(Fault::WrongKind);
     };
     let set = match set_at(&desk.sets, number) {
@@ -187,11 +192,11 @@ pub extern "C" fn kit_seat_measure_held(
     ensures err { result ≢ pos 0 → OneRefused (NumberRefused instrument number value) seat.old.inner.value
         seat.new.inner.value place.old place.new result }
 {
-    let Some(mut held) = seat.take(alloc) else {
+    let Some(mut content) = seat.take(alloc) else {
         return NOTHING;
     };
-    let outcome = measure_held_at_seat(&mut held, instrument, number, value);
-    seat.put(held);
+    let outcome = measure_held_at_seat(&mut content, instrument, number, value);
+    seat.put(content);
     match outcome {
         Ok(()) => OK,
         Err(fault) => code_with_place(fault, place),
@@ -199,11 +204,11 @@ pub extern "C" fn kit_seat_measure_held(
 }
 
 // Splits off another place. All memory is taken first, since nothing can be refused once the seat is split.
-fn split(alloc: Global, held: &mut Held) -> Result<Box<Held>, Fault>
-    ensures value { IfOk result (λ made. HasSplit (Some held.old) (Some held.new) (Some made.value)) }
-    ensures err { IfErr result (λ f. SplitRefused held.old held.new f) }
+fn split(alloc: Global, content: &mut Content) -> Result<Box<Content>, Fault>
+    ensures value { IfOk result (λ made. HasSplit (Some content.old) (Some content.new) (Some made.value)) }
+    ensures err { IfErr result (λ f. SplitRefused content.old content.new f) }
 {
-    let Held::Desk(desk) = held else {
+    let Content::Desk(desk) = content else {
         return Err(Fault::WrongKind);
     };
     let Ok(sets) = desk.sets.try_copy() else {
@@ -212,12 +217,12 @@ fn split(alloc: Global, held: &mut Held) -> Result<Box<Held>, Fault>
     let Ok(writer) = Arc::try_clone(&desk.writer) else {
         return Err(Fault::NoMemory);
     };
-    let Ok(mut room) = Box::new(alloc, Held::Keys(Seq::new(alloc))) else {
+    let Ok(mut room) = Box::new(alloc, Content::Keys(Seq::new(alloc))) else {
         return Err(Fault::NoMemory);
     };
     match desk.writer.try_split(&mut desk.seat) {
         Ok(seat) => {
-            *room = Held::Desk(Desk { writer, seat, sets });
+            *room = Content::Desk(Desk { writer, seat, sets });
             Ok(room)
         }
         Err(SplitFault::Busy) => Err(Fault::Busy),
@@ -242,11 +247,11 @@ pub extern "C" fn kit_seat_split(alloc: Global, seat: &mut KitHandle, made: &mut
     if made.full {
         return FULL;
     }
-    let Some(mut held) = seat.take(alloc) else {
+    let Some(mut content) = seat.take(alloc) else {
         return NOTHING;
     };
-    let outcome = split(alloc, &mut held);
-    seat.put(held);
+    let outcome = split(alloc, &mut content);
+    seat.put(content);
     match outcome {
         Ok(new) => {
             made.put(new);
@@ -264,7 +269,7 @@ struct Collect {
 }
 
 impl Step<Writer> for Collect {
-    type Reply = Box<Held>;
+    type Reply = Box<Content>;
 
     type Refusal = CollectFault;
 
@@ -275,13 +280,13 @@ impl Step<Writer> for Collect {
     ghost refuses = { λ c w f. MayRefuseRound w c.time f };
 
     #[tactic(auto, using(writer_kit::proofs::Sharing::after_writer_change_collected, writer_kit::proofs::Sharing::may_refuse_round, writer_kit::proofs::Refusals::collect_open, writer_kit::proofs::Refusals::collect_later))]
-    fn step(self, machine: &mut Writer) -> Result<Box<Held>, CollectFault> {
+    fn step(self, machine: &mut Writer) -> Result<Box<Content>, CollectFault> {
         let arena = Bump::new(self.alloc);
         let round = machine.look_round(&arena, self.time)?;
         let Ok(export) = round.copy_out(self.alloc, machine.id()) else {
             return Err(CollectFault::NoMemory);
         };
-        let Ok(made) = Box::new(self.alloc, Held::Export(export)) else {
+        let Ok(made) = Box::new(self.alloc, Content::Export(export)) else {
             return Err(CollectFault::NoMemory);
         };
         machine.mark(self.time, false);
@@ -289,11 +294,11 @@ impl Step<Writer> for Collect {
     }
 }
 
-fn collect_at_seat(alloc: Global, held: &mut Held, time: u64) -> Result<Box<Held>, Fault>
-    ensures value { IfOk result (λ made. HasCollected time (Some held.old) (Some held.new) (Some made.value)) }
-    ensures err { IfErr result (λ f. CollectRefused time held.old held.new f) }
+fn collect_at_seat(alloc: Global, content: &mut Content, time: u64) -> Result<Box<Content>, Fault>
+    ensures value { IfOk result (λ made. HasCollected time (Some content.old) (Some content.new) (Some made.value)) }
+    ensures err { IfErr result (λ f. CollectRefused time content.old content.new f) }
 {
-    let Held::Desk(desk) = held else {
+    let Content::Desk(desk) = content else {
         return Err(Fault::WrongKind);
     };
     match desk
@@ -323,11 +328,11 @@ fn collect_into(
         → OneRefused (CollectRefused time) seat.old.inner.value seat.new.inner.value place.old place.new result }
     ensures unchanged { result ≢ pos 0 → export.new.inner.value ≡ None }
 {
-    let Some(mut held) = seat.take(alloc) else {
+    let Some(mut content) = seat.take(alloc) else {
         return NOTHING;
     };
-    let outcome = collect_at_seat(alloc, &mut held, time);
-    seat.put(held);
+    let outcome = collect_at_seat(alloc, &mut content, time);
+    seat.put(content);
     match outcome {
         Ok(made) => {
             export.put(made);

@@ -5,9 +5,9 @@ ghost use Rattle.std.specs.Option.{option_map};
 ghost use Rattle.kit_c.specs.Faults.{copying_fault, of_one, text_fault};
 ghost use Rattle.kit_c.specs.Handles.{bytes_of};
 
+use crate::content::Content;
 use crate::fault::{Fault, NOTHING, OK};
 use crate::handle::KitHandle;
-use crate::held::Held;
 use attr_kit::Txt;
 use std::alloc::Global;
 
@@ -25,15 +25,15 @@ pub(crate) fn text_of(alloc: Global, bytes: &[u8]) -> Result<Txt, Fault>
 }
 
 // Copies the front of a text that has room, and answers how long the text is.
-fn copy_front(held: &Held, into: &mut [u8]) -> Result<usize, Fault>
-    ensures ok { OnOk result (copying_fault held.now ≡ None) }
+fn copy_front(content: &Content, into: &mut [u8]) -> Result<usize, Fault>
+    ensures ok { OnOk result (copying_fault content.now ≡ None) }
     ensures value { OnOk result (into.new
-        ≡ take (length into.old) (bytes_of held.now) ++ drop (length (bytes_of held.now)) into.old) }
-    ensures len { IfOk result (λ n. n ≡ length (bytes_of held.now)) }
-    ensures err { IfErr result (λ f. copying_fault held.now ≡ Some f) }
+        ≡ take (length into.old) (bytes_of content.now) ++ drop (length (bytes_of content.now)) into.old) }
+    ensures len { IfOk result (λ n. n ≡ length (bytes_of content.now)) }
+    ensures err { IfErr result (λ f. copying_fault content.now ≡ Some f) }
     ensures unchanged { OnErr result (into.new ≡ into.old) }
 {
-    let Held::Text(text) = held else {
+    let Content::Text(text) = content else {
         return Err(Fault::WrongKind);
     };
     let bytes = text.as_str().as_bytes();
@@ -62,11 +62,11 @@ pub extern "C" fn kit_text_copy(
     ensures told { result ≢ pos 0 → len.new ≡ len.old }
     ensures kept { text.new.inner.value ≡ text.old.inner.value }
 {
-    let Some(held) = text.take(alloc) else {
+    let Some(content) = text.take(alloc) else {
         return NOTHING;
     };
-    let outcome = copy_front(&held, into);
-    text.put(held);
+    let outcome = copy_front(&content, into);
+    text.put(content);
     match outcome {
         Ok(whole) => {
             *len = whole;

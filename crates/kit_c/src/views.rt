@@ -12,11 +12,11 @@ ghost use Rattle.kit_c.specs.Keys.{keys_of, no_keys};
 ghost use Rattle.kit_c.specs.Kinds.{kind_fault, numbered_kind};
 ghost use Rattle.kit_c.specs.Plans.{no_views, views_of};
 ghost use Rattle.kit_c.specs.Views.{aggregation_fault, numbered_aggregation, plain_view, view_fault, view_in, with_aggregation, with_keys, with_kind, with_name, with_scope};
-ghost use Rattle.kit_c.specs.declared.held.Held.TheVariants as things;
+ghost use Rattle.kit_c.specs.declared.content.Content.TheVariants as things;
 
+use crate::content::Content;
 use crate::fault::{FULL, Fault, NO_MEMORY, NOTHING, OK};
 use crate::handle::KitHandle;
-use crate::held::Held;
 use crate::instruments::kind_of;
 use crate::keys::list_of_keys;
 use crate::list::push;
@@ -54,7 +54,7 @@ pub extern "C" fn kit_view_of_name(alloc: Global, view: &mut KitHandle, name: &[
         return FULL;
     }
     match text_of(alloc, name) {
-        Ok(name) => view.fill(alloc, Held::View(plain(NameRule::Exact(name)))),
+        Ok(name) => view.fill(alloc, Content::View(plain(NameRule::Exact(name)))),
         Err(fault) => fault.code(),
     }
 }
@@ -72,16 +72,16 @@ pub extern "C" fn kit_view_of_every(alloc: Global, view: &mut KitHandle) -> i32
     if view.full {
         return FULL;
     }
-    view.fill(alloc, Held::View(plain(NameRule::Every)))
+    view.fill(alloc, Content::View(plain(NameRule::Every)))
 }
 
-fn set_kind(held: &mut Held, kind: Kind) -> Result<(), Fault>
-    ensures ok { OnOk result (view_fault held.old ≡ None) }
-    ensures value { OnOk result (held.new ≡ with_kind kind held.old) }
-    ensures err { IfErr result (λ f. view_fault held.old ≡ Some f) }
-    ensures unchanged { OnErr result (held.new ≡ held.old) }
+fn set_kind(content: &mut Content, kind: Kind) -> Result<(), Fault>
+    ensures ok { OnOk result (view_fault content.old ≡ None) }
+    ensures value { OnOk result (content.new ≡ with_kind kind content.old) }
+    ensures err { IfErr result (λ f. view_fault content.old ≡ Some f) }
+    ensures unchanged { OnErr result (content.new ≡ content.old) }
 {
-    let Held::View(view) = held else {
+    let Content::View(view) = content else {
         return Err(Fault::WrongKind);
     };
     view.kind = Some(kind);
@@ -104,24 +104,24 @@ pub extern "C" fn kit_view_kind(alloc: Global, view: &mut KitHandle, kind: u8) -
         Ok(kind) => kind,
         Err(fault) => return fault.code(),
     };
-    let Some(mut held) = view.take(alloc) else {
+    let Some(mut content) = view.take(alloc) else {
         return NOTHING;
     };
-    let outcome = set_kind(&mut held, kind);
-    view.put(held);
+    let outcome = set_kind(&mut content, kind);
+    view.put(content);
     match outcome {
         Ok(()) => OK,
         Err(fault) => fault.code(),
     }
 }
 
-fn set_scope(held: &mut Held, scope: Txt) -> Result<(), Fault>
-    ensures ok { OnOk result (view_fault held.old ≡ None) }
-    ensures value { OnOk result (held.new ≡ with_scope scope held.old) }
-    ensures err { IfErr result (λ f. view_fault held.old ≡ Some f) }
-    ensures unchanged { OnErr result (held.new ≡ held.old) }
+fn set_scope(content: &mut Content, scope: Txt) -> Result<(), Fault>
+    ensures ok { OnOk result (view_fault content.old ≡ None) }
+    ensures value { OnOk result (content.new ≡ with_scope scope content.old) }
+    ensures err { IfErr result (λ f. view_fault content.old ≡ Some f) }
+    ensures unchanged { OnErr result (content.new ≡ content.old) }
 {
-    let Held::View(view) = held else {
+    let Content::View(view) = content else {
         return Err(Fault::WrongKind);
     };
     view.scope = Some(scope);
@@ -143,24 +143,24 @@ pub extern "C" fn kit_view_scope(alloc: Global, view: &mut KitHandle, scope: &[u
         Ok(scope) => scope,
         Err(fault) => return fault.code(),
     };
-    let Some(mut held) = view.take(alloc) else {
+    let Some(mut content) = view.take(alloc) else {
         return NOTHING;
     };
-    let outcome = set_scope(&mut held, scope);
-    view.put(held);
+    let outcome = set_scope(&mut content, scope);
+    view.put(content);
     match outcome {
         Ok(()) => OK,
         Err(fault) => fault.code(),
     }
 }
 
-fn rename_view(held: &mut Held, name: Txt) -> Result<(), Fault>
-    ensures ok { OnOk result (view_fault held.old ≡ None) }
-    ensures value { OnOk result (held.new ≡ with_name name held.old) }
-    ensures err { IfErr result (λ f. view_fault held.old ≡ Some f) }
-    ensures unchanged { OnErr result (held.new ≡ held.old) }
+fn rename_view(content: &mut Content, name: Txt) -> Result<(), Fault>
+    ensures ok { OnOk result (view_fault content.old ≡ None) }
+    ensures value { OnOk result (content.new ≡ with_name name content.old) }
+    ensures err { IfErr result (λ f. view_fault content.old ≡ Some f) }
+    ensures unchanged { OnErr result (content.new ≡ content.old) }
 {
-    let Held::View(view) = held else {
+    let Content::View(view) = content else {
         return Err(Fault::WrongKind);
     };
     view.rename = Some(name);
@@ -182,24 +182,24 @@ pub extern "C" fn kit_view_rename(alloc: Global, view: &mut KitHandle, name: &[u
         Ok(name) => name,
         Err(fault) => return fault.code(),
     };
-    let Some(mut held) = view.take(alloc) else {
+    let Some(mut content) = view.take(alloc) else {
         return NOTHING;
     };
-    let outcome = rename_view(&mut held, name);
-    view.put(held);
+    let outcome = rename_view(&mut content, name);
+    view.put(content);
     match outcome {
         Ok(()) => OK,
         Err(fault) => fault.code(),
     }
 }
 
-fn set_keys(held: &mut Held, list: AllowList) -> Result<(), Fault>
-    ensures ok { OnOk result (view_fault held.old ≡ None) }
-    ensures value { OnOk result (held.new ≡ with_keys list held.old) }
-    ensures err { IfErr result (λ f. view_fault held.old ≡ Some f) }
-    ensures unchanged { OnErr result (held.new ≡ held.old) }
+fn set_keys(content: &mut Content, list: AllowList) -> Result<(), Fault>
+    ensures ok { OnOk result (view_fault content.old ≡ None) }
+    ensures value { OnOk result (content.new ≡ with_keys list content.old) }
+    ensures err { IfErr result (λ f. view_fault content.old ≡ Some f) }
+    ensures unchanged { OnErr result (content.new ≡ content.old) }
 {
-    let Held::View(view) = held else {
+    let Content::View(view) = content else {
         return Err(Fault::WrongKind);
     };
     view.keep = Keep::Only(list);
@@ -223,11 +223,11 @@ pub extern "C" fn kit_view_keep(alloc: Global, view: &mut KitHandle, keys: &mut 
         Ok(list) => list,
         Err(fault) => return fault.code(),
     };
-    let Some(mut held) = view.take(alloc) else {
+    let Some(mut content) = view.take(alloc) else {
         return NOTHING;
     };
-    let outcome = set_keys(&mut held, list);
-    view.put(held);
+    let outcome = set_keys(&mut content, list);
+    view.put(content);
     match outcome {
         Ok(()) => OK,
         Err(fault) => fault.code(),
@@ -248,13 +248,13 @@ fn aggregation_of(number: u8) -> Result<Aggregation, Fault>
     }
 }
 
-fn set_aggregation(held: &mut Held, aggregation: Aggregation) -> Result<(), Fault>
-    ensures ok { OnOk result (view_fault held.old ≡ None) }
-    ensures value { OnOk result (held.new ≡ with_aggregation aggregation held.old) }
-    ensures err { IfErr result (λ f. view_fault held.old ≡ Some f) }
-    ensures unchanged { OnErr result (held.new ≡ held.old) }
+fn set_aggregation(content: &mut Content, aggregation: Aggregation) -> Result<(), Fault>
+    ensures ok { OnOk result (view_fault content.old ≡ None) }
+    ensures value { OnOk result (content.new ≡ with_aggregation aggregation content.old) }
+    ensures err { IfErr result (λ f. view_fault content.old ≡ Some f) }
+    ensures unchanged { OnErr result (content.new ≡ content.old) }
 {
-    let Held::View(view) = held else {
+    let Content::View(view) = content else {
         return Err(Fault::WrongKind);
     };
     view.aggregation = aggregation;
@@ -277,11 +277,11 @@ pub extern "C" fn kit_view_aggregation(alloc: Global, view: &mut KitHandle, numb
         Ok(aggregation) => aggregation,
         Err(fault) => return fault.code(),
     };
-    let Some(mut held) = view.take(alloc) else {
+    let Some(mut content) = view.take(alloc) else {
         return NOTHING;
     };
-    let outcome = set_aggregation(&mut held, aggregation);
-    view.put(held);
+    let outcome = set_aggregation(&mut content, aggregation);
+    view.put(content);
     match outcome {
         Ok(()) => OK,
         Err(fault) => fault.code(),
@@ -304,24 +304,24 @@ pub extern "C" fn kit_view_buckets(alloc: Global, view: &mut KitHandle, bounds: 
         Ok(bounds) => Seq::from_vec(bounds),
         Err(_) => return NO_MEMORY,
     };
-    let Some(mut held) = view.take(alloc) else {
+    let Some(mut content) = view.take(alloc) else {
         return NOTHING;
     };
-    let outcome = set_aggregation(&mut held, Aggregation::Buckets(bounds));
-    view.put(held);
+    let outcome = set_aggregation(&mut content, Aggregation::Buckets(bounds));
+    view.put(content);
     match outcome {
         Ok(()) => OK,
         Err(fault) => fault.code(),
     }
 }
 
-fn push_view(alloc: Global, held: &mut Held, view: View) -> Result<(), Fault>
-    ensures ok { OnOk result (no_views (Some held.old) ≡ None) }
-    ensures value { OnOk result (held.new ≡ things.Views (views_of (Some held.old) ++ view ∷ [])) }
-    ensures err { IfErr result (λ f. code_of f ≢ no_memory → no_views (Some held.old) ≡ Some f) }
-    ensures unchanged { OnErr result (held.new ≡ held.old) }
+fn push_view(alloc: Global, content: &mut Content, view: View) -> Result<(), Fault>
+    ensures ok { OnOk result (no_views (Some content.old) ≡ None) }
+    ensures value { OnOk result (content.new ≡ things.Views (views_of (Some content.old) ++ view ∷ [])) }
+    ensures err { IfErr result (λ f. code_of f ≢ no_memory → no_views (Some content.old) ≡ Some f) }
+    ensures unchanged { OnErr result (content.new ≡ content.old) }
 {
-    let Held::Views(views) = held else {
+    let Content::Views(views) = content else {
         return Err(Fault::WrongKind);
     };
     push(alloc, views, view)?;
@@ -335,13 +335,13 @@ fn add_view(alloc: Global, views: &mut KitHandle, view: View) -> Result<(), Faul
     ensures unchanged { OnErr result (views.new.inner.value ≡ views.old.inner.value) }
 {
     match views.take(alloc) {
-        Some(mut held) => {
-            let outcome = push_view(alloc, &mut held, view);
-            views.put(held);
+        Some(mut content) => {
+            let outcome = push_view(alloc, &mut content, view);
+            views.put(content);
             outcome
         }
         None => {
-            let mut first = Held::Views(Seq::new(alloc));
+            let mut first = Content::Views(Seq::new(alloc));
             push_view(alloc, &mut first, view)?;
             views.put(Box::new(alloc, first)?);
             Ok(())
@@ -349,12 +349,12 @@ fn add_view(alloc: Global, views: &mut KitHandle, view: View) -> Result<(), Faul
     }
 }
 
-fn copy_of(view: &Held) -> Result<View, Fault>
+fn copy_of(view: &Content) -> Result<View, Fault>
     ensures ok { OnOk result (view_fault view.now ≡ None) }
     ensures value { IfOk result (λ v. view_in view.now ≡ Some v) }
     ensures err { IfErr result (λ f. code_of f ≢ no_memory → view_fault view.now ≡ Some f) }
 {
-    let Held::View(view) = view else {
+    let Content::View(view) = view else {
         return Err(Fault::WrongKind);
     };
     Ok(view.try_copy()?)
@@ -373,11 +373,11 @@ pub extern "C" fn kit_views_add(alloc: Global, views: &mut KitHandle, view: &mut
     ensures unchanged { result ≢ pos 0 → views.new.inner.value ≡ views.old.inner.value }
     ensures kept { view.new.inner.value ≡ view.old.inner.value }
 {
-    let Some(held) = view.take(alloc) else {
+    let Some(content) = view.take(alloc) else {
         return NOTHING;
     };
-    let copy = copy_of(&held);
-    view.put(held);
+    let copy = copy_of(&content);
+    view.put(content);
     let copy = match copy {
         Ok(copy) => copy,
         Err(fault) => return fault.code(),

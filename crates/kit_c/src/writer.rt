@@ -6,13 +6,13 @@ ghost use Rattle.kit_c.specs.Codes.{code_of, no_memory};
 ghost use Rattle.kit_c.specs.Faults.{collecting_fault, collection_fault, full_fault, of_one, of_two, recording_fault, restarting_fault, starting_fault, text_fault};
 ghost use Rattle.kit_c.specs.Handles.{after_collection, after_recording, after_restarting, in_first, in_one};
 ghost use Rattle.kit_c.specs.Places.{place_after};
-ghost use Rattle.kit_c.specs.declared.held.Held.TheVariants as things;
+ghost use Rattle.kit_c.specs.declared.content.Content.TheVariants as things;
 ghost use Rattle.kit_c.specs.Numbers.{after_holding, after_numbered, holding_fault, numbered_fault, sets_len};
 ghost use Rattle.kit_c.specs.Writers.{HasStarted, IsCollection, instance_of};
 
+use crate::content::Content;
 use crate::fault::{FULL, Fault, NOTHING, OK, code_with_place};
 use crate::handle::KitHandle;
-use crate::held::Held;
 use crate::holding::HoldingWriter;
 use crate::text::text_of;
 use bumpalo::Bump;
@@ -24,14 +24,14 @@ use writer_kit::Writer;
 fn start_writer(
     alloc: Global,
     id: WriterId,
-    held: &Held,
+    content: &Content,
     start: u64,
 ) -> Result<HoldingWriter, Fault>
-    ensures ok { OnOk result (starting_fault held.now ≡ None) }
-    ensures value { IfOk result (λ h. HasStarted id start (Some held.now) (Some (things.Writer h))) }
-    ensures err { IfErr result (λ f. code_of f ≢ no_memory → starting_fault held.now ≡ Some f) }
+    ensures ok { OnOk result (starting_fault content.now ≡ None) }
+    ensures value { IfOk result (λ h. HasStarted id start (Some content.now) (Some (things.Writer h))) }
+    ensures err { IfErr result (λ f. code_of f ≢ no_memory → starting_fault content.now ≡ Some f) }
 {
-    let Held::Plan(plan) = held else {
+    let Content::Plan(plan) = content else {
         return Err(Fault::WrongKind);
     };
     let writer = Writer::start(alloc, id, plan.try_copy()?, start)?;
@@ -68,36 +68,36 @@ pub extern "C" fn kit_writer_start(
         Ok(service) => service,
         Err(fault) => return fault.code(),
     };
-    let Some(held) = plan.take(alloc) else {
+    let Some(content) = plan.take(alloc) else {
         return NOTHING;
     };
     let id = WriterId {
         service,
         instance: Uuid::from_u64_pair(instance_high, instance_low),
     };
-    let made = start_writer(alloc, id, &held, start);
-    plan.put(held);
+    let made = start_writer(alloc, id, &content, start);
+    plan.put(content);
     match made {
-        Ok(made) => writer.fill(alloc, Held::Writer(made)),
+        Ok(made) => writer.fill(alloc, Content::Writer(made)),
         Err(fault) => fault.code(),
     }
 }
 
 fn measure_at_writer(
-    held: &mut Held,
+    content: &mut Content,
     instrument: usize,
-    set: &Held,
+    set: &Content,
     value: i64,
 ) -> Result<(), Fault>
-    ensures ok { OnOk result (recording_fault instrument value held.old set.now ≡ None) }
-    ensures value { OnOk result (held.new ≡ after_recording instrument value held.old set.now) }
-    ensures err { IfErr result (λ f. code_of f ≢ no_memory → recording_fault instrument value held.old set.now ≡ Some f) }
-    ensures unchanged { OnErr result (held.new ≡ held.old) }
+    ensures ok { OnOk result (recording_fault instrument value content.old set.now ≡ None) }
+    ensures value { OnOk result (content.new ≡ after_recording instrument value content.old set.now) }
+    ensures err { IfErr result (λ f. code_of f ≢ no_memory → recording_fault instrument value content.old set.now ≡ Some f) }
+    ensures unchanged { OnErr result (content.new ≡ content.old) }
 {
-    let Held::Writer(writer) = held else {
+    let Content::Writer(writer) = content else {
         return Err(Fault::WrongKind);
     };
-    let Held::Attributes(attributes) = set else {
+    let Content::Attributes(attributes) = set else {
         return Err(Fault::WrongKind);
     };
     match writer.measure(instrument, attributes, value) {
@@ -131,15 +131,15 @@ pub extern "C" fn kit_writer_measure(
     ensures unchanged { result ≢ pos 0 → writer.new.inner.value ≡ writer.old.inner.value }
     ensures kept { attributes.new.inner.value ≡ attributes.old.inner.value }
 {
-    let Some(mut held) = writer.take(alloc) else {
+    let Some(mut content) = writer.take(alloc) else {
         return NOTHING;
     };
     let Some(set) = attributes.take(alloc) else {
-        writer.put(held);
+        writer.put(content);
         return NOTHING;
     };
-    let outcome = measure_at_writer(&mut held, instrument, &set, value);
-    writer.put(held);
+    let outcome = measure_at_writer(&mut content, instrument, &set, value);
+    writer.put(content);
     attributes.put(set);
     match outcome {
         Ok(()) => OK,
@@ -147,17 +147,17 @@ pub extern "C" fn kit_writer_measure(
     }
 }
 
-fn hold_at_writer(held: &mut Held, set: &Held) -> Result<usize, Fault>
-    ensures ok { OnOk result (holding_fault held.old set.now ≡ None) }
-    ensures value { OnOk result (held.new ≡ after_holding held.old set.now) }
-    ensures number { IfOk result (λ n. n ≡ sets_len held.old) }
-    ensures err { IfErr result (λ f. code_of f ≢ no_memory → holding_fault held.old set.now ≡ Some f) }
-    ensures unchanged { OnErr result (held.new ≡ held.old) }
+fn hold_at_writer(content: &mut Content, set: &Content) -> Result<usize, Fault>
+    ensures ok { OnOk result (holding_fault content.old set.now ≡ None) }
+    ensures value { OnOk result (content.new ≡ after_holding content.old set.now) }
+    ensures number { IfOk result (λ n. n ≡ sets_len content.old) }
+    ensures err { IfErr result (λ f. code_of f ≢ no_memory → holding_fault content.old set.now ≡ Some f) }
+    ensures unchanged { OnErr result (content.new ≡ content.old) }
 {
-    let Held::Writer(writer) = held else {
+    let Content::Writer(writer) = content else {
         return Err(Fault::WrongKind);
     };
-    let Held::Attributes(attributes) = set else {
+    let Content::Attributes(attributes) = set else {
         return Err(Fault::WrongKind);
     };
     Ok(writer.hold(attributes.try_copy()?)?)
@@ -184,15 +184,15 @@ pub extern "C" fn kit_writer_hold(
     ensures unchanged { result ≢ pos 0 → writer.new.inner.value ≡ writer.old.inner.value }
     ensures kept { attributes.new.inner.value ≡ attributes.old.inner.value }
 {
-    let Some(mut held) = writer.take(alloc) else {
+    let Some(mut content) = writer.take(alloc) else {
         return NOTHING;
     };
     let Some(set) = attributes.take(alloc) else {
-        writer.put(held);
+        writer.put(content);
         return NOTHING;
     };
-    let outcome = hold_at_writer(&mut held, &set);
-    writer.put(held);
+    let outcome = hold_at_writer(&mut content, &set);
+    writer.put(content);
     attributes.put(set);
     match outcome {
         Ok(told) => {
@@ -204,17 +204,17 @@ pub extern "C" fn kit_writer_hold(
 }
 
 fn measure_held_at_writer(
-    held: &mut Held,
+    content: &mut Content,
     instrument: usize,
     number: usize,
     value: i64,
 ) -> Result<(), Fault>
-    ensures ok { OnOk result (numbered_fault instrument number value held.old ≡ None) }
-    ensures value { OnOk result (held.new ≡ after_numbered instrument number value held.old) }
-    ensures err { IfErr result (λ f. code_of f ≢ no_memory → numbered_fault instrument number value held.old ≡ Some f) }
-    ensures unchanged { OnErr result (held.new ≡ held.old) }
+    ensures ok { OnOk result (numbered_fault instrument number value content.old ≡ None) }
+    ensures value { OnOk result (content.new ≡ after_numbered instrument number value content.old) }
+    ensures err { IfErr result (λ f. code_of f ≢ no_memory → numbered_fault instrument number value content.old ≡ Some f) }
+    ensures unchanged { OnErr result (content.new ≡ content.old) }
 {
-    let Held::Writer(writer) = held else {
+    let Content::Writer(writer) = content else {
         return Err(Fault::WrongKind);
     };
     writer.measure_held(instrument, number, value)
@@ -242,11 +242,11 @@ pub extern "C" fn kit_writer_measure_held(
     ensures no_memory { result ≡ no_memory → place.new ≡ place.old }
     ensures unchanged { result ≢ pos 0 → writer.new.inner.value ≡ writer.old.inner.value }
 {
-    let Some(mut held) = writer.take(alloc) else {
+    let Some(mut content) = writer.take(alloc) else {
         return NOTHING;
     };
-    let outcome = measure_held_at_writer(&mut held, instrument, number, value);
-    writer.put(held);
+    let outcome = measure_held_at_writer(&mut content, instrument, number, value);
+    writer.put(content);
     match outcome {
         Ok(()) => OK,
         Err(fault) => code_with_place(fault, place),
@@ -257,17 +257,17 @@ pub extern "C" fn kit_writer_measure_held(
 #[tactic(auto, using(writer_kit::proofs::Refusals::collect_open, writer_kit::proofs::Refusals::collect_later))]
 fn collect_writer(
     alloc: Global,
-    held: &mut Held,
+    content: &mut Content,
     time: u64,
     closing: bool,
-) -> Result<Box<Held>, Fault>
-    ensures ok { OnOk result (collection_fault time held.old ≡ None) }
-    ensures value { OnOk result (held.new ≡ after_collection time closing held.old) }
-    ensures export { IfOk result (λ made. IsCollection time (Some held.old) (Some made.value)) }
-    ensures err { IfErr result (λ f. code_of f ≢ no_memory → collection_fault time held.old ≡ Some f) }
-    ensures unchanged { OnErr result (held.new ≡ held.old) }
+) -> Result<Box<Content>, Fault>
+    ensures ok { OnOk result (collection_fault time content.old ≡ None) }
+    ensures value { OnOk result (content.new ≡ after_collection time closing content.old) }
+    ensures export { IfOk result (λ made. IsCollection time (Some content.old) (Some made.value)) }
+    ensures err { IfErr result (λ f. code_of f ≢ no_memory → collection_fault time content.old ≡ Some f) }
+    ensures unchanged { OnErr result (content.new ≡ content.old) }
 {
-    let Held::Writer(writer) = held else {
+    let Content::Writer(writer) = content else {
         return Err(Fault::WrongKind);
     };
     let arena = Bump::new(alloc);
@@ -276,7 +276,7 @@ fn collect_writer(
         Err(fault) => return Err(Fault::Collect(fault)),
     };
     let export = round.copy_out(alloc, writer.writer().id())?;
-    let made = Box::new(alloc, Held::Export(export))?;
+    let made = Box::new(alloc, Content::Export(export))?;
     writer.mark(time, closing);
     Ok(made)
 }
@@ -299,16 +299,16 @@ fn collect_into(
         → place.new ≡ place_after (collecting_fault time writer.old.inner.value export.old.inner.value) place.old }
     ensures no_memory { result ≡ no_memory → place.new ≡ place.old }
     ensures unchanged { result ≢ pos 0 → writer.new.inner.value ≡ writer.old.inner.value }
-    ensures held { result ≢ pos 0 → export.new.inner.value ≡ export.old.inner.value }
+    ensures export_kept { result ≢ pos 0 → export.new.inner.value ≡ export.old.inner.value }
 {
     if export.full {
         return FULL;
     }
-    let Some(mut held) = writer.take(alloc) else {
+    let Some(mut content) = writer.take(alloc) else {
         return NOTHING;
     };
-    let made = collect_writer(alloc, &mut held, time, closing);
-    writer.put(held);
+    let made = collect_writer(alloc, &mut content, time, closing);
+    writer.put(content);
     match made {
         Ok(made) => {
             export.put(made);
@@ -340,7 +340,7 @@ pub extern "C" fn kit_writer_collect(
         → place.new ≡ place_after (collecting_fault time writer.old.inner.value export.old.inner.value) place.old }
     ensures no_memory { result ≡ no_memory → place.new ≡ place.old }
     ensures unchanged { result ≢ pos 0 → writer.new.inner.value ≡ writer.old.inner.value }
-    ensures held { result ≢ pos 0 → export.new.inner.value ≡ export.old.inner.value }
+    ensures export_kept { result ≢ pos 0 → export.new.inner.value ≡ export.old.inner.value }
 {
     collect_into(alloc, writer, time, false, export, place)
 }
@@ -365,18 +365,18 @@ pub extern "C" fn kit_writer_shutdown(
         → place.new ≡ place_after (collecting_fault time writer.old.inner.value export.old.inner.value) place.old }
     ensures no_memory { result ≡ no_memory → place.new ≡ place.old }
     ensures unchanged { result ≢ pos 0 → writer.new.inner.value ≡ writer.old.inner.value }
-    ensures held { result ≢ pos 0 → export.new.inner.value ≡ export.old.inner.value }
+    ensures export_kept { result ≢ pos 0 → export.new.inner.value ≡ export.old.inner.value }
 {
     collect_into(alloc, writer, time, true, export, place)
 }
 
-fn restart_writer(held: &mut Held, start: u64) -> Result<(), Fault>
-    ensures ok { OnOk result (restarting_fault start held.old ≡ None) }
-    ensures value { OnOk result (held.new ≡ after_restarting start held.old) }
-    ensures err { IfErr result (λ f. code_of f ≢ no_memory → restarting_fault start held.old ≡ Some f) }
-    ensures unchanged { OnErr result (held.new ≡ held.old) }
+fn restart_writer(content: &mut Content, start: u64) -> Result<(), Fault>
+    ensures ok { OnOk result (restarting_fault start content.old ≡ None) }
+    ensures value { OnOk result (content.new ≡ after_restarting start content.old) }
+    ensures err { IfErr result (λ f. code_of f ≢ no_memory → restarting_fault start content.old ≡ Some f) }
+    ensures unchanged { OnErr result (content.new ≡ content.old) }
 {
-    let Held::Writer(writer) = held else {
+    let Content::Writer(writer) = content else {
         return Err(Fault::WrongKind);
     };
     match writer.restart(start) {
@@ -405,11 +405,11 @@ pub extern "C" fn kit_writer_restart(
     ensures no_memory { result ≡ no_memory → place.new ≡ place.old }
     ensures unchanged { result ≢ pos 0 → writer.new.inner.value ≡ writer.old.inner.value }
 {
-    let Some(mut held) = writer.take(alloc) else {
+    let Some(mut content) = writer.take(alloc) else {
         return NOTHING;
     };
-    let outcome = restart_writer(&mut held, start);
-    writer.put(held);
+    let outcome = restart_writer(&mut content, start);
+    writer.put(content);
     match outcome {
         Ok(()) => OK,
         Err(fault) => code_with_place(fault, place),

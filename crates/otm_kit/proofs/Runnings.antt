@@ -36,7 +36,7 @@ use Rattle.otm_kit.specs.Declarations.{Declared, declared_by, gateway_place, is_
 use Rattle.otm_kit.specs.Effects.{done, bad, effect_of, has_begun, once_begun, told_of}
 use Rattle.otm_kit.specs.Events.{commands, event_of, deeds_of_commands}
 use Rattle.otm_kit.specs.Answers.{answer_of, ask_of, conflicts_text, identity_of, newest_text, same_text}
-use Rattle.gossip_kit.specs.Views.{NodeView}
+use Rattle.gossip_kit.specs.Views.{NodeModel}
 use Rattle.point_kit.specs.Exports.{Points, changed_points}
 use Rattle.point_kit.proofs.PointLaws.{changed_points-same, unchanged_points}
 use Rattle.std.specs.FinMap.{empty}
@@ -180,7 +180,7 @@ same_no b p q text h e is =
       | false ↦ λ z. refl
     ] refl)
 
-no_node : NodeView
+no_node : NodeModel
 no_node = record { gateway = record { id = 0; points = empty; numbers = empty }; change = 0; numbers = empty; acked = empty }
 
 -- the place of a gateway is one
@@ -192,7 +192,7 @@ gateway_there d cs r id place runs is none =
     let got : slice_get r.world.nodes place ≡ Some _ = slice_get-get_or r.world.nodes place no_node (omega (arith, few, inside)) in
     cc
 
-pub gateway_here : (d : Declared) (cs : List Command) (r : Running) (id place : ℕ) (node : NodeView) → Runs d cs r → gateway_place d.gateways id ≡ Some place → slice_get r.world.nodes place ≡ Some node → IsGatewayOf d cs id node.gateway.points
+pub gateway_here : (d : Declared) (cs : List Command) (r : Running) (id place : ℕ) (node : NodeModel) → Runs d cs r → gateway_place d.gateways id ≡ Some place → slice_get r.world.nodes place ≡ Some node → IsGatewayOf d cs id node.gateway.points
 gateway_here d cs r id place node runs is got = record { place = place; is = is; points_are = runs.world.nodes.points place node got }
 
 -- answers of queries about one gateway

@@ -25,11 +25,11 @@ use Rattle.plan_kit.specs.declared.view.Aggregation.TheVariants as ways
 use Rattle.plan_kit.specs.declared.view.View.{View}
 use Rattle.plan_kit.specs.declared.wanted.Wanted.{Wanted}
 use Rattle.plan_kit.specs.declared.feed.Feed.{Feed}
-use Rattle.plan_kit.specs.declared.kept.Place.{Place}
+use Rattle.plan_kit.specs.declared.kept.KeptInstrument.{KeptInstrument}
 use Rattle.plan_kit.specs.Aggregations.{fit, has_bad_bounds}
 use Rattle.plan_kit.specs.Bounds.{are_bounds, default_bounds}
 use Rattle.plan_kit.specs.Feeds.{default_view, or_default, fed_by, feed_by, wanted_by, own_feeds, wanted_of, feeds_from, plan_from}
-use Rattle.plan_kit.specs.Kept.{place_of, source_at, plan_from_parts, owner_rises, is_rightly_rising, AreSound}
+use Rattle.plan_kit.specs.Kept.{kept_instrument, source_at, plan_from_parts, owner_rises, is_rightly_rising, AreSound}
 use Rattle.plan_kit.specs.Owners.{is_same, owner_of}
 use Rattle.plan_kit.specs.Plans.{Source, feeds_of, kind_of, lacks, AreFeeds, AreApart, AllRise, is_proper, rises, only_rises, IsPlan}
 use Rattle.plan_kit.specs.SameStream.{same, clash_of}
@@ -153,12 +153,12 @@ is_plan is ws limit clash sound above = record {
 }
 
 -- what a plan keeps is seen as the plan
-pub plan_from_parts_is : (is : List Instrument) (ws : List Wanted) (limit : ℕ) (places : List Place) (lists : List (List Feed)) (ss : List Stream) → places ≡ map (place_of is) is → ((o : ℕ) → slice_index_or lists o [] ≡ feeds_from o 0 ws) → ss ≡ map (λ w. w.stream) ws → plan_from_parts places lists ss limit ≡ plan_from is ws limit
+pub plan_from_parts_is : (is : List Instrument) (ws : List Wanted) (limit : ℕ) (places : List KeptInstrument) (lists : List (List Feed)) (ss : List Stream) → places ≡ map (kept_instrument is) is → ((o : ℕ) → slice_index_or lists o [] ≡ feeds_from o 0 ws) → ss ≡ map (λ w. w.stream) ws → plan_from_parts places lists ss limit ≡ plan_from is ws limit
 plan_from_parts_is is ws limit places lists ss kept listed streams =
     (λ j. plan_from_parts (kept j) lists (streams j) limit)
     ∙ (λ j. record { instruments = sources is is j; streams = map (λ w. w.stream) ws; limit = limit })
   where
-    sources : (all xs : List Instrument) → map (source_at lists) (map (place_of all) xs) ≡ map (λ (i : Instrument). let s : Source = record { kind = i.kind; feeds = feeds_from (owner_of all i) 0 ws } in s) xs
+    sources : (all xs : List Instrument) → map (source_at lists) (map (kept_instrument all) xs) ≡ map (λ (i : Instrument). let s : Source = record { kind = i.kind; feeds = feeds_from (owner_of all i) 0 ws } in s) xs
     sources all [] = refl
     sources all (x ∷ xs) = λ j. record { kind = x.kind; feeds = listed (owner_of all x) j } ∷ sources all xs j
 

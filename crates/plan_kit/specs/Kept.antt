@@ -4,21 +4,21 @@ use Rattle.std.specs.List.{list_all}
 use Rattle.std.specs.Option.{option_map_or}
 use Rattle.point_kit.specs.declared.stream.Stream.{Stream}
 use Rattle.plan_kit.specs.declared.feed.Feed.{Feed}
-use Rattle.plan_kit.specs.declared.kept.Place.{Place}
+use Rattle.plan_kit.specs.declared.kept.KeptInstrument.{KeptInstrument}
 use Rattle.plan_kit.specs.declared.instrument.Instrument.{Instrument}
 use Rattle.plan_kit.specs.Owners.{owner_of}
 use Rattle.plan_kit.specs.declared.wanted.Wanted.{Wanted}
 use Rattle.plan_kit.specs.Plans.{Source, Planned, is_proper, rises, only_rises}
 
 -- an instrument as it is kept
-abbrev pub place_of : List Instrument → Instrument → Place
-place_of is i = record { kind = i.kind; owner = owner_of is i }
+abbrev pub kept_instrument : List Instrument → Instrument → KeptInstrument
+kept_instrument is i = record { kind = i.kind; owner = owner_of is i }
 
 -- an instrument has the feeds of the first that is equal to it
-abbrev pub source_at : List (List Feed) → Place → Source
+abbrev pub source_at : List (List Feed) → KeptInstrument → Source
 source_at lists place = record { kind = place.kind; feeds = slice_index_or lists place.owner [] }
 
-abbrev pub plan_from_parts : List Place → List (List Feed) → List Stream → ℕ → Planned
+abbrev pub plan_from_parts : List KeptInstrument → List (List Feed) → List Stream → ℕ → Planned
 plan_from_parts places lists streams limit = record { instruments = map (source_at lists) places; streams = streams; limit = limit }
 
 -- the instrument at a place takes no values below 0

@@ -2,10 +2,10 @@
 ghost use Rattle.std.specs.Prelude.{◌≡◌, ◌<◌, ◌==◌, ◌++◌, ◌∷◌, if◌then◌else◌, ℕ, nat_lt, true, [], map, vec_len, slice_index_or, IfOk, OnOk};
 ghost use Rattle.std.specs.List.{list_all};
 ghost use Rattle.plan_kit.specs.Feeds.{feeds_from, AddsFeed};
-ghost use Rattle.plan_kit.specs.Kept.{place_of};
+ghost use Rattle.plan_kit.specs.Kept.{kept_instrument};
 ghost use Rattle.plan_kit.specs.Owners.{owner_of};
 
-use crate::kept::{FeedList, Place};
+use crate::kept::{FeedList, KeptInstrument};
 use crate::wanted::Wanted;
 use crate::{Feed, Instrument};
 use attr_kit::{NoMemory, TryCopy};
@@ -17,13 +17,13 @@ pub(crate) fn places_of(
     alloc: Global,
     instruments: &[Instrument],
     owners: &[usize],
-) -> Result<Vec<Place>, NoMemory>
+) -> Result<Vec<KeptInstrument>, NoMemory>
     requires { owners.now ≡ map (owner_of instruments.now) instruments.now }
-    ensures { IfOk result (λ places. places.items ≡ map (place_of instruments.now) instruments.now) }
+    ensures { IfOk result (λ places. places.items ≡ map (kept_instrument instruments.now) instruments.now) }
 {
     let mut places = Vec::with_capacity(alloc, instruments.len())?;
     for (place, instrument) in instruments.iter().enumerate() {
-        places.push(Place {
+        places.push(KeptInstrument {
             kind: instrument.kind,
             owner: owners[place],
         })?;

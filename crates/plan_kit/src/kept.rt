@@ -8,7 +8,7 @@ use std::marker::Model;
 
 /// An instrument as a plan keeps it: its kind, and the place of the first instrument equal to it, whose feeds are its own.
 #[derive(Clone, Copy, Debug)]
-pub(crate) struct Place {
+pub(crate) struct KeptInstrument {
     pub(crate) kind: Kind,
     pub(crate) owner: usize,
 }

@@ -9,7 +9,7 @@ ghost use Rattle.plan_kit.specs.declared.instrument.Kind.{Kind};
 ghost use Rattle.plan_kit.specs.Plans.{feeds_of, kind_of, stream_of, AreFeeds, AreApart, IsShared, AllRise, is_proper};
 
 use crate::finish::{lists_of, places_of, streams_of};
-use crate::kept::{FeedList, Place};
+use crate::kept::{FeedList, KeptInstrument};
 use crate::wanted::Wanted;
 use crate::{Feed, Instrument, Kind};
 use attr_kit::{NoMemory, TryCopy, copy_all};
@@ -26,7 +26,7 @@ const _: () = prove!(DEFAULT_LIMIT == 2 * 1_000);
 /// Which instrument feeds which streams, and how many attribute sets each stream holds.
 #[derive(Debug, Drop)]
 pub struct Plan {
-    places: Vec<Place>,
+    places: Vec<KeptInstrument>,
     lists: Vec<FeedList>,
     streams: Vec<SharedStream>,
     limit: u64,

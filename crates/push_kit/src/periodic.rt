@@ -5,7 +5,7 @@ ghost use Rattle.agg_kit.specs.Feeds.{IsHeld};
 ghost use Rattle.push_kit.specs.Faults.{push_fault};
 ghost use Rattle.push_kit.specs.Pushing.{IsCollection, Hands, OnPush, OnFlush, OnRefused, OnRest};
 ghost use Rattle.writer_kit.specs.Pacing.{pace_after};
-ghost use Rattle.writer_kit.specs.Recording.{after_collect, recorded, round_now};
+ghost use Rattle.writer_kit.specs.Recording.{after_collect, after_record, round_now};
 ghost use Rattle.writer_kit.specs.Refusals.{collect_fault, early_fault, fault_now, no_memory};
 
 use crate::{ExportRefused, Exporter, TickFault};
@@ -80,7 +80,7 @@ impl<E: Exporter> Periodic<E> {
     ) -> Result<(), MeasureFault>
         ensures ok { OnOk result (fault_now self.old.writer (entry_of instrument attrs.now value) ≡ None) }
         ensures value { OnOk result
-            (self.new ≡ record self.old { writer = recorded self.old.writer (entry_of instrument attrs.now value) }) }
+            (self.new ≡ record self.old { writer = after_record self.old.writer (entry_of instrument attrs.now value) }) }
         ensures err { IfErr result (λ f. f ≢ no_memory → fault_now self.old.writer (entry_of instrument attrs.now value) ≡ Some f) }
         ensures no_memory { IfErr result (λ f. f ≡ no_memory → early_fault self.old.writer (entry_of instrument attrs.now value) ≡ None) }
         ensures held { IsHeld self.old.writer.tally (entry_of instrument attrs.now value) → IfErr result (λ f. f ≢ no_memory) }

@@ -8,7 +8,7 @@ ghost use Rattle.attr_kit.specs.declared.keep.Keep.TheVariants.{All, Only};
 ghost use Rattle.point_kit.specs.Orders.{key_cmp};
 ghost use Rattle.rollup_kit.specs.Standing.{Stands};
 ghost use Rattle.rollup_kit.specs.Asks.{Attributes, attributes_cmp, asks};
-ghost use Rattle.gateway_kit.specs.Walks.{entry_of_ref, points_left};
+ghost use Rattle.gateway_kit.specs.Walks.{keyed_cell_of_ref, points_left};
 ghost use Rattle.rollup_kit.specs.Walks.{group_at, HasRoom, Adds};
 
 use crate::Ask;
@@ -23,7 +23,7 @@ use std::alloc::Global;
 
 // Whether a point is asked for.
 fn is_asked(ask: &Ask, point: PointRef) -> bool
-    ensures { result ≡ asks ask.now (entry_of_ref point.entry).0 }
+    ensures { result ≡ asks ask.now (keyed_cell_of_ref point.entry).0 }
 {
     ask.stream == *point.stream && ask.is_of(point.writer) && ask.fits(point.attrs)
 }
@@ -38,7 +38,7 @@ fn add_point(
 ) -> Result<(), NoMemory>
     requires keep { ask.now.keep ≡ All }
     requires room { HasRoom rows.old.entries }
-    ensures { OnOk result (Adds ask.now buckets (entry_of_ref point.entry) rows.old.entries rows.new.entries) }
+    ensures { OnOk result (Adds ask.now buckets (keyed_cell_of_ref point.entry) rows.old.entries rows.new.entries) }
 {
     if !is_asked(ask, point) {
         return Ok(());
@@ -59,7 +59,7 @@ fn add_kept_point(
 ) -> Result<(), NoMemory>
     requires keep { ask.now.keep ≡ Only list.now }
     requires room { HasRoom rows.old }
-    ensures { OnOk result (Adds ask.now buckets (entry_of_ref point.entry) rows.old rows.new) }
+    ensures { OnOk result (Adds ask.now buckets (keyed_cell_of_ref point.entry) rows.old rows.new) }
 {
     if !is_asked(ask, point) {
         return Ok(());

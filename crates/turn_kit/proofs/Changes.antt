@@ -1,6 +1,6 @@
 -- A change, from the turn that is had to the turn that is given back.
 use Rattle.std.proofs.Common.{◌≡◌, ℕ, ◌<◌, ◌≤◌, true, List, [], ◌∷◌, ◌++◌, length, sym, refl, ap, ◌∙◌, subst, arith, Option, Some, Result, Ok, Err}
-use Rattle.atomic_table.specs.declared.shared.Seat.{Seat as Place}
+use Rattle.atomic_table.specs.declared.shared.Seat.{Seat as TableSeat}
 use Rattle.turn_kit.specs.declared.knowledge.Knowledge.{Knowledge}
 use Rattle.turn_kit.specs.declared.fault.ChangeFault.{ChangeFault}
 use Rattle.turn_kit.specs.declared.fault.ChangeFault.TheVariants.{Busy, Exhausted, Refused}
@@ -8,7 +8,7 @@ use Rattle.turn_kit.specs.declared.knowledge.Who.{Who}
 use Rattle.turn_kit.specs.declared.knowledge.Stage.TheVariants.{Idle, Holds}
 use Rattle.turn_kit.specs.History.{by, StartsWith, IsReplay, then_next, replay}
 use Rattle.turn_kit.specs.Steps.{Sat}
-use Rattle.turn_kit.specs.Places.{idle_who, IsIdle, Owns, HasRoom, Grows, IsWhole, HasTurn, Found, Takes, Changed, Looked, Answered}
+use Rattle.turn_kit.specs.TableSeats.{idle_who, IsIdle, Owns, HasRoom, Grows, IsWhole, HasTurn, Found, Takes, Changed, Looked, Answered}
 use Rattle.turn_kit.proofs.Histories.{by_mine}
 
 replay_snoc : {E S : Type 0} (next : S → E → Option S) (s : Option S) (l : List (ℕ × E)) (x : ℕ × E) → replay next s (l ++ x ∷ []) ≡ then_next next (replay next s l) x.1
@@ -16,11 +16,11 @@ replay_snoc next s [] x = refl
 replay_snoc next s (y ∷ ys) x = replay_snoc next (then_next next s y.1) ys x
 
 module _ {M E : Type 0} where
-  pub is_idled : (p : Place M (Knowledge M E)) (w : Knowledge M E) → p.me ≡ (record w { stage = Idle }, []) → w.who ≡ idle_who w.who → IsIdle p
+  pub is_idled : (p : TableSeat M (Knowledge M E)) (w : Knowledge M E) → p.me ≡ (record w { stage = Idle }, []) → w.who ≡ idle_who w.who → IsIdle p
   is_idled p w is still = λ i. record p { me = (is ∙ ((λ j. (record w { stage = Idle; who = still j }, [])) ∙ ap (λ (m : Sat M E). (record m.0 { stage = Idle; who = idle_who m.0.who }, [])) (sym is))) i }
 
-  pub idle_same : (p q : Place M (Knowledge M E)) → IsIdle p → q.me ≡ p.me → IsIdle q
-  idle_same p q idle same = λ i. record q { me = (same ∙ (ap (λ (s : Place M (Knowledge M E)). s.me) idle ∙ ap (λ (m : Sat M E). (record m.0 { stage = Idle; who = idle_who m.0.who }, [])) (sym same))) i }
+  pub idle_same : (p q : TableSeat M (Knowledge M E)) → IsIdle p → q.me ≡ p.me → IsIdle q
+  idle_same p q idle same = λ i. record q { me = (same ∙ (ap (λ (s : TableSeat M (Knowledge M E)). s.me) idle ∙ ap (λ (m : Sat M E). (record m.0 { stage = Idle; who = idle_who m.0.who }, [])) (sym same))) i }
 
 module _ {M E S : Type 0} (state : M → S) (next : S → E → Option S) where
   pub one_more : (a x y : M) (l : List (ℕ × E)) (n : ℕ) (e : E) → IsReplay state next a l x → next (state x) e ≡ Some (state y) → IsReplay state next a (l ++ (n, e) ∷ []) y
@@ -121,15 +121,15 @@ module _ {M E S : Type 0} (state : M → S) (next : S → E → Option S) where
         unfolding view4 log4
         owns4 s is = subst (λ (z : Sat M E). Owns z.0) (sym (is ∙ ap (λ (z : Sat M E). (record z.0 { stage = Idle }, [])) is4)) (by_mine m.0.who.number f.l e ∙ ap (λ (es : List E). es ++ e ∷ []) f.own)
 
-        pub idle4 : (p : Place M (Knowledge M E)) → p.me ≡ (record m4.0 { stage = Idle }, []) → IsIdle p
+        pub idle4 : (p : TableSeat M (Knowledge M E)) → p.me ≡ (record m4.0 { stage = Idle }, []) → IsIdle p
         unfolding view4 log4
         idle4 p is = is_idled p m4.0 is (ap (λ (s : Sat M E). s.0.who) is4 ∙ (ap (λ (w : Who E). record w { mine = m.0.who.mine ++ e ∷ [] }) f.rest ∙ ap (λ (s : Sat M E). idle_who s.0.who) (sym is4)))
 
-    pub idle1 : (m2 : Sat M E) → m2.0 ≡ m1.0 → (p : Place M (Knowledge M E)) → p.me ≡ (record m2.0 { stage = Idle }, []) → IsIdle p
+    pub idle1 : (m2 : Sat M E) → m2.0 ≡ m1.0 → (p : TableSeat M (Knowledge M E)) → p.me ≡ (record m2.0 { stage = Idle }, []) → IsIdle p
     idle1 m2 same p is = let v = same ∙ ap (λ (s : Sat M E). s.0) f.is in is_idled p m2.0 is (ap (λ (z : Knowledge M E). z.who) v ∙ (f.rest ∙ ap (λ (z : Knowledge M E). idle_who z.who) (sym v)))
 
   -- the turn was had, by a seat at rest
-  pub has_turn : (p q : Place M (Knowledge M E)) → IsIdle p → Takes state next p.me q.me → HasTurn state next q.me
+  pub has_turn : (p q : TableSeat M (Knowledge M E)) → IsIdle p → Takes state next p.me q.me → HasTurn state next q.me
   has_turn p q idle t = record {
     l = t.0;
     n = t.1;
@@ -140,7 +140,7 @@ module _ {M E S : Type 0} (state : M → S) (next : S → E → Option S) where
     from = ap (λ (s : Sat M E). s.0.start) t.4 ∙ t.5;
     made = t.6;
     saw = subst (λ (l : List (ℕ × E)). StartsWith t.0 l) (sym (ap (λ (s : Sat M E). s.0.seen) t.4)) t.7;
-    rest = ap (λ (s : Sat M E). s.0.who) t.4 ∙ (ap (λ (s : Place M (Knowledge M E)). s.me.0.who) idle ∙ ap (λ (s : Sat M E). idle_who s.0.who) (sym t.4));
+    rest = ap (λ (s : Sat M E). s.0.who) t.4 ∙ (ap (λ (s : TableSeat M (Knowledge M E)). s.me.0.who) idle ∙ ap (λ (s : Sat M E). idle_who s.0.who) (sym t.4));
   }
 
   module _ (m q : Sat M E) (t : Takes state next m q) where

@@ -1,33 +1,33 @@
 -- Notes and joins: the seat is at rest again.
 use Rattle.std.proofs.Common.{◌≡◌, ℕ, ◌+◌, Bool, true, false, List, [], ◌∷◌, ◌++◌, sym, refl, ap, ◌∙◌, subst, Option, append-nil}
 use Rattle.std.specs.Prelude.{max}
-use Rattle.atomic_table.specs.declared.shared.Seat.{Seat as Place}
+use Rattle.atomic_table.specs.declared.shared.Seat.{Seat as TableSeat}
 use Rattle.turn_kit.specs.declared.knowledge.Knowledge.{Knowledge}
 use Rattle.turn_kit.specs.declared.knowledge.Who.{Who}
 use Rattle.turn_kit.specs.declared.knowledge.Stage.TheVariants.{Idle}
 use Rattle.turn_kit.specs.History.{by, StartsWith, Apart, longer}
 use Rattle.turn_kit.specs.Rule.{family, unmade}
 use Rattle.turn_kit.specs.Steps.{Sat, note_of, nobody, both_of, both_who}
-use Rattle.turn_kit.specs.Places.{idle_who, IsIdle, Owns, as_note, Heard, Joined, ClosedWith}
+use Rattle.turn_kit.specs.TableSeats.{idle_who, IsIdle, Owns, as_note, Heard, Joined, ClosedWith}
 
 module _ {M E : Type 0} where
-  pub is_noted : (p : Place M (Knowledge M E)) (l : List (ℕ × E)) (n : ℕ) → p.me ≡ (note_of l n, []) → p ≡ as_note p
+  pub is_noted : (p : TableSeat M (Knowledge M E)) (l : List (ℕ × E)) (n : ℕ) → p.me ≡ (note_of l n, []) → p ≡ as_note p
   is_noted p l n is = λ i. record p { me = (is ∙ ap (λ (m : Sat M E). (note_of m.0.seen m.0.made, [])) (sym is)) i }
 
-  pub idle_from : (p : Place M (Knowledge M E)) → p.me.0.stage ≡ Idle → p.me.0.who ≡ idle_who p.me.0.who → p.me.1 ≡ [] → IsIdle p
+  pub idle_from : (p : TableSeat M (Knowledge M E)) → p.me.0.stage ≡ Idle → p.me.0.who ≡ idle_who p.me.0.who → p.me.1 ≡ [] → IsIdle p
   idle_from p stage who hand = λ i. record p { me = (record p.me.0 { stage = stage i; who = who i }, hand i) }
 
-  pub idle_stage : (p : Place M (Knowledge M E)) → IsIdle p → p.me.0.stage ≡ Idle
-  idle_stage p idle = ap (λ (s : Place M (Knowledge M E)). s.me.0.stage) idle
+  pub idle_stage : (p : TableSeat M (Knowledge M E)) → IsIdle p → p.me.0.stage ≡ Idle
+  idle_stage p idle = ap (λ (s : TableSeat M (Knowledge M E)). s.me.0.stage) idle
 
-  pub idle_is : (p : Place M (Knowledge M E)) → IsIdle p → p.me.0.who ≡ idle_who p.me.0.who
-  idle_is p idle = ap (λ (s : Place M (Knowledge M E)). s.me.0.who) idle
+  pub idle_is : (p : TableSeat M (Knowledge M E)) → IsIdle p → p.me.0.who ≡ idle_who p.me.0.who
+  idle_is p idle = ap (λ (s : TableSeat M (Knowledge M E)). s.me.0.who) idle
 
-  pub idle_hand : (p : Place M (Knowledge M E)) → IsIdle p → p.me.1 ≡ []
-  idle_hand p idle = ap (λ (s : Place M (Knowledge M E)). s.me.1) idle
+  pub idle_hand : (p : TableSeat M (Knowledge M E)) → IsIdle p → p.me.1 ≡ []
+  idle_hand p idle = ap (λ (s : TableSeat M (Knowledge M E)). s.me.1) idle
 
   -- a seat that was told how many others are out is at rest as it was
-  module _ (p q : Place M (Knowledge M E)) (n : ℕ) (asked : q.me ≡ (record p.me.0 { told_out = n }, p.me.1)) where
+  module _ (p q : TableSeat M (Knowledge M E)) (n : ℕ) (asked : q.me ≡ (record p.me.0 { told_out = n }, p.me.1)) where
     pub asked_idle : IsIdle p → IsIdle q
     asked_idle idle = let who_is : q.me.0.who ≡ p.me.0.who = ap (λ (m : Sat M E). m.0.who) asked in
         idle_from q (ap (λ (m : Sat M E). m.0.stage) asked ∙ idle_stage p idle) (who_is ∙ (idle_is p idle ∙ ap idle_who (sym who_is))) (ap (λ (m : Sat M E). m.1) asked ∙ idle_hand p idle)
@@ -39,11 +39,11 @@ module _ {M E : Type 0} where
   abbrev pub HasOwn : Sat M E → Type 0
   HasOwn q = q.0.who.seated ≡ true → by q.0.who.number q.0.ours ≡ q.0.who.mine → by q.0.who.number q.0.seen ≡ q.0.who.mine
 
-  module _ (p : Place M (Knowledge M E)) (idle : IsIdle p) (w : Knowledge M E) where
+  module _ (p : TableSeat M (Knowledge M E)) (idle : IsIdle p) (w : Knowledge M E) where
     heard_view : w.who ≡ nobody → both_of p.me.0 w ≡ record p.me.0 { seen = longer p.me.0.seen w.seen; ours = p.me.0.seen; theirs = w.seen; made = max p.me.0.made w.made }
     heard_view none_of = λ i. record p.me.0 { seen = longer p.me.0.seen w.seen; ours = p.me.0.seen; theirs = w.seen; made = max p.me.0.made w.made; who = both_who p.me.0.who (none_of i) }
 
-    pub heard_idle : (q : Place M (Knowledge M E)) → w.who ≡ nobody → q.me ≡ (both_of p.me.0 w, p.me.1) → IsIdle q
+    pub heard_idle : (q : TableSeat M (Knowledge M E)) → w.who ≡ nobody → q.me ≡ (both_of p.me.0 w, p.me.1) → IsIdle q
     heard_idle q none_of is = let who_is : q.me.0.who ≡ p.me.0.who = ap (λ (m : Sat M E). m.0.who) is ∙ ap (λ (v : Knowledge M E). v.who) (heard_view none_of) in
         idle_from q (ap (λ (m : Sat M E). m.0.stage) is ∙ idle_stage p idle) (who_is ∙ (idle_is p idle ∙ ap idle_who (sym who_is))) (ap (λ (m : Sat M E). m.1) is ∙ idle_hand p idle)
 
@@ -87,7 +87,7 @@ module _ {M E : Type 0} where
           sum_is : p.me.0.who.credit + w.who.credit ≡ 0
           sum_is = (λ i. (idle_is p idle i).credit + (still i).credit) ∙ refl
 
-      pub joined_idle : (q z : Sat M E) (t : Place M (Knowledge M E)) → q ≡ (both_of p.me.0 w, p.me.1) → z ≡ (record q.0 { who = record q.0.who { weight = 1 } }, q.1) → t.me ≡ z → IsIdle t
+      pub joined_idle : (q z : Sat M E) (t : TableSeat M (Knowledge M E)) → q ≡ (both_of p.me.0 w, p.me.1) → z ≡ (record q.0 { who = record q.0.who { weight = 1 } }, q.1) → t.me ≡ z → IsIdle t
       joined_idle q z t is counted same = let v = ap (λ (m : Sat M E). m.0) same ∙ joined_view q z is counted in
           idle_from t (ap (λ (x : Knowledge M E). x.stage) v ∙ idle_stage p idle)
           (ap (λ (x : Knowledge M E). x.who) v ∙ (ap (λ (x : Who E). record x { joined = p.me.0.who.joined ++ (w.who.number, w.who.mine) ∷ w.who.joined }) (idle_is p idle) ∙ ap (λ (x : Knowledge M E). idle_who x.who) (sym v)))

@@ -17,7 +17,7 @@ use Rattle.turn_kit.specs.declared.knowledge.Stage.TheVariants.{Idle, Holds}
 use Rattle.turn_kit.specs.History.{IsReplay, Apart, IsAmong, AreOthers}
 use Rattle.turn_kit.specs.Rule.{weight, claim, unmade, family, total, Books, Knowing, Knows, Slot, Ruled, first_who, opening_knowledge}
 use Rattle.turn_kit.specs.Steps.{looked, drew, counted_out, after_split, newcomer_of, note_of, both_of, nobody, newcomer, at_first, compared, joined_in, closing, IsFresh}
-use Rattle.turn_kit.specs.Places.{ClosedWith}
+use Rattle.turn_kit.specs.TableSeats.{ClosedWith}
 use Rattle.turn_kit.proofs.Lists.{each_moves}
 use Rattle.turn_kit.proofs.Families.{balances}
 use Rattle.turn_kit.proofs.Others.{are_others}

@@ -39,7 +39,7 @@ impl<M: Machine> TableRule<M, Knowledge<M, M::Entry>, Terms<M>> for TurnRule {
 pub type Board<M> = Table<M, Knowledge<M, <M as Machine>::Entry>, Terms<M>, TurnRule, Global>;
 
 /// A seat or a note at the table.
-pub type Place<M> = atomic_table::Seat<M, Knowledge<M, <M as Machine>::Entry>>;
+pub type TableSeat<M> = atomic_table::Seat<M, Knowledge<M, <M as Machine>::Entry>>;
 
 /// The part of the table that threads share.
 pub type Top<M> = atomic_table::Shared<M, Knowledge<M, <M as Machine>::Entry>, Terms<M>, TurnRule>;

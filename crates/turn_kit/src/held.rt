@@ -1,8 +1,8 @@
 //! What the holder of the turn does before it gives the turn back. The machine lies in its slot throughout.
 ghost use Rattle.std.specs.Prelude.{◌≡◌, ℕ, [], ◌∷◌, IfSome, IfNone};
-ghost use Rattle.turn_kit.specs.Places.{IsAt, IsIdle, Owns, IsSamePlace, HasTurn, StepsTo, Answered, Looked, WasSplit, WasFull};
+ghost use Rattle.turn_kit.specs.TableSeats.{IsAt, IsIdle, Owns, IsSameTableSeat, HasTurn, StepsTo, Answered, Looked, WasSplit, WasFull};
 
-use crate::board::{MACHINE, Place, Top};
+use crate::board::{MACHINE, TableSeat, Top};
 use crate::fault::ChangeFault;
 use crate::giving::GiveBack;
 use crate::look::Look;
@@ -19,55 +19,59 @@ const MOST_SEATS: u64 = 4096;
 /// Makes the step on the machine where it lies.
 fn step_in_place<M: Machine, T: Step<M>>(
     top: &Top<M>,
-    place: &mut Place<M>,
+    table_seat: &mut TableSeat<M>,
     step: T,
 ) -> Result<T::Reply, T::Refusal>
-    requires place { place.old.table_id ≡ top.now.table_id }
-    requires hand { (x : M) × (place.old.me.1 ≡ (0, x) ∷ []) }
-    ensures place { IsSamePlace place.old place.new }
-    ensures did { StepsTo M.state M.after (T.entry step) (T.replies step) (T.refuses step) place.old.me place.new.me result }
+    requires table_seat { table_seat.old.table_id ≡ top.now.table_id }
+    requires hand { (x : M) × (table_seat.old.me.1 ≡ (0, x) ∷ []) }
+    ensures table_seat { IsSameTableSeat table_seat.old table_seat.new }
+    ensures did { StepsTo M.state M.after (T.entry step) (T.replies step) (T.refuses step) table_seat.old.me table_seat.new.me result }
 {
-    step.step(place.slot_mut(top, MACHINE))
+    step.step(table_seat.slot_mut(top, MACHINE))
 }
 
 /// Looks at the machine where it lies.
-fn look_in_place<M: Machine, T: Look<M>>(top: &Top<M>, place: &mut Place<M>, look: T) -> T::Answer
-    requires place { place.old.table_id ≡ top.now.table_id }
-    requires hand { (x : M) × (place.old.me.1 ≡ (0, x) ∷ []) }
-    ensures place { IsSamePlace place.old place.new × (place.new.me ≡ place.old.me) }
-    ensures answer { (x : M) × (place.old.me.1 ≡ (0, x) ∷ []) × T.answers look x result }
+fn look_in_place<M: Machine, T: Look<M>>(
+    top: &Top<M>,
+    table_seat: &mut TableSeat<M>,
+    look: T,
+) -> T::Answer
+    requires table_seat { table_seat.old.table_id ≡ top.now.table_id }
+    requires hand { (x : M) × (table_seat.old.me.1 ≡ (0, x) ∷ []) }
+    ensures table_seat { IsSameTableSeat table_seat.old table_seat.new × (table_seat.new.me ≡ table_seat.old.me) }
+    ensures answer { (x : M) × (table_seat.old.me.1 ≡ (0, x) ∷ []) × T.answers look x result }
 {
-    look.look(&*place.slot_mut(top, MACHINE))
+    look.look(&*table_seat.slot_mut(top, MACHINE))
 }
 
 /// Makes the step, where the limit leaves room for one more, and gives the turn back.
 pub(crate) fn change_held<G: GiveBack, M: Machine, T: Step<M>>(
     top: &Top<M>,
-    place: &mut Place<M>,
+    table_seat: &mut TableSeat<M>,
     limit: u64,
     step: T,
 ) -> Result<T::Reply, ChangeFault<T::Refusal>>
-    requires place { IsAt top.now.table_id place.old }
-    requires limit { limit ≡ place.old.me.0.limit }
-    requires turn { HasTurn M.state M.after place.old.me }
-    ensures place { IsSamePlace place.old place.new × IsIdle place.new }
-    ensures own { Owns place.new.me.0 }
-    ensures answer { Answered M.state M.after ⊥ place.old.me.0 place.new.me.0
+    requires table_seat { IsAt top.now.table_id table_seat.old }
+    requires limit { limit ≡ table_seat.old.me.0.limit }
+    requires turn { HasTurn M.state M.after table_seat.old.me }
+    ensures table_seat { IsSameTableSeat table_seat.old table_seat.new × IsIdle table_seat.new }
+    ensures own { Owns table_seat.new.me.0 }
+    ensures answer { Answered M.state M.after ⊥ table_seat.old.me.0 table_seat.new.me.0
         (T.entry step) (T.replies step) (T.refuses step) result }
 {
-    if count(top, place) >= limit {
-        give::<G, _>(top, place);
+    if count(top, table_seat) >= limit {
+        give::<G, _>(top, table_seat);
         return Err(ChangeFault::Exhausted);
     }
     let before = Snapshot::of(&step);
-    match step_in_place(top, place, step) {
+    match step_in_place(top, table_seat, step) {
         Ok(reply) => {
-            commit::<M, T, Brand>(top, place, &before);
-            give::<G, _>(top, place);
+            commit::<M, T, Brand>(top, table_seat, &before);
+            give::<G, _>(top, table_seat);
             Ok(reply)
         }
         Err(refusal) => {
-            give::<G, _>(top, place);
+            give::<G, _>(top, table_seat);
             Err(ChangeFault::Refused(refusal))
         }
     }
@@ -76,42 +80,42 @@ pub(crate) fn change_held<G: GiveBack, M: Machine, T: Step<M>>(
 /// Looks at the machine, and gives the turn back.
 pub(crate) fn look_held<G: GiveBack, M: Machine, T: Look<M>>(
     top: &Top<M>,
-    place: &mut Place<M>,
+    table_seat: &mut TableSeat<M>,
     look: T,
 ) -> T::Answer
-    requires place { IsAt top.now.table_id place.old }
-    requires turn { HasTurn M.state M.after place.old.me }
-    ensures place { IsSamePlace place.old place.new × IsIdle place.new }
-    ensures own { Owns place.new.me.0 }
-    ensures answer { (m : M) × Looked M.state M.after place.old.me.0 place.new.me.0 m × T.answers look m result }
+    requires table_seat { IsAt top.now.table_id table_seat.old }
+    requires turn { HasTurn M.state M.after table_seat.old.me }
+    ensures table_seat { IsSameTableSeat table_seat.old table_seat.new × IsIdle table_seat.new }
+    ensures own { Owns table_seat.new.me.0 }
+    ensures answer { (m : M) × Looked M.state M.after table_seat.old.me.0 table_seat.new.me.0 m × T.answers look m result }
 {
-    count(top, place);
-    let answer = look_in_place(top, place, look);
-    give::<G, _>(top, place);
+    count(top, table_seat);
+    let answer = look_in_place(top, table_seat, look);
+    give::<G, _>(top, table_seat);
     answer
 }
 
 /// Makes a new seat, where the turn has made fewer than it may, and gives the turn back.
 pub(crate) fn split_held<G: GiveBack, M: Machine>(
     top: &Top<M>,
-    place: &mut Place<M>,
-) -> Option<Place<M>>
-    requires place { IsAt top.now.table_id place.old }
-    requires turn { HasTurn M.state M.after place.old.me }
-    requires own { Owns place.old.me.0 }
-    ensures place { IsSamePlace place.old place.new × IsIdle place.new }
-    ensures own { Owns place.new.me.0 }
-    ensures full { IfNone result (WasFull place.old.me.0 place.new.me.0) }
-    ensures new { IfSome result (λ p. p.table_id ≡ place.old.table_id) }
-    ensures split { IfSome result (λ p. (n : ℕ) × WasSplit n place.old.me.0 place.new.me.0 p.me) }
+    table_seat: &mut TableSeat<M>,
+) -> Option<TableSeat<M>>
+    requires table_seat { IsAt top.now.table_id table_seat.old }
+    requires turn { HasTurn M.state M.after table_seat.old.me }
+    requires own { Owns table_seat.old.me.0 }
+    ensures table_seat { IsSameTableSeat table_seat.old table_seat.new × IsIdle table_seat.new }
+    ensures own { Owns table_seat.new.me.0 }
+    ensures full { IfNone result (WasFull table_seat.old.me.0 table_seat.new.me.0) }
+    ensures new { IfSome result (λ p. p.table_id ≡ table_seat.old.table_id) }
+    ensures split { IfSome result (λ p. (n : ℕ) × WasSplit n table_seat.old.me.0 table_seat.new.me.0 p.me) }
 {
-    if seats_made(top, place) >= MOST_SEATS {
-        give::<G, _>(top, place);
+    if seats_made(top, table_seat) >= MOST_SEATS {
+        give::<G, _>(top, table_seat);
         return None;
     }
-    draw(top, place);
-    count_out(top, place);
-    let new = top.split_seat::<Cut>(place);
-    give::<G, _>(top, place);
+    draw(top, table_seat);
+    count_out(top, table_seat);
+    let new = top.split_seat::<Cut>(table_seat);
+    give::<G, _>(top, table_seat);
     Some(new)
 }

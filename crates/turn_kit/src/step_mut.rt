@@ -1,10 +1,10 @@
 //! Changes that are made with a value which the caller keeps.
 ghost use Rattle.std.specs.Prelude.{◌≡◌, [], ◌∷◌, true, Some, IfOk, IfErr, OnOk, OnErr};
-ghost use Rattle.turn_kit.specs.Places.{AllMeet, Answered, Grows, HasRoom, HasTurn, IsAt, IsIdle, IsSamePlace, Owns, StepsTo};
+ghost use Rattle.turn_kit.specs.TableSeats.{AllMeet, Answered, Grows, HasRoom, HasTurn, IsAt, IsIdle, IsSameTableSeat, Owns, StepsTo};
 ghost use Rattle.turn_kit.specs.Public.{IsOf, IsLeft, Enters, Exhausts, Refuses, opening, limit_of};
 ghost use Rattle.turn_kit.specs.Public.{AtBusy, AtExhausted, AtRefused};
 
-use crate::board::{MACHINE, Place, Top};
+use crate::board::{MACHINE, TableSeat, Top};
 use crate::fault::ChangeFault;
 use crate::giving::{GiveBack, Waking};
 use crate::machine::Machine;
@@ -47,49 +47,49 @@ pub trait StepMut<M: Machine> {
 /// Makes the step on the machine where it lies, with the value that is kept.
 fn step_in_place_mut<M: Machine, T: StepMut<M>>(
     top: &Top<M>,
-    place: &mut Place<M>,
+    table_seat: &mut TableSeat<M>,
     step: &mut T,
 ) -> Result<T::Reply, T::Refusal>
-    requires place { place.old.table_id ≡ top.now.table_id }
-    requires hand { (x : M) × (place.old.me.1 ≡ (0, x) ∷ []) × T.needs step.old x }
-    ensures place { IsSamePlace place.old place.new }
+    requires table_seat { table_seat.old.table_id ≡ top.now.table_id }
+    requires hand { (x : M) × (table_seat.old.me.1 ≡ (0, x) ∷ []) × T.needs step.old x }
+    ensures table_seat { IsSameTableSeat table_seat.old table_seat.new }
     ensures did { StepsTo M.state M.after (T.entry step.old) (λ m r. T.replies step.old m r step.new) (T.refuses step.old)
-        place.old.me place.new.me result }
+        table_seat.old.me table_seat.new.me result }
     ensures kept { OnErr result (step.new ≡ step.old) }
 {
-    step.step_mut(place.slot_mut(top, MACHINE))
+    step.step_mut(table_seat.slot_mut(top, MACHINE))
 }
 
 /// Makes the step with the value that is kept, where the limit leaves room for one more, and gives the turn back.
 fn change_held_mut<G: GiveBack, M: Machine, T: StepMut<M>>(
     top: &Top<M>,
-    place: &mut Place<M>,
+    table_seat: &mut TableSeat<M>,
     limit: u64,
     step: &mut T,
 ) -> Result<T::Reply, ChangeFault<T::Refusal>>
-    requires place { IsAt top.now.table_id place.old }
-    requires limit { limit ≡ place.old.me.0.limit }
-    requires turn { HasTurn M.state M.after place.old.me }
-    requires met { (start : M) → place.old.me.0.start ≡ Some start → AllMeet M.state M.after start (T.needs step.old) }
-    ensures place { IsSamePlace place.old place.new × IsIdle place.new }
-    ensures own { Owns place.new.me.0 }
-    ensures answer { Answered M.state M.after ⊥ place.old.me.0 place.new.me.0
+    requires table_seat { IsAt top.now.table_id table_seat.old }
+    requires limit { limit ≡ table_seat.old.me.0.limit }
+    requires turn { HasTurn M.state M.after table_seat.old.me }
+    requires met { (start : M) → table_seat.old.me.0.start ≡ Some start → AllMeet M.state M.after start (T.needs step.old) }
+    ensures table_seat { IsSameTableSeat table_seat.old table_seat.new × IsIdle table_seat.new }
+    ensures own { Owns table_seat.new.me.0 }
+    ensures answer { Answered M.state M.after ⊥ table_seat.old.me.0 table_seat.new.me.0
         (T.entry step.old) (λ m r. T.replies step.old m r step.new) (T.refuses step.old) result }
     ensures kept { OnErr result (step.new ≡ step.old) }
 {
-    if count(top, place) >= limit {
-        give::<G, _>(top, place);
+    if count(top, table_seat) >= limit {
+        give::<G, _>(top, table_seat);
         return Err(ChangeFault::Exhausted);
     }
     let before = Snapshot::of(&*step);
-    match step_in_place_mut(top, place, step) {
+    match step_in_place_mut(top, table_seat, step) {
         Ok(reply) => {
-            commit::<M, T, Brand>(top, place, &before);
-            give::<G, _>(top, place);
+            commit::<M, T, Brand>(top, table_seat, &before);
+            give::<G, _>(top, table_seat);
             Ok(reply)
         }
         Err(refusal) => {
-            give::<G, _>(top, place);
+            give::<G, _>(top, table_seat);
             Err(ChangeFault::Refused(refusal))
         }
     }
@@ -118,10 +118,10 @@ impl<M: Machine, G: GiveBack> Turn<M, G> {
             (limit_of self.now) (λ m. T.refuses step.old m r) seat.old seat.new)) }
     {
         let top = &self.board.shared;
-        if !ask(top, &mut seat.place) {
+        if !ask(top, &mut seat.table_seat) {
             return Err(ChangeFault::Busy);
         }
-        change_held_mut::<G, _, _>(top, &mut seat.place, self.limit, step)
+        change_held_mut::<G, _, _>(top, &mut seat.table_seat, self.limit, step)
     }
 }
 
@@ -149,7 +149,7 @@ impl<M: Machine> Turn<M> {
             (limit_of self.now) (λ m. T.refuses step.old m r) seat.old seat.new)) }
     {
         let top = &self.board.shared;
-        ask_until(rt, top, &mut seat.place);
-        change_held_mut::<Waking, _, _>(top, &mut seat.place, self.limit, step)
+        ask_until(rt, top, &mut seat.table_seat);
+        change_held_mut::<Waking, _, _>(top, &mut seat.table_seat, self.limit, step)
     }
 }

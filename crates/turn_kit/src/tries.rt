@@ -35,10 +35,10 @@ impl<M: Machine, G: GiveBack> Turn<M, G> {
             (limit_of self.now) (λ m. T.refuses step m r) seat.old seat.new)) }
     {
         let top = &self.board.shared;
-        if !ask(top, &mut seat.place) {
+        if !ask(top, &mut seat.table_seat) {
             return Err(ChangeFault::Busy);
         }
-        change_held::<G, _, _>(top, &mut seat.place, self.limit, step)
+        change_held::<G, _, _>(top, &mut seat.table_seat, self.limit, step)
     }
 
     /// Asks for the turn once, and looks at the machine where it is had. A look is not counted.
@@ -52,10 +52,10 @@ impl<M: Machine, G: GiveBack> Turn<M, G> {
         ensures busy { OnErr result (IsLeft seat.old seat.new) }
     {
         let top = &self.board.shared;
-        if !ask(top, &mut seat.place) {
+        if !ask(top, &mut seat.table_seat) {
             return Err(Busy);
         }
-        Ok(look_held::<G, _, _>(top, &mut seat.place, look))
+        Ok(look_held::<G, _, _>(top, &mut seat.table_seat, look))
     }
 
     /// Asks for the turn once, and splits off a new seat where it is had. The new seat has seen what this one has.
@@ -70,11 +70,11 @@ impl<M: Machine, G: GiveBack> Turn<M, G> {
         ensures seats_full { IfErr result (AtSeatsFull (IsFull seat.old seat.new)) }
     {
         let top = &self.board.shared;
-        if !ask(top, &mut seat.place) {
+        if !ask(top, &mut seat.table_seat) {
             return Err(SplitFault::Busy);
         }
-        match split_held::<G, _>(top, &mut seat.place) {
-            Some(place) => Ok(Seat { place }),
+        match split_held::<G, _>(top, &mut seat.table_seat) {
+            Some(table_seat) => Ok(Seat { table_seat }),
             None => Err(SplitFault::SeatsFull),
         }
     }

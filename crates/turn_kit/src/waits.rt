@@ -1,10 +1,10 @@
 //! The calls that ask for the turn until they have it.
 ghost use Rattle.std.specs.Prelude.{IfOk, IfErr};
-ghost use Rattle.turn_kit.specs.Places.{IsAt, IsIdle, IsSamePlace, Takes};
+ghost use Rattle.turn_kit.specs.TableSeats.{IsAt, IsIdle, IsSameTableSeat, Takes};
 ghost use Rattle.turn_kit.specs.Public.{IsOf, Enters, Looks, Splits, IsFull, Exhausts, Refuses, opening, limit_of};
 ghost use Rattle.turn_kit.specs.Public.{AtBusy, AtExhausted, AtRefused, AtSplitBusy, AtSeatsFull};
 
-use crate::board::{Place, TURN, Top};
+use crate::board::{TURN, TableSeat, Top};
 use crate::fault::{ChangeFault, SplitFault};
 use crate::giving::Waking;
 use crate::held::{change_held, look_held, split_held};
@@ -24,20 +24,20 @@ const ASKS: u32 = 100;
 ///
 /// A turn is mostly held for less than it takes to fall asleep and wake, so a thread asks some times first and
 /// gives way each time, that the holder may run. Then it sleeps until the turn is given back.
-pub(crate) fn ask_until<M: Machine, R: Wait>(rt: &R, top: &Top<M>, place: &mut Place<M>)
-    requires place { IsAt top.now.table_id place.old }
-    requires idle { IsIdle place.old }
-    ensures place { IsSamePlace place.old place.new }
-    ensures turn { Takes M.state M.after place.old.me place.new.me }
+pub(crate) fn ask_until<M: Machine, R: Wait>(rt: &R, top: &Top<M>, table_seat: &mut TableSeat<M>)
+    requires table_seat { IsAt top.now.table_id table_seat.old }
+    requires idle { IsIdle table_seat.old }
+    ensures table_seat { IsSameTableSeat table_seat.old table_seat.new }
+    ensures turn { Takes M.state M.after table_seat.old.me table_seat.new.me }
 {
     for _ in 0..ASKS {
-        if ask(top, place) {
+        if ask(top, table_seat) {
             return;
         }
         thread::yield_now();
     }
     for _ in rt.forever() {
-        if ask_and_await(top, place) {
+        if ask_and_await(top, table_seat) {
             return;
         }
         top.park(rt, TURN, AWAITED);
@@ -67,8 +67,8 @@ impl<M: Machine> Turn<M> {
             (limit_of self.now) (λ m. T.refuses step m r) seat.old seat.new)) }
     {
         let top = &self.board.shared;
-        ask_until(rt, top, &mut seat.place);
-        change_held::<Waking, _, _>(top, &mut seat.place, self.limit, step)
+        ask_until(rt, top, &mut seat.table_seat);
+        change_held::<Waking, _, _>(top, &mut seat.table_seat, self.limit, step)
     }
 
     /// Asks for the turn until it is had, and then looks at the machine.
@@ -78,8 +78,8 @@ impl<M: Machine> Turn<M> {
         ensures value { Looks M.state M.after (opening self.now) (λ m. T.answers look m result) seat.old seat.new }
     {
         let top = &self.board.shared;
-        ask_until(rt, top, &mut seat.place);
-        look_held::<Waking, _, _>(top, &mut seat.place, look)
+        ask_until(rt, top, &mut seat.table_seat);
+        look_held::<Waking, _, _>(top, &mut seat.table_seat, look)
     }
 
     /// Asks for the turn until it is had, and then splits off a new seat.
@@ -94,9 +94,9 @@ impl<M: Machine> Turn<M> {
         ensures seats_full { IfErr result (AtSeatsFull (IsFull seat.old seat.new)) }
     {
         let top = &self.board.shared;
-        ask_until(rt, top, &mut seat.place);
-        match split_held::<Waking, _>(top, &mut seat.place) {
-            Some(place) => Ok(Seat { place }),
+        ask_until(rt, top, &mut seat.table_seat);
+        match split_held::<Waking, _>(top, &mut seat.table_seat) {
+            Some(table_seat) => Ok(Seat { table_seat }),
             None => Err(SplitFault::SeatsFull),
         }
     }

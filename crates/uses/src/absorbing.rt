@@ -4,7 +4,7 @@ ghost use Rattle.agg_kit.specs.Entries.{entry_of};
 ghost use Rattle.agg_kit.specs.Recorders.{empty_recorder, recorder_after};
 ghost use Rattle.turn_kit.specs.Public.{AtBusy};
 ghost use Rattle.writer_kit.specs.Absorbing.{with_recordings};
-ghost use Rattle.writer_kit.specs.Recording.{recorded};
+ghost use Rattle.writer_kit.specs.Recording.{after_record};
 ghost use Rattle.writer_kit.specs.Shared.{IsAt, Adds, first_of};
 ghost use Rattle.writer_kit.specs.declared.shared.change.WriterChange.TheVariants.{Absorbed};
 
@@ -26,7 +26,7 @@ pub fn record_apart(
     requires { recorder.old.plan ≡ writer.old.tally.plan }
     ensures value { IfOk result (λ apart. MatchBool apart
         ((recorder.new ≡ recorder_after recorder.old (entry_of instrument attrs.now value)) × (writer.new ≡ writer.old))
-        ((writer.new ≡ recorded (with_recordings writer.old recorder.old) (entry_of instrument attrs.now value))
+        ((writer.new ≡ after_record (with_recordings writer.old recorder.old) (entry_of instrument attrs.now value))
         × (recorder.new ≡ empty_recorder recorder.old.plan))) }
     ensures plan { recorder.new.plan ≡ writer.new.tally.plan }
 {

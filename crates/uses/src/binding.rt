@@ -4,7 +4,7 @@ ghost use Rattle.agg_kit.specs.BoundPoints.{entry_at};
 ghost use Rattle.agg_kit.specs.Entries.{entry_of};
 ghost use Rattle.agg_kit.specs.Measuring.{after_measure};
 ghost use Rattle.writer_kit.specs.BoundPoints.{IsAtHome};
-ghost use Rattle.writer_kit.specs.Recording.{recorded};
+ghost use Rattle.writer_kit.specs.Recording.{after_record};
 
 use agg_kit::{Bound, Tally, TallyFault};
 use attr_kit::AttrSet;
@@ -17,7 +17,7 @@ pub fn record_bound(
     value: i64,
 ) -> Result<(), BoundFault>
     requires { IsAtHome writer.old point.old }
-    ensures value { OnOk result (writer.new ≡ recorded writer.old (entry_at point.old.point value)) }
+    ensures value { OnOk result (writer.new ≡ after_record writer.old (entry_at point.old.point value)) }
     ensures fresh { IfErr result (λ fault. fault ≢ BoundFault.Stale) }
     ensures unchanged { OnErr result (writer.new ≡ writer.old) }
     ensures home { IsAtHome writer.new point.new }

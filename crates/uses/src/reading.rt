@@ -4,7 +4,7 @@ ghost use Rattle.std.specs.Borrow.{Bor};
 ghost use Rattle.std.specs.FinMap.{entries};
 ghost use Rattle.std.specs.Map.{values_of};
 ghost use Rattle.attr_kit.specs.declared.attr_value.AttrValue.TheVariants as values;
-ghost use Rattle.gateway_kit.specs.Walks.{entry_of_ref};
+ghost use Rattle.gateway_kit.specs.Walks.{keyed_cell_of_ref};
 ghost use Rattle.plan_kit.specs.Plans.{feeds_of};
 ghost use Rattle.plan_kit.specs.declared.feed.Feed.{Feed};
 ghost use Rattle.std.specs.declared.cmp.Ordering.TheVariants as orders;
@@ -102,7 +102,7 @@ pub fn only_text<'s>(set: &'s RoundSet<'_>) -> Option<&'s str>
 /// The first point of a gateway, in the order of keys; none where the gateway holds nothing.
 pub fn first_point(gateway: &Gateway) -> Option<PointRef<'_>>
     ensures nothing { result ≡ None → entries gateway.now.points ≡ [] }
-    ensures first { IfSome result (λ point. (rest : List _) × (entries gateway.now.points ≡ entry_of_ref point ∷ rest)) }
+    ensures first { IfSome result (λ point. (rest : List _) × (entries gateway.now.points ≡ keyed_cell_of_ref point ∷ rest)) }
 {
     let mut points: Points<'_> = gateway.points();
     points.next()

@@ -4,7 +4,7 @@ ghost use Rattle.agg_kit.specs.Entries.{entry_of};
 ghost use Rattle.gossip_kit.specs.Gossip.{hand_fault};
 ghost use Rattle.gossip_kit.specs.declared.fault.HandFault.TheVariants as hands;
 ghost use Rattle.plan_kit.specs.PlanFaults.{plan_fault};
-ghost use Rattle.writer_kit.specs.Recording.{recorded, round_now};
+ghost use Rattle.writer_kit.specs.Recording.{after_record, round_now};
 
 use attr_kit::{AttrSet, NoMemory, Seq};
 use bumpalo::Bump;
@@ -38,7 +38,7 @@ pub fn record_if_allowed(
     value: i64,
 ) -> Result<bool, MeasureFault>
     ensures value { IfOk result (λ done. MatchBool done
-        (writer.new ≡ recorded writer.old (entry_of instrument attrs.now value)) (writer.new ≡ writer.old)) }
+        (writer.new ≡ after_record writer.old (entry_of instrument attrs.now value)) (writer.new ≡ writer.old)) }
     ensures unchanged { OnErr result (writer.new ≡ writer.old) }
 {
     match writer.measure(instrument, attrs, value) {

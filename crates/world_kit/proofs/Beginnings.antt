@@ -11,7 +11,7 @@ use Rattle.attr_kit.specs.Refusing.{first}
 use Rattle.agg_kit.specs.Rounds.{StandsFor}
 use Rattle.gateway_kit.proofs.Entries.{not_None}
 use Rattle.gossip_kit.specs.Gossip.{last_number}
-use Rattle.gossip_kit.specs.Views.{NodeView}
+use Rattle.gossip_kit.specs.Views.{NodeModel}
 use Rattle.plan_kit.specs.Plans.{AreApart as AreStreamsApart}
 use Rattle.schedule_kit.specs.Deeds.Holder.{AtGateway}
 use Rattle.world_kit.specs.Building.{AreStarted, fresh, same_gateway, same_gateway_from, setup_fault}
@@ -55,7 +55,7 @@ started_plans (s ∷ ss) [] h i = absurd h
 started_plans (s ∷ ss) (x ∷ ws) h zero = h.1
 started_plans (s ∷ ss) (x ∷ ws) h (suc i) = started_plans ss ws h.2 i
 
-fresh_at : (ids : List ℕ) (g : ℕ) (n : NodeView) → slice_get (map fresh ids) g ≡ Some n → n ≡ fresh (slice_index ids g)
+fresh_at : (ids : List ℕ) (g : ℕ) (n : NodeModel) → slice_get (map fresh ids) g ≡ Some n → n ≡ fresh (slice_index ids g)
 fresh_at [] g n e = cc
 fresh_at (id ∷ ids) zero n e = let same : fresh id ≡ n = cc e in sym same
 fresh_at (id ∷ ids) (suc g) n e = fresh_at ids g n e
@@ -118,14 +118,14 @@ begins s w none started nodes exports mails = record {
   writers = record { count = started_length s.writers w.writers started; each = started_at s.writers w.writers started };
   nodes = record {
     count = ap length nodes ∙ fresh_length s.gateways;
-    id = λ g n e. ap (λ (x : NodeView). x.gateway.id) (fresh_at s.gateways g n (sym (ap (λ l. slice_get l g) nodes) ∙ e));
-    points = λ g n e. ap (λ (x : NodeView). x.gateway.points) (fresh_at s.gateways g n (sym (ap (λ l. slice_get l g) nodes) ∙ e)) ∙ sym (nothing_taken s g);
+    id = λ g n e. ap (λ (x : NodeModel). x.gateway.id) (fresh_at s.gateways g n (sym (ap (λ l. slice_get l g) nodes) ∙ e));
+    points = λ g n e. ap (λ (x : NodeModel). x.gateway.points) (fresh_at s.gateways g n (sym (ap (λ l. slice_get l g) nodes) ∙ e)) ∙ sym (nothing_taken s g);
   };
   exports = record { count = ap length exports; each = λ k e at. absurd (nothing_at w.exports exports k e at) };
   mails = record { count = ap length mails; each = λ k m at. absurd (nothing_at w.mails mails k m at) };
   gossip = record {
-    change = λ g n e. ap (λ (x : NodeView). x.change) (fresh_at s.gateways g n (sym (ap (λ l. slice_get l g) nodes) ∙ e)) ∙ no_events s g;
-    books = λ g h k n e there acked. absurd (not_None (sym (ap (λ (x : NodeView). get x.acked (slice_index s.gateways h)) (fresh_at s.gateways g n (sym (ap (λ l. slice_get l g) nodes) ∙ e)) ∙ get-empty nat_cmp (slice_index s.gateways h)) ∙ acked));
+    change = λ g n e. ap (λ (x : NodeModel). x.change) (fresh_at s.gateways g n (sym (ap (λ l. slice_get l g) nodes) ∙ e)) ∙ no_events s g;
+    books = λ g h k n e there acked. absurd (not_None (sym (ap (λ (x : NodeModel). get x.acked (slice_index s.gateways h)) (fresh_at s.gateways g n (sym (ap (λ l. slice_get l g) nodes) ∙ e)) ∙ get-empty nat_cmp (slice_index s.gateways h)) ∙ acked));
     mails = λ k m mail at known. absurd (nothing_at w.mails mails k m at);
   };
 }

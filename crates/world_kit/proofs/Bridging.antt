@@ -3,7 +3,7 @@ use Rattle.std.proofs.Common.{◌≡◌, ℕ, ◌<◌, List, [], ◌∷◌, ◌+
 use Rattle.std.specs.FinMap.{get}
 use Rattle.std.specs.List.{flat_map}
 use Rattle.std.proofs.lemmas.List.{length-map}
-use Rattle.gossip_kit.specs.Views.{NodeView}
+use Rattle.gossip_kit.specs.Views.{NodeModel}
 use Rattle.point_kit.specs.declared.key.Key.{Key}
 use Rattle.point_kit.specs.Equality.{payload_eq}
 use Rattle.point_kit.specs.Orders.{key_cmp}
@@ -33,7 +33,7 @@ state_named : (s : Setup) → ArePlans s → (ds : Deeds) (h : Holder) → state
 unfolding state_at
 state_named s plans ds h = ap (state_of key_cmp payload_eq) (flat_same (made_points s) (points (rounding s)) (made_named (writers_of s) plans) (taken_collections (starts_of s) ds h))
 
-module _ (s : Setup) (ds : Deeds) (w : WorldState) (st : Stands s ds w) (told : IsTold (λ v. (writer_at s v).id) (starts_of s)) (g : ℕ) (n : NodeView) (at_g : slice_get w.nodes g ≡ Some n) where
+module _ (s : Setup) (ds : Deeds) (w : WorldState) (st : Stands s ds w) (told : IsTold (λ v. (writer_at s v).id) (starts_of s)) (g : ℕ) (n : NodeModel) (at_g : slice_get w.nodes g ≡ Some n) where
   pub its : n.gateway.points ≡ state (rounding s) (taken_collections (starts_of s) ds (AtGateway g))
   its = st.nodes.points g n at_g ∙ state_named s st.plans ds (AtGateway g)
 

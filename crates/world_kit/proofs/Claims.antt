@@ -14,7 +14,7 @@ use Rattle.std.specs.Ordering.{eq_by_cmp, nat_cmp}
 use Rattle.std.specs.Option.{option_map_or, unwrap_or}
 use Rattle.agg_kit.specs.Entries.{Entry}
 use Rattle.gossip_kit.specs.Gossip.{Brings, CarriesHeld, Renumbers, acked_after, acknowledged, delta_to, raised_to, last_number, next_number, number_of, numbered_to}
-use Rattle.gossip_kit.specs.Views.{MessageView, NodeView}
+use Rattle.gossip_kit.specs.Views.{MessageModel, NodeModel}
 use Rattle.gossip_kit.proofs.Carrying.{brings_held, carried_below, nothing_below}
 use Rattle.gossip_kit.proofs.Changes.{renumbers_nothing}
 use Rattle.gossip_kit.proofs.Sending.{retained, chosen as chosen_cell}
@@ -80,7 +80,7 @@ brings_more r q c t above brings =
     wide c ∙ ap (join_points q) brings ∙ sym (wide t)
 
 -- of a node whose change is counted, the number of a key that changes is above all that are claimed
-raised_above : (old new : NodeView) (n : ℕ) → Renumbers old new → n ≤ old.change → n < last_number → new.gateway.points ≢ old.gateway.points → n < new.change
+raised_above : (old new : NodeModel) (n : ℕ) → Renumbers old new → n ≤ old.change → n < last_number → new.gateway.points ≢ old.gateway.points → n < new.change
 raised_above old new n moves past small differs = let r : new.change ≡ next_number old.change = moves.raised differs in omega arith
 
 not_up_to : (n m : ℕ) → n < m → nat_le m n ≡ false
@@ -90,14 +90,14 @@ not_up_to n m h = elim (leb_tells m n) [
 ]
 
 -- the cells under old numbers get fewer
-sinks : (old new : NodeView) (n : ℕ) → Renumbers old new → n ≤ old.change → n < last_number → IsAtOrBelow join_points (numbered_to new n) (numbered_to old n)
+sinks : (old new : NodeModel) (n : ℕ) → Renumbers old new → n ≤ old.change → n < last_number → IsAtOrBelow join_points (numbered_to new n) (numbered_to old n)
 sinks old new n moves past small = same_map key_total key_exact _ _ (λ k.
     let a = get (numbered_to new n) k in
     let b = get (numbered_to old n) k in
     get-join_maps key_total key_exact (join_cells payload_eq) (numbered_to new n) (numbered_to old n) k
     ∙ at_key k (alike (get new.gateway.points k) (get old.gateway.points k)))
   where
-    has : (node : NodeView) (k : Key) → get (numbered_to node n) k ≡ cond (nat_le (number_of node k) n) (get node.gateway.points k) None
+    has : (node : NodeModel) (k : Key) → get (numbered_to node n) k ≡ cond (nat_le (number_of node k) n) (get node.gateway.points k) None
     has node k = retained node.gateway.points (λ x. nat_le (number_of node x) n) k
 
     at_key : (k : Key) → (get new.gateway.points k ≡ get old.gateway.points k) ⊎ (get new.gateway.points k ≢ get old.gateway.points k) → J (get (numbered_to new n) k) (get (numbered_to old n) k) ≡ get (numbered_to old n) k
@@ -109,12 +109,12 @@ sinks old new n moves past small = same_map key_total key_exact _ _ (λ k.
         let none : get (numbered_to new n) k ≡ None = has new k ∙ ap (λ b. cond b (get new.gateway.points k) None) (not_up_to n (number_of new k) above) in
         ap (λ x. J x (get (numbered_to old n) k)) none
 
-counted_on : (old new : NodeView) (n : ℕ) → Renumbers old new → n ≤ old.change → n < last_number → (new.gateway.points ≡ old.gateway.points) ⊎ (new.gateway.points ≢ old.gateway.points) → n ≤ new.change
+counted_on : (old new : NodeModel) (n : ℕ) → Renumbers old new → n ≤ old.change → n < last_number → (new.gateway.points ≡ old.gateway.points) ⊎ (new.gateway.points ≢ old.gateway.points) → n ≤ new.change
 counted_on old new n moves past small (inl same) = let e : new.change ≡ old.change = moves.same same in omega arith
 counted_on old new n moves past small (inr differs) = let h : n < new.change = raised_above old new n moves past small differs in omega arith
 
 -- so a claim stays true as its node changes and its points grow
-pub claim_moves : (old new : NodeView) (p q : Points) (n : ℕ) → Renumbers old new → IsAtOrBelow join_points p q → IsClaimed old p n → IsClaimed new q n
+pub claim_moves : (old new : NodeModel) (p q : Points) (n : ℕ) → Renumbers old new → IsAtOrBelow join_points p q → IsClaimed old p n → IsClaimed new q n
 claim_moves old new p q n moves grows is = record {
   covers = below_trans (numbered_to new n) (numbered_to old n) q (sinks old new n moves is.past is.small) (below_trans (numbered_to old n) p q is.covers grows);
   past = counted_on old new n moves is.past is.small (alike_points new.gateway.points old.gateway.points);
@@ -122,16 +122,16 @@ claim_moves old new p q n moves grows is = record {
 }
 
 -- one event leads a node of gateway g to one that has its state
-pub record Moves (s : Setup) (ds : Deeds) (old new : NodeView) : Type 0 where
+pub record Moves (s : Setup) (ds : Deeds) (old new : NodeModel) : Type 0 where
   pub renumbers : Renumbers old new
   pub books : (h k : ℕ) → h < gateways_of s → get new.acked (slice_index s.gateways h) ≡ Some k → (get old.acked (slice_index s.gateways h) ≡ Some k) ⊎ IsClaimed old (state_at s ds (AtGateway h)) k
 
 -- a node that stays
-pub rests : (s : Setup) (ds : Deeds) (node : NodeView) → Moves s ds node node
+pub rests : (s : Setup) (ds : Deeds) (node : NodeModel) → Moves s ds node node
 rests s ds node = record { renumbers = renumbers_nothing node node refl refl refl; books = λ h k there is. inl is }
 
 -- nobody acknowledged anything by it
-pub moves_on : (s : Setup) (ds : Deeds) (old new : NodeView) → Renumbers old new → new.acked ≡ old.acked → Moves s ds old new
+pub moves_on : (s : Setup) (ds : Deeds) (old new : NodeModel) → Renumbers old new → new.acked ≡ old.acked → Moves s ds old new
 moves_on s ds old new renumbers same = record { renumbers = renumbers; books = λ h k there is. inl (ap (λ m. get m (slice_index s.gateways h)) (sym same) ∙ is) }
 
 module _ (s : Setup) (ds : Deeds) (d : Deed Entry) where
@@ -155,7 +155,7 @@ module _ (s : Setup) (ds : Deeds) (d : Deed Entry) where
       go zero e = absurd (differs (sym (unchanged_points (before g) (now g) e)))
       go (suc n) e = ap (λ b. if b then changed_events s ds g + 1 else changed_events s ds g) (lt-ltb 0 (changes_at s ds d g) (omega (arith, e)))
 
-  counted : (g : ℕ) (old new : NodeView) → Renumbers old new → old.gateway.points ≡ before g → new.gateway.points ≡ now g → old.change ≡ min (changed_events s ds g) last_number
+  counted : (g : ℕ) (old new : NodeModel) → Renumbers old new → old.gateway.points ≡ before g → new.gateway.points ≡ now g → old.change ≡ min (changed_events s ds g) last_number
       → (new.gateway.points ≡ old.gateway.points) ⊎ (new.gateway.points ≢ old.gateway.points) → new.change ≡ min (changed_events s (d ∷ ds) g) last_number
   counted g old new moves was is count (inl same) =
       moves.same same ∙ count ∙ ap (λ n. min n last_number) (sym (events_same g (sym is ∙ same ∙ was)))
@@ -165,12 +165,12 @@ module _ (s : Setup) (ds : Deeds) (d : Deed Entry) where
       omega (arith, r, m, count)
 
   -- what mails and books claim stays true after one more event, in which no mail is made
-  pub gossip_moves : (ns new : List NodeView) (ms : List MessageView) → NodesStand s ds ns → NodesStand s (d ∷ ds) new → length ms ≡ mails ds
+  pub gossip_moves : (ns new : List NodeModel) (ms : List MessageModel) → NodesStand s ds ns → NodesStand s (d ∷ ds) new → length ms ≡ mails ds
       → ((g : ℕ) → IsAtOrBelow join_points (before g) (now g))
       → ((n : ℕ) → n ≤ mails ds → state_at s (d ∷ ds) (InMail n) ≡ state_at s ds (InMail n))
       → ((n : ℕ) → n ≤ mails ds → mail_of (d ∷ ds) n ≡ mail_of ds n)
       → ((n : ℕ) → n ≤ mails ds → answers s (d ∷ ds) n ≡ answers s ds n)
-      → ((g : ℕ) (is : NodeView) → slice_get new g ≡ Some is → (was : NodeView) × (slice_get ns g ≡ Some was) × Moves s ds was is)
+      → ((g : ℕ) (is : NodeModel) → slice_get new g ≡ Some is → (was : NodeModel) × (slice_get ns g ≡ Some was) × Moves s ds was is)
       → GossipStands s ds ns ms → GossipStands s (d ∷ ds) new ms
   gossip_moves ns new ms nodes news count grows mail_state mail_same answer_same each st = record {
     change = λ g is at.
@@ -200,7 +200,7 @@ module _ (s : Setup) (ds : Deeds) (d : Deed Entry) where
   }
 
   -- an event that touches no gateway and no mail
-  pub gossip_rests : (ns : List NodeView) (ms : List MessageView) → NodesStand s ds ns → MailsStand s ds ms → ((h : Holder) → state_at s (d ∷ ds) h ≡ state_at s ds h)
+  pub gossip_rests : (ns : List NodeModel) (ms : List MessageModel) → NodesStand s ds ns → MailsStand s ds ms → ((h : Holder) → state_at s (d ∷ ds) h ≡ state_at s ds h)
       → ((n : ℕ) → mail_of (d ∷ ds) n ≡ mail_of ds n) → ((n : ℕ) → answers s (d ∷ ds) n ≡ answers s ds n) → GossipStands s ds ns ms → GossipStands s (d ∷ ds) ns ms
   gossip_rests ns ms nodes mails same mail_same answer_same st =
       gossip_moves ns ns ms nodes (record { count = nodes.count; id = nodes.id; points = λ g n e. nodes.points g n e ∙ sym (same (AtGateway g)) }) mails.count
@@ -208,7 +208,7 @@ module _ (s : Setup) (ds : Deeds) (d : Deed Entry) where
       (λ n low. same (InMail n)) (λ n low. mail_same n) (λ n low. answer_same n) (λ g is at. (is, at, rests s ds is)) st
 
 -- one more mail
-pub gossip_more : (s : Setup) (ds : Deeds) (ns : List NodeView) (ms : List MessageView) (m : MessageView) (mail : Mail) → mail_of ds (length ms + 1) ≡ Some mail → MailClaims s ds ns (length ms + 1) mail m → GossipStands s ds ns ms → GossipStands s ds ns (ms ++ m ∷ [])
+pub gossip_more : (s : Setup) (ds : Deeds) (ns : List NodeModel) (ms : List MessageModel) (m : MessageModel) (mail : Mail) → mail_of ds (length ms + 1) ≡ Some mail → MailClaims s ds ns (length ms + 1) mail m → GossipStands s ds ns ms → GossipStands s ds ns (ms ++ m ∷ [])
 gossip_more s ds ns ms m mail known its st = record {
   change = st.change;
   books = st.books;
@@ -216,7 +216,7 @@ gossip_more s ds ns ms m mail known its st = record {
     | inl last ↦
         let number : k + 1 ≡ length ms + 1 = ap (λ n. n + 1) last.0 in
         let same : mail ≡ found = same_Some (sym known ∙ ap (mail_of ds) (sym number) ∙ is) in
-        subst (λ (n : ℕ). MailClaims s ds ns n found x) (sym number) (subst (λ (y : MessageView). MailClaims s ds ns (length ms + 1) found y) (sym last.1) (subst (λ (y : Mail). MailClaims s ds ns (length ms + 1) y m) same its))
+        subst (λ (n : ℕ). MailClaims s ds ns n found x) (sym number) (subst (λ (y : MessageModel). MailClaims s ds ns (length ms + 1) found y) (sym last.1) (subst (λ (y : Mail). MailClaims s ds ns (length ms + 1) y m) same its))
     | inr old ↦ st.mails k x found old is
   ];
 }
@@ -247,7 +247,7 @@ module _ (s : Setup) (ds : Deeds) where
   answers_sent_new from to = rw (eq-eqb (mails ds + 1) (mails ds + 1) refl) refl
 
 -- a delta asks for its sender's number, where that is not the last
-pub delta_is : (node : NodeView) (k : ℕ) → delta_to node ≡ Some k → (k ≡ node.change) × (node.change < last_number)
+pub delta_is : (node : NodeModel) (k : ℕ) → delta_to node ≡ Some k → (k ≡ node.change) × (node.change < last_number)
 unfolding delta_to
 delta_is node k is = go (nat_lt node.change last_number) refl is
   where
@@ -255,7 +255,7 @@ delta_is node k is = go (nat_lt node.change last_number) refl is
     go true e same = (sym (same_Some same), ltb-true node.change last_number e)
     go false e same = absurd (not_None same)
 
-pub asks_for : (node : NodeView) (events : ℕ) → node.change ≡ min events last_number → nat_lt events last_number ≡ is_some (delta_to node)
+pub asks_for : (node : NodeModel) (events : ℕ) → node.change ≡ min events last_number → nat_lt events last_number ≡ is_some (delta_to node)
 unfolding delta_to
 asks_for node events count = go (nat_lt events last_number) refl
   where
@@ -268,11 +268,11 @@ asks_for node events count = go (nat_lt events last_number) refl
     go false e = let high : last_number ≤ events = ltb-false events last_number e in e ∙ sym (le-ltb node.change last_number (omega (arith, high, count))) ∙ sym (some (nat_lt node.change last_number))
 
 -- the cells up to a number are held
-pub numbered_held : (node : NodeView) (n : ℕ) → IsAtOrBelow join_points (numbered_to node n) node.gateway.points
+pub numbered_held : (node : NodeModel) (n : ℕ) → IsAtOrBelow join_points (numbered_to node n) node.gateway.points
 numbered_held node n = carried_below (numbered_to node n) node.gateway.points (λ k c is. chosen_cell (nat_le (number_of node k) n) (get node.gateway.points k) c (sym (retained node.gateway.points (λ x. nat_le (number_of node x) n) k) ∙ is))
 
 -- what a peer acknowledged is below what it has
-pub acknowledged_below : (node : NodeView) (to : ℕ) (p : Points) → ((k : ℕ) → get node.acked to ≡ Some k → IsAtOrBelow join_points (numbered_to node k) p) → IsAtOrBelow join_points (acknowledged node to) p
+pub acknowledged_below : (node : NodeModel) (to : ℕ) (p : Points) → ((k : ℕ) → get node.acked to ≡ Some k → IsAtOrBelow join_points (numbered_to node k) p) → IsAtOrBelow join_points (acknowledged node to) p
 acknowledged_below node to p has = go (get node.acked to) refl
   where
     go : (o : Option ℕ) → get node.acked to ≡ o → IsAtOrBelow join_points (option_map_or (numbered_to node) (get node.acked to) empty) p
@@ -309,15 +309,15 @@ grows_by true p q r is = subst (λ (x : Points). IsAtOrBelow join_points p x) (s
 grows_by false p q r is = subst (λ (x : Points). IsAtOrBelow join_points p x) (sym is) (points_idempotent p)
 
 -- one gateway changes
-pub one_moves : (s : Setup) (ds : Deeds) (ns : List NodeView) (g : ℕ) (was is : NodeView) → slice_get ns g ≡ Some was → Moves s ds was is
-    → (h : ℕ) (x : NodeView) → slice_get (set ns g is) h ≡ Some x → (old : NodeView) × (slice_get ns h ≡ Some old) × Moves s ds old x
+pub one_moves : (s : Setup) (ds : Deeds) (ns : List NodeModel) (g : ℕ) (was is : NodeModel) → slice_get ns g ≡ Some was → Moves s ds was is
+    → (h : ℕ) (x : NodeModel) → slice_get (set ns g is) h ≡ Some x → (old : NodeModel) × (slice_get ns h ≡ Some old) × Moves s ds old x
 one_moves s ds ns g was is at moves h x e = elim (in_set ns g is h x e) [
-  | inl here ↦ (was, ap (slice_get ns) (sym here.0) ∙ at, subst (λ (y : NodeView). Moves s ds was y) (sym here.1) moves)
+  | inl here ↦ (was, ap (slice_get ns) (sym here.0) ∙ at, subst (λ (y : NodeModel). Moves s ds was y) (sym here.1) moves)
   | inr other ↦ (x, other.1, rests s ds x)
 ]
 
 -- what peers acknowledged after a message came: what they had, or what an Ack claims
-pub acked_moves : (s : Setup) (ds : Deeds) (was is : NodeView) (m : MessageView) (from : ℕ) → AreApart s → from < gateways_of s → m.from ≡ slice_index s.gateways from → is.acked ≡ acked_after was m
+pub acked_moves : (s : Setup) (ds : Deeds) (was is : NodeModel) (m : MessageModel) (from : ℕ) → AreApart s → from < gateways_of s → m.from ≡ slice_index s.gateways from → is.acked ≡ acked_after was m
     → ((k : ℕ) → m.ack ≡ Some k → IsClaimed was (state_at s ds (AtGateway from)) k)
     → (h k : ℕ) → h < gateways_of s → get is.acked (slice_index s.gateways h) ≡ Some k → (get was.acked (slice_index s.gateways h) ≡ Some k) ⊎ IsClaimed was (state_at s ds (AtGateway h)) k
 acked_moves s ds was is m from apart from_there is_from after claims h k there has = go m.ack refl

@@ -5,7 +5,7 @@ use Rattle.std.proofs.lemmas.Bool.{eq-eqb, ne_eqb}
 use Rattle.std.proofs.lemmas.List.{length_push}
 use Rattle.std.proofs.lemmas.Option.{slice_get_within}
 use Rattle.agg_kit.specs.Entries.{Entry}
-use Rattle.gossip_kit.specs.Views.{MessageView, NodeView}
+use Rattle.gossip_kit.specs.Views.{MessageModel, NodeModel}
 use Rattle.point_kit.specs.declared.export.Export.{Export}
 use Rattle.schedule_kit.specs.Deeds.{Made, acts_of, made, mails, mail_of}
 use Rattle.schedule_kit.specs.Deeds.Holder.{AtGateway}
@@ -35,20 +35,20 @@ module _ (s : Setup) (old new : Deeds) where
   }
 
   -- no gateway took anything
-  pub nodes_same : (ns : List NodeView) → ((g : ℕ) → state_at s new (AtGateway g) ≡ state_at s old (AtGateway g)) → NodesStand s old ns → NodesStand s new ns
+  pub nodes_same : (ns : List NodeModel) → ((g : ℕ) → state_at s new (AtGateway g) ≡ state_at s old (AtGateway g)) → NodesStand s old ns → NodesStand s new ns
   nodes_same ns same st = record { count = st.count; id = st.id; points = λ g n e. st.points g n e ∙ sym (same g) }
 
   -- one gateway took something
-  pub nodes_set : (ns : List NodeView) (h : ℕ) (was is : NodeView) → slice_get ns h ≡ Some was → is.gateway.id ≡ was.gateway.id → is.gateway.points ≡ state_at s new (AtGateway h)
+  pub nodes_set : (ns : List NodeModel) (h : ℕ) (was is : NodeModel) → slice_get ns h ≡ Some was → is.gateway.id ≡ was.gateway.id → is.gateway.points ≡ state_at s new (AtGateway h)
       → ((g : ℕ) → g ≢ h → state_at s new (AtGateway g) ≡ state_at s old (AtGateway g)) → NodesStand s old ns → NodesStand s new (set ns h is)
   nodes_set ns h was is there same_id its others st = record {
     count = length-set ns h is ∙ st.count;
     id = λ g n e. elim (in_set ns h is g n e) [
-      | inl here ↦ ap (λ (x : NodeView). x.gateway.id) here.1 ∙ same_id ∙ st.id h was there ∙ ap (slice_index s.gateways) here.0
+      | inl here ↦ ap (λ (x : NodeModel). x.gateway.id) here.1 ∙ same_id ∙ st.id h was there ∙ ap (slice_index s.gateways) here.0
       | inr other ↦ st.id g n other.1
     ];
     points = λ g n e. elim (in_set ns h is g n e) [
-      | inl here ↦ ap (λ (x : NodeView). x.gateway.points) here.1 ∙ its ∙ ap (λ v. state_at s new (AtGateway v)) here.0
+      | inl here ↦ ap (λ (x : NodeModel). x.gateway.points) here.1 ∙ its ∙ ap (λ v. state_at s new (AtGateway v)) here.0
       | inr other ↦ st.points g n other.1 ∙ sym (others g other.0)
     ];
   }
@@ -60,7 +60,7 @@ module _ (s : Setup) (old new : Deeds) where
     each = λ k e i. let r = st.each k e i in (r.0, ap (λ l. made_of l (k + 1)) same ∙ r.1, r.2);
   }
 
-  mail_same : (n : ℕ) (m : MessageView) → mail_of new n ≡ mail_of old n → MailStands s old n m → MailStands s new n m
+  mail_same : (n : ℕ) (m : MessageModel) → mail_of new n ≡ mail_of old n → MailStands s old n m → MailStands s new n m
   mail_same n m same_mail st = record {
     mail = st.mail;
     known = same_mail ∙ st.known;
@@ -70,7 +70,7 @@ module _ (s : Setup) (old new : Deeds) where
   }
 
   -- no mail was made
-  pub mails_same : (ms : List MessageView) → mails new ≡ mails old → ((n : ℕ) → n ≤ mails old → mail_of new n ≡ mail_of old n) → MailsStand s old ms → MailsStand s new ms
+  pub mails_same : (ms : List MessageModel) → mails new ≡ mails old → ((n : ℕ) → n ≤ mails old → mail_of new n ≡ mail_of old n) → MailsStand s old ms → MailsStand s new ms
   mails_same ms count same_mail st = record {
     count = st.count ∙ sym count;
     each = λ k m e. let inside : k < length ms = slice_get_within ms k m e in let c = st.count in
@@ -78,7 +78,7 @@ module _ (s : Setup) (old new : Deeds) where
   }
 
   -- one was made
-  pub mails_more : (ms : List MessageView) (m : MessageView) → mails new ≡ mails old + 1 → ((n : ℕ) → n ≤ mails old → mail_of new n ≡ mail_of old n)
+  pub mails_more : (ms : List MessageModel) (m : MessageModel) → mails new ≡ mails old + 1 → ((n : ℕ) → n ≤ mails old → mail_of new n ≡ mail_of old n)
       → MailStands s new (mails old + 1) m → MailsStand s old ms → MailsStand s new (ms ++ m ∷ [])
   mails_more ms m count same_mail its st = record {
     count = length_push ms m ∙ ap (λ n. n + 1) st.count ∙ sym count;

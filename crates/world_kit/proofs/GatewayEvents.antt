@@ -10,7 +10,7 @@ use Rattle.gossip_kit.proofs.Carrying.{brings_held}
 use Rattle.gossip_kit.specs.Gossip.{CarriesHeld, Brings, Renumbers, acked_after, acknowledged, answer_of, delta_to, hand_fault, numbered_to}
 use Rattle.gossip_kit.specs.declared.fault.HandFault.{HandFault}
 use Rattle.gossip_kit.specs.declared.fault.HandFault.TheVariants.{NotAddressed as NotAddressedHere}
-use Rattle.gossip_kit.specs.Views.{MessageView, NodeView}
+use Rattle.gossip_kit.specs.Views.{MessageModel, NodeModel}
 use Rattle.point_kit.proofs.PointLaws.{points_above, points_idempotent, changed_points-same}
 use Rattle.point_kit.specs.declared.export.Export.{Export}
 use Rattle.point_kit.specs.Exports.{Points, join_points, changed_points, state}
@@ -36,26 +36,26 @@ use Rattle.world_kit.specs.States.{state_at}
 use Rattle.world_kit.specs.Wanting.{Wants}
 
 -- a world with other nodes
-abbrev pub with_nodes : WorldState → List NodeView → WorldState
+abbrev pub with_nodes : WorldState → List NodeModel → WorldState
 with_nodes w ns = record { writers = w.writers; nodes = ns; exports = w.exports; mails = w.mails }
 
 -- a world with other mails
-abbrev pub with_mails : WorldState → List MessageView → WorldState
+abbrev pub with_mails : WorldState → List MessageModel → WorldState
 with_mails w ms = record { writers = w.writers; nodes = w.nodes; exports = w.exports; mails = ms }
 
 -- a world with one mail more
-abbrev pub with_mail : WorldState → MessageView → WorldState
+abbrev pub with_mail : WorldState → MessageModel → WorldState
 with_mail w m = with_mails w (w.mails ++ m ∷ [])
 
 -- a world with other nodes and mails
-abbrev pub with_both : WorldState → List NodeView → List MessageView → WorldState
+abbrev pub with_both : WorldState → List NodeModel → List MessageModel → WorldState
 with_both w ns ms = record { writers = w.writers; nodes = ns; exports = w.exports; mails = ms }
 
 -- the mail of a number, which was handed
 handed_known : (s : Setup) (ds : Deeds) (n g : ℕ) (mail : Mail) → mail_of ds n ≡ Some mail → n ≤ mails ds → mail_of (Handed n g true ∷ ds) n ≡ Some mail
 handed_known s ds n g mail known low = rw (ne_eqb n (mails ds + 1) (omega (arith, low))) known
 
-mail_after : (s : Setup) (ds : Deeds) (ns : List NodeView) (n : ℕ) (m : MessageView) (mail : Mail) {ms : List MessageView} → GossipStands s ds ns ms → 0 < n → slice_get ms (n - 1) ≡ Some m → mail_of ds n ≡ Some mail → MailClaims s ds ns n mail m
+mail_after : (s : Setup) (ds : Deeds) (ns : List NodeModel) (n : ℕ) (m : MessageModel) (mail : Mail) {ms : List MessageModel} → GossipStands s ds ns ms → 0 < n → slice_get ms (n - 1) ≡ Some m → mail_of ds n ≡ Some mail → MailClaims s ds ns n mail m
 mail_after s ds ns n m mail st low at known = let back : n - 1 + 1 ≡ n = omega (arith, low) in subst (λ (k : ℕ). MailClaims s ds ns k mail m) back (st.mails (n - 1) m mail at (ap (mail_of ds) back ∙ known))
 
 module _ (w : WorldState) where
@@ -78,7 +78,7 @@ module _ (w : WorldState) where
   deliver_wants x g there low high = accepted_wants _ w (Delivered x g) (deliver_is x g there low high)
 
   -- an export comes to a gateway
-  pub delivers : (x g changed : ℕ) (e : Export) (was is : NodeView) → 0 < x → slice_get w.exports (x - 1) ≡ Some e → slice_get w.nodes g ≡ Some was
+  pub delivers : (x g changed : ℕ) (e : Export) (was is : NodeModel) → 0 < x → slice_get w.exports (x - 1) ≡ Some e → slice_get w.nodes g ≡ Some was
       → is.gateway.id ≡ was.gateway.id → is.gateway.points ≡ join_points was.gateway.points (state (e ∷ [])) → changed ≡ changed_points was.gateway.points is.gateway.points
       → Renumbers was is → is.acked ≡ was.acked → Acts (event.Deliver x g) w (reply.Changed changed) (with_nodes w (set w.nodes g is))
   delivers x g changed e was is low at_x at_g same_id joined count numbers acked = accepted_acts _ w (with_nodes w (set w.nodes g is)) _ (Delivered x g) (λ s ds st.
@@ -120,7 +120,7 @@ module _ (w : WorldState) where
   merge_wants into from here there = accepted_wants _ w (Merged into from) (merge_is into from here there)
 
   -- a gateway joins what another one holds
-  pub merges : (into from changed : ℕ) (was is other : NodeView) → slice_get w.nodes into ≡ Some was → slice_get w.nodes from ≡ Some other
+  pub merges : (into from changed : ℕ) (was is other : NodeModel) → slice_get w.nodes into ≡ Some was → slice_get w.nodes from ≡ Some other
       → is.gateway.id ≡ was.gateway.id → is.gateway.points ≡ join_points was.gateway.points other.gateway.points → changed ≡ changed_points was.gateway.points is.gateway.points
       → Renumbers was is → is.acked ≡ was.acked → Acts (event.Merge into from) w (reply.Changed changed) (with_nodes w (set w.nodes into is))
   merges into from changed was is other at_into at_from same_id joined count numbers acked = accepted_acts _ w (with_nodes w (set w.nodes into is)) _ (Merged into from) (λ s ds st.
@@ -187,7 +187,7 @@ module _ (w : WorldState) where
   send_wants from to here there = accepted_wants _ w (Sent from to) (send_is from to here there)
 
   -- a gateway makes a mail to another
-  pub sends : (from to : ℕ) (sender receiver : NodeView) (m : MessageView) → slice_get w.nodes from ≡ Some sender → slice_get w.nodes to ≡ Some receiver
+  pub sends : (from to : ℕ) (sender receiver : NodeModel) (m : MessageModel) → slice_get w.nodes from ≡ Some sender → slice_get w.nodes to ≡ Some receiver
       → m.from ≡ sender.gateway.id → m.to ≡ receiver.gateway.id → m.delta ≡ delta_to sender → m.ack ≡ None → CarriesHeld m.points sender.gateway.points → Brings m.points (acknowledged sender m.to) sender.gateway.points
       → Acts (event.Send from to) w (reply.Sent (length w.mails + 1)) (with_mail w m)
   sends from to sender receiver m at_from at_to comes goes asks tells held brings = accepted_acts _ w (with_mail w m) _ (Sent from to) (λ s ds st.
@@ -211,7 +211,7 @@ module _ (w : WorldState) where
         delta = λ k node is at.
             let same : sender ≡ node = same_Some (sym at_from ∙ at) in
             let number = delta_is sender k (sym asks ∙ is) in
-            subst (λ (x : NodeView). IsClaimed x (state_at s new (InMail (mails ds + 1))) k) same
+            subst (λ (x : NodeModel). IsClaimed x (state_at s new (InMail (mails ds + 1))) k) same
             (subst (λ (p : Points). IsClaimed sender p k) sent (record { covers = numbered_held sender k; past = let e = number.0 in omega (arith, e); small = let e = number.0 in let l = number.1 in omega (arith, e, l) }));
         ack = λ k node is at. absurd (not_None (sym tells ∙ is));
       } in (
@@ -243,10 +243,10 @@ module _ (w : WorldState) where
   pub hand_past : (n g : ℕ) → g < length w.nodes → length w.mails < n → Acts (event.Hand n g) w (reply.Refused NoMail) w
   hand_past n g there past = no_mail n g there (λ s ds st. is_within_past n _ (let c = st.mails.count in omega arith))
 
-  its_mail : (s : Setup) (ds : Deeds) (n : ℕ) (m : MessageView) → Stands s ds w → 0 < n → slice_get w.mails (n - 1) ≡ Some m → MailStands s ds n m
+  its_mail : (s : Setup) (ds : Deeds) (n : ℕ) (m : MessageModel) → Stands s ds w → 0 < n → slice_get w.mails (n - 1) ≡ Some m → MailStands s ds n m
   its_mail s ds n m st low at_n = let back : n - 1 + 1 ≡ n = omega arith in subst (λ (k : ℕ). MailStands s ds k m) back (st.mails.each (n - 1) m at_n)
 
-  addressed : (n g : ℕ) (m : MessageView) (at : NodeView) → 0 < n → slice_get w.mails (n - 1) ≡ Some m → slice_get w.nodes g ≡ Some at → m.to ≡ at.gateway.id → (s : Setup) (ds : Deeds) → Stands s ds w → is_to g (mail_of ds n) ≡ true
+  addressed : (n g : ℕ) (m : MessageModel) (at : NodeModel) → 0 < n → slice_get w.mails (n - 1) ≡ Some m → slice_get w.nodes g ≡ Some at → m.to ≡ at.gateway.id → (s : Setup) (ds : Deeds) → Stands s ds w → is_to g (mail_of ds n) ≡ true
   addressed n g m at low at_n at_g goes s ds st =
       let here : g < length w.nodes = slice_get_within w.nodes g at at_g in
       let nodes = st.nodes.count in
@@ -255,7 +255,7 @@ module _ (w : WorldState) where
       ap (is_to g) its.known ∙ eq-eqb its.mail.to g same
 
   -- a mail that was sent to another gateway
-  pub hand_other : (n g : ℕ) (m : MessageView) (at : NodeView) → 0 < n → slice_get w.mails (n - 1) ≡ Some m → slice_get w.nodes g ≡ Some at → m.to ≢ at.gateway.id → Acts (event.Hand n g) w (reply.Refused NotAddressed) w
+  pub hand_other : (n g : ℕ) (m : MessageModel) (at : NodeModel) → 0 < n → slice_get w.mails (n - 1) ≡ Some m → slice_get w.nodes g ≡ Some at → m.to ≢ at.gateway.id → Acts (event.Hand n g) w (reply.Refused NotAddressed) w
   hand_other n g m at low at_n at_g other = refused_acts _ w NotAddressed (λ s ds st.
       let here : g < length w.nodes = slice_get_within w.nodes g at at_g in
       let high : n - 1 < length w.mails = slice_get_within w.mails (n - 1) m at_n in
@@ -266,13 +266,13 @@ module _ (w : WorldState) where
       gathered_there s g _ (omega arith) ∙ guard_true _ NoMail _ (is_within_in n _ low (omega arith))
       ∙ guard_false _ NotAddressed _ (ap (is_to g) its.known ∙ ne_eqb its.mail.to g not))
 
-  its_claims : (s : Setup) (ds : Deeds) (n : ℕ) (m : MessageView) (st : Stands s ds w) (low : 0 < n) (at_n : slice_get w.mails (n - 1) ≡ Some m) → MailClaims s ds w.nodes n (its_mail s ds n m st low at_n).mail m
+  its_claims : (s : Setup) (ds : Deeds) (n : ℕ) (m : MessageModel) (st : Stands s ds w) (low : 0 < n) (at_n : slice_get w.mails (n - 1) ≡ Some m) → MailClaims s ds w.nodes n (its_mail s ds n m st low at_n).mail m
   its_claims s ds n m st low at_n =
       let its = its_mail s ds n m st low at_n in
       let back : n - 1 + 1 ≡ n = omega arith in
       subst (λ (k : ℕ). MailClaims s ds w.nodes k its.mail m) back (st.gossip.mails (n - 1) m its.mail at_n (ap (mail_of ds) back ∙ its.known))
 
-  hand_is : (n g : ℕ) (m : MessageView) (at : NodeView) → 0 < n → slice_get w.mails (n - 1) ≡ Some m → slice_get w.nodes g ≡ Some at → m.to ≡ at.gateway.id
+  hand_is : (n g : ℕ) (m : MessageModel) (at : NodeModel) → 0 < n → slice_get w.mails (n - 1) ≡ Some m → slice_get w.nodes g ≡ Some at → m.to ≡ at.gateway.id
       → (s : Setup) (ds : Deeds) → Stands s ds w → judgement s ds (event.Hand n g) ≡ Ok (Handed n g (is_some m.delta))
   hand_is n g m at low at_n at_g goes s ds st =
       let here : g < length w.nodes = slice_get_within w.nodes g at at_g in
@@ -282,11 +282,11 @@ module _ (w : WorldState) where
       gathered_there s g _ (omega arith) ∙ guard_true _ NoMail _ (is_within_in n _ low (omega arith)) ∙ guard_true _ NotAddressed _ (addressed n g m at low at_n at_g goes s ds st)
       ∙ ap (λ b. Ok (Handed n g b)) (its_claims s ds n m st low at_n).answered
 
-  pub hand_wants : (n g : ℕ) (m : MessageView) (at : NodeView) → 0 < n → slice_get w.mails (n - 1) ≡ Some m → slice_get w.nodes g ≡ Some at → m.to ≡ at.gateway.id → Wants (event.Hand n g) w
+  pub hand_wants : (n g : ℕ) (m : MessageModel) (at : NodeModel) → 0 < n → slice_get w.mails (n - 1) ≡ Some m → slice_get w.nodes g ≡ Some at → m.to ≡ at.gateway.id → Wants (event.Hand n g) w
   hand_wants n g m at low at_n at_g goes = accepted_wants _ w (Handed n g (is_some m.delta)) (hand_is n g m at low at_n at_g goes)
 
   -- a mail comes to its gateway: what is so whether it is answered or not
-  module _ (n g : ℕ) (m : MessageView) (was is : NodeView) (low : 0 < n) (at_n : slice_get w.mails (n - 1) ≡ Some m) (at_g : slice_get w.nodes g ≡ Some was) (goes : m.to ≡ was.gateway.id)
+  module _ (n g : ℕ) (m : MessageModel) (was is : NodeModel) (low : 0 < n) (at_n : slice_get w.mails (n - 1) ≡ Some m) (at_g : slice_get w.nodes g ≡ Some was) (goes : m.to ≡ was.gateway.id)
       (same_id : is.gateway.id ≡ was.gateway.id) (joined : is.gateway.points ≡ join_points was.gateway.points m.points) (numbers : Renumbers was is) (acked : is.acked ≡ acked_after was m) (a : Bool) (asks : is_some m.delta ≡ a) where
     module _ (s : Setup) (ds : Deeds) (st : Stands s ds w) where
       hand_here : g < length w.nodes
@@ -328,7 +328,7 @@ module _ (w : WorldState) where
       hand_lawful = let nodes = st.nodes.count in let h = hand_here in (low, hand_within, omega arith, addressed n g m was low at_n at_g goes s ds st)
 
   -- a mail that is not answered
-  pub hands : (n g : ℕ) (m : MessageView) (was is : NodeView) → 0 < n → slice_get w.mails (n - 1) ≡ Some m → slice_get w.nodes g ≡ Some was → m.to ≡ was.gateway.id
+  pub hands : (n g : ℕ) (m : MessageModel) (was is : NodeModel) → 0 < n → slice_get w.mails (n - 1) ≡ Some m → slice_get w.nodes g ≡ Some was → m.to ≡ was.gateway.id
       → is.gateway.id ≡ was.gateway.id → is.gateway.points ≡ join_points was.gateway.points m.points → Renumbers was is → is.acked ≡ acked_after was m → m.delta ≡ None
       → Acts (event.Hand n g) w (reply.Handed None) (with_nodes w (set w.nodes g is))
   hands n g m was is low at_n at_g goes same_id joined numbers acked asks = accepted_acts _ w (with_nodes w (set w.nodes g is)) _ (Handed n g false) (λ s ds st.
@@ -348,7 +348,7 @@ module _ (w : WorldState) where
       ))
 
   -- a delta, whose answer is the next mail
-  pub hands_delta : (n g k : ℕ) (m answer : MessageView) (was is : NodeView) → 0 < n → slice_get w.mails (n - 1) ≡ Some m → slice_get w.nodes g ≡ Some was → m.to ≡ was.gateway.id
+  pub hands_delta : (n g k : ℕ) (m answer : MessageModel) (was is : NodeModel) → 0 < n → slice_get w.mails (n - 1) ≡ Some m → slice_get w.nodes g ≡ Some was → m.to ≡ was.gateway.id
       → is.gateway.id ≡ was.gateway.id → is.gateway.points ≡ join_points was.gateway.points m.points → Renumbers was is → is.acked ≡ acked_after was m → m.delta ≡ Some k
       → answer ≡ record { from = was.gateway.id; to = m.from; points = empty; delta = None; ack = Some k }
       → Acts (event.Hand n g) w (reply.Handed (Some (length w.mails + 1))) (with_both w (set w.nodes g is) (w.mails ++ answer ∷ []))
@@ -367,11 +367,11 @@ module _ (w : WorldState) where
       let carried : state_at s new (InMail n) ≡ state_at s ds (InMail n) = mail_handed s ds n g n true in
       let its_claims : MailClaims s new (set w.nodes g is) (mails ds + 1) mail answer = record {
         from_there = omega arith;
-        brings = ap (join_points (state_at s new (AtGateway its.mail.from))) (ap (λ (x : MessageView). x.points) is_answer ∙ sym nothing);
-        answered = answers_handed s ds n g (mails ds + 1) true ∙ answers_unmade s ds (mails ds + 1) (omega arith) ∙ ap (λ (x : MessageView). is_some x.delta) (sym is_answer);
-        delta = λ j node has at. absurd (not_None (sym (ap (λ (x : MessageView). x.delta) is_answer) ∙ has));
+        brings = ap (join_points (state_at s new (AtGateway its.mail.from))) (ap (λ (x : MessageModel). x.points) is_answer ∙ sym nothing);
+        answered = answers_handed s ds n g (mails ds + 1) true ∙ answers_unmade s ds (mails ds + 1) (omega arith) ∙ ap (λ (x : MessageModel). is_some x.delta) (sym is_answer);
+        delta = λ j node has at. absurd (not_None (sym (ap (λ (x : MessageModel). x.delta) is_answer) ∙ has));
         ack = λ j node has at.
-            let number : k ≡ j = same_Some (sym (ap (λ (x : MessageView). x.ack) is_answer) ∙ has) in
+            let number : k ≡ j = same_Some (sym (ap (λ (x : MessageModel). x.ack) is_answer) ∙ has) in
             let claimed : IsClaimed node (state_at s new (InMail n)) k = (mail_after s new (set w.nodes g is) n m its.mail moved low at_n (handed_known s ds n g its.mail its.known (hand_within n g m was is low at_n at_g goes same_id joined numbers acked true some s ds st))).delta k node asks at in
             let above : IsAtOrBelow join_points (state_at s new (InMail n)) (state_at s new (AtGateway g)) =
             ap (λ p. join_points p (state_at s new (AtGateway g))) carried ∙ ap (join_points (state_at s ds (InMail n))) (state_handed s ds n g g true ∙ chosen g _ _)
@@ -388,19 +388,19 @@ module _ (w : WorldState) where
           nodes = stood;
           exports = exports_same s ds new w.exports refl st.exports;
           mails = mails_more s ds new w.mails answer refl (λ j h. rw (ne_eqb j (mails ds + 1) (omega arith)) refl)
-              (record { mail = mail; known = known; from = ap (λ (x : MessageView). x.from) is_answer ∙ st.nodes.id g was at_g; to = ap (λ (x : MessageView). x.to) is_answer ∙ its.from; there = claims.from_there }) st.mails;
+              (record { mail = mail; known = known; from = ap (λ (x : MessageModel). x.from) is_answer ∙ st.nodes.id g was at_g; to = ap (λ (x : MessageModel). x.to) is_answer ∙ its.from; there = claims.from_there }) st.mails;
           gossip = gossip_more s new (set w.nodes g is) w.mails answer mail (ap (λ j. mail_of new (j + 1)) st.mails.count ∙ known) (subst (λ (j : ℕ). MailClaims s new (set w.nodes g is) (j + 1) mail answer) (sym st.mails.count) its_claims) moved;
         },
         ap (λ j. reply.Handed (Some (j + 1))) st.mails.count,
       ))
 
 -- a message that is refused as not addressed goes elsewhere
-pub goes_elsewhere : (n : NodeView) (m : MessageView) (f : HandFault) → hand_fault n m ≡ Some f → m.to ≢ n.gateway.id
+pub goes_elsewhere : (n : NodeModel) (m : MessageModel) (f : HandFault) → hand_fault n m ≡ Some f → m.to ≢ n.gateway.id
 unfolding hand_fault
 goes_elsewhere n m f h same = let none : None ≡ Some f = sym (rw (eq-eqb m.to n.gateway.id same) refl) ∙ h in cc
 
 -- one that is not refused comes to its gateway
-pub comes_here : (n : NodeView) (m : MessageView) → hand_fault n m ≡ None → m.to ≡ n.gateway.id
+pub comes_here : (n : NodeModel) (m : MessageModel) → hand_fault n m ≡ None → m.to ≡ n.gateway.id
 unfolding hand_fault
 comes_here n m h = elim (m.to == n.gateway.id) as (λ b. (m.to == n.gateway.id) ≡ b → option_or (cond (not b) (Some NotAddressedHere) None) None ≡ None → m.to ≡ n.gateway.id) [
   | true ↦ λ e _. eqb-true m.to n.gateway.id e
@@ -408,17 +408,17 @@ comes_here n m h = elim (m.to == n.gateway.id) as (λ b. (m.to == n.gateway.id) 
 ] refl h
 
 -- only a delta is answered, by an Ack of its number
-pub answer_none : (n : NodeView) (m : MessageView) → answer_of n m ≡ None → m.delta ≡ None
+pub answer_none : (n : NodeModel) (m : MessageModel) → answer_of n m ≡ None → m.delta ≡ None
 answer_none n m h = go m.delta refl
   where
     go : (o : Option ℕ) → m.delta ≡ o → m.delta ≡ None
     go None e = e
     go (Some k) e = absurd (not_None (sym h ∙ ap (option_map (λ j. record { from = n.gateway.id; to = m.from; points = empty; delta = None; ack = Some j })) e))
 
-pub answer_some : (n : NodeView) (m a : MessageView) → answer_of n m ≡ Some a → (k : ℕ) × (m.delta ≡ Some k) × (a ≡ record { from = n.gateway.id; to = m.from; points = empty; delta = None; ack = Some k })
+pub answer_some : (n : NodeModel) (m a : MessageModel) → answer_of n m ≡ Some a → (k : ℕ) × (m.delta ≡ Some k) × (a ≡ record { from = n.gateway.id; to = m.from; points = empty; delta = None; ack = Some k })
 answer_some n m a h = go m.delta refl
   where
-    to_answer : Option ℕ → Option MessageView
+    to_answer : Option ℕ → Option MessageModel
     to_answer o = option_map (λ j. record { from = n.gateway.id; to = m.from; points = empty; delta = None; ack = Some j }) o
 
     go : (o : Option ℕ) → m.delta ≡ o → (k : ℕ) × (m.delta ≡ Some k) × (a ≡ record { from = n.gateway.id; to = m.from; points = empty; delta = None; ack = Some k })

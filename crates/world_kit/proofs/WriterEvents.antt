@@ -52,7 +52,7 @@ use Rattle.writer_kit.specs.declared.fault.MeasureFault.TheVariants as measure
 use Rattle.writer_kit.specs.declared.fault.RestartFault.{RestartFault}
 use Rattle.writer_kit.specs.declared.fault.RestartFault.TheVariants as restart
 use Rattle.writer_kit.proofs.Refusals.{now_is, early_is}
-use Rattle.writer_kit.specs.Recording.{recorded, after_restart}
+use Rattle.writer_kit.specs.Recording.{after_record, after_restart}
 use Rattle.writer_kit.specs.Refusals.{early_fault, fault_now, measure_fault, collect_fault, restart_fault}
 use Rattle.writer_kit.specs.Written.{Written}
 
@@ -241,7 +241,7 @@ module _ (w : WorldState) (v : ℕ) (x : Written) (at_v : slice_get w.writers v 
 
   -- a writer takes a recording
   pub measures : (y : Written) (i : ℕ) (a : AttrSet) (val : ℤ)
-      → fault_now x (record { instrument = i; attrs = a; value = val }) ≡ None → y ≡ recorded x (record { instrument = i; attrs = a; value = val })
+      → fault_now x (record { instrument = i; attrs = a; value = val }) ≡ None → y ≡ after_record x (record { instrument = i; attrs = a; value = val })
       → Acts (event.Measure v i a val) w reply.Done (with_writers w (set w.writers v y))
   unfolding measure_fault
   measures y i a val accepts same = accepted_acts _ w (with_writers w (set w.writers v y)) _ (Wrote v (Measured (record { instrument = i; attrs = a; value = val }))) (λ s ds st.

@@ -1,7 +1,7 @@
 -- What was recorded, as a query of a gateway is to answer it.
 use Rattle.std.specs.Prelude.{◌≡◌, ℕ, ℤ, List, slice_get, Some}
 use Rattle.agg_kit.specs.Entries.{Entry}
-use Rattle.gossip_kit.specs.Views.{NodeView}
+use Rattle.gossip_kit.specs.Views.{NodeModel}
 use Rattle.point_kit.specs.declared.key.Key.{Key}
 use Rattle.rollup_kit.specs.Naming.{Name}
 use Rattle.rollup_kit.specs.Writers as writers
@@ -35,4 +35,4 @@ recorded s ds g ask = recorded_rows ask (values_recorded s ds g) (keys_recorded 
 
 -- each gateway's roll-up for each ask of a sum or a histogram stream is what was recorded
 abbrev pub AnswersRecorded : Setup → Deeds → WorldState → Type 0
-AnswersRecorded s ds w = (g : ℕ) (n : NodeView) → slice_get w.nodes g ≡ Some n → (ask : Ask) → AddsUp ask.stream.shape → rollup_rows ask n.gateway.points ≡ recorded s ds g ask
+AnswersRecorded s ds w = (g : ℕ) (n : NodeModel) → slice_get w.nodes g ≡ Some n → (ask : Ask) → AddsUp ask.stream.shape → rollup_rows ask n.gateway.points ≡ recorded s ds g ask

@@ -3,7 +3,7 @@ use Rattle.std.specs.Prelude.{ℕ, ◌==◌, List, [], ◌∷◌, ◌++◌, leng
 use Rattle.std.specs.FinMap.{empty}
 use Rattle.std.specs.Option.{option_map, option_or}
 use Rattle.attr_kit.specs.Refusing.{first}
-use Rattle.gossip_kit.specs.Views.{NodeView}
+use Rattle.gossip_kit.specs.Views.{NodeModel}
 use Rattle.plan_kit.specs.Plans.{AreApart}
 use Rattle.world_kit.specs.declared.event.Event.{Event}
 use Rattle.world_kit.specs.declared.event.Reply.{Reply}
@@ -29,7 +29,7 @@ unfoldable pub setup_fault : Setup → Option SetupFault
 setup_fault s = first (option_map (λ p. SameGateway p.0 p.1) (same_gateway s.gateways) ∷ [])
 
 -- a gateway that took nothing
-abbrev pub fresh : ℕ → NodeView
+abbrev pub fresh : ℕ → NodeModel
 fresh id = record { gateway = record { id = id; points = empty; numbers = empty }; change = 0; numbers = empty; acked = empty }
 
 -- each writer is as its setup says, before any event, and no stream of its plan stands twice

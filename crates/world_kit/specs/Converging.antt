@@ -1,6 +1,6 @@
 -- What holds of gateways that took the same exports, and why a schedule is not done to its end.
 use Rattle.std.specs.Prelude.{◌≡◌, ℕ, ◌<◌, List, length, slice_get, None, Some}
-use Rattle.gossip_kit.specs.Views.{NodeView}
+use Rattle.gossip_kit.specs.Views.{NodeModel}
 use Rattle.rollup_kit.specs.Rollups.{rollup_rows}
 use Rattle.rollup_kit.specs.declared.ask.Ask.{Ask}
 use Rattle.schedule_kit.specs.Deeds.{TookSame}
@@ -16,11 +16,11 @@ use Rattle.world_kit.specs.Judged.{Deeds}
 
 -- gateways that took the same exports, in any order, with repeats and through any merges and mails, hold equal points
 abbrev pub Converges : Deeds → WorldState → Type 0
-Converges ds w = (g h : ℕ) (m n : NodeView) → slice_get w.nodes g ≡ Some m → slice_get w.nodes h ≡ Some n → TookSame ds (AtGateway g) (AtGateway h) → m.gateway.points ≡ n.gateway.points
+Converges ds w = (g h : ℕ) (m n : NodeModel) → slice_get w.nodes g ≡ Some m → slice_get w.nodes h ≡ Some n → TookSame ds (AtGateway g) (AtGateway h) → m.gateway.points ≡ n.gateway.points
 
 -- and answer every query alike
 abbrev pub AnswersAlike : Deeds → WorldState → Type 0
-AnswersAlike ds w = (g h : ℕ) (m n : NodeView) → slice_get w.nodes g ≡ Some m → slice_get w.nodes h ≡ Some n → TookSame ds (AtGateway g) (AtGateway h)
+AnswersAlike ds w = (g h : ℕ) (m n : NodeModel) → slice_get w.nodes g ≡ Some m → slice_get w.nodes h ≡ Some n → TookSame ds (AtGateway g) (AtGateway h)
     → (ask : Ask) → rollup_rows ask m.gateway.points ≡ rollup_rows ask n.gateway.points
 
 -- why a schedule is not done to its end: its setup, or want of memory after so many events, of which there are some only under a setup without a fault, and not all

@@ -1,7 +1,7 @@
 -- What a gateway of a world holds of each writer, where no two writers share an identity.
 use Rattle.std.specs.Prelude.{◌≡◌, ℕ, ◌<◌, length, slice_get, Some}
 use Rattle.std.specs.FinMap.{get}
-use Rattle.gossip_kit.specs.Views.{NodeView}
+use Rattle.gossip_kit.specs.Views.{NodeModel}
 use Rattle.point_kit.specs.declared.key.Key.{Key}
 use Rattle.rollup_kit.specs.Naming.{Name, key_at}
 use Rattle.rollup_kit.specs.Writers as writers
@@ -20,9 +20,9 @@ AreTold s = writers.AreTold (writers_of s)
 
 -- no conflict stands at a gateway
 abbrev pub HoldsNoConflict : WorldState → Type 0
-HoldsNoConflict w = (g : ℕ) (n : NodeView) → slice_get w.nodes g ≡ Some n → (k : Key) → HasNoConflict (get n.gateway.points k)
+HoldsNoConflict w = (g : ℕ) (n : NodeModel) → slice_get w.nodes g ≡ Some n → (k : Key) → HasNoConflict (get n.gateway.points k)
 
 -- of each incarnation a gateway holds the points of the newest collection that it took, or nothing
 abbrev pub HoldsNewest : Setup → Deeds → WorldState → Type 0
-HoldsNewest s ds w = (g : ℕ) (n : NodeView) → slice_get w.nodes g ≡ Some n → (v start : ℕ) → v < length s.writers → (x : Name)
+HoldsNewest s ds w = (g : ℕ) (n : NodeModel) → slice_get w.nodes g ≡ Some n → (v start : ℕ) → v < length s.writers → (x : Name)
     → get n.gateway.points (key_at (writer_at s v).id start x) ≡ part_at (rounding s) (newest (taken_collections (starts_of s) ds (AtGateway g)) v start) x

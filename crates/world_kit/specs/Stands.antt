@@ -2,7 +2,7 @@
 use Rattle.std.specs.Prelude.{◌≡◌, ℕ, ◌+◌, ◌<◌, not, List, length, slice_get, slice_index, Some}
 use Rattle.agg_kit.specs.Entries.{Entry}
 use Rattle.agg_kit.specs.Rounds.{StandsFor}
-use Rattle.gossip_kit.specs.Views.{MessageView, NodeView}
+use Rattle.gossip_kit.specs.Views.{MessageModel, NodeModel}
 use Rattle.point_kit.specs.declared.export.Export.{Export}
 use Rattle.schedule_kit.specs.Deeds.{Made, Mail, acts_of, made, mails, mail_of, AreLawful}
 use Rattle.schedule_kit.specs.Deeds.Holder.{AtGateway}
@@ -34,10 +34,10 @@ pub record WritersStand (s : Setup) (ds : Deeds) (ws : List Written) : Type 0 wh
   pub each : (i : ℕ) (w : Written) → slice_get ws i ≡ Some w → WriterStands (writer_at s i) (acts_of i ds) w
 
 -- each gateway has the id of the setup, and the state of the exports that it took
-pub record NodesStand (s : Setup) (ds : Deeds) (ns : List NodeView) : Type 0 where
+pub record NodesStand (s : Setup) (ds : Deeds) (ns : List NodeModel) : Type 0 where
   pub count : length ns ≡ gateways_of s
-  pub id : (g : ℕ) (n : NodeView) → slice_get ns g ≡ Some n → n.gateway.id ≡ slice_index s.gateways g
-  pub points : (g : ℕ) (n : NodeView) → slice_get ns g ≡ Some n → n.gateway.points ≡ state_at s ds (AtGateway g)
+  pub id : (g : ℕ) (n : NodeModel) → slice_get ns g ≡ Some n → n.gateway.id ≡ slice_index s.gateways g
+  pub points : (g : ℕ) (n : NodeModel) → slice_get ns g ≡ Some n → n.gateway.points ≡ state_at s ds (AtGateway g)
 
 -- each export is that of the collection of its number
 pub record ExportsStand (s : Setup) (ds : Deeds) (es : List Export) : Type 0 where
@@ -45,7 +45,7 @@ pub record ExportsStand (s : Setup) (ds : Deeds) (es : List Export) : Type 0 whe
   pub each : (k : ℕ) (e : Export) → slice_get es k ≡ Some e → (m : Made Entry) × (made_of (made (starts_of s) ds) (k + 1) ≡ Some m) × IsExportOf s m e
 
 -- a mail goes from the gateway that sent it to the one to which it was sent
-pub record MailStands (s : Setup) (ds : Deeds) (n : ℕ) (m : MessageView) : Type 0 where
+pub record MailStands (s : Setup) (ds : Deeds) (n : ℕ) (m : MessageModel) : Type 0 where
   pub mail : Mail
   pub known : mail_of ds n ≡ Some mail
   pub from : m.from ≡ slice_index s.gateways mail.from
@@ -53,9 +53,9 @@ pub record MailStands (s : Setup) (ds : Deeds) (n : ℕ) (m : MessageView) : Typ
   pub there : mail.to < gateways_of s
 
 -- each mail, by its number
-pub record MailsStand (s : Setup) (ds : Deeds) (ms : List MessageView) : Type 0 where
+pub record MailsStand (s : Setup) (ds : Deeds) (ms : List MessageModel) : Type 0 where
   pub count : length ms ≡ mails ds
-  pub each : (k : ℕ) (m : MessageView) → slice_get ms k ≡ Some m → MailStands s ds (k + 1) m
+  pub each : (k : ℕ) (m : MessageModel) → slice_get ms k ≡ Some m → MailStands s ds (k + 1) m
 
 -- no two gateways of a setup have one id
 abbrev pub AreApart : Setup → Type 0

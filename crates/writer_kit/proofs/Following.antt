@@ -17,7 +17,7 @@ use Rattle.schedule_kit.specs.Schedule.Act.{Measured, Collected, Restarted}
 use Rattle.point_kit.specs.declared.writer_id.WriterId.{WriterId}
 use Rattle.writer_kit.proofs.Refusals.{now_open, collect_open, collect_later, restart_later}
 use Rattle.writer_kit.specs.Following.{Follows, fits, round_of}
-use Rattle.writer_kit.specs.Recording.{new_writer, recorded, after_collect, after_restart, round_now}
+use Rattle.writer_kit.specs.Recording.{new_writer, after_record, after_collect, after_restart, round_now}
 use Rattle.writer_kit.specs.Refusals.{fault_now, collect_fault, restart_fault}
 use Rattle.writer_kit.specs.Written.{Written}
 
@@ -96,10 +96,10 @@ collects first acts time w r s t p f =
 pub starts : (id : WriterId) (plan : Planned) (start : ℕ) → Follows start [] (new_writer id plan start)
 starts id plan start = started start (new_writer id plan start) refl refl refl refl
 
-pub measures : (first : ℕ) (acts : List (Act Entry)) (w : Written) (e : Entry) → Follows first acts w → fault_now w e ≡ None → Follows first (Measured e ∷ acts) (recorded w e)
+pub measures : (first : ℕ) (acts : List (Act Entry)) (w : Written) (e : Entry) → Follows first acts w → fault_now w e ≡ None → Follows first (Measured e ∷ acts) (after_record w e)
 measures first acts w e f none =
     let fits = now_open w e none in
-    measured first acts e w (recorded w e) fits.0 (λ h s. sym (first_refusal-is w.tally h e s) ∙ fits.1) (λ h s. stands-push w.tally h e s) refl refl f
+    measured first acts e w (after_record w e) fits.0 (λ h s. sym (first_refusal-is w.tally h e s) ∙ fits.1) (λ h s. stands-push w.tally h e s) refl refl f
 
 pub marks : (first : ℕ) (acts : List (Act Entry)) (w : Written) (time : ℕ) (closing : Bool) → Follows first acts w → collect_fault w time ≡ None → Follows first (Collected time closing ∷ acts) (after_collect w time closing)
 marks first acts w time closing f none = marked first acts time closing w (after_collect w time closing) (collect_open w time none) (collect_later w time none) refl f

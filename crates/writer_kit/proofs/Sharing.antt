@@ -15,13 +15,13 @@ use Rattle.round_kit.specs.Rounds.{points_of}
 use Rattle.round_kit.specs.Rounds as rounds
 use Rattle.turn_kit.specs.declared.seat.Seat.{Seat}
 use Rattle.turn_kit.specs.History.{replay, IsReplay, weigh_log}
-use Rattle.turn_kit.specs.Places.{AllMeet}
+use Rattle.turn_kit.specs.TableSeats.{AllMeet}
 use Rattle.turn_kit.specs.Public.{Closes, seen, number}
 use Rattle.schedule_kit.specs.Schedule.{Act, collection_after, collections}
 use Rattle.writer_kit.specs.Absorbing.{absorb_fault, measured_after, no_memory_for, with_recordings}
 use Rattle.writer_kit.specs.Following.{Follows, round_of}
 use Rattle.writer_kit.specs.PlanFeeds.{AllFeeds}
-use Rattle.writer_kit.specs.Recording.{recorded, round_now}
+use Rattle.writer_kit.specs.Recording.{after_record, round_now}
 use Rattle.writer_kit.specs.Refusals.{fault_now, early_fault, collect_fault}
 use Rattle.writer_kit.specs.Written.{Written}
 use Rattle.writer_kit.specs.declared.fault.AbsorbFault as absorbs
@@ -54,8 +54,8 @@ none_is y e = subst is_nothing e tt
 
 -- ---- one change
 
-pub after_writer_change_measured : (w v : Written) (i : ℕ) (a : AttrSet) (x : ℤ) → fault_now w (entry_of i a x) ≡ None → v ≡ recorded w (entry_of i a x) → after_writer_change w (Measured i a x) ≡ Some v
-after_writer_change_measured w v i a x fits is = ap (λ o. cond (is_none o) (Some (recorded w (entry_of i a x))) None) fits ∙ ap Some (sym is)
+pub after_writer_change_measured : (w v : Written) (i : ℕ) (a : AttrSet) (x : ℤ) → fault_now w (entry_of i a x) ≡ None → v ≡ after_record w (entry_of i a x) → after_writer_change w (Measured i a x) ≡ Some v
+after_writer_change_measured w v i a x fits is = ap (λ o. cond (is_none o) (Some (after_record w (entry_of i a x))) None) fits ∙ ap Some (sym is)
 
 pub after_writer_change_collected : (w v : Written) (time : ℕ) → collect_fault w time ≡ None → v ≡ record w { last = time; closed = false } → after_writer_change w (Collected time) ≡ Some v
 after_writer_change_collected w v time fits is = ap (λ o. cond (is_none o) (Some (record w { last = time })) None) fits ∙ ap Some (sym (stays_open w v time (collect_open w time fits) is))
@@ -93,7 +93,7 @@ record Steps (w : Written) (n : ℕ) (c : WriterChange) (v : Written) : Type 0 w
 one : (w v : Written) (n : ℕ) (c : WriterChange) → AllFeeds w.tally.plan → after_writer_change w c ≡ Some v → Steps w n c v
 one w v n (Measured i a x) feeds is =
     let e = entry_of i a x in
-    let d = chosen (fault_now w e) (recorded w e) v is in
+    let d = chosen (fault_now w e) (after_record w e) v is in
     let open_ = now_open w e d.0 in
     let standing : (es : List Entry) → StandsFor w.tally es → StandsFor v.tally (es ++ e ∷ []) = λ es s. subst (λ (u : Written). StandsFor u.tally (es ++ e ∷ [])) (sym d.1) (stands-push w.tally es e s) in
     let plan : v.tally.plan ≡ w.tally.plan = ap (λ (u : Written). u.tally.plan) d.1 in

@@ -13,8 +13,8 @@ abbrev pub new_writer : WriterId → Planned → ℕ → Written
 new_writer id plan start = record { id = id; tally = empty_tally plan; start = start; last = start; closed = false }
 
 -- after a recording
-abbrev pub recorded : Written → Entry → Written
-recorded w e = record w { tally = after_measure w.tally e }
+abbrev pub after_record : Written → Entry → Written
+after_record w e = record w { tally = after_measure w.tally e }
 
 -- after a collection, which closes it or not: the points stay
 abbrev pub after_collect : Written → ℕ → Bool → Written

@@ -14,7 +14,7 @@ use Rattle.turn_kit.specs.Public.{IsOf, IsSameTurn, Enters, Looks, Exhausts, Ref
 use Rattle.schedule_kit.specs.Schedule.{Act, Collection, collections}
 use Rattle.writer_kit.specs.Absorbing.{absorb_fault, no_memory_for, with_recordings}
 use Rattle.writer_kit.specs.Following.{Follows, round_of}
-use Rattle.writer_kit.specs.Recording.{recorded}
+use Rattle.writer_kit.specs.Recording.{after_record}
 use Rattle.writer_kit.specs.Refusals.{fault_now, early_fault, collect_fault}
 use Rattle.writer_kit.specs.Written.{Written}
 use Rattle.writer_kit.specs.declared.fault.AbsorbFault.{AbsorbFault}
@@ -33,7 +33,7 @@ History = List (ℕ × WriterChange)
 
 -- a writer after a change, as one thread makes it; none where the change is not accepted
 abbrev pub after_writer_change : Written → WriterChange → Option Written
-after_writer_change w (Measured i a v) = cond (is_none (fault_now w (entry_of i a v))) (Some (recorded w (entry_of i a v))) None
+after_writer_change w (Measured i a v) = cond (is_none (fault_now w (entry_of i a v))) (Some (after_record w (entry_of i a v))) None
 after_writer_change w (Collected time) = cond (is_none (collect_fault w time)) (Some (record w { last = time })) None
 after_writer_change w (Absorbed r) = cond (is_none (absorb_fault w r)) (Some (with_recordings w r)) None
 

@@ -11,7 +11,7 @@ ghost use Rattle.schedule_kit.specs.Schedule.Act.{Measured, Collected, Restarted
 ghost use Rattle.turn_kit.specs.History.{weigh_log};
 ghost use Rattle.writer_kit.specs.Absorbing.{AbsorbingAppends, RecordersAreEvents};
 ghost use Rattle.writer_kit.specs.Following.{Follows, round_of};
-ghost use Rattle.writer_kit.specs.Recording.{new_writer, recorded, after_collect, after_restart, round_now};
+ghost use Rattle.writer_kit.specs.Recording.{new_writer, after_record, after_collect, after_restart, round_now};
 ghost use Rattle.writer_kit.specs.Refusals.{measure_fault, fault_now, early_fault, collect_fault, restart_fault};
 ghost use Rattle.writer_kit.specs.Schedules.{Act, collection_after};
 ghost use Rattle.writer_kit.specs.Shared.{History, AreToldBy, IsToldBy, absorbs, changes_of, entries_of};
@@ -25,7 +25,7 @@ ghost use Rattle.writer_kit.specs.declared.shared.change.WriterChange.TheVariant
 pub fn steps_are_events()
     ensures starts { (id : WriterId) (plan : Planned) (start : ℕ) → Follows start [] (new_writer id plan start) }
     ensures measured { (first : ℕ) (acts : List (Act Entry)) (w : Written) (e : Entry) → Follows first acts w
-        → fault_now w e ≡ None → Follows first (Measured e ∷ acts) (recorded w e) }
+        → fault_now w e ≡ None → Follows first (Measured e ∷ acts) (after_record w e) }
     ensures collected { (first : ℕ) (acts : List (Act Entry)) (w : Written) (time : ℕ) (closing : Bool) → Follows first acts w
         → collect_fault w time ≡ None → Follows first (Collected time closing ∷ acts) (after_collect w time closing) }
     ensures restarted { (first : ℕ) (acts : List (Act Entry)) (w : Written) (start : ℕ) → Follows first acts w

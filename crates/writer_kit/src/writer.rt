@@ -8,7 +8,7 @@ ghost use Rattle.agg_kit.specs.BoundPoints.{HasInstrument, LacksInstrument, entr
 ghost use Rattle.writer_kit.specs.Absorbing.{absorb_fault, no_memory_for, with_recordings};
 ghost use Rattle.writer_kit.specs.BoundPoints.{IsAtHome, RefusesAt};
 ghost use Rattle.writer_kit.specs.Following.{Follows};
-ghost use Rattle.writer_kit.specs.Recording.{recorded, after_collect, after_restart, round_now};
+ghost use Rattle.writer_kit.specs.Recording.{after_record, after_collect, after_restart, round_now};
 ghost use Rattle.writer_kit.specs.Refusals.{no_memory, fault_now, early_fault, collect_fault, restart_fault};
 
 use crate::{AbsorbFault, BoundFault, BoundPoint, CollectFault, MeasureFault, RestartFault};
@@ -115,7 +115,7 @@ impl Writer {
         value: i64,
     ) -> Result<(), MeasureFault>
         ensures ok { OnOk result (fault_now self.old (entry_of instrument attrs.now value) ≡ None) }
-        ensures value { OnOk result (self.new ≡ recorded self.old (entry_of instrument attrs.now value)) }
+        ensures value { OnOk result (self.new ≡ after_record self.old (entry_of instrument attrs.now value)) }
         ensures err { IfErr result (λ f. f ≢ no_memory → fault_now self.old (entry_of instrument attrs.now value) ≡ Some f) }
         // Where a feed keeps a list of keys, what it keeps takes memory; the feeds before the first such feed are in range.
         ensures no_memory { IfErr result (λ f. f ≡ no_memory → early_fault self.old (entry_of instrument attrs.now value) ≡ None) }
@@ -175,7 +175,7 @@ impl Writer {
         requires { IsAtHome self.old bound.old }
         ensures ok { OnOk result (fault_now self.old (entry_at bound.old.point value) ≡ None) }
         ensures fresh { OnOk result (bound.old.start ≡ self.old.start) }
-        ensures value { OnOk result (self.new ≡ recorded self.old (entry_at bound.old.point value)) }
+        ensures value { OnOk result (self.new ≡ after_record self.old (entry_at bound.old.point value)) }
         ensures err { IfErr result (λ f. RefusesAt self.old bound.old value f) }
         ensures unchanged { OnErr result (self.new ≡ self.old) }
         ensures instrument { bound.new.point.instrument ≡ bound.old.point.instrument }

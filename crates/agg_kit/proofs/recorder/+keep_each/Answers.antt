@@ -5,13 +5,13 @@ use Rattle.plan_kit.specs.Plans.{AreFeeds}
 use Rattle.agg_kit.specs.Feeding.{set_eq, overflow_set}
 use Rattle.agg_kit.specs.Feeds.{shape_at}
 use Rattle.agg_kit.specs.Recorders.{may_hold}
-use Rattle.agg_kit.specs.Steps.{own_count, has_point, place}
+use Rattle.agg_kit.specs.Steps.{own_count, has_point, fed_set}
 use Rattle.agg_kit.specs.Tallies.{Points}
 use Rattle.agg_kit.proofs.Recorders.{if_ok, keeps-here, keeps-more, place-own, place-roomy}
 use Rattle.agg_kit.proofs.recorder.+keep_each.Goals as goal
 use Rattle.agg_kit.proofs.recorder.+keep_each.Goals.{then-not-has_room+in_ok-only+else-not-has_own+in-Some-1, then-not-has_room+in_ok-only+else-not-has_own+in-None-1, else-not-has_room}
 
-own-place : (limit : ℕ) (es : Points) (o x k : AttrSet) (b : Bool) → o ≡ overflow_set → x ≡ k → b ≡ (has_point es x || set_eq o x) → b ≡ true → place limit es k ≡ k
+own-place : (limit : ℕ) (es : Points) (o x k : AttrSet) (b : Bool) → o ≡ overflow_set → x ≡ k → b ≡ (has_point es x || set_eq o x) → b ≡ true → fed_set limit es k ≡ k
 own-place limit es o x k b is at told holds =
     place-own limit es k (subst (λ (x : AttrSet). (has_point es x || set_eq overflow_set x) ≡ true) at (ap (λ (o : AttrSet). has_point es x || set_eq o x) (sym is) ∙ sym told ∙ holds))
 
@@ -24,7 +24,7 @@ returns-clause-value t c =
     let s = c.index-points.result.now in
     let fits : AreFeeds (length ss) (f ∷ c.in-Some.rest.now) = subst (AreFeeds (length ss)) c.in-Some.ensures.cases.0 c.requires.feeds in
     let up : may_hold (shape_at p f.stream) ≡ true = ap may_hold (sym c.shape_of.ensures.value) ∙ sym c.may_hold.ensures ∙ c.if-not-may_hold.false in
-    let goes : place p.limit s.entries (kept f.keep a) ≡ kept f.keep a =
+    let goes : fed_set p.limit s.entries (kept f.keep a) ≡ kept f.keep a =
     elim c.if-not-has_room.branch [
       | then-not-has_room+in_ok-only+else-not-has_own+in-Some-1 w ↦ own-place p.limit s.entries c.args.overflow.now w.set_or.result.now (kept f.keep a) w.has_own.result c.requires.overflow (w.set_or.ensures ∙ w.in_ok-only.ensures.value) w.has_own.ensures w.if-not-has_own.false
       | then-not-has_room+in_ok-only+else-not-has_own+in-None-1 w ↦ own-place p.limit s.entries c.args.overflow.now w.set_or.result.now (kept f.keep a) w.has_own.result c.requires.overflow (w.set_or.ensures ∙ w.in_ok-only.ensures.value) w.has_own.ensures w.if-not-has_own.false

@@ -7,7 +7,7 @@ use Rattle.agg_kit.specs.Feeds.{entries_of, shape_at, after_feeds}
 use Rattle.agg_kit.specs.FreshPoints.{add_at, with_fresh, payload_with, CanInsert}
 use Rattle.agg_kit.specs.Payloads.{is_out_of_range}
 use Rattle.agg_kit.specs.Sound.{AreSound}
-use Rattle.agg_kit.specs.Steps.{Stored, place}
+use Rattle.agg_kit.specs.Steps.{Stored, fed_set}
 use Rattle.agg_kit.specs.Tallies.{Points}
 use Rattle.agg_kit.specs.declared.fault.TallyFault.TheVariants as faults
 use Rattle.agg_kit.proofs.Here.{fits, rest-fits, rest-sound, absent-first, absent-whole, absent-held, there-within, there-added, there-out, there-first, there-whole, stays, still}
@@ -22,7 +22,7 @@ shape_of-shape-requires t c =
 
 pub fresh-requires-clause-absent : goal.fresh-requires-clause-absent
 fresh-requires-clause-absent t c =
-    absent c.index_mut-points.result.now.entries (place c.limit-limit.result c.index_mut-points.result.now.entries c.set_or-set.result.now) (sym c.find.ensures ∙ c.in_default-find.is)
+    absent c.index_mut-points.result.now.entries (fed_set c.limit-limit.result c.index_mut-points.result.now.entries c.set_or-set.result.now) (sym c.find.ensures ∙ c.in_default-find.is)
 
 pub record_each-requires : goal.record_each-requires
 record_each-requires t c = (

@@ -9,7 +9,7 @@ use Rattle.agg_kit.specs.FreshPoints.{payload_in}
 use Rattle.agg_kit.specs.Kept.{whole_feed}
 use Rattle.agg_kit.specs.Payloads.{is_out_of_range}
 use Rattle.agg_kit.specs.Sound.{AreSound}
-use Rattle.agg_kit.specs.Steps.{place, bounds_of, payload_with_value}
+use Rattle.agg_kit.specs.Steps.{fed_set, bounds_of, payload_with_value}
 use Rattle.agg_kit.specs.Tallies.{Points}
 use Rattle.agg_kit.proofs.BoundPoints.{known-lone}
 use Rattle.agg_kit.proofs.Records.{entries-read, stored-length, sound-shape, leaves-here, first-here, first-kept, read-there, recorded-here, same_entries, found-again, lone-is, lone-within}
@@ -54,7 +54,7 @@ try_add-requires-clause-within c =
     let l = lone-within (length c.args.series.now.items) c.args.lone c.in-Some.stream c.args.feeds.now c.in-Some.is c.requires.lone c.requires.feeds in
     let at = found-again c.args.plan.now c.args.attrs.now c.args.series.now.items c.in-Some.stream c.index.result.now c.index_mut-points.result.now c.limit.result c.args.attrs.now c.place_in.result c.in-Some-place_in.place l c.index.ensures c.index_mut-points.ensures.value c.limit.ensures.value refl c.in-Some-place_in.is c.place_in.ensures in
     let points = c.index_mut-points.result.now in
-    within-has_point points.entries (place c.args.plan.now.limit points.entries c.args.attrs.now) c.in-Some-place_in.place at
+    within-has_point points.entries (fed_set c.args.plan.now.limit points.entries c.args.attrs.now) c.in-Some-place_in.place at
 
 pub returns-then-not-try_add-clause-err : goal.returns-then-not-try_add-clause-err
 returns-then-not-try_add-clause-err c = λ _.
@@ -71,7 +71,7 @@ returns-then-not-try_add-clause-err c = λ _.
     let a = c.args.attrs.now in
     let ss = c.args.series.now.items in
     let feed = whole_feed c.in-Some.stream in
-    let out = range-there shape points.entries (place c.args.plan.now.limit points.entries c.args.attrs.now) v i true at (told ∙ ap not c.if-not-try_add.true) in
+    let out = range-there shape points.entries (fed_set c.args.plan.now.limit points.entries c.args.attrs.now) v i true at (told ∙ ap not c.if-not-try_add.true) in
     ap (first_out p a v (entries_of ss)) (lone-is c.args.lone c.in-Some.stream c.args.feeds.now c.in-Some.is c.requires.lone) ∙ first-here p a v (entries_of ss) feed [] (leaves-here p feed a v ss points l c.index_mut-points.ensures.value ∙ out)
 
 pub returns-then-not-try_add-clause-unchanged : goal.returns-then-not-try_add-clause-unchanged
@@ -94,7 +94,7 @@ returns-clause-value c =
     let was = c.index_mut-points.ensures.value in
     let done : Points → Points = λ es. set_value_at es i (payload_with_value (bounds_of shape) (payload_in shape es i) v) in
     recorded-here p feed [] a v ss ss points points points c.try_add.new.self done (read-there ss feed.stream points l was) refl was
-    refl (add_under-has_point shape points.entries (place c.args.plan.now.limit points.entries c.args.attrs.now) v i at)
+    refl (add_under-has_point shape points.entries (fed_set c.args.plan.now.limit points.entries c.args.attrs.now) v i at)
     ((simp to_z-of_z at c.try_add.ensures.added) c.if-not-try_add.false ∙ ap (λ (s : Shape). set_value_at points.entries i (payload_with_value (bounds_of s) (payload_in s points.entries i) v)) c.shape_of-shape.ensures.value)
     ∙ ap (λ (fs : List Feed). after_feeds p fs a v (entries_of ss)) (sym (lone-is c.args.lone c.in-Some.stream c.args.feeds.now c.in-Some.is c.requires.lone))
 
@@ -110,5 +110,5 @@ returns-clause-ok c =
     let i = c.in-Some-place_in.place in
     let told : is_out_of_range (payload_with_value (bounds_of shape) (payload_in shape points.entries i) v) ≡ not c.try_add.result =
     sym (ap (λ (s : Shape). is_out_of_range (payload_with_value (bounds_of s) (payload_in s points.entries i) v)) c.shape_of-shape.ensures.value) ∙ (simp to_z-of_z at c.try_add.ensures.fits) in
-    let ok = range-there shape points.entries (place c.args.plan.now.limit points.entries c.args.attrs.now) v i false at (told ∙ ap not c.if-not-try_add.false) in
+    let ok = range-there shape points.entries (fed_set c.args.plan.now.limit points.entries c.args.attrs.now) v i false at (told ∙ ap not c.if-not-try_add.false) in
     first-kept c.args.plan.now c.args.attrs.now v ss points (whole_feed c.in-Some.stream) [] c.args.feeds.now (lone-is c.args.lone c.in-Some.stream c.args.feeds.now c.in-Some.is c.requires.lone) l c.index_mut-points.ensures.value ok

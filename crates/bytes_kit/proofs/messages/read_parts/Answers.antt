@@ -1,6 +1,6 @@
 use Rattle.std.proofs.lemmas.Result.{err_from_is_err_and}
 use Rattle.bytes_kit.proofs.Carrying.{no_receiver, no_body}
-use Rattle.bytes_kit.proofs.messages.read_parts.Goals as goal
+use Rattle.bytes_kit.proofs.messages.read_fields.Goals as goal
 
 pub returns-in_err-to-clause-found : goal.returns-in_err-to-clause-found
 returns-in_err-to-clause-found c =

@@ -4,7 +4,7 @@ use Rattle.std.specs.FinMap.{entries, from_entries, get-from_entries}
 use Rattle.std.specs.List.{insert}
 use Rattle.point_kit.proofs.OrderLaws.{key_total}
 use Rattle.std.specs.FinMap.Entries.{find}
-use Rattle.gateway_kit.specs.Changing.{Entry}
+use Rattle.gateway_kit.specs.Changing.{KeyedCell}
 use Rattle.gateway_kit.specs.Growth.{cells_at}
 use Rattle.gateway_kit.specs.Incarnations.{entries_at, keyed_cells}
 use Rattle.gateway_kit.specs.IncarnationState.{Cells, IncarnationState}
@@ -57,7 +57,7 @@ returns-in_ok-insert-in-Err-clause-grows c =
     let news = insert olds c.in-Err.place new in
     let growth = c.in_ok-growth-in-Err.growth in
     let placed : IsPlace incarnation_cmp (map keyed_cells olds) a (Err c.in-Err.place) = rw (c.as_slice.ensures.value, c.in-Err.is) at c.incarnation_place.ensures in
-    let none : growth.before ≡ 0 = c.in_ok-growth-in-Err.ensures.before ∙ ap (λ (cs : Cells). conflicts_in (entries cs)) c.new-incarnation.ensures.cells ∙ ap (λ (es : List Entry). conflicts_in es) entries-empty in
+    let none : growth.before ≡ 0 = c.in_ok-growth-in-Err.ensures.before ∙ ap (λ (cs : Cells). conflicts_in (entries cs)) c.new-incarnation.ensures.cells ∙ ap (λ (es : List KeyedCell). conflicts_in es) entries-empty in
     rw c.in_ok-insert-in-Err.ensures.items (one_grown olds news c.args.len c.requires.whole a came (apart_alone k c.args.cell) (from_entries ((key, c.args.cell) ∷ [])) (λ q. get-from_entries key_total ((key, c.args.cell) ∷ []) q) growth
     (gap_grows olds c.args.len c.requires.whole a came (lone_entry k c.args.cell) c.in-Err.place c.new-incarnation.result new growth.more growth.changed placed c.new-incarnation.ensures.cells (c.in_ok-growth-in-Err.ensures.same ∙ (λ j. (c.new-incarnation.ensures.writer j, c.new-incarnation.ensures.start j))) c.in_ok-growth-in-Err.ensures.joins)
     c.in_ok-growth-in-Err.ensures.bounded

@@ -3,7 +3,7 @@ use Rattle.std.specs.Prelude.{slice_set}
 use Rattle.std.specs.FinMap.{entries}
 use Rattle.std.specs.List.{insert}
 use Rattle.point_kit.specs.Exports.{state}
-use Rattle.gateway_kit.specs.Changing.{Entry, entries_of}
+use Rattle.gateway_kit.specs.Changing.{KeyedCell, keyed_cells_of}
 use Rattle.gateway_kit.specs.Incarnations.{keyed_cells}
 use Rattle.gateway_kit.specs.IncarnationState.{Cells, IncarnationState}
 use Rattle.gateway_kit.specs.Keys.{incarnation_cmp}
@@ -20,8 +20,8 @@ returns-in-Ok-clause-grows c =
     let e = c.args.export.now in
     let olds = c.args.incarnations.now.items in
     let placed : IsPlace incarnation_cmp (map keyed_cells olds) (e.writer, e.start) (Ok c.in-Ok.place) = rw (c.as_slice.ensures.value, c.writer.ensures.value, c.start.ensures.value, c.in-Ok.is) at c.incarnation_place.ensures in
-    held_grown olds (slice_set olds c.in-Ok.place c.take.new.self) c.args.len c.requires.whole (e.writer, e.start) (entries_of e) (apart_entries e) (state (e ∷ [])) (state_alone e) c.take.result
-    (held_grows olds c.args.len c.requires.whole (e.writer, e.start) (entries_of e) (export_entry e c.requires.points) c.in-Ok.place c.index_mut.result.now c.take.new.self placed c.index_mut.ensures.value c.take.result c.take.ensures.joins c.take.ensures.same)
+    held_grown olds (slice_set olds c.in-Ok.place c.take.new.self) c.args.len c.requires.whole (e.writer, e.start) (keyed_cells_of e) (apart_entries e) (state (e ∷ [])) (state_alone e) c.take.result
+    (held_grows olds c.args.len c.requires.whole (e.writer, e.start) (keyed_cells_of e) (export_entry e c.requires.points) c.in-Ok.place c.index_mut.result.now c.take.new.self placed c.index_mut.ensures.value c.take.result c.take.ensures.joins c.take.ensures.same)
     c.take.ensures.bounded
     (held_tells olds c.in-Ok.place c.index_mut.result.now c.take.new.self (within_at keyed_cells olds c.in-Ok.place (e.writer, e.start) placed) c.index_mut.ensures.value c.take.result c.take.ensures.before c.take.ensures.after)
 
@@ -37,9 +37,9 @@ returns-in_ok-insert-in-Err-clause-grows c =
     let growth = c.in_ok-growth-in-Err.growth in
     let placed : IsPlace incarnation_cmp (map keyed_cells olds) (e.writer, e.start) (Err c.in-Err.place) = rw (c.as_slice.ensures.value, c.writer.ensures.value, c.start.ensures.value, c.in-Err.is) at c.incarnation_place.ensures in
     let key : (keyed_cells new).0 ≡ (e.writer, e.start) = c.in_ok-growth-in-Err.ensures.same ∙ (λ j. ((c.new-incarnation.ensures.writer ∙ c.in_ok-writer-in-Err.ensures.value ∙ c.writer-in-Err.ensures.value) j, (c.new-incarnation.ensures.start ∙ c.start-in-Err.ensures.value) j)) in
-    let none : growth.before ≡ 0 = c.in_ok-growth-in-Err.ensures.before ∙ ap (λ (cs : Cells). conflicts_in (entries cs)) c.new-incarnation.ensures.cells ∙ ap (λ (es : List Entry). conflicts_in es) entries-empty in
-    rw c.in_ok-insert-in-Err.ensures.items (one_grown olds news c.args.len c.requires.whole (e.writer, e.start) (entries_of e) (apart_entries e) (state (e ∷ [])) (state_alone e) growth
-    (gap_grows olds c.args.len c.requires.whole (e.writer, e.start) (entries_of e) (export_entry e c.requires.points) c.in-Err.place c.new-incarnation.result new growth.more growth.changed placed c.new-incarnation.ensures.cells key c.in_ok-growth-in-Err.ensures.joins)
+    let none : growth.before ≡ 0 = c.in_ok-growth-in-Err.ensures.before ∙ ap (λ (cs : Cells). conflicts_in (entries cs)) c.new-incarnation.ensures.cells ∙ ap (λ (es : List KeyedCell). conflicts_in es) entries-empty in
+    rw c.in_ok-insert-in-Err.ensures.items (one_grown olds news c.args.len c.requires.whole (e.writer, e.start) (keyed_cells_of e) (apart_entries e) (state (e ∷ [])) (state_alone e) growth
+    (gap_grows olds c.args.len c.requires.whole (e.writer, e.start) (keyed_cells_of e) (export_entry e c.requires.points) c.in-Err.place c.new-incarnation.result new growth.more growth.changed placed c.new-incarnation.ensures.cells key c.in_ok-growth-in-Err.ensures.joins)
     c.in_ok-growth-in-Err.ensures.bounded
     (subst (λ n. Tells olds news n growth.after) (sym none) (tells_insert olds c.in-Err.place new growth.after c.in_ok-growth-in-Err.ensures.after)))
 

@@ -1,7 +1,7 @@
 use Rattle.std.proofs.Common.{◌≡◌, ◌<◌, true, false, cond, map, length, sym, ap, ◌∙◌, rules}
 use Rattle.std.specs.Prelude.{slice_set}
 use Rattle.gateway_kit.specs.Changing.{replacement}
-use Rattle.gateway_kit.specs.Keys.{entry_of}
+use Rattle.gateway_kit.specs.Keys.{keyed_cell_of}
 use Rattle.gateway_kit.proofs.Bounded.{put_bounded}
 use Rattle.gateway_kit.proofs.Moved.{kept_with_change, past_with_change}
 use Rattle.gateway_kit.proofs.Tallies.{put_under, written_conflicts}
@@ -14,12 +14,12 @@ use Rattle.gateway_kit.proofs.Times.{less_of, written, written_latest}
 use Rattle.gateway_kit.proofs.items.put_cell.Goals as goal
 
 pub returns-then-place-len-clause-put : goal.returns-then-place-len-clause-put
-returns-then-place-len-clause-put c = past_with_change entry_of replacement c.args.items.now.items c.args.place c.args.cell (search rules)
+returns-then-place-len-clause-put c = past_with_change keyed_cell_of replacement c.args.items.now.items c.args.place c.args.cell (search rules)
 
 pub returns-then-not-is_further-clause-put : goal.returns-then-not-is_further-clause-put
 returns-then-not-is_further-clause-put c =
     let there = c.index.result.now in
-    kept_with_change entry_of replacement c.args.items.now.items c.args.place there c.args.cell (search rules) c.index.ensures
+    kept_with_change keyed_cell_of replacement c.args.items.now.items c.args.place there c.args.cell (search rules) c.index.ensures
     (let no : c.is_further.result ≡ false = search rules in ap (λ b. cond b c.args.cell there.cell) (sym c.is_further.ensures ∙ no))
 
 pub returns-then-not-is_further-clause-moves : goal.returns-then-not-is_further-clause-moves
@@ -42,7 +42,7 @@ returns-clause-put c =
     let yes : c.is_further.result ≡ true = search rules in
     let up : rank c.index.result.now.cell < rank c.args.cell = less_of _ _ (sym c.is_further.ensures ∙ yes) in
     let y = c.index_mut.result.now in
-    ap (λ (p : Item). map entry_of (slice_set items c.args.place p)) c.put.ensures ∙ written items c.args.place c.index.result.now y c.args.cell within c.index.ensures c.index_mut.ensures.value up (number_after c.args.number y.number)
+    ap (λ (p : Item). map keyed_cell_of (slice_set items c.args.place p)) c.put.ensures ∙ written items c.args.place c.index.result.now y c.args.cell within c.index.ensures c.index_mut.ensures.value up (number_after c.args.number y.number)
 
 pub returns-clause-tally : goal.returns-clause-tally
 returns-clause-tally c =
@@ -53,9 +53,9 @@ returns-clause-tally c =
     let y = c.index_mut.result.now in
     record {
       newest = written_latest items c.args.place c.index.result.now y c.args.cell within c.index.ensures c.index_mut.ensures.value up (number_after c.args.number y.number) c.args.tally.newest c.max.result c.max.ensures c.requires.newest
-          ∙ ap (λ (p : Item). latest (map entry_of (slice_set items c.args.place p))) (sym c.put.ensures);
+          ∙ ap (λ (p : Item). latest (map keyed_cell_of (slice_set items c.args.place p))) (sym c.put.ensures);
       conflicts = written_conflicts items c.args.place c.index.result.now y c.args.cell within c.index.ensures c.index_mut.ensures.value up (number_after c.args.number y.number) c.args.tally.conflicts c.conflict_of.result c.conflict_of-2.result c.requires.conflicts c.conflict_of.ensures c.conflict_of-2.ensures
-          ∙ ap (λ (p : Item). conflicts_in (map entry_of (slice_set items c.args.place p))) (sym c.put.ensures);
+          ∙ ap (λ (p : Item). conflicts_in (map keyed_cell_of (slice_set items c.args.place p))) (sym c.put.ensures);
     }
 
 pub returns-clause-moves : goal.returns-clause-moves

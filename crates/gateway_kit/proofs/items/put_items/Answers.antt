@@ -1,6 +1,6 @@
 use Rattle.std.proofs.Common.{◌≡◌, ℕ, ◌+◌, ◌-◌, ◌<◌, ◌≤◌, List, length, subst, Bool, true, false, cond, map, nat_le, vec_capacity, le-leb, refl, sym, ap, ◌∙◌, arith}
 use Rattle.std.proofs.lemmas.Grind.{common_steps}
-use Rattle.gateway_kit.specs.Keys.{item_cmp, entry_of}
+use Rattle.gateway_kit.specs.Keys.{item_cmp, keyed_cell_of}
 use Rattle.gateway_kit.specs.Weave.{weave}
 use Rattle.gateway_kit.proofs.Entries.{on_keys, map-weave}
 use Rattle.gateway_kit.proofs.Finishing.{no_items}
@@ -18,19 +18,19 @@ use Rattle.gateway_kit.proofs.items.put_items.Goals.{else-not-is_empty-via-then-
 pub returns-then-len-saturating_sub-clause-woven : goal.returns-then-len-saturating_sub-clause-woven
 returns-then-len-saturating_sub-clause-woven c =
     let fits : length c.args.items.now.items + length c.args.fresh.items ≤ vec_capacity c.args.room = grind (arith, common_steps) in
-    ap (map entry_of) (c.settle.ensures.same ∙ c.weave.ensures ∙ (λ i. weave (λ x y. on_keys item_cmp (entry_of x) (entry_of y)) (c.replace-mine.ensures.value i).items c.renumber_all.new.values.items)) ∙ map-weave _ (on_keys item_cmp) entry_of (λ x y. refl) c.args.items.now.items c.renumber_all.new.values.items
-    ∙ ap (weave (on_keys item_cmp) (map entry_of c.args.items.now.items)) c.renumber_all.ensures.same
-    ∙ ap (λ b. cond b (weave (on_keys item_cmp) (map entry_of c.args.items.now.items) (map entry_of c.args.fresh.items)) (map entry_of c.args.items.now.items)) (sym (le-leb _ _ fits))
+    ap (map keyed_cell_of) (c.settle.ensures.same ∙ c.weave.ensures ∙ (λ i. weave (λ x y. on_keys item_cmp (keyed_cell_of x) (keyed_cell_of y)) (c.replace-mine.ensures.value i).items c.renumber_all.new.values.items)) ∙ map-weave _ (on_keys item_cmp) keyed_cell_of (λ x y. refl) c.args.items.now.items c.renumber_all.new.values.items
+    ∙ ap (weave (on_keys item_cmp) (map keyed_cell_of c.args.items.now.items)) c.renumber_all.ensures.same
+    ∙ ap (λ b. cond b (weave (on_keys item_cmp) (map keyed_cell_of c.args.items.now.items) (map keyed_cell_of c.args.fresh.items)) (map keyed_cell_of c.args.items.now.items)) (sym (le-leb _ _ fits))
 
 pub returns-then-len-saturating_sub-clause-moves : goal.returns-then-len-saturating_sub-clause-moves
 returns-then-len-saturating_sub-clause-moves c =
-    subst (λ (l : List Item). ItemsMove c.args.number c.args.items.now.items l) (sym (c.settle.ensures.same ∙ c.weave.ensures ∙ (λ i. weave (λ x y. on_keys item_cmp (entry_of x) (entry_of y)) (c.replace-mine.ensures.value i).items c.renumber_all.new.values.items)))
+    subst (λ (l : List Item). ItemsMove c.args.number c.args.items.now.items l) (sym (c.settle.ensures.same ∙ c.weave.ensures ∙ (λ i. weave (λ x y. on_keys item_cmp (keyed_cell_of x) (keyed_cell_of y)) (c.replace-mine.ensures.value i).items c.renumber_all.new.values.items)))
     (woven_move c.args.number c.args.items.now.items c.renumber_all.new.values.items c.requires.sorted (ap (is_sorted item_cmp) c.renumber_all.ensures.same ∙ c.requires.fresh_sorted) c.renumber_all.ensures.numbers)
 
 pub returns-then-len-saturating_sub-clause-up_to : goal.returns-then-len-saturating_sub-clause-up_to
 returns-then-len-saturating_sub-clause-up_to c = λ n g h.
-    ap (λ (l : List Item). are_up_to n l) (c.settle.ensures.same ∙ c.weave.ensures ∙ (λ i. weave (λ x y. on_keys item_cmp (entry_of x) (entry_of y)) (c.replace-mine.ensures.value i).items c.renumber_all.new.values.items))
-    ∙ all_weave (λ x y. on_keys item_cmp (entry_of x) (entry_of y)) (λ (i : Item). nat_le i.number n) c.args.items.now.items c.renumber_all.new.values.items h (all_up_to c.args.number c.renumber_all.new.values.items c.renumber_all.ensures.numbers n g)
+    ap (λ (l : List Item). are_up_to n l) (c.settle.ensures.same ∙ c.weave.ensures ∙ (λ i. weave (λ x y. on_keys item_cmp (keyed_cell_of x) (keyed_cell_of y)) (c.replace-mine.ensures.value i).items c.renumber_all.new.values.items))
+    ∙ all_weave (λ x y. on_keys item_cmp (keyed_cell_of x) (keyed_cell_of y)) (λ (i : Item). nat_le i.number n) c.args.items.now.items c.renumber_all.new.values.items h (all_up_to c.args.number c.renumber_all.new.values.items c.renumber_all.ensures.numbers n g)
 
 pub returns-else-not-is_empty-clause-moves : goal.returns-else-not-is_empty-clause-moves
 returns-else-not-is_empty-clause-moves c = items_stay c.args.number c.args.items.now.items
@@ -46,9 +46,9 @@ pub returns-else-not-is_empty-clause-woven : goal.returns-else-not-is_empty-clau
 returns-else-not-is_empty-clause-woven c = elim c.else-not-is_empty.branch [
   | else-not-is_empty-via-then-not-is_empty+else-len-saturating_sub w ↦
       let none : nat_le (length c.args.items.now.items + length c.args.fresh.items) (vec_capacity c.args.room) ≡ false = no_room (length c.args.items.now.items) (length c.args.fresh.items) (vec_capacity c.args.room) (grind (arith, common_steps)) in
-      ap (λ b. cond b (weave (on_keys item_cmp) (map entry_of c.args.items.now.items) (map entry_of c.args.fresh.items)) (map entry_of c.args.items.now.items)) (sym none)
+      ap (λ b. cond b (weave (on_keys item_cmp) (map keyed_cell_of c.args.items.now.items) (map keyed_cell_of c.args.fresh.items)) (map keyed_cell_of c.args.items.now.items)) (sym none)
   | else-not-is_empty-via-else-not-is_empty w ↦
       let empty : length c.args.fresh.items ≡ 0 = grind (arith, common_steps) in
-      same_either (nat_le (length c.args.items.now.items + length c.args.fresh.items) (vec_capacity c.args.room)) (map entry_of c.args.items.now.items) (weave (on_keys item_cmp) (map entry_of c.args.items.now.items) (map entry_of c.args.fresh.items))
-      (ap (λ l. weave (on_keys item_cmp) (map entry_of c.args.items.now.items) (map entry_of l)) (no_items c.args.fresh.items empty) ∙ weave-nil (on_keys item_cmp) (map entry_of c.args.items.now.items))
+      same_either (nat_le (length c.args.items.now.items + length c.args.fresh.items) (vec_capacity c.args.room)) (map keyed_cell_of c.args.items.now.items) (weave (on_keys item_cmp) (map keyed_cell_of c.args.items.now.items) (map keyed_cell_of c.args.fresh.items))
+      (ap (λ l. weave (on_keys item_cmp) (map keyed_cell_of c.args.items.now.items) (map keyed_cell_of l)) (no_items c.args.fresh.items empty) ∙ weave-nil (on_keys item_cmp) (map keyed_cell_of c.args.items.now.items))
 ]

@@ -1,5 +1,5 @@
 use Rattle.std.proofs.Common.{rules, sym, subst}
-use Rattle.turn_kit.specs.Places.{HasTurn}
+use Rattle.turn_kit.specs.TableSeats.{HasTurn}
 use Rattle.turn_kit.proofs.Seating.{cuts}
 use Rattle.turn_kit.proofs.Splitting.{still_turn, has_place, idle_full, was_full, seated3, drawn3, sole3, weight3, credit3, seated4, whole4, idle4, was_split}
 use Rattle.turn_kit.proofs.held.split_held.Goals as goal
@@ -12,7 +12,7 @@ returns-then-seats_made-ge-MOST_SEATS-clause-full g c = was_full g.M.Machine.sta
 
 pub draw-requires : goal.draw-requires
 draw-requires g c = let s = g.M.Machine.state in let n = g.M.Machine.after in let same = c.seats_made.ensures.known in
-    record { place = search rules; turn = subst (HasTurn s n) (sym same) (still_turn s n _ c.requires.turn _); room = has_place s n _ c.requires.turn _ _ same c.seats_made.ensures.told (search rules) }
+    record { table_seat = search rules; turn = subst (HasTurn s n) (sym same) (still_turn s n _ c.requires.turn _); room = has_place s n _ c.requires.turn _ _ same c.seats_made.ensures.told (search rules) }
 
 pub split_seat-new-requires : goal.split_seat-new-requires
 split_seat-new-requires g c = let a = c.seats_made.ensures.known in let b = c.draw.ensures.told in let d = c.count_out.ensures.told in let h = c.requires.turn in
@@ -22,7 +22,7 @@ split_seat-new-requires g c = let a = c.seats_made.ensures.known in let b = c.dr
 pub give-requires-2 : goal.give-requires-2
 give-requires-2 g c = let a = c.seats_made.ensures.known in let b = c.draw.ensures.told in let d = c.count_out.ensures.told in let h = c.requires.turn in
     let s = g.M.Machine.state in let n = g.M.Machine.after in let e = c.split_seat-new.ensures.2 in
-    record { place = search rules; seated = seated4 s n _ h _ _ _ _ a b d _ e; whole = whole4 s n _ h _ _ _ _ a b d _ e }
+    record { table_seat = search rules; seated = seated4 s n _ h _ _ _ _ a b d _ e; whole = whole4 s n _ h _ _ _ _ a b d _ e }
 
 pub returns-clause-place : goal.returns-clause-place
 returns-clause-place g c = let a = c.seats_made.ensures.known in let b = c.draw.ensures.told in let d = c.count_out.ensures.told in let h = c.requires.turn in

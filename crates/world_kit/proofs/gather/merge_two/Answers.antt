@@ -2,7 +2,7 @@ use Rattle.std.proofs.Common.{◌≡◌, ◌<◌, ◌≤◌, ◌+◌, ◌-◌, l
 use Rattle.std.proofs.lemmas.List.{set-append_left, set-append_right}
 use Rattle.std.proofs.lemmas.Option.{get_or_from_slice_get}
 use Rattle.gossip_kit.specs.Gossip.{Renumbers}
-use Rattle.gossip_kit.specs.Views.{NodeView}
+use Rattle.gossip_kit.specs.Views.{NodeModel}
 use Rattle.point_kit.specs.Exports.{join_points, changed_points}
 use Rattle.world_kit.proofs.gather.merge_two.Goals as goal
 
@@ -26,11 +26,11 @@ returns-in_ok-changed-clause-ok c =
           let own = e.by_index.0 c.args.into x less ∙ get_or_from_slice_get nodes c.args.into was x mine in
           let its = e.by_index.1 0 y ∙ ap (λ i. get_or nodes i y) at ∙ get_or_from_slice_get nodes c.args.from other y theirs in
           let read = c.gateway.ensures.value in (
-            did.id ∙ ap (λ (n : NodeView). n.gateway.id) own,
-            did.ok ∙ ap (λ (n : NodeView). join_points n.gateway.points c.gateway.result.now.points) own ∙ ap (λ g. join_points was.gateway.points g.points) read ∙ ap (λ (n : NodeView). join_points was.gateway.points n.gateway.points) its,
-            did.value ∙ ap (λ (n : NodeView). changed_points n.gateway.points is.gateway.points) own,
-            subst (λ (n : NodeView). Renumbers n is) own did.numbers,
-            did.acked ∙ ap (λ (n : NodeView). n.acked) own,
+            did.id ∙ ap (λ (n : NodeModel). n.gateway.id) own,
+            did.ok ∙ ap (λ (n : NodeModel). join_points n.gateway.points c.gateway.result.now.points) own ∙ ap (λ g. join_points was.gateway.points g.points) read ∙ ap (λ (n : NodeModel). join_points was.gateway.points n.gateway.points) its,
+            did.value ∙ ap (λ (n : NodeModel). changed_points n.gateway.points is.gateway.points) own,
+            subst (λ (n : NodeModel). Renumbers n is) own did.numbers,
+            did.acked ∙ ap (λ (n : NodeModel). n.acked) own,
           );
     }
 
@@ -56,10 +56,10 @@ returns-in_ok-changed-2-clause-ok c =
           let own = e.by_index.1 0 x ∙ ap (λ i. get_or nodes i x) at ∙ get_or_from_slice_get nodes c.args.into was x mine in
           let its = e.by_index.0 c.args.from y less ∙ get_or_from_slice_get nodes c.args.from other y theirs in
           let read = c.gateway-else-into-from.ensures.value in (
-            did.id ∙ ap (λ (n : NodeView). n.gateway.id) own,
-            did.ok ∙ ap (λ (n : NodeView). join_points n.gateway.points c.gateway-else-into-from.result.now.points) own ∙ ap (λ g. join_points was.gateway.points g.points) read ∙ ap (λ (n : NodeView). join_points was.gateway.points n.gateway.points) its,
-            did.value ∙ ap (λ (n : NodeView). changed_points n.gateway.points is.gateway.points) own,
-            subst (λ (n : NodeView). Renumbers n is) own did.numbers,
-            did.acked ∙ ap (λ (n : NodeView). n.acked) own,
+            did.id ∙ ap (λ (n : NodeModel). n.gateway.id) own,
+            did.ok ∙ ap (λ (n : NodeModel). join_points n.gateway.points c.gateway-else-into-from.result.now.points) own ∙ ap (λ g. join_points was.gateway.points g.points) read ∙ ap (λ (n : NodeModel). join_points was.gateway.points n.gateway.points) its,
+            did.value ∙ ap (λ (n : NodeModel). changed_points n.gateway.points is.gateway.points) own,
+            subst (λ (n : NodeModel). Renumbers n is) own did.numbers,
+            did.acked ∙ ap (λ (n : NodeModel). n.acked) own,
           );
     }

@@ -2,7 +2,7 @@ use Rattle.std.proofs.Common.{◌≡◌, ◌∙◌, ◌<◌, ◌≤◌, ℕ, Boo
 use Rattle.attr_kit.specs.declared.attr_set.AttrSet.{AttrSet}
 use Rattle.agg_kit.specs.Absorbing.{Counts}
 use Rattle.agg_kit.specs.Feeding.{set_eq, overflow_set}
-use Rattle.agg_kit.specs.Steps.{Stored, has_point, own_count, place}
+use Rattle.agg_kit.specs.Steps.{Stored, has_point, own_count, fed_set}
 use Rattle.agg_kit.specs.Tallies.{Points}
 use Rattle.agg_kit.proofs.ComingIn.{own-there, own-new, own-over, place-over}
 use Rattle.agg_kit.proofs.Distinct.{same}
@@ -21,7 +21,7 @@ pub returns-then-eq-clause-own : goal.returns-then-eq-clause-own
 returns-then-eq-clause-own c = λ es p k.
     let a = c.args.set.now in
     let over = over-is a c.args.overflow.now c.eq.result true c.requires c.eq.ensures c.if-eq.true in
-    own-over c.args.own.now c.args.limit es a p k.0 (ap (place c.args.limit es) (same a overflow_set over) ∙ place-over c.args.limit es)
+    own-over c.args.own.now c.args.limit es a p k.0 (ap (fed_set c.args.limit es) (same a overflow_set over) ∙ place-over c.args.limit es)
 
 pub returns-then-contains_key-clause-own : goal.returns-then-contains_key-clause-own
 returns-then-contains_key-clause-own c = λ es p k.

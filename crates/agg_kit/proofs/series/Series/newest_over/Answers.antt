@@ -6,7 +6,7 @@ use Rattle.agg_kit.specs.Absorbs.{absorb}
 use Rattle.agg_kit.specs.Feeding.{set_eq, overflow_set}
 use Rattle.agg_kit.specs.Sound.{AreOnce}
 use Rattle.agg_kit.specs.Stamps.{newer, newest_over}
-use Rattle.agg_kit.specs.Steps.{Stored, own_count, place}
+use Rattle.agg_kit.specs.Steps.{Stored, own_count, fed_set}
 use Rattle.agg_kit.specs.Tallies.{Points}
 use Rattle.agg_kit.proofs.ComingIn.{counts-there, newest-more, newest-out, seen-more}
 use Rattle.agg_kit.proofs.Copies.{none-there}
@@ -43,7 +43,7 @@ loop-place-preserved c =
           let e : AttrSet × Payload = (w.in-Some-get_index.set.now, w.in-Some-get_index.payload.now) in
           let there = sym w.in-Some-get_index.ensures.entry in
           let counts = counts-there limit es ms i e there c.loop-place.own once c.loop-place.invariant.0 in
-          let z : cond (set_eq (place limit now e.0) overflow_set) (newer best (n, e.1)) best ≡ c.match-get_index.newest =
+          let z : cond (set_eq (fed_set limit now e.0) overflow_set) (newer best (n, e.1)) best ≡ c.match-get_index.newest =
           ap (λ b. cond b (newer best (n, e.1)) best) (sym (w.goes_over.ensures.over now counts) ∙ w.if-goes_over.true) ∙ sym w.in_ok-newest.ensures ∙ sym w.newest-is in (
             w.own-is ∙ w.goes_over.ensures.own now e.1 counts ∙ sym (ap own_count (seen-more limit es ms i e there)),
             newest-more limit es ms i e there ns n all best stamped c.loop-place.invariant.1 ∙ ap (newest_over limit (absorb limit es (take (i + 1) ms)) (drop (i + 1) ms) (drop (i + 1) ns)) z,
@@ -52,7 +52,7 @@ loop-place-preserved c =
           let e : AttrSet × Payload = (w.in-Some-get_index.set.now, w.in-Some-get_index.payload.now) in
           let there = sym w.in-Some-get_index.ensures.entry in
           let counts = counts-there limit es ms i e there c.loop-place.own once c.loop-place.invariant.0 in
-          let z : cond (set_eq (place limit now e.0) overflow_set) (newer best (n, e.1)) best ≡ c.match-get_index.newest =
+          let z : cond (set_eq (fed_set limit now e.0) overflow_set) (newer best (n, e.1)) best ≡ c.match-get_index.newest =
           ap (λ b. cond b (newer best (n, e.1)) best) (sym (w.goes_over.ensures.over now counts) ∙ w.if-goes_over.false) ∙ sym w.newest-is in (
             w.own-is ∙ w.goes_over.ensures.own now e.1 counts ∙ sym (ap own_count (seen-more limit es ms i e there)),
             newest-more limit es ms i e there ns n all best stamped c.loop-place.invariant.1 ∙ ap (newest_over limit (absorb limit es (take (i + 1) ms)) (drop (i + 1) ms) (drop (i + 1) ns)) z,

@@ -2,7 +2,7 @@ use Rattle.std.proofs.Common.{◌≡◌, ◌∙◌, ◌+◌, ◌+ℤ◌, ◌<◌
 use Rattle.attr_kit.specs.declared.attr_set.AttrSet.{AttrSet}
 use Rattle.point_kit.specs.declared.payload.Payload.{Payload}
 use Rattle.agg_kit.specs.Feeding.{set_eq, is_own, overflow_set}
-use Rattle.agg_kit.specs.Steps.{Stored, has_point, own_count, place}
+use Rattle.agg_kit.specs.Steps.{Stored, has_point, own_count, fed_set}
 use Rattle.agg_kit.specs.Tallies.{Points}
 use Rattle.agg_kit.specs.declared.absorbing.Walk.{Walk}
 use Rattle.agg_kit.specs.declared.joining.Amount.{Amount}
@@ -17,11 +17,11 @@ use Rattle.agg_kit.proofs.series.Series.steps_over.Goals.{then-ne+else-contains_
 own-is : (a : AttrSet) {o : AttrSet} (other b : Bool) → o ≡ overflow_set → other ≡ not (set_eq a o) → other ≡ b → is_own a ≡ b
 own-is a other b e is h = ap (λ (x : AttrSet). not (set_eq a x)) (sym e) ∙ sym is ∙ h
 
-past : {w : Walk} {before es : Points} {a : AttrSet} {p : Payload} → ComesIn w before es a p → (limit : ℕ) (inside : Points) (has : Bool) → is_own a ≡ true → inside ≡ before → has ≡ has_point inside a → has ≡ false → limit ≤ w.own → place limit es a ≡ overflow_set
+past : {w : Walk} {before es : Points} {a : AttrSet} {p : Payload} → ComesIn w before es a p → (limit : ℕ) (inside : Points) (has : Bool) → is_own a ≡ true → inside ≡ before → has ≡ has_point inside a → has ≡ false → limit ≤ w.own → fed_set limit es a ≡ overflow_set
 past {es = es} {a = a} it limit inside has own view is h l = place-full limit es a (held-before it limit inside has false own view is h) (subst (λ (i : ℕ). limit ≤ i) it.walks.0.own l)
 
-is-over : (limit : ℕ) (es : Points) (a : AttrSet) → is_own a ≡ false → place limit es a ≡ overflow_set
-is-over limit es a n = ap (place limit es) (same a overflow_set (not-false (set_eq a overflow_set) n)) ∙ place-over limit es
+is-over : (limit : ℕ) (es : Points) (a : AttrSet) → is_own a ≡ false → fed_set limit es a ≡ overflow_set
+is-over limit es a n = ap (fed_set limit es) (same a overflow_set (not-false (set_eq a overflow_set) n)) ∙ place-over limit es
 
 pub returns-then-contains_key-clause-fits : goal.returns-then-contains_key-clause-fits
 returns-then-contains_key-clause-fits c = λ es k s.
@@ -58,7 +58,7 @@ returns-then-walk-limit-clause-goes c = λ es k s _.
 pub returns-in-Some-clause-fits : goal.returns-in-Some-clause-fits
 returns-in-Some-clause-fits c = λ es k s.
     let it : ComesIn c.args.walk.now c.args.self.now.entries es c.args.set.now c.args.payload.now = record { walks = k; sound = s; amount = c.amount_in-more.result; count = c.amount_in-more.ensures.count; sum = c.amount_in-more.ensures.sum } in
-    let at : place c.args.limit es c.args.set.now ≡ overflow_set = elim c.if-ne.branch [
+    let at : fed_set c.args.limit es c.args.set.now ≡ overflow_set = elim c.if-ne.branch [
       | then-ne+else-contains_key+else-walk-limit w ↦ past it c.args.limit c.self.inside.points.entries w.contains_key.result (own-is c.args.set.now c.ne.result true c.requires c.ne.ensures w.if-ne.true) (ap (λ (x : Stored). x.entries) c.self.view_is) w.contains_key.ensures w.if-contains_key.false w.if-walk-limit.false
       | else-ne w ↦ is-over c.args.limit es c.args.set.now (own-is c.args.set.now c.ne.result false c.requires c.ne.ensures w.if-ne.false)
     ] in
@@ -67,7 +67,7 @@ returns-in-Some-clause-fits c = λ es k s.
 pub returns-in-Some-clause-goes : goal.returns-in-Some-clause-goes
 returns-in-Some-clause-goes c = λ es k s _.
     let it : ComesIn c.args.walk.now c.args.self.now.entries es c.args.set.now c.args.payload.now = record { walks = k; sound = s; amount = c.amount_in-more.result; count = c.amount_in-more.ensures.count; sum = c.amount_in-more.ensures.sum } in
-    let at : place c.args.limit es c.args.set.now ≡ overflow_set = elim c.if-ne.branch [
+    let at : fed_set c.args.limit es c.args.set.now ≡ overflow_set = elim c.if-ne.branch [
       | then-ne+else-contains_key+else-walk-limit w ↦ past it c.args.limit c.self.inside.points.entries w.contains_key.result (own-is c.args.set.now c.ne.result true c.requires c.ne.ensures w.if-ne.true) (ap (λ (x : Stored). x.entries) c.self.view_is) w.contains_key.ensures w.if-contains_key.false w.if-walk-limit.false
       | else-ne w ↦ is-over c.args.limit es c.args.set.now (own-is c.args.set.now c.ne.result false c.requires c.ne.ensures w.if-ne.false)
     ] in
@@ -78,7 +78,7 @@ returns-in-Some-clause-goes c = λ es k s _.
 pub returns-in-None-clause-fits : goal.returns-in-None-clause-fits
 returns-in-None-clause-fits c = λ es k s.
     let it : ComesIn c.args.walk.now c.args.self.now.entries es c.args.set.now c.args.payload.now = record { walks = k; sound = s; amount = c.amount_in-more.result; count = c.amount_in-more.ensures.count; sum = c.amount_in-more.ensures.sum } in
-    let at : place c.args.limit es c.args.set.now ≡ overflow_set = elim c.if-ne.branch [
+    let at : fed_set c.args.limit es c.args.set.now ≡ overflow_set = elim c.if-ne.branch [
       | then-ne+else-contains_key+else-walk-limit w ↦ past it c.args.limit c.self.inside.points.entries w.contains_key.result (own-is c.args.set.now c.ne.result true c.requires c.ne.ensures w.if-ne.true) (ap (λ (x : Stored). x.entries) c.self.view_is) w.contains_key.ensures w.if-contains_key.false w.if-walk-limit.false
       | else-ne w ↦ is-over c.args.limit es c.args.set.now (own-is c.args.set.now c.ne.result false c.requires c.ne.ensures w.if-ne.false)
     ] in

@@ -5,8 +5,8 @@ use Rattle.std.proofs.lemmas.Result.{IfOk-weaker}
 use Rattle.std.specs.FinMap.{entries}
 use Rattle.std.specs.List.{IsDistinct}
 use Rattle.std.specs.Ordering.{eq_by_cmp}
-use Rattle.gateway_kit.specs.Changing.{Entry, Drafts, Prepares}
-use Rattle.gateway_kit.specs.Keys.{ItemKey, entry_of, item_cmp}
+use Rattle.gateway_kit.specs.Changing.{KeyedCell, Drafts, Prepares}
+use Rattle.gateway_kit.specs.Keys.{ItemKey, keyed_cell_of, item_cmp}
 use Rattle.gateway_kit.specs.declared.changes.Changes.{Changes}
 use Rattle.gateway_kit.proofs.Entries.{as_T, none_before}
 use Rattle.gateway_kit.proofs.ExportEntries.{mapped_more, keys_of_items}
@@ -23,12 +23,12 @@ loop-item-preserved c =
     let i = c.loop-item.item-index in
     let x = c.item-item.result in
     let within : i < length xs = grind (arith, common_steps) in
-    let theirs : map entry_of xs ≡ entries c.args.other.now.cells = c.items-item-items.ensures.entries in
-    let so_far : Drafts (map entry_of c.items-items.result.now) (take i (map entry_of xs)) c.loop-item.draft.updates.items c.loop-item.draft.fresh.items = rw (c.items-items.ensures.entries, theirs) c.loop-item.invariant in
-    let stepped = c.in_ok-bring.ensures (take i (map entry_of xs)) (none_before item_total (map entry_of xs) i (entry_of x) (as_T c.items-item-items.ensures.sorted) (got_map entry_of xs i x within c.item-item.is)) so_far in
-    subst (λ (es : List Entry). Drafts es (take (i + 1) (entries c.args.other.now.cells)) c.bring.new.self.updates.items c.bring.new.self.fresh.items) c.items-items.ensures.entries
-    (subst (λ (es : List Entry). Drafts (map entry_of c.items-items.result.now) (take (i + 1) es) c.bring.new.self.updates.items c.bring.new.self.fresh.items) theirs
-    (subst (λ (came : List Entry). Drafts (map entry_of c.items-items.result.now) came c.bring.new.self.updates.items c.bring.new.self.fresh.items) (sym (mapped_more entry_of xs i x within c.item-item.is))
+    let theirs : map keyed_cell_of xs ≡ entries c.args.other.now.cells = c.items-item-items.ensures.entries in
+    let so_far : Drafts (map keyed_cell_of c.items-items.result.now) (take i (map keyed_cell_of xs)) c.loop-item.draft.updates.items c.loop-item.draft.fresh.items = rw (c.items-items.ensures.entries, theirs) c.loop-item.invariant in
+    let stepped = c.in_ok-bring.ensures (take i (map keyed_cell_of xs)) (none_before item_total (map keyed_cell_of xs) i (keyed_cell_of x) (as_T c.items-item-items.ensures.sorted) (got_map keyed_cell_of xs i x within c.item-item.is)) so_far in
+    subst (λ (es : List KeyedCell). Drafts es (take (i + 1) (entries c.args.other.now.cells)) c.bring.new.self.updates.items c.bring.new.self.fresh.items) c.items-items.ensures.entries
+    (subst (λ (es : List KeyedCell). Drafts (map keyed_cell_of c.items-items.result.now) (take (i + 1) es) c.bring.new.self.updates.items c.bring.new.self.fresh.items) theirs
+    (subst (λ (came : List KeyedCell). Drafts (map keyed_cell_of c.items-items.result.now) came c.bring.new.self.updates.items c.bring.new.self.fresh.items) (sym (mapped_more keyed_cell_of xs i x within c.item-item.is))
     (rw c.payload_of.ensures at stepped)))
 
 pub finish-requires : goal.finish-requires
@@ -36,8 +36,8 @@ finish-requires c = subst (λ (ks : List ItemKey). IsDistinct (eq_by_cmp item_cm
 
 pub returns : goal.returns
 returns c =
-    let es : map entry_of c.items-items.result.now ≡ entries c.args.self.now.cells = c.items-items.ensures.entries in
+    let es : map keyed_cell_of c.items-items.result.now ≡ entries c.args.self.now.cells = c.items-items.ensures.entries in
     let xs = c.items-item-items.result.now in
     let all : take c.loop-item.item-index xs ≡ xs = grind (arith, common_steps) in
-    let whole : take c.loop-item.item-index (entries c.args.other.now.cells) ≡ entries c.args.other.now.cells = ap (take c.loop-item.item-index) (sym c.items-item-items.ensures.entries) ∙ take-map entry_of c.loop-item.item-index xs ∙ ap (map entry_of) all ∙ c.items-item-items.ensures.entries in
+    let whole : take c.loop-item.item-index (entries c.args.other.now.cells) ≡ entries c.args.other.now.cells = ap (take c.loop-item.item-index) (sym c.items-item-items.ensures.entries) ∙ take-map keyed_cell_of c.loop-item.item-index xs ∙ ap (map keyed_cell_of) all ∙ c.items-item-items.ensures.entries in
     IfOk-weaker c.finish.result _ (λ (h : Changes). Prepares (entries c.args.self.now.cells) (entries c.args.other.now.cells) h) (λ h told. rw (← es) (told (entries c.args.other.now.cells) c.items-items.ensures.sorted (rw (es, ← whole) c.loop-item.invariant))) c.finish.ensures

@@ -3,8 +3,8 @@ use Rattle.std.proofs.lemmas.Grind.{common_steps}
 use lib.ListN.{length-map}
 use Rattle.std.specs.FinMap.{entries, from_sorted, entries-from_sorted}
 use Rattle.std.specs.FinMap.Entries.{is_sorted}
-use Rattle.gateway_kit.specs.Changing.{Entry, replacement}
-use Rattle.gateway_kit.specs.Keys.{entry_of, item_cmp}
+use Rattle.gateway_kit.specs.Changing.{KeyedCell, replacement}
+use Rattle.gateway_kit.specs.Keys.{keyed_cell_of, item_cmp}
 use Rattle.gateway_kit.specs.Places.{IsAt}
 use Rattle.gateway_kit.proofs.Entries.{as_T, is_sorted-with_change}
 use Rattle.gateway_kit.specs.KeyOrders.{item_total}
@@ -20,7 +20,7 @@ use Rattle.gateway_kit.proofs.incarnation.Incarnation.join_at.Goals as goal
 pub index-requires : goal.index-requires
 index-requires c =
     let items = c.self.inside.items.items in
-    let long : length (entries c.args.self.now.cells) ≡ length items = ap length (cells_of c.args.self.now c.self.inside.writer c.self.inside.start items c.self.invariant.sorted c.self.view_is) ∙ length-map items entry_of in
+    let long : length (entries c.args.self.now.cells) ≡ length items = ap length (cells_of c.args.self.now c.self.inside.writer c.self.inside.start items c.self.invariant.sorted c.self.view_is) ∙ length-map items keyed_cell_of in
     let within : c.args.place < length items = omega (arith, c.requires) in
     grind (arith, common_steps)
 
@@ -28,13 +28,13 @@ pub returns-in_default-clause-joins : goal.returns-in_default-clause-joins
 returns-in_default-clause-joins c = λ key at.
     let items = c.self.inside.items.items in
     let listed = cells_of c.args.self.now c.self.inside.writer c.self.inside.start items c.self.invariant.sorted c.self.view_is in
-    let here : IsAt item_cmp (map entry_of items) key c.args.place = subst (λ (es : List Entry). IsAt item_cmp es key c.args.place) listed at in
-    joins_alike (map entry_of items) (entries c.args.self.now.cells) (map entry_of items) (entries c.args.self.now.cells) (key, c.args.cell) 0 0 (sym listed) (sym listed)
+    let here : IsAt item_cmp (map keyed_cell_of items) key c.args.place = subst (λ (es : List KeyedCell). IsAt item_cmp es key c.args.place) listed at in
+    joins_alike (map keyed_cell_of items) (entries c.args.self.now.cells) (map keyed_cell_of items) (entries c.args.self.now.cells) (key, c.args.cell) 0 0 (sym listed) (sym listed)
     (kept_at items c.self.invariant.sorted c.args.place c.index.result.now key c.args.cell here c.index.ensures c.in_default.ensures)
 
 pub invariant_of-self : goal.invariant_of-self
 invariant_of-self c = record {
-  sorted = ap (is_sorted item_cmp) c.put_cell-self-inside.ensures.put ∙ is_sorted-with_change item_total replacement (map entry_of c.self.inside.items.items) c.args.place c.in-Some.cell ∙ c.self.invariant.sorted;
+  sorted = ap (is_sorted item_cmp) c.put_cell-self-inside.ensures.put ∙ is_sorted-with_change item_total replacement (map keyed_cell_of c.self.inside.items.items) c.args.place c.in-Some.cell ∙ c.self.invariant.sorted;
   tallied = c.put_cell-self-inside.ensures.tally;
   bounded = c.put_cell-self-inside.ensures.bounded c.self.invariant.bounded;
   up_to = c.put_cell-self-inside.ensures.up_to c.self.inside.number (omega arith) c.self.invariant.up_to;
@@ -45,9 +45,9 @@ returns-clause-joins c = λ key at.
     let items = c.self.inside.items.items in
     let news = c.put_cell-self-inside.new.items.items in
     let listed = cells_of c.args.self.now c.self.inside.writer c.self.inside.start items c.self.invariant.sorted c.self.view_is in
-    let here : IsAt item_cmp (map entry_of items) key c.args.place = subst (λ (es : List Entry). IsAt item_cmp es key c.args.place) listed at in
-    let sorted = ap (is_sorted item_cmp) c.put_cell-self-inside.ensures.put ∙ is_sorted-with_change item_total replacement (map entry_of items) c.args.place c.in-Some.cell ∙ c.self.invariant.sorted in
-    joins_alike (map entry_of items) (entries c.args.self.now.cells) (map entry_of news) (entries (from_sorted {R = item_cmp} (map entry_of news))) (key, c.args.cell) 0 1 (sym listed) (sym (entries-from_sorted item_cmp (map entry_of news) (as_T sorted)))
+    let here : IsAt item_cmp (map keyed_cell_of items) key c.args.place = subst (λ (es : List KeyedCell). IsAt item_cmp es key c.args.place) listed at in
+    let sorted = ap (is_sorted item_cmp) c.put_cell-self-inside.ensures.put ∙ is_sorted-with_change item_total replacement (map keyed_cell_of items) c.args.place c.in-Some.cell ∙ c.self.invariant.sorted in
+    joins_alike (map keyed_cell_of items) (entries c.args.self.now.cells) (map keyed_cell_of news) (entries (from_sorted {R = item_cmp} (map keyed_cell_of news))) (key, c.args.cell) 0 1 (sym listed) (sym (entries-from_sorted item_cmp (map keyed_cell_of news) (as_T sorted)))
     (changed_at items c.self.invariant.sorted c.args.place c.index.result.now key c.args.cell here c.index.ensures news c.in-Some.cell c.put_cell-self-inside.ensures.put c.in-Some.ensures.0 c.in-Some.ensures.1)
 
 pub returns-in_default-clause-before : goal.returns-in_default-clause-before
@@ -62,8 +62,8 @@ returns-clause-before c = shown c.args.self.now c.self.inside.writer c.self.insi
 pub returns-clause-after : goal.returns-clause-after
 returns-clause-after c =
     let news = c.put_cell-self-inside.new.items.items in
-    let sorted = ap (is_sorted item_cmp) c.put_cell-self-inside.ensures.put ∙ is_sorted-with_change item_total replacement (map entry_of c.self.inside.items.items) c.args.place c.in-Some.cell ∙ c.self.invariant.sorted in
-    c.put_cell-self-inside.ensures.tally.conflicts ∙ ap (λ (es : List Entry). conflicts_in es) (sym (entries-from_sorted item_cmp (map entry_of news) (as_T sorted)))
+    let sorted = ap (is_sorted item_cmp) c.put_cell-self-inside.ensures.put ∙ is_sorted-with_change item_total replacement (map keyed_cell_of c.self.inside.items.items) c.args.place c.in-Some.cell ∙ c.self.invariant.sorted in
+    c.put_cell-self-inside.ensures.tally.conflicts ∙ ap (λ (es : List KeyedCell). conflicts_in es) (sym (entries-from_sorted item_cmp (map keyed_cell_of news) (as_T sorted)))
 
 pub returns-in_default-clause-moves : goal.returns-in_default-clause-moves
 returns-in_default-clause-moves c = λ q. stays 0 _ _
@@ -75,5 +75,5 @@ pub returns-clause-moves : goal.returns-clause-moves
 returns-clause-moves c =
     let items = c.self.inside.items.items in
     let news = c.put_cell-self-inside.new.items.items in
-    let sorted = ap (is_sorted item_cmp) c.put_cell-self-inside.ensures.put ∙ is_sorted-with_change item_total replacement (map entry_of items) c.args.place c.in-Some.cell ∙ c.self.invariant.sorted in
+    let sorted = ap (is_sorted item_cmp) c.put_cell-self-inside.ensures.put ∙ is_sorted-with_change item_total replacement (map keyed_cell_of items) c.args.place c.in-Some.cell ∙ c.self.invariant.sorted in
     incarnation_moves 0 c.args.self.now _ c.self.inside.writer c.self.inside.writer c.self.inside.start c.self.inside.start items news c.self.invariant.sorted sorted c.self.view_is refl c.put_cell-self-inside.ensures.moves

@@ -4,8 +4,8 @@ use lib.ListN.{length-map}
 use Rattle.std.specs.FinMap.{entries, from_sorted, entries-from_sorted}
 use Rattle.std.specs.FinMap.Entries.{is_sorted}
 use Rattle.std.specs.List.{insert}
-use Rattle.gateway_kit.specs.Changing.{Entry}
-use Rattle.gateway_kit.specs.Keys.{entry_of, item_cmp}
+use Rattle.gateway_kit.specs.Changing.{KeyedCell}
+use Rattle.gateway_kit.specs.Keys.{keyed_cell_of, item_cmp}
 use Rattle.gateway_kit.specs.Places.{IsGap}
 use Rattle.gateway_kit.specs.Tallies.{conflict, conflicts_in}
 use Rattle.gateway_kit.specs.Times.{latest}
@@ -24,15 +24,15 @@ use Rattle.gateway_kit.proofs.incarnation.Incarnation.join_new.Goals as goal
 pub insert-requires : goal.insert-requires
 insert-requires c =
     let items = c.self.inside.items.items in
-    let long : length (entries c.args.self.now.cells) ≡ length items = ap length (cells_of c.args.self.now c.self.inside.writer c.self.inside.start items c.self.invariant.sorted c.self.view_is) ∙ length-map items entry_of in
+    let long : length (entries c.args.self.now.cells) ≡ length items = ap length (cells_of c.args.self.now c.self.inside.writer c.self.inside.start items c.self.invariant.sorted c.self.view_is) ∙ length-map items keyed_cell_of in
     let within : c.args.place ≤ length items = omega (arith, c.requires.gap.within) in
     grind (arith, common_steps)
 
 pub and-tally-requires : goal.and-tally-requires
 and-tally-requires c =
     let items = c.self.inside.items.items in
-    let few = conflicts_few (map entry_of items) in
-    let long : length (map entry_of items) ≡ length items = length-map items entry_of in
+    let few = conflicts_few (map keyed_cell_of items) in
+    let long : length (map keyed_cell_of items) ≡ length items = length-map items keyed_cell_of in
     let short : length items < 2 ^ 63 = grind (arith, common_steps) in
     let is = c.self.invariant.tallied.conflicts in
     omega (arith, few, long, short, is)
@@ -42,14 +42,14 @@ invariant_of-self-2 c =
     let items = c.self.inside.items.items in
     let item = c.args.item in
     let listed = cells_of c.args.self.now c.self.inside.writer c.self.inside.start items c.self.invariant.sorted c.self.view_is in
-    let gap : IsGap item_cmp (map entry_of items) (entry_of item).0 c.args.place = subst (λ (es : List Entry). IsGap item_cmp es (entry_of item).0 c.args.place) listed c.requires.gap in
-    let long : length (map entry_of items) ≡ length items = length-map items entry_of in
+    let gap : IsGap item_cmp (map keyed_cell_of items) (keyed_cell_of item).0 c.args.place = subst (λ (es : List KeyedCell). IsGap item_cmp es (keyed_cell_of item).0 c.args.place) listed c.requires.gap in
+    let long : length (map keyed_cell_of items) ≡ length items = length-map items keyed_cell_of in
     let within : c.args.place ≤ length items = omega (arith, gap.within) in
     record {
-      sorted = ap (λ (l : List Item). is_sorted item_cmp (map entry_of l)) c.in_ok-insert.ensures.items ∙ sorted_at items item c.args.place c.self.invariant.sorted gap;
+      sorted = ap (λ (l : List Item). is_sorted item_cmp (map keyed_cell_of l)) c.in_ok-insert.ensures.items ∙ sorted_at items item c.args.place c.self.invariant.sorted gap;
       tallied = record {
-        newest = c.and-tally.ensures.newest ∙ ap (λ (n : ℕ). max n item.cell.time) c.self.invariant.tallied.newest ∙ sym (latest_insert items item c.args.place within) ∙ ap (λ (l : List Item). latest (map entry_of l)) (sym c.in_ok-insert.ensures.items);
-        conflicts = c.and-tally.ensures.conflicts ∙ ap (λ (n : ℕ). n + conflict item.cell) c.self.invariant.tallied.conflicts ∙ sym (conflicts_insert items item c.args.place) ∙ ap (λ (l : List Item). conflicts_in (map entry_of l)) (sym c.in_ok-insert.ensures.items);
+        newest = c.and-tally.ensures.newest ∙ ap (λ (n : ℕ). max n item.cell.time) c.self.invariant.tallied.newest ∙ sym (latest_insert items item c.args.place within) ∙ ap (λ (l : List Item). latest (map keyed_cell_of l)) (sym c.in_ok-insert.ensures.items);
+        conflicts = c.and-tally.ensures.conflicts ∙ ap (λ (n : ℕ). n + conflict item.cell) c.self.invariant.tallied.conflicts ∙ sym (conflicts_insert items item c.args.place) ∙ ap (λ (l : List Item). conflicts_in (map keyed_cell_of l)) (sym c.in_ok-insert.ensures.items);
       };
       bounded = c.clear.ensures c.insert.new.self.items;
       up_to = ap (λ (l : List Item). are_up_to c.self.inside.number l) c.in_ok-insert.ensures.items ∙ all_insert (λ (i : Item). nat_le i.number c.self.inside.number) items c.args.place item c.self.invariant.up_to (ap (λ (n : ℕ). nat_le n c.self.inside.number) c.requires.no_number ∙ le_to 0 c.self.inside.number (omega arith));
@@ -61,10 +61,10 @@ returns-clause-joins c =
     let item = c.args.item in
     let news = c.insert.new.self.items in
     let listed = cells_of c.args.self.now c.self.inside.writer c.self.inside.start items c.self.invariant.sorted c.self.view_is in
-    let gap : IsGap item_cmp (map entry_of items) (entry_of item).0 c.args.place = subst (λ (es : List Entry). IsGap item_cmp es (entry_of item).0 c.args.place) listed c.requires.gap in
-    let sorted = ap (λ (l : List Item). is_sorted item_cmp (map entry_of l)) c.in_ok-insert.ensures.items ∙ sorted_at items item c.args.place c.self.invariant.sorted gap in
-    joins_alike (map entry_of items) (entries c.args.self.now.cells) (map entry_of (insert items c.args.place item)) (entries (from_sorted {R = item_cmp} (map entry_of news))) (entry_of item) 1 1 (sym listed)
-    (ap (map entry_of) (sym c.in_ok-insert.ensures.items) ∙ sym (entries-from_sorted item_cmp (map entry_of news) (as_T sorted)))
+    let gap : IsGap item_cmp (map keyed_cell_of items) (keyed_cell_of item).0 c.args.place = subst (λ (es : List KeyedCell). IsGap item_cmp es (keyed_cell_of item).0 c.args.place) listed c.requires.gap in
+    let sorted = ap (λ (l : List Item). is_sorted item_cmp (map keyed_cell_of l)) c.in_ok-insert.ensures.items ∙ sorted_at items item c.args.place c.self.invariant.sorted gap in
+    joins_alike (map keyed_cell_of items) (entries c.args.self.now.cells) (map keyed_cell_of (insert items c.args.place item)) (entries (from_sorted {R = item_cmp} (map keyed_cell_of news))) (keyed_cell_of item) 1 1 (sym listed)
+    (ap (map keyed_cell_of) (sym c.in_ok-insert.ensures.items) ∙ sym (entries-from_sorted item_cmp (map keyed_cell_of news) (as_T sorted)))
     (new_at items item c.args.place gap)
 
 pub returns-clause-same : goal.returns-clause-same
@@ -75,8 +75,8 @@ returns-clause-moves c =
     let item = c.args.item in
     let items = c.self.inside.items.items in
     let listed = cells_of c.args.self.now c.self.inside.writer c.self.inside.start items c.self.invariant.sorted c.self.view_is in
-    let gap = subst (λ (es : List Entry). IsGap item_cmp es (entry_of item).0 c.args.place) listed c.requires.gap in
+    let gap = subst (λ (es : List KeyedCell). IsGap item_cmp es (keyed_cell_of item).0 c.args.place) listed c.requires.gap in
     let news = c.insert.new.self.items in
-    let sorted = ap (λ (l : List Item). is_sorted item_cmp (map entry_of l)) c.in_ok-insert.ensures.items ∙ sorted_at items item c.args.place c.self.invariant.sorted gap in
+    let sorted = ap (λ (l : List Item). is_sorted item_cmp (map keyed_cell_of l)) c.in_ok-insert.ensures.items ∙ sorted_at items item c.args.place c.self.invariant.sorted gap in
     incarnation_moves 0 c.args.self.now _ c.self.inside.writer c.self.inside.writer c.self.inside.start c.self.inside.start items news c.self.invariant.sorted sorted c.self.view_is refl
     (subst (λ (l : List Item). ItemsMove 0 items l) (sym c.in_ok-insert.ensures.items) (insert_moves items item c.args.place c.requires.no_number gap.none))

@@ -1,6 +1,6 @@
 use Rattle.std.proofs.Common.{List, ap, sym, subst, ◌∙◌, arith}
 use Rattle.std.specs.FinMap.Entries.{is_sorted}
-use Rattle.gateway_kit.specs.Changing.{Entry}
+use Rattle.gateway_kit.specs.Changing.{KeyedCell}
 use Rattle.gateway_kit.specs.Keys.{item_cmp}
 use Rattle.gateway_kit.specs.Tallies.{IsTally}
 use Rattle.gateway_kit.proofs.ItemMoves.{all_up_to, shows_numbered}
@@ -10,7 +10,7 @@ use Rattle.gateway_kit.proofs.incarnation.IncarnationKeyed.renumber.Goals as goa
 pub invariant_of-self : goal.invariant_of-self
 invariant_of-self c = record {
   sorted = ap (is_sorted item_cmp) c.renumber_all.ensures.same ∙ c.self.invariant.sorted;
-  tallied = subst (λ (es : List Entry). IsTally es c.self.inside.tally) (sym c.renumber_all.ensures.same) c.self.invariant.tallied;
+  tallied = subst (λ (es : List KeyedCell). IsTally es c.self.inside.tally) (sym c.renumber_all.ensures.same) c.self.invariant.tallied;
   bounded = c.clear.ensures c.renumber_all.new.values.items;
   up_to = all_up_to c.args.number c.renumber_all.new.values.items c.renumber_all.ensures.numbers c.args.number (omega arith);
 }

@@ -3,7 +3,7 @@ use lib.ListN.{length-map}
 use Rattle.std.proofs.lemmas.Grind.{common_steps}
 use Rattle.std.specs.FinMap.{entries}
 use Rattle.gateway_kit.specs.Changing.{Prepares}
-use Rattle.gateway_kit.specs.Keys.{incarnation_cmp, entry_of}
+use Rattle.gateway_kit.specs.Keys.{incarnation_cmp, keyed_cell_of}
 use Rattle.gateway_kit.specs.Merging.{number_within}
 use Rattle.gateway_kit.specs.Incarnations.{keyed_cells}
 use Rattle.gateway_kit.specs.Places.{IsPlace}
@@ -28,7 +28,7 @@ pub returns-in_ok-push-in-Err : goal.returns-in_ok-push-in-Err
 returns-in_ok-push-in-Err c =
     let p = c.args.theirs.now in
     let placed : IsPlace incarnation_cmp (map keyed_cells c.args.mine.now) (p.writer, p.start) (Err c.in-Err.field-0) = rw c.in-Err.is at c.requires.placed in
-    let n : length c.items-more.result.now ≡ length (entries p.cells) = sym (length-map c.items-more.result.now entry_of) ∙ ap length c.items-more.ensures.entries in
+    let n : length c.items-more.result.now ≡ length (entries p.cells) = sym (length-map c.items-more.result.now keyed_cell_of) ∙ ap length c.items-more.ensures.entries in
     let more : c.saturating_add-self-in-Err.result ≡ number_within (c.args.self.now.more + length c.items-more.result.now) = c.saturating_add-self-in-Err.ensures in
     let changed : c.saturating_add-self-in-Err-2.result ≡ number_within (c.args.self.now.changed + length c.items-more.result.now) = c.saturating_add-self-in-Err-2.ensures in
     λ came first so_far.

@@ -19,7 +19,7 @@ use Rattle.std.specs.contracts.alloc.Global as heap
 use Rattle.std.proofs.alloc.Global.TheLaws as heap_laws
 use Rattle.std.specs.contracts.impls.GlobalAllocator.TheImpl.{ghosts}
 use Rattle.std.proofs.raw_atomic.Walks.{proved_at}
-use Rattle.kit_c.specs.contracts.held.Held as held
+use Rattle.kit_c.specs.contracts.content.Content as content
 use Rattle.kit_c.specs.contracts.inner.Inner as inner
 use Rattle.kit_c.proofs.Values.{both, Loose, loose_good, loose_out, inner_in}
 use Rattle.kit_c.specs.contracts.inner.Inner.full.{ended, clauses}
@@ -29,7 +29,7 @@ use Rattle.kit_c.proofs.inner.Inner.full.Code as code
 
 pub full_spec : {M : Type 1} → statement M
 full_spec 𝓤 𝓛 𝓜 𝓡 wired =
-    let H = 𝓛.H in let 𝓣 = tables 𝓤 H 𝓜 𝓡 𝓡.env in let R = held.the_row in let Z = heap.the_row in let LZ = heap_laws.the_row_laws in let Lr = Loose R Z LZ ghosts in let c = clauses 𝓛 𝓜.mem 𝓡.returns in
+    let H = 𝓛.H in let 𝓣 = tables 𝓤 H 𝓜 𝓡 𝓡.env in let R = content.the_row in let Z = heap.the_row in let LZ = heap_laws.the_row_laws in let Lr = Loose R Z LZ ghosts in let c = clauses 𝓛 𝓜.mem 𝓡.returns in
     let hs : Stays ended.signature.params ended.kept = (stay_dropped (plain (λ _. Lr)) yes, tt) in
     proved_at 𝓛 ended hs c 𝓜 𝓡 (Goes-dropped 𝓛 0 (plain (λ _. Lr)) yes (λ κs x f. refl), tt) #self code.function (code.unfolded 𝓤 H 𝓜 𝓡 wired) (λ z are.
     let v = z.0.3.0 in let a = v.alloc in let Post : Val → SProp 𝓤 = (walk_of 𝓛 ended hs c).post z in let Run : List Val → SProp 𝓤 = λ ws. WpFn 𝓤 H 𝓣.C 𝓣.Λ code.function ws Post in

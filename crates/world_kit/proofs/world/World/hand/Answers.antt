@@ -6,7 +6,7 @@ use Rattle.world_kit.proofs.Places.{stands_at}
 use Rattle.world_kit.proofs.GatewayEvents.{answer_none, answer_some, comes_here, goes_elsewhere, hand_nowhere, hand_other, hand_past, hand_wants, hand_zero, hands, hands_delta, with_both}
 use Rattle.world_kit.proofs.Replies.{left_as, seen_as, same_as, wants_as}
 use Rattle.gateway_kit.specs.GatewayState.{GatewayState}
-use Rattle.gossip_kit.specs.Views.{MessageView}
+use Rattle.gossip_kit.specs.Views.{MessageModel}
 use Rattle.world_kit.specs.contracts.world.World as world
 use Rattle.world_kit.specs.declared.event.Event.TheVariants as event
 use Rattle.world_kit.specs.declared.event.Reply.TheVariants as reply
@@ -59,7 +59,7 @@ returns-in-Err-NotAddressed-clause-ok c =
     let its = c.in-Err-NotAddressed.ensures in
     let kept : set nodes c.args.gateway c.hand.new.self ≡ nodes = ap (set nodes c.args.gateway) (its.unchanged ∙ c.index_mut.ensures.value) ∙ set-get_or nodes c.args.gateway c.index_mut.result.now in
     let elsewhere = goes_elsewhere c.index_mut.result.now c.index-message.result.now c.in-Err-NotAddressed.field-0 (its.err (λ e. not_none (sym c.in-Err-NotAddressed.field-0-is ∙ e))) in
-    let message = c.index-message.ensures ∙ ap (λ (ms : List MessageView). get_or ms (c.args.mail - 1) c.index-message.result.now) c.reserve.ensures.items in
+    let message = c.index-message.ensures ∙ ap (λ (ms : List MessageModel). get_or ms (c.args.mail - 1) c.index-message.result.now) c.reserve.ensures.items in
     same_as _ _ _ w _ c.self.view_is (λ i. with_both w (kept i) (c.reserve.ensures.items i)) (hand_other w c.args.mail c.args.gateway c.index-message.result.now c.index_mut.result.now low
     (stands_at mails (c.args.mail - 1) c.index-message.result.now high message)
     (stands_at nodes c.args.gateway c.index_mut.result.now (grind (arith, common_steps)) c.index_mut.ensures.value) elsewhere)
@@ -72,9 +72,9 @@ returns-in-Ok-None-clause-ok c =
     let low : 0 < c.args.mail = grind (arith, common_steps) in
     let high : c.args.mail - 1 < length mails = grind (arith, common_steps) in
     let its = c.in-Ok-None.ensures in
-    let message = c.index-message.ensures ∙ ap (λ (ms : List MessageView). get_or ms (c.args.mail - 1) c.index-message.result.now) c.reserve.ensures.items in
+    let message = c.index-message.ensures ∙ ap (λ (ms : List MessageModel). get_or ms (c.args.mail - 1) c.index-message.result.now) c.reserve.ensures.items in
     seen_as _ _ _ _ _ c.self.view_is
-    (subst (λ (ms : List MessageView). Acts (event.Hand c.args.mail c.args.gateway) w (reply.Handed None) (with_both w (set nodes c.args.gateway c.hand.new.self) ms)) (sym c.reserve.ensures.items)
+    (subst (λ (ms : List MessageModel). Acts (event.Hand c.args.mail c.args.gateway) w (reply.Handed None) (with_both w (set nodes c.args.gateway c.hand.new.self) ms)) (sym c.reserve.ensures.items)
     (hands w c.args.mail c.args.gateway c.index-message.result.now c.index_mut.result.now c.hand.new.self low
     (stands_at mails (c.args.mail - 1) c.index-message.result.now high message)
     (stands_at nodes c.args.gateway c.index_mut.result.now (grind (arith, common_steps)) c.index_mut.ensures.value)
@@ -90,13 +90,13 @@ returns-in-Ok-Some-clause-ok c =
     let high : c.args.mail - 1 < length mails = grind (arith, common_steps) in
     let its = c.in-Ok-Some.ensures in
     let answer = c.in-Ok-Some.answer in
-    let message = c.index-message.ensures ∙ ap (λ (ms : List MessageView). get_or ms (c.args.mail - 1) c.index-message.result.now) c.reserve.ensures.items in
-    let grown : c.keep.new.mails.items ≡ mails ++ answer ∷ [] = c.keep.ensures ∙ ap (λ (ms : List MessageView). ms ++ answer ∷ []) c.reserve.ensures.items in
+    let message = c.index-message.ensures ∙ ap (λ (ms : List MessageModel). get_or ms (c.args.mail - 1) c.index-message.result.now) c.reserve.ensures.items in
+    let grown : c.keep.new.mails.items ≡ mails ++ answer ∷ [] = c.keep.ensures ∙ ap (λ (ms : List MessageModel). ms ++ answer ∷ []) c.reserve.ensures.items in
     let count : c.len-in-Ok-Some.result ≡ length mails + 1 = grind (arith, common_steps) in
     let made = answer_some c.index_mut.result.now c.index-message.result.now answer (sym its.answer ∙ c.in-Ok-Some.field-0-is) in
     seen_as _ _ _ _ _ c.self.view_is
     (subst (λ (n : ℕ). Acts (event.Hand c.args.mail c.args.gateway) w (reply.Handed (Some n)) (with_both w (set nodes c.args.gateway c.hand.new.self) c.keep.new.mails.items)) (sym count)
-    (subst (λ (ms : List MessageView). Acts (event.Hand c.args.mail c.args.gateway) w (reply.Handed (Some (length mails + 1))) (with_both w (set nodes c.args.gateway c.hand.new.self) ms)) (sym grown)
+    (subst (λ (ms : List MessageModel). Acts (event.Hand c.args.mail c.args.gateway) w (reply.Handed (Some (length mails + 1))) (with_both w (set nodes c.args.gateway c.hand.new.self) ms)) (sym grown)
     (hands_delta w c.args.mail c.args.gateway made.0 c.index-message.result.now answer c.index_mut.result.now c.hand.new.self low
     (stands_at mails (c.args.mail - 1) c.index-message.result.now high message)
     (stands_at nodes c.args.gateway c.index_mut.result.now (grind (arith, common_steps)) c.index_mut.ensures.value)
@@ -108,7 +108,7 @@ returns-in-Err-NoMemory-clause-no_memory c =
     let mails = c.self.inside.mails.items in
     let low : 0 < c.args.mail = grind (arith, common_steps) in
     let high : c.args.mail - 1 < length mails = grind (arith, common_steps) in
-    let message = c.index-message.ensures ∙ ap (λ (ms : List MessageView). get_or ms (c.args.mail - 1) c.index-message.result.now) c.reserve.ensures.items in
+    let message = c.index-message.ensures ∙ ap (λ (ms : List MessageModel). get_or ms (c.args.mail - 1) c.index-message.result.now) c.reserve.ensures.items in
     subst (Wants (event.Hand c.args.mail c.args.gateway)) c.self.view_is (hand_wants (world.the_view c.self.inside) c.args.mail c.args.gateway c.index-message.result.now c.index_mut.result.now low
     (stands_at mails (c.args.mail - 1) c.index-message.result.now high message)
     (stands_at nodes c.args.gateway c.index_mut.result.now (grind (arith, common_steps)) c.index_mut.ensures.value)

@@ -3,7 +3,7 @@ use Rattle.std.proofs.lemmas.Grind.{common_steps}
 use Rattle.std.proofs.lemmas.Option.{slice_get-get_or}
 use Rattle.world_kit.proofs.GatewayEvents.{merge_nowhere, merge_none, merge_wants, merges_itself, merges, with_nodes}
 use Rattle.world_kit.proofs.Replies.{left_as, seen_as, wants_as}
-use Rattle.gossip_kit.specs.Views.{NodeView}
+use Rattle.gossip_kit.specs.Views.{NodeModel}
 use Rattle.world_kit.specs.contracts.world.World as world
 use Rattle.world_kit.specs.declared.event.Event.TheVariants as event
 use Rattle.world_kit.specs.declared.event.Reply.TheVariants as reply
@@ -38,7 +38,7 @@ returns-clause-ok c =
     let at_into = slice_get-get_or nodes c.args.into did.is here in
     let at_from = slice_get-get_or nodes c.args.from did.is there in
     let joined = did.joined was other at_into at_from in
-    seen_as _ _ _ _ _ c.self.view_is (subst (λ (ns : List NodeView). Acts (event.Merge c.args.into c.args.from) w (reply.Changed c.in_ok-changed.changed) (with_nodes w ns)) (sym back)
+    seen_as _ _ _ _ _ c.self.view_is (subst (λ (ns : List NodeModel). Acts (event.Merge c.args.into c.args.from) w (reply.Changed c.in_ok-changed.changed) (with_nodes w ns)) (sym back)
     (merges w c.args.into c.args.from c.in_ok-changed.changed was did.is other at_into at_from joined.0 joined.1 joined.2 joined.3 joined.4))
 
 pub returns-in_err-changed-clause-no_memory : goal.returns-in_err-changed-clause-no_memory

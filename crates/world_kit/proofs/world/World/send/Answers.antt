@@ -5,7 +5,7 @@ use Rattle.world_kit.proofs.GatewayEvents.{send_nowhere, send_none, send_wants, 
 use Rattle.world_kit.proofs.Replies.{left_as, seen_as, wants_as}
 use Rattle.gateway_kit.specs.GatewayState.{GatewayState}
 use Rattle.gossip_kit.specs.Gossip.{Brings, acknowledged}
-use Rattle.gossip_kit.specs.Views.{MessageView}
+use Rattle.gossip_kit.specs.Views.{MessageModel}
 use Rattle.world_kit.specs.contracts.world.World as world
 use Rattle.world_kit.specs.declared.event.Event.TheVariants as event
 use Rattle.world_kit.specs.declared.event.Reply.TheVariants as reply
@@ -32,11 +32,11 @@ returns-clause-ok c =
     let goes : mail.to ≡ c.index.result.now.gateway.id = c.in_ok-mail.ensures.to ∙ c.id-receiver.ensures.value ∙ ap (λ (g : GatewayState). g.id) c.gateway.ensures.value in
     seen_as _ _ _ _ _ c.self.view_is
     (subst (λ (n : ℕ). Acts (event.Send c.args.from c.args.to) w (reply.Sent n) (with_mails w c.push.new.self.items)) (sym count)
-    (subst (λ (ms : List MessageView). Acts (event.Send c.args.from c.args.to) w (reply.Sent (length mails + 1)) (with_mails w ms)) (sym grown)
+    (subst (λ (ms : List MessageModel). Acts (event.Send c.args.from c.args.to) w (reply.Sent (length mails + 1)) (with_mails w ms)) (sym grown)
     (sends w c.args.from c.args.to c.index-2.result.now c.index.result.now mail
     (stands_at nodes c.args.from c.index-2.result.now here c.index-2.ensures)
     (stands_at nodes c.args.to c.index.result.now there c.index.ensures)
-    comes goes c.in_ok-mail.ensures.delta c.in_ok-mail.ensures.ack c.in_ok-mail.ensures.held
+    comes goes c.in_ok-mail.ensures.delta c.in_ok-mail.ensures.ack c.in_ok-mail.ensures.carries
     (subst (λ (t : ℕ). Brings mail.points (acknowledged c.index-2.result.now t) c.index-2.result.now.gateway.points) (sym c.in_ok-mail.ensures.to) c.in_ok-mail.ensures.brings))))
 
 pub returns-in_err-mail-clause-no_memory : goal.returns-in_err-mail-clause-no_memory

@@ -1,0 +1,48 @@
+//! What a handle can have.
+use crate::desk::Desk;
+use crate::holding::HoldingWriter;
+use crate::recorder::HoldingRecorder;
+use attr_kit::{AttrSet, AttrValue, Seq, Txt};
+use gateway_kit::Gateway;
+use gossip_kit::{Message, Node};
+use plan_kit::{Instrument, Plan, View};
+use point_kit::Export;
+use rollup_kit::{Ask, Row};
+
+/// What a handle can have.
+#[derive(Drop)]
+pub enum Content {
+    /// Attributes that are written down, in the order in which they came.
+    Pairs(Seq<(Txt, AttrValue)>),
+    Attributes(AttrSet),
+    Instruments(Seq<Instrument>),
+    /// A view that is being made.
+    View(View),
+    Views(Seq<View>),
+    /// Keys that are written down.
+    Keys(Seq<Txt>),
+    Plan(Plan),
+    /// A writer, with the sets that it holds by number.
+    Writer(HoldingWriter),
+    /// A thread's own recorder, with the sets that it holds by number.
+    Recorder(HoldingRecorder),
+    Export(Export),
+    Gateway(Gateway),
+    /// A gateway that sends messages and takes them in.
+    Node(Node),
+    Message(Message),
+    /// A place at a writer that threads share.
+    Desk(Desk),
+    Ask(Ask),
+    Rows(Seq<Row>),
+    Text(Txt),
+    /// An export or a message as bytes.
+    Bytes(Seq<u8>),
+}
+
+fn sends<T: Send>() {}
+
+// A handle may go to another thread, with what it has.
+fn held_goes_to_another_thread() {
+    sends::<Content>();
+}
