@@ -143,7 +143,7 @@ whole-listed p a v ss f fs all is n =
 pub found-at : (p : Planned) (b : AttrSet) (es : Points) (limit : ℕ) (set : AttrSet) (found at : Option ℕ) → limit ≡ p.limit → set ≡ b → found ≡ at
     → found ≡ position (set_eq (fed_set limit es set)) (keys_of es) → position (set_eq (fed_set p.limit es b)) (keys_of es) ≡ at
 found-at p b es limit set found at e f is h =
-    ap (λ n. position (set_eq (place n es b)) (keys_of es)) (sym e) ∙ ap (λ x. position (set_eq (fed_set limit es x)) (keys_of es)) (sym f) ∙ sym h ∙ is
+    ap (λ n. position (set_eq (fed_set n es b)) (keys_of es)) (sym e) ∙ ap (λ x. position (set_eq (fed_set limit es x)) (keys_of es)) (sym f) ∙ sym h ∙ is
 
 -- the same of a step
 pub step-along : (es xs : Points) (v : ℤ) (s s' : Shape) (n n' : ℕ) (b b' : AttrSet) → s ≡ s' → n ≡ n' → b ≡ b' → xs ≡ step s n es b v → xs ≡ step s' n' es b' v

@@ -12,7 +12,7 @@ use Rattle.point_kit.proofs.OrderLaws.{key_total, key_exact}
 use Rattle.gateway_kit.specs.Growth.{cells_at}
 use Rattle.gateway_kit.specs.Keys.{IncarnationKey, ItemKey, incarnation_cmp, item_cmp, whole_key}
 use Rattle.gateway_kit.specs.Numbers.{Moves, IncarnationMoves, IncarnationsMove, AllAre, IsNumbered, number_after, rank_of, number_in, numbers_at}
-use Rattle.gateway_kit.specs.Numbering.{IsNumberedBy, ViewMoves, number_of}
+use Rattle.gateway_kit.specs.Numbering.{IsNumberedBy, GatewayMoves, number_of}
 use Rattle.gateway_kit.specs.IncarnationState.{IncarnationState, Cells, Numbers}
 use Rattle.gateway_kit.specs.Incarnations.{all_points, all_numbers, keyed_cells, keyed_numbers, entries_at, flatten}
 use Rattle.gateway_kit.specs.GatewayState.{GatewayState}
@@ -97,8 +97,8 @@ get_numbers ps s c b =
 abbrev pub viewed : ℕ → List IncarnationState → GatewayState
 viewed id ps = record { id = id; points = from_sorted {R = key_cmp} (all_points ps); numbers = from_sorted {R = key_cmp} (all_numbers ps) }
 
-pub view_moves : (number m n : ℕ) (olds news : List IncarnationState) (old new : GatewayState) → is_sorted incarnation_cmp (map keyed_cells olds) ≡ true → is_sorted incarnation_cmp (map keyed_cells news) ≡ true → viewed m olds ≡ old → viewed n news ≡ new → IncarnationsMove number olds news → ViewMoves number old new
-view_moves number m n olds news old new s t is new_is moves k =
+pub gateway_moves : (number m n : ℕ) (olds news : List IncarnationState) (old new : GatewayState) → is_sorted incarnation_cmp (map keyed_cells olds) ≡ true → is_sorted incarnation_cmp (map keyed_cells news) ≡ true → viewed m olds ≡ old → viewed n news ≡ new → IncarnationsMove number olds news → GatewayMoves number old new
+gateway_moves number m n olds news old new s t is new_is moves k =
     subst (λ (v : GatewayState). Moves number (get v.points k) (get new.points k) (number_of v k) (number_of new k)) is
     (subst (λ (v : GatewayState). Moves number (get {R = key_cmp} (from_sorted (all_points olds)) k) (get v.points k) (number_of (viewed m olds) k) (number_of v k)) new_is
     (subst (λ (x : Key). Moves number (get {R = key_cmp} (from_sorted (all_points olds)) x) (get {R = key_cmp} (from_sorted (all_points news)) x) (number_of (viewed m olds) x) (number_of (viewed n news) x)) (split_key k).2
@@ -115,7 +115,7 @@ view_moves number m n olds news old new s t is new_is moves k =
         (subst (λ (a : ℕ). Moves number (find item_cmp b (cells_at c olds)) (find item_cmp b (cells_at c news)) (number_in item_cmp (numbers_at c olds) b) a) (sym (number_at n news t c b)) (moves c b))))
 
 -- what a change of a number above 0 numbers
-pub moves_numbered : (number : ℕ) (old new : GatewayState) → 0 < number → ViewMoves number old new → IsNumberedBy number old new
+pub moves_numbered : (number : ℕ) (old new : GatewayState) → 0 < number → GatewayMoves number old new → IsNumberedBy number old new
 moves_numbered number old new some moves = record { kept = λ k same. kept k same (moves k); numbered = λ k differs. changed k differs (moves k) }
   where
     kept : (k : Key) → get new.points k ≡ get old.points k → Moves number (get old.points k) (get new.points k) (number_of old k) (number_of new k) → number_of new k ≡ number_of old k
@@ -142,7 +142,7 @@ numbers_left m n olds news old new s t is new_is moves =
     at c b = get_numbers news t c b ∙ ap told (same _ _ _ _ (moves c b)) ∙ sym (get_numbers olds s c b)
 
 -- the same where a call may be refused
-pub numbered_ok : {G E : Type 0} (r : Result G E) (number : ℕ) (old new : GatewayState) → 0 < number → OnOk r (ViewMoves number old new) → OnOk r (IsNumberedBy number old new)
+pub numbered_ok : {G E : Type 0} (r : Result G E) (number : ℕ) (old new : GatewayState) → 0 < number → OnOk r (GatewayMoves number old new) → OnOk r (IsNumberedBy number old new)
 numbered_ok (Err e) number old new some moves = tt
 numbered_ok (Ok g) number old new some moves = moves_numbered number old new some moves
 
@@ -150,5 +150,5 @@ pub left_either : {G E : Type 0} (r : Result G E) (old new : GatewayState) → O
 left_either (Err e) old new kept same = ap (λ (v : GatewayState). v.numbers) same
 left_either (Ok g) old new kept same = kept refl
 
-pub view_stays : (number : ℕ) (g : GatewayState) → ViewMoves number g g
-view_stays number g k = stays number _ _
+pub gateway_stays : (number : ℕ) (g : GatewayState) → GatewayMoves number g g
+gateway_stays number g k = stays number _ _

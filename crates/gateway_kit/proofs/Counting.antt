@@ -15,6 +15,10 @@ use Rattle.point_kit.specs.Changes.{changed_keys, differ_at}
 use Rattle.gateway_kit.specs.Bringing.{is_new, is_change}
 use Rattle.gateway_kit.proofs.Entries.{first, second, less, apart_less, itself}
 
+pub unjoined : {V : Type 0} (join : V → V → V) (a : Option V) → a ≡ join_options join a None
+unjoined join None = refl
+unjoined join (Some v) = refl
+
 pub count_cons : {A : Type 0} (p : A → Bool) (x : A) (xs : List A) → count_by p (x ∷ xs) ≡ cond (p x) 1 0 + count_by p xs
 count_cons p x xs = sum_by-append (λ y. cond (p y) 1 0) (x ∷ []) xs ∙ ap (λ (n : ℕ). n + count_by p xs) (zero-add (cond (p x) 1 0))
 
@@ -70,13 +74,9 @@ module _ {K V : Type 0} {R : K → K → Ordering} (o : IsTotalOrder R) (anti : 
     one_joined None w = refl
     one_joined (Some v) w = refl
 
-    unjoined : (a : Option V) → a ≡ join_options join a None
-    unjoined None = refl
-    unjoined (Some v) = refl
-
     pub find_joined : (fs : List (K × V)) (q : K) → find R q (all_joined fs) ≡ join_options join (find R q es) (find R q fs)
     unfolding all_joined
-    find_joined [] q = unjoined (find R q es)
+    find_joined [] q = unjoined join (find R q es)
     find_joined (f ∷ fs) q =
         find-put R o q f.0 (joined_value (find R f.0 es) f.1) (all_joined fs)
         ∙ elim (eq_by_cmp R q f.0) as (λ b. eq_by_cmp R q f.0 ≡ b → cond b (Some (joined_value (find R f.0 es) f.1)) (find R q (all_joined fs)) ≡ join_options join (find R q es) (cond b (Some f.1) (find R q fs))) [
@@ -89,7 +89,7 @@ module _ {K V : Type 0} {R : K → K → Ordering} (o : IsTotalOrder R) (anti : 
     none_of_rest k (f ∷ fs) h = ap (λ b. cond b (Some f.1) (find R k fs)) h.0 ∙ none_of_rest k fs h.1
 
     still : (f : K × V) (fs : List (K × V)) → AllByRecursion (λ x. eq_by_cmp R f.0 x ≡ false) (map (λ e. e.0) fs) → find R f.0 (all_joined fs) ≡ find R f.0 es
-    still f fs h = find_joined fs f.0 ∙ ap (join_options join (find R f.0 es)) (none_of_rest f.0 fs h) ∙ sym (unjoined (find R f.0 es))
+    still f fs h = find_joined fs f.0 ∙ ap (join_options join (find R f.0 es)) (none_of_rest f.0 fs h) ∙ sym (unjoined join (find R f.0 es))
 
     -- as many more as are new
     pub length_joined : (fs : List (K × V)) → IsDistinct (eq_by_cmp R) (map (λ e. e.0) fs) → length (all_joined fs) ≡ length es + count_by (is_new R es) fs

@@ -41,10 +41,6 @@ not_None e = true≢false (sym (ap is_some e))
 pub same_Some : {A : Type 0} {x y : A} → Some x ≡ Some y → x ≡ y
 same_Some {A} {x} {y} e = ap (λ o. unwrap_or o x) e
 
-pub map_map : {A B C : Type 0} (g : B → C) (f : A → B) (xs : List A) → map g (map f xs) ≡ map (λ x. g (f x)) xs
-map_map g f [] = refl
-map_map g f (x ∷ xs) = ap (λ l. g (f x) ∷ l) (map_map g f xs)
-
 -- the order of entries is that of their keys
 abbrev pub on_keys : {K V : Type 0} → (K → K → Ordering) → K × V → K × V → Ordering
 on_keys R x y = R x.0 y.0

@@ -1,5 +1,6 @@
 -- One incarnation changed in its place, or put in where it belongs.
-use Rattle.std.proofs.Common.{◌≡◌, ◌≢◌, ℕ, zero, suc, ◌+◌, ◌<◌, Bool, true, false, ◌&&◌, cond, List, [], ◌∷◌, map, length, get_or, Option, Some, None, Result, Ok, Err, IfOk, refl, sym, ap, subst, ◌∙◌, arith, true≢false, is_some, count_by}
+use Rattle.std.proofs.Common.{◌≡◌, ◌≢◌, ℕ, zero, suc, ◌+◌, ◌<◌, Bool, true, cond, List, [], ◌∷◌, map, length, get_or, Option, Some, None, Result, Ok, Err, IfOk, refl, sym, ap, subst, ◌∙◌, arith, true≢false, is_some, count_by}
+use Rattle.std.proofs.lemmas.Bool.{and_from, and_parts}
 use Rattle.std.specs.Prelude.{OnOk, slice_get, slice_set}
 use Rattle.std.specs.Option.{option_map}
 use Rattle.std.specs.List.{list_all, insert}
@@ -32,28 +33,16 @@ use Rattle.gateway_kit.proofs.Finishing.{sorted_grown}
 use Rattle.gateway_kit.specs.KeyOrders.{incarnation_total, item_total}
 use Rattle.gateway_kit.proofs.Moved.{set_with_change}
 
-pub both_true : (a b : Bool) → a ≡ true → b ≡ true → (a && b) ≡ true
-both_true true b p q = q
-both_true false b p q = p
-
-pub first_true : (a b : Bool) → (a && b) ≡ true → a ≡ true
-first_true true b e = refl
-first_true false b e = absurd (true≢false (sym e))
-
-pub second_true : (a b : Bool) → (a && b) ≡ true → b ≡ true
-second_true true b e = e
-second_true false b e = absurd (true≢false (sym e))
-
 pub all_set : {A : Type 0} (p : A → Bool) (xs : List A) (i : ℕ) (y : A) → list_all p xs ≡ true → p y ≡ true → list_all p (slice_set xs i y) ≡ true
 all_set p [] i y h t = refl
-all_set p (x ∷ xs) zero y h t = both_true (p y) (list_all p xs) t (second_true (p x) (list_all p xs) h)
-all_set p (x ∷ xs) (suc i) y h t = both_true (p x) (list_all p (slice_set xs i y)) (first_true (p x) (list_all p xs) h) (all_set p xs i y (second_true (p x) (list_all p xs) h) t)
+all_set p (x ∷ xs) zero y h t = and_from (p y) (list_all p xs) t ((and_parts (p x) (list_all p xs) h).1)
+all_set p (x ∷ xs) (suc i) y h t = and_from (p x) (list_all p (slice_set xs i y)) ((and_parts (p x) (list_all p xs) h).0) (all_set p xs i y ((and_parts (p x) (list_all p xs) h).1) t)
 
 pub all_insert : {A : Type 0} (p : A → Bool) (xs : List A) (i : ℕ) (y : A) → list_all p xs ≡ true → p y ≡ true → list_all p (insert xs i y) ≡ true
-all_insert p [] zero y h t = both_true (p y) true t refl
-all_insert p [] (suc i) y h t = both_true (p y) true t refl
-all_insert p (x ∷ xs) zero y h t = both_true (p y) (list_all p (x ∷ xs)) t h
-all_insert p (x ∷ xs) (suc i) y h t = both_true (p x) (list_all p (insert xs i y)) (first_true (p x) (list_all p xs) h) (all_insert p xs i y (second_true (p x) (list_all p xs) h) t)
+all_insert p [] zero y h t = and_from (p y) true t refl
+all_insert p [] (suc i) y h t = and_from (p y) true t refl
+all_insert p (x ∷ xs) zero y h t = and_from (p y) (list_all p (x ∷ xs)) t h
+all_insert p (x ∷ xs) (suc i) y h t = and_from (p x) (list_all p (insert xs i y)) ((and_parts (p x) (list_all p xs) h).0) (all_insert p xs i y ((and_parts (p x) (list_all p xs) h).1) t)
 
 pub map-insert : {A B : Type 0} (f : A → B) (xs : List A) (i : ℕ) (y : A) → map f (insert xs i y) ≡ insert (map f xs) i (f y)
 map-insert f xs zero y = refl

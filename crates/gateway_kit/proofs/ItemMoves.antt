@@ -1,5 +1,6 @@
 -- How the numbers of items move, and of the incarnation that has them.
 use Rattle.std.proofs.Common.{◌≡◌, ◌<◌, ◌≤◌, inr, ℕ, suc, true, false, cond, nat_le, List, [], ◌∷◌, map, length, get_or, is_some, Option, Some, None, refl, sym, ap, subst, ◌∙◌, arith}
+use Rattle.std.proofs.lemmas.Bool.{and_from, and_parts}
 use Rattle.std.proofs.lemmas.Bool.Decides.{nat_tests}
 use Rattle.std.specs.Prelude.{slice_set}
 use Rattle.std.specs.FinMap.{entries, entries-from_sorted}
@@ -18,7 +19,7 @@ use Rattle.gateway_kit.specs.Tallies.{are_up_to, rank}
 use Rattle.gateway_kit.specs.Weave.{weave}
 use Rattle.gateway_kit.specs.declared.item.Item.{Item}
 use Rattle.gateway_kit.proofs.Entries.{as_T}
-use Rattle.gateway_kit.proofs.Growing.{all_set, both_true, first_true, second_true}
+use Rattle.gateway_kit.proofs.Growing.{all_set}
 use Rattle.gateway_kit.specs.KeyOrders.{item_total, item_exact}
 use Rattle.gateway_kit.proofs.Moved.{same_at, passes_at}
 use Rattle.gateway_kit.proofs.Movement.{Held, stays, then_moves, comes_in, number_after_within, sorted_too, set_related, insert_related, weave_related}
@@ -61,8 +62,8 @@ put_up_to number items place y new cell within lent is n g h =
 pub up_to_more : (items : List Item) (m n : ℕ) → m ≤ n → are_up_to m items ≡ true → are_up_to n items ≡ true
 up_to_more [] m n h t = refl
 up_to_more (z ∷ items) m n h t =
-    let here : z.number ≤ m = le_of z.number m (first_true (nat_le z.number m) (are_up_to m items) t) in
-    both_true (nat_le z.number n) (are_up_to n items) (le_to z.number n (omega (arith, h, here))) (up_to_more items m n h (second_true (nat_le z.number m) (are_up_to m items) t))
+    let here : z.number ≤ m = le_of z.number m ((and_parts (nat_le z.number m) (are_up_to m items) t).0) in
+    and_from (nat_le z.number n) (are_up_to n items) (le_to z.number n (omega (arith, h, here))) (up_to_more items m n h ((and_parts (nat_le z.number m) (are_up_to m items) t).1))
 
 -- ---- items of one number
 
@@ -86,7 +87,7 @@ pub all_up_to : (number : ℕ) (xs : List Item) → AllAre (Has number) xs → (
 all_up_to number [] all n h = refl
 all_up_to number (z ∷ xs) all n h =
     let here : z.number ≡ number = all 0 z (omega arith) refl in
-    both_true (nat_le z.number n) (are_up_to n xs) (ap (λ (m : ℕ). nat_le m n) here ∙ le_to number n h) (all_up_to number xs (later number z xs all) n h)
+    and_from (nat_le z.number n) (are_up_to n xs) (ap (λ (m : ℕ). nat_le m n) here ∙ le_to number n h) (all_up_to number xs (later number z xs all) n h)
 
 -- ---- new items
 

@@ -1,5 +1,6 @@
 -- What a gateway's points are after its incarnations were joined with what came.
 use Rattle.std.proofs.Common.{IfOk, Result, Ok, Err, ◌≡◌, ℕ, ◌+◌, ◌≤◌, ◌^◌, Bool, true, false, cond, List, [], ◌∷◌, map, length, Option, Some, None, refl, sym, ap, subst, ◌∙◌, not, append-nil, count_by}
+use mathlib.Core.List.{map-map}
 use Rattle.std.specs.Prelude.{filter, is_none}
 use Rattle.std.specs.Option.{option_eq}
 use Rattle.std.specs.List.{IsDistinct, AllByRecursion, flat_map, list_all}
@@ -36,8 +37,8 @@ use Rattle.gateway_kit.specs.declared.growth.Growth.{Growth}
 use Rattle.point_kit.specs.Equality.{cell_eq}
 use Rattle.point_kit.specs.Exports.{Points, join_points, changed_points}
 use Rattle.point_kit.proofs.EqualityLaws.{cell_itself}
-use Rattle.gateway_kit.proofs.Counting.{changes_by, longer_by, count_map}
-use Rattle.gateway_kit.proofs.Entries.{as_T, map_map}
+use Rattle.gateway_kit.proofs.Counting.{changes_by, longer_by, count_map, unjoined}
+use Rattle.gateway_kit.proofs.Entries.{as_T}
 use Rattle.gateway_kit.proofs.ExportEntries.{distinct_points, point_key}
 use Rattle.gateway_kit.specs.KeyOrders.{incarnation_total, incarnation_exact, compares, split_key}
 use Rattle.gateway_kit.proofs.Nested.{find-flatten, sorted_flatten, is_eq-then}
@@ -79,7 +80,7 @@ distinct_keys a (k ∷ ks) h = (others a k ks h.0, distinct_keys a ks h.1)
     others a k (j ∷ ks) h = (tied_under a k j ∙ h.0, others a k ks h.1)
 
 pub distinct_under : (a : IncarnationKey) (ts : List KeyedCell) → IsDistinct (eq_by_cmp item_cmp) (map (λ t. t.0) ts) → IsDistinct (eq_by_cmp key_cmp) (map (λ t. t.0) (under a ts))
-distinct_under a ts h = subst (IsDistinct (eq_by_cmp key_cmp)) (map_map (whole_key a) (λ (t : KeyedCell). t.0) ts ∙ sym (map_map (λ (t : Key × Cell Payload). t.0) (λ (t : KeyedCell). (whole_key a t.0, t.1)) ts)) (distinct_keys a (map (λ t. t.0) ts) h)
+distinct_under a ts h = subst (IsDistinct (eq_by_cmp key_cmp)) (map-map (whole_key a) (λ (t : KeyedCell). t.0) ts ∙ sym (map-map (λ (t : Key × Cell Payload). t.0) (λ (t : KeyedCell). (whole_key a t.0, t.1)) ts)) (distinct_keys a (map (λ t. t.0) ts) h)
 
 pub find_under : (a c : IncarnationKey) (b : ItemKey) (ts : List KeyedCell) → find key_cmp (whole_key c b) (under a ts) ≡ cond (eq_by_cmp incarnation_cmp c a) (find item_cmp b ts) None
 find_under a c b [] = elim (eq_by_cmp incarnation_cmp c a) as (λ u. ◌≡◌ {A = Option (Cell Payload)} None (cond u None None)) [ true ↦ refl | false ↦ refl ]
@@ -93,14 +94,14 @@ state_alone e q =
     get-state_of key_total key_exact payload_eq payload_equivalence payload_exact (flat_map points_of (e ∷ [])) q
     ∙ ap (λ l. best payload_eq (points_under key_cmp q l)) (append-nil (points_of e))
     ∙ best_alone key_total key_exact payload_eq payload_equivalence payload_exact q (points_of e) distinct
-    ∙ ap (find key_cmp q) (map_map (λ p. (p.0, cell_of p.1)) (λ p. (key_of e p, (e.time, p.payload))) e.points ∙ sym (map_map (λ (t : KeyedCell). (whole_key (e.writer, e.start) t.0, t.1)) (λ p. (point_key p, record { time = e.time; held = One p.payload })) e.points))
+    ∙ ap (find key_cmp q) (map-map (λ p. (p.0, cell_of p.1)) (λ p. (key_of e p, (e.time, p.payload))) e.points ∙ sym (map-map (λ (t : KeyedCell). (whole_key (e.writer, e.start) t.0, t.1)) (λ p. (point_key p, record { time = e.time; held = One p.payload })) e.points))
   where
     distinct : IsDistinct (eq_by_cmp key_cmp) (map (λ p. p.0) (points_of e))
-    distinct = subst (IsDistinct (eq_by_cmp key_cmp)) (map_map (whole_key (e.writer, e.start)) point_key e.points ∙ sym (map_map (λ p. p.0) (λ p. (key_of e p, (e.time, p.payload))) e.points)) (distinct_keys (e.writer, e.start) (map point_key e.points) (distinct_points e))
+    distinct = subst (IsDistinct (eq_by_cmp key_cmp)) (map-map (whole_key (e.writer, e.start)) point_key e.points ∙ sym (map-map (λ p. p.0) (λ p. (key_of e p, (e.time, p.payload))) e.points)) (distinct_keys (e.writer, e.start) (map point_key e.points) (distinct_points e))
 
 -- no key comes twice
 pub apart_entries : (e : Export) → IsDistinct (eq_by_cmp item_cmp) (map (λ t. t.0) (keyed_cells_of e))
-apart_entries e = subst (IsDistinct (eq_by_cmp item_cmp)) (sym (map_map (λ t. t.0) (λ p. (point_key p, record { time = e.time; held = One p.payload })) e.points)) (distinct_points e)
+apart_entries e = subst (IsDistinct (eq_by_cmp item_cmp)) (sym (map-map (λ t. t.0) (λ p. (point_key p, record { time = e.time; held = One p.payload })) e.points)) (distinct_points e)
 
 -- ---- points in incarnations
 
@@ -111,10 +112,6 @@ get_points ps sorted c b =
 
 pub entries_points : (ps : List IncarnationState) → is_sorted incarnation_cmp (map keyed_cells ps) ≡ true → entries (from_sorted {R = key_cmp} (all_points ps)) ≡ all_points ps
 entries_points ps sorted = entries-from_sorted key_cmp (all_points ps) (sorted_flatten (Cell Payload) incarnation_cmp item_cmp key_cmp whole_key compares incarnation_total (map keyed_cells ps) (as_T sorted))
-
-pub unjoined : {V : Type 0} (join : V → V → V) (a : Option V) → a ≡ join_options join a None
-unjoined join None = refl
-unjoined join (Some v) = refl
 
 pub find_listed : (olds : List IncarnationState) → is_sorted incarnation_cmp (map keyed_cells olds) ≡ true → (a : IncarnationKey) (b : ItemKey) → find key_cmp (whole_key a b) (all_points olds) ≡ find item_cmp b (cells_at a olds)
 find_listed olds sorted a b = find-flatten (Cell Payload) incarnation_cmp item_cmp key_cmp whole_key compares incarnation_total a b (map keyed_cells olds) (as_T sorted)

@@ -1,5 +1,6 @@
 -- The incarnations of two gateways, walked together.
 use Rattle.std.proofs.Common.{◌≡◌, ℕ, ◌+◌, ◌^◌, zero, suc, ◌≤◌, nat_le, vec_capacity, true≢false, Bool, true, false, not, ◌&&◌, cond, List, [], ◌∷◌, ◌++◌, map, length, get_or, Some, None, refl, sym, ap, subst, ◌∙◌, arith, count_by, append_assoc, append-nil}
+use Rattle.std.proofs.lemmas.Bool.{and_from, and_parts}
 use Rattle.std.specs.Prelude.{slice_get, is_none}
 use Rattle.std.specs.List.{list_all}
 use Rattle.std.specs.Option.{option_eq}
@@ -29,7 +30,6 @@ use Rattle.gateway_kit.proofs.Counting.{count_map}
 use Rattle.gateway_kit.proofs.Drafting.{found_place}
 use Rattle.gateway_kit.proofs.Entries.{on_keys, as_T, as_true, sorted_weave, is_sorted-with_changes}
 use Rattle.gateway_kit.proofs.Finishing.{sorted_grown}
-use Rattle.gateway_kit.proofs.Growing.{both_true, first_true, second_true}
 use Rattle.gateway_kit.proofs.Joining.{find_listed, under}
 use Rattle.gateway_kit.specs.KeyOrders.{incarnation_total, incarnation_exact, item_total, item_exact}
 use Rattle.gateway_kit.proofs.Prepared.{brings_none, brings_changed, brings_fresh, brings_join}
@@ -113,7 +113,7 @@ module _ (olds : List IncarnationState) (sorted : is_sorted incarnation_cmp (map
     where
       all_push : {A : Type 0} (test : A → Bool) (xs : List A) (x : A) → list_all test xs ≡ true → test x ≡ true → list_all test (xs ++ x ∷ []) ≡ true
       all_push test [] x h t = ap (λ b. b && true) t
-      all_push test (y ∷ xs) x h t = both_true (test y) (list_all test (xs ++ x ∷ [])) (first_true (test y) (list_all test xs) h) (all_push test xs x (second_true (test y) (list_all test xs) h) t)
+      all_push test (y ∷ xs) x h t = and_from (test y) (list_all test (xs ++ x ∷ [])) ((and_parts (test y) (list_all test xs) h).0) (all_push test xs x ((and_parts (test y) (list_all test xs) h).1) t)
 
 -- ---- incarnations with cells stay so
 
@@ -150,21 +150,21 @@ filled_with_changes ps (u ∷ us) h = filled_with_changes (with_change cells_aft
   where
     one : (ps : List (IncarnationKey × Cells)) (i : ℕ) (c : Changes) → list_all (λ e. has_some (entries e.1)) ps ≡ true → list_all (λ e. has_some (entries e.1)) (with_change cells_after ps i c) ≡ true
     one [] i c h = refl
-    one (p ∷ ps) zero c h = both_true (has_some (entries (cells_after p.1 c))) (list_all (λ e. has_some (entries e.1)) ps) (some_made p.1 c (first_true (has_some (entries p.1)) (list_all (λ e. has_some (entries e.1)) ps) h)) (second_true (has_some (entries p.1)) (list_all (λ e. has_some (entries e.1)) ps) h)
-    one (p ∷ ps) (suc i) c h = both_true (has_some (entries p.1)) (list_all (λ e. has_some (entries e.1)) (with_change cells_after ps i c)) (first_true (has_some (entries p.1)) (list_all (λ e. has_some (entries e.1)) ps) h) (one ps i c (second_true (has_some (entries p.1)) (list_all (λ e. has_some (entries e.1)) ps) h))
+    one (p ∷ ps) zero c h = and_from (has_some (entries (cells_after p.1 c))) (list_all (λ e. has_some (entries e.1)) ps) (some_made p.1 c ((and_parts (has_some (entries p.1)) (list_all (λ e. has_some (entries e.1)) ps) h).0)) ((and_parts (has_some (entries p.1)) (list_all (λ e. has_some (entries e.1)) ps) h).1)
+    one (p ∷ ps) (suc i) c h = and_from (has_some (entries p.1)) (list_all (λ e. has_some (entries e.1)) (with_change cells_after ps i c)) ((and_parts (has_some (entries p.1)) (list_all (λ e. has_some (entries e.1)) ps) h).0) (one ps i c ((and_parts (has_some (entries p.1)) (list_all (λ e. has_some (entries e.1)) ps) h).1))
 
 pub all_weave : {A : Type 0} (R : A → A → Ordering) (test : A → Bool) (xs ys : List A) → list_all test xs ≡ true → list_all test ys ≡ true → list_all test (weave R xs ys) ≡ true
 all_weave R test [] ys g h = h
 all_weave R test (x ∷ xs) [] g h = g
 all_weave R test (x ∷ xs) (y ∷ ys) g h =
-    let x_is = first_true (test x) (list_all test xs) g in
-    let xs_are = second_true (test x) (list_all test xs) g in
-    let y_is = first_true (test y) (list_all test ys) h in
-    let ys_are = second_true (test y) (list_all test ys) h in
+    let x_is = (and_parts (test x) (list_all test xs) g).0 in
+    let xs_are = (and_parts (test x) (list_all test xs) g).1 in
+    let y_is = (and_parts (test y) (list_all test ys) h).0 in
+    let ys_are = (and_parts (test y) (list_all test ys) h).1 in
     elim (R x y) as (λ r. list_all test (by_order r (x ∷ weave R xs (y ∷ ys)) (x ∷ weave R xs ys) (y ∷ weave R (x ∷ xs) ys)) ≡ true) [
-      | Less ↦ both_true (test x) (list_all test (weave R xs (y ∷ ys))) x_is (all_weave R test xs (y ∷ ys) xs_are h)
-      | Equal ↦ both_true (test x) (list_all test (weave R xs ys)) x_is (all_weave R test xs ys xs_are ys_are)
-      | Greater ↦ both_true (test y) (list_all test (weave R (x ∷ xs) ys)) y_is (all_weave R test (x ∷ xs) ys g ys_are)
+      | Less ↦ and_from (test x) (list_all test (weave R xs (y ∷ ys))) x_is (all_weave R test xs (y ∷ ys) xs_are h)
+      | Equal ↦ and_from (test x) (list_all test (weave R xs ys)) x_is (all_weave R test xs ys xs_are ys_are)
+      | Greater ↦ and_from (test y) (list_all test (weave R (x ∷ xs) ys)) y_is (all_weave R test (x ∷ xs) ys g ys_are)
     ]
 
 -- ---- all incarnations

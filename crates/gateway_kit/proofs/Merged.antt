@@ -1,5 +1,6 @@
 -- What a gateway's points are after its incarnations were joined with another's.
 use Rattle.std.proofs.Common.{◌≡◌, ℕ, ◌+◌, ◌≤◌, ◌^◌, true, false, List, [], ◌∷◌, ◌++◌, map, Option, Some, None, refl, sym, ap, subst, ◌∙◌, true≢false}
+use Rattle.std.proofs.lemmas.Bool.{and_parts}
 use Rattle.std.specs.Prelude.{T}
 use Rattle.std.specs.List.{IsDistinct, AllByRecursion, list_all}
 use Rattle.std.specs.declared.cmp.Ordering.{Ordering}
@@ -22,9 +23,9 @@ use Rattle.gateway_kit.specs.Merging.{Merges, join_cell_maps}
 use Rattle.gateway_kit.specs.Tallies.{Tells}
 use Rattle.gateway_kit.specs.IncarnationState.{IncarnationState, Cells}
 use Rattle.gateway_kit.specs.Incarnations.{IsWhole, all_points, keyed_cells, entries_at, has_some, has_cells}
+use Rattle.gateway_kit.proofs.Counting.{unjoined}
 use Rattle.gateway_kit.proofs.Entries.{as_T, first, second, less, from_sorted-nil}
-use Rattle.gateway_kit.proofs.Growing.{first_true}
-use Rattle.gateway_kit.proofs.Joining.{get_points, entries_points, grown, grown_whole, unjoined}
+use Rattle.gateway_kit.proofs.Joining.{get_points, entries_points, grown, grown_whole}
 use Rattle.gateway_kit.specs.KeyOrders.{item_total, item_exact, split_key, compares, incarnation_total}
 use Rattle.gateway_kit.proofs.Nested.{sorted_flatten}
 
@@ -83,7 +84,7 @@ pub no_incarnations : (ps : List IncarnationState) → is_sorted incarnation_cmp
 no_incarnations [] sorted filled none = refl
 no_incarnations (p ∷ ps) sorted filled none =
     let no_entries : all_points (p ∷ ps) ≡ [] = sym (entries_points (p ∷ ps) sorted) ∙ ap entries none ∙ sym (ap entries (from_sorted-nil {V = Cell Payload} {R = key_cmp})) ∙ entries-from_sorted key_cmp [] tt in
-    absurd (true≢false (sym (first_true (has_cells p) (list_all has_cells ps) filled) ∙ none_of (entries p.cells) (map (λ e. (whole_key (p.writer, p.start) e.0, e.1)) (entries p.cells)) (all_points ps) refl no_entries))
+    absurd (true≢false (sym ((and_parts (has_cells p) (list_all has_cells ps) filled).0) ∙ none_of (entries p.cells) (map (λ e. (whole_key (p.writer, p.start) e.0, e.1)) (entries p.cells)) (all_points ps) refl no_entries))
   where
     none_of : (es : List (ItemKey × Cell Payload)) (xs ys : List (Key × Cell Payload)) → map (λ e. (whole_key (p.writer, p.start) e.0, e.1)) es ≡ xs → xs ++ ys ≡ [] → has_some es ≡ false
     none_of [] xs ys is none = refl

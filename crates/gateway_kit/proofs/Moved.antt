@@ -1,5 +1,6 @@
 -- Changes at places, of lists whose values are entries.
-use Rattle.std.proofs.Common.{◌≡◌, ℕ, zero, suc, ◌<◌, ◌≤◌, Bool, true, false, ◌&&◌, List, [], ◌∷◌, map, length, get_or, Some, refl, ap, subst, ◌∙◌, sym, arith, true≢false}
+use Rattle.std.proofs.Common.{◌≡◌, ℕ, zero, suc, ◌<◌, ◌≤◌, Bool, true, List, [], ◌∷◌, map, length, get_or, Some, refl, ap, subst, ◌∙◌, sym, arith}
+use Rattle.std.proofs.lemmas.Bool.{and_parts}
 use Rattle.std.specs.List.{list_all}
 use Rattle.std.specs.Prelude.{slice_get, slice_set}
 use Rattle.gateway_kit.specs.Amending.{with_change}
@@ -40,16 +41,8 @@ got_map f (z ∷ xs) (suc i) x h is = got_map f xs i x (omega arith) is
 -- of a list whose elements pass a test, one
 pub passes_at : {A : Type 0} (test : A → Bool) (xs : List A) (i : ℕ) (x : A) → list_all test xs ≡ true → i < length xs → x ≡ get_or xs i x → test x ≡ true
 passes_at test [] i x all h is = absurd (omega arith)
-passes_at test (z ∷ xs) zero x all h is = ap test is ∙ first_of_both (test z) (list_all test xs) all
-  where
-    first_of_both : (a b : Bool) → (a && b) ≡ true → a ≡ true
-    first_of_both true b e = refl
-    first_of_both false b e = absurd (true≢false (sym e))
-passes_at test (z ∷ xs) (suc i) x all h is = passes_at test xs i x (second_of_both (test z) (list_all test xs) all) (omega arith) is
-  where
-    second_of_both : (a b : Bool) → (a && b) ≡ true → b ≡ true
-    second_of_both true b e = e
-    second_of_both false b e = absurd (true≢false (sym e))
+passes_at test (z ∷ xs) zero x all h is = ap test is ∙ (and_parts (test z) (list_all test xs) all).0
+passes_at test (z ∷ xs) (suc i) x all h is = passes_at test xs i x ((and_parts (test z) (list_all test xs) all).1) (omega arith) is
 
 -- two readings of one place
 pub same_at : {A : Type 0} (xs : List A) (i : ℕ) (x y : A) → i < length xs → x ≡ get_or xs i x → y ≡ get_or xs i y → x ≡ y

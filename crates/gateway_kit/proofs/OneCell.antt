@@ -19,10 +19,10 @@ use Rattle.gateway_kit.specs.IncarnationState.{IncarnationState}
 use Rattle.gateway_kit.specs.Places.{IsAt, IsGap}
 use Rattle.gateway_kit.specs.Times.{latest}
 use Rattle.gateway_kit.specs.declared.item.Item.{Item}
+use Rattle.gateway_kit.proofs.Counting.{unjoined}
 use Rattle.gateway_kit.proofs.Drafting.{found_place, drafts_none, drafts_kept, drafts_changed, drafts_fresh}
 use Rattle.gateway_kit.proofs.Entries.{as_T, as_true}
 use Rattle.gateway_kit.proofs.Growing.{map-insert}
-use Rattle.gateway_kit.proofs.Joining.{unjoined}
 use Rattle.gateway_kit.specs.KeyOrders.{item_total, item_exact}
 use Rattle.gateway_kit.proofs.Prepared.{brings_held}
 

@@ -1,5 +1,6 @@
 -- The points of an incarnation are those under its key.
 use Rattle.std.proofs.Common.{◌≡◌, true, false, cond, List, [], ◌∷◌, ◌++◌, map, filter, Some, refl, sym, ap, ◌∙◌, append-nil}
+use mathlib.Core.List.{map-map}
 use Rattle.std.specs.Prelude.{T}
 use Rattle.std.specs.Cmp.{Equal-is}
 use Rattle.std.specs.FinMap.{entries, from_sorted}
@@ -16,7 +17,7 @@ use Rattle.gateway_kit.specs.IncarnationState.{IncarnationState}
 use Rattle.gateway_kit.specs.Incarnations.{all_points, keyed_cells, entries_at, has_some}
 use Rattle.gateway_kit.specs.Queries.{is_of_incarnation, incarnation_points}
 use Rattle.gateway_kit.specs.Times.{greatest, latest}
-use Rattle.gateway_kit.proofs.Entries.{as_T, first, second, less, below_tied, map_map}
+use Rattle.gateway_kit.proofs.Entries.{as_T, first, second, less, below_tied}
 use Rattle.gateway_kit.proofs.Joining.{under, entries_points}
 use Rattle.gateway_kit.specs.KeyOrders.{incarnation_total, incarnation_exact}
 use Rattle.gateway_kit.proofs.Served.{filter_own}
@@ -50,4 +51,4 @@ points_under a ps sorted = ap (filter (λ e. is_of_incarnation a.0 a.1 e.0)) (en
 
 -- the greatest time of an incarnation that has cells
 pub newest_under : (a : IncarnationKey) (es : List KeyedCell) → has_some es ≡ true → greatest (map (λ e. e.1.time) (under a es)) ≡ Some (latest es)
-newest_under a es some = ap greatest (map_map (λ (e : Key × Cell Payload). e.1.time) (λ (e : KeyedCell). (whole_key a e.0, e.1)) es) ∙ some_latest es some
+newest_under a es some = ap greatest (map-map (λ (e : Key × Cell Payload). e.1.time) (λ (e : KeyedCell). (whole_key a e.0, e.1)) es) ∙ some_latest es some

@@ -1,5 +1,6 @@
 -- What of items and of incarnations is numbered above a number.
 use Rattle.std.proofs.Common.{◌≡◌, ◌<◌, ◌≤◌, ◌+◌, ℕ, zero, suc, Bool, true, false, cond, nat_lt, nat_le, count_by, List, [], ◌∷◌, ◌++◌, map, take, length, get_or, Option, Some, None, refl, sym, ap, subst, ◌∙◌, arith, true≢false}
+use Rattle.std.proofs.lemmas.Bool.{and_from, and_parts}
 use Rattle.std.proofs.lemmas.Bool.Decides.{nat_tests}
 use Rattle.std.proofs.lemmas.List.{take_more, map-append, length-append}
 use Rattle.std.proofs.lemmas.List.Elements.{filter-append}
@@ -32,7 +33,6 @@ use Rattle.gateway_kit.specs.Tallies.{are_up_to, conflicts_of}
 use Rattle.gateway_kit.specs.declared.item.Item.{Item}
 use Rattle.gateway_kit.proofs.AllMoves.{own_key, get_numbers, viewed, numbers_left, incarnations_woven}
 use Rattle.gateway_kit.proofs.Entries.{as_T, as_true, both, first, second, below_tied, find_below, from_sorted-nil}
-use Rattle.gateway_kit.proofs.Growing.{both_true, first_true, second_true}
 use Rattle.gateway_kit.proofs.ItemMoves.{numbers_in, shows_numbered}
 use Rattle.gateway_kit.proofs.Joining.{get_points}
 use Rattle.gateway_kit.specs.KeyOrders.{item_total, item_exact, incarnation_total, split_key}
@@ -84,9 +84,9 @@ found_newer number (z ∷ items) s q =
 pub up_to_newer : (number n : ℕ) (items : List Item) → are_up_to n items ≡ true → are_up_to n (newer number items) ≡ true
 up_to_newer number n [] h = refl
 up_to_newer number n (z ∷ items) h =
-    let rest = up_to_newer number n items (second_true (nat_le z.number n) (are_up_to n items) h) in
+    let rest = up_to_newer number n items ((and_parts (nat_le z.number n) (are_up_to n items) h).1) in
     elim (nat_lt number z.number) as (λ t. are_up_to n (cond t (z ∷ newer number items) (newer number items)) ≡ true) [
-      | true ↦ both_true (nat_le z.number n) (are_up_to n (newer number items)) (first_true (nat_le z.number n) (are_up_to n items) h) rest
+      | true ↦ and_from (nat_le z.number n) (are_up_to n (newer number items)) ((and_parts (nat_le z.number n) (are_up_to n items) h).0) rest
       | false ↦ rest
     ]
 
@@ -97,8 +97,8 @@ none_over a b number h g = grind (arith, nat_tests)
 none_newer : (number most : ℕ) (items : List Item) → are_up_to most items ≡ true → nat_lt number most ≡ false → newer number items ≡ []
 none_newer number most [] h g = refl
 none_newer number most (z ∷ items) h g =
-    ap (λ t. cond t (z ∷ newer number items) (newer number items)) (none_over z.number most number (first_true (nat_le z.number most) (are_up_to most items) h) g)
-    ∙ none_newer number most items (second_true (nat_le z.number most) (are_up_to most items) h) g
+    ap (λ t. cond t (z ∷ newer number items) (newer number items)) (none_over z.number most number ((and_parts (nat_le z.number most) (are_up_to most items) h).0) g)
+    ∙ none_newer number most items ((and_parts (nat_le z.number most) (are_up_to most items) h).1) g
 
 -- one more item
 pub newer_more : (number : ℕ) (xs : List Item) (i : ℕ) (x : Item) → i < length xs → x ≡ get_or xs i x → newer number (take (i + 1) xs) ≡ newer number (take i xs) ++ cond (nat_lt number x.number) (x ∷ []) []
@@ -166,7 +166,7 @@ filled_recent number [] = refl
 filled_recent number (p ∷ ps) =
     let rest = filled_recent number ps in
     elim (has_cells (recent_incarnation number p)) as (λ t. has_cells (recent_incarnation number p) ≡ t → list_all has_cells (cond t (recent_incarnation number p ∷ recent_incarnations number ps) (recent_incarnations number ps)) ≡ true) [
-      | true ↦ λ t. both_true (has_cells (recent_incarnation number p)) (list_all has_cells (recent_incarnations number ps)) t rest
+      | true ↦ λ t. and_from (has_cells (recent_incarnation number p)) (list_all has_cells (recent_incarnations number ps)) t rest
       | false ↦ λ t. rest
     ] refl
 
@@ -326,11 +326,11 @@ since_whole number olds news len most whole is counted =
 -- an incarnation of which no key has a number above 0
 has_none : (items : List Item) → are_up_to 0 items ≡ true → AllAre (λ (i : Item). i.number ≡ 0) items
 has_none [] h i x l is = absurd (omega (arith, l))
-has_none (z ∷ items) h zero x l is = ap (λ (y : Item). y.number) is ∙ least z.number (first_true (nat_le z.number 0) (are_up_to 0 items) h)
+has_none (z ∷ items) h zero x l is = ap (λ (y : Item). y.number) is ∙ least z.number ((and_parts (nat_le z.number 0) (are_up_to 0 items) h).0)
   where
     least : (n : ℕ) → nat_le n 0 ≡ true → n ≡ 0
     least n g = grind (arith, nat_tests)
-has_none (z ∷ items) h (suc i) x l is = has_none items (second_true (nat_le z.number 0) (are_up_to 0 items) h) i x (omega (arith, l)) is
+has_none (z ∷ items) h (suc i) x l is = has_none items ((and_parts (nat_le z.number 0) (are_up_to 0 items) h).1) i x (omega (arith, l)) is
 
 pub none_numbered : (number most : ℕ) (p : IncarnationState) (writer : WriterId) (start : ℕ) (items : List Item) → is_sorted item_cmp (map keyed_cell_of items) ≡ true → shows writer start items ≡ p → are_up_to most items ≡ true → number ≡ 0 → most ≡ 0 → IsNumbered number p
 none_numbered number most p writer start items s is up zeroed none =

@@ -1,5 +1,7 @@
 -- Equal points come of equal incarnations.
 use Rattle.std.proofs.Common.{◌≡◌, ℕ, ◌+◌, ◌<◌, true, false, cond, List, [], ◌∷◌, ◌++◌, map, take, length, get_or, filter, Option, Some, None, refl, sym, ap, ◌∙◌, true≢false}
+use mathlib.Core.List.{map-map}
+use Rattle.std.proofs.lemmas.Bool.{and_parts}
 use Rattle.std.specs.FinMap.{entries, from_sorted, same_entries_map}
 use Rattle.std.specs.FinMap.Entries.{find, same_entries}
 use Rattle.std.specs.List.{list_all}
@@ -17,8 +19,7 @@ use Rattle.gateway_kit.specs.Keys.{IncarnationKey, incarnation_cmp, whole_key}
 use Rattle.gateway_kit.specs.IncarnationState.{IncarnationState, Cells}
 use Rattle.gateway_kit.specs.Incarnations.{IsWhole, all_points, keyed_cells, has_some, has_cells, entries_at}
 use Rattle.gateway_kit.specs.Queries.{is_of_incarnation}
-use Rattle.gateway_kit.proofs.Entries.{as_T, map_map, not_None, same_Some}
-use Rattle.gateway_kit.proofs.Growing.{first_true, second_true}
+use Rattle.gateway_kit.proofs.Entries.{as_T, not_None, same_Some}
 use Rattle.gateway_kit.proofs.Joining.{entries_points, under}
 use Rattle.gateway_kit.specs.KeyOrders.{incarnation_total, incarnation_exact}
 use Rattle.gateway_kit.proofs.Queried.{listed_incarnation}
@@ -48,17 +49,17 @@ own_entry e = ((e.0.stream, e.0.attrs), e.1)
 entries_under : (a : IncarnationKey) (es fs : List KeyedCell) → under a es ≡ under a fs → es ≡ fs
 unfolding own_entry
 entries_under a es fs e =
-    sym (map_itself es) ∙ sym (map_map own_entry (λ (t : KeyedCell). (whole_key a t.0, t.1)) es)
+    sym (map_itself es) ∙ sym (map-map own_entry (λ (t : KeyedCell). (whole_key a t.0, t.1)) es)
     ∙ ap (map own_entry) e
-    ∙ map_map own_entry (λ (t : KeyedCell). (whole_key a t.0, t.1)) fs ∙ map_itself fs
+    ∙ map-map own_entry (λ (t : KeyedCell). (whole_key a t.0, t.1)) fs ∙ map_itself fs
 
 -- where all incarnations have cells, one that is found has some
 pub found_filled : (a : IncarnationKey) (ps : List IncarnationState) (m : Cells) → list_all has_cells ps ≡ true → find incarnation_cmp a (map keyed_cells ps) ≡ Some m → has_some (entries m) ≡ true
 found_filled a [] m filled is = absurd (not_None is)
 found_filled a (p ∷ ps) m filled is =
     elim (eq_by_cmp incarnation_cmp a (p.writer, p.start)) as (λ b. cond b (Some p.cells) (find incarnation_cmp a (map keyed_cells ps)) ≡ Some m → has_some (entries m) ≡ true) [
-      | true ↦ λ e. ap (λ (cs : Cells). has_some (entries cs)) (sym (same_Some e)) ∙ first_true (has_cells p) (list_all has_cells ps) filled
-      | false ↦ λ e. found_filled a ps m (second_true (has_cells p) (list_all has_cells ps) filled) e
+      | true ↦ λ e. ap (λ (cs : Cells). has_some (entries cs)) (sym (same_Some e)) ∙ (and_parts (has_cells p) (list_all has_cells ps) filled).0
+      | false ↦ λ e. found_filled a ps m ((and_parts (has_cells p) (list_all has_cells ps) filled).1) e
     ] is
 
 same_cells : (x y : Option Cells) → ((m : Cells) → x ≡ Some m → has_some (entries m) ≡ true) → ((m : Cells) → y ≡ Some m → has_some (entries m) ≡ true) → entries_at x ≡ entries_at y → x ≡ y

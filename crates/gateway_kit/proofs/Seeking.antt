@@ -46,3 +46,13 @@ module _ {A : Type 0} (R : A → A → Ordering) (xs : List A) (key : A) where
 
   pub all_below : (i : ℕ) → length xs ≤ i → AreBelow R xs key i → IsBinarySearchResult (λ y. R y key) xs (Err i)
   all_below i h below = λ up. (λ k d low high. below up k d high, λ k d low high. absurd (omega arith))
+
+-- where the last is below a key all are
+pub behind_last : {A : Type 0} (answer : A → Ordering) (xs : List A) (i : ℕ) (x : A) → i + 1 ≡ length xs → x ≡ get_or xs i x → answer x ≡ Less → IsBinarySearchResult answer xs (Err (length xs))
+behind_last answer xs i x end at is = λ up. (
+  λ k d low high.
+      let top : ordering_index (answer (get_or xs i d)) ≡ 0 = ap (λ y. ordering_index (answer y)) (at_any xs i x d (omega arith) at) ∙ ap ordering_index is in
+      let rises : ordering_index (answer (get_or xs k d)) ≤ ordering_index (answer (get_or xs i d)) = up k i d (omega arith) (omega arith) in
+      index_least (answer (get_or xs k d)) (omega arith),
+  λ k d low high. absurd (omega arith),
+)

@@ -1,5 +1,6 @@
 -- The points of some writers are those of their incarnations.
 use Rattle.std.proofs.Common.{◌≡◌, Bool, true, false, cond, List, [], ◌∷◌, ◌++◌, map, filter, refl, sym, ap, ◌∙◌}
+use mathlib.Core.List.{map-map}
 use Rattle.std.specs.FinMap.{entries}
 use Rattle.point_kit.specs.declared.cell.Cell.{Cell}
 use Rattle.point_kit.specs.declared.key.Key.{Key}
@@ -13,7 +14,6 @@ use Rattle.gateway_kit.specs.Keys.{IncarnationKey, whole_key, keyed_cell_of}
 use Rattle.gateway_kit.specs.IncarnationState.{IncarnationState}
 use Rattle.gateway_kit.specs.Incarnations.{all_points}
 use Rattle.gateway_kit.specs.Walks.{items_left, is_asked, points_left}
-use Rattle.gateway_kit.proofs.Entries.{map_map}
 
 -- all entries of an incarnation are of its key
 pub filter_own : (asked : IncarnationKey → Bool) (a : IncarnationKey) (es : List KeyedCell) (rest : List (Key × Cell Payload)) → filter (λ e. asked (e.0.writer, e.0.start)) (map (λ e. (whole_key a e.0, e.1)) es ++ rest) ≡ cond (asked a) (map (λ e. (whole_key a e.0, e.1)) es) [] ++ filter (λ e. asked (e.0.writer, e.0.start)) rest
@@ -43,7 +43,7 @@ passed old here first others none ahead now =
 pub lent : (p : IncarnationState) (items : Bor (List Item)) (bor : Bor IncarnationState) → bor.now ≡ p → map keyed_cell_of items.now ≡ entries p.cells → items_left (Some (bor, items)) ≡ map (λ e. (whole_key (p.writer, p.start) e.0, e.1)) (entries p.cells)
 lent p items bor is es =
     ap (λ (q : IncarnationState). map (λ i. (whole_key (q.writer, q.start) (keyed_cell_of i).0, i.cell)) items.now) is
-    ∙ sym (map_map (λ (e : KeyedCell). (whole_key (p.writer, p.start) e.0, e.1)) keyed_cell_of items.now)
+    ∙ sym (map-map (λ (e : KeyedCell). (whole_key (p.writer, p.start) e.0, e.1)) keyed_cell_of items.now)
     ∙ ap (map (λ e. (whole_key (p.writer, p.start) e.0, e.1))) es
 
 pub lent_when : {A : Type 0} (asked wanted : Bool) (here all : List A) → asked ≡ true → asked ≡ wanted → here ≡ all → here ≡ cond wanted all []

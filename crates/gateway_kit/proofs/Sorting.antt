@@ -1,5 +1,6 @@
 -- A list of distinct keys, sorted: its entries strictly rise, and what is found stays.
 use Rattle.std.proofs.Common.{◌≡◌, ℕ, zero, suc, ◌+◌, ◌<◌, Bool, true, false, not, ◌&&◌, cond, List, [], ◌∷◌, map, filter, length, get_or, Option, Some, None, refl, sym, ap, subst, ◌∙◌, arith, true≢false, IsPermutation, ◌⊎◌, inl, inr}
+use Rattle.std.proofs.lemmas.Bool.{and_from, and_parts}
 use Rattle.std.specs.Prelude.{T}
 use Rattle.std.specs.List.{IsDistinct, AllByRecursion, list_all}
 use Rattle.std.proofs.Common.{All}
@@ -100,27 +101,15 @@ rising_neighbours {R = R} o f (x ∷ y ∷ ys) h =
     let rest : T (is_sorted R (map f (y ∷ ys))) = rising_neighbours o f (y ∷ ys) (λ k d l. let e : suc k + 1 ≡ suc (k + 1) = omega arith in subst (λ n. R (f (get_or (x ∷ y ∷ ys) (suc k) d)).0 (f (get_or (x ∷ y ∷ ys) n d)).0 ≡ Less) e (h (suc k) d (omega arith))) in
     both _ _ (both _ _ (is_less o (f x).0 (f y).0 least) (below_less o (f x).0 (f y).0 (map f ys) least (first _ _ rest))) rest
 
-both_true : (a b : Bool) → a ≡ true → b ≡ true → (a && b) ≡ true
-both_true true b p q = q
-both_true false b p q = p
-
-first_true : (a b : Bool) → (a && b) ≡ true → a ≡ true
-first_true true b e = refl
-first_true false b e = absurd (true≢false (sym e))
-
-second_true : (a b : Bool) → (a && b) ≡ true → b ≡ true
-second_true true b e = e
-second_true false b e = absurd (true≢false (sym e))
-
 -- a test that all pass, of a list whose elements change places
 pub all_moved : {A : Type 0} (test : A → Bool) (xs ys : List A) → IsPermutation xs ys → list_all test xs ≡ true → list_all test ys ≡ true
 all_moved {A = A} test xs ys moved h = passed ys (All-permutation (λ x. test x ≡ true) xs ys moved (each xs h))
   where
     each : (zs : List A) → list_all test zs ≡ true → All (λ x. test x ≡ true) zs
     each [] h k d l = absurd (omega arith)
-    each (z ∷ zs) h zero d l = first_true (test z) (list_all test zs) h
-    each (z ∷ zs) h (suc k) d l = each zs (second_true (test z) (list_all test zs) h) k d (omega arith)
+    each (z ∷ zs) h zero d l = (and_parts (test z) (list_all test zs) h).0
+    each (z ∷ zs) h (suc k) d l = each zs ((and_parts (test z) (list_all test zs) h).1) k d (omega arith)
 
     passed : (zs : List A) → All (λ x. test x ≡ true) zs → list_all test zs ≡ true
     passed [] all = refl
-    passed (z ∷ zs) all = both_true (test z) (list_all test zs) (all 0 z (omega arith)) (passed zs (λ k d l. all (suc k) d (omega arith)))
+    passed (z ∷ zs) all = and_from (test z) (list_all test zs) (all 0 z (omega arith)) (passed zs (λ k d l. all (suc k) d (omega arith)))

@@ -16,5 +16,5 @@ pub record IsNumberedBy (number : ℕ) (old new : GatewayState) : Type 0 where
   pub numbered : (k : Key) → get new.points k ≢ get old.points k → number_of new k ≡ number
 
 -- all keys of a gateway move
-abbrev pub ViewMoves : ℕ → GatewayState → GatewayState → Type 0
-ViewMoves number old new = (k : Key) → Moves number (get old.points k) (get new.points k) (number_of old k) (number_of new k)
+abbrev pub GatewayMoves : ℕ → GatewayState → GatewayState → Type 0
+GatewayMoves number old new = (k : Key) → Moves number (get old.points k) (get new.points k) (number_of old k) (number_of new k)

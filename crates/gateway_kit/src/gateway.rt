@@ -2,7 +2,7 @@
 ghost use Rattle.std.specs.Prelude.{IsOk, IsSome, nat_lt, ◌≡◌, ◌<◌, ◌≤◌, ◌^◌, IfOk, OnOk, OnErr, Ok, [], ◌∷◌, ◌↔◌, IsTrue, count_by, filter, option_copied};
 ghost use Rattle.std.specs.FinMap as finite;
 ghost use Rattle.point_kit.specs.Exports.{state, join_points, changed_points};
-ghost use Rattle.gateway_kit.specs.Numbering.{IsNumberedBy, ViewMoves, number_of};
+ghost use Rattle.gateway_kit.specs.Numbering.{IsNumberedBy, GatewayMoves, number_of};
 ghost use Rattle.std.specs.FinMap.{entries, retain_keys};
 ghost use Rattle.gateway_kit.specs.Queries.{has_conflict, newest_time};
 ghost use Rattle.gateway_kit.specs.Walks.{is_of, points_left};
@@ -177,7 +177,7 @@ impl Gateway {
         ensures id { self.new.id ≡ self.old.id }
         ensures ok { OnOk result (self.new.points ≡ join_points self.old.points (state (export.now ∷ []))) }
         ensures value { IfOk result (λ n. n ≡ changed_points self.old.points self.new.points) }
-        ensures moves { OnOk result (ViewMoves number self.old self.new) }
+        ensures moves { OnOk result (GatewayMoves number self.old self.new) }
         ensures kept { OnOk result (number ≡ 0 → self.new.numbers ≡ self.old.numbers) }
         ensures unchanged { OnErr result (self.new ≡ self.old) }
         ensures no_points { export.now.points ≡ [] → result ≡ Ok 0 }
@@ -193,8 +193,10 @@ impl Gateway {
 
     /// Joins one cell, and answers whether that of its key changed.
     ///
-    /// O(log n) where the key is held, and then it takes no memory; else O(n) in its incarnation. Refused with `NoMemory`,
-    /// with nothing changed, where a growth was refused, or where the gateway would come to hold more than 2^62 points.
+    /// O(log n) where the key is held, and then it takes no memory; else O(n) in its incarnation. Where the key belongs behind
+    /// all of its incarnation it is found by one comparison, and nothing moves but into greater room: so cells that come in
+    /// the order of their keys cost O(log m) each of m incarnations, amortized. Refused with `NoMemory`, with nothing changed,
+    /// where a growth was refused, or where the gateway would come to hold more than 2^62 points.
     pub fn join_cell(&mut self, key: Key, cell: Cell) -> Result<bool, NoMemory>
         ensures id { self.new.id ≡ self.old.id }
         ensures ok { OnOk result (self.new.points ≡ join_points self.old.points (finite.from_entries ((key, cell) ∷ []))) }
@@ -245,7 +247,7 @@ impl Gateway {
         ensures id { self.new.id ≡ self.old.id }
         ensures ok { OnOk result (self.new.points ≡ join_points self.old.points other.now.points) }
         ensures value { IfOk result (λ n. n ≡ changed_points self.old.points self.new.points) }
-        ensures moves { OnOk result (ViewMoves number self.old self.new) }
+        ensures moves { OnOk result (GatewayMoves number self.old self.new) }
         ensures kept { OnOk result (number ≡ 0 → self.new.numbers ≡ self.old.numbers) }
         ensures unchanged { OnErr result (self.new ≡ self.old) }
         ensures no_points { other.now.points ≡ finite.empty → result ≡ Ok 0 }

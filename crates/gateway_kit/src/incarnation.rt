@@ -22,12 +22,14 @@ use crate::draft::Draft;
 use crate::growth::{Growth, MOST_POINTS};
 use crate::hint::Hint;
 use crate::item::Item;
-use crate::items::{newer_items, place_of, put_cell, put_cells, put_items, tally_of};
+use crate::items::{
+    newer_items, place_behind, place_of, put_cell, put_cells, put_items, stream_at, tally_of,
+};
 use crate::ordered::{Keyed, after, all_same, place_from, renumber_all};
 use crate::tally::Tally;
 use crate::trail::draft_changes;
 use attr_kit::{AttrSet, NoMemory, TryCopy, copy_all};
-use point_kit::{Cell, Export, SharedStream, Stream, WriterId};
+use point_kit::{Cell, Export, Stream, WriterId};
 use std::alloc::{AllocError, AllocFailed, Global};
 use std::cmp::Ordering;
 use std::marker::Model;
@@ -298,14 +300,14 @@ impl Incarnation {
         ensures held { IsSome (find item_cmp (stream, attrs) (entries self.old.cells)) → IsOk result }
         ensures unchanged { OnErr result (self.new ≡ self.old) }
     {
-        match place_of(self.items(), &stream, &attrs) {
+        match place_behind(self.items(), &stream, &attrs) {
             Ok(place) => Ok(self.join_at(place, cell)),
             Err(place) => {
                 if len >= MOST_POINTS {
                     return Err(NoMemory);
                 }
                 let alloc = *self.items.allocator();
-                let stream = SharedStream::new(alloc, stream)?;
+                let stream = stream_at(self.items(), place, alloc, stream)?;
                 let item = Item {
                     stream,
                     attrs,

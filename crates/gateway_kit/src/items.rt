@@ -19,8 +19,9 @@ use crate::tally::Tally;
 use crate::trail::places_after;
 use crate::weave::weave;
 use attr_kit::{AttrSet, NoMemory, TryCopy};
-use point_kit::{Cell, Stream};
+use point_kit::{Cell, SharedStream, Stream};
 use std::alloc::{AllocError, Global};
+use std::cmp::Ordering;
 use std::mem;
 
 /// The place of a key among items, or where it belongs: O(log n).
@@ -29,6 +30,22 @@ pub(crate) fn place_of(items: &[Item], stream: &Stream, attrs: &AttrSet) -> Resu
     ensures { IsPlace item_cmp (map keyed_cell_of items.now) (stream.now, attrs.now) result }
 {
     items.binary_search_by(|item| item.order(stream, attrs))
+}
+
+/// The place of a key among items, or where it belongs. The last item is asked first, and where it is below the key that is
+/// all: else O(log n). So of keys that come in order each takes one comparison.
+pub(crate) fn place_behind(items: &[Item], stream: &Stream, attrs: &AttrSet) -> Result<usize, usize>
+    requires { IsTrue (is_sorted item_cmp (map keyed_cell_of items.now)) }
+    ensures { IsPlace item_cmp (map keyed_cell_of items.now) (stream.now, attrs.now) result }
+{
+    let len = items.len();
+    if len > 0 {
+        let last = len - 1;
+        if let Ordering::Less = items[last].order(stream, attrs) {
+            return Err(len);
+        }
+    }
+    place_of(items, stream, attrs)
 }
 
 /// The place of a key among items, or where it belongs. The item at the guess is asked first, and where it has the key that
@@ -46,6 +63,24 @@ pub(crate) fn place_near(
         return Ok(guess);
     }
     place_of(items, stream, attrs)
+}
+
+/// The stream of a new item: that of the item before its place, where they are equal, so that a run of items holds it once.
+pub(crate) fn stream_at(
+    items: &[Item],
+    place: usize,
+    alloc: Global,
+    stream: Stream,
+) -> Result<SharedStream, NoMemory>
+    ensures { IfOk result (λ s. s ≡ stream) }
+{
+    if let Some(before) = place.checked_sub(1)
+        && let Some(item) = items.get(before)
+        && *item.stream.get() == stream
+    {
+        return item.stream.try_copy();
+    }
+    SharedStream::new(alloc, stream)
 }
 
 // Keeps a copy of an item where it is numbered above a number.

@@ -1,7 +1,6 @@
 -- What a delta carries is held, and brings what is not acknowledged.
-use Rattle.std.proofs.Common.{◌≡◌, ℕ, suc, Bool, true, false, cond, if◌then◌else◌, ◌<◌, ◌≤◌, Option, Some, None, inl, inr, refl, sym, ap, ◌∙◌, arith, true≢false}
-use Rattle.std.proofs.lemmas.Bool.{le-leb, lt-ltb}
-use Rattle.std.proofs.lemmas.Bool.Decides.{leb_tells}
+use Rattle.std.proofs.Common.{◌≡◌, ℕ, Bool, true, false, cond, if◌then◌else◌, ◌<◌, ◌≤◌, Option, Some, None, refl, sym, ap, ◌∙◌}
+use Rattle.std.proofs.lemmas.Bool.{le-leb, le-ltb, lt-ltb, ltb-false}
 use Rattle.std.specs.Prelude.{nat_lt, nat_le}
 use Rattle.std.specs.FinMap.{get, empty, retain_keys, get-retain_keys, same_map}
 use Rattle.std.specs.Option.{option_map_or}
@@ -16,6 +15,7 @@ use Rattle.point_kit.proofs.JoinLaws.{cells_commute, cells_associate, cells_idem
 use Rattle.point_kit.proofs.OrderLaws.{key_total, key_exact}
 use Rattle.point_kit.proofs.PointLaws.{points_commute, points_associate, points_idempotent}
 use Rattle.point_kit.proofs.StateLaws.{get-join_maps}
+use Rattle.gateway_kit.proofs.Counting.{unjoined}
 use Rattle.gateway_kit.proofs.Entries.{not_None}
 use Rattle.gossip_kit.specs.Gossip.{CarriesHeld, Brings, acknowledged, carried_to, recent_to, numbered_above, numbered_to, number_of, delta_to, last_number}
 use Rattle.gossip_kit.specs.Views.{NodeModel}
@@ -34,10 +34,6 @@ associate = options_associate (join_cells payload_eq) (cells_associate payload_e
 
 repeat : (a : Held) → J a a ≡ a
 repeat = options_idempotent (join_cells payload_eq) (cells_idempotent payload_eq payload_equivalence payload_exact)
-
-none_right : (a : Held) → J a None ≡ a
-none_right None = refl
-none_right (Some a) = refl
 
 twice : (x p : Held) → J x (J p x) ≡ J p x
 twice x p = ap (J x) (commute p x) ∙ sym (associate x x p) ∙ ap (λ y. J y p) (repeat x) ∙ commute x p
@@ -58,16 +54,9 @@ all_brings : (acked held : Points) → Brings held acked held
 all_brings acked held p above =
     points_commute held (join_points p held) ∙ points_associate p held held ∙ ap (join_points p) (points_idempotent held)
 
--- what is not above a number is up to it
-not_above : (a n : ℕ) → nat_lt a n ≡ false → nat_le n a ≡ true
-not_above a n e = elim (leb_tells (suc a) n) [
-  | inl more ↦ absurd (true≢false (sym more.0 ∙ e))
-  | inr less ↦ le-leb n a (let h = less.1 in omega (arith, h))
-]
-
 brings_at : (x p : Held) (b : Bool) → (b ≡ false → J x p ≡ p) → J x (J p (cond b x None)) ≡ J p (cond b x None)
 brings_at x p true up = twice x p
-brings_at x p false up = ap (J x) (none_right p) ∙ up refl ∙ sym (none_right p)
+brings_at x p false up = ap (J x) (sym (unjoined (join_cells payload_eq) p)) ∙ up refl ∙ unjoined (join_cells payload_eq) p
 
 recent_brings : (node : NodeModel) (a : Option ℕ) (acked : Points) → ((n : ℕ) → a ≡ Some n → acked ≡ numbered_to node n) → Brings (option_map_or (numbered_above node) a node.gateway.points) acked node.gateway.points
 recent_brings node None acked is p above = all_brings acked node.gateway.points p above
@@ -77,7 +66,7 @@ recent_brings node (Some n) acked is p above = same_map key_total key_exact _ _ 
     let test : Bool = nat_lt n (number_of node k) in
     let has : get carried k ≡ cond test (get h k) None = retained h (λ x. nat_lt n (number_of node x)) k in
     let up : test ≡ false → J (get h k) (get p k) ≡ get p k = λ low.
-    let whole : get acked k ≡ get h k = ap (λ (m : Points). get m k) (is n refl) ∙ retained h (λ x. nat_le (number_of node x) n) k ∙ ap (λ b. cond b (get h k) None) (not_above n (number_of node k) low) in
+    let whole : get acked k ≡ get h k = ap (λ (m : Points). get m k) (is n refl) ∙ retained h (λ x. nat_le (number_of node x) n) k ∙ ap (λ b. cond b (get h k) None) (le-leb (number_of node k) n (ltb-false n (number_of node k) low)) in
     ap (λ x. J x (get p k)) (sym whole) ∙ sym (get-join_maps key_total key_exact (join_cells payload_eq) acked p k) ∙ ap (λ (m : Points). get m k) above in
     get-join_maps key_total key_exact (join_cells payload_eq) h (join_points p carried) k
     ∙ ap (J (get h k)) (get-join_maps key_total key_exact (join_cells payload_eq) p carried k ∙ ap (J (get p k)) has)
@@ -103,19 +92,13 @@ carries_enough node to = elim (nat_lt node.change last_number) as (λ b. Brings 
   | false ↦ all_brings (acknowledged node to) node.gateway.points
 ]
 
-pub le-ltb : (a b : ℕ) → a ≤ b → nat_lt b a ≡ false
-le-ltb a b h = elim (leb_tells (suc b) a) [
-  | inl more ↦ absurd (let less = more.1 in omega (arith, h, less))
-  | inr less ↦ less.0
-]
-
 pub carried_recent : (node : NodeModel) (to : ℕ) → node.change < last_number → recent_to node to ≡ carried_to node to
 unfolding carried_to
 carried_recent node to low = sym (ap (λ b. if b then recent_to node to else node.gateway.points) (lt-ltb node.change last_number low))
 
 pub carried_all : (node : NodeModel) (to : ℕ) → last_number ≤ node.change → node.gateway.points ≡ carried_to node to
 unfolding carried_to
-carried_all node to high = sym (ap (λ b. if b then recent_to node to else node.gateway.points) (le-ltb last_number node.change high))
+carried_all node to high = sym (ap (λ b. if b then recent_to node to else node.gateway.points) (le-ltb node.change last_number high))
 
 pub delta_recent : (node : NodeModel) → node.change < last_number → Some node.change ≡ delta_to node
 unfolding delta_to
@@ -123,4 +106,4 @@ delta_recent node low = sym (ap (λ b. if b then Some node.change else None) (lt
 
 pub delta_none : (node : NodeModel) → last_number ≤ node.change → None ≡ delta_to node
 unfolding delta_to
-delta_none node high = sym (ap (λ b. if b then Some node.change else None) (le-ltb last_number node.change high))
+delta_none node high = sym (ap (λ b. if b then Some node.change else None) (le-ltb node.change last_number high))

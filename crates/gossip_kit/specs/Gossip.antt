@@ -24,11 +24,11 @@ next_number n = min (n + 1) last_number
 
 -- the number of the change at which the cell of a key changed last, 0 where it did not change in this node
 abbrev pub number_of : NodeModel → Key → ℕ
-number_of node k = unwrap_or (get node.numbers k) 0
+number_of node k = unwrap_or (get node.gateway.numbers k) 0
 
 -- a node of a gateway before any change: no key is numbered, and nobody acknowledged anything
 abbrev pub first_node : GatewayState → NodeModel
-first_node gateway = record { gateway = record gateway { numbers = empty }; change = 0; numbers = empty; acked = empty }
+first_node gateway = record { gateway = record gateway { numbers = empty }; change = 0; acked = empty }
 
 -- one call numbers what it changed: each key that has another cell gets the number of the change, and no other key another number
 pub record Renumbers (old new : NodeModel) : Type 0 where

@@ -4,7 +4,6 @@ use Rattle.std.specs.FinMap.{FinMap}
 use Rattle.std.specs.Ordering.{nat_cmp}
 use Rattle.gateway_kit.specs.GatewayState.{GatewayState}
 use Rattle.point_kit.specs.Exports.{Points}
-use Rattle.point_kit.specs.Orders.{key_cmp}
 
 -- a message: from which id to which, the cells that it carries, of a delta its sender's change number, and of an Ack the number that is acknowledged
 pub record MessageModel : Type 0 where
@@ -14,9 +13,8 @@ pub record MessageModel : Type 0 where
   pub delta : Option ℕ
   pub ack : Option ℕ
 
--- a node: its gateway, how often its points changed, the number of the change of each key that changed, and the greatest number that each peer acknowledged
+-- a node: its gateway, which numbers each key by the change at which its cell changed last, how often its points changed, and the greatest number that each peer acknowledged
 pub record NodeModel : Type 0 where
   pub gateway : GatewayState
   pub change : ℕ
-  pub numbers : FinMap key_cmp ℕ
   pub acked : FinMap nat_cmp ℕ

@@ -1,8 +1,8 @@
 //! Gateways that send and take messages.
-ghost use Rattle.std.specs.Prelude.{◌≡◌, ◌≢◌, IsSome, List, [], ◌∷◌, Ok, OnOk, OnErr, IfOk, IfErr, Some, None};
+ghost use Rattle.std.specs.Prelude.{◌≡◌, ◌≢◌, ◌≤◌, nat_lt, if◌then◌else◌, IsSome, List, [], ◌∷◌, Ok, OnOk, OnErr, IfOk, IfErr, Some, None};
 ghost use Rattle.std.specs.FinMap as finite;
 ghost use Rattle.point_kit.specs.Exports.{join_points, changed_points, state};
-ghost use Rattle.gossip_kit.specs.Gossip.{acknowledged, acked_after, answer_of, first_node, carried_to, delta_to, hand_fault, next_number, recent_to, Brings, CarriesHeld, Renumbers};
+ghost use Rattle.gossip_kit.specs.Gossip.{acknowledged, acked_after, answer_of, first_node, carried_to, delta_to, hand_fault, last_number, next_number, recent_to, Brings, CarriesHeld, Renumbers};
 
 use crate::books::Books;
 use crate::message::Body;
@@ -40,7 +40,7 @@ impl Model for Node {
 
     ghost coded = { Prim.hlevel (codes, code) };
 
-    ghost view = { λ n. record { gateway = n.gateway; change = n.change; numbers = n.gateway.numbers; acked = n.books } };
+    ghost view = { λ n. record { gateway = n.gateway; change = n.change; acked = n.books } };
 
     ghost invariant = { λ n. n.change ≤ last_number };
 }
@@ -81,9 +81,7 @@ impl Node {
     {
         let number = self.next();
         let changed = self.gateway.take_numbered(export, number)?;
-        if changed > 0 {
-            self.change = number;
-        }
+        self.count(number, changed);
         Ok(changed)
     }
 
@@ -101,9 +99,7 @@ impl Node {
     {
         let number = self.next();
         let changed = self.gateway.merge_numbered(other, number)?;
-        if changed > 0 {
-            self.change = number;
-        }
+        self.count(number, changed);
         Ok(changed)
     }
 
@@ -115,6 +111,16 @@ impl Node {
             self.change + 1
         } else {
             LAST_NUMBER
+        }
+    }
+
+    // Counts a change of this number, where it changed any keys.
+    fn count(&mut self, number: u64, keys: u64)
+        requires { number ≤ last_number }
+        ensures { self.new ≡ record self.old { change = if nat_lt 0 keys then number else self.old.change } }
+    {
+        if keys > 0 {
+            self.change = number;
         }
     }
 

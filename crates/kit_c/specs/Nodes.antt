@@ -16,7 +16,7 @@ pub record Begins (g : GatewayState) (n : NodeModel) : Type 0 where
   pub id : n.gateway.id ≡ g.id
   pub points : n.gateway.points ≡ g.points
   pub change : n.change ≡ 0
-  pub numbers : n.numbers ≡ finite.empty
+  pub numbers : n.gateway.numbers ≡ finite.empty
   pub acked : n.acked ≡ finite.empty
 
 -- the same of handles: the second has the node of the first one's gateway

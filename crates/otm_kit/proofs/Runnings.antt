@@ -181,7 +181,7 @@ same_no b p q text h e is =
     ] refl)
 
 no_node : NodeModel
-no_node = record { gateway = record { id = 0; points = empty; numbers = empty }; change = 0; numbers = empty; acked = empty }
+no_node = record { gateway = record { id = 0; points = empty; numbers = empty }; change = 0; acked = empty }
 
 -- the place of a gateway is one
 pub gateway_there : (d : Declared) (cs : List Command) (r : Running) (id place : ℕ) → Runs d cs r → gateway_place d.gateways id ≡ Some place → slice_get r.world.nodes place ≡ None → ⊥

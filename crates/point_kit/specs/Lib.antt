@@ -4,6 +4,7 @@ pub mod Equality
 pub mod Exact
 pub mod ExportFaults
 pub mod Exports
+pub mod Hashes
 pub mod Join
 pub mod Ordered
 pub mod Orders

@@ -1,14 +1,16 @@
 //! The points of one collection.
 ghost use Rattle.std.specs.List.{IsDistinct};
-ghost use Rattle.std.specs.Prelude.{◌≡◌, ◌≢◌, ◌<◌, IfOk, IfErr, OnOk, OnErr, Some, None, All, length, position};
+ghost use Rattle.std.specs.Prelude.{◌≡◌, ◌≢◌, ◌<◌, IfOk, IfErr, OnOk, OnErr, Some, None, All, length, position, true};
 ghost use Rattle.attr_kit.specs.Refusing.{repeat};
 ghost use Rattle.point_kit.specs.ExportFaults.{same_key, export_fault};
+ghost use Rattle.point_kit.specs.Hashes.{key_hash};
 ghost use Rattle.point_kit.specs.Payload.{wrong_shape, wrong_buckets, wrong_count, negative, wrong_range, IsSound};
 
 use crate::{ExportFault, ExportPoint, WriterId};
 use attr_kit::{NoMemory, Seq, TryCopy};
 use std::alloc::Global;
-use std::collections::HashSet;
+use std::collections::BTreeSet;
+use std::hash::{FoldHasher, Hash, Hasher};
 
 /// The points of one collection of a writer (Metrics Data Model, "Temporality": cumulative points of one start). Its
 /// start and time are nanoseconds since the Unix epoch. No key stands twice, and each payload is sound in its stream.
@@ -21,7 +23,42 @@ pub struct Export {
     pub ghost sound: { export_fault start time points ≡ None },
 }
 
-// The least place of a point whose key an earlier one has. Fewer than two points need no set.
+// The hash of a point's key, of the two that its stream and its set keep.
+fn hash_of(point: &ExportPoint) -> u64
+    ensures { result ≡ key_hash point.now }
+{
+    let mut state = FoldHasher::default();
+    point.stream.hash(&mut state);
+    point.attrs.hash(&mut state);
+    state.finish()
+}
+
+// Whether the hashes of all keys differ, and so the keys. O(n log n) comparisons of numbers, whatever the keys.
+fn differ_by_hash(alloc: Global, points: &[ExportPoint]) -> Result<bool, NoMemory>
+    ensures { IfOk result (λ differ. differ ≡ true → repeat same_key points.now ≡ None) }
+{
+    let mut hashes = Vec::with_capacity(alloc, points.len())?;
+    for point in points {
+        hashes.push(hash_of(point))?;
+    }
+    hashes.sort_unstable();
+    Ok(hashes.as_slice().is_sorted_by(|hash, next| hash < next))
+}
+
+// The least place of a point whose key an earlier one has. O(n log n) comparisons of keys.
+fn first_twice(alloc: Global, points: &[ExportPoint]) -> Result<Option<usize>, NoMemory>
+    ensures { IfOk result (λ place. place ≡ repeat same_key points.now) }
+{
+    let mut seen = BTreeSet::new(alloc);
+    for (place, point) in points.iter().enumerate() {
+        if !seen.insert((&point.stream, &point.attrs))? {
+            return Ok(Some(place));
+        }
+    }
+    Ok(None)
+}
+
+// The same. Keys are put in order only where two hashes are equal: those of equal keys, or of keys that were chosen so.
 fn key_twice(alloc: Global, points: &[ExportPoint]) -> Result<Option<usize>, NoMemory>
     ensures value { IfOk result (λ place. place ≡ repeat same_key points.now) }
     ensures no_memory { OnErr result (1 < length points.now) }
@@ -29,13 +66,10 @@ fn key_twice(alloc: Global, points: &[ExportPoint]) -> Result<Option<usize>, NoM
     if points.len() < 2 {
         return Ok(None);
     }
-    let mut seen = HashSet::new(alloc);
-    for (place, point) in points.iter().enumerate() {
-        if !seen.insert((&point.stream, &point.attrs))? {
-            return Ok(Some(place));
-        }
+    if differ_by_hash(alloc, points)? {
+        return Ok(None);
     }
-    Ok(None)
+    first_twice(alloc, points)
 }
 
 fn wrong_shape_at(points: &[ExportPoint]) -> Option<usize>
@@ -108,9 +142,10 @@ impl Export {
     /// The points of `writer` that were collected at `time` and cover what came after `start`.
     ///
     /// Refused, in this order, each at its least place: `TimeNotAfterStart`, `KeyTwice`, `WrongShape`, `BucketCount`,
-    /// `CountMismatch`, `NegativeTotal`, `BadRange`. `NoMemory` comes only where the time is after the start and the
-    /// set of keys of at least two points found no room; whether one of the others fits is then open. That bounds rise
-    /// is not checked. Time in the number of points and of their buckets.
+    /// `CountMismatch`, `NegativeTotal`, `BadRange`. `NoMemory` comes only where the time is after the start and what is
+    /// noted of at least two points found no room; whether one of the others fits is then open. That bounds rise is not
+    /// checked. O(n log n) comparisons of the n points' hashes, and O(n) in points and buckets. Where two hashes are
+    /// equal, O(n log n) comparisons of streams and sets too, whatever the points.
     pub fn build(
         alloc: Global,
         writer: WriterId,

@@ -89,7 +89,7 @@ module _ {M E S : Type 0} (state : M → S) (next : S → E → Option S) where
     pub rest : m.0.who ≡ idle_who m.0.who
 
   -- the whole history was seen, and it has k entries
-  pub record Found (m : Sat M E) (k : ℕ) (m' : Sat M E) : Type 0 where
+  pub record SeesAll (m : Sat M E) (k : ℕ) (m' : Sat M E) : Type 0 where
     pub l : List (ℕ × E)
     pub n : ℕ
     pub a : M
@@ -110,8 +110,8 @@ module _ {M E S : Type 0} (state : M → S) (next : S → E → Option S) where
   Takes m m' = (l : List (ℕ × E)) × (n : ℕ) × (a : M) × (x : M) × (m' ≡ (record m.0 { stage = Holds l n }, (0, x) ∷ [])) × (m.0.start ≡ Some a) × IsReplay state next a l x × StartsWith l m.0.seen
 
   -- the turn was asked for: it is had, or nothing changed, and another seat may be out
-  abbrev pub Asked : Bool → Sat M E → Sat M E → Type 0
-  Asked had m m' = MatchBool had (Takes m m') ((m' ≡ m) × (m.0.who.sole ≢ true))
+  abbrev pub Asks : Bool → Sat M E → Sat M E → Type 0
+  Asks had m m' = MatchBool had (Takes m m') ((m' ≡ m) × (m.0.who.sole ≢ true))
 
   -- the step was made on the machine x, which is y then
   pub record StepsTo {R F : Type 0} (e : E) (replies : M → R → Type 0) (refuses : M → F → Type 0) (m m' : Sat M E) (r : Result R F) : Type 0 where
@@ -123,7 +123,7 @@ module _ {M E S : Type 0} (state : M → S) (next : S → E → Option S) where
 
   -- The view w after a change with the entry e, made of the machine m: what was seen before begins what is seen now, which ends with the entry
   -- and is a legal history; m is the machine before the entry. The seat's own entries have gained it.
-  pub record Changed (v w : Knowledge M E) (e : E) (m : M) : Type 0 where
+  pub record AfterChange (v w : Knowledge M E) (e : E) (m : M) : Type 0 where
     pub start : M
     pub between : List (ℕ × E)
     pub from : v.start ≡ Some start
@@ -134,7 +134,7 @@ module _ {M E S : Type 0} (state : M → S) (next : S → E → Option S) where
     pub same : w ≡ record v { stage = Idle; seen = w.seen; who = record v.who { mine = v.who.mine ++ e ∷ [] } }
 
   -- The view w after the machine was found to be m: what was seen before begins what is seen now, whose machine is m.
-  pub record Looked (v w : Knowledge M E) (m : M) : Type 0 where
+  pub record AfterLook (v w : Knowledge M E) (m : M) : Type 0 where
     pub start : M
     pub between : List (ℕ × E)
     pub from : v.start ≡ Some start
@@ -161,11 +161,11 @@ module _ {M E S : Type 0} (state : M → S) (next : S → E → Option S) where
     pub weighs : (f : E → ℕ) → weigh_log f history ≡ weigh_all f family
 
   -- a change's answer, where `busy` is what `Busy` says
-  abbrev pub Answered : {Reply Refusal : Type 0} → Type 0 → Knowledge M E → Knowledge M E → E → (M → Reply → Type 0) → (M → Refusal → Type 0) → Result Reply (ChangeFault Refusal) → Type 0
-  Answered busy v w e replies refuses (Ok r) = (m : M) × Changed v w e m × replies m r
-  Answered busy v w e replies refuses (Err Busy) = busy
-  Answered busy v w e replies refuses (Err Exhausted) = ((m : M) × Looked v w m) × (length w.seen ≡ v.limit)
-  Answered busy v w e replies refuses (Err (Refused r)) = ((m : M) × Looked v w m × refuses m r) × (length w.seen < v.limit)
+  abbrev pub IsAnswer : {Reply Refusal : Type 0} → Type 0 → Knowledge M E → Knowledge M E → E → (M → Reply → Type 0) → (M → Refusal → Type 0) → Result Reply (ChangeFault Refusal) → Type 0
+  IsAnswer busy v w e replies refuses (Ok r) = (m : M) × AfterChange v w e m × replies m r
+  IsAnswer busy v w e replies refuses (Err Busy) = busy
+  IsAnswer busy v w e replies refuses (Err Exhausted) = ((m : M) × AfterLook v w m) × (length w.seen ≡ v.limit)
+  IsAnswer busy v w e replies refuses (Err (Refused r)) = ((m : M) × AfterLook v w m × refuses m r) × (length w.seen < v.limit)
 
 -- the seat v made a seat with the number n, which neither it nor what it has seen knew of
 abbrev pub WasSplit : {M E : Type 0} → ℕ → Knowledge M E → Knowledge M E → Sat M E → Type 0
@@ -181,10 +181,10 @@ abbrev pub IsSeatOf : {M E : Type 0} → TableId → Terms M → TableSeat M (Kn
 IsSeatOf z terms p = (p.table_id ≡ z) × (p.me.0.start ≡ Some terms.start.value) × (p.me.0.limit ≡ terms.limit)
 
 -- the view w after the seat v heard what begins with `told`
-abbrev pub Heard : {M E : Type 0} → Knowledge M E → Knowledge M E → List (ℕ × E) → ℕ → Type 0
-Heard v w told made = (w ≡ record v { seen = longer v.seen told; ours = v.seen; theirs = told; made = max v.made made }) × StartsWith w.seen v.seen × StartsWith w.seen told
+abbrev pub AfterNote : {M E : Type 0} → Knowledge M E → Knowledge M E → List (ℕ × E) → ℕ → Type 0
+AfterNote v w told made = (w ≡ record v { seen = longer v.seen told; ours = v.seen; theirs = told; made = max v.made made }) × StartsWith w.seen v.seen × StartsWith w.seen told
 
 -- the view w after the seat u was joined into v
-abbrev pub Joined : {M E : Type 0} → Knowledge M E → Knowledge M E → Knowledge M E → Type 0
-Joined v w u = (w ≡ record v { seen = longer v.seen u.seen; ours = v.seen; theirs = u.seen; made = max v.made u.made; who = record v.who { joined = v.who.joined ++ (u.who.number, u.who.mine) ∷ u.who.joined } })
+abbrev pub AfterJoin : {M E : Type 0} → Knowledge M E → Knowledge M E → Knowledge M E → Type 0
+AfterJoin v w u = (w ≡ record v { seen = longer v.seen u.seen; ours = v.seen; theirs = u.seen; made = max v.made u.made; who = record v.who { joined = v.who.joined ++ (u.who.number, u.who.mine) ∷ u.who.joined } })
     × StartsWith w.seen v.seen × StartsWith w.seen u.seen × Apart ((w.who.number, w.who.mine) ∷ w.who.joined)

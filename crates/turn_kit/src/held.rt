@@ -1,6 +1,6 @@
 //! What the holder of the turn does before it gives the turn back. The machine lies in its slot throughout.
 ghost use Rattle.std.specs.Prelude.{◌≡◌, ℕ, [], ◌∷◌, IfSome, IfNone};
-ghost use Rattle.turn_kit.specs.TableSeats.{IsAt, IsIdle, Owns, IsSameTableSeat, HasTurn, StepsTo, Answered, Looked, WasSplit, WasFull};
+ghost use Rattle.turn_kit.specs.TableSeats.{IsAt, IsIdle, Owns, IsSameTableSeat, HasTurn, StepsTo, IsAnswer, AfterLook, WasSplit, WasFull};
 
 use crate::board::{MACHINE, TableSeat, Top};
 use crate::fault::ChangeFault;
@@ -56,7 +56,7 @@ pub(crate) fn change_held<G: GiveBack, M: Machine, T: Step<M>>(
     requires turn { HasTurn M.state M.after table_seat.old.me }
     ensures table_seat { IsSameTableSeat table_seat.old table_seat.new × IsIdle table_seat.new }
     ensures own { Owns table_seat.new.me.0 }
-    ensures answer { Answered M.state M.after ⊥ table_seat.old.me.0 table_seat.new.me.0
+    ensures answer { IsAnswer M.state M.after ⊥ table_seat.old.me.0 table_seat.new.me.0
         (T.entry step) (T.replies step) (T.refuses step) result }
 {
     if count(top, table_seat) >= limit {
@@ -87,7 +87,7 @@ pub(crate) fn look_held<G: GiveBack, M: Machine, T: Look<M>>(
     requires turn { HasTurn M.state M.after table_seat.old.me }
     ensures table_seat { IsSameTableSeat table_seat.old table_seat.new × IsIdle table_seat.new }
     ensures own { Owns table_seat.new.me.0 }
-    ensures answer { (m : M) × Looked M.state M.after table_seat.old.me.0 table_seat.new.me.0 m × T.answers look m result }
+    ensures answer { (m : M) × AfterLook M.state M.after table_seat.old.me.0 table_seat.new.me.0 m × T.answers look m result }
 {
     count(top, table_seat);
     let answer = look_in_place(top, table_seat, look);

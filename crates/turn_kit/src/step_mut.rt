@@ -1,6 +1,6 @@
 //! Changes that are made with a value which the caller keeps.
 ghost use Rattle.std.specs.Prelude.{◌≡◌, [], ◌∷◌, true, Some, IfOk, IfErr, OnOk, OnErr};
-ghost use Rattle.turn_kit.specs.TableSeats.{AllMeet, Answered, Grows, HasRoom, HasTurn, IsAt, IsIdle, IsSameTableSeat, Owns, StepsTo};
+ghost use Rattle.turn_kit.specs.TableSeats.{AllMeet, IsAnswer, Grows, HasRoom, HasTurn, IsAt, IsIdle, IsSameTableSeat, Owns, StepsTo};
 ghost use Rattle.turn_kit.specs.Public.{IsOf, IsLeft, Enters, Exhausts, Refuses, opening, limit_of};
 ghost use Rattle.turn_kit.specs.Public.{AtBusy, AtExhausted, AtRefused};
 
@@ -73,7 +73,7 @@ fn change_held_mut<G: GiveBack, M: Machine, T: StepMut<M>>(
     requires met { (start : M) → table_seat.old.me.0.start ≡ Some start → AllMeet M.state M.after start (T.needs step.old) }
     ensures table_seat { IsSameTableSeat table_seat.old table_seat.new × IsIdle table_seat.new }
     ensures own { Owns table_seat.new.me.0 }
-    ensures answer { Answered M.state M.after ⊥ table_seat.old.me.0 table_seat.new.me.0
+    ensures answer { IsAnswer M.state M.after ⊥ table_seat.old.me.0 table_seat.new.me.0
         (T.entry step.old) (λ m r. T.replies step.old m r step.new) (T.refuses step.old) result }
     ensures kept { OnErr result (step.new ≡ step.old) }
 {

@@ -1,7 +1,7 @@
 //! The atomic steps of a turn. Each function makes one, on one word of the table.
 ghost use Rattle.std.specs.Prelude.{◌≡◌, [], true, Some};
 ghost use Rattle.turn_kit.specs.declared.knowledge.Stage.TheVariants.{Idle};
-ghost use Rattle.turn_kit.specs.TableSeats.{IsAt, IsIdle, IsSameTableSeat, Asked, HasTurn, Found};
+ghost use Rattle.turn_kit.specs.TableSeats.{IsAt, IsIdle, IsSameTableSeat, Asks, HasTurn, SeesAll};
 ghost use Rattle.turn_kit.specs.TableSeats.{HasRoom, Grows, IsWhole, IsMade, HasSeatLeft, Draws, HasDrawn};
 
 use crate::board::{CHANGES, MADE, OUT, TURN, TableSeat, Top};
@@ -24,7 +24,7 @@ pub(crate) fn ask<M: Machine>(top: &Top<M>, table_seat: &mut TableSeat<M>) -> bo
     requires table_seat { IsAt top.now.table_id table_seat.old }
     requires idle { IsIdle table_seat.old }
     ensures table_seat { IsSameTableSeat table_seat.old table_seat.new }
-    ensures turn { Asked M.state M.after result table_seat.old.me table_seat.new.me }
+    ensures turn { Asks M.state M.after result table_seat.old.me table_seat.new.me }
 {
     top.compare_exchange::<Ask>(table_seat, TURN, FREE, HELD) == FREE
 }
@@ -34,7 +34,7 @@ pub(crate) fn ask_and_await<M: Machine>(top: &Top<M>, table_seat: &mut TableSeat
     requires table_seat { IsAt top.now.table_id table_seat.old }
     requires idle { IsIdle table_seat.old }
     ensures table_seat { IsSameTableSeat table_seat.old table_seat.new }
-    ensures turn { Asked M.state M.after result table_seat.old.me table_seat.new.me }
+    ensures turn { Asks M.state M.after result table_seat.old.me table_seat.new.me }
 {
     top.swap::<Ask>(table_seat, TURN, AWAITED as u64) == FREE
 }
@@ -44,7 +44,7 @@ pub(crate) fn count<M: Machine>(top: &Top<M>, table_seat: &mut TableSeat<M>) -> 
     requires table_seat { IsAt top.now.table_id table_seat.old }
     requires turn { HasTurn M.state M.after table_seat.old.me }
     ensures table_seat { IsSameTableSeat table_seat.old table_seat.new }
-    ensures told { Found M.state M.after table_seat.old.me result table_seat.new.me }
+    ensures told { SeesAll M.state M.after table_seat.old.me result table_seat.new.me }
 {
     top.load::<Count>(table_seat, CHANGES)
 }

@@ -30,7 +30,7 @@ setup_fault s = first (option_map (λ p. SameGateway p.0 p.1) (same_gateway s.ga
 
 -- a gateway that took nothing
 abbrev pub fresh : ℕ → NodeModel
-fresh id = record { gateway = record { id = id; points = empty; numbers = empty }; change = 0; numbers = empty; acked = empty }
+fresh id = record { gateway = record { id = id; points = empty; numbers = empty }; change = 0; acked = empty }
 
 -- each writer is as its setup says, before any event, and no stream of its plan stands twice
 abbrev pub AreStarted : List WriterSetup → List Written → Type 0

@@ -3,8 +3,8 @@ use Rattle.turn_kit.specs.TableSeats.{Grows}
 use Rattle.turn_kit.proofs.Changes.{taken, hand1, whole4, who4, changed, idle4, idle1, owns4}
 use Rattle.turn_kit.proofs.held.change_held.Goals as goal
 
-pub returns-then-count-limit-clause-place : goal.returns-then-count-limit-clause-place
-returns-then-count-limit-clause-place g c = (search rules, idle1 g.M.Machine.state g.M.Machine.after _ _ _ c.count.ensures.told c.count.new.table_seat.me (λ i. c.count.new.table_seat.me.0) _ c.give.ensures.told)
+pub returns-then-count-limit-clause-table_seat : goal.returns-then-count-limit-clause-table_seat
+returns-then-count-limit-clause-table_seat g c = (search rules, idle1 g.M.Machine.state g.M.Machine.after _ _ _ c.count.ensures.told c.count.new.table_seat.me (λ i. c.count.new.table_seat.me.0) _ c.give.ensures.told)
 
 pub step_in_place-requires-clause-hand : goal.step_in_place-requires-clause-hand
 step_in_place-requires-clause-hand g c = (_, hand1 g.M.Machine.state g.M.Machine.after _ _ _ c.count.ensures.told)
@@ -15,8 +15,8 @@ give-requires-in-Ok g c = let s = g.M.Machine.state in let n = g.M.Machine.after
     let told = subst (λ st. Grows (g.T.Step.entry st) c.step_in_place.new.table_seat.me c.commit.new.table_seat.me) same (c.commit.ensures.told _ refl) in
     record { table_seat = search rules; seated = who4 s n _ _ _ f _ _ d.left _ did _ told; whole = whole4 s n _ _ _ f _ _ d.left _ did _ told }
 
-pub returns-in-Ok-clause-place : goal.returns-in-Ok-clause-place
-returns-in-Ok-clause-place g c = let s = g.M.Machine.state in let n = g.M.Machine.after in let f = c.count.ensures.told in let d = c.in-Ok.ensures.did in
+pub returns-in-Ok-clause-table_seat : goal.returns-in-Ok-clause-table_seat
+returns-in-Ok-clause-table_seat g c = let s = g.M.Machine.state in let n = g.M.Machine.after in let f = c.count.ensures.told in let d = c.in-Ok.ensures.did in
     let did = subst (λ z. n (s z) (g.T.Step.entry c.args.step) ≡ Some (s d.y)) (taken s n _ _ _ f _ d.found) d.answer.0 in let same : c.of-before.result.value ≡ c.args.step = c.of-before.ensures in
     let told = subst (λ st. Grows (g.T.Step.entry st) c.step_in_place.new.table_seat.me c.commit.new.table_seat.me) same (c.commit.ensures.told _ refl) in
     (search rules, idle4 s n _ _ _ f _ _ d.left _ did _ told _ c.give-in-Ok.ensures.told)
@@ -33,5 +33,5 @@ returns-in-Ok-clause-own g c = let s = g.M.Machine.state in let n = g.M.Machine.
     let told = subst (λ st. Grows (g.T.Step.entry st) c.step_in_place.new.table_seat.me c.commit.new.table_seat.me) same (c.commit.ensures.told _ refl) in
     owns4 s n _ _ _ f _ _ d.left _ did _ told _ c.give-in-Ok.ensures.told
 
-pub returns-clause-place : goal.returns-clause-place
-returns-clause-place g c = let f = c.count.ensures.told in (search rules, idle1 g.M.Machine.state g.M.Machine.after _ _ _ f c.step_in_place.new.table_seat.me (ap (λ m. m.0) c.in-Err.ensures.did.left) _ c.give-in-Err.ensures.told)
+pub returns-clause-table_seat : goal.returns-clause-table_seat
+returns-clause-table_seat g c = let f = c.count.ensures.told in (search rules, idle1 g.M.Machine.state g.M.Machine.after _ _ _ f c.step_in_place.new.table_seat.me (ap (λ m. m.0) c.in-Err.ensures.did.left) _ c.give-in-Err.ensures.told)

@@ -7,7 +7,7 @@ use Rattle.gateway_kit.specs.Incarnations.{all_points}
 use Rattle.point_kit.specs.Exports.{join_points, changed_points}
 use Rattle.gateway_kit.specs.Numbers.{IncarnationsMove}
 use Rattle.gateway_kit.specs.GatewayState.{GatewayState}
-use Rattle.gateway_kit.proofs.AllMoves.{numbers_left, view_moves, view_stays}
+use Rattle.gateway_kit.proofs.AllMoves.{numbers_left, gateway_moves, gateway_stays}
 use Rattle.gateway_kit.proofs.Finishing.{no_items}
 use Rattle.gateway_kit.proofs.Joining.{joined_nothing, changed_nothing}
 use Rattle.gateway_kit.proofs.Tallies.{told_few, told_total, told_under}
@@ -42,13 +42,13 @@ pub returns-clause-value : goal.returns-clause-value
 returns-clause-value c = c.in_ok-growth.ensures.grows.changes ∙ ap (λ (v : GatewayState). changed_points v.points (from_sorted {R = key_cmp} (all_points c.take_in.new.incarnations.items))) c.self.view_is
 
 pub returns-then-is_empty-clause-moves : goal.returns-then-is_empty-clause-moves
-returns-then-is_empty-clause-moves c = view_stays c.args.number c.args.self.now
+returns-then-is_empty-clause-moves c = gateway_stays c.args.number c.args.self.now
 
 pub returns-clause-moves : goal.returns-clause-moves
 returns-clause-moves c =
     let olds = c.self.inside.incarnations.items in
     let news = c.take_in.new.incarnations.items in
-    view_moves c.args.number c.self.inside.id c.self.inside.id olds news c.args.self.now _ c.self.invariant.0.sorted c.in_ok-growth.ensures.grows.whole.sorted c.self.view_is refl c.in_ok-growth.ensures.moves
+    gateway_moves c.args.number c.self.inside.id c.self.inside.id olds news c.args.self.now _ c.self.invariant.0.sorted c.in_ok-growth.ensures.grows.whole.sorted c.self.view_is refl c.in_ok-growth.ensures.moves
 
 pub returns-clause-kept : goal.returns-clause-kept
 returns-clause-kept c = λ none.

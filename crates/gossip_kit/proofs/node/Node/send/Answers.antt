@@ -35,8 +35,8 @@ returns-clause-delta c =
           ap delta_of w.body-is ∙ delta_none node high
     ]
 
-pub returns-clause-held : goal.returns-clause-held
-returns-clause-held c = λ k cell is. carries_held c.args.self.now c.args.to k cell (sym (ap (λ (m : Points). get m k) (returns-clause-value c)) ∙ is)
+pub returns-clause-carries : goal.returns-clause-carries
+returns-clause-carries c = λ k cell is. carries_held c.args.self.now c.args.to k cell (sym (ap (λ (m : Points). get m k) (returns-clause-value c)) ∙ is)
 
 pub returns-clause-brings : goal.returns-clause-brings
 returns-clause-brings c =

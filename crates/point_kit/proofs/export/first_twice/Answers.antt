@@ -1,0 +1,52 @@
+use Rattle.std.proofs.Common.{◌≡◌, ◌&&◌, ℕ, not, sym, ap, ◌∙◌, take, Bool, true, false, List, Bor, subst, refl}
+use Rattle.std.specs.List.{list_any}
+use Rattle.std.specs.Ordering.{is_eq, ordering_then}
+use Rattle.std.specs.declared.cmp.Ordering.{Ordering}
+use Rattle.std.specs.declared.cmp.Ordering.TheVariants.{Less, Equal, Greater}
+use Rattle.attr_kit.specs.declared.attr_value.AttrValue.{AttrValue}
+use Rattle.attr_kit.specs.Orders.{set_cmp}
+use Rattle.attr_kit.proofs.Repeats.{repeat_here, repeat_later, seen_more}
+use Rattle.attr_kit.specs.contracts.attr_set.AttrSetEq.TheImpl.Laws as set_laws
+use Rattle.attr_kit.specs.contracts.attr_set.AttrSetOrd.TheImpl.Laws as set_orders
+use Rattle.attr_kit.specs.contracts.attr_set.AttrSetPartialEq.TheImpl as sets
+use Rattle.point_kit.specs.declared.export_point.ExportPoint.{ExportPoint}
+use Rattle.point_kit.specs.declared.stream.Stream.{Stream}
+use Rattle.point_kit.specs.contracts.stream.StreamEq.TheImpl.Laws as stream_laws
+use Rattle.point_kit.specs.contracts.stream.StreamOrd.TheImpl as orders
+use Rattle.point_kit.specs.contracts.stream.StreamOrd.TheImpl.Laws as stream_orders
+use Rattle.point_kit.specs.contracts.stream.StreamPartialEq.TheImpl as streams
+use Rattle.point_kit.specs.ExportFaults.{same_key}
+use Rattle.point_kit.proofs.export.first_twice.Goals as goal
+
+both_equal : (a b : Ordering) → is_eq (ordering_then a b) ≡ (is_eq a && is_eq b)
+both_equal Less b = refl
+both_equal Equal b = refl
+both_equal Greater b = refl
+
+-- keys that tie are equal, whichever comes first
+ties : (s t : Stream) (a b : List (List ℕ × AttrValue)) → is_eq (ordering_then ((orders.ghosts).cmp s t) (set_cmp a b)) ≡ ((streams.ghosts).eq t s && (sets.ghosts).eq b a)
+ties s t a b =
+    both_equal ((orders.ghosts).cmp s t) (set_cmp a b)
+    ∙ (λ i. sym (stream_orders.matches_eq-law s t) i && sym (set_orders.matches_eq-law a b) i)
+    ∙ (λ i. (stream_laws.laws-law).symm s t i && (set_laws.laws-law).symm a b i)
+
+undone : (stored added b : Bool) → added ≡ not stored → added ≡ b → stored ≡ not b
+undone true added b p q = sym (ap not p) ∙ ap not q
+undone false added b p q = sym (ap not p) ∙ ap not q
+
+pub returns-then-not-branch : goal.returns-then-not-branch
+returns-then-not-branch c =
+    let x : ExportPoint = c.index-points-place.result in
+    let key : Bor Stream × Bor (List (List ℕ × AttrValue)) = (record { ref_ptr = c.args.points.ref_ptr; now = x.stream }, record { ref_ptr = c.args.points.ref_ptr; now = x.attrs }) in
+    let stored = undone _ _ false c.in_ok-insert.ensures.added c.if-not-branch.true in
+    sym (repeat_here same_key c.args.points.now c.loop-place.place x c.loop-place-test.true c.loop-place.invariant.so (subst (λ y. list_any (same_key y) (take c.loop-place.place c.args.points.now) ≡ true) c.index-points-place.is (sym (c.loop-place.invariant.seen key) ∙ stored)))
+
+pub loop-place-preserved : goal.loop-place-preserved
+loop-place-preserved c =
+    let x : ExportPoint = c.index-points-place.result in
+    let key : Bor Stream × Bor (List (List ℕ × AttrValue)) = (record { ref_ptr = c.args.points.ref_ptr; now = x.stream }, record { ref_ptr = c.args.points.ref_ptr; now = x.attrs }) in
+    let stored = undone _ _ true c.in_ok-insert.ensures.added c.if-not-branch.false in
+    record {
+      so = repeat_later same_key c.args.points.now c.loop-place.place x c.loop-place-test.true c.loop-place.invariant.so (subst (λ y. list_any (same_key y) (take c.loop-place.place c.args.points.now) ≡ false) c.index-points-place.is (sym (c.loop-place.invariant.seen key) ∙ stored));
+      seen = λ q. seen_more (λ p. (streams.ghosts).eq q.0.now p.stream && (sets.ghosts).eq q.1.now p.attrs) c.args.points.now c.loop-place.place x _ _ _ c.loop-place-test.true (c.loop-place.invariant.seen q) (c.in_ok-insert.ensures.updates.0 q) (ties x.stream q.0.now x.attrs q.1.now ∙ ap (λ y. (streams.ghosts).eq q.0.now y.stream && (sets.ghosts).eq q.1.now y.attrs) c.index-points-place.is);
+    }

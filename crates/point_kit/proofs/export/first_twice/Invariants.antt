@@ -1,0 +1,19 @@
+use Rattle.std.proofs.Common.{◌≡◌, ◌&&◌, take, drop, List, ℕ, Bor}
+use Rattle.std.specs.BTreeSet as tree
+use Rattle.std.specs.List.{list_any}
+use Rattle.std.specs.Ordering.{ordering_then}
+use Rattle.attr_kit.specs.declared.attr_value.AttrValue.{AttrValue}
+use Rattle.attr_kit.specs.Orders.{set_cmp}
+use Rattle.attr_kit.specs.Refusing.{repeat, repeat_from}
+use Rattle.attr_kit.specs.contracts.attr_set.AttrSetPartialEq.TheImpl as sets
+use Rattle.point_kit.specs.declared.stream.Stream.{Stream}
+use Rattle.point_kit.specs.ExportFaults.{same_key}
+use Rattle.point_kit.specs.contracts.stream.StreamOrd.TheImpl as orders
+use Rattle.point_kit.specs.contracts.stream.StreamPartialEq.TheImpl as streams
+use Rattle.point_kit.proofs.export.first_twice.Given as goal
+
+abbrev pub invariant-loop-place : goal.invariant-loop-place
+invariant-loop-place l = record {
+  so : repeat same_key l.points ≡ repeat_from same_key (take l.place l.points) l.place (drop l.place l.points);
+  seen : (q : Bor Stream × Bor (List (List ℕ × AttrValue))) → tree.contains (λ j k. ordering_then ((orders.ghosts).cmp j.0.now k.0.now) (set_cmp j.1.now k.1.now)) l.seen q ≡ list_any (λ p. (streams.ghosts).eq q.0.now p.stream && (sets.ghosts).eq q.1.now p.attrs) (take l.place l.points);
+}
