@@ -12,8 +12,8 @@ there does all of it.
 
 What PAGES quote of the crates must stand there: a comment `<!-- FILE: fn NAME -->` names what the next block, fenced as
 `rust`, has whole, and `, body` after it asks for the lines between its braces. Under the words `otm --help`, `otm help fleet` and
-`otm --version` COMMANDS_PAGE shows what these print, and below SENTENCES_HEADING each reason that a bad line gets here, and no
-other. Each text of REASONS is part of what some bad line gets.
+`otm --version` COMMANDS_PAGE shows what these print, and below SENTENCES_HEADING each text of SENTENCES and of NAMES, and no other.
+Some bad line gets each of them here.
 
 This ends with a status other than 0 where one differs, or where there is no program or no script."""
 import os
@@ -30,7 +30,8 @@ SECONDS = 60
 PAGES = ("README.md", "docs/GUIDE.md", "docs/SCRIPTS.md")
 COMMANDS_PAGE = "docs/SCRIPTS.md"
 SENTENCES_HEADING = "## What is wrong with a bad line"
-REASONS = "crates/script_kit/src/reason.rt"
+SENTENCES = "crates/script_kit/src/sentence.rt"
+NAMES = "crates/script_kit/src/reason.rt"
 
 NO_COMMAND = b"""error: 'otm' requires a subcommand but one was not provided
   [subcommands: run, fleet, help]
@@ -99,7 +100,7 @@ For more information, try '--help'.
 
 # By its name what the program is given, words and input, and what it must do: its status, its standard output, its standard error.
 ENDS = {
-    "a bad line": (["run"], b"gateway 1\nbegin\nconflicts 1\nconfl", 1, b"conflicts 0\nline 4\n", b"line 4: no line feed ends it\n"),
+    "a bad line": (["run"], b"gateway 1\nbegin\nconflicts 1\nconfl", 1, b"conflicts 0\nline 4\n", b"line 4: a line ends with a line feed\n"),
     "a script of the greatest length": (["run"], b"#" * 1_048_575 + b"\n", 0, b"", b""),
     "a script of a byte more": (["run"], b"#" * 1_048_576 + b"\n", 1, b"too long\n", b""),
     "no command": ([], b"", 2, b"", NO_COMMAND),
@@ -123,19 +124,20 @@ COUNTER = b"instrument c counter app requests 1\nwriter a shop " + UUID + b" 100
 HEADER = b"attributes  points  conflicts  total\n"
 MANY = 10_000
 
-BYTES = "a byte is neither a space nor a visible ASCII character"
-SPACES = "words have one space between two, and none stands at either end"
-LABEL = "is no label: 1 to 16 of a to z and 0 to 9"
-NO_NUMBER = "is no number: digits with no sign and no leading zero"
-NO_VALUE = "is no value: a whole number of 64 bits, with no plus sign and no leading zero"
-NO_UUID = "is no UUID: 32 hexadecimal digits, with hyphens or without"
-NO_KIND = "is no kind: counter, updown, gauge or histogram"
-NO_KIND_ASKED = "is no kind: counter, updown, gauge, histogram, or * for any"
-NO_KEYS = "lists no keys: *, -, or keys with commas between"
-NO_ATTRIBUTES = "lists no attributes: -, or pairs of a key, = and a value, with commas between"
-NO_AGGREGATION = "is no aggregation: default, sum, last, drop, or buckets: and values with commas between"
-NO_SHAPE = "is no shape: sum+, sum, gauge, hist, or hist: and values with commas between"
-NO_TIME = "'18446744073709551616' is too great for a time"
+CUT = "a line ends with a line feed"
+BYTES = "a line has only spaces and visible ASCII characters"
+SPACES = "a line has one space between two words, and none at its ends"
+LABEL = "a label has at most 16 of a to z and 0 to 9"
+KINDS = "a kind is counter, updown, gauge or histogram"
+KINDS_ASKED = "a kind is counter, updown, gauge, histogram, or * for any"
+NO_UUID = "is no UUID: a UUID has 32 hexadecimal digits, with hyphens or without"
+NO_NUMBER = "is no number: a number has digits alone, and no leading zero"
+NO_VALUE = "is no value: a value is a whole number of 64 bits, with no plus sign and no leading zero"
+NO_SHAPE = "is no shape: a shape is sum+, sum, gauge, hist, or hist: and values with commas between"
+NO_ATTRIBUTES = "lists no attributes: a list is -, or pairs of a key, = and a value, with commas between"
+NO_KEYS = "lists no keys: a list is *, -, or keys with commas between"
+NO_AGGREGATION = "is no aggregation: an aggregation is default, sum, last, drop, or buckets: and values with commas between"
+TOO_GREAT = "18446744073709551616 is too great for"
 
 # Lines that are bad wherever they stand, and what is said of each.
 BAD_LINES = [
@@ -146,10 +148,14 @@ BAD_LINES = [
     (b"begin\r", BYTES),
     (b"gateway\t1", BYTES),
     (b"gateway \xc3\xa9", BYTES),
-    (b"unknown", "'unknown' begins no line"),
-    (b"x" * 41 + b" 1", "'" + "x" * 40 + "..' begins no line"),
-    (b"x" * 40, "'" + "x" * 40 + "' begins no line"),
-    (b"instrument c counter", "'instrument' wants a label, a kind, a scope, a name and a unit"),
+    (b"unknown", "no line begins with 'unknown'"),
+    (b"x" * 41 + b" 1", f"no line begins with '{'x' * 40}..'"),
+    (b"x" * 40, f"no line begins with '{'x' * 40}'"),
+    (b"instrument c", "'instrument' wants a label, a kind, a scope, a name and a unit"),
+    (b"instrument c app requests", "'instrument' wants a label, a kind, a scope, a name and a unit"),
+    (b"instrument c counter", "'counter' wants a scope, a name and a unit"),
+    (b"instrument C gauge app temp", "'gauge' wants a scope, a name and a unit"),
+    (b"instrument c updown app requests 1 2", "'updown' wants a scope, a name and a unit"),
     (b"view * * * -", "'view' wants a name, a kind, a scope, a new name, keys to keep and an aggregation"),
     (b"writer a shop", "'writer' wants a label, a service, a UUID and a start"),
     (b"gateway", "'gateway' wants an id"),
@@ -170,29 +176,34 @@ BAD_LINES = [
     (b"gateway 01", f"'01' {NO_NUMBER}"),
     (b"gateway -0", f"'-0' {NO_NUMBER}"),
     (b"gateway +1", f"'+1' {NO_NUMBER}"),
-    (b"gateway 4294967296", "'4294967296' is too great for the id of a gateway"),
-    (b"limit 18446744073709551616", "'18446744073709551616' is too great for a limit"),
-    (b"writer A shop " + UUID + b" 100", f"'A' {LABEL}"),
-    (b"writer abcdefghijklmnopq shop " + UUID + b" 100", f"'abcdefghijklmnopq' {LABEL}"),
-    (b"writer A shop " + UUID + b" x", f"'A' {LABEL}"),
+    (b"gateway 4294967296", "4294967296 is too great for an id"),
+    (b"merge 1 4294967296", "4294967296 is too great for an id"),
+    (b"limit 18446744073709551616", f"{TOO_GREAT} a limit"),
+    (b"writer A shop " + UUID + b" 100", LABEL),
+    (b"writer abcdefghijklmnopq shop " + UUID + b" 100", LABEL),
+    (b"writer A shop " + UUID + b" x", LABEL),
     (b"writer a shop " + UUID[:-1] + b" 100", f"'{UUID[:-1].decode()}' {NO_UUID}"),
-    (b"writer a shop " + UUID + b" 18446744073709551616", NO_TIME),
-    (b"instrument c summary app x 1", f"'summary' {NO_KIND}"),
-    (b"view * summary * - * default", f"'summary' {NO_KIND_ASKED}"),
+    (b"writer a shop " + UUID + b" 18446744073709551616", f"{TOO_GREAT} a start"),
+    (b"instrument c summary app x 1", f"no kind is called 'summary': {KINDS}"),
+    (b"view * summary * - * default", f"no kind is called 'summary': {KINDS_ASKED}"),
     (b"view * * * - a,,b default", f"'a,,b' {NO_KEYS}"),
     (b"view * * * - * buckets:1,", f"'buckets:1,' {NO_AGGREGATION}"),
     (b"view * * * - * buckets", f"'buckets' {NO_AGGREGATION}"),
     (b"measure a c 9223372036854775808 -", f"'9223372036854775808' {NO_VALUE}"),
     (b"measure a c -0 -", f"'-0' {NO_VALUE}"),
     (b"measure a c 05 -", f"'05' {NO_VALUE}"),
-    (b"measure a C 5 -", f"'C' {LABEL}"),
+    (b"measure a C 5 -", LABEL),
     (b"measure a c 5 route", f"'route' {NO_ATTRIBUTES}"),
     (b"measure a c 5 =x", f"'=x' {NO_ATTRIBUTES}"),
     (b"measure a c 5 a=1,", f"'a=1,' {NO_ATTRIBUTES}"),
-    (b"collect a 18446744073709551616", NO_TIME),
+    (b"collect a 18446744073709551616", f"{TOO_GREAT} a time"),
+    (b"shutdown a 18446744073709551616", f"{TOO_GREAT} a time"),
+    (b"restart a 18446744073709551616", f"{TOO_GREAT} a start"),
+    (b"newest 1 a 18446744073709551616", f"{TOO_GREAT} a start"),
+    (b"newest 1 a " + b"1" * 41, f"{'1' * 40}.. is too great for a start"),
     (b"restart a x", f"'x' {NO_NUMBER}"),
-    (b"deliver 18446744073709551616 1", "'18446744073709551616' is too great for the number of an export"),
-    (b"hand 18446744073709551616 1", "'18446744073709551616' is too great for the number of a mail"),
+    (b"deliver 18446744073709551616 1", f"{TOO_GREAT} the number of an export"),
+    (b"hand 18446744073709551616 1", f"{TOO_GREAT} the number of a mail"),
     (b"report 1 app requests 1 sum- * - *", f"'sum-' {NO_SHAPE}"),
     (b"report 1 app requests 1 sum * x *", f"'x' {NO_ATTRIBUTES}"),
     (b"report 1 app requests 1 sum * - ,", f"',' {NO_KEYS}"),
@@ -206,23 +217,23 @@ TWICE = [
     (b"limit 5\nlimit 5", "'limit' was declared before"),
 ]
 LATE = [
-    (b"begin", "'begin' stands after 'begin'"),
-    (b"gateway 2", "'gateway' stands after 'begin'"),
-    (b"instrument d counter app other 1", "'instrument' stands after 'begin'"),
-    (b"measure b c 1 -", "'b' names no writer"),
-    (b"measure a d 1 -", "'d' names no instrument"),
-    (b"measure b d 1 -", "'b' names no writer"),
-    (b"collect b 200", "'b' names no writer"),
-    (b"deliver 1 2", "'2' names no gateway"),
-    (b"merge 2 3", "'2' names no gateway"),
-    (b"merge 1 3", "'3' names no gateway"),
-    (b"send 1 3", "'3' names no gateway"),
-    (b"hand 1 3", "'3' names no gateway"),
-    (b"report 3 app requests 1 sum+ * - *", "'3' names no gateway"),
-    (b"same 1 3", "'3' names no gateway"),
-    (b"conflicts 3", "'3' names no gateway"),
-    (b"newest 3 a 100", "'3' names no gateway"),
-    (b"newest 1 b 100", "'b' names no writer"),
+    (b"begin", "'begin' wants no 'begin' before it"),
+    (b"gateway 2", "'gateway' wants no 'begin' before it"),
+    (b"instrument d counter app other 1", "'instrument' wants no 'begin' before it"),
+    (b"measure b c 1 -", "no writer is called 'b'"),
+    (b"measure a x 1 -", "no instrument is called 'x'"),
+    (b"measure b d 1 -", "no writer is called 'b'"),
+    (b"collect b 200", "no writer is called 'b'"),
+    (b"deliver 1 2", "no gateway has the id 2"),
+    (b"merge 2 3", "no gateway has the id 2"),
+    (b"merge 1 3", "no gateway has the id 3"),
+    (b"send 1 3", "no gateway has the id 3"),
+    (b"hand 1 3", "no gateway has the id 3"),
+    (b"report 3 app requests 1 sum+ * - *", "no gateway has the id 3"),
+    (b"same 1 3", "no gateway has the id 3"),
+    (b"conflicts 3", "no gateway has the id 3"),
+    (b"newest 3 a 100", "no gateway has the id 3"),
+    (b"newest 1 b 100", "no writer is called 'b'"),
 ]
 
 REFUSED = "'begin' is refused"
@@ -230,13 +241,13 @@ REFUSED = "'begin' is refused"
 # What is said of the bad lines of rows; of those that are not here, REFUSED.
 ROW_SENTENCES = {
     "bad-double-space": SPACES,
-    "bad-id-range": "'4294967296' is too great for the id of a gateway",
-    "bad-label": f"'A' {LABEL}",
+    "bad-id-range": "4294967296 is too great for an id",
+    "bad-label": LABEL,
     "bad-leading-zero": f"'01' {NO_NUMBER}",
     "bad-minus-zero": f"'-0' {NO_NUMBER}",
-    "bad-word-count": "'instrument' wants a label, a kind, a scope, a name and a unit",
-    "cut-line": "no line feed ends it",
-    "refusals-and-cut-word": "no line feed ends it",
+    "bad-word-count": "'counter' wants a scope, a name and a unit",
+    "cut-line": CUT,
+    "refusals-and-cut-word": CUT,
 }
 
 
@@ -336,23 +347,21 @@ def shown():
         yield f"{COMMANDS_PAGE}: {words}", "" if block in page else "another text, or none"
 
 
-def reason_in(sentence):
-    """What a sentence says of its word, without the word; and without the form or the noun that it names."""
-    return re.sub(r"^(wants|is too great for) .*", r"\1", re.sub(r"^'[^']*' ", "", sentence))
-
-
 def told_sentences():
-    """Each reason that a bad line gets here, or that COMMANDS_PAGE tells, and each text of REASONS; and what is wrong with it, or an empty text."""
+    """Each text of SENTENCES and of NAMES, and each sentence of COMMANDS_PAGE; and what is wrong with it, or an empty text."""
     section = (TOP / COMMANDS_PAGE).read_text().split(SENTENCES_HEADING)[1].split("\n## ")[0]
-    told = {reason_in(it) for cell in re.findall(r"^\| (`.*?) \| ", section, re.M) for it in re.findall(r"`([^`]+)`", cell)}
-    sentences = {it for _, lines in bad_lines() for _, it in lines} | {*ROW_SENTENCES.values(), REFUSED}
-    # (of a kind the page tells once, and beside it what a view may have)
-    tried = {reason_in(it) for it in sentences} - {NO_KIND_ASKED}
-    for reason in sorted(told | tried):
-        yield f"{COMMANDS_PAGE}: {reason}", "" if reason in told & tried else "no bad line gets it" if reason in told else "the page has it not"
-    for text in re.findall(r'"([^"]+)"', (TOP / REASONS).read_text()):
-        if "{" not in text:
-            yield f"{REASONS}: {text}", "" if any(text in it for it in sentences) else "no bad line gets it"
+    told = {it for cell in re.findall(r"^\| (`.*?) \| ", section, re.M) for it in re.findall(r"`([^`]+)`", cell)}
+    tried = {it for _, lines in bad_lines() for _, it in lines} | {*ROW_SENTENCES.values(), REFUSED}
+    texts, names = ([it for it in re.findall(r'"([^"]*)"', (TOP / file).read_text()) if " " in it] for file in (SENTENCES, NAMES))
+    # (a text has gaps for a word, and for a form or a noun, which NAMES has)
+    named = f"(?:{'|'.join(map(re.escape, names))})"
+    patterns = [re.sub(r"\\{(\w+)\\}", lambda gap: r"[!-~]+" if gap[1] == "word" else named, re.escape(it)) for it in texts]
+    ends = [f".* {re.escape(it)}" for it in names]
+    for name, pattern in [*zip(texts, patterns), *zip(names, ends)]:
+        here, there = (any(re.fullmatch(pattern, it) for it in them) for them in (tried, told))
+        yield f"{COMMANDS_PAGE}: {name}", "" if here and there else "the page has it not" if here else "no bad line gets it"
+    for sentence in sorted(told):
+        yield f"{COMMANDS_PAGE}: {sentence}", "" if any(re.fullmatch(it, sentence) for it in patterns) else "the program has no such text"
 
 
 def said(text, sentence):
@@ -362,7 +371,7 @@ def said(text, sentence):
 
 def bad_lines():
     """The lines that are bad, with what is said of each, behind what goes before them."""
-    early = [(line, f"'{line.split()[0].decode()}' stands before 'begin'") for line in EARLY]
+    early = [(line, f"'{line.split()[0].decode()}' wants a 'begin' before it") for line in EARLY]
     return [(b"", BAD_LINES + early), (COUNTER, TWICE + early), (COUNTER + b"begin\n", BAD_LINES + LATE)]
 
 

@@ -1,5 +1,6 @@
 -- No refusal fits the points of a tally: each is sound in its stream, and no two are of one stream and one set.
-use Rattle.std.proofs.Common.{◌≡◌, ◌<◌, ◌&&◌, ◌||◌, ◌++◌, ℕ, zero, suc, Bool, true, false, List, [], ◌∷◌, Some, None, arith, refl, sym, ap, slice_get}
+use Rattle.std.proofs.Common.{◌≡◌, ◌<◌, ◌&&◌, ◌++◌, ℕ, zero, suc, Bool, true, false, List, [], ◌∷◌, Some, None, arith, refl, sym, ap, slice_get}
+use Rattle.std.proofs.lemmas.Bool.{and_right, or_parts}
 use Rattle.std.specs.List.{All, AllByRecursion, IsDistinct}
 use Rattle.std.specs.Map.{keys_of}
 use Rattle.agg_kit.specs.Feeding.{set_eq, has_set}
@@ -39,15 +40,6 @@ fit_of [] ess h = tt
 fit_of (s ∷ ss) [] h = tt
 fit_of (s ∷ ss) (es ∷ ess) h = all_append Fits (points_at s es) (points_of ss ess) (fit_at s es h.0) (fit_of ss ess h.2)
 
-either : (a b : Bool) → (a || b) ≡ false → (a ≡ false) × (b ≡ false)
-either false false e = (refl, refl)
-either false true e = cc
-either true b e = cc
-
-and_false : (a b : Bool) → b ≡ false → (a && b) ≡ false
-and_false true b e = e
-and_false false b e = refl
-
 unequal : (a b : Stream) → (a ≡ b → ⊥) → stream_eq a b ≡ false
 unequal a b apart = by_cases (stream_eq a b) refl where
   by_cases : (r : Bool) → stream_eq a b ≡ r → stream_eq a b ≡ false
@@ -58,8 +50,8 @@ unequal a b apart = by_cases (stream_eq a b) refl where
 other_sets : (s : Stream) (p : ExportPoint) (es : Points) → has_set (keys_of es) p.attrs ≡ false → AllByRecursion (λ q. same_key p q ≡ false) (points_at s es)
 other_sets s p [] h = tt
 other_sets s p (e ∷ es) h =
-    let both = either (set_eq p.attrs e.0) (has_set (keys_of es) p.attrs) h in
-    (and_false (stream_eq p.stream s) (set_eq p.attrs e.0) both.0, other_sets s p es both.1)
+    let both = or_parts (set_eq p.attrs e.0) (has_set (keys_of es) p.attrs) h in
+    (and_right (stream_eq p.stream s) (set_eq p.attrs e.0) both.0, other_sets s p es both.1)
 
 distinct_at : (s : Stream) (es : Points) → tallied.AreOnce (keys_of es) → IsDistinct same_key (points_at s es)
 unfolding IsDistinct

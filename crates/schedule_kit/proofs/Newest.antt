@@ -1,18 +1,10 @@
 -- The newest collection of an incarnation.
 use Rattle.std.proofs.Common.{◌≡◌, ℕ, ◌≤◌, Bool, true, false, cond, ◌&&◌, ◌==◌, inl, inr, List, [], ◌∷◌, Option, Some, None, refl, sym, ap, subst, ◌∙◌, arith}
 use mathlib.Core.Bool.{true≢false}
-use Rattle.std.proofs.lemmas.Bool.{eqb-true, eq-eqb, lt-ltb, le-ltb, cases_lt}
+use Rattle.std.proofs.lemmas.Bool.{and_parts, eqb-true, eq-eqb, lt-ltb, le-ltb, cases_lt}
 use Rattle.schedule_kit.specs.Deeds.{Made}
 use Rattle.schedule_kit.specs.Taken.{newest, later}
 use Rattle.schedule_kit.specs.Members.{In}
-
-first_holds : (a b : Bool) → (a && b) ≡ true → a ≡ true
-first_holds true b e = refl
-first_holds false b e = absurd (true≢false (sym e))
-
-second_holds : (a b : Bool) → (a && b) ≡ true → b ≡ true
-second_holds true b e = e
-second_holds false b e = absurd (true≢false (sym e))
 
 -- n is the collection of w and start with the greatest time, where there is one
 abbrev pub NewestIs : {N : Type 0} → List (Made N) → ℕ → ℕ → Option (Made N) → Type 0
@@ -39,6 +31,6 @@ newest_is {N} (m ∷ ms) w start =
     let rest = newest_is ms w start in
     let test = (m.writer == w) && (m.start == start) in
     elim ((m.writer == w) && (m.start == start)) as (λ b. ((m.writer == w) && (m.start == start)) ≡ b → NewestIs (m ∷ ms) w start (cond b (Some (later m (newest ms w start))) (newest ms w start))) [
-      | true ↦ λ e. add m ms w start (newest ms w start) (eqb-true m.writer w (first_holds (m.writer == w) (m.start == start) e)) (eqb-true m.start start (second_holds (m.writer == w) (m.start == start) e)) rest
+      | true ↦ λ e. add m ms w start (newest ms w start) (eqb-true m.writer w ((and_parts (m.writer == w) (m.start == start) e).0)) (eqb-true m.start start ((and_parts (m.writer == w) (m.start == start) e).1)) rest
       | false ↦ λ e. skip m ms w start (newest ms w start) e rest
     ] refl

@@ -1,5 +1,6 @@
 -- What a gateway answers is what was recorded.
 use Rattle.std.proofs.Common.{◌≡◌, ℕ, ◌+◌, Bool, true, false, cond, ◌&&◌, ◌||◌, inl, inr, List, [], ◌∷◌, ◌++◌, map, filter, Option, Some, None, refl, sym, ap, subst, ◌∙◌}
+use mathlib.Core.List.{map-map}
 use Rattle.std.specs.List.{flat_map, list_any}
 use Rattle.std.specs.Option.{option_map_or}
 use Rattle.std.proofs.lemmas.List.{map-append}
@@ -40,10 +41,6 @@ module _ {A B C : Type 0} where
   map-flat_map : (g : B → C) (f : A → List B) (h : A → List C) → ((x : A) → map g (f x) ≡ h x) → (xs : List A) → map g (flat_map f xs) ≡ flat_map h xs
   map-flat_map g f h same [] = refl
   map-flat_map g f h same (x ∷ xs) = map-append g (f x) (flat_map f xs) ∙ ap (λ l. l ++ map g (flat_map f xs)) (same x) ∙ ap (λ l. h x ++ l) (map-flat_map g f h same xs)
-
-  map-map : (g : B → C) (f : A → B) (xs : List A) → map g (map f xs) ≡ map (λ x. g (f x)) xs
-  map-map g f [] = refl
-  map-map g f (x ∷ xs) = ap (λ l. g (f x) ∷ l) (map-map g f xs)
 
 found-In : {K C : Type 0} {R : K → K → Ordering} → IsAntisymmetric R → (q : K) (es : List (K × C)) (c : C) → find R q es ≡ Some c → In (q, c) es
 found-In anti q [] c e = cc

@@ -28,7 +28,8 @@ pub fn parts_are_newest_collections<N, K, I, X, P>()
     ensures part { (r : Rounding N K I X P) → IsSound r → (fits : ℕ → List N → N → Bool) (starts : List ℕ) (gateways : ℕ)
         → IsTold r.who starts → (ds : List (Deed N)) → AreLawful fits starts gateways ds
         → (h : Holder) (w start : ℕ) → w < length starts → (x : X)
-        → get (state r (taken_collections starts ds h)) (r.key (r.who w) start x) ≡ part_at r (newest (taken_collections starts ds h) w start) x }
+        → get (state r (taken_collections starts ds h)) (r.key (r.who w) start x)
+        ≡ part_at r (newest (taken_collections starts ds h) w start) x }
 {}
 
 /// Where no two writers share an identity, the roll-up of a gateway's state is that of what the writers recorded in each

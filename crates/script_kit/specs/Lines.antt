@@ -1,5 +1,5 @@
 -- What each line of a script asks for, or why it is bad.
-use Rattle.std.specs.Prelude.{ℕ, List, [], ◌∷◌, Result, Ok, Err, ◌==◌, if◌then◌else◌, codes, ok_or}
+use Rattle.std.specs.Prelude.{ℕ, List, [], ◌∷◌, Result, Ok, Err, ◌==◌, if◌then◌else◌, codes, is_some, ok_or}
 use Rattle.std.specs.Str.{bytes_eq}
 use Rattle.script_kit.specs.Attributes.{attributes}
 use Rattle.script_kit.specs.Forms.{part_of, unless_star, scope_of, rename_of, uuid_of}
@@ -12,14 +12,19 @@ use Rattle.script_kit.specs.declared.line.Line.TheVariants as line
 use Rattle.script_kit.specs.declared.line.Declaration.TheVariants as declaration
 use Rattle.script_kit.specs.declared.line.Command.TheVariants as command
 use Rattle.script_kit.specs.declared.line.Query.TheVariants as query
+use Rattle.script_kit.specs.declared.reason.Form.{Form}
 use Rattle.script_kit.specs.declared.reason.Form.TheVariants as form
 use Rattle.script_kit.specs.declared.reason.Noun.TheVariants as noun
 use Rattle.script_kit.specs.declared.reason.Reason.{Reason}
 use Rattle.script_kit.specs.declared.reason.Reason.TheVariants as reason
 
+-- the form of an instrument's line: where its kind is one, what it wants is told by the kind
+unfoldable pub instrument_form : List (List ℕ) → Form
+instrument_form ws = if is_some (kind_of (word_at ws 2)) then form.InstrumentOfKind else form.Instrument
+
 -- `instrument LABEL KIND SCOPE NAME UNIT`
 unfoldable pub instrument_line : List (List ℕ) → Result Line Reason
-instrument_line ws = count_of ws 6 form.Instrument >>= λ _.
+instrument_line ws = count_of ws 6 (instrument_form ws) >>= λ _.
     label_at ws 1 >>= λ label. ok_or (kind_of (word_at ws 2)) (reason.Kind 2) >>= λ kind.
     Ok (line.Declare (declaration.Instrument label (record { scope = part_of (word_at ws 3); name = word_at ws 4; unit = part_of (word_at ws 5); kind = kind })))
 
@@ -33,7 +38,7 @@ view_line ws = count_of ws 7 form.View >>= λ _.
 -- `writer LABEL SERVICE UUID START`
 unfoldable pub writer_line : List (List ℕ) → Result Line Reason
 writer_line ws = count_of ws 5 form.Writer >>= λ _.
-    label_at ws 1 >>= λ label. ok_or (uuid_of (word_at ws 3)) (reason.Uuid 3) >>= λ instance. number_at ws 4 noun.Time >>= λ start.
+    label_at ws 1 >>= λ label. ok_or (uuid_of (word_at ws 3)) (reason.Uuid 3) >>= λ instance. number_at ws 4 noun.Start >>= λ start.
     Ok (line.Declare (declaration.Writer label (record { service = word_at ws 2; instance = instance }) start))
 
 -- `gateway ID`
@@ -74,7 +79,7 @@ shutdown_line ws = count_of ws 3 form.Shutdown >>= λ _.
 -- `restart WRITER START`
 unfoldable pub restart_line : List (List ℕ) → Result Line Reason
 restart_line ws = count_of ws 3 form.Restart >>= λ _.
-    label_at ws 1 >>= λ writer. number_at ws 2 noun.Time >>= λ start.
+    label_at ws 1 >>= λ writer. number_at ws 2 noun.Start >>= λ start.
     Ok (line.Do (command.Restart writer start))
 
 -- `deliver EXPORT GATEWAY`
@@ -123,7 +128,7 @@ conflicts_line ws = count_of ws 2 form.Conflicts >>= λ _.
 -- `newest GATEWAY WRITER START`
 unfoldable pub newest_line : List (List ℕ) → Result Line Reason
 newest_line ws = count_of ws 4 form.Newest >>= λ _.
-    id_at ws 1 >>= λ gateway. label_at ws 2 >>= λ writer. number_at ws 3 noun.Time >>= λ start.
+    id_at ws 1 >>= λ gateway. label_at ws 2 >>= λ writer. number_at ws 3 noun.Start >>= λ start.
     Ok (line.Ask (query.Newest gateway writer start))
 
 -- what a line of words asks for, by the first of them

@@ -10,9 +10,10 @@ use Rattle.script_kit.specs.declared.reason.Noun.TheVariants as noun
 use Rattle.script_kit.specs.declared.reason.Reason.{Reason}
 use Rattle.script_kit.specs.declared.reason.Reason.TheVariants as reason
 
--- the words that a line wants behind its first
+-- the words that a line wants behind its first, and that of an instrument behind its kind
 abbrev pub form_text : Form → List ℕ
 form_text form.Instrument = codes "a label, a kind, a scope, a name and a unit"
+form_text form.InstrumentOfKind = codes "a scope, a name and a unit"
 form_text form.View = codes "a name, a kind, a scope, a new name, keys to keep and an aggregation"
 form_text form.Writer = codes "a label, a service, a UUID and a start"
 form_text form.Gateway = codes "an id"
@@ -32,83 +33,77 @@ form_text form.Conflicts = codes "a gateway"
 form_text form.Newest = codes "a gateway, a writer and a start"
 
 abbrev pub noun_text : Noun → List ℕ
+noun_text noun.Start = codes "a start"
 noun_text noun.Time = codes "a time"
 noun_text noun.Export = codes "the number of an export"
 noun_text noun.Mail = codes "the number of a mail"
 noun_text noun.Limit = codes "a limit"
-noun_text noun.Gateway = codes "the id of a gateway"
+noun_text noun.Gateway = codes "an id"
 
--- how a reason begins: all that is said, but for the form or the noun that it names
-abbrev pub reason_opening : Reason → List ℕ
-reason_opening reason.Bytes = codes "a byte is neither a space nor a visible ASCII character"
-reason_opening reason.Spaces = codes "words have one space between two, and none stands at either end"
-reason_opening reason.Unknown = codes "begins no line"
-reason_opening (reason.Count form) = codes "wants "
-reason_opening (reason.Label i) = codes "is no label: 1 to 16 of a to z and 0 to 9"
-reason_opening (reason.Kind i) = codes "is no kind: counter, updown, gauge or histogram"
-reason_opening (reason.KindAsked i) = codes "is no kind: counter, updown, gauge, histogram, or * for any"
-reason_opening (reason.NoNumber i) = codes "is no number: digits with no sign and no leading zero"
-reason_opening (reason.TooGreat i noun) = codes "is too great for "
-reason_opening (reason.Uuid i) = codes "is no UUID: 32 hexadecimal digits, with hyphens or without"
-reason_opening (reason.Value i) = codes "is no value: a whole number of 64 bits, with no plus sign and no leading zero"
-reason_opening (reason.Attributes i) = codes "lists no attributes: -, or pairs of a key, = and a value, with commas between"
-reason_opening (reason.Keep i) = codes "lists no keys: *, -, or keys with commas between"
-reason_opening (reason.Aggregation i) = codes "is no aggregation: default, sum, last, drop, or buckets: and values with commas between"
-reason_opening (reason.Shape i) = codes "is no shape: sum+, sum, gauge, hist, or hist: and values with commas between"
-reason_opening reason.Cut = codes "no line feed ends it"
-reason_opening reason.Late = codes "stands after 'begin'"
-reason_opening reason.Early = codes "stands before 'begin'"
-reason_opening (reason.Taken i) = codes "was declared before"
-reason_opening reason.Refused = codes "is refused"
-reason_opening (reason.NoWriter i) = codes "names no writer"
-reason_opening (reason.NoInstrument i) = codes "names no instrument"
-reason_opening (reason.NoGateway i) = codes "names no gateway"
-
--- the form or the noun that it names, if any
+-- the form or the noun that a reason names, if any
 abbrev pub reason_named : Reason → List ℕ
 reason_named (reason.Count form) = form_text form
 reason_named (reason.TooGreat i noun) = noun_text noun
 reason_named _ = []
 
--- what is said of the word at its place, or of the whole line
-abbrev pub reason_text : Reason → List ℕ
-reason_text why = reason_opening why ++ reason_named why
+-- what is said of this word of a line, or of the line
+abbrev pub reason_text : Reason → List ℕ → List ℕ
+reason_text reason.Cut word = codes "a line ends with a line feed"
+reason_text reason.Bytes word = codes "a line has only spaces and visible ASCII characters"
+reason_text reason.Spaces word = codes "a line has one space between two words, and none at its ends"
+reason_text reason.Unknown word = codes "no line begins with '" ++ word ++ codes "'"
+reason_text (reason.Count form) word = codes "'" ++ word ++ (codes "' wants " ++ form_text form)
+reason_text (reason.Label i) word = codes "a label has at most 16 of a to z and 0 to 9"
+reason_text (reason.Kind i) word = codes "no kind is called '" ++ word ++ codes "': a kind is counter, updown, gauge or histogram"
+reason_text (reason.KindAsked i) word = codes "no kind is called '" ++ word ++ codes "': a kind is counter, updown, gauge, histogram, or * for any"
+reason_text (reason.Uuid i) word = codes "'" ++ word ++ codes "' is no UUID: a UUID has 32 hexadecimal digits, with hyphens or without"
+reason_text (reason.NoNumber i) word = codes "'" ++ word ++ codes "' is no number: a number has digits alone, and no leading zero"
+reason_text (reason.TooGreat i noun) word = word ++ (codes " is too great for " ++ noun_text noun)
+reason_text (reason.Value i) word = codes "'" ++ word ++ codes "' is no value: a value is a whole number of 64 bits, with no plus sign and no leading zero"
+reason_text (reason.Shape i) word = codes "'" ++ word ++ codes "' is no shape: a shape is sum+, sum, gauge, hist, or hist: and values with commas between"
+reason_text (reason.Attributes i) word = codes "'" ++ word ++ codes "' lists no attributes: a list is -, or pairs of a key, = and a value, with commas between"
+reason_text (reason.Keep i) word = codes "'" ++ word ++ codes "' lists no keys: a list is *, -, or keys with commas between"
+reason_text (reason.Aggregation i) word = codes "'" ++ word ++ codes "' is no aggregation: an aggregation is default, sum, last, drop, or buckets: and values with commas between"
+reason_text reason.Late word = codes "'" ++ word ++ codes "' wants no 'begin' before it"
+reason_text reason.Early word = codes "'" ++ word ++ codes "' wants a 'begin' before it"
+reason_text (reason.Taken i) word = codes "'" ++ word ++ codes "' was declared before"
+reason_text reason.Refused word = codes "'" ++ word ++ codes "' is refused"
+reason_text (reason.NoWriter i) word = codes "no writer is called '" ++ word ++ codes "'"
+reason_text (reason.NoInstrument i) word = codes "no instrument is called '" ++ word ++ codes "'"
+reason_text (reason.NoGateway i) word = codes "no gateway has the id " ++ word
 
 -- the place of the word that a reason is about, if it is about one
 abbrev pub place_of : Reason → Option ℕ
+place_of reason.Cut = None
 place_of reason.Bytes = None
 place_of reason.Spaces = None
-place_of reason.Cut = None
+place_of (reason.Count form.InstrumentOfKind) = Some 2
 place_of (reason.Label i) = Some i
 place_of (reason.Kind i) = Some i
 place_of (reason.KindAsked i) = Some i
+place_of (reason.Uuid i) = Some i
 place_of (reason.NoNumber i) = Some i
 place_of (reason.TooGreat i noun) = Some i
-place_of (reason.Uuid i) = Some i
 place_of (reason.Value i) = Some i
+place_of (reason.Shape i) = Some i
 place_of (reason.Attributes i) = Some i
 place_of (reason.Keep i) = Some i
 place_of (reason.Aggregation i) = Some i
-place_of (reason.Shape i) = Some i
 place_of (reason.Taken i) = Some i
 place_of (reason.NoWriter i) = Some i
 place_of (reason.NoInstrument i) = Some i
 place_of (reason.NoGateway i) = Some i
 place_of _ = Some 0
 
--- the word at a place of a line that is made of words
-abbrev pub word_in : Result (List (List ℕ)) Reason → ℕ → List ℕ
-word_in (Ok ws) i = word_at ws i
-word_in (Err why) i = []
+-- the word at a place of a line, or no bytes where it has none or is not made of words
+abbrev pub word_in : Result (List (List ℕ)) Reason → Option ℕ → List ℕ
+word_in (Ok ws) (Some i) = word_at ws i
+word_in _ _ = []
 
 -- a word as it is told: no more than its first 40 bytes
 abbrev pub short_word : List ℕ → List ℕ
 short_word word = if nat_lt 40 (length word) && list_all is_line_byte (take 40 word) then take 40 word ++ codes ".." else word
 
-abbrev pub about : Reason → Option ℕ → Result (List (List ℕ)) Reason → List ℕ
-about why None words = reason_text why
-about why (Some i) words = codes "'" ++ short_word (word_in words i) ++ codes "' " ++ reason_text why
-
 -- what is said of a line that is bad for this reason
 unfoldable pub sentence_of : List ℕ → Reason → List ℕ
-sentence_of line why = about why (place_of why) (words_of line)
+sentence_of line why = reason_text why (short_word (word_in (words_of line) (place_of why)))

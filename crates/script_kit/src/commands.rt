@@ -58,7 +58,7 @@ pub(crate) fn restart(alloc: Global, words: &[&str]) -> Result<Line, Stop>
 {
     count(words, 3, Form::Restart)?;
     let writer = label(alloc, words, 1)?;
-    let start = number(words, 2, Noun::Time)?;
+    let start = number(words, 2, Noun::Start)?;
     Ok(Line::Do(Command::Restart { writer, start }))
 }
 

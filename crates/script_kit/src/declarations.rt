@@ -1,11 +1,11 @@
 //! Lines that declare what a script has.
-ghost use Rattle.std.specs.Prelude.{map};
-ghost use Rattle.script_kit.specs.Lines.{instrument_line, view_line, writer_line, gateway_line, limit_line, begin_line};
+ghost use Rattle.std.specs.Prelude.{◌≡◌, map};
+ghost use Rattle.script_kit.specs.Lines.{instrument_form, instrument_line, view_line, writer_line, gateway_line, limit_line, begin_line};
 ghost use Rattle.script_kit.specs.Reading.{Reads};
 
 use crate::forms::{instance, part, rename, scope, text};
 use crate::line::{Declaration, Line};
-use crate::reading::{count, id, label, number, word_at};
+use crate::reading::{count, id, label, number, word_at, word_if_any};
 use crate::reason::{Form, Noun, Reason};
 use crate::shapes::{aggregation, keep, kind, kind_asked, name_rule};
 use crate::stop::Stop;
@@ -13,12 +13,24 @@ use plan_kit::{Instrument, View};
 use point_kit::WriterId;
 use std::alloc::Global;
 
+// What a line of an instrument wants: behind its kind, where that is one.
+#[tactic(auto, unfolding(crate::specs::Lines::instrument_form))]
+fn instrument_form(words: &[&str]) -> Form
+    ensures { result ≡ instrument_form (map (λ w. w.now) words.now) }
+{
+    if kind(word_if_any(words, 2)).is_some() {
+        Form::InstrumentOfKind
+    } else {
+        Form::Instrument
+    }
+}
+
 // `instrument LABEL KIND SCOPE NAME UNIT`
 #[tactic(auto, unfolding(crate::specs::Lines::instrument_line))]
 pub(crate) fn instrument(alloc: Global, words: &[&str]) -> Result<Line, Stop>
     ensures { Reads result (instrument_line (map (λ w. w.now) words.now)) }
 {
-    count(words, 6, Form::Instrument)?;
+    count(words, 6, instrument_form(words))?;
     let label = label(alloc, words, 1)?;
     let kind = kind(word_at(words, 2)).ok_or(Reason::Kind(2))?;
     let scope = part(alloc, word_at(words, 3))?;
@@ -65,7 +77,7 @@ pub(crate) fn writer(alloc: Global, words: &[&str]) -> Result<Line, Stop>
     count(words, 5, Form::Writer)?;
     let label = label(alloc, words, 1)?;
     let instance = instance(word_at(words, 3)).ok_or(Reason::Uuid(3))?;
-    let start = number(words, 4, Noun::Time)?;
+    let start = number(words, 4, Noun::Start)?;
     let service = text(alloc, word_at(words, 2))?;
     Ok(Line::Declare(Declaration::Writer {
         label,

@@ -72,7 +72,7 @@ pub(crate) fn newest(alloc: Global, words: &[&str]) -> Result<Line, Stop>
     count(words, 4, Form::Newest)?;
     let gateway = id(words, 1)?;
     let writer = label(alloc, words, 2)?;
-    let start = number(words, 3, Noun::Time)?;
+    let start = number(words, 3, Noun::Start)?;
     Ok(Line::Ask(Query::Newest {
         gateway,
         writer,

@@ -17,6 +17,17 @@ pub(crate) fn word_at<'a>(words: &[&'a str], place: usize) -> &'a str
     words[place]
 }
 
+/// The word at a place, or an empty one where the line has no such word.
+pub(crate) fn word_if_any<'a>(words: &[&'a str], place: usize) -> &'a str
+    ensures { result.now ≡ word_at (map (λ w. w.now) words.now) place }
+{
+    if place < words.len() {
+        word_at(words, place)
+    } else {
+        ""
+    }
+}
+
 /// Refuses a line of more words than its form has, or of fewer.
 pub(crate) fn count(words: &[&str], many: usize, form: Form) -> Result<(), Reason>
     ensures value { result ≡ count_of (map (λ w. w.now) words.now) many form }

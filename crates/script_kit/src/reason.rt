@@ -1,4 +1,5 @@
 //! What is wrong with a line.
+use crate::sentence::Sentence;
 use std::fmt;
 use thiserror::Error;
 
@@ -6,6 +7,8 @@ use thiserror::Error;
 #[derive(Clone, Copy, Debug, PartialEq, Eq)]
 pub enum Form {
     Instrument,
+    /// That of an instrument whose third word is a kind. It prints as the words that it wants behind this one.
+    InstrumentOfKind,
     View,
     Writer,
     Gateway,
@@ -28,7 +31,9 @@ pub enum Form {
 /// What a number of a line is.
 #[derive(Clone, Copy, Debug, PartialEq, Eq)]
 pub enum Noun {
-    /// A time, in nanoseconds since the Unix epoch.
+    /// The time at which a writer starts, in nanoseconds since the Unix epoch.
+    Start,
+    /// The time of a collection, in the same.
     Time,
     Export,
     Mail,
@@ -36,11 +41,13 @@ pub enum Noun {
     Gateway,
 }
 
-/// Why a line is bad, in the order in which it is looked for. The first word is at place 0.
+/// Why a line is bad, in the order in which it is looked for, of words from the left. The first word is at place 0.
 ///
-/// It prints as what is said of the word at its place, or of the whole line where it has none.
+/// It prints as what is said of a line, with `..` for the word that it is about.
 #[derive(Clone, Copy, Debug, PartialEq, Eq, Error)]
 pub enum Reason {
+    /// The script ends before the line's line feed.
+    Cut,
     /// The line has a byte that is neither a space nor a visible ASCII character.
     Bytes,
     /// A space begins or ends the line, or follows another one.
@@ -55,24 +62,22 @@ pub enum Reason {
     Kind(usize),
     /// No kind of instrument, and no `*`.
     KindAsked(usize),
+    /// No UUID.
+    Uuid(usize),
     /// Not the digits of a number, or with a zero in front.
     NoNumber(usize),
     /// A number that is too great.
     TooGreat(usize, Noun),
-    /// No UUID.
-    Uuid(usize),
     /// No value: a whole number of 64 bits.
     Value(usize),
+    /// No shape of points.
+    Shape(usize),
     /// No list of attributes.
     Attributes(usize),
     /// No list of keys.
     Keep(usize),
     /// No aggregation.
     Aggregation(usize),
-    /// No shape of points.
-    Shape(usize),
-    /// The script ends before the line's line feed.
-    Cut,
     /// A declaration, or `begin`, behind `begin`.
     Late,
     /// An event or a query before `begin`.
@@ -98,6 +103,7 @@ impl fmt::Display for Form {
     fn fmt<W: fmt::Write>(&self, f: &mut fmt::Formatter<W>) -> fmt::Result {
         match self {
             Form::Instrument => write!(f, "a label, a kind, a scope, a name and a unit"),
+            Form::InstrumentOfKind => write!(f, "a scope, a name and a unit"),
             Form::View => write!(
                 f,
                 "a name, a kind, a scope, a new name, keys to keep and an aggregation"
@@ -133,95 +139,54 @@ impl fmt::Display for Noun {
 
     fn fmt<W: fmt::Write>(&self, f: &mut fmt::Formatter<W>) -> fmt::Result {
         match self {
+            Noun::Start => write!(f, "a start"),
             Noun::Time => write!(f, "a time"),
             Noun::Export => write!(f, "the number of an export"),
             Noun::Mail => write!(f, "the number of a mail"),
             Noun::Limit => write!(f, "a limit"),
-            Noun::Gateway => write!(f, "the id of a gateway"),
+            Noun::Gateway => write!(f, "an id"),
         }
     }
 }
 
 impl fmt::Display for Reason {
-    ghost use Rattle.std.specs.Prelude.{Some};
+    ghost use Rattle.std.specs.Prelude.{Some, codes};
     ghost use Rattle.script_kit.specs.Reasons.{reason_text};
 
-    ghost output = { λ it. Some (reason_text it) };
+    ghost output = { λ it. Some (reason_text it (codes "..")) };
 
     fn fmt<W: fmt::Write>(&self, f: &mut fmt::Formatter<W>) -> fmt::Result {
-        let opening = self.opening();
-        match self {
-            Reason::Count(form) => write!(f, "{opening}{form}"),
-            Reason::TooGreat(_, noun) => write!(f, "{opening}{noun}"),
-            _ => write!(f, "{opening}"),
-        }
+        let sentence = Sentence::new(*self, "..", "");
+        write!(f, "{sentence}")
     }
 }
 
 impl Reason {
     ghost use Rattle.std.specs.Prelude.{◌≡◌};
-    ghost use Rattle.script_kit.specs.Reasons.{place_of, reason_opening};
-
-    // How it begins: all that it says, but for the form or the noun that it names.
-    fn opening(self) -> &'static str
-        ensures { result.now ≡ reason_opening self }
-    {
-        match self {
-            Reason::Bytes => "a byte is neither a space nor a visible ASCII character",
-            Reason::Spaces => "words have one space between two, and none stands at either end",
-            Reason::Unknown => "begins no line",
-            Reason::Count(_) => "wants ",
-            Reason::Label(_) => "is no label: 1 to 16 of a to z and 0 to 9",
-            Reason::Kind(_) => "is no kind: counter, updown, gauge or histogram",
-            Reason::KindAsked(_) => "is no kind: counter, updown, gauge, histogram, or * for any",
-            Reason::NoNumber(_) => "is no number: digits with no sign and no leading zero",
-            Reason::TooGreat(_, _) => "is too great for ",
-            Reason::Uuid(_) => "is no UUID: 32 hexadecimal digits, with hyphens or without",
-            Reason::Value(_) => {
-                "is no value: a whole number of 64 bits, with no plus sign and no leading zero"
-            }
-            Reason::Attributes(_) => {
-                "lists no attributes: -, or pairs of a key, = and a value, with commas between"
-            }
-            Reason::Keep(_) => "lists no keys: *, -, or keys with commas between",
-            Reason::Aggregation(_) => {
-                "is no aggregation: default, sum, last, drop, or buckets: and values with commas between"
-            }
-            Reason::Shape(_) => {
-                "is no shape: sum+, sum, gauge, hist, or hist: and values with commas between"
-            }
-            Reason::Cut => "no line feed ends it",
-            Reason::Late => "stands after 'begin'",
-            Reason::Early => "stands before 'begin'",
-            Reason::Taken(_) => "was declared before",
-            Reason::Refused => "is refused",
-            Reason::NoWriter(_) => "names no writer",
-            Reason::NoInstrument(_) => "names no instrument",
-            Reason::NoGateway(_) => "names no gateway",
-        }
-    }
+    ghost use Rattle.script_kit.specs.Reasons.{place_of};
 
     /// The place of the word that it is about; none where it is about the whole line.
     pub fn place(self) -> Option<usize>
         ensures { result ≡ place_of self }
     {
         match self {
-            Reason::Bytes | Reason::Spaces | Reason::Cut => None,
+            Reason::Cut | Reason::Bytes | Reason::Spaces => None,
             Reason::Label(place)
             | Reason::Kind(place)
             | Reason::KindAsked(place)
+            | Reason::Uuid(place)
             | Reason::NoNumber(place)
             | Reason::TooGreat(place, _)
-            | Reason::Uuid(place)
             | Reason::Value(place)
+            | Reason::Shape(place)
             | Reason::Attributes(place)
             | Reason::Keep(place)
             | Reason::Aggregation(place)
-            | Reason::Shape(place)
             | Reason::Taken(place)
             | Reason::NoWriter(place)
             | Reason::NoInstrument(place)
             | Reason::NoGateway(place) => Some(place),
+            Reason::Count(Form::InstrumentOfKind) => Some(2),
             Reason::Unknown | Reason::Count(_) | Reason::Late | Reason::Early | Reason::Refused =>
                 Some(0),
         }

@@ -1,35 +1,145 @@
 //! What is said of a bad line.
-ghost use Rattle.std.specs.Prelude.{◌≡◌, ◌++◌, IfOk, string_bytes};
-ghost use Rattle.script_kit.specs.Reasons.{sentence_of, short_word};
+ghost use Rattle.std.specs.Prelude.{◌≡◌, ◌++◌, IfOk, Ok, map, string_bytes};
+ghost use Rattle.script_kit.specs.Reasons.{sentence_of, short_word, word_in};
 
-use crate::reading::word_at;
+use crate::reading::word_if_any;
 use crate::reason::Reason;
 use crate::stop::Stop;
 use crate::words::{text_of, words};
 use attr_kit::NoMemory;
 use std::alloc::Global;
+use std::fmt;
 
-/// What is said of a line that is bad for this reason: the word that it is about, between quotes, and the reason. Of a word of
-/// more than 40 characters the first 40 are told. O(n) for a line of n bytes.
+/// A word as it is told: a front of it, and what stands for the rest.
+#[derive(Clone, Copy)]
+struct ShortWord<'a> {
+    front: &'a str,
+    rest: &'a str,
+}
+
+/// A reason, and the word that it is about. It prints as what is said of them.
+#[derive(Clone, Copy)]
+pub(crate) struct Sentence<'a> {
+    reason: Reason,
+    word: ShortWord<'a>,
+}
+
+impl fmt::Display for ShortWord<'_> {
+    ghost use Rattle.std.specs.Prelude.{◌++◌, Some};
+
+    ghost output = { λ it. Some (it.front.now ++ it.rest.now) };
+
+    fn fmt<W: fmt::Write>(&self, f: &mut fmt::Formatter<W>) -> fmt::Result {
+        let ShortWord { front, rest } = *self;
+        write!(f, "{front}{rest}")
+    }
+}
+
+impl fmt::Display for Sentence<'_> {
+    ghost use Rattle.std.specs.Prelude.{◌++◌, Some};
+    ghost use Rattle.script_kit.specs.Reasons.{reason_text};
+
+    ghost output = { λ it. Some (reason_text it.reason (it.word.front.now ++ it.word.rest.now)) };
+
+    fn fmt<W: fmt::Write>(&self, f: &mut fmt::Formatter<W>) -> fmt::Result {
+        let word = self.word;
+        match self.reason {
+            Reason::Cut => write!(f, "a line ends with a line feed"),
+            Reason::Bytes => write!(f, "a line has only spaces and visible ASCII characters"),
+            Reason::Spaces => write!(
+                f,
+                "a line has one space between two words, and none at its ends"
+            ),
+            Reason::Unknown => write!(f, "no line begins with '{word}'"),
+            Reason::Count(form) => write!(f, "'{word}' wants {form}"),
+            Reason::Label(_) => write!(f, "a label has at most 16 of a to z and 0 to 9"),
+            Reason::Kind(_) => write!(
+                f,
+                "no kind is called '{word}': a kind is counter, updown, gauge or histogram"
+            ),
+            Reason::KindAsked(_) => write!(
+                f,
+                "no kind is called '{word}': a kind is counter, updown, gauge, histogram, or * for any"
+            ),
+            Reason::Uuid(_) => write!(
+                f,
+                "'{word}' is no UUID: a UUID has 32 hexadecimal digits, with hyphens or without"
+            ),
+            Reason::NoNumber(_) => write!(
+                f,
+                "'{word}' is no number: a number has digits alone, and no leading zero"
+            ),
+            Reason::TooGreat(_, noun) => write!(f, "{word} is too great for {noun}"),
+            Reason::Value(_) => write!(
+                f,
+                "'{word}' is no value: a value is a whole number of 64 bits, with no plus sign and no leading zero"
+            ),
+            Reason::Shape(_) => write!(
+                f,
+                "'{word}' is no shape: a shape is sum+, sum, gauge, hist, or hist: and values with commas between"
+            ),
+            Reason::Attributes(_) => write!(
+                f,
+                "'{word}' lists no attributes: a list is -, or pairs of a key, = and a value, with commas between"
+            ),
+            Reason::Keep(_) => write!(
+                f,
+                "'{word}' lists no keys: a list is *, -, or keys with commas between"
+            ),
+            Reason::Aggregation(_) => write!(
+                f,
+                "'{word}' is no aggregation: an aggregation is default, sum, last, drop, or buckets: and values with commas between"
+            ),
+            Reason::Late => write!(f, "'{word}' wants no 'begin' before it"),
+            Reason::Early => write!(f, "'{word}' wants a 'begin' before it"),
+            Reason::Taken(_) => write!(f, "'{word}' was declared before"),
+            Reason::Refused => write!(f, "'{word}' is refused"),
+            Reason::NoWriter(_) => write!(f, "no writer is called '{word}'"),
+            Reason::NoInstrument(_) => write!(f, "no instrument is called '{word}'"),
+            Reason::NoGateway(_) => write!(f, "no gateway has the id {word}"),
+        }
+    }
+}
+
+impl<'a> Sentence<'a> {
+    ghost use Rattle.std.specs.Prelude.{◌≡◌};
+
+    pub(crate) fn new(reason: Reason, front: &'a str, rest: &'a str) -> Sentence<'a>
+        ensures reason { result.reason ≡ reason }
+        ensures front { result.word.front.now ≡ front.now }
+        ensures rest { result.word.rest.now ≡ rest.now }
+    {
+        Sentence {
+            reason,
+            word: ShortWord { front, rest },
+        }
+    }
+}
+
+/// What is said of a line that is bad for this reason. Of a word of more than 40 characters the first 40 are told, and `..`.
+/// O(n) for a line of n bytes.
 #[tactic(auto, unfolding(crate::specs::Reasons::sentence_of))]
 pub fn explain(alloc: Global, line: &[u8], reason: Reason) -> Result<String, NoMemory>
     ensures { IfOk result (λ text. string_bytes text ≡ sentence_of line.now reason) }
 {
-    let Some(place) = reason.place() else {
-        return Ok(format!(in alloc; "{reason}")?);
-    };
     let words = match words(alloc, line) {
         Ok(words) => words,
         Err(Stop::Bad(_)) => Vec::new(alloc),
         Err(Stop::NoMemory) => return Err(NoMemory),
     };
-    let word = if place < words.len() {
-        word_at(&words, place)
-    } else {
-        ""
-    };
-    let (front, rest) = shorten(word);
-    Ok(format!(in alloc; "'{front}{rest}' {reason}")?)
+    let (front, rest) = shorten(word_in(&words, reason.place()));
+    let sentence = Sentence::new(reason, front, rest);
+    Ok(format!(in alloc; "{sentence}")?)
+}
+
+// The word at a place, or none.
+fn word_in<'a>(words: &[&'a str], place: Option<usize>) -> &'a str
+    ensures { result.now ≡ word_in (Ok (map (λ w. w.now) words.now)) place }
+{
+    match place {
+        Some(place) => word_if_any(words, place),
+        None => "",
+    }
 }
 
 // A word, or its first 40 characters and `..` for the rest.
