@@ -9,7 +9,7 @@ use Rattle.point_kit.specs.declared.shape.Shape.TheVariants as shapes
 use Rattle.agg_kit.specs.Absorbing.{AreBothSound}
 use Rattle.agg_kit.specs.Absorbs.{fits}
 use Rattle.agg_kit.specs.Sound.{IsSound, AreSound}
-use Rattle.agg_kit.specs.Stamps.{ends_of, fits_on_way, with_sum, with_sums, summed}
+use Rattle.agg_kit.specs.Stamps.{ends_of, fits_on_way, with_sum, with_sums, with_any_sum}
 use Rattle.agg_kit.specs.Tallies.{Points}
 
 pub keys-with_sums : (ms : Points) (ns : List ℤ) → keys_of (with_sums ms ns) ≡ keys_of ms
@@ -26,9 +26,9 @@ pub without_sums : (ms : Points) → with_sums ms [] ≡ ms
 without_sums [] = refl
 without_sums (e ∷ ms) = refl
 
-pub at-with_sums : (ms : Points) (ns : List ℤ) (i : ℕ) (e : AttrSet × Payload) → slice_get ms i ≡ Some e → slice_get (with_sums ms ns) i ≡ Some (e.0, summed e.1 (slice_get ns i))
+pub at-with_sums : (ms : Points) (ns : List ℤ) (i : ℕ) (e : AttrSet × Payload) → slice_get ms i ≡ Some e → slice_get (with_sums ms ns) i ≡ Some (e.0, with_any_sum e.1 (slice_get ns i))
 at-with_sums [] ns i e h = absurd (cc)
-at-with_sums (m ∷ ms) [] i e h = h ∙ ap (λ (o : Option ℤ). Some (e.0, summed e.1 o)) (sym (none i))
+at-with_sums (m ∷ ms) [] i e h = h ∙ ap (λ (o : Option ℤ). Some (e.0, with_any_sum e.1 o)) (sym (none i))
   where
     none : (i : ℕ) → (let l : List ℤ = [] in slice_get l i) ≡ None
     none zero = refl

@@ -123,8 +123,8 @@ with_sum (payloads.Gauge v) sum = payloads.Gauge v
 with_sum (payloads.Hist count n bs range) sum = payloads.Hist count n bs range
 
 -- so it is where there is such a sum
-abbrev pub summed : Payload → Option ℤ → Payload
-summed p n = option_map_or (with_sum p) n p
+abbrev pub with_any_sum : Payload → Option ℤ → Payload
+with_any_sum p n = option_map_or (with_sum p) n p
 
 -- the points with these sums, those that are past the sums as they are
 abbrev pub with_sums : Points → List ℤ → Points

@@ -11,7 +11,7 @@ ghost use Rattle.agg_kit.specs.Feeds.{entries_of};
 ghost use Rattle.agg_kit.specs.Payloads.{is_out_of_range};
 ghost use Rattle.agg_kit.specs.Recorders.{series_with, first_unfit};
 ghost use Rattle.agg_kit.specs.Sound.{AreOnce};
-ghost use Rattle.agg_kit.specs.Stamps.{ends_of, fits_on_way, newer, newest_over, stamped_in, summed, with_sums};
+ghost use Rattle.agg_kit.specs.Stamps.{ends_of, fits_on_way, newer, newest_over, stamped_in, with_any_sum, with_sums};
 ghost use Rattle.agg_kit.specs.Steps.{has_point, own_count, fed_set};
 ghost use Rattle.agg_kit.specs.Tallies.{Points};
 ghost use Rattle.agg_kit.specs.declared.fault.TallyFault.TheVariants as faults;
@@ -258,7 +258,7 @@ impl Series {
 
 // The amount of the payload at a place, with the least or the greatest sum of its reach in place of its own, where it has one.
 fn amount_at(payload: &Payload, reaches: &[(i64, i64)], place: usize, greatest: bool) -> Amount
-    ensures { HasAmount (summed payload.now (slice_get (ends_of greatest reaches.now) place)) result }
+    ensures { HasAmount (with_any_sum payload.now (slice_get (ends_of greatest reaches.now) place)) result }
 {
     match reaches.get(place) {
         Some(reach) if greatest => amount_with(payload, reach.1),

@@ -103,9 +103,9 @@ impl Stamps {
         ensures { self.new.kept ≡ widen self.old.kept place sum }
     {
         if place < self.reaches.len() {
-            self.reaches[place] = widened(self.reaches[place], sum);
+            self.reaches[place] = reach_with(self.reaches[place], sum);
         } else {
-            self.reaches.push(widened((0, 0), sum)).unwrap();
+            self.reaches.push(reach_with((0, 0), sum)).unwrap();
         }
     }
 
@@ -136,7 +136,7 @@ impl Stamps {
 }
 
 // A reach with one more sum.
-fn widened(reach: (i64, i64), sum: i64) -> (i64, i64)
+fn reach_with(reach: (i64, i64), sum: i64) -> (i64, i64)
     ensures { result ≡ reach_with reach sum }
 {
     (reach.0.min(sum), reach.1.max(sum))
@@ -254,7 +254,8 @@ pub(crate) fn note_each(
     requires long { length stamps.old.items ≡ length plan.now.streams }
     requires wide { length series.now.items ≡ length plan.now.streams }
     requires can { CanNoteEach plan.now feeds.now spots.now stamps.old.items }
-    ensures { stamped_in stamps.new.items ≡ stamps_put plan.now feeds.now spots.now (entries_of series.now.items) (stamped_in stamps.old.items) }
+    ensures { stamped_in stamps.new.items
+        ≡ stamps_put plan.now feeds.now spots.now (entries_of series.now.items) (stamped_in stamps.old.items) }
 {
     let Some((feed, rest)) = feeds.split_first() else {
         return;

@@ -5,7 +5,7 @@ use Rattle.point_kit.specs.declared.payload.Payload.{Payload}
 use Rattle.agg_kit.specs.Absorbing.{AreBothSound, Knows}
 use Rattle.agg_kit.specs.Absorbs.{absorb, fits}
 use Rattle.agg_kit.specs.Sound.{AreOnce}
-use Rattle.agg_kit.specs.Stamps.{ends_of, summed, with_sums}
+use Rattle.agg_kit.specs.Stamps.{ends_of, with_any_sum, with_sums}
 use Rattle.agg_kit.specs.Steps.{Stored}
 use Rattle.agg_kit.specs.Tallies.{Points}
 use Rattle.agg_kit.specs.declared.absorbing.Walk.{Walk}
@@ -27,7 +27,7 @@ returns-then-not-steps_over c =
     let once = subst AreOnce (sym (keys-with_sums ls ns)) (subst (λ (l : Points). AreOnce (keys_of l)) (sym view) c.requires.once) in
     let sound = sound-with_sums es ls ns (subst (AreBothSound es) (sym view) c.requires.sound) in
     let now = absorb limit es (take i ms) in
-    let e : AttrSet × Payload = (c.in-Some.set.now, summed c.in-Some.payload.now (slice_get ns i)) in
+    let e : AttrSet × Payload = (c.in-Some.set.now, with_any_sum c.in-Some.payload.now (slice_get ns i)) in
     let there : slice_get ms i ≡ Some e = at-with_sums ls ns i (c.in-Some.set.now, c.in-Some.payload.now) (sym c.in-Some.ensures.entry) in
     let walks = walks-there limit es ms i e there c.loop-place.walk once c.loop-place.invariant.0 in
     let out = c.steps_over.ensures.fits now e.1 walks (sound-there limit es ms i e there sound) c.amount_at-more.ensures ∙ ap not c.if-not-steps_over.true in
@@ -47,7 +47,7 @@ loop-place-preserved c =
     let now = absorb limit es (take i ms) in
     elim c.match-get_index.branch [
       | in-Some+else-not-steps_over w ↦
-          let e : AttrSet × Payload = (w.in-Some.set.now, summed w.in-Some.payload.now (slice_get ns i)) in
+          let e : AttrSet × Payload = (w.in-Some.set.now, with_any_sum w.in-Some.payload.now (slice_get ns i)) in
           let there : slice_get ms i ≡ Some e = at-with_sums ls ns i (w.in-Some.set.now, w.in-Some.payload.now) (sym w.in-Some.ensures.entry) in
           let walks = walks-there limit es ms i e there c.loop-place.walk once c.loop-place.invariant.0 in
           let takes = sound-there limit es ms i e there sound in
