@@ -16,7 +16,7 @@ pub mod NamedValues
 pub mod NamesMixed
 pub mod Naming
 pub mod Newest
-pub mod FieldLaws
+pub mod PartLaws
 pub mod Placed
 pub mod Queried
 pub mod Recordings
