@@ -40,7 +40,7 @@ shaped-with shape xs (d ∷ ds) = (shaped-values shape (values_of xs d), shaped-
 pub shaped-points : (shape : Shape) (xs : Arrivals) → AreShaped shape (points_of shape xs)
 shaped-points shape xs = shaped-with shape xs (distinct (sets_of xs))
 
-shaped-put : (shape : Shape) (es : Points) (b : AttrSet) (x : Payload) → AreShaped shape es → IsShaped shape x → AreShaped shape (put es b x)
+pub shaped-put : (shape : Shape) (es : Points) (b : AttrSet) (x : Payload) → AreShaped shape es → IsShaped shape x → AreShaped shape (put es b x)
 shaped-put shape [] b x s k = (k, tt)
 shaped-put shape (e ∷ es) b x s k = by (shaped-put shape es b x s.1 k) (set_eq b e.0) refl
   where
@@ -48,7 +48,7 @@ shaped-put shape (e ∷ es) b x s k = by (shaped-put shape es b x s.1 k) (set_eq
     by go true h = subst (AreShaped shape) (sym (put-yes e es b x h)) (k, s.1)
     by go false h = subst (AreShaped shape) (sym (put-no e es b x h)) (s.0, go)
 
-shaped-at : (shape : Shape) (es : Points) (b : AttrSet) → AreShaped shape es → IsShaped shape (payload_at shape es b)
+pub shaped-at : (shape : Shape) (es : Points) (b : AttrSet) → AreShaped shape es → IsShaped shape (payload_at shape es b)
 shaped-at shape [] b s = shaped-values shape []
 shaped-at shape (e ∷ es) b s = by (shaped-at shape es b s.1) (set_eq b e.0) refl
   where
@@ -136,7 +136,7 @@ own_count-of (e ∷ es) = ap (λ n. cond (is_own e.0) 1 0 + n) (own_count-of es)
     by false = omega arith
 
 -- where points go is told by their sets alone
-own_count-keys : (es ms : Points) → keys_of es ≡ keys_of ms → own_count es ≡ own_count ms
+pub own_count-keys : (es ms : Points) → keys_of es ≡ keys_of ms → own_count es ≡ own_count ms
 own_count-keys es ms k = own_count-of es ∙ ap (λ l. length (filter is_own l)) k ∙ sym (own_count-of ms)
 
 place-keys : (limit : ℕ) (es ms : Points) (a : AttrSet) → keys_of es ≡ keys_of ms → fed_set limit es a ≡ fed_set limit ms a

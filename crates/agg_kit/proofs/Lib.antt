@@ -5,6 +5,7 @@ pub mod Bounds
 pub mod ComingIn
 pub mod Copies
 pub mod Distinct
+pub mod Falls
 pub mod Here
 pub mod Inserts
 pub mod JoinedParts
@@ -16,14 +17,18 @@ pub mod OwnPoints
 pub mod Parts
 pub mod Payloads
 pub mod Points
+pub mod Reaches
 pub mod RecorderParts
 pub mod Recorders
 pub mod Records
 pub mod Refusals
+pub mod Refused
 pub mod RoundLaws
 pub mod Rounds
 pub mod SeriesLaws
 pub mod Sound
 pub mod Stamping
 pub mod Steps
+pub mod Sums
 pub mod Taken
+pub mod Ways

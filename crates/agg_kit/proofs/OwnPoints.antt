@@ -11,7 +11,7 @@ use Rattle.agg_kit.specs.Entries.{Entry, Arrivals, arrivals_from, entry_of}
 use Rattle.agg_kit.specs.Feeding.{set_eq}
 use Rattle.agg_kit.specs.Feeds.{series_at, shape_at}
 use Rattle.agg_kit.specs.Measuring.{points_after, series_after, after_measure}
-use Rattle.agg_kit.specs.Recorders.{tally_in, may_hold, keeps_set, keeps_sets, OwnBoundPointsStay}
+use Rattle.agg_kit.specs.Recorders.{tally_in, keeps_set, keeps_sets, OwnBoundPointsStay}
 use Rattle.agg_kit.specs.Steps.{fed_set, payload_after, step}
 use Rattle.agg_kit.specs.Tallies.{Points, Tallied}
 use Rattle.agg_kit.specs.declared.bound.Bound.{Bound}
@@ -33,8 +33,8 @@ keeps-still t e (f ∷ fs) [] a fits h = absurd h
 keeps-still t e (f ∷ fs) (i ∷ is) a fits h =
     let k = kept f.keep a in
     let here : keeps_set t.plan a (series_after t e) f ≡ keeps_set t.plan a t.series f =
-    ap (λ (es : Points). may_hold (shape_at t.plan f.stream) && set_eq (fed_set t.plan.limit es k) k) (at-after t e f.stream fits.0)
-    ∙ ap (λ (x : AttrSet). may_hold (shape_at t.plan f.stream) && set_eq x k)
+    ap (λ (es : Points). set_eq (fed_set t.plan.limit es k) k) (at-after t e f.stream fits.0)
+    ∙ ap (λ (x : AttrSet). set_eq x k)
     (place-still (shape_at t.plan f.stream) t.plan.limit (series_at t.series f.stream) (arrivals_from f.stream (feeds_of t.plan e.instrument) e.attrs e.value) k i h.0) in
     (λ j. here j && keeps-still t e fs is a fits.2 h.1 j)
 

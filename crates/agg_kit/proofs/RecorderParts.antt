@@ -1,28 +1,32 @@
 -- What a recorder keeps beside its points, and what it makes of a recording.
-use Rattle.std.proofs.Common.{◌≡◌, ℕ, ◌<◌, ◌||◌, Bool, true, false, cond, List, [], ◌∷◌, ◌++◌, Some, None, Result, Ok, Err, OnOk, OnErr, length, map, replicate, refl, sym, ap, subst, ◌∙◌, true≢false}
+use Rattle.std.proofs.Common.{◌≡◌, ℕ, ◌<◌, ◌||◌, Bool, true, false, List, [], ◌∷◌, ◌++◌, Option, Some, None, Result, Ok, Err, OnOk, OnErr, length, replicate, take, drop, refl, sym, ap, subst, ◌∙◌, true≢false}
+use Rattle.std.specs.Option.{option_map}
 use Rattle.std.proofs.lemmas.List.{length-map, ext_get_or}
 use Rattle.attr_kit.specs.declared.attr_set.AttrSet.{AttrSet}
 use Rattle.point_kit.specs.declared.shape.Shape.{Shape}
+use Rattle.point_kit.specs.declared.shape.Shape.TheVariants as shapes
 use Rattle.plan_kit.specs.Plans.{Planned, AllRise, AreFeeds, feeds_of, kind_of}
 use Rattle.plan_kit.specs.declared.instrument.Kind.{Kind}
 use Rattle.plan_kit.specs.declared.feed.Feed.{Feed}
 use Rattle.agg_kit.specs.Entries.{Entry, Arrivals, arrivals}
 use Rattle.agg_kit.specs.Feeding.{has_set, sets_of, distinct}
 use Rattle.agg_kit.specs.Feeds.{series_at, shape_at}
-use Rattle.agg_kit.specs.Laws.{is_gauge}
-use Rattle.agg_kit.specs.Measuring.{after_measure, empty_tally}
+use Rattle.agg_kit.specs.Measuring.{after_measure, empty_tally, fault_of}
 use Rattle.agg_kit.specs.Payloads.{payload_of}
-use Rattle.agg_kit.specs.Recorders.{Recorded, tally_in, recorded_in, empty_recorder, recorder_after, record_fault_of, Holds}
+use Rattle.agg_kit.specs.Reaches.{reach}
+use Rattle.agg_kit.specs.Recorders.{Recorded, tally_in, recorded_in, empty_recorder, recorder_after, keeps_sets, can_stamp_all, as_record_fault, record_fault_of, Holds}
 use Rattle.agg_kit.specs.Rounds.{points_of, values_of}
-use Rattle.agg_kit.specs.Stamps.{Stamped, unstamped, stamps_at, last_number, stamped_of, stamps_of, has_gauge, stamps_put, AreSpots}
+use Rattle.agg_kit.specs.Stamps.{Stamped, StampedIn, unstamped, stamped_in, stamps_at, last_number, stamped_of, stamps_of, has_noted, stamps_put, AreSpots}
 use Rattle.agg_kit.specs.Taken.{IsRecorder}
 use Rattle.agg_kit.specs.Tallies.{Points, Tallied}
+use Rattle.agg_kit.specs.declared.fault.TallyFault.{TallyFault}
+use Rattle.agg_kit.proofs.ComingIn.{whole-slice}
 use Rattle.agg_kit.proofs.Distinct.{itself, has-distinct}
 use Rattle.agg_kit.proofs.Numbers.{length-stamps, stamps-at, stamps-none}
 use Rattle.agg_kit.proofs.Points.{with}
-use Rattle.agg_kit.proofs.Recorders.{none-at, whole-at}
+use Rattle.agg_kit.proofs.Recorders.{none-at, record-as_record_fault, whole-at}
 use Rattle.agg_kit.proofs.Rounds.{round-none}
-use Rattle.agg_kit.proofs.Stamping.{AreLong, gauge-none, put-after}
+use Rattle.agg_kit.proofs.Stamping.{AreLong, IsLong, noted-can, noted-none, put-after}
 use Rattle.agg_kit.proofs.Taken.{has-more, recorded_holds, recorded_none}
 
 abbrev pub AllFit : Planned → Type 0
@@ -31,23 +35,24 @@ AllFit p = (i : ℕ) → AreFeeds (length p.streams) (feeds_of p i)
 pub none-recorded : (p : Planned) → IsRecorder (empty_recorder p)
 none-recorded p = ([], recorded_none p)
 
--- a recorder without stamps in memory is empty where its points are
+-- a recorder that is like an empty one has recorded nothing
 pub none-recorder : (r : Recorded) (p : Planned) → r ≡ empty_recorder p → IsRecorder r
 none-recorder r p is = subst IsRecorder (sym is) (none-recorded p)
 
 pub holds-some : (r : Recorded) → AllFit r.plan → IsRecorder r → (k : List Entry) × Holds r k
 holds-some r fit is = (is.0, recorded_holds r is.0 fit is.1)
 
--- ---- as many stamps as points
+-- ---- as much beside the points as there are points
 
 pub long-streams : (r : Recorded) → AllFit r.plan → IsRecorder r → length r.stamps ≡ length r.plan.streams
 long-streams r fit is = let h = holds-some r fit is in ap length h.1.1 ∙ length-stamps r.plan h.0
 
-as-many : (shape : Shape) (ys : Arrivals) → is_gauge shape ≡ true → length (stamped_of shape ys).stamps ≡ length (points_of shape ys)
-as-many shape ys g =
-    ap (λ (b : Bool). length (cond b (record { clock = length ys; stamps = map (last_number ys) (distinct (sets_of ys)) }) unstamped).stamps) g
-    ∙ length-map (distinct (sets_of ys)) (last_number ys)
-    ∙ sym (length-map (distinct (sets_of ys)) (λ a. (a, payload_of shape (values_of ys a))))
+as-many : (shape : Shape) (ys : Arrivals) → IsLong shape (stamped_of shape ys) (points_of shape ys)
+as-many (shapes.Sum true) ys = λ h. absurd (true≢false h)
+as-many (shapes.Sum false) ys = λ _.
+    length-map (distinct (sets_of ys)) (λ a. reach (values_of ys a)) ∙ sym (length-map (distinct (sets_of ys)) (λ a. (a, payload_of (shapes.Sum false) (values_of ys a))))
+as-many shapes.Gauge ys = length-map (distinct (sets_of ys)) (last_number ys) ∙ sym (length-map (distinct (sets_of ys)) (λ a. (a, payload_of shapes.Gauge (values_of ys a))))
+as-many (shapes.Histogram bounds) ys = tt
 
 long-feeds : (r : Recorded) (k : List Entry) → Holds r k → (fs : List Feed) → AreFeeds (length r.plan.streams) fs → AreLong r.plan fs r.series r.stamps
 long-feeds r k holds [] fit = tt
@@ -56,7 +61,7 @@ long-feeds r k holds (f ∷ fs) fit =
     let m = f.stream in
     let a : stamps_at r.stamps m ≡ stamped_of (shape_at p m) (arrivals p m k) = ap (λ l. stamps_at l m) holds.1 ∙ stamps-at p k m fit.0 in
     let b : series_at r.series m ≡ points_of (shape_at p m) (arrivals p m k) = ap (λ l. series_at l m) holds.0 ∙ whole-at p k m fit.0 in (
-      λ g. ap (λ (s : Stamped). length s.stamps) a ∙ as-many (shape_at p m) (arrivals p m k) g ∙ ap (λ (es : Points). length es) (sym b),
+      subst (λ (n : Stamped). IsLong (shape_at p m) n (series_at r.series m)) (sym a) (subst (λ (es : Points). IsLong (shape_at p m) (stamped_of (shape_at p m) (arrivals p m k)) es) (sym b) (as-many (shape_at p m) (arrivals p m k))),
       long-feeds r k holds fs fit.2,
     )
 
@@ -79,7 +84,7 @@ no-arrivals shape (x ∷ xs) h =
     empty [] h k = true≢false (sym k)
     empty (d ∷ ds) h k = cc
 
--- a recorder whose points are none has no stamps
+-- a recorder whose points are none has nothing beside them
 pub begins-recorder : (r : Recorded) → AllFit r.plan → IsRecorder r → tally_in r ≡ empty_tally r.plan → r ≡ empty_recorder r.plan
 begins-recorder r fit is e =
     let h = holds-some r fit is in
@@ -98,16 +103,43 @@ begins-recorder r fit is e =
 pub forgotten : (p : Planned) (t : Tallied) (ns : List Stamped) (n : ℕ) → t ≡ empty_tally p → ns ≡ replicate n unstamped → n ≡ length p.streams → recorded_in t ns ≡ empty_recorder p
 forgotten p t ns n e s l = (λ i. recorded_in (e i) ((s ∙ ap (λ k. replicate k unstamped) l ∙ sym (stamps-none p)) i))
 
+-- what a recorder holds in memory once all is forgotten: `ns` was there, and `cs` is what each became
+pub cleared : (p : Planned) (t : Tallied) (long : ℕ) (cs ns : List StampedIn) → t ≡ empty_tally p → long ≡ length ns → length cs ≡ length ns → stamped_in cs ≡ replicate (length ns) unstamped → length ns ≡ length p.streams
+    → recorded_in t (stamped_in (take long (cs ++ drop (length cs) ns))) ≡ empty_recorder p
+cleared p t long cs ns e size keep all many =
+    forgotten p t (stamped_in (take long (cs ++ drop (length cs) ns))) (length ns) e (ap stamped_in (whole-slice long cs ns size keep) ∙ all) many
+
 -- ---- one more recording
 
--- what a tally makes of a recording that reaches no gauge
-pub after-plain : (t now : Tallied) (ns : List Stamped) (e : Entry) → has_gauge t.plan (feeds_of t.plan e.instrument) ≡ false → now ≡ after_measure t e → recorded_in now ns ≡ recorder_after (recorded_in t ns) e
-after-plain t now ns e g is = (λ i. recorded_in (is i) (sym (gauge-none t.plan (feeds_of t.plan e.instrument) e.attrs t.series ns g) i))
+-- what a tally makes of a recording that leaves nothing beside the points
+pub after-plain : (t now : Tallied) (ns : List Stamped) (e : Entry) → has_noted t.plan (feeds_of t.plan e.instrument) ≡ false → now ≡ after_measure t e → recorded_in now ns ≡ recorder_after (recorded_in t ns) e
+after-plain t now ns e g is = (λ i. recorded_in (is i) (sym (noted-none t.plan (feeds_of t.plan e.instrument) e.attrs t.series (after_measure t e).series ns g) i))
 
--- and of one that does, its value numbered
-pub after-gauge : (t now : Tallied) (ns : List Stamped) (ms : List Stamped) (e : Entry) (is : List ℕ) → now ≡ after_measure t e → AreSpots (feeds_of t.plan e.instrument) is e.attrs t.series
-    → ms ≡ stamps_put t.plan (feeds_of t.plan e.instrument) is ns → recorded_in now ms ≡ recorder_after (recorded_in t ns) e
-after-gauge t now ns ms e is step spots put = (λ i. recorded_in (step i) ((put ∙ put-after t.plan (feeds_of t.plan e.instrument) is e.attrs t.series ns spots) i))
+-- and of one that does, its value noted at the places of its sets
+pub after-noted : (t now : Tallied) (ns ms ks : List Stamped) (e : Entry) (is js : List ℕ) → now ≡ after_measure t e → AreSpots (feeds_of t.plan e.instrument) is e.attrs t.series
+    → js ≡ is → ks ≡ ns → ms ≡ stamps_put now.plan (feeds_of now.plan e.instrument) js now.series ks → recorded_in now ms ≡ recorder_after (recorded_in t ns) e
+after-noted t now ns ms ks e is js step spots same kept put =
+    let after = after_measure t e in
+    let all : ms ≡ stamps_put t.plan (feeds_of t.plan e.instrument) is after.series ns =
+    put ∙ (λ i. stamps_put now.plan (feeds_of now.plan e.instrument) (same i) now.series (kept i)) ∙ ap (λ (x : Tallied). stamps_put x.plan (feeds_of x.plan e.instrument) is x.series ns) step in
+    (λ i. recorded_in (step i) ((all ∙ put-after t.plan (feeds_of t.plan e.instrument) is e.attrs t.series after.series ns spots) i))
+
+-- a recording whose sets are kept, and that leaves nothing beside the points
+abbrev pub IsPlain : Tallied → Entry → Type 0
+IsPlain t e = (keeps_sets t e ≡ true) × (has_noted t.plan (feeds_of t.plan e.instrument) ≡ false)
+
+pub plain-at : (t : Tallied) (e : Entry) (q : Planned) (fs : List Feed) (keeps noted : Bool) → keeps ≡ keeps_sets t e → keeps ≡ true → q ≡ t.plan → fs ≡ feeds_of q e.instrument → noted ≡ has_noted q fs → noted ≡ false → IsPlain t e
+plain-at t e q fs keeps noted k on at feeds n off =
+    let here : fs ≡ feeds_of t.plan e.instrument = feeds ∙ ap (λ (x : Planned). feeds_of x e.instrument) at in
+    (sym k ∙ on, (λ j. has_noted (sym at j) (sym here j)) ∙ sym n ∙ off)
+
+pub plain-fault : (t : Tallied) (ns : List Stamped) (e : Entry) (o : Option TallyFault) → IsPlain t e → fault_of t e ≡ o → record_fault_of (recorded_in t ns) e ≡ option_map as_record_fault o
+plain-fault t ns e o is f = record-as_record_fault (recorded_in t ns) e o is.0 (noted-can t.plan (feeds_of t.plan e.instrument) ns is.1) f
+
+-- a recording that is accepted, by what the recorder was seen to be
+pub accepts : (r seen : Recorded) (e : Entry) (can : Bool) → r ≡ seen → keeps_sets (tally_in seen) e ≡ true → can ≡ can_stamp_all seen e.instrument → can ≡ true → fault_of (tally_in r) e ≡ None → record_fault_of r e ≡ None
+accepts r seen e can is keeps told on none =
+    record-as_record_fault r e None (ap (λ (x : Recorded). keeps_sets (tally_in x) e) is ∙ keeps) (ap (λ (x : Recorded). can_stamp_all x e.instrument) is ∙ sym told ∙ on) none
 
 -- it stays a recorder, after a recording or a refusal
 pub recorder-either : {T E : Type 0} (o : Result T E) (old now : Recorded) (e : Entry) → IsRecorder old → ((k : Kind) → kind_of old.plan e.instrument ≡ Some k → AllRise old.plan k (feeds_of old.plan e.instrument))

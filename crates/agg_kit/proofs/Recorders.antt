@@ -18,11 +18,11 @@ use Rattle.agg_kit.specs.Feeding.{set_eq, overflow_set, placements, fed}
 use Rattle.agg_kit.specs.Feeds.{entries_of, series_at, shape_at}
 use Rattle.agg_kit.specs.Laws.{is_gauge}
 use Rattle.agg_kit.specs.Measuring.{fault_of, points_after, series_after}
-use Rattle.agg_kit.specs.Recorders.{Recorded, tally_in, empty_recorder, whole_round, Holds, may_hold, keeps_set, keeps_sets, keep_sets, can_stamp_all, record_fault_of, as_record_fault, series_with, RecordersHold, AbsorbingIsRecording}
+use Rattle.agg_kit.specs.Recorders.{Recorded, tally_in, empty_recorder, whole_round, Holds, keeps_set, keeps_sets, keep_sets, can_stamp_all, record_fault_of, as_record_fault, series_with, RecordersHold, AbsorbingIsRecording}
 use Rattle.agg_kit.specs.Rounds.{points_of, round}
 use Rattle.agg_kit.specs.Stamps.{Stamped, stamps_at, stamped_of, stamps_of, stamps_after, newest_over, put_over, absorb_stamped}
 use Rattle.agg_kit.specs.Steps.{Stored, own_count, has_point, fed_set, add_under, step}
-use Rattle.agg_kit.specs.Tallies.{Points}
+use Rattle.agg_kit.specs.Tallies.{Points, Tallied}
 use Rattle.agg_kit.specs.declared.fault.TallyFault.{TallyFault}
 use Rattle.agg_kit.specs.declared.fault.RecordFault.TheVariants as record_faults
 use Rattle.agg_kit.proofs.Absorbs.{points_absorbed}
@@ -40,7 +40,7 @@ pub length-whole : (p : Planned) (h : List Entry) → length (whole_round p h) �
 unfolding whole_round
 length-whole p h = length-map (enumerate_from 0 p.streams) (λ s. points_of s.1.shape (arrivals p s.0 h)) ∙ length-enumerate_from 0 p.streams
 
-at-whole : (p : Planned) (h : List Entry) (m : ℕ) (s : Stream) → stream_of p m ≡ Some s → series_at (whole_round p h) m ≡ points_of s.shape (arrivals p m h)
+pub at-whole : (p : Planned) (h : List Entry) (m : ℕ) (s : Stream) → stream_of p m ≡ Some s → series_at (whole_round p h) m ≡ points_of s.shape (arrivals p m h)
 unfolding whole_round
 at-whole p h m s e =
     let z : 0 + m ≡ m = omega arith in
@@ -80,14 +80,8 @@ keeps-first p a ss f fs h = (both (keeps_set p a ss f) (list_all (keeps_set p a 
 pub keeps-rest : (p : Planned) (a : AttrSet) (ss : List Points) (f : Feed) (fs : List Feed) → list_all (keeps_set p a ss) (f ∷ fs) ≡ true → list_all (keeps_set p a ss) fs ≡ true
 keeps-rest p a ss f fs h = (both (keeps_set p a ss f) (list_all (keeps_set p a ss) fs) h).1
 
--- the parts of what a feed keeps
-pub keeps-may : (p : Planned) (a : AttrSet) (ss : List Points) (f : Feed) → keeps_set p a ss f ≡ true → may_hold (shape_at p f.stream) ≡ true
-keeps-may p a ss f h = (both (may_hold (shape_at p f.stream)) (set_eq (fed_set p.limit (series_at ss f.stream) (kept f.keep a)) (kept f.keep a)) h).0
-
 pub keeps-place : (p : Planned) (a : AttrSet) (ss : List Points) (f : Feed) → keeps_set p a ss f ≡ true → fed_set p.limit (series_at ss f.stream) (kept f.keep a) ≡ kept f.keep a
-keeps-place p a ss f h =
-    same (fed_set p.limit (series_at ss f.stream) (kept f.keep a)) (kept f.keep a)
-    (both (may_hold (shape_at p f.stream)) (set_eq (fed_set p.limit (series_at ss f.stream) (kept f.keep a)) (kept f.keep a)) h).1
+keeps-place p a ss f h = same (fed_set p.limit (series_at ss f.stream) (kept f.keep a)) (kept f.keep a) h
 
 -- what a feed with a stream of its own brings to the points of a list
 more-has_point : (p : Planned) (n m : ℕ) (ss : List Points) (xs : Arrivals) (fs : List Feed) (a : AttrSet) (v : ℤ) → AreFeeds n fs → series_at ss m ≡ points_of (shape_at p m) xs → list_all (keeps_set p a ss) fs ≡ true
@@ -132,21 +126,33 @@ pub stamps-all : (r : Recorded) (e : Entry) → record_fault_of r e ≡ None →
 stamps-all r e h = (accepts-parts (keeps_sets (tally_in r) e) (can_stamp_all r e.instrument) (fault_of (tally_in r) e) h).1
 
 pub recorders_hold : RecordersHold
-recorders_hold r k e fit holds fine =
-    let p = r.plan in
-    let t = tally_in r in
-    let points : (m : ℕ) → m < length p.streams → series_at r.series m ≡ points_of (shape_at p m) (arrivals p m k) = λ m l. ap (λ ss. series_at ss m) holds.0 ∙ whole-at p k m l in (
-      ext_get_or [] (series_after t e) (whole_round p (k ++ e ∷ []))
-          (length-after t e ∙ sym (length-whole p (k ++ e ∷ [])))
-          (λ m l.
-          let l' : m < length p.streams = subst (λ (n : ℕ). m < n) (length-after t e) l in
-          at-after t e m l'
-          ∙ ap (λ (es : Points). points_after (shape_at p m) p.limit es (arrivals_from m (feeds_of p e.instrument) e.attrs e.value)) (points m l')
-          ∙ more-has_point p (length p.streams) m r.series (arrivals p m k) (feeds_of p e.instrument) e.attrs e.value fit (points m l') (keeps-all r e fine)
-          ∙ ap (points_of (shape_at p m)) (sym (arrivals-push p m k e))
-          ∙ sym (whole-at p (k ++ e ∷ []) m l')),
-      ap (stamps_after p (feeds_of p e.instrument) e.attrs r.series) holds.1 ∙ stamps-push p (feeds_of p e.instrument) k e r.series fit points (λ m. arrivals-push p m k e),
-    )
+recorders_hold r k e fit holds fine = (all, ap (stamps_after p (feeds_of p e.instrument) e.attrs r.series after) holds.1 ∙ stamps-push p (feeds_of p e.instrument) k e r.series after fit points behind (λ m. arrivals-push p m k e))
+  where
+    p : Planned
+    p = r.plan
+
+    t : Tallied
+    t = tally_in r
+
+    after : List Points
+    after = series_after t e
+
+    points : (m : ℕ) → m < length p.streams → series_at r.series m ≡ points_of (shape_at p m) (arrivals p m k)
+    points m l = ap (λ ss. series_at ss m) holds.0 ∙ whole-at p k m l
+
+    behind : (m : ℕ) → m < length p.streams → series_at after m ≡ points_of (shape_at p m) (arrivals p m k ++ arrivals_from m (feeds_of p e.instrument) e.attrs e.value)
+    behind m l =
+        at-after t e m l
+        ∙ ap (λ (es : Points). points_after (shape_at p m) p.limit es (arrivals_from m (feeds_of p e.instrument) e.attrs e.value)) (points m l)
+        ∙ more-has_point p (length p.streams) m r.series (arrivals p m k) (feeds_of p e.instrument) e.attrs e.value fit (points m l) (keeps-all r e fine)
+
+    all : after ≡ whole_round p (k ++ e ∷ [])
+    all =
+        ext_get_or [] after (whole_round p (k ++ e ∷ []))
+        (length-after t e ∙ sym (length-whole p (k ++ e ∷ [])))
+        (λ m l.
+        let l' : m < length p.streams = subst (λ (n : ℕ). m < n) (length-after t e) l in
+        behind m l' ∙ ap (points_of (shape_at p m)) (sym (arrivals-push p m k e)) ∙ sym (whole-at p (k ++ e ∷ []) m l'))
 
 -- ---- what a recorder looks at
 
@@ -170,11 +176,10 @@ place-own limit es a h = by (has_point es a) refl h
     by false k o = either (has_point es a || nat_lt (own_count es) limit) (same overflow_set a o)
 
 -- a feed keeps its set, by the points of its stream as they were read
-pub keeps-here : (p : Planned) (f : Feed) (a : AttrSet) (ss : List Stored) (s : Stored) → f.stream < length ss → s ≡ get_or ss f.stream s → may_hold (shape_at p f.stream) ≡ true
+pub keeps-here : (p : Planned) (f : Feed) (a : AttrSet) (ss : List Stored) (s : Stored) → f.stream < length ss → s ≡ get_or ss f.stream s
     → fed_set p.limit s.entries (kept f.keep a) ≡ kept f.keep a → keeps_set p a (entries_of ss) f ≡ true
-keeps-here p f a ss s l was up goes =
-    ap (λ (es : Points). may_hold (shape_at p f.stream) && set_eq (fed_set p.limit es (kept f.keep a)) (kept f.keep a)) (entries-read ss f.stream s l was)
-    ∙ ap (λ b. b && set_eq (fed_set p.limit s.entries (kept f.keep a)) (kept f.keep a)) up
+keeps-here p f a ss s l was goes =
+    ap (λ (es : Points). set_eq (fed_set p.limit es (kept f.keep a)) (kept f.keep a)) (entries-read ss f.stream s l was)
     ∙ ap (λ (x : AttrSet). set_eq x (kept f.keep a)) goes
     ∙ itself (kept f.keep a)
 

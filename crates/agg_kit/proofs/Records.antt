@@ -191,10 +191,10 @@ pub found-again : (p : Planned) (b : AttrSet) (ss : List Stored) (m : ℕ) (firs
 found-again p b ss m first again limit set found i l was now e f is h =
     subst (λ (s : Stored). position (set_eq (fed_set p.limit s.entries b)) (keys_of s.entries) ≡ Some i) (sym (same-read ss m first again l was now)) (found-at p b first.entries limit set found (Some i) e f is h)
 
--- a list of no feeds
-pub no-feeds : (fs : List Feed) → (length fs == 0) ≡ true → fs ≡ []
-no-feeds [] h = refl
-no-feeds (f ∷ fs) h = let k = (unsigned_Decides (length (f ∷ fs)) 0).0 h in absurd (omega arith)
+-- a list of nothing
+pub empty-list : {X : Type 0} (xs : List X) → (length xs == 0) ≡ true → xs ≡ []
+empty-list [] h = refl
+empty-list (x ∷ xs) h = let k = (unsigned_Decides (length (x ∷ xs)) 0).0 h in absurd (omega arith)
 
 -- the one feed whose stream is known
 pub lone-is : (o : Option ℕ) (m : ℕ) (fs : List Feed) → o ≡ Some m → IfSome o (λ m. fs ≡ whole_feed m ∷ []) → fs ≡ whole_feed m ∷ []
@@ -205,7 +205,7 @@ lone-within n o m fs e h feeds = (subst (AreFeeds n) (lone-is o m fs e h) feeds)
 
 -- its stream is that of a feed which has no other beside it, and keeps all keys
 pub lone-here : (fs rest : List Feed) (f : Feed) → fs ≡ f ∷ rest → (length rest == 0) ≡ true → f.keep ≡ All → fs ≡ whole_feed f.stream ∷ []
-lone-here fs rest f is none all = is ∙ ap (λ (l : List Feed). f ∷ l) (no-feeds rest none) ∙ ap (λ (k : Keep). let g : Feed = record { stream = f.stream; keep = k } in g ∷ []) all
+lone-here fs rest f is none all = is ∙ ap (λ (l : List Feed). f ∷ l) (empty-list rest none) ∙ ap (λ (k : Keep). let g : Feed = record { stream = f.stream; keep = k } in g ∷ []) all
 
 pub if_some : {X : Type 0} (P Q : X → Type 0) (o : Option X) → ((x : X) → P x → Q x) → IfSome o P → IfSome o Q
 if_some P Q None f h = tt

@@ -1,62 +1,57 @@
 -- Each recording of a recorder that is taken in would have been accepted, one after the other.
 use Rattle.std.proofs.Common.{◌≡◌, ◌∙◌, ◌⊎◌, inl, inr, ℕ, ℤ, pos, ◌+◌, ◌+ℤ◌, ◌<◌, ◌^◌, ◌==◌, ◌||◌, ◌&&◌, not, cond, Bool, true, false, List, [], ◌∷◌, ◌++◌, Option, None, Some, length, map, filter, find, fold, is_none, if◌then◌else◌, int_lt, nat_le, refl, sym, ap, subst, arith, suc, zero, true≢false, append-nil, append_assoc, FitsSigned, w64}
 use Rattle.std.specs.Cmp.{unsigned_Decides}
-use Rattle.std.specs.List.{list_all}
-use Rattle.std.specs.Map.{lookup}
 use Rattle.std.specs.Option.{option_map, option_map_or}
 use Rattle.std.proofs.lemmas.Bool.Decides.{nat_tests}
 use Rattle.std.proofs.lemmas.Int.{ints}
-use Rattle.std.proofs.lemmas.List.{map-append, length-append}
-use Rattle.indexmap.specs.IndexMap.{insert_entry}
+use Rattle.std.proofs.lemmas.List.{length-append}
 use Rattle.attr_kit.specs.declared.attr_set.AttrSet.{AttrSet}
 use Rattle.attr_kit.specs.Keeping.{kept}
 use Rattle.attr_kit.specs.Refusing.{first, when}
-use Rattle.point_kit.specs.declared.payload.Payload.{Payload}
 use Rattle.point_kit.specs.declared.shape.Shape.{Shape}
 use Rattle.point_kit.specs.declared.shape.Shape.TheVariants as shapes
 use Rattle.point_kit.specs.declared.stream.Stream.{Stream}
 use Rattle.plan_kit.specs.Plans.{Planned, AllRise, AreFeeds, feeds_of, kind_of, only_rises, rises, stream_of}
 use Rattle.plan_kit.specs.declared.instrument.Kind.{Kind}
 use Rattle.plan_kit.specs.declared.feed.Feed.{Feed}
-use Rattle.agg_kit.specs.Absorbs.{absorb, fits, with_point, point_with}
+use Rattle.agg_kit.specs.Absorbs.{absorb, fits}
 use Rattle.agg_kit.specs.Entries.{Entry, Arrivals, arrivals, arrivals_from}
 use Rattle.agg_kit.specs.Feeding.{set_eq, own_sets, goes_to, placements, fed}
 use Rattle.agg_kit.specs.Feeds.{series_at, shape_at}
 use Rattle.agg_kit.specs.Laws.{is_gauge}
 use Rattle.agg_kit.specs.Measuring.{after_measure, fault_of, is_over}
 use Rattle.agg_kit.specs.Payloads.{total, fits_sum, is_out_of_range, payload_of}
-use Rattle.agg_kit.specs.Recorders.{Recorded, tally_in, recorder_after, empty_recorder, Holds, may_hold, keeps_set, record_fault_of, as_record_fault, with_recorder, first_unfit, absorb_fault}
+use Rattle.agg_kit.specs.Reaches.{may_fall}
+use Rattle.agg_kit.specs.Recorders.{Recorded, tally_in, recorder_after, empty_recorder, whole_round, Holds, record_fault_of, as_record_fault, with_recorder, first_unfit, absorb_fault}
 use Rattle.agg_kit.specs.Refusals.{is_negative_for, overflows, first_refusal}
 use Rattle.agg_kit.specs.Rounds.{values_of, points_of, StandsFor}
-use Rattle.agg_kit.specs.Stamps.{Stamped, stamps_at, stamped_of, stamps_of, absorb_stamped}
-use Rattle.agg_kit.specs.Steps.{fed_set}
+use Rattle.agg_kit.specs.Stamps.{Stamped, stamps_at, stamped_of, stamps_of, absorb_stamped, fits_on_way}
 use Rattle.agg_kit.specs.Tallies.{Points, Tallied}
 use Rattle.agg_kit.specs.Taken.{AreTaken, FeedsRise, Rises, AreRecorded, HasRecorded, RecordersHave, AbsorbedAreTaken}
 use Rattle.agg_kit.specs.declared.fault.TallyFault.{TallyFault}
 use Rattle.agg_kit.specs.declared.fault.TallyFault.TheVariants as faults
 use Rattle.agg_kit.proofs.Distinct.{or-no, same}
-use Rattle.agg_kit.proofs.Inserts.{lookup-here, lookup-other}
-use Rattle.agg_kit.proofs.Limits.{not-true, not-false, moved, same-fed, placements-push}
+use Rattle.agg_kit.proofs.Falls.{InPoints, falls-in, fits-in, none-in, points-in, values-in}
+use Rattle.agg_kit.proofs.Limits.{not-false, moved, placements-push}
 use Rattle.agg_kit.proofs.Parts.{fits-signed, signed-fits}
-use Rattle.agg_kit.proofs.Payloads.{total-push}
-use Rattle.agg_kit.proofs.Points.{payload-is, values-push}
-use Rattle.agg_kit.proofs.Recorders.{holds-none, recorders_hold, absorbing_is_recording, absorb-unstamped, stamps-stream, keeps-all, stamps-all, record-as_record_fault, at-series_with, at-stream, length-whole, both, keeps-first, keeps-rest, keeps-may}
+use Rattle.agg_kit.proofs.Points.{values-push}
+use Rattle.agg_kit.proofs.Recorders.{holds-none, recorders_hold, absorbing_is_recording, absorb-unstamped, stamps-stream, keeps-all, stamps-all, record-as_record_fault, at-series_with, at-stream, at-whole, length-whole, both}
 use Rattle.agg_kit.proofs.Numbers.{length-stamps}
 use Rattle.agg_kit.proofs.Refusals.{Every}
-use Rattle.agg_kit.proofs.RoundLaws.{grown, goes-on}
 use Rattle.agg_kit.proofs.Rounds.{within, shape-is, length-round, arrivals-append, arrivals-push, arrivals_from-none}
+use Rattle.agg_kit.proofs.Sums.{fed-later, total-append, total-cons, values-append}
 
 -- ---- values that are not below 0
 
-abbrev NoneBelow : List ℤ → Type 0
+abbrev pub NoneBelow : List ℤ → Type 0
 NoneBelow [] = Unit {0}
 NoneBelow (v ∷ vs) = (int_lt v (pos 0) ≡ false) × NoneBelow vs
 
-abbrev AreRising : Arrivals → Type 0
+abbrev pub AreRising : Arrivals → Type 0
 AreRising [] = Unit {0}
 AreRising (x ∷ xs) = (int_lt x.1 (pos 0) ≡ false) × AreRising xs
 
-values-rise : (xs : Arrivals) (a : AttrSet) → AreRising xs → NoneBelow (values_of xs a)
+pub values-rise : (xs : Arrivals) (a : AttrSet) → AreRising xs → NoneBelow (values_of xs a)
 values-rise [] a r = tt
 values-rise (x ∷ xs) a r = by (set_eq a x.0) (values-rise xs a r.1)
   where
@@ -72,7 +67,7 @@ append-rise : (xs ys : Arrivals) → AreRising xs → AreRising ys → AreRising
 append-rise [] ys r s = s
 append-rise (x ∷ xs) ys r s = (r.0, append-rise xs ys r.1 s)
 
-arrivals_from-rise : (p : Planned) (m : ℕ) (fs : List Feed) (a : AttrSet) (v : ℤ) → is_gauge (shape_at p m) ≡ false → FeedsRise p fs v → AreRising (arrivals_from m fs a v)
+arrivals_from-rise : (p : Planned) (m : ℕ) (fs : List Feed) (a : AttrSet) (v : ℤ) → rises (shape_at p m) ≡ true → FeedsRise p fs v → AreRising (arrivals_from m fs a v)
 arrivals_from-rise p m [] a v g r = tt
 arrivals_from-rise p m (f ∷ fs) a v g r = by (f.stream == m) refl (arrivals_from-rise p m fs a v g r.1)
   where
@@ -80,32 +75,20 @@ arrivals_from-rise p m (f ∷ fs) a v g r = by (f.stream == m) refl (arrivals_fr
     all b = map (λ f. (kept f.keep a, v)) (cond b (f ∷ filter (λ f. f.stream == m) fs) (filter (λ f. f.stream == m) fs))
 
     by : (b : Bool) → (f.stream == m) ≡ b → AreRising (arrivals_from m fs a v) → AreRising (all b)
-    by true e rest = (r.0 (ap (λ (n : ℕ). is_gauge (shape_at p n)) ((unsigned_Decides f.stream m).0 e) ∙ g), rest)
+    by true e rest = (r.0 (ap (λ (n : ℕ). rises (shape_at p n)) ((unsigned_Decides f.stream m).0 e) ∙ g), rest)
     by false e rest = rest
 
-recorded-rise : (p : Planned) (r : Recorded) (k : List Entry) (m : ℕ) → r.plan ≡ p → is_gauge (shape_at p m) ≡ false → AreRecorded r k → AreRising (arrivals p m k)
+pub recorded-rise : (p : Planned) (r : Recorded) (k : List Entry) (m : ℕ) → r.plan ≡ p → rises (shape_at p m) ≡ true → AreRecorded r k → AreRising (arrivals p m k)
 recorded-rise p r [] m is g rec = tt
 recorded-rise p r (e ∷ k) m is g rec =
     append-rise (arrivals_from m (feeds_of p e.instrument) e.attrs e.value) (arrivals p m k)
     (arrivals_from-rise p m (feeds_of p e.instrument) e.attrs e.value g (subst (λ (q : Planned). Rises q e) is rec.1))
     (recorded-rise p (recorder_after r e) k m is g rec.2)
 
-total-append : (vs ws : List ℤ) → total (vs ++ ws) ≡ total vs +ℤ total ws
-total-append vs = grown (λ ws. total (vs ++ ws) ≡ total vs +ℤ total ws) (ap total (append-nil vs) ∙ omega (arith, ints)) push
-  where
-    push : (ws : List ℤ) (w : ℤ) → total (vs ++ ws) ≡ total vs +ℤ total ws → total (vs ++ (ws ++ w ∷ [])) ≡ total vs +ℤ total (ws ++ w ∷ [])
-    push ws w h =
-        let a : total ((vs ++ ws) ++ w ∷ []) ≡ total (vs ++ ws) +ℤ w = total-push (vs ++ ws) w in
-        let b : total (ws ++ w ∷ []) ≡ total ws +ℤ w = total-push ws w in
-        ap total (sym (append_assoc vs ws (w ∷ []))) ∙ omega (arith, ints)
-
-total-cons : (w : ℤ) (vs : List ℤ) → total (w ∷ vs) ≡ w +ℤ total vs
-total-cons w = grown (λ vs. total (w ∷ vs) ≡ w +ℤ total vs) (omega (arith, ints)) (λ vs v h. let a = total-push (w ∷ vs) v in let b = total-push vs v in omega (arith, ints))
-
 not-below : (s v : ℤ) → int_lt s (pos 0) ≡ false → int_lt v (pos 0) ≡ false → int_lt (s +ℤ v) (pos 0) ≡ false
 not-below s v h k = grind (arith, ints)
 
-total-rise : (vs : List ℤ) → NoneBelow vs → int_lt (total vs) (pos 0) ≡ false
+pub total-rise : (vs : List ℤ) → NoneBelow vs → int_lt (total vs) (pos 0) ≡ false
 total-rise [] r = refl
 total-rise (v ∷ vs) r = subst (λ (n : ℤ). int_lt n (pos 0) ≡ false) (sym (total-cons v vs)) (not-below v (total vs) r.0 (total-rise vs r.1))
 
@@ -142,23 +125,6 @@ payload-between (shapes.Histogram bounds) vs ws us r s low high =
 
 -- ---- what lists bring, one after the other
 
-values-append : (xs ys : Arrivals) (a : AttrSet) → values_of (xs ++ ys) a ≡ values_of xs a ++ values_of ys a
-values-append [] ys a = refl
-values-append (x ∷ xs) ys a = by (set_eq a x.0) (values-append xs ys a)
-  where
-    by : (t : Bool) → values_of (xs ++ ys) a ≡ values_of xs a ++ values_of ys a
-        → map (λ (x : AttrSet × ℤ). x.1) (cond t (x ∷ filter (λ x. set_eq a x.0) (xs ++ ys)) (filter (λ x. set_eq a x.0) (xs ++ ys)))
-        ≡ map (λ (x : AttrSet × ℤ). x.1) (cond t (x ∷ filter (λ x. set_eq a x.0) xs) (filter (λ x. set_eq a x.0) xs)) ++ values_of ys a
-    by true h = ap (λ l. x.1 ∷ l) h
-    by false h = h
-
--- what was fed before, and what is fed after
-fed-later : (limit : ℕ) (xs ys : Arrivals) → placements limit (xs ++ ys) ≡ placements limit xs ++ moved (goes_to (own_sets limit (xs ++ ys))) ys
-fed-later limit xs ys =
-    let now = goes_to (own_sets limit (xs ++ ys)) in
-    map-append (λ (x : AttrSet × ℤ). let p : AttrSet × ℤ = (now x.0, x.1) in p) xs ys
-    ∙ ap (λ l. l ++ moved now ys) (same-fed xs now (goes_to (own_sets limit xs)) (goes-on limit xs ys))
-
 fed-between : (shape : Shape) (limit : ℕ) (xs ys zs : Arrivals) (a : AttrSet) → AreRising ys → AreRising zs → is_out_of_range (payload_of shape (values_of (placements limit xs) a)) ≡ false
     → is_out_of_range (payload_of shape (values_of (placements limit ((xs ++ ys) ++ zs)) a)) ≡ false → is_out_of_range (payload_of shape (values_of (placements limit (xs ++ ys)) a)) ≡ false
 fed-between shape limit xs ys zs a r s low high =
@@ -174,17 +140,17 @@ fed-between shape limit xs ys zs a r s low high =
     ∙ payload-between shape vs ws us (values-rise (moved g ys) a (moved-rise g ys r)) (values-rise (moved f zs) a (moved-rise f zs s)) low (ap (λ l. is_out_of_range (payload_of shape l)) (sym two) ∙ high)
 
 -- every point that recordings come to is in range
-abbrev InRange : Planned → List Entry → Type 0
+abbrev pub InRange : Planned → List Entry → Type 0
 InRange p h = (m : ℕ) (s : Stream) (a : AttrSet) → stream_of p m ≡ Some s → is_out_of_range (payload_of s.shape (values_of (placements p.limit (arrivals p m h)) a)) ≡ false
 
-out-gauge : (shape : Shape) (vs : List ℤ) → is_gauge shape ≡ true → is_out_of_range (payload_of shape vs) ≡ false
-out-gauge (shapes.Sum m) vs g = absurd (true≢false (sym g))
-out-gauge shapes.Gauge vs g = refl
-out-gauge (shapes.Histogram bounds) vs g = absurd (true≢false (sym g))
+-- of sums that may fall every point is so after each part of the recordings k
+abbrev OnWay : Planned → List Entry → List Entry → Type 0
+OnWay p h k = (j rest : List Entry) → j ++ rest ≡ k → (m : ℕ) (s : Stream) (a : AttrSet) → stream_of p m ≡ Some s → may_fall s.shape ≡ true
+    → is_out_of_range (payload_of s.shape (values_of (placements p.limit (arrivals p m (h ++ j))) a)) ≡ false
 
-range-between : (p : Planned) (h : List Entry) (e : Entry) (k : List Entry) → ((m : ℕ) → is_gauge (shape_at p m) ≡ false → AreRising (arrivals_from m (feeds_of p e.instrument) e.attrs e.value))
-    → ((m : ℕ) → is_gauge (shape_at p m) ≡ false → AreRising (arrivals p m k)) → InRange p h → InRange p ((h ++ e ∷ []) ++ k) → InRange p (h ++ e ∷ [])
-range-between p h e k one more low high m s a at = by (is_gauge s.shape) refl
+range-between : (p : Planned) (h : List Entry) (e : Entry) (k : List Entry) → ((m : ℕ) → rises (shape_at p m) ≡ true → AreRising (arrivals_from m (feeds_of p e.instrument) e.attrs e.value))
+    → ((m : ℕ) → rises (shape_at p m) ≡ true → AreRising (arrivals p m k)) → OnWay p h (e ∷ k) → InRange p h → InRange p ((h ++ e ∷ []) ++ k) → InRange p (h ++ e ∷ [])
+range-between p h e k one more way low high m s a at = by s.shape refl
   where
     xs : Arrivals
     xs = arrivals p m h
@@ -195,13 +161,21 @@ range-between p h e k one more low high m s a at = by (is_gauge s.shape) refl
     zs : Arrivals
     zs = arrivals p m k
 
-    by : (b : Bool) → is_gauge s.shape ≡ b → is_out_of_range (payload_of s.shape (values_of (placements p.limit (arrivals p m (h ++ e ∷ []))) a)) ≡ false
-    by true g = out-gauge s.shape (values_of (placements p.limit (arrivals p m (h ++ e ∷ []))) a) g
-    by false g =
-        let g' : is_gauge (shape_at p m) ≡ false = ap is_gauge (shape-is p m s at) ∙ g in
+    IsIn : Shape → Type 0
+    IsIn shape = is_out_of_range (payload_of shape (values_of (placements p.limit (arrivals p m (h ++ e ∷ []))) a)) ≡ false
+
+    risen : rises s.shape ≡ true → IsIn s.shape
+    risen up =
+        let g : rises (shape_at p m) ≡ true = ap rises (shape-is p m s at) ∙ up in
         ap (λ l. is_out_of_range (payload_of s.shape (values_of (placements p.limit l) a))) (arrivals-push p m h e)
-        ∙ fed-between s.shape p.limit xs ys zs a (one m g') (more m g') (low m s a at)
+        ∙ fed-between s.shape p.limit xs ys zs a (one m g) (more m g) (low m s a at)
         (ap (λ l. is_out_of_range (payload_of s.shape (values_of (placements p.limit l) a))) (sym (arrivals-append p m (h ++ e ∷ []) k ∙ ap (λ l. l ++ zs) (arrivals-push p m h e))) ∙ high m s a at)
+
+    by : (shape : Shape) → s.shape ≡ shape → IsIn s.shape
+    by (shapes.Sum true) is = risen (ap rises is)
+    by (shapes.Sum false) is = way (e ∷ []) k refl m s a at (ap may_fall is)
+    by shapes.Gauge is = subst IsIn (sym is) refl
+    by (shapes.Histogram bounds) is = risen (ap rises is)
 
 -- ---- one recording that is accepted
 
@@ -252,16 +226,18 @@ fits-instrument r e h =
 
 -- ---- all of them
 
-taken-all : (p : Planned) (h k : List Entry) (r : Recorded) → r.plan ≡ p → AreRecorded r k → InRange p h → InRange p (h ++ k) → AreTaken p h k
-taken-all p h [] r is rec low high = tt
-taken-all p h (e ∷ k) r is rec low high =
+taken-all : (p : Planned) (h k : List Entry) (r : Recorded) → r.plan ≡ p → AreRecorded r k → OnWay p h k → InRange p h → InRange p (h ++ k) → AreTaken p h k
+taken-all p h [] r is rec way low high = tt
+taken-all p h (e ∷ k) r is rec way low high =
     let whole : InRange p ((h ++ e ∷ []) ++ k) = subst (InRange p) (sym (append_assoc h (e ∷ []) k)) high in
-    let one : (m : ℕ) → is_gauge (shape_at p m) ≡ false → AreRising (arrivals_from m (feeds_of p e.instrument) e.attrs e.value) =
+    let one : (m : ℕ) → rises (shape_at p m) ≡ true → AreRising (arrivals_from m (feeds_of p e.instrument) e.attrs e.value) =
     λ m g. arrivals_from-rise p m (feeds_of p e.instrument) e.attrs e.value g (subst (λ (q : Planned). Rises q e) is rec.1) in
-    let middle : InRange p (h ++ e ∷ []) = range-between p h e k one (λ m g. recorded-rise p (recorder_after r e) k m is g rec.2) low whole in
+    let middle : InRange p (h ++ e ∷ []) = range-between p h e k one (λ m g. recorded-rise p (recorder_after r e) k m is g rec.2) way low whole in
     let parts : (is_none (kind_of p e.instrument) ≡ false) × (is_negative_for (kind_of p e.instrument) e.value ≡ false) =
     subst (λ (q : Planned). (is_none (kind_of q e.instrument) ≡ false) × (is_negative_for (kind_of q e.instrument) e.value ≡ false)) is (fits-instrument (tally_in r) e (record-none r e rec.0)) in
-    (accepted p h e parts.0 parts.1 middle, taken-all p (h ++ e ∷ []) k (recorder_after r e) is rec.2 middle whole)
+    let on : OnWay p (h ++ e ∷ []) k = λ j rest all m s a at falls.
+    subst (λ (l : List Entry). is_out_of_range (payload_of s.shape (values_of (placements p.limit (arrivals p m l)) a)) ≡ false) (sym (append_assoc h (e ∷ []) j)) (way (e ∷ j) rest (ap (λ l. e ∷ l) all) m s a at falls) in
+    (accepted p h e parts.0 parts.1 middle, taken-all p (h ++ e ∷ []) k (recorder_after r e) is rec.2 on middle whole)
 
 -- ---- accepted recordings come to points in range
 
@@ -350,95 +326,111 @@ range-push p h e fit low none m s a at =
         ap (λ l. is_out_of_range (payload_of s.shape (values_of (placements p.limit (xs ++ l)) a))) one.3
         ∙ at-set s.shape p.limit xs b a e.value (low m s a at) (fed-in p (h ++ e ∷ []) e.attrs one.0 m s now one.1 one.2 at there)
 
-none-in : (shape : Shape) → is_out_of_range (payload_of shape []) ≡ false
-none-in (shapes.Sum m) = refl
-none-in shapes.Gauge = refl
-none-in (shapes.Histogram bounds) = refl
-
-taken-in : (p : Planned) → ((i : ℕ) → AreFeeds (length p.streams) (feeds_of p i)) → (h k : List Entry) → InRange p h → AreTaken p h k → InRange p (h ++ k)
+pub taken-in : (p : Planned) → ((i : ℕ) → AreFeeds (length p.streams) (feeds_of p i)) → (h k : List Entry) → InRange p h → AreTaken p h k → InRange p (h ++ k)
 taken-in p fit h [] low t = subst (InRange p) (sym (append-nil h)) low
 taken-in p fit h (e ∷ k) low t = subst (InRange p) (append_assoc h (e ∷ []) k) (taken-in p fit (h ++ e ∷ []) k (range-push p h e (fit e.instrument) low t.0) t.1)
 
 -- ---- points that are taken in stay in range
 
-abbrev InPoints : Points → Type 0
-InPoints es = (a : AttrSet) (q : Payload) → lookup (set_eq a) es ≡ Some q → is_out_of_range q ≡ false
-
-some-is : (x y : Payload) → Some x ≡ Some y → x ≡ y
-some-is x y e = ap (λ (o : Option Payload). option_map_or (λ t. t) o x) e
-
-put-in : (es : Points) (b : AttrSet) (q : Payload) → InPoints es → is_out_of_range q ≡ false → InPoints (insert_entry set_eq es b q)
-put-in es b q all fine a x is = by (set_eq a b) refl
+pub unfit-none : (n limit : ℕ) (ess mss : List Points) (nss : List Stamped) (m : ℕ) → first_unfit n limit ess mss nss ≡ None → m < length ess → m < length mss → m < length nss
+    → fits_on_way limit (series_at ess m) (series_at mss m) (stamps_at nss m).reaches ≡ true
+unfit-none n limit [] mss nss m h k l o = absurd (omega (arith, k))
+unfit-none n limit (es ∷ ess) [] nss m h k l o = absurd (omega (arith, l))
+unfit-none n limit (es ∷ ess) (ms ∷ mss) [] m h k l o = absurd (omega (arith, o))
+unfit-none n limit (es ∷ ess) (ms ∷ mss) (ns ∷ nss) m h k l o = at (λ m rest k l o. unfit-none (n + 1) limit ess mss nss m rest k l o) m k l o (first-fits (fits_on_way limit es ms ns.reaches) refl h)
   where
-    by : (t : Bool) → set_eq a b ≡ t → is_out_of_range x ≡ false
-    by true e = ap (λ (y : Payload). is_out_of_range y) (sym (some-is q x (sym (lookup-here es b q) ∙ ap (λ (c : AttrSet). lookup (set_eq c) (insert_entry set_eq es b q)) (sym (same a b e)) ∙ is))) ∙ fine
-    by false e = all a x (sym (lookup-other es a b q e) ∙ is)
-
-fits-in : (limit : ℕ) (es ms : Points) → InPoints es → fits limit es ms ≡ true → InPoints (absorb limit es ms)
-fits-in limit es [] all h = all
-fits-in limit es (e ∷ ms) all h =
-    let b = fed_set limit es e.0 in
-    let k = both (not (is_out_of_range (point_with es b e.1))) (fits limit (with_point limit es e) ms) h in
-    fits-in limit (with_point limit es e) ms (put-in es b (point_with es b e.1) all (not-true (is_out_of_range (point_with es b e.1)) k.0)) k.1
-
-points-in : (shape : Shape) (ps : Arrivals) → ((a : AttrSet) → is_out_of_range (payload_of shape (values_of ps a)) ≡ false) → InPoints (points_of shape ps)
-points-in shape ps all a q is =
-    ap (λ (x : Payload). is_out_of_range x) (ap (λ o. option_map_or (λ t. t) o (payload_of shape [])) (sym is) ∙ payload-is shape ps a) ∙ all a
-
-values-in : (shape : Shape) (ps : Arrivals) (a : AttrSet) → InPoints (points_of shape ps) → is_out_of_range (payload_of shape (values_of ps a)) ≡ false
-values-in shape ps a all = ap (λ (x : Payload). is_out_of_range x) (sym (payload-is shape ps a)) ∙ by (lookup (set_eq a) (points_of shape ps)) refl
-  where
-    by : (o : Option Payload) → lookup (set_eq a) (points_of shape ps) ≡ o → is_out_of_range (option_map_or (λ t. t) o (payload_of shape [])) ≡ false
-    by None e = none-in shape
-    by (Some q) e = all a q e
-
-unfit-none : (n limit : ℕ) (ess mss : List Points) (m : ℕ) → first_unfit n limit ess mss ≡ None → m < length ess → m < length mss → fits limit (series_at ess m) (series_at mss m) ≡ true
-unfit-none n limit [] mss m h k l = absurd (omega (arith, k))
-unfit-none n limit (es ∷ ess) [] m h k l = absurd (omega (arith, l))
-unfit-none n limit (es ∷ ess) (ms ∷ mss) m h k l = at (λ m rest k l. unfit-none (n + 1) limit ess mss m rest k l) m k l (first-fits (fits limit es ms) refl h)
-  where
-    first-fits : (b : Bool) → fits limit es ms ≡ b → (if b then first_unfit (n + 1) limit ess mss else Some n) ≡ None → (fits limit es ms ≡ true) × (first_unfit (n + 1) limit ess mss ≡ None)
+    first-fits : (b : Bool) → fits_on_way limit es ms ns.reaches ≡ b → (if b then first_unfit (n + 1) limit ess mss nss else Some n) ≡ None → (fits_on_way limit es ms ns.reaches ≡ true) × (first_unfit (n + 1) limit ess mss nss ≡ None)
     first-fits true f rest = (f, rest)
     first-fits false f rest = absurd (cc)
 
-    at : ((m : ℕ) → first_unfit (n + 1) limit ess mss ≡ None → m < length ess → m < length mss → fits limit (series_at ess m) (series_at mss m) ≡ true)
-        → (m : ℕ) → m < suc (length ess) → m < suc (length mss) → (fits limit es ms ≡ true) × (first_unfit (n + 1) limit ess mss ≡ None) → fits limit (series_at (es ∷ ess) m) (series_at (ms ∷ mss) m) ≡ true
-    at go zero k l f = f.0
-    at go (suc m) k l f = go m f.1 (omega (arith, k)) (omega (arith, l))
+    at : ((m : ℕ) → first_unfit (n + 1) limit ess mss nss ≡ None → m < length ess → m < length mss → m < length nss → fits_on_way limit (series_at ess m) (series_at mss m) (stamps_at nss m).reaches ≡ true)
+        → (m : ℕ) → m < suc (length ess) → m < suc (length mss) → m < suc (length nss) → (fits_on_way limit es ms ns.reaches ≡ true) × (first_unfit (n + 1) limit ess mss nss ≡ None)
+        → fits_on_way limit (series_at (es ∷ ess) m) (series_at (ms ∷ mss) m) (stamps_at (ns ∷ nss) m).reaches ≡ true
+    at go zero k l o f = f.0
+    at go (suc m) k l o f = go m f.1 (omega (arith, k)) (omega (arith, l)) (omega (arith, o))
 
 absorb-none : (o : Option ℕ) → option_map (λ (m : ℕ). faults.Overflow m) o ≡ None → o ≡ None
 absorb-none None h = refl
 absorb-none (Some m) h = absurd (cc)
 
-whole-in : (t : Tallied) (r : Recorded) (h k : List Entry) → r.plan ≡ t.plan → Holds r k → StandsFor t h → InRange t.plan h → absorb_fault t r ≡ None
-    → StandsFor (with_recorder t r) (h ++ k) → InRange t.plan (h ++ k)
-whole-in t r h k alike holds stands low fits_all after m s a at = by (is_gauge s.shape) refl
-  where
-    p : Planned
-    p = t.plan
+-- a tally and a recorder that it may take in, stream by stream
+module _ (t : Tallied) (r : Recorded) (h k : List Entry) (alike : r.plan ≡ t.plan) (holds : Holds r k) (stands : StandsFor t h) where
+  abbrev pub p : Planned
+  p = t.plan
 
-    long : length r.series ≡ length p.streams
-    long = ap length holds.0 ∙ length-whole r.plan k ∙ ap (λ (q : Planned). length q.streams) alike
+  long : length r.series ≡ length p.streams
+  long = ap length holds.0 ∙ length-whole r.plan k ∙ ap (λ (q : Planned). length q.streams) alike
 
-    far : length r.stamps ≡ length p.streams
-    far = ap length holds.1 ∙ length-stamps r.plan k ∙ ap (λ (q : Planned). length q.streams) alike
+  far : length r.stamps ≡ length p.streams
+  far = ap length holds.1 ∙ length-stamps r.plan k ∙ ap (λ (q : Planned). length q.streams) alike
 
-    by : (b : Bool) → is_gauge s.shape ≡ b → is_out_of_range (payload_of s.shape (values_of (placements p.limit (arrivals p m (h ++ k))) a)) ≡ false
-    by true g = out-gauge s.shape (values_of (placements p.limit (arrivals p m (h ++ k))) a) g
-    by false g =
-        let less : m < length p.streams = within p.streams m s at in
-        let here : m < length t.series = subst (λ (n : ℕ). m < n) (sym (ap length stands ∙ length-round p h)) less in
-        let other : m < length r.series = subst (λ (n : ℕ). m < n) (sym long) less in
-        let third : m < length r.stamps = subst (λ (n : ℕ). m < n) (sym far) less in
-        let fine : fits p.limit (series_at t.series m) (series_at r.series m) ≡ true =
-        unfit-none 0 p.limit t.series r.series m (absorb-none (first_unfit 0 p.limit t.series r.series) fits_all) here other in
-        let was : series_at t.series m ≡ points_of s.shape (placements p.limit (arrivals p m h)) = ap (λ l. series_at l m) stands ∙ at-stream p h m s at in
-        let none : stamps_at r.stamps m ≡ stamped_of s.shape (arrivals p m k) = ap (λ l. stamps_at l m) (holds.1 ∙ ap (λ (q : Planned). stamps_of q k) alike) ∙ stamps-stream p k m s at in
+  module _ (m : ℕ) (s : Stream) (at : stream_of p m ≡ Some s) where
+    less : m < length p.streams
+    less = within p.streams m s at
+
+    here : m < length t.series
+    here = subst (λ (n : ℕ). m < n) (sym (ap length stands ∙ length-round p h)) less
+
+    other : m < length r.series
+    other = subst (λ (n : ℕ). m < n) (sym long) less
+
+    third : m < length r.stamps
+    third = subst (λ (n : ℕ). m < n) (sym far) less
+
+    pub points-before : series_at t.series m ≡ points_of s.shape (placements p.limit (arrivals p m h))
+    points-before = ap (λ l. series_at l m) stands ∙ at-stream p h m s at
+
+    pub points-more : series_at r.series m ≡ points_of s.shape (arrivals p m k)
+    points-more = ap (λ l. series_at l m) (holds.0 ∙ ap (λ (q : Planned). whole_round q k) alike) ∙ at-whole p k m s at
+
+    pub beside : stamps_at r.stamps m ≡ stamped_of s.shape (arrivals p m k)
+    beside = ap (λ l. stamps_at l m) (holds.1 ∙ ap (λ (q : Planned). stamps_of q k) alike) ∙ stamps-stream p k m s at
+
+    -- the points of the stream fit
+    pub stream-fits : absorb_fault t r ≡ None → fits_on_way p.limit (series_at t.series m) (series_at r.series m) (stamps_at r.stamps m).reaches ≡ true
+    stream-fits none = unfit-none 0 p.limit t.series r.series r.stamps m (absorb-none (first_unfit 0 p.limit t.series r.series r.stamps) none) here other third
+
+    whole-stream : InRange p h → absorb_fault t r ≡ None → StandsFor (with_recorder t r) (h ++ k) → is_gauge s.shape ≡ false → (a : AttrSet) → is_out_of_range (payload_of s.shape (values_of (placements p.limit (arrivals p m (h ++ k))) a)) ≡ false
+    whole-stream low none after g a =
+        let fine : fits p.limit (series_at t.series m) (series_at r.series m) ≡ true = (both (fits p.limit (series_at t.series m) (series_at r.series m)) _ (stream-fits none)).0 in
         let is : absorb p.limit (series_at t.series m) (series_at r.series m) ≡ points_of s.shape (placements p.limit (arrivals p m (h ++ k))) =
-        sym (ap (λ (n : Stamped). absorb_stamped p.limit (series_at t.series m) (series_at r.series m) n.stamps) none ∙ absorb-unstamped s.shape p.limit (series_at t.series m) (series_at r.series m) (arrivals p m k) g)
+        sym (ap (λ (n : Stamped). absorb_stamped p.limit (series_at t.series m) (series_at r.series m) n.stamps) beside ∙ absorb-unstamped s.shape p.limit (series_at t.series m) (series_at r.series m) (arrivals p m k) g)
         ∙ sym (at-series_with p.limit t.series r.series r.stamps m here other third) ∙ ap (λ l. series_at l m) after ∙ at-stream p (h ++ k) m s at in
-        let start : InPoints (series_at t.series m) = subst InPoints (sym was) (points-in s.shape (placements p.limit (arrivals p m h)) (λ b. low m s b at)) in
+        let start : InPoints (series_at t.series m) = subst InPoints (sym points-before) (points-in s.shape (placements p.limit (arrivals p m h)) (λ b. low m s b at)) in
         values-in s.shape (placements p.limit (arrivals p m (h ++ k))) a (subst InPoints is (fits-in p.limit (series_at t.series m) (series_at r.series m) start fine))
+
+    -- of a sum that may fall each sum on the way is in range
+    way-stream : InRange p h → absorb_fault t r ≡ None → may_fall s.shape ≡ true → (j rest : List Entry) → j ++ rest ≡ k → (a : AttrSet) → is_out_of_range (payload_of s.shape (values_of (placements p.limit (arrivals p m (h ++ j))) a)) ≡ false
+    way-stream low none falls j rest all a = by s.shape refl falls
+      where
+        IsIn : Shape → Type 0
+        IsIn shape = is_out_of_range (payload_of shape (values_of (placements p.limit (arrivals p m (h ++ j))) a)) ≡ false
+
+        by : (shape : Shape) → s.shape ≡ shape → may_fall shape ≡ true → IsIn s.shape
+        by (shapes.Sum true) is f = absurd (true≢false (sym f))
+        by (shapes.Sum false) is f =
+            let fine : fits_on_way p.limit (points_of (shapes.Sum false) (placements p.limit (arrivals p m h))) (points_of (shapes.Sum false) (arrivals p m k)) (stamped_of (shapes.Sum false) (arrivals p m k)).reaches ≡ true =
+            (λ i. fits_on_way p.limit (points_of (sym is i) (placements p.limit (arrivals p m h))) (points_of (sym is i) (arrivals p m k)) (stamped_of (sym is i) (arrivals p m k)).reaches)
+            ∙ (λ i. fits_on_way p.limit (sym points-before i) (sym points-more i) (sym beside i).reaches) ∙ stream-fits none in
+            let start : (b : AttrSet) → is_out_of_range (payload_of (shapes.Sum false) (values_of (placements p.limit (arrivals p m h)) b)) ≡ false =
+            λ b. ap (λ (x : Shape). is_out_of_range (payload_of x (values_of (placements p.limit (arrivals p m h)) b))) (sym is) ∙ low m s b at in
+            subst IsIn (sym is) (ap (λ l. is_out_of_range (payload_of (shapes.Sum false) (values_of (placements p.limit l) a))) (arrivals-append p m h j) ∙ falls-in p.limit (arrivals p m h) (arrivals p m k) (arrivals p m j) (arrivals p m rest) a (ap (arrivals p m) (sym all) ∙ arrivals-append p m j rest) start fine)
+        by shapes.Gauge is f = absurd (true≢false (sym f))
+        by (shapes.Histogram bounds) is f = absurd (true≢false (sym f))
+
+  whole-in : InRange p h → absorb_fault t r ≡ None → StandsFor (with_recorder t r) (h ++ k) → InRange p (h ++ k)
+  whole-in low none after m s a at = by s.shape refl
+    where
+      IsIn : Shape → Type 0
+      IsIn shape = is_out_of_range (payload_of shape (values_of (placements p.limit (arrivals p m (h ++ k))) a)) ≡ false
+
+      by : (shape : Shape) → s.shape ≡ shape → IsIn s.shape
+      by (shapes.Sum b) is = whole-stream m s at low none after (ap is_gauge is) a
+      by shapes.Gauge is = subst IsIn (sym is) refl
+      by (shapes.Histogram bounds) is = whole-stream m s at low none after (ap is_gauge is) a
+
+  on-way : InRange p h → absorb_fault t r ≡ None → OnWay p h k
+  on-way low none j rest all m s a at falls = way-stream m s at low none falls j rest all a
 
 -- ---- what a recorder recorded
 
@@ -470,7 +462,7 @@ pub recorded_none : (p : Planned) → HasRecorded (empty_recorder p) []
 recorded_none p = record { each = tt; all = refl }
 
 -- nothing is out of range where nothing is recorded
-range-none : (p : Planned) → InRange p []
+pub range-none : (p : Planned) → InRange p []
 range-none p m s a at = none-in s.shape
 
 pub series_with_taken : AbsorbedAreTaken
@@ -480,14 +472,9 @@ series_with_taken t r h k alike fit stands taken has fits_all =
     let after : StandsFor (with_recorder t r) (h ++ k) = absorbing_is_recording t r h k alike stands holds in
     let low : InRange p h = taken-in p fit [] h (range-none p) taken in
     let high : InRange p (h ++ k) = whole-in t r h k alike holds stands low fits_all after in
-    (taken-all p h k (empty_recorder r.plan) alike has.each low high, after)
+    (taken-all p h k (empty_recorder r.plan) alike has.each (on-way t r h k alike holds stands low fits_all) low high, after)
 
-may-rise : (shape : Shape) → may_hold shape ≡ true → is_gauge shape ≡ false → rises shape ≡ true
-may-rise (shapes.Sum m) h g = h
-may-rise shapes.Gauge h g = absurd (true≢false g)
-may-rise (shapes.Histogram bounds) h g = refl
-
--- where a feed's stream is no gauge, its instrument takes no value below 0
+-- where totals of a feed's stream only rise, its instrument takes no value below 0
 pub accepted-rises : (r : Recorded) (e : Entry) → ((k : Kind) → kind_of r.plan e.instrument ≡ Some k → AllRise r.plan k (feeds_of r.plan e.instrument)) → record_fault_of r e ≡ None → Rises r.plan e
 accepted-rises r e all none = at-kind (kind_of p e.instrument) refl parts.0 parts.1
   where
@@ -506,18 +493,13 @@ accepted-rises r e all none = at-kind (kind_of p e.instrument) refl parts.0 part
     at-stream-of None m k at up h = absurd (true≢false (sym up))
     at-stream-of (Some s) m k at up h = h s at up
 
-    each : (k : Kind) (fs : List Feed) → list_all (keeps_set p e.attrs r.series) fs ≡ true → AllRise p k fs → (only_rises k && int_lt e.value (pos 0)) ≡ false → FeedsRise p fs e.value
-    each k [] keeps rise b = tt
-    each k (f ∷ fs) keeps rise b = (
-      λ g.
-          let up : rises (shape_at p f.stream) ≡ true = may-rise (shape_at p f.stream) (keeps-may p e.attrs r.series f (keeps-first p e.attrs r.series f fs keeps)) g in
-          not-negative (only_rises k) (at-stream-of (stream_of p f.stream) f.stream k refl up rise.0) b,
-      each k fs (keeps-rest p e.attrs r.series f fs keeps) rise.1 b,
-    )
+    each : (k : Kind) (fs : List Feed) → AllRise p k fs → (only_rises k && int_lt e.value (pos 0)) ≡ false → FeedsRise p fs e.value
+    each k [] rise b = tt
+    each k (f ∷ fs) rise b = ((λ up. not-negative (only_rises k) (at-stream-of (stream_of p f.stream) f.stream k refl up rise.0) b), each k fs rise.1 b)
 
     at-kind : (o : Option Kind) → kind_of p e.instrument ≡ o → is_none o ≡ false → is_negative_for o e.value ≡ false → Rises p e
     at-kind None is n b = absurd (true≢false n)
-    at-kind (Some k) is n b = each k (feeds_of p e.instrument) (keeps-all r e none) (all k is) b
+    at-kind (Some k) is n b = each k (feeds_of p e.instrument) (all k is) b
 
 -- a recorder that accepts a recording, seen by what is inside
 pub has-more : (was now inside after : Recorded) (e : Entry) → inside ≡ was → after ≡ now → ((k : Kind) → kind_of inside.plan e.instrument ≡ Some k → AllRise inside.plan k (feeds_of inside.plan e.instrument))

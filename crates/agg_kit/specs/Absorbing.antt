@@ -14,6 +14,7 @@ use Rattle.agg_kit.specs.Sound.{IsSound, AreSound, AllSound}
 use Rattle.agg_kit.specs.Steps.{own_count}
 use Rattle.agg_kit.specs.Tallies.{Points}
 use Rattle.agg_kit.specs.declared.absorbing.Walk.{Walk}
+use Rattle.agg_kit.specs.declared.joining.Amount.{Amount}
 
 -- the count and the sum under a set, those of no values where it has no point
 abbrev pub count_at : Points → AttrSet → ℕ
@@ -37,6 +38,11 @@ AreBothSound es ms = (shape : Shape) × AreSound shape es × AreSound shape ms
 -- points of each stream, of their shapes, with no set twice
 abbrev pub AreAllSound : List Points → List Points → Type 0
 AreAllSound ess mss = (streams : List Stream) × AllSound streams ess × AllSound streams mss
+
+-- the amount of a payload
+pub record HasAmount (p : Payload) (amount : Amount) : Type 0 where
+  pub count : amount.count ≡ count_of p
+  pub sum : amount.sum ≡ total_of p
 
 -- a walk that has come to these points knows how many sets have their own, and the amount of the overflow set's
 pub record Knows (w : Walk) (es : Points) : Type 0 where

@@ -12,6 +12,7 @@ pub mod Laws
 pub mod Measuring
 pub mod Parts
 pub mod Payloads
+pub mod Reaches
 pub mod Recorders
 pub mod Refusals
 pub mod Rounds

@@ -4,18 +4,15 @@ use Rattle.std.specs.List.{enumerate_from, list_all}
 use Rattle.std.specs.Option.{option_map}
 use Rattle.attr_kit.specs.declared.attr_set.AttrSet.{AttrSet}
 use Rattle.attr_kit.specs.Keeping.{kept}
-use Rattle.point_kit.specs.declared.shape.Shape.{Shape}
-use Rattle.point_kit.specs.declared.shape.Shape.TheVariants as shapes
 use Rattle.plan_kit.specs.Plans.{Planned, AreFeeds, feeds_of}
 use Rattle.plan_kit.specs.declared.feed.Feed.{Feed}
-use Rattle.agg_kit.specs.Absorbs.{fits}
 use Rattle.agg_kit.specs.BoundPoints.{IsBound, entry_at}
 use Rattle.agg_kit.specs.Entries.{Entry, arrivals}
 use Rattle.agg_kit.specs.Feeding.{set_eq}
-use Rattle.agg_kit.specs.Feeds.{entries_of, series_at, shape_at}
+use Rattle.agg_kit.specs.Feeds.{entries_of, series_at}
 use Rattle.agg_kit.specs.Measuring.{fault_of, series_after}
 use Rattle.agg_kit.specs.Rounds.{points_of, round, StandsFor}
-use Rattle.agg_kit.specs.Stamps.{Stamped, absorb_stamped, can_stamp, stamps_after, stamps_of}
+use Rattle.agg_kit.specs.Stamps.{Stamped, absorb_stamped, can_stamp, fits_on_way, stamps_after, stamps_of}
 use Rattle.agg_kit.specs.Steps.{Stored, fed_set}
 use Rattle.agg_kit.specs.Tallies.{Points, Tallied}
 use Rattle.agg_kit.specs.declared.bound.Bound.{Bound}
@@ -28,7 +25,7 @@ use Rattle.agg_kit.specs.declared.fault.RecordFault.TheVariants as record_faults
 unfoldable pub whole_round : Planned → List Entry → List Points
 whole_round p h = map (λ s. points_of s.1.shape (arrivals p s.0 h)) (enumerate_from 0 p.streams)
 
--- what contracts see of a recorder: its plan, the points of each stream, and the stamps of those of gauges
+-- what contracts see of a recorder: its plan, the points of each stream, and what it keeps beside them
 pub record Recorded : Type 0 where
   pub plan : Planned
   pub series : List Points
@@ -38,7 +35,7 @@ pub record Recorded : Type 0 where
 abbrev pub tally_in : Recorded → Tallied
 tally_in r = record { plan = r.plan; series = r.series }
 
--- a tally's points, with stamps
+-- a tally's points, with what is kept beside them
 abbrev pub recorded_in : Tallied → List Stamped → Recorded
 recorded_in t ns = record { plan = t.plan; series = t.series; stamps = ns }
 
@@ -46,27 +43,19 @@ recorded_in t ns = record { plan = t.plan; series = t.series; stamps = ns }
 abbrev pub empty_recorder : Planned → Recorded
 empty_recorder p = record { plan = p; series = round p []; stamps = stamps_of p [] }
 
--- a recorder stands for a list of recordings where its points are their round without a limit, with the stamps of these recordings
+-- a recorder stands for a list of recordings where its points are their round without a limit, with what these recordings leave beside them
 abbrev pub Holds : Recorded → List Entry → Type 0
 Holds r k = (r.series ≡ whole_round r.plan k) × (r.stamps ≡ stamps_of r.plan k)
 
 -- a recorder after a recording
 abbrev pub recorder_after : Recorded → Entry → Recorded
-recorder_after r e = record {
-  plan = r.plan;
-  series = series_after (tally_in r) e;
-  stamps = stamps_after r.plan (feeds_of r.plan e.instrument) e.attrs r.series r.stamps;
-}
+recorder_after r e =
+    let after = series_after (tally_in r) e in
+    record { plan = r.plan; series = after; stamps = stamps_after r.plan (feeds_of r.plan e.instrument) e.attrs r.series after r.stamps }
 
--- a recorder may hold points of this shape: gauges, and totals that only rise
-abbrev pub may_hold : Shape → Bool
-may_hold (shapes.Sum monotonic) = monotonic
-may_hold shapes.Gauge = true
-may_hold (shapes.Histogram bounds) = true
-
--- a recorder may hold points of a feed's stream, and the set that the feed keeps has its own point there, or room for one
+-- the set that a feed keeps has its own point in the feed's stream, or room for one
 abbrev pub keeps_set : Planned → AttrSet → List Points → Feed → Bool
-keeps_set p a ss f = let es = series_at ss f.stream in may_hold (shape_at p f.stream) && set_eq (fed_set p.limit es (kept f.keep a)) (kept f.keep a)
+keeps_set p a ss f = set_eq (fed_set p.limit (series_at ss f.stream) (kept f.keep a)) (kept f.keep a)
 
 -- and so it is at each feed of a recording
 abbrev pub keeps_sets : Tallied → Entry → Bool
@@ -103,15 +92,16 @@ series_with limit (es ∷ ess) (ms ∷ mss) (ns ∷ nss) = absorb_stamped limit 
 abbrev pub with_recorder : Tallied → Recorded → Tallied
 with_recorder t r = record t { series = series_with t.plan.limit t.series r.series r.stamps }
 
--- the first of the streams, counted from n, of which a point would leave its range
-abbrev pub first_unfit : ℕ → ℕ → List Points → List Points → Option ℕ
-first_unfit n limit [] mss = None
-first_unfit n limit (es ∷ ess) [] = None
-first_unfit n limit (es ∷ ess) (ms ∷ mss) = if fits limit es ms then first_unfit (n + 1) limit ess mss else Some n
+-- the first of the streams, counted from n, of which a point would leave its range, or would have left it on the way
+abbrev pub first_unfit : ℕ → ℕ → List Points → List Points → List Stamped → Option ℕ
+first_unfit n limit [] mss nss = None
+first_unfit n limit (es ∷ ess) [] nss = None
+first_unfit n limit (es ∷ ess) (ms ∷ mss) [] = None
+first_unfit n limit (es ∷ ess) (ms ∷ mss) (ns ∷ nss) = if fits_on_way limit es ms ns.reaches then first_unfit (n + 1) limit ess mss nss else Some n
 
 -- why a tally refuses to take a recorder in, memory aside
 abbrev pub absorb_fault : Tallied → Recorded → Option TallyFault
-absorb_fault t r = option_map (λ m. faults.Overflow m) (first_unfit 0 t.plan.limit t.series r.series)
+absorb_fault t r = option_map (λ m. faults.Overflow m) (first_unfit 0 t.plan.limit t.series r.series r.stamps)
 
 -- a recorder that takes a recording stands for it too, after those that it stood for
 abbrev pub RecordersHold : Type 0

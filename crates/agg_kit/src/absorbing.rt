@@ -1,22 +1,23 @@
 //! How points of later values come into those of a stream, and those of all streams into a tally's.
-ghost use Rattle.std.specs.Prelude.{◌≡◌, ◌≢◌, ◌+◌, ◌<◌, ◌≤◌, ◌^◌, [], length, replicate, true, false, not, None, Some, IfOk, IfErr, OnOk, OnErr};
+ghost use Rattle.std.specs.Prelude.{◌≡◌, ◌≢◌, ◌+◌, ◌<◌, ◌≤◌, ◌^◌, [], length, replicate, true, false, not, None, Some, slice_get, IfOk, IfErr, OnOk, OnErr};
 ghost use Rattle.std.specs.Option.{option_map};
 ghost use Rattle.std.specs.Map.{keys_of};
 ghost use Rattle.indexmap.specs.IndexMap.{set_value_at};
-ghost use Rattle.agg_kit.specs.Absorbing.{count_at, total_at, payload_joined, AreAllSound, AreBothSound, Counts, Knows, TakesSound, Walks};
+ghost use Rattle.agg_kit.specs.Absorbing.{count_at, total_at, payload_joined, AreAllSound, AreBothSound, Counts};
+ghost use Rattle.agg_kit.specs.Absorbing.{HasAmount, Knows, TakesSound, Walks};
 ghost use Rattle.agg_kit.specs.Absorbs.{absorb, fits, with_point, point_with};
 ghost use Rattle.agg_kit.specs.Feeding.{set_eq, overflow_set};
 ghost use Rattle.agg_kit.specs.Feeds.{entries_of};
 ghost use Rattle.agg_kit.specs.Payloads.{is_out_of_range};
 ghost use Rattle.agg_kit.specs.Recorders.{series_with, first_unfit};
 ghost use Rattle.agg_kit.specs.Sound.{AreOnce};
-ghost use Rattle.agg_kit.specs.Stamps.{newer, newest_over, stamped_in};
+ghost use Rattle.agg_kit.specs.Stamps.{ends_of, fits_on_way, newer, newest_over, stamped_in, with_any_sum, with_sums};
 ghost use Rattle.agg_kit.specs.Steps.{has_point, own_count, fed_set};
 ghost use Rattle.agg_kit.specs.Tallies.{Points};
 ghost use Rattle.agg_kit.specs.declared.fault.TallyFault.TheVariants as faults;
 
 use crate::TallyFault;
-use crate::joining::{Amount, amount_in, join};
+use crate::joining::{Amount, amount_in, amount_with, join};
 use crate::series::{Fresh, Series};
 use crate::stamps::Stamps;
 use attr_kit::{AttrSet, NoMemory, TryCopy};
@@ -44,22 +45,21 @@ impl Series {
         }
     }
 
-    // Whether a point stays in range as a later one comes in, where others have come before it.
+    // Whether a point stays in range as a later one of this amount comes in, where others have come before it.
     fn steps_over(
         &self,
         walk: &mut Walk,
         limit: u64,
         overflow: &AttrSet,
         set: &AttrSet,
-        payload: &Payload,
+        more: Amount,
     ) -> bool
         requires { overflow.now ≡ overflow_set }
-        ensures fits { (es : Points) → Walks walk.old self.now.entries es set.now → TakesSound es payload.now
-            → is_out_of_range (point_with es (fed_set limit es set.now) payload.now) ≡ not result }
-        ensures goes { (es : Points) → Walks walk.old self.now.entries es set.now → TakesSound es payload.now → result ≡ true
-            → Knows walk.new (with_point limit es (set.now, payload.now)) }
+        ensures fits { (es : Points) (p : Payload) → Walks walk.old self.now.entries es set.now → TakesSound es p → HasAmount p more
+            → is_out_of_range (point_with es (fed_set limit es set.now) p) ≡ not result }
+        ensures goes { (es : Points) (p : Payload) → Walks walk.old self.now.entries es set.now → TakesSound es p → HasAmount p more
+            → result ≡ true → Knows walk.new (with_point limit es (set.now, p)) }
     {
-        let more = amount_in(payload);
         if *set != *overflow {
             if self.points.contains_key(set) {
                 return self.amount_of(set).plus(more).is_some();
@@ -78,12 +78,20 @@ impl Series {
         }
     }
 
-    /// Whether each point stays in range as later ones come in, one after the other.
-    pub(crate) fn fits(&self, limit: u64, overflow: &AttrSet, later: &Series) -> bool
+    // Whether each point stays in range as later ones come in, one after the other, with the least or the greatest sum of each
+    // reach in place of its own, where there are any.
+    fn fits_at(
+        &self,
+        limit: u64,
+        overflow: &AttrSet,
+        later: &Series,
+        reaches: &[(i64, i64)],
+        greatest: bool,
+    ) -> bool
         requires overflow { overflow.now ≡ overflow_set }
         requires sound { AreBothSound self.now.entries later.now.entries }
         requires once { AreOnce (keys_of later.now.entries) }
-        ensures { result ≡ fits limit self.now.entries later.now.entries }
+        ensures { result ≡ fits limit self.now.entries (with_sums later.now.entries (ends_of greatest reaches.now)) }
     {
         let mut walk = Walk {
             own: self.own,
@@ -91,7 +99,8 @@ impl Series {
         };
         for place in 0..later.points.len() {
             if let Some((set, payload)) = later.points.get_index(place) {
-                if !self.steps_over(&mut walk, limit, overflow, set, payload) {
+                let more = amount_at(payload, reaches, place, greatest);
+                if !self.steps_over(&mut walk, limit, overflow, set, more) {
                     return false;
                 }
             }
@@ -99,11 +108,37 @@ impl Series {
         true
     }
 
+    /// Whether each point stays in range as later ones come in, one after the other, and does so with the least and with the
+    /// greatest sum of each reach.
+    pub(crate) fn fits(
+        &self,
+        limit: u64,
+        overflow: &AttrSet,
+        later: &Series,
+        reaches: &[(i64, i64)],
+    ) -> bool
+        requires overflow { overflow.now ≡ overflow_set }
+        requires sound { AreBothSound self.now.entries later.now.entries }
+        requires once { AreOnce (keys_of later.now.entries) }
+        ensures { result ≡ fits_on_way limit self.now.entries later.now.entries reaches.now }
+    {
+        if !self.fits_at(limit, overflow, later, &[], false) {
+            return false;
+        }
+        if reaches.is_empty() {
+            return true;
+        }
+        self.fits_at(limit, overflow, later, reaches, false)
+            && self.fits_at(limit, overflow, later, reaches, true)
+    }
+
     // Whether the set of a point that comes in goes under the overflow set. `own` is how many sets have points of their own.
     fn goes_over(&self, own: &mut u64, limit: u64, overflow: &AttrSet, set: &AttrSet) -> bool
         requires { overflow.now ≡ overflow_set }
-        ensures over { (es : Points) → Counts own.old self.now.entries es set.now → result ≡ set_eq (fed_set limit es set.now) overflow_set }
-        ensures own { (es : Points) (p : Payload) → Counts own.old self.now.entries es set.now → own.new ≡ own_count (with_point limit es (set.now, p)) }
+        ensures over { (es : Points) → Counts own.old self.now.entries es set.now
+            → result ≡ set_eq (fed_set limit es set.now) overflow_set }
+        ensures own { (es : Points) (p : Payload) → Counts own.old self.now.entries es set.now
+            → own.new ≡ own_count (with_point limit es (set.now, p)) }
     {
         if *set == *overflow {
             return true;
@@ -221,6 +256,17 @@ impl Series {
     }
 }
 
+// The amount of the payload at a place, with the least or the greatest sum of its reach in place of its own, where it has one.
+fn amount_at(payload: &Payload, reaches: &[(i64, i64)], place: usize, greatest: bool) -> Amount
+    ensures { HasAmount (with_any_sum payload.now (slice_get (ends_of greatest reaches.now) place)) result }
+{
+    match reaches.get(place) {
+        Some(reach) if greatest => amount_with(payload, reach.1),
+        Some(reach) => amount_with(payload, reach.0),
+        None => amount_in(payload),
+    }
+}
+
 // Of a payload with its stamp and another, the one with the greater stamp.
 fn newer(
     newest: Option<(u64, Payload)>,
@@ -271,11 +317,12 @@ pub(crate) fn absorb_each(
     requires sound { AreAllSound (entries_of series.old) (entries_of later.old) }
     requires long { length stamps.now ≡ length series.old }
     requires bound { number + length series.old < 2 ^ 64 }
-    ensures value { OnOk result (entries_of series.new ≡ series_with limit (entries_of series.old) (entries_of later.old) (stamped_in stamps.now)) }
+    ensures value { OnOk result (entries_of series.new
+        ≡ series_with limit (entries_of series.old) (entries_of later.old) (stamped_in stamps.now)) }
     ensures emptied { OnOk result (entries_of later.new ≡ replicate (length later.old) []) }
-    ensures ok { OnOk result (first_unfit number limit (entries_of series.old) (entries_of later.old) ≡ None) }
-    ensures err { IfErr result (λ f. f ≢ faults.NoMemory
-        → option_map (λ m. faults.Overflow m) (first_unfit number limit (entries_of series.old) (entries_of later.old)) ≡ Some f) }
+    ensures ok { OnOk result (first_unfit number limit (entries_of series.old) (entries_of later.old) (stamped_in stamps.now) ≡ None) }
+    ensures err { IfErr result (λ f. f ≢ faults.NoMemory → option_map (λ m. faults.Overflow m)
+        (first_unfit number limit (entries_of series.old) (entries_of later.old) (stamped_in stamps.now)) ≡ Some f) }
     ensures unchanged { OnErr result (entries_of series.new ≡ entries_of series.old) }
     ensures kept { OnErr result (entries_of later.new ≡ entries_of later.old) }
 {
@@ -290,7 +337,7 @@ pub(crate) fn absorb_each(
     };
     let spare = overflow.try_copy()?;
     points.reserve_for(more)?;
-    if !points.fits(limit, overflow, more) {
+    if !points.fits(limit, overflow, more, own.reaches()) {
         return Err(TallyFault::Overflow(number));
     }
     let newest = points.newest_over(limit, overflow, more, own)?;
@@ -316,9 +363,10 @@ pub(crate) fn absorb_into(
     ensures value { OnOk result (entries_of series.new.items
         ≡ series_with limit (entries_of series.old.items) (entries_of later.old.items) (stamped_in stamps.now)) }
     ensures emptied { OnOk result (entries_of later.new.items ≡ replicate (length later.old.items) []) }
-    ensures ok { OnOk result (first_unfit 0 limit (entries_of series.old.items) (entries_of later.old.items) ≡ None) }
-    ensures err { IfErr result (λ f. f ≢ faults.NoMemory
-        → option_map (λ m. faults.Overflow m) (first_unfit 0 limit (entries_of series.old.items) (entries_of later.old.items)) ≡ Some f) }
+    ensures ok { OnOk result
+        (first_unfit 0 limit (entries_of series.old.items) (entries_of later.old.items) (stamped_in stamps.now) ≡ None) }
+    ensures err { IfErr result (λ f. f ≢ faults.NoMemory → option_map (λ m. faults.Overflow m)
+        (first_unfit 0 limit (entries_of series.old.items) (entries_of later.old.items) (stamped_in stamps.now)) ≡ Some f) }
     ensures unchanged { OnErr result (entries_of series.new.items ≡ entries_of series.old.items) }
     ensures kept { OnErr result (entries_of later.new.items ≡ entries_of later.old.items) }
 {

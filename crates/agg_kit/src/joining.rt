@@ -4,6 +4,7 @@ ghost use Rattle.agg_kit.specs.Absorbs.{bucket_sums, range_of_both, payload_of_b
 ghost use Rattle.agg_kit.specs.Joins.{total_of, is_past, counted_by, filled_by, ranged_by, ShareShape};
 ghost use Rattle.agg_kit.specs.Parts.{count_of, buckets_of};
 ghost use Rattle.agg_kit.specs.Payloads.{is_out_of_range};
+ghost use Rattle.agg_kit.specs.Stamps.{with_sum};
 
 use crate::payload::add_to_total;
 use attr_kit::Seq;
@@ -31,6 +32,17 @@ pub(crate) fn amount_in(payload: &Payload) -> Amount
             count: *count,
             sum: *sum,
         },
+    }
+}
+
+/// The amount of a payload with another sum in place of its own, where it is a sum.
+pub(crate) fn amount_with(payload: &Payload, sum: i64) -> Amount
+    ensures count { result.count ≡ count_of (with_sum payload.now sum) }
+    ensures sum { result.sum ≡ total_of (with_sum payload.now sum) }
+{
+    match payload {
+        Payload::Sum(_) => Amount { count: 0, sum },
+        _ => amount_in(payload),
     }
 }
 

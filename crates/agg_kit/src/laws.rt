@@ -10,7 +10,7 @@ ghost use Rattle.agg_kit.specs.Measuring.{after_measure, early_fault_of, empty_t
 ghost use Rattle.agg_kit.specs.Recorders.{empty_recorder, Holds, RecordersHold, AbsorbingIsRecording, OwnBoundPointsStay};
 ghost use Rattle.agg_kit.specs.Refusals.{first_refusal};
 ghost use Rattle.agg_kit.specs.Rounds.{StandsFor};
-ghost use Rattle.agg_kit.specs.Taken.{AbsorbedAreTaken, HasRecorded, RecordersHave};
+ghost use Rattle.agg_kit.specs.Taken.{AbsorbedAreTaken, HasRecorded, RecordersHave, RefusedAreRefused};
 ghost use Rattle.agg_kit.specs.Tallies.{Tallied};
 
 /// The steps of a tally are recordings: one without points stands for none of them, one that stands for a list stands after
@@ -73,4 +73,12 @@ pub fn recorded_is_accepted()
     ensures empty { (p : Planned) → HasRecorded (empty_recorder p) [] }
     ensures records { RecordersHave }
     ensures accepted { AbsorbedAreTaken }
+{}
+
+/// A refused recorder means a refused recording: where a tally that stands for accepted recordings refuses to take a recorder in, not
+/// each of its recordings would have been accepted there, one after the other. Of sums that may fall this is said where no two of
+/// the recorder's sets go under one, since how values of two came in turn is not kept. With [`recorded_is_accepted`]: a recorder is
+/// refused exactly where one of its recordings would be.
+pub fn refused_is_refused()
+    ensures { RefusedAreRefused }
 {}

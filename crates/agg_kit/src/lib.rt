@@ -8,7 +8,7 @@
 //!   its range, or want of memory. A refused value is recorded nowhere.
 //! - A [`Bound`] is an instrument and a set whose points a tally has looked up: `Tally::bind` makes one, and
 //!   `Tally::measure_bound` records the same step as `measure` with no look at the set ([`bound_points_stay`]).
-//! - A [`Recorder`] is a thread's own tally of counters, histograms and gauges: it records with no lock, or answers a [`RecordFault`].
+//! - A [`Recorder`] is a thread's own tally: it records with no lock, or answers a [`RecordFault`].
 //!   `Tally::absorb` takes it in as if each of its recordings had been measured in the tally, one after the other
 //!   ([`absorbing_is_recording`]). It has bound points of its own ([`own_bound_points_stay`]).
 //!
@@ -19,7 +19,8 @@
 //!     tally.measure_bound(&mut point, second)
 //!
 //! What a tally stands for is a list of recordings: [`steps_are_recordings`] and [`rounds_have_what_was_fed`] are the laws. What a
-//! recorder accepted a tally would have accepted, too ([`recorded_is_accepted`]); [`points_are_absorbed`] tells of single points.
+//! recorder accepted a tally would have accepted, too ([`recorded_is_accepted`], [`refused_is_refused`]); [`points_are_absorbed`] tells
+//! of single points.
 //! What contracts cite stands in `specs/`: `Tallies` (what contracts see of one), `Measuring` (a step and its refusals),
 //! `Rounds` (what a list of recordings comes to), `BoundPoints`, `Recorders`, `Stamps`, `Absorbs`, `Refusals`, `Entries`, `Feeding`.
 #![tactic(auto)]
@@ -40,7 +41,7 @@ pub use bound::Bound;
 pub use fault::{RecordFault, TallyFault};
 pub use laws::{
     absorbing_is_recording, bound_points_stay, own_bound_points_stay, points_are_absorbed,
-    recorded_is_accepted, rounds_have_what_was_fed, steps_are_recordings,
+    recorded_is_accepted, refused_is_refused, rounds_have_what_was_fed, steps_are_recordings,
 };
 pub use recorder::Recorder;
 pub use tally::Tally;

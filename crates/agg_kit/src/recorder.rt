@@ -6,36 +6,36 @@ ghost use Rattle.agg_kit.specs.BoundPoints.{HasInstrument, IsBound, LacksInstrum
 ghost use Rattle.agg_kit.specs.Entries.{entry_of};
 ghost use Rattle.agg_kit.specs.Feeding.{overflow_set};
 ghost use Rattle.agg_kit.specs.Feeds.{IsHeld, AreHeld};
-ghost use Rattle.agg_kit.specs.Recorders.{recorder_after, can_stamp_all, empty_recorder, keep_sets, keeps_sets, may_hold, record_fault_of, tally_in, IsOwnBound};
-ghost use Rattle.agg_kit.specs.Stamps.{has_gauge};
+ghost use Rattle.agg_kit.specs.Recorders.{recorder_after, can_stamp_all, empty_recorder, keep_sets, keeps_sets, record_fault_of, tally_in, IsOwnBound};
+ghost use Rattle.agg_kit.specs.Stamps.{has_noted};
 ghost use Rattle.agg_kit.specs.Taken.{HasRecorded, IsRecorder, RecordsAlso};
 
-use crate::recording::{kept_set, set_or, shape_of};
+use crate::recording::{kept_set, set_or};
 use crate::series::Series;
-use crate::stamps::{Stamps, can_stamp_each, feed_gauge, no_stamps, stamp_each};
+use crate::stamps::{Stamps, can_stamp_each, feed_noted, no_stamps};
 use crate::{Bound, RecordFault, Tally};
 use attr_kit::{AttrSet, NoMemory};
 use plan_kit::{Feed, Plan};
-use point_kit::Shape;
 use std::alloc::Global;
 use std::marker::Model;
 
-/// A thread's own tally, of counters, histograms and gauges: what it records needs no lock, and a tally of the same plan takes it
-/// in as if each recording had been measured there ([`crate::absorbing_is_recording`]).
+/// A thread's own tally: what it records needs no lock, and a tally of the same plan takes it in as if each recording had been
+/// measured there ([`crate::absorbing_is_recording`]).
 ///
 /// A recorder lets no set go to the overflow set by the limit: where it has points of their own for as many sets of a stream as
-/// the limit says, it refuses another by `Full`, and so it does where a sum of its own would leave its range and for
-/// instruments with a stream of a sum that may fall. Whoever gets `Full` has a tally absorb the recorder and records again; where
-/// the recorder is empty it measures at the tally itself. A recorder that is dropped loses what it holds.
+/// the limit says, it refuses another by `Full`, and so it does where a sum of its own would leave its range. Whoever gets `Full`
+/// has a tally absorb the recorder and records again; where the recorder is empty it measures at the tally itself. A recorder that
+/// is dropped loses what it holds.
 ///
-/// Of a gauge it knows which set was recorded last, since that one counts where sets meet under a tally's overflow set.
+/// Of a gauge it knows which set was recorded last, since that one counts where sets meet under a tally's overflow set. Of a sum
+/// that may fall it knows how far each set's sum went down and up, since a tally may not take in what left the range on its way.
 ///
 /// Once a tally has taken it in, its bound points know places that are gone. Release each ([`Bound::release`]): it is looked up
 /// again at its first value.
 #[derive(Drop)]
 pub struct Recorder {
     pub(crate) tally: Tally,
-    // Of each stream; only those of gauges have any.
+    // Of each stream; only those of gauges and of sums that may fall have any.
     pub(crate) stamps: Vec<Stamps>,
     // The places of a recording's points, while it is made.
     spots: Vec<usize>,
@@ -71,9 +71,9 @@ impl Recorder {
 
     /// Records a value in the stream of every feed of the instrument, or in none.
     ///
-    /// Refuses, in this order: `Full` where a feed's stream is a sum that may fall, or has no point for the set and no room for one
-    /// of its own, or is a gauge that has had 2^64 - 1 values; `NoInstrument`; `Negative`; `Full` where a sum or count would leave
-    /// its range. O(feeds of the instrument).
+    /// Refuses, in this order: `Full` where a feed's stream has no point for the set and no room for one of its own, or is a gauge
+    /// that has had 2^64 - 1 values; `NoInstrument`; `Negative`; `Full` where a sum or count would leave its range.
+    /// O(feeds of the instrument).
     pub fn measure(
         &mut self,
         instrument: usize,
@@ -86,17 +86,17 @@ impl Recorder {
         ensures recorded { OnOk result (RecordsAlso self.old (entry_of instrument attrs.now value) self.new) }
         ensures err { IfErr result (λ f. f ≢ RecordFault.NoMemory
             → record_fault_of self.old (entry_of instrument attrs.now value) ≡ Some f) }
-        // Points that are there take no memory where every feed keeps all keys and none leads to a gauge.
+        // Points that are there take no memory where every feed keeps all keys and none leads to a gauge or a sum that may fall.
         ensures held { IsHeld (tally_in self.old) (entry_of instrument attrs.now value)
-            → has_gauge self.old.plan (feeds_of self.old.plan instrument) ≡ false → IfErr result (λ f. f ≢ RecordFault.NoMemory) }
+            → has_noted self.old.plan (feeds_of self.old.plan instrument) ≡ false → IfErr result (λ f. f ≢ RecordFault.NoMemory) }
         ensures unchanged { OnErr result (self.new ≡ self.old) }
     {
         if !self.tally.keeps_sets(instrument, attrs)? {
             return Err(RecordFault::Full);
         }
         let plan = self.tally.plan();
-        if feed_gauge(plan, feeds_in(plan, instrument)) {
-            return self.measure_gauge(instrument, attrs, value);
+        if feed_noted(plan, feeds_in(plan, instrument)) {
+            return self.measure_noted(instrument, attrs, value);
         }
         match self.tally.measure(instrument, attrs, value) {
             Ok(()) => Ok(()),
@@ -156,7 +156,7 @@ impl Recorder {
         ensures value { OnOk result (self.new ≡ recorder_after self.old (entry_at bound.old value)) }
         ensures err { IfErr result (λ f. f ≢ RecordFault.NoMemory → record_fault_of self.old (entry_at bound.old value) ≡ Some f) }
         ensures held { IsHeld (tally_in self.old) (entry_at bound.old value)
-            → has_gauge self.old.plan (feeds_of self.old.plan bound.old.instrument) ≡ false → IfErr result (λ f. f ≢ RecordFault.NoMemory) }
+            → has_noted self.old.plan (feeds_of self.old.plan bound.old.instrument) ≡ false → IfErr result (λ f. f ≢ RecordFault.NoMemory) }
         ensures known { bound.old.places.items ≢ [] → IfErr result (λ f. f ≢ RecordFault.NoMemory) }
         ensures unchanged { OnErr result (self.new ≡ self.old) }
         ensures instrument { bound.new.instrument ≡ bound.old.instrument }
@@ -191,13 +191,8 @@ impl Recorder {
         let places = bound.places.as_slice();
         self.tally
             .measure_at(bound.instrument, &bound.attrs, places, value)?;
-        let plan = self.tally.plan();
-        stamp_each(
-            plan,
-            &mut self.stamps,
-            feeds_in(plan, bound.instrument),
-            places,
-        );
+        self.tally
+            .note_each(bound.instrument, &mut self.stamps, places);
         Ok(())
     }
 
@@ -211,8 +206,8 @@ impl Recorder {
         can_stamp_each(plan, &self.stamps, feeds_in(plan, instrument))
     }
 
-    // Records a value as `measure` does, where the sets are kept, and numbers it in each gauge.
-    fn measure_gauge(
+    // Records a value as `measure` does, where the sets are kept, and notes it beside the points.
+    fn measure_noted(
         &mut self,
         instrument: usize,
         attrs: &AttrSet,
@@ -234,13 +229,8 @@ impl Recorder {
         self.tally
             .find_spots(instrument, attrs, &mut self.stamps, &mut self.spots)?;
         self.tally.measure(instrument, attrs, value)?;
-        let plan = self.tally.plan();
-        stamp_each(
-            plan,
-            &mut self.stamps,
-            feeds_in(plan, instrument),
-            self.spots.as_slice(),
-        );
+        self.tally
+            .note_each(instrument, &mut self.stamps, self.spots.as_slice());
         Ok(())
     }
 
@@ -275,18 +265,7 @@ pub(crate) fn feeds_in(plan: &Plan, instrument: usize) -> &[Feed]
     }
 }
 
-// Whether a recorder may hold points of a shape.
-fn may_hold(shape: &Shape) -> bool
-    ensures { result ≡ may_hold shape.now }
-{
-    match shape {
-        Shape::Sum { monotonic } => *monotonic,
-        Shape::Gauge => true,
-        Shape::Histogram { .. } => true,
-    }
-}
-
-/// Whether a recorder may hold each feed's stream, and that has a point of its own for the set that the feed keeps, or room for one.
+/// Whether each feed's stream has a point of its own for the set that the feed keeps, or room for one.
 pub(crate) fn keep_each(
     plan: &Plan,
     overflow: &AttrSet,
@@ -296,16 +275,12 @@ pub(crate) fn keep_each(
 ) -> Result<bool, NoMemory>
     requires overflow { overflow.now ≡ overflow_set }
     requires feeds { AreFeeds (length series.now.items) feeds.now }
-    requires long { length series.now.items ≡ length plan.now.streams }
     ensures value { IfOk result (λ keeps. keeps ≡ keep_sets plan.now feeds.now attrs.now series.now.items) }
     ensures held { AreHeld plan.now feeds.now attrs.now series.now.items → IsOk result }
 {
     let Some((feed, rest)) = feeds.split_first() else {
         return Ok(true);
     };
-    if !may_hold(shape_of(plan, feed.stream)) {
-        return Ok(false);
-    }
     let points = &series[feed.stream];
     if !points.has_room(plan.limit()) {
         let only = kept_set(attrs, &feed.keep)?;

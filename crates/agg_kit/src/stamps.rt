@@ -1,10 +1,12 @@
-//! When each set of a gauge was last recorded.
-ghost use Rattle.std.specs.Prelude.{◌≡◌, true, cond, ◌+◌, ◌<◌, ◌^◌, length, nat_lt, replicate, slice_get, IfOk, OnOk};
+//! What a recorder keeps beside its points: when each set of a gauge was last recorded, and how far each sum that may fall went.
+ghost use Rattle.std.specs.Prelude.{◌≡◌, [], false, true, cond, pos, ◌+◌, ◌<◌, ◌^◌, length, nat_lt, replicate, slice_get, slice_index_or, IfOk, OnOk};
 ghost use Rattle.std.specs.List.{list_all};
 ghost use Rattle.plan_kit.specs.Plans.{AreFeeds};
 ghost use Rattle.agg_kit.specs.Feeds.{entries_of};
 ghost use Rattle.agg_kit.specs.Laws.{is_gauge};
-ghost use Rattle.agg_kit.specs.Stamps.{can_stamp, has_gauge, stamp, stamped_in, stamps_put, unstamped, AreSpots, CanStamp, CanStampEach, HaveRooms};
+ghost use Rattle.agg_kit.specs.Reaches.{reach_with};
+ghost use Rattle.agg_kit.specs.Stamps.{can_stamp, has_noted, is_noted, note, put_at, stamp, stamped_in, stamps_put, unstamped, widen};
+ghost use Rattle.agg_kit.specs.Stamps.{AreSpots, CanNote, CanNoteEach, CanPut, HasRoom, HaveRooms};
 
 use crate::recording::{kept_set, set_or, shape_of};
 use crate::series::Series;
@@ -14,11 +16,13 @@ use point_kit::Shape;
 use std::alloc::Global;
 use std::marker::Model;
 
-/// Of a gauge's points: how many values came, and of each set, at its point's place, which of them was its last.
+/// Beside a stream's points: of a gauge how many values came, and of each set, at its point's place, which of them was its last;
+/// of a sum that may fall the least and the greatest sum that each set had on its way, 0 included.
 #[derive(Drop)]
 pub(crate) struct Stamps {
     clock: u64,
     stamps: Vec<u64>,
+    reaches: Vec<(i64, i64)>,
 }
 
 impl Model for Stamps {
@@ -27,7 +31,11 @@ impl Model for Stamps {
 
     ghost Value = { StampedIn };
 
-    ghost view = { λ s. record { kept = record { clock = s.clock; stamps = s.stamps.items }; size = vec_capacity s.stamps } };
+    ghost view = { λ s. record {
+      kept = record { clock = s.clock; stamps = s.stamps.items; reaches = s.reaches.items };
+      size = vec_capacity s.stamps;
+      width = vec_capacity s.reaches;
+    } };
 }
 
 impl Stamps {
@@ -37,14 +45,8 @@ impl Stamps {
         Stamps {
             clock: 0,
             stamps: Vec::new(alloc),
+            reaches: Vec::new(alloc),
         }
-    }
-
-    /// How many sets have stamps.
-    pub(crate) fn len(&self) -> usize
-        ensures { result ≡ length self.now.kept.stamps }
-    {
-        self.stamps.len()
     }
 
     /// The stamp of the set whose point is at a place.
@@ -57,6 +59,13 @@ impl Stamps {
         }
     }
 
+    /// The reaches of the sets, in the order of their points.
+    pub(crate) fn reaches(&self) -> &[(i64, i64)]
+        ensures { result.now ≡ self.now.kept.reaches }
+    {
+        self.reaches.as_slice()
+    }
+
     // Whether one more value can be numbered.
     fn can_stamp(&self) -> bool
         ensures { result ≡ nat_lt (self.now.kept.clock + 1) (2 ^ 64) }
@@ -67,15 +76,17 @@ impl Stamps {
     // Makes room for one more set.
     fn reserve(&mut self) -> Result<(), NoMemory>
         ensures kept { self.new.kept ≡ self.old.kept }
-        ensures room { OnOk result (length self.new.kept.stamps < self.new.size) }
+        ensures room { OnOk result (HasRoom self.new) }
     {
         self.stamps.reserve(1)?;
+        self.reaches.reserve(1)?;
         Ok(())
     }
 
     // Numbers one more value, of the set whose point is at a place.
     fn stamp(&mut self, place: usize)
-        requires { CanStamp self.old place }
+        requires put { CanPut (length self.old.kept.stamps) self.old.size place }
+        requires clock { self.old.kept.clock + 1 < 2 ^ 64 }
         ensures { self.new.kept ≡ stamp self.old.kept place }
     {
         self.clock += 1;
@@ -86,13 +97,31 @@ impl Stamps {
         }
     }
 
-    // The same, where the stream is a gauge.
-    fn stamp_if(&mut self, gauge: bool, place: usize)
-        requires { gauge ≡ true → CanStamp self.old place }
-        ensures { self.new.kept ≡ cond gauge (stamp self.old.kept place) self.old.kept }
+    // Widens the reach of the set whose point is at a place by one more sum.
+    fn widen(&mut self, place: usize, sum: i64)
+        requires { CanPut (length self.old.kept.reaches) self.old.width place }
+        ensures { self.new.kept ≡ widen self.old.kept place sum }
     {
-        if gauge {
-            self.stamp(place);
+        if place < self.reaches.len() {
+            self.reaches[place] = reach_with(self.reaches[place], sum);
+        } else {
+            self.reaches.push(reach_with((0, 0), sum)).unwrap();
+        }
+    }
+
+    // Notes one more value of a stream of a shape, of the set whose point is at a place and comes to a sum then.
+    fn note(&mut self, shape: &Shape, place: usize, sum: i64)
+        requires { CanNote shape.now self.old place }
+        ensures { self.new.kept ≡ note shape.now self.old.kept place sum }
+    {
+        match shape {
+            Shape::Sum { monotonic } => {
+                if !*monotonic {
+                    self.widen(place, sum);
+                }
+            }
+            Shape::Gauge => self.stamp(place),
+            Shape::Histogram { .. } => {}
         }
     }
 
@@ -102,7 +131,15 @@ impl Stamps {
     {
         self.clock = 0;
         self.stamps.clear();
+        self.reaches.clear();
     }
+}
+
+// A reach with one more sum.
+fn reach_with(reach: (i64, i64), sum: i64) -> (i64, i64)
+    ensures { result ≡ reach_with reach sum }
+{
+    (reach.0.min(sum), reach.1.max(sum))
 }
 
 // Whether a shape is that of a gauge.
@@ -116,7 +153,18 @@ fn is_gauge(shape: &Shape) -> bool
     }
 }
 
-/// No stamps for each of so many streams.
+// Whether something is kept beside points of a shape.
+fn is_noted(shape: &Shape) -> bool
+    ensures { result ≡ is_noted shape.now }
+{
+    match shape {
+        Shape::Sum { monotonic } => !*monotonic,
+        Shape::Gauge => true,
+        Shape::Histogram { .. } => false,
+    }
+}
+
+/// Nothing beside the points of each of so many streams.
 pub(crate) fn no_stamps(alloc: Global, streams: usize) -> Result<Vec<Stamps>, NoMemory>
     ensures { IfOk result (λ stamps. stamped_in stamps.items ≡ replicate streams unstamped) }
 {
@@ -127,7 +175,7 @@ pub(crate) fn no_stamps(alloc: Global, streams: usize) -> Result<Vec<Stamps>, No
     Ok(stamps)
 }
 
-/// Forgets the stamps of all streams, and keeps their room.
+/// Forgets what is kept beside the points of all streams, and keeps the room.
 pub(crate) fn clear_each(stamps: &mut [Stamps])
     ensures len { length stamps.new ≡ length stamps.old }
     ensures value { stamped_in stamps.new ≡ replicate (length stamps.old) unstamped }
@@ -139,18 +187,18 @@ pub(crate) fn clear_each(stamps: &mut [Stamps])
     clear_each(rest);
 }
 
-/// Whether one of the feeds leads to a gauge.
-pub(crate) fn feed_gauge(plan: &Plan, feeds: &[Feed]) -> bool
+/// Whether something is kept beside the points of one of the feeds' streams.
+pub(crate) fn feed_noted(plan: &Plan, feeds: &[Feed]) -> bool
     requires { AreFeeds (length plan.now.streams) feeds.now }
-    ensures { result ≡ has_gauge plan.now feeds.now }
+    ensures { result ≡ has_noted plan.now feeds.now }
 {
     let Some((feed, rest)) = feeds.split_first() else {
         return false;
     };
-    if is_gauge(shape_of(plan, feed.stream)) {
+    if is_noted(shape_of(plan, feed.stream)) {
         return true;
     }
-    feed_gauge(plan, rest)
+    feed_noted(plan, rest)
 }
 
 /// Whether each gauge of the feeds can number one more value.
@@ -170,7 +218,7 @@ pub(crate) fn can_stamp_each(plan: &Plan, stamps: &Vec<Stamps>, feeds: &[Feed]) 
     can_stamp_each(plan, stamps, rest)
 }
 
-/// Finds the places of a set's points, or of the next ones, and makes room for their stamps.
+/// Finds the places of a set's points, or of the next ones, and makes room beside them.
 pub(crate) fn find_spots(
     series: &Vec<Series>,
     stamps: &mut Vec<Stamps>,
@@ -194,12 +242,20 @@ pub(crate) fn find_spots(
     Ok(())
 }
 
-/// Numbers one more value in each gauge of the feeds, its set at the feed's place.
-pub(crate) fn stamp_each(plan: &Plan, stamps: &mut Vec<Stamps>, feeds: &[Feed], spots: &[usize])
+/// Notes one more value at each of the feeds, its set at the feed's place. The points have it already.
+pub(crate) fn note_each(
+    plan: &Plan,
+    series: &Vec<Series>,
+    stamps: &mut Vec<Stamps>,
+    feeds: &[Feed],
+    spots: &[usize],
+)
     requires feeds { AreFeeds (length plan.now.streams) feeds.now }
     requires long { length stamps.old.items ≡ length plan.now.streams }
-    requires can { CanStampEach plan.now feeds.now spots.now stamps.old.items }
-    ensures { stamped_in stamps.new.items ≡ stamps_put plan.now feeds.now spots.now (stamped_in stamps.old.items) }
+    requires wide { length series.now.items ≡ length plan.now.streams }
+    requires can { CanNoteEach plan.now feeds.now spots.now stamps.old.items }
+    ensures { stamped_in stamps.new.items
+        ≡ stamps_put plan.now feeds.now spots.now (entries_of series.now.items) (stamped_in stamps.old.items) }
 {
     let Some((feed, rest)) = feeds.split_first() else {
         return;
@@ -207,7 +263,7 @@ pub(crate) fn stamp_each(plan: &Plan, stamps: &mut Vec<Stamps>, feeds: &[Feed], 
     let Some((spot, others)) = spots.split_first() else {
         return;
     };
-    let gauge = is_gauge(shape_of(plan, feed.stream));
-    stamps[feed.stream].stamp_if(gauge, *spot);
-    stamp_each(plan, stamps, rest, others);
+    let sum = series[feed.stream].sum_at(*spot);
+    stamps[feed.stream].note(shape_of(plan, feed.stream), *spot, sum);
+    note_each(plan, series, stamps, rest, others);
 }

@@ -9,7 +9,7 @@ ghost use Rattle.agg_kit.specs.Feeds.{entries_of, series_at, IsHeld};
 ghost use Rattle.agg_kit.specs.Kept.{whole_feed, AreLone};
 ghost use Rattle.agg_kit.specs.Measuring.{after_measure, early_fault_of, empty_tally, fault_of};
 ghost use Rattle.agg_kit.specs.Recorders.{absorb_fault, empty_recorder, keeps_sets, recorded_in, with_recorder};
-ghost use Rattle.agg_kit.specs.Stamps.{stamped_in, AreSpots, HaveRooms};
+ghost use Rattle.agg_kit.specs.Stamps.{stamped_in, stamps_put, AreSpots, CanNoteEach, HaveRooms};
 ghost use Rattle.agg_kit.specs.Refusals.{is_negative_for};
 ghost use Rattle.agg_kit.specs.declared.fault.TallyFault.TheVariants as faults;
 ghost use Rattle.agg_kit.specs.Sound.{AllSound};
@@ -21,7 +21,7 @@ use crate::bound::places_of;
 use crate::recorder::{feeds_in, keep_each};
 use crate::recording::record;
 use crate::series::Series;
-use crate::stamps::{Stamps, clear_each, find_spots};
+use crate::stamps::{Stamps, clear_each, find_spots, note_each};
 use crate::{Bound, Recorder, TallyFault};
 use attr_kit::{AttrSet, AttrValue, Keep, NoMemory, Txt};
 use plan_kit::{Feed, Kind, Plan};
@@ -203,8 +203,7 @@ impl Tally {
         )
     }
 
-    // Whether a recorder may hold the stream of each feed of an instrument, and that has a point of its own for the set, or room
-    // for one.
+    // Whether the stream of each feed of an instrument has a point of its own for the set, or room for one.
     pub(crate) fn keeps_sets(&self, instrument: usize, attrs: &AttrSet) -> Result<bool, NoMemory>
         ensures value { IfOk result (λ keeps. (v : ℤ) → keeps ≡ keeps_sets self.now (entry_of instrument attrs.now v)) }
         ensures rising { (k : Kind) → kind_of self.now.plan instrument ≡ Some k
@@ -217,7 +216,7 @@ impl Tally {
         }
     }
 
-    // The places of a set's points in the streams of an instrument's feeds, or of the next ones, and room for their stamps.
+    // The places of a set's points in the streams of an instrument's feeds, or of the next ones, and room beside them.
     pub(crate) fn find_spots(
         &self,
         instrument: usize,
@@ -234,12 +233,26 @@ impl Tally {
         find_spots(&self.series, stamps, feeds, attrs, spots)
     }
 
+    // Notes one more value in the streams of an instrument's feeds, its set at these places. The points have it already.
+    pub(crate) fn note_each(&self, instrument: usize, stamps: &mut Vec<Stamps>, spots: &[usize])
+        requires long { length stamps.old.items ≡ length self.now.plan.streams }
+        requires can { CanNoteEach self.now.plan (feeds_of self.now.plan instrument) spots.now stamps.old.items }
+        ensures value { stamped_in stamps.new.items
+            ≡ stamps_put self.now.plan (feeds_of self.now.plan instrument) spots.now self.now.series (stamped_in stamps.old.items) }
+        ensures rising { (k : Kind) → kind_of self.now.plan instrument ≡ Some k
+            → AllRise self.now.plan k (feeds_of self.now.plan instrument) }
+    {
+        let feeds = feeds_in(&self.plan, instrument);
+        note_each(&self.plan, &self.series, stamps, feeds, spots);
+    }
+
     /// Takes in what a recorder of the same plan holds, as if each of its recordings had been measured here, one after the other,
     /// and leaves the recorder empty. The sets are moved where there is no point for them. No clause says what room the recorder
     /// has then, and its bound points are to be released or bound again.
     ///
-    /// Refuses, and leaves both as they were: `Overflow` with the first stream of which a point would leave its range, `NoMemory`.
-    /// O(streams, and points of the recorder).
+    /// Refuses, and leaves both as they were: `Overflow` with the first stream of which a point would leave its range, or would have
+    /// on the way, `NoMemory`. Of sums that may fall each set counts by how far down and up it went: that is exact where the set has
+    /// its own point here, and no less than exact where sets meet under the overflow set. O(streams, and points of the recorder).
     pub fn absorb(&mut self, recorder: &mut Recorder) -> Result<(), TallyFault>
         requires { recorder.old.plan ≡ self.old.plan }
         ensures ok { OnOk result (absorb_fault self.old recorder.old ≡ None) }
@@ -256,7 +269,7 @@ impl Tally {
         Ok(())
     }
 
-    // The same of the points of a recorder of the same plan, and of their stamps.
+    // The same of the points of a recorder of the same plan, and of what is kept beside them.
     fn take_from(&mut self, other: &mut Tally, stamps: &[Stamps]) -> Result<(), TallyFault>
         requires plan { other.old.plan ≡ self.old.plan }
         requires long { length stamps.now ≡ length self.old.plan.streams }

@@ -13,7 +13,7 @@ use Rattle.rollup_kit.specs.Asks.{Attributes, attributes_cmp, asks, group}
 use Rattle.rollup_kit.specs.Newest.{latest, as_point}
 use Rattle.rollup_kit.specs.Parts.{no_parts, plus_parts, parts_of}
 use Rattle.rollup_kit.specs.Rollups.{gauge_of, gauges_in}
-use Rattle.rollup_kit.specs.Standing.{group_of, row_among, is_row, standing}
+use Rattle.rollup_kit.specs.Standing.{group_of, row_among, is_row, group_after}
 use Rattle.rollup_kit.specs.declared.ask.Ask.{Ask}
 use Rattle.rollup_kit.proofs.PartLaws.{parts_add_up, counts_add_up}
 use Rattle.rollup_kit.proofs.Snoc.{counts}
@@ -76,5 +76,5 @@ module _ (ask : Ask) (q : Attributes) (p : Key × Cell Payload → Bool) (covers
       ] refl
 
   -- what stands after the cells that are left stands after all
-  pub standing-filter : (n : ℕ) (es : List (Key × Cell Payload)) → standing ask n (filter p es) q ≡ standing ask n es q
-  standing-filter n es = λ i. cond (is_row-filter es i) (Some (group_of n (row-filter es i) (option_map as_point (latest key_cmp (gauges-filter es i))))) None
+  pub group_after-filter : (n : ℕ) (es : List (Key × Cell Payload)) → group_after ask n (filter p es) q ≡ group_after ask n es q
+  group_after-filter n es = λ i. cond (is_row-filter es i) (Some (group_of n (row-filter es i) (option_map as_point (latest key_cmp (gauges-filter es i))))) None

@@ -1,5 +1,6 @@
 -- The payload of a name is that of the values that feed it.
-use Rattle.std.proofs.Common.{◌≡◌, ℕ, ℤ, zero, suc, ◌+◌, Bool, true, false, cond, ◌&&◌, inl, inr, List, [], ◌∷◌, ◌++◌, map, filter, slice_get, append-nil, Some, refl, sym, ap, subst, ◌∙◌, arith}
+use Rattle.std.proofs.Common.{◌≡◌, ℕ, ℤ, zero, suc, ◌+◌, true, false, cond, ◌&&◌, inl, inr, List, [], ◌∷◌, ◌++◌, map, filter, slice_get, append-nil, Some, refl, sym, ap, subst, ◌∙◌, arith}
+use Rattle.std.proofs.lemmas.Bool.{and_parts}
 use Rattle.attr_kit.specs.declared.attr_set.AttrSet.{AttrSet}
 use Rattle.agg_kit.proofs.Distinct.{same, has-distinct}
 use Rattle.agg_kit.specs.Entries.{Entry, Arrivals}
@@ -98,16 +99,12 @@ fed_named p h k (s ∷ ss) v i = elim (In-append v (map (in_stream s) (fed p k h
   | inr later ↦ In-right v.0 (map (λ a. (s, a)) (distinct (sets_of (fed p k h)))) (names_from p h (k + 1) ss) (fed_named p h (k + 1) ss v later)
 ]
 
-first_true : (a b : Bool) → (a && b) ≡ true → a ≡ true
-first_true true b e = refl
-first_true false b e = e
-
 module _ (s : Writers) (plans : ArePlans s) (ask : Ask) where
   paid : (w : ℕ) (h : List Entry) (i : WriterId) (start : ℕ) (x : Name) → asks ask (key_at i start x) ≡ true → In x (names_from (s.plan w) h 0 (s.plan w).streams)
       → payload_at (s.plan w) h x ≡ payload_of ask.stream.shape (values_under name_eq x (entries_fed s w h))
   paid w h i start x asked held =
       let plan = (s.plan w) in
-      let is : ask.stream ≡ x.0 = exact_streams ask.stream x.0 (first_true _ _ asked) in
+      let is : ask.stream ≡ x.0 = exact_streams ask.stream x.0 ((and_parts _ _ asked).0) in
       let at = placed plan.streams x.0 (stream_in plan h 0 plan.streams x held) in
       let number : number_of plan x.0 ≡ at.0 = number_is plan (plans w) at.0 x.0 at.1 in
       let none : at.0 ≡ 0 + at.0 = omega arith in

@@ -1,6 +1,6 @@
 -- One more cell.
 use Rattle.std.proofs.Common.{◌≡◌, ℕ, ◌+◌, Bool, true, false, cond, ◌&&◌, ◌||◌, List, [], ◌∷◌, ◌++◌, map, filter, None, refl, ap, ◌∙◌}
-use mathlib.Core.Bool.{true≢false}
+use Rattle.std.proofs.lemmas.Bool.{or_parts}
 use Rattle.std.specs.List.{list_any, cons_option}
 use Rattle.std.proofs.lemmas.List.Elements.{filter_map-append}
 use Rattle.std.specs.declared.cmp.Ordering.TheVariants.{Less}
@@ -90,15 +90,11 @@ module _ (ask : Ask) (q : Attributes) where
         | false ↦ is_row-snoc es e
       ]
 
-  or_false : (a b : Bool) → (a || b) ≡ false → (a ≡ false) × (b ≡ false)
-  or_false true b h = absurd (true≢false h)
-  or_false false b h = (refl, h)
-
   no_row_parts : (x : Key × Cell Payload) (es : List (Key × Cell Payload)) → is_row ask (x ∷ es) q ≡ false → (counts x ≡ false) × (is_row ask es q ≡ false)
   no_row_parts x es h =
       elim (asks ask x.0) as (λ a. list_any (eq_by_cmp attributes_cmp q) (map (λ e. group ask e.0) (cond a (x ∷ filter (λ e. asks ask e.0) es) (filter (λ e. asks ask e.0) es))) ≡ false
       → ((a && eq_by_cmp attributes_cmp q (group ask x.0)) ≡ false) × (is_row ask es q ≡ false)) [
-        | true ↦ λ h. or_false (eq_by_cmp attributes_cmp q (group ask x.0)) (is_row ask es q) h
+        | true ↦ λ h. or_parts (eq_by_cmp attributes_cmp q (group ask x.0)) (is_row ask es q) h
         | false ↦ λ h. (refl, h)
       ] h
 

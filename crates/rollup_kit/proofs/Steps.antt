@@ -1,5 +1,6 @@
 -- What stands after one more cell.
-use Rattle.std.proofs.Common.{◌≡◌, ℕ, ℤ, pos, ◌+◌, ◌+ℤ◌, Bool, true, false, cond, ◌||◌, List, [], ◌∷◌, ◌++◌, Option, Some, None, unwrap_or, refl, sym, ap, ◌∙◌, arith}
+use Rattle.std.proofs.Common.{◌≡◌, ℕ, ℤ, pos, ◌+◌, ◌+ℤ◌, true, false, cond, ◌||◌, List, [], ◌∷◌, ◌++◌, Option, Some, None, unwrap_or, refl, sym, ap, ◌∙◌, arith}
+use Rattle.std.proofs.Math.Bool.{or-true, or-false}
 use Rattle.std.specs.List.{cons_option}
 use Rattle.std.specs.Prelude.{slice_index}
 use Rattle.std.specs.Option.{option_map}
@@ -21,7 +22,7 @@ use Rattle.rollup_kit.specs.Newest.{Dated, latest, as_point}
 use Rattle.rollup_kit.specs.Parts.{Parts, no_parts, plus_parts, parts_of}
 use Rattle.rollup_kit.specs.Rollups.{gauge_of, gauges_in, newest}
 use Rattle.rollup_kit.specs.Extents.{join_spans}
-use Rattle.rollup_kit.specs.Standing.{group_of, row_among, is_row, standing}
+use Rattle.rollup_kit.specs.Standing.{group_of, row_among, is_row, group_after}
 use Rattle.rollup_kit.specs.declared.ask.Ask.{Ask}
 use Rattle.rollup_kit.specs.declared.extent.Extent.{Extent}
 use Rattle.rollup_kit.specs.declared.extent.Extent.TheVariants.{Empty, Known, Unknown}
@@ -85,14 +86,6 @@ with_one n row before after time Conflict e = λ i. record {
   conflicts = row.conflicts + 1;
 }
 
-or_true : (b : Bool) → (b || true) ≡ true
-or_true true = refl
-or_true false = refl
-
-or_none : (b : Bool) → (b || false) ≡ b
-or_none true = refl
-or_none false = refl
-
 module _ (ask : Ask) (n : ℕ) (q : Attributes) where
   -- the newest value, with a cell that the row counts
   newest_counted : (es : List (Key × Cell Payload)) (key : Key) (time : ℕ) (held : Held Payload) → KeysBelow key es
@@ -103,16 +96,16 @@ module _ (ask : Ask) (n : ℕ) (q : Attributes) where
   newest_counted es key time Conflict below = ap (λ ds. option_map as_point (latest key_cmp ds)) (append-nil (gauges_in ask es q))
 
   -- what stands, or nothing counted
-  stood : (es : List (Key × Cell Payload)) → unwrap_or (standing ask n es q) (no_group n) ≡ group_of n (row_among ask es q) (newest ask es q)
+  stood : (es : List (Key × Cell Payload)) → unwrap_or (group_after ask n es q) (no_group n) ≡ group_of n (row_among ask es q) (newest ask es q)
   stood es =
       elim (is_row ask es q) as (λ b. is_row ask es q ≡ b → unwrap_or (cond b (Some (group_of n (row_among ask es q) (newest ask es q))) None) (no_group n) ≡ group_of n (row_among ask es q) (newest ask es q)) [
         | true ↦ λ t. refl
         | false ↦ λ t. let none = no_row ask q es t in sym (ap (λ (r : rows.Row Parts). group_of n r (newest ask es q)) none.0 ∙ ap (λ (ds : List (Dated Key)). group_of n (record { total = no_parts; points = 0; conflicts = 0 }) (option_map as_point (latest key_cmp ds))) none.1)
       ] refl
 
-  counted : (es : List (Key × Cell Payload)) (e : Key × Cell Payload) → KeysBelow e.0 es → counts ask q e ≡ true → standing ask n (es ++ e ∷ []) q ≡ Some (with_held (unwrap_or (standing ask n es q) (no_group n)) e.1.time e.1.held)
+  counted : (es : List (Key × Cell Payload)) (e : Key × Cell Payload) → KeysBelow e.0 es → counts ask q e ≡ true → group_after ask n (es ++ e ∷ []) q ≡ Some (with_held (unwrap_or (group_after ask n es q) (no_group n)) e.1.time e.1.held)
   counted es e below is =
-      let there : is_row ask (es ++ e ∷ []) q ≡ true = is_row-snoc ask q es e ∙ ap (λ b. is_row ask es q || b) is ∙ or_true (is_row ask es q) in
+      let there : is_row ask (es ++ e ∷ []) q ≡ true = is_row-snoc ask q es e ∙ ap (λ b. is_row ask es q || b) is ∙ or-true (is_row ask es q) in
       let after : newest ask (es ++ e ∷ []) q ≡ later_newest (newest ask es q) e.1.time e.1.held =
       ap (λ ds. option_map as_point (latest key_cmp ds)) (gauges-snoc ask q es e ∙ ap (λ b. gauges_in ask es q ++ cons_option (cond b (gauge_of e.0 e.1.time e.1.held) None) []) is) ∙ newest_counted es e.0 e.1.time e.1.held below in
       ap (λ b. cond b (Some (group_of n (row_among ask (es ++ e ∷ []) q) (newest ask (es ++ e ∷ []) q))) None) there
@@ -120,17 +113,17 @@ module _ (ask : Ask) (n : ℕ) (q : Attributes) where
       ∙ ap Some (with_one n (row_among ask es q) (newest ask es q) (newest ask (es ++ e ∷ []) q) e.1.time e.1.held after)
       ∙ ap (λ (g : Grouped). Some (with_held g e.1.time e.1.held)) (sym (stood es))
 
-  skipped : (es : List (Key × Cell Payload)) (e : Key × Cell Payload) → counts ask q e ≡ false → standing ask n (es ++ e ∷ []) q ≡ standing ask n es q
+  skipped : (es : List (Key × Cell Payload)) (e : Key × Cell Payload) → counts ask q e ≡ false → group_after ask n (es ++ e ∷ []) q ≡ group_after ask n es q
   skipped es e is =
-      let there : is_row ask (es ++ e ∷ []) q ≡ is_row ask es q = is_row-snoc ask q es e ∙ ap (λ b. is_row ask es q || b) is ∙ or_none (is_row ask es q) in
+      let there : is_row ask (es ++ e ∷ []) q ≡ is_row ask es q = is_row-snoc ask q es e ∙ ap (λ b. is_row ask es q || b) is ∙ or-false (is_row ask es q) in
       let after : newest ask (es ++ e ∷ []) q ≡ newest ask es q =
       ap (λ ds. option_map as_point (latest key_cmp ds)) (gauges-snoc ask q es e ∙ ap (λ b. gauges_in ask es q ++ cons_option (cond b (gauge_of e.0 e.1.time e.1.held) None) []) is ∙ append-nil (gauges_in ask es q)) in
       λ i. cond (there i) (Some (group_of n (row-skipped ask q es e is i) (after i))) None
 
-  pub standing-snoc : (es : List (Key × Cell Payload)) (e : Key × Cell Payload) → KeysBelow e.0 es
-      → standing ask n (es ++ e ∷ []) q ≡ cond (counts ask q e) (Some (with_held (unwrap_or (standing ask n es q) (no_group n)) e.1.time e.1.held)) (standing ask n es q)
-  standing-snoc es e below =
-      elim (counts ask q e) as (λ b. counts ask q e ≡ b → standing ask n (es ++ e ∷ []) q ≡ cond b (Some (with_held (unwrap_or (standing ask n es q) (no_group n)) e.1.time e.1.held)) (standing ask n es q)) [
+  pub group_after-snoc : (es : List (Key × Cell Payload)) (e : Key × Cell Payload) → KeysBelow e.0 es
+      → group_after ask n (es ++ e ∷ []) q ≡ cond (counts ask q e) (Some (with_held (unwrap_or (group_after ask n es q) (no_group n)) e.1.time e.1.held)) (group_after ask n es q)
+  group_after-snoc es e below =
+      elim (counts ask q e) as (λ b. counts ask q e ≡ b → group_after ask n (es ++ e ∷ []) q ≡ cond b (Some (with_held (unwrap_or (group_after ask n es q) (no_group n)) e.1.time e.1.held)) (group_after ask n es q)) [
         | true ↦ λ t. counted es e below t
         | false ↦ λ t. skipped es e t
       ] refl

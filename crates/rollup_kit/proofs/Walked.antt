@@ -1,10 +1,8 @@
 -- A walk over cells in the order of their keys.
-use Rattle.std.proofs.Common.{◌≡◌, ℕ, ◌+◌, ◌<◌, ◌≤◌, ◌^◌, Bool, true, false, cond, ◌&&◌, List, [], ◌∷◌, ◌++◌, length, map, append_assoc, length-append, Option, Some, None, unwrap_or, refl, sym, ap, subst, ◌∙◌, arith}
-use mathlib.Core.Bool.{true≢false}
+use Rattle.std.proofs.Common.{◌≡◌, ℕ, ◌+◌, ◌<◌, ◌≤◌, ◌^◌, Bool, true, false, cond, List, [], ◌∷◌, ◌++◌, length, map, append_assoc, length-append, Option, Some, None, unwrap_or, sym, ap, subst, ◌∙◌, arith}
+use Rattle.std.proofs.lemmas.Bool.{and_parts}
 use Rattle.std.proofs.lemmas.List.{map-append}
 use Rattle.std.specs.Prelude.{IfSome}
-use Rattle.std.specs.declared.cmp.Ordering.{Ordering}
-use Rattle.std.specs.declared.cmp.Ordering.TheVariants.{Less, Equal, Greater}
 use Rattle.std.specs.Ordering.{is_lt}
 use Rattle.std.specs.FinMap.Entries.{is_sorted, below_all}
 use Rattle.point_kit.specs.Orders.{key_cmp}
@@ -17,33 +15,21 @@ use Rattle.schedule_kit.specs.Rows.{is_one, is_conflict}
 use Rattle.rollup_kit.specs.Asks.{Attributes}
 use Rattle.rollup_kit.specs.Groups.{Grouped, no_group, with_held}
 use Rattle.rollup_kit.specs.Rollups.{newest}
-use Rattle.rollup_kit.specs.Standing.{group_of, row_among, is_row, standing, Stands}
+use Rattle.rollup_kit.specs.Standing.{group_of, row_among, is_row, group_after, Stands}
 use Rattle.rollup_kit.specs.Walks.{Rows, group_at, HasRoom, Adds}
 use Rattle.rollup_kit.specs.declared.ask.Ask.{Ask}
+use Rattle.gateway_kit.proofs.Entries.{as_T, less}
 use Rattle.rollup_kit.proofs.Snoc.{counts, KeysBelow}
-use Rattle.rollup_kit.proofs.Steps.{standing-snoc}
-
-less_of : (r : Ordering) → is_lt r ≡ true → r ≡ Less
-less_of Less h = refl
-less_of Equal h = absurd (true≢false (sym h))
-less_of Greater h = absurd (true≢false (sym h))
-
-both_first : (a b : Bool) → (a && b) ≡ true → a ≡ true
-both_first true b h = refl
-both_first false b h = absurd (true≢false (sym h))
-
-both_second : (a b : Bool) → (a && b) ≡ true → b ≡ true
-both_second true b h = h
-both_second false b h = absurd (true≢false (sym h))
+use Rattle.rollup_kit.proofs.Steps.{group_after-snoc}
 
 below_mid : (k : Key) (es : List (Key × Cell Payload)) (e : Key × Cell Payload) (rest : List (Key × Cell Payload)) → below_all key_cmp k (es ++ e ∷ rest) ≡ true → is_lt (key_cmp k e.0) ≡ true
-below_mid k [] e rest h = both_first _ _ h
-below_mid k (x ∷ es) e rest h = below_mid k es e rest (both_second _ _ h)
+below_mid k [] e rest h = (and_parts _ _ h).0
+below_mid k (x ∷ es) e rest h = below_mid k es e rest ((and_parts _ _ h).1)
 
 -- what comes before a cell in order has lesser keys
 pub sorted_below : (es : List (Key × Cell Payload)) (e : Key × Cell Payload) (rest : List (Key × Cell Payload)) → is_sorted key_cmp (es ++ e ∷ rest) ≡ true → KeysBelow e.0 es
 sorted_below [] e rest h = tt
-sorted_below (x ∷ es) e rest h = (less_of _ (below_mid x.0 es e rest (both_first _ _ h)), sorted_below es e rest (both_second _ _ h))
+sorted_below (x ∷ es) e rest h = (less _ (as_T (below_mid x.0 es e rest ((and_parts _ _ h).0))), sorted_below es e rest ((and_parts _ _ h).1))
 
 ones : (b : Bool) (h : Held Payload) → cond b (is_one h) 0 ≤ 1
 ones true (One p) = omega arith
@@ -64,7 +50,7 @@ module _ (ask : Ask) (q : Attributes) where
   conflicts_few [] = omega arith
   conflicts_few (x ∷ es) = let one : cond (counts ask q x) (is_conflict x.1.held) 0 ≤ 1 = clashes (counts ask q x) x.1.held in let rest : (row_among ask es q).conflicts ≤ length es = conflicts_few es in omega arith
 
-  room_at : (n : ℕ) (es : List (Key × Cell Payload)) → length es + 1 < 2 ^ 64 → IfSome (standing ask n es q) (λ g. (g.points + 1 < 2 ^ 64) × (g.conflicts + 1 < 2 ^ 64))
+  room_at : (n : ℕ) (es : List (Key × Cell Payload)) → length es + 1 < 2 ^ 64 → IfSome (group_after ask n es q) (λ g. (g.points + 1 < 2 ^ 64) × (g.conflicts + 1 < 2 ^ 64))
   room_at n es few =
       let some : (row_among ask es q).points ≤ length es = points_few es in
       let other : (row_among ask es q).conflicts ≤ length es = conflicts_few es in
@@ -84,7 +70,7 @@ room_of rows q g room is = subst (λ (o : Option Grouped). IfSome o (λ g. (g.po
 -- and then stands with the others
 pub stands_more : (ask : Ask) (n : ℕ) (es : List (Key × Cell Payload)) (e : Key × Cell Payload) (old new : Rows) → KeysBelow e.0 es → Stands ask n es old → Adds ask n e old new → Stands ask n (es ++ e ∷ []) new
 stands_more ask n es e old new below stands adds q =
-    adds q ∙ ap (λ (o : Option Grouped). cond (counts ask q e) (Some (with_held (unwrap_or o (no_group n)) e.1.time e.1.held)) o) (stands q) ∙ sym (standing-snoc ask n q es e below)
+    adds q ∙ ap (λ (o : Option Grouped). cond (counts ask q e) (Some (with_held (unwrap_or o (no_group n)) e.1.time e.1.held)) o) (stands q) ∙ sym (group_after-snoc ask n q es e below)
 
 -- how a walk goes on
 module _ {A B : Type 0} (f : A → B) where

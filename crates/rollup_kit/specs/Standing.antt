@@ -35,12 +35,12 @@ abbrev pub is_row : Ask → List (Key × Cell Payload) → Attributes → Bool
 is_row ask cells attrs = list_any (eq_by_cmp attributes_cmp attrs) (map (λ e. group ask e.0) (filter (λ e. asks ask e.0) cells))
 
 -- the group of a set of attributes after these cells
-abbrev pub standing : Ask → ℕ → List (Key × Cell Payload) → Attributes → Option Grouped
-standing ask buckets cells attrs = cond (is_row ask cells attrs) (Some (group_of buckets (row_among ask cells attrs) (newest ask cells attrs))) None
+abbrev pub group_after : Ask → ℕ → List (Key × Cell Payload) → Attributes → Option Grouped
+group_after ask buckets cells attrs = cond (is_row ask cells attrs) (Some (group_of buckets (row_among ask cells attrs) (newest ask cells attrs))) None
 
 -- the groups are those after these cells
 abbrev pub Stands : Ask → ℕ → List (Key × Cell Payload) → Rows → Type 0
-Stands ask buckets cells groups = (q : Attributes) → group_at groups q ≡ standing ask buckets cells q
+Stands ask buckets cells groups = (q : Attributes) → group_at groups q ≡ group_after ask buckets cells q
 
 -- groups that are those after the one cells are those after the other
 abbrev pub StandsFor : Ask → List (Key × Cell Payload) → List (Key × Cell Payload) → Type 0

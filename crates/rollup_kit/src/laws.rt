@@ -27,10 +27,13 @@ pub fn points_add_up()
 #[tactic(auto, using(crate::proofs::Recordings::rollup_recorded))]
 pub fn rows_are_recorded<N, I, X>()
     ensures exact { (ask : Ask) → AddsUp ask.stream.shape → (r : Rounding N Key I X Payload) → IsSound (by_keys r)
-        → (fits : ℕ → List N → N → Bool) (starts : List ℕ) (gateways : ℕ) → IsTold r.who starts → (ds : List (Deed N)) → AreLawful fits starts gateways ds
-        → (h : Holder) (fed : ℕ → List N → List (X × ℤ)) → AreFed ask (by_keys r) fed
+        → (fits : ℕ → List N → N → Bool) (starts : List ℕ) (gateways : ℕ) → IsTold r.who starts
+        → (ds : List (Deed N)) → AreLawful fits starts gateways ds → (h : Holder)
+        → (fed : ℕ → List N → List (X × ℤ)) → AreFed ask (by_keys r) fed
         → rollup_rows ask (state (by_keys r) (taken_collections starts ds h))
-        ≡ recorded_rows ask (values_fed (by_keys r) (recorded_up_to starts ds h) (incarnations starts ds) fed) (keys_fed (by_keys r) (recorded_up_to starts ds h) (incarnations starts ds)) }
+        ≡ recorded_rows ask
+        (values_fed (by_keys r) (recorded_up_to starts ds h) (incarnations starts ds) fed)
+        (keys_fed (by_keys r) (recorded_up_to starts ds h) (incarnations starts ds)) }
 {}
 
 /// What is recorded comes to the same rows in whatever order the entries of each writer stand, where no stream is past the

@@ -3,8 +3,6 @@ use Rattle.attr_kit.specs.Keeping.{kept}
 use Rattle.attr_kit.specs.declared.attr_set.AttrSet.{AttrSet}
 use Rattle.plan_kit.specs.Plans.{AreFeeds}
 use Rattle.agg_kit.specs.Feeding.{set_eq, overflow_set}
-use Rattle.agg_kit.specs.Feeds.{shape_at}
-use Rattle.agg_kit.specs.Recorders.{may_hold}
 use Rattle.agg_kit.specs.Steps.{own_count, has_point, fed_set}
 use Rattle.agg_kit.specs.Tallies.{Points}
 use Rattle.agg_kit.proofs.Recorders.{if_ok, keeps-here, keeps-more, place-own, place-roomy}
@@ -23,12 +21,11 @@ returns-clause-value t c =
     let f = c.in-Some.feed.now in
     let s = c.index-points.result.now in
     let fits : AreFeeds (length ss) (f ∷ c.in-Some.rest.now) = subst (AreFeeds (length ss)) c.in-Some.ensures.cases.0 c.requires.feeds in
-    let up : may_hold (shape_at p f.stream) ≡ true = ap may_hold (sym c.shape_of.ensures.value) ∙ sym c.may_hold.ensures ∙ c.if-not-may_hold.false in
     let goes : fed_set p.limit s.entries (kept f.keep a) ≡ kept f.keep a =
     elim c.if-not-has_room.branch [
       | then-not-has_room+in_ok-only+else-not-has_own+in-Some-1 w ↦ own-place p.limit s.entries c.args.overflow.now w.set_or.result.now (kept f.keep a) w.has_own.result c.requires.overflow (w.set_or.ensures ∙ w.in_ok-only.ensures.value) w.has_own.ensures w.if-not-has_own.false
       | then-not-has_room+in_ok-only+else-not-has_own+in-None-1 w ↦ own-place p.limit s.entries c.args.overflow.now w.set_or.result.now (kept f.keep a) w.has_own.result c.requires.overflow (w.set_or.ensures ∙ w.in_ok-only.ensures.value) w.has_own.ensures w.if-not-has_own.false
       | else-not-has_room w ↦ place-roomy p.limit s.entries (kept f.keep a) (subst (λ (n : ℕ). own_count s.entries < n) c.limit.ensures.value (c.has_room.ensures.0 w.if-not-has_room.false))
     ] in
-    let here = keeps-here p f a ss s fits.0 c.index-points.ensures up goes in
+    let here = keeps-here p f a ss s fits.0 c.index-points.ensures goes in
     if_ok _ _ c.keep_each.result (λ keeps is. is ∙ keeps-more p a ss f c.in-Some.rest.now c.args.feeds.now c.in-Some.ensures.cases.0 here) c.keep_each.ensures.value

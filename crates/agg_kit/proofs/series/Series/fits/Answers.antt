@@ -1,54 +1,27 @@
-use Rattle.std.proofs.Common.{◌≡◌, ◌∙◌, ◌+◌, ap, sym, subst, take, not, arith}
-use Rattle.std.specs.Map.{keys_of}
-use Rattle.attr_kit.specs.declared.attr_set.AttrSet.{AttrSet}
-use Rattle.point_kit.specs.declared.payload.Payload.{Payload}
-use Rattle.agg_kit.specs.Absorbing.{AreBothSound, Knows}
-use Rattle.agg_kit.specs.Absorbs.{absorb, fits}
-use Rattle.agg_kit.specs.Sound.{AreOnce}
-use Rattle.agg_kit.specs.Steps.{Stored}
-use Rattle.agg_kit.specs.Tallies.{Points}
-use Rattle.agg_kit.specs.declared.absorbing.Walk.{Walk}
-use Rattle.agg_kit.proofs.ComingIn.{walks-there, sound-there, seen-more, fits-more, fits-not}
-use Rattle.agg_kit.proofs.Copies.{none-there}
+use Rattle.std.proofs.Common.{◌∙◌, ◌&&◌, Bool, true, ap, sym}
+use Rattle.agg_kit.specs.Absorbs.{fits}
+use Rattle.agg_kit.specs.Stamps.{ends_of, with_sums}
+use Rattle.agg_kit.proofs.Records.{empty-list}
+use Rattle.agg_kit.proofs.Ways.{way-ends, way-none, way-not, without_sums}
 use Rattle.agg_kit.proofs.series.Series.fits.Goals as goal
-use Rattle.agg_kit.proofs.series.Series.fits.Goals.{in-Some+else-not-steps_over, in_default}
 
-pub returns-then-not-steps_over : goal.returns-then-not-steps_over
-returns-then-not-steps_over c =
-    let limit = c.args.limit in
+pub returns-then-not-fits_at : goal.returns-then-not-fits_at
+returns-then-not-fits_at c =
     let es = c.args.self.now.entries in
-    let ms = c.later.inside.points.entries in
-    let i = c.loop-place.place in
-    let view : ms ≡ c.args.later.now.entries = ap (λ (s : Stored). s.entries) c.later.view_is in
-    let once = subst (λ (l : Points). AreOnce (keys_of l)) (sym view) c.requires.once in
-    let sound = subst (AreBothSound es) (sym view) c.requires.sound in
-    let now = absorb limit es (take i ms) in
-    let e : AttrSet × Payload = (c.in-Some.set.now, c.in-Some.payload.now) in
-    let there = sym c.in-Some.ensures.entry in
-    let walks = walks-there limit es ms i e there c.loop-place.walk once c.loop-place.invariant.0 in
-    let out = c.steps_over.ensures.fits now walks (sound-there limit es ms i e there sound) ∙ ap not c.if-not-steps_over.true in
-    sym (ap (fits limit es) (sym view) ∙ fits-not limit es ms i e there c.loop-place.invariant.1 out)
+    let ms = c.args.later.now.entries in
+    sym (way-not c.args.limit es ms c.args.reaches.now (ap (fits c.args.limit es) (sym (without_sums ms)) ∙ sym c.fits_at.ensures ∙ c.if-not-fits_at.true))
 
-pub loop-place-preserved : goal.loop-place-preserved
-loop-place-preserved c =
-    let limit = c.args.limit in
+pub returns-then-is_empty : goal.returns-then-is_empty
+returns-then-is_empty c =
     let es = c.args.self.now.entries in
-    let ms = c.later.inside.points.entries in
-    let i = c.loop-place.place in
-    let view : ms ≡ c.args.later.now.entries = ap (λ (s : Stored). s.entries) c.later.view_is in
-    let once = subst (λ (l : Points). AreOnce (keys_of l)) (sym view) c.requires.once in
-    let sound = subst (AreBothSound es) (sym view) c.requires.sound in
-    let now = absorb limit es (take i ms) in
-    elim c.match-get_index.branch [
-      | in-Some+else-not-steps_over w ↦
-          let e : AttrSet × Payload = (w.in-Some.set.now, w.in-Some.payload.now) in
-          let there = sym w.in-Some.ensures.entry in
-          let walks = walks-there limit es ms i e there c.loop-place.walk once c.loop-place.invariant.0 in
-          let takes = sound-there limit es ms i e there sound in
-          let fine = w.steps_over.ensures.fits now walks takes ∙ ap not w.if-not-steps_over.false in
-          let knows = w.steps_over.ensures.goes now walks takes w.if-not-steps_over.false in (
-            subst (λ (v : Walk). Knows v (absorb limit es (take (i + 1) ms))) (sym w.walk-is) (subst (Knows w.steps_over.new.walk) (sym (seen-more limit es ms i e there)) knows),
-            fits-more limit es ms i e there c.loop-place.invariant.1 fine,
-          )
-      | in_default w ↦ absurd (none-there ms i (omega (arith, c.loop-place-test.true, c.len-place-end.ensures.len)) (sym w.in_default.ensures.entry))
-    ]
+    let ms = c.args.later.now.entries in
+    sym (way-none c.args.limit es ms c.args.reaches.now (empty-list c.args.reaches.now (sym c.is_empty.ensures ∙ c.if-is_empty.true)) (ap (fits c.args.limit es) (sym (without_sums ms)) ∙ sym c.fits_at.ensures ∙ c.if-not-fits_at.false))
+
+pub returns-then-fits_at : goal.returns-then-fits_at
+returns-then-fits_at c =
+    let es = c.args.self.now.entries in
+    let ms = c.args.later.now.entries in
+    let rs = c.args.reaches.now in
+    c.fits_at-then-fits_at.ensures
+    ∙ sym (way-ends c.args.limit es ms rs (ap (fits c.args.limit es) (sym (without_sums ms)) ∙ sym c.fits_at.ensures ∙ c.if-not-fits_at.false)
+    ∙ ap (λ (b : Bool). b && fits c.args.limit es (with_sums ms (ends_of true rs))) (sym c.fits_at-2.ensures ∙ c.if-fits_at.true))

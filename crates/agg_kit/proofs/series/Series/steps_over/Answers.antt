@@ -24,22 +24,22 @@ is-over : (limit : ℕ) (es : Points) (a : AttrSet) → is_own a ≡ false → f
 is-over limit es a n = ap (fed_set limit es) (same a overflow_set (not-false (set_eq a overflow_set) n)) ∙ place-over limit es
 
 pub returns-then-contains_key-clause-fits : goal.returns-then-contains_key-clause-fits
-returns-then-contains_key-clause-fits c = λ es k s.
-    let it : ComesIn c.args.walk.now c.args.self.now.entries es c.args.set.now c.args.payload.now = record { walks = k; sound = s; amount = c.amount_in-more.result; count = c.amount_in-more.ensures.count; sum = c.amount_in-more.ensures.sum } in
+returns-then-contains_key-clause-fits c = λ es p k s m.
+    let it : ComesIn c.args.walk.now c.args.self.now.entries es c.args.set.now p = record { walks = k; sound = s; amount = c.args.more; count = m.count; sum = m.sum } in
     let own = own-is c.args.set.now c.ne.result true c.requires c.ne.ensures c.if-ne.true in
     let there = held-before it c.args.limit c.self.inside.points.entries c.contains_key.result true own (ap (λ (x : Stored). x.entries) c.self.view_is) c.contains_key.ensures c.if-contains_key.true in
     own-fits it c.args.limit c.amount_of.result (not c.is_some.result) own (place-has_point c.args.limit es c.args.set.now there) c.amount_of.ensures.count c.amount_of.ensures.sum (c.plus.ensures.fits ∙ ap not (sym c.is_some.ensures))
 
 pub returns-then-contains_key-clause-goes : goal.returns-then-contains_key-clause-goes
-returns-then-contains_key-clause-goes c = λ es k s _.
-    let it : ComesIn c.args.walk.now c.args.self.now.entries es c.args.set.now c.args.payload.now = record { walks = k; sound = s; amount = c.amount_in-more.result; count = c.amount_in-more.ensures.count; sum = c.amount_in-more.ensures.sum } in
+returns-then-contains_key-clause-goes c = λ es p k s m _.
+    let it : ComesIn c.args.walk.now c.args.self.now.entries es c.args.set.now p = record { walks = k; sound = s; amount = c.args.more; count = m.count; sum = m.sum } in
     let own = own-is c.args.set.now c.ne.result true c.requires c.ne.ensures c.if-ne.true in
     let there = held-before it c.args.limit c.self.inside.points.entries c.contains_key.result true own (ap (λ (x : Stored). x.entries) c.self.view_is) c.contains_key.ensures c.if-contains_key.true in
-    knows-there c.args.walk.now c.args.walk.now es c.args.limit c.args.set.now c.args.payload.now k.0 own there refl
+    knows-there c.args.walk.now c.args.walk.now es c.args.limit c.args.set.now p k.0 own there refl
 
 pub returns-then-walk-limit-clause-fits : goal.returns-then-walk-limit-clause-fits
-returns-then-walk-limit-clause-fits c = λ es k s.
-    let it : ComesIn c.args.walk.now c.args.self.now.entries es c.args.set.now c.args.payload.now = record { walks = k; sound = s; amount = c.amount_in-more.result; count = c.amount_in-more.ensures.count; sum = c.amount_in-more.ensures.sum } in
+returns-then-walk-limit-clause-fits c = λ es p k s m.
+    let it : ComesIn c.args.walk.now c.args.self.now.entries es c.args.set.now p = record { walks = k; sound = s; amount = c.args.more; count = m.count; sum = m.sum } in
     let own = own-is c.args.set.now c.ne.result true c.requires c.ne.ensures c.if-ne.true in
     let there = held-before it c.args.limit c.self.inside.points.entries c.contains_key.result false own (ap (λ (x : Stored). x.entries) c.self.view_is) c.contains_key.ensures c.if-contains_key.false in
     let room : own_count es < c.args.limit = subst (λ (i : ℕ). i < c.args.limit) k.0.own c.if-walk-limit.true in
@@ -47,17 +47,17 @@ returns-then-walk-limit-clause-fits c = λ es k s.
     (c.plus-then-walk-limit.ensures.fits ∙ ap not (sym c.is_some-then-walk-limit.ensures))
 
 pub returns-then-walk-limit-clause-goes : goal.returns-then-walk-limit-clause-goes
-returns-then-walk-limit-clause-goes c = λ es k s _.
-    let it : ComesIn c.args.walk.now c.args.self.now.entries es c.args.set.now c.args.payload.now = record { walks = k; sound = s; amount = c.amount_in-more.result; count = c.amount_in-more.ensures.count; sum = c.amount_in-more.ensures.sum } in
+returns-then-walk-limit-clause-goes c = λ es p k s m _.
+    let it : ComesIn c.args.walk.now c.args.self.now.entries es c.args.set.now p = record { walks = k; sound = s; amount = c.args.more; count = m.count; sum = m.sum } in
     let own = own-is c.args.set.now c.ne.result true c.requires c.ne.ensures c.if-ne.true in
     let there = held-before it c.args.limit c.self.inside.points.entries c.contains_key.result false own (ap (λ (x : Stored). x.entries) c.self.view_is) c.contains_key.ensures c.if-contains_key.false in
     let room : own_count es < c.args.limit = subst (λ (i : ℕ). i < c.args.limit) k.0.own c.if-walk-limit.true in
     let w = c.args.walk.now in
-    knows-new w (record { own = w.own + 1; over = w.over }) es c.args.limit c.args.set.now c.args.payload.now k.0 own there room refl refl
+    knows-new w (record { own = w.own + 1; over = w.over }) es c.args.limit c.args.set.now p k.0 own there room refl refl
 
 pub returns-in-Some-clause-fits : goal.returns-in-Some-clause-fits
-returns-in-Some-clause-fits c = λ es k s.
-    let it : ComesIn c.args.walk.now c.args.self.now.entries es c.args.set.now c.args.payload.now = record { walks = k; sound = s; amount = c.amount_in-more.result; count = c.amount_in-more.ensures.count; sum = c.amount_in-more.ensures.sum } in
+returns-in-Some-clause-fits c = λ es p k s m.
+    let it : ComesIn c.args.walk.now c.args.self.now.entries es c.args.set.now p = record { walks = k; sound = s; amount = c.args.more; count = m.count; sum = m.sum } in
     let at : fed_set c.args.limit es c.args.set.now ≡ overflow_set = elim c.if-ne.branch [
       | then-ne+else-contains_key+else-walk-limit w ↦ past it c.args.limit c.self.inside.points.entries w.contains_key.result (own-is c.args.set.now c.ne.result true c.requires c.ne.ensures w.if-ne.true) (ap (λ (x : Stored). x.entries) c.self.view_is) w.contains_key.ensures w.if-contains_key.false w.if-walk-limit.false
       | else-ne w ↦ is-over c.args.limit es c.args.set.now (own-is c.args.set.now c.ne.result false c.requires c.ne.ensures w.if-ne.false)
@@ -65,19 +65,19 @@ returns-in-Some-clause-fits c = λ es k s.
     over-fits it c.args.limit false at (c.plus-2.ensures.fits ∙ ap (λ (o : Option Amount). not (is_some o)) c.in-Some.is)
 
 pub returns-in-Some-clause-goes : goal.returns-in-Some-clause-goes
-returns-in-Some-clause-goes c = λ es k s _.
-    let it : ComesIn c.args.walk.now c.args.self.now.entries es c.args.set.now c.args.payload.now = record { walks = k; sound = s; amount = c.amount_in-more.result; count = c.amount_in-more.ensures.count; sum = c.amount_in-more.ensures.sum } in
+returns-in-Some-clause-goes c = λ es p k s m _.
+    let it : ComesIn c.args.walk.now c.args.self.now.entries es c.args.set.now p = record { walks = k; sound = s; amount = c.args.more; count = m.count; sum = m.sum } in
     let at : fed_set c.args.limit es c.args.set.now ≡ overflow_set = elim c.if-ne.branch [
       | then-ne+else-contains_key+else-walk-limit w ↦ past it c.args.limit c.self.inside.points.entries w.contains_key.result (own-is c.args.set.now c.ne.result true c.requires c.ne.ensures w.if-ne.true) (ap (λ (x : Stored). x.entries) c.self.view_is) w.contains_key.ensures w.if-contains_key.false w.if-walk-limit.false
       | else-ne w ↦ is-over c.args.limit es c.args.set.now (own-is c.args.set.now c.ne.result false c.requires c.ne.ensures w.if-ne.false)
     ] in
     let w = c.args.walk.now in
-    knows-over w (record { own = w.own; over = c.in-Some.over }) es c.args.limit c.args.set.now c.args.payload.now k.0 s.0 s.1 s.2 at refl
+    knows-over w (record { own = w.own; over = c.in-Some.over }) es c.args.limit c.args.set.now p k.0 s.0 s.1 s.2 at refl
     (c.in-Some.ensures.count ∙ ap (λ (n : ℕ). w.over.count + n) it.count) (c.in-Some.ensures.sum ∙ ap (λ (n : ℤ). w.over.sum +ℤ n) it.sum)
 
 pub returns-in-None-clause-fits : goal.returns-in-None-clause-fits
-returns-in-None-clause-fits c = λ es k s.
-    let it : ComesIn c.args.walk.now c.args.self.now.entries es c.args.set.now c.args.payload.now = record { walks = k; sound = s; amount = c.amount_in-more.result; count = c.amount_in-more.ensures.count; sum = c.amount_in-more.ensures.sum } in
+returns-in-None-clause-fits c = λ es p k s m.
+    let it : ComesIn c.args.walk.now c.args.self.now.entries es c.args.set.now p = record { walks = k; sound = s; amount = c.args.more; count = m.count; sum = m.sum } in
     let at : fed_set c.args.limit es c.args.set.now ≡ overflow_set = elim c.if-ne.branch [
       | then-ne+else-contains_key+else-walk-limit w ↦ past it c.args.limit c.self.inside.points.entries w.contains_key.result (own-is c.args.set.now c.ne.result true c.requires c.ne.ensures w.if-ne.true) (ap (λ (x : Stored). x.entries) c.self.view_is) w.contains_key.ensures w.if-contains_key.false w.if-walk-limit.false
       | else-ne w ↦ is-over c.args.limit es c.args.set.now (own-is c.args.set.now c.ne.result false c.requires c.ne.ensures w.if-ne.false)

@@ -14,9 +14,6 @@ keep_each-requires-clause-feeds c =
     subst (λ (n : ℕ). AreFeeds n c.in-Some.feeds.now) (sym (stored-length c.self.inside.plan.streams c.self.inside.series.items c.self.invariant.sound))
     (subst (AreFeeds (length c.self.inside.plan.streams)) (sym c.in-Some.ensures.value) c.in-Some.ensures.feeds)
 
-pub keep_each-requires-clause-long : goal.keep_each-requires-clause-long
-keep_each-requires-clause-long c = stored-length c.self.inside.plan.streams c.self.inside.series.items c.self.invariant.sound
-
 pub returns-in-None-clause-value : goal.returns-in-None-clause-value
 returns-in-None-clause-value c = λ v.
     let p = c.self.inside.plan in
