@@ -23,9 +23,6 @@
         }                                                                                             \
     } while (0)
 
-/* Whether recorders take up-down counters, too. */
-enum { ALL_KINDS = 0 };
-
 enum instrument { REQUESTS, SIZE, OPEN, DEPTH, INSTRUMENTS };
 /* Streams by their numbers: the first two are those of the requests. */
 enum stream { BY_ROUTE, EACH, SIZES, OPENED, DEPTHS, STREAMS };
@@ -238,9 +235,6 @@ static void absorb(struct split *all, size_t number) {
 
 static bool rises(enum instrument instrument) { return instrument == REQUESTS || instrument == SIZE; }
 
-/* Whether a recorder takes an instrument's values. */
-static bool is_kept(enum instrument instrument) { return ALL_KINDS || instrument != OPEN; }
-
 /* Both writers record, or refuse for one cause. */
 static void measure_both(struct split *all, struct recording it) {
     uint64_t place = 77, other = 77;
@@ -249,7 +243,7 @@ static void measure_both(struct split *all, struct recording it) {
     if (code == KIT_OK) all->past.items[all->past.len++] = it;
 }
 
-/* A recorder records. Where it is full the writer takes it in first, and what an empty one does not take the writer records. */
+/* A recorder records. Where it is full the writer takes it in first, and then it has room. */
 static void record(struct split *all, size_t number, struct recording it, bool held) {
     kit_handle *recorder = &all->recorders[number];
     for (int tries = 0; tries < 2; tries++) {
@@ -266,10 +260,9 @@ static void record(struct split *all, size_t number, struct recording it, bool h
             return;
         }
         CHECK(code == KIT_RECORDER_FULL);
-        if (tries == 0) absorb(all, number), full += is_kept(it.instrument);
+        CHECK(tries == 0);
+        absorb(all, number), full++;
     }
-    CHECK(!is_kept(it.instrument));
-    measure_both(all, it);
 }
 
 /* A recording: in some lists of values that leave 64 bits together, and now and then of one below 0. */
@@ -339,7 +332,7 @@ static void known(void) {
     CHECK(!recorded(&recorder, SIZE, 2, 7) && !recorded(&recorder, SIZE, 1, 3) && !recorded(&recorder, SIZE, 7, 5));
     CHECK(recorded(&recorder, SIZE, 0, 4) == KIT_RECORDER_FULL && recorded(&recorder, SIZE, 1, -1) == KIT_NEGATIVE);
     CHECK(!kit_writer_absorb(&writer, &recorder, &place) && is_empty(&recorder));
-    CHECK(!recorded(&recorder, DEPTH, 0, 9) && recorded(&recorder, OPEN, 0, 9) == (ALL_KINDS ? KIT_OK : KIT_RECORDER_FULL));
+    CHECK(!recorded(&recorder, DEPTH, 0, 9) && !recorded(&recorder, OPEN, 0, 9));
     CHECK(!recorded(&recorder, REQUESTS, 3, 4) && !recorded(&recorder, REQUESTS, 0, 8) && !recorded(&recorder, SIZE, 0, 4));
     CHECK(!kit_writer_absorb(&writer, &recorder, &place) && is_empty(&recorder) && place == 77);
     collects(&writer, 150, BY_ROUTES, ALL_ROUTES, ALL_SIZES);

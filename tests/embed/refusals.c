@@ -534,17 +534,32 @@ static bool is_empty(kit_handle *recorder) {
     return !kit_recorder_is_empty(recorder, &empty) && empty;
 }
 
-/* A recorder takes what it has room for, and no more before a writer took that in; sums that may fall are none of its own. */
+/* A recorder takes what it has room for, and no more before a writer took that in. */
 static void recorders_full(kit_handle *none, kit_handle *four) {
     kit_handle plan = KIT_EMPTY, writer = KIT_EMPTY, recorder = KIT_EMPTY;
     plan_under(&plan, KIT_UP_DOWN, 1);
     CHECK(!kit_writer_start(&writer, &plan, TEXT("shop"), 0, 1, 100) && !kit_recorder_open(&recorder, &writer));
-    CHECK(kit_recorder_measure(&recorder, 1, none, 1) == KIT_RECORDER_FULL && is_empty(&recorder));
+    CHECK(!kit_recorder_measure(&recorder, 1, none, 1) && kit_recorder_measure(&recorder, 1, four, 1) == KIT_RECORDER_FULL);
     CHECK(!kit_recorder_measure(&recorder, 0, none, 7) && kit_recorder_measure(&recorder, 0, four, 1) == KIT_RECORDER_FULL);
     CHECK(kit_recorder_measure(&recorder, 0, none, INT64_MAX) == KIT_RECORDER_FULL);
     CHECK(!kit_writer_absorb(&writer, &recorder, &place) && is_empty(&recorder) && has_seven(&writer, 150));
     CHECK(!kit_recorder_measure(&recorder, 0, four, 1) && !kit_writer_absorb(&writer, &recorder, &place));
     CHECK(!has_seven(&writer, 200)); /* (the set of four is the overflow set's there) */
+    kit_free(&plan), kit_free(&writer), kit_free(&recorder);
+}
+
+/* A recorder holds sums that may fall. One that would leave the range on its way is refused where it is absorbed, and writer and recorder
+ * are as they were: from 0 on it stays in range, and comes to 0. */
+static void recorders_fall(kit_handle *none) {
+    kit_handle plan = KIT_EMPTY, writer = KIT_EMPTY, recorder = KIT_EMPTY;
+    plan_under(&plan, KIT_UP_DOWN, 7);
+    CHECK(!kit_writer_start(&writer, &plan, TEXT("shop"), 0, 1, 100) && !kit_recorder_open(&recorder, &writer));
+    CHECK(!kit_writer_measure(&writer, 1, none, 5, &place));
+    CHECK(!kit_recorder_measure(&recorder, 1, none, INT64_MAX) && !kit_recorder_measure(&recorder, 1, none, -INT64_MAX));
+    place = 77;
+    CHECK(kit_writer_absorb(&writer, &recorder, &place) == KIT_OVERFLOW && place == 1 && !is_empty(&recorder));
+    CHECK(!kit_writer_measure(&writer, 1, none, -5, &place) && !kit_writer_absorb(&writer, &recorder, &place) && is_empty(&recorder));
+    CHECK(!kit_writer_measure(&writer, 1, none, INT64_MAX, &place) && kit_writer_measure(&writer, 1, none, 1, &place) == KIT_OVERFLOW);
     kit_free(&plan), kit_free(&writer), kit_free(&recorder);
 }
 
@@ -699,6 +714,7 @@ int main(void) {
     writers_apart(&plan, &none);
     recorders(&plan, &none);
     recorders_full(&none, &four);
+    recorders_fall(&none);
     encodings(&plan, &none);
     told(&plan, &none);
     kit_free(&plan), kit_free(&none), kit_free(&four);

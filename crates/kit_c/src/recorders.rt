@@ -84,8 +84,8 @@ fn measure_at_recorder(
 /// is met.
 ///
 /// Refused, in this order: `NOTHING` of the recorder, then of the attributes; `WRONG_KIND`; `RECORDER_FULL` where a stream of the
-/// instrument is a sum that may fall, or has points for as many sets as the limit says; `NO_INSTRUMENT`; `NEGATIVE`; `RECORDER_FULL` where
-/// a sum would leave its range; `NO_MEMORY`. A full recorder is taken in by a writer (`kit_writer_absorb`), and records again; what an
+/// instrument has points for as many sets as the limit says; `NO_INSTRUMENT`; `NEGATIVE`; `RECORDER_FULL` where a sum would leave its
+/// range; `NO_MEMORY`. A full recorder is taken in by a writer (`kit_writer_absorb`), and records again; what an
 /// empty one refuses so is recorded by the writer itself. O(feeds of the instrument).
 #[unsafe(no_mangle)]
 pub extern "C" fn kit_recorder_measure(
@@ -225,7 +225,7 @@ fn absorb_recorder(content: &mut Content, other: &mut Content) -> Result<(), Fau
 /// recorder holds nothing then, keeps its sets, and goes on recording. It may be one that another writer of an equal plan opened.
 ///
 /// Refused, in this order: `NOTHING` of the writer, then of the recorder; `WRONG_KIND`; `OTHER_PLAN`; `CLOSED`; `OVERFLOW` with the
-/// first stream of which a point would leave its range; `NO_MEMORY`. Writer and recorder then stay as they were. O(size of the plan,
+/// first stream of which a point would leave its range, a sum that may fall on its way too; `NO_MEMORY`. Writer and recorder then stay as they were. O(size of the plan,
 /// points of the recorder and its sets).
 #[tactic(auto, using(crate::proofs::Desks::two_refused))]
 #[unsafe(no_mangle)]

@@ -5,11 +5,11 @@ use crate::handle::Handle;
 use crate::writer::SetNumber;
 use kotskhin_sys::{kit_recorder_is_empty, kit_recorder_measure, kit_recorder_measure_held};
 
-/// A thread's own recorder of a writer's plan, of counters, histograms and gauges: it meets no other thread, and [`Writer::absorb`] takes in
+/// A thread's own recorder of a writer's plan: it meets no other thread, and [`Writer::absorb`] takes in
 /// what it holds, as if each of its recordings had been made there.
 ///
 /// It refuses by `RecorderFull` what it may not hold by itself: have a writer absorb it, and record again. What it refuses so while it is
-/// empty, as the values of sums that may fall, is for [`Writer::measure`]. One that is dropped loses what it holds.
+/// empty is for [`Writer::measure`]. One that is dropped loses what it holds.
 ///
 /// [`Writer::absorb`]: crate::Writer::absorb
 /// [`Writer::measure`]: crate::Writer::measure

@@ -441,9 +441,12 @@ fn recorders_are_refused_and_change_nothing() -> Result<(), Error> {
     let falling = Plan::build(&instruments, DEFAULT_LIMIT)?;
     let mut other = Writer::start(&falling, "shop", 2, 100)?;
     assert_eq!(other.absorb(&mut recorder), Err(Error::OtherPlan));
+    let mut falling = other.recorder()?;
+    falling.measure(0, &none, -1)?;
+    other.absorb(&mut falling)?;
     assert_eq!(
-        other.recorder()?.measure(0, &none, 1),
-        Err(Error::RecorderFull)
+        other.measure(0, &none, i64::MIN),
+        Err(Error::Overflow { stream: 0 })
     );
     writer.absorb(&mut recorder)?;
     recorder.measure(0, &none, i64::MAX)?;
