@@ -1,4 +1,8 @@
-/* What a recording costs from C. Each line: a name, and the least of the rounds in nanoseconds for each recording. */
+/* What a recording costs from C.
+ *
+ *     bench ROUNDS [threads]
+ *
+ * Each line: a name, and the least of the rounds in nanoseconds for each recording; by one thread, or by four. */
 #define _POSIX_C_SOURCE 200809L
 #include <kotskhin.h>
 #include <pthread.h>
@@ -18,11 +22,12 @@
         }                                                                    \
     } while (0)
 
-enum { ROUNDS = 25, TIMES = 400000, THREADS = 4, COUNTER = 0, HISTOGRAM = 1 };
+enum { TIMES = 400000, THREADS = 4, COUNTER = 0, HISTOGRAM = 1 };
 
 static kit_handle plan, writer, none, four, seats[THREADS];
 static size_t number, empty;
 static uint64_t place;
+static int rounds;
 
 static double now(void) {
     struct timespec at;
@@ -94,7 +99,7 @@ static void by_seats(int times) {
 
 static void tell(const char *name, void (*run)(int times), int times, double recordings) {
     double least = 1e18;
-    for (int round = 0; round < ROUNDS; round++) {
+    for (int round = 0; round < rounds; round++) {
         double began = now();
         run(times);
         double each = (now() - began) / recordings;
@@ -103,7 +108,24 @@ static void tell(const char *name, void (*run)(int times), int times, double rec
     printf("%-55s %7.1f\n", name, least);
 }
 
-int main(void) {
+static void by_one(void) {
+    tell("C: no attributes, a held set", without, TIMES, TIMES);
+    tell("C: no attributes, by number", without_by_number, TIMES, TIMES);
+    tell("C: 4 attributes, a held set", held, TIMES, TIMES);
+    tell("C: 4 attributes, by number", by_number, TIMES, TIMES);
+    tell("C: 4 attributes, a held set, a histogram", histogram, TIMES, TIMES);
+    tell("C: 4 attributes, by number, a histogram", histogram_by_number, TIMES, TIMES);
+    tell("C: 4 attributes, made anew", anew, TIMES / 8, TIMES / 8);
+}
+
+static void by_threads(void) {
+    MUST(kit_writer_share(&writer));
+    seats[0] = writer, writer = KIT_EMPTY;
+    for (int i = 1; i < THREADS; i++) MUST(kit_seat_split(&seats[0], &seats[i]));
+    tell("C: 4 attributes, by number, 4 threads by seats", by_seats, TIMES, (double)THREADS * TIMES);
+}
+
+int main(int argc, char **argv) {
     kit_handle instruments = KIT_EMPTY, views = KIT_EMPTY, pairs = KIT_EMPTY;
     uint64_t second = 0;
     MUST(kit_instruments_add(&instruments, TEXT("bench"), TEXT("requests"), TEXT("1"), KIT_COUNTER));
@@ -114,16 +136,8 @@ int main(void) {
     make(&four);
     MUST(kit_writer_hold(&writer, &four, &number));
     MUST(kit_writer_hold(&writer, &none, &empty));
-    tell("C: no attributes, a held set", without, TIMES, TIMES);
-    tell("C: no attributes, by number", without_by_number, TIMES, TIMES);
-    tell("C: 4 attributes, a held set", held, TIMES, TIMES);
-    tell("C: 4 attributes, by number", by_number, TIMES, TIMES);
-    tell("C: 4 attributes, a held set, a histogram", histogram, TIMES, TIMES);
-    tell("C: 4 attributes, by number, a histogram", histogram_by_number, TIMES, TIMES);
-    tell("C: 4 attributes, made anew", anew, TIMES / 8, TIMES / 8);
-    MUST(kit_writer_share(&writer));
-    seats[0] = writer, writer = KIT_EMPTY;
-    for (int i = 1; i < THREADS; i++) MUST(kit_seat_split(&seats[0], &seats[i]));
-    tell("C: 4 attributes, by number, 4 threads by seats", by_seats, TIMES, (double)THREADS * TIMES);
+    rounds = argc > 1 ? atoi(argv[1]) : 25;
+    if (argc > 2) by_threads();
+    else by_one();
     return 0;
 }

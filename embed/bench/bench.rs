@@ -1,18 +1,27 @@
-//! What a recording costs from Rust. Each line: a name, and the least of the rounds in nanoseconds for each recording.
-use kotskhin::metrics::Meter;
-use kotskhin::{Attributes, DEFAULT_LIMIT, Error, Instruments, Kind, Plan, Writer};
+//! What a recording costs from Rust.
+//!
+//!     bench ROUNDS [threads]
+//!
+//! Each line: a name, and the least of the rounds in nanoseconds for each recording; by one thread, or by four.
+use kotskhin::metrics::{BoundCounter, Counter, Histogram, Meter};
+use kotskhin::{Attributes, DEFAULT_LIMIT, Error, Instruments, Kind, Plan, SetNumber, Writer};
+use std::env;
 use std::thread;
 use std::time::Instant;
 
-const ROUNDS: usize = 25;
 const TIMES: usize = 400_000;
 const THREADS: usize = 4;
 
 type Done = Result<(), Error>;
 
+fn rounds() -> usize {
+    let first = env::args().nth(1);
+    first.and_then(|it| it.parse().ok()).unwrap_or(25)
+}
+
 fn tell(name: &str, recordings: usize, mut run: impl FnMut() -> Done) -> Done {
     let mut least = f64::MAX;
-    for _ in 0..ROUNDS {
+    for _ in 0..rounds() {
         let began = Instant::now();
         run()?;
         least = least.min(began.elapsed().as_nanos() as f64 / recordings as f64);
@@ -44,32 +53,30 @@ fn four() -> Result<Attributes, Error> {
     Attributes::new(KEYS.map(|key| (key, "value 0")))
 }
 
-fn main() -> Done {
-    let mut instruments = Instruments::new();
-    instruments.add("bench", "requests", "1", Kind::Counter)?;
-    let plan = Plan::build(&instruments, DEFAULT_LIMIT)?;
-    let mut writer = Writer::start(&plan, "bench", 1, 100)?;
-    let set = four()?;
-    let number = writer.hold(&set)?;
+fn by_one(writer: &mut Writer, set: &Attributes, number: SetNumber) -> Done {
     tell(
         "Rust: 4 attributes, a held set, Writer",
         TIMES,
-        times(TIMES, || writer.measure(0, &set, 1)),
+        times(TIMES, || writer.measure(0, set, 1)),
     )?;
     tell(
         "Rust: 4 attributes, by number, Writer",
         TIMES,
         times(TIMES, || writer.measure_held(0, number, 1)),
     )?;
+    let mut recorder = writer.recorder()?;
+    tell(
+        "Rust: 4 attributes, by number, Recorder",
+        TIMES,
+        times(TIMES, || recorder.measure_held(0, number, 1)),
+    )
+}
 
-    let (_meter, (requests, sizes)) = Meter::start("bench", 2, "bench", 100, |m| {
-        Ok((m.counter("requests", "1")?, m.histogram("sizes", "1")?))
-    })?;
-    let bound = requests.with(&set)?;
+fn by_meter(requests: &Counter, sizes: &Histogram, set: &Attributes, bound: &BoundCounter) -> Done {
     tell(
         "Rust: 4 attributes, a held set, Counter",
         TIMES,
-        times(TIMES, || requests.add(1, &set)),
+        times(TIMES, || requests.add(1, set)),
     )?;
     tell(
         "Rust: 4 attributes, by number, BoundCounter",
@@ -79,23 +86,20 @@ fn main() -> Done {
     tell(
         "Rust: 4 attributes, a held set, Histogram",
         TIMES,
-        times(TIMES, || sizes.record(1, &set)),
+        times(TIMES, || sizes.record(1, set)),
     )?;
     tell(
         "Rust: 4 attributes, made anew, Counter",
         TIMES / 8,
         times(TIMES / 8, || requests.add(1, &four()?)),
-    )?;
+    )
+}
 
+fn by_recorders(writer: &mut Writer, number: SetNumber) -> Done {
     let mut recorders = Vec::new();
     while recorders.len() < THREADS {
         recorders.push(writer.recorder()?);
     }
-    tell(
-        "Rust: 4 attributes, by number, Recorder",
-        TIMES,
-        times(TIMES, || recorders[0].measure_held(0, number, 1)),
-    )?;
     tell(
         "Rust: 4 attributes, by number, 4 threads by recorders",
         THREADS * TIMES,
@@ -104,10 +108,10 @@ fn main() -> Done {
                 recorder.measure_held(0, number, 1)
             })
         },
-    )?;
-    for recorder in &mut recorders {
-        writer.absorb(recorder)?;
-    }
+    )
+}
+
+fn by_seats(writer: Writer, number: SetNumber) -> Done {
     let mut seats = vec![writer.share().map_err(|(_, error)| error)?];
     while seats.len() < THREADS {
         let next = seats[0].split()?;
@@ -126,7 +130,26 @@ fn main() -> Done {
                 }
             })
         },
-    )?;
+    )
+}
+
+fn main() -> Done {
+    let mut instruments = Instruments::new();
+    instruments.add("bench", "requests", "1", Kind::Counter)?;
+    let plan = Plan::build(&instruments, DEFAULT_LIMIT)?;
+    let mut writer = Writer::start(&plan, "bench", 1, 100)?;
+    let set = four()?;
+    let number = writer.hold(&set)?;
+    let (_meter, (requests, sizes)) = Meter::start("bench", 2, "bench", 100, |m| {
+        Ok((m.counter("requests", "1")?, m.histogram("sizes", "1")?))
+    })?;
+    let bound = requests.with(&set)?;
+    if env::args().len() < 3 {
+        by_one(&mut writer, &set, number)?;
+        return by_meter(&requests, &sizes, &set, &bound);
+    }
+    by_recorders(&mut writer, number)?;
+    by_seats(writer, number)?;
     let mut hands = vec![bound; THREADS];
     tell(
         "Rust: 4 attributes, by number, 4 threads, BoundCounter",

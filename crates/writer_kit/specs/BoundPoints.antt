@@ -1,6 +1,7 @@
 -- Bound points of a writer's incarnation.
 use Rattle.std.specs.Prelude.{◌≡◌, ◌≢◌, true, false, None, Some, [], ℤ}
 use Rattle.agg_kit.specs.BoundPoints.{IsBound, entry_at}
+use Rattle.agg_kit.specs.Feeds.{IsHeld}
 use Rattle.agg_kit.specs.Measuring.{fault_of, early_fault_of}
 use Rattle.agg_kit.specs.declared.fault.TallyFault.TheVariants as tallies
 use Rattle.writer_kit.specs.Written.{Written}
@@ -12,7 +13,8 @@ use Rattle.writer_kit.specs.declared.fault.BoundFault.TheVariants.{Closed, Stale
 abbrev pub IsAtHome : Written → BoundPoint → Type 0
 IsAtHome w b = (b.start ≡ w.start) → IsBound w.tally b.point
 
--- when each refusal comes: the writer is closed; the point is of another incarnation; the tally refuses the recording, for want of memory only where no places are known
+-- when each refusal comes: the writer is closed; the point is of another incarnation; the tally refuses the recording, for want of memory only where no places are
+-- known and a point is not there
 abbrev pub RefusesAt : Written → BoundPoint → ℤ → BoundFault → Type 0
 RefusesAt w b v Closed = w.closed ≡ true
 RefusesAt w b v Stale = (w.closed ≡ false) × (b.start ≢ w.start)
@@ -22,3 +24,4 @@ RefusesAt w b v (Refused f) =
     × (f ≢ tallies.NoMemory → fault_of w.tally (entry_at b.point v) ≡ Some f)
     × (f ≡ tallies.NoMemory → early_fault_of w.tally (entry_at b.point v) ≡ None)
     × (b.point.places.items ≢ [] → f ≢ tallies.NoMemory)
+    × (IsHeld w.tally (entry_at b.point v) → f ≢ tallies.NoMemory)

@@ -1,9 +1,13 @@
 // What a recording costs with client_golang, whose labels are its attributes; and what points as bytes cost in the protobuf of
 // client_model: a family of 100,000 counters of 4 labels, each counter with a time, beside a plain copy of as many bytes.
+//
+//	bench ROUNDS [threads|bytes]
 package main
 
 import (
 	"fmt"
+	"os"
+	"strconv"
 	"sync"
 	"time"
 
@@ -12,7 +16,9 @@ import (
 	model "github.com/prometheus/client_model/go"
 )
 
-const rounds, times, threads, points = 25, 400000, 4, 100000
+const times, threads, points = 400000, 4, 100000
+
+var rounds = 25
 
 func tell(name string, recordings int, run func()) {
 	least := 1e18
@@ -63,12 +69,26 @@ func bytes() {
 }
 
 func main() {
-	bytes()
+	what := ""
+	if len(os.Args) > 1 {
+		rounds, _ = strconv.Atoi(os.Args[1])
+	}
+	if len(os.Args) > 2 {
+		what = os.Args[2]
+	}
+	if what == "bytes" {
+		bytes()
+		return
+	}
 	keys := []string{"attribute_0", "attribute_1", "attribute_2", "attribute_3"}
 	values := []string{"value 0", "value 0", "value 0", "value 0"}
 	requests := prometheus.NewCounterVec(prometheus.CounterOpts{Name: "requests"}, keys)
 	sizes := prometheus.NewHistogramVec(prometheus.HistogramOpts{Name: "sizes", Buckets: prometheus.ExponentialBuckets(1, 2, 15)}, keys)
 	bound := requests.WithLabelValues(values...)
+	if what == "threads" {
+		byThreads(requests, values)
+		return
+	}
 	tell("client_golang: 4 labels, looked up by their values", times, func() {
 		for i := 0; i < times; i++ {
 			requests.WithLabelValues(values...).Inc()
@@ -84,6 +104,9 @@ func main() {
 			sizes.WithLabelValues(values...).Observe(1)
 		}
 	})
+}
+
+func byThreads(requests *prometheus.CounterVec, values []string) {
 	tell("client_golang: 4 labels, looked up, 4 threads", threads*times, func() {
 		var hands sync.WaitGroup
 		for i := 0; i < threads; i++ {

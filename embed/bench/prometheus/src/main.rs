@@ -1,18 +1,27 @@
 //! The same of the crate `prometheus`, whose labels are its attributes.
-use prometheus::{exponential_buckets, HistogramOpts, HistogramVec, IntCounterVec, Opts};
+//!
+//!     bench-prometheus ROUNDS [threads]
+use prometheus::{
+    exponential_buckets, HistogramOpts, HistogramVec, IntCounter, IntCounterVec, Opts,
+};
+use std::env;
 use std::hint::black_box;
 use std::thread;
 use std::time::Instant;
 
-const ROUNDS: usize = 25;
 const TIMES: usize = 400_000;
 const THREADS: usize = 4;
 const KEYS: [&str; 4] = ["attribute_0", "attribute_1", "attribute_2", "attribute_3"];
 const VALUES: [&str; 4] = ["value 0"; 4];
 
+fn rounds() -> usize {
+    let first = env::args().nth(1);
+    first.and_then(|it| it.parse().ok()).unwrap_or(25)
+}
+
 fn tell(name: &str, recordings: usize, mut run: impl FnMut()) {
     let mut least = f64::MAX;
-    for _ in 0..ROUNDS {
+    for _ in 0..rounds() {
         let began = Instant::now();
         run();
         least = least.min(began.elapsed().as_nanos() as f64 / recordings as f64);
@@ -28,6 +37,10 @@ fn main() -> prometheus::Result<()> {
         requests.with_label_values(&VALUES),
         sizes.with_label_values(&VALUES),
     );
+    if env::args().len() > 2 {
+        by_threads(&requests, &bound);
+        return Ok(());
+    }
     tell(
         "prometheus: 4 labels, looked up by their values",
         TIMES,
@@ -56,6 +69,10 @@ fn main() -> prometheus::Result<()> {
             black_box(&bound_sizes).observe(1.0);
         }
     });
+    Ok(())
+}
+
+fn by_threads(requests: &IntCounterVec, bound: &IntCounter) {
     for (name, is_held) in [("looked up", false), ("a held counter", true)] {
         tell(
             &format!("prometheus: 4 labels, {name}, 4 threads"),
@@ -76,5 +93,4 @@ fn main() -> prometheus::Result<()> {
             },
         );
     }
-    Ok(())
 }
