@@ -25,7 +25,7 @@ use Rattle.agg_kit.specs.Rounds.{values_of, points_of}
 use Rattle.agg_kit.specs.Sound.{AreOnce}
 use Rattle.agg_kit.specs.Stamps.{Stamped, stamps_at, stamped_of, ends_of, fits_on_way, with_sums}
 use Rattle.agg_kit.specs.Steps.{fed_set}
-use Rattle.agg_kit.specs.Taken.{AreTaken, RefusedAreRefused}
+use Rattle.agg_kit.specs.Taken.{AreApart, AreTaken, RefusedAreRefused}
 use Rattle.agg_kit.specs.Tallies.{Points}
 use Rattle.agg_kit.specs.declared.fault.TallyFault.TheVariants as faults
 use Rattle.agg_kit.proofs.Absorbs.{AreShaped, places_kept, points_absorbed, shaped-points}
@@ -324,19 +324,32 @@ fallen-fits p m xs k fit once way =
         once-fits g p.limit n ds es (shaped-points (shapes.Sum false) (placements p.limit xs)) (sums-go p.limit xs ys n) own
         (λ d there. ap (λ (b : ℤ). fits_sum (b +ℤ n d)) (total-points (placements p.limit xs) (g d)) ∙ signed-fits (base d +ℤ n d) (h d there))
 
-fit-all : (n limit : ℕ) (ess mss : List Points) (nss : List Stamped) → ((m : ℕ) → m < length ess → fits_on_way limit (series_at ess m) (series_at mss m) (stamps_at nss m).reaches ≡ true) → first_unfit n limit ess mss nss ≡ None
-fit-all n limit [] mss nss h = refl
-fit-all n limit (es ∷ ess) [] nss h = refl
-fit-all n limit (es ∷ ess) (ms ∷ mss) [] h = refl
-fit-all n limit (es ∷ ess) (ms ∷ mss) (ns ∷ nss) h =
-    ap (λ (b : Bool). if b then first_unfit (n + 1) limit ess mss nss else Some n) (h 0 (omega arith)) ∙ fit-all (n + 1) limit ess mss nss (λ m l. h (suc m) (omega (arith, l)))
+-- the stream that is told does not fit
+unfit-at : (n limit : ℕ) (ess mss : List Points) (nss : List Stamped) (m : ℕ) → first_unfit n limit ess mss nss ≡ Some m
+    → (j : ℕ) × (m ≡ n + j) × (j < length ess) × (fits_on_way limit (series_at ess j) (series_at mss j) (stamps_at nss j).reaches ≡ false)
+unfit-at n limit [] mss nss m h = absurd (cc)
+unfit-at n limit (es ∷ ess) [] nss m h = absurd (cc)
+unfit-at n limit (es ∷ ess) (ms ∷ mss) [] m h = absurd (cc)
+unfit-at n limit (es ∷ ess) (ms ∷ mss) (ns ∷ nss) m h = by (unfit-at (n + 1) limit ess mss nss m) (fits_on_way limit es ms ns.reaches) refl h
+  where
+    Told : List Points → List Points → List Stamped → ℕ → Type 0
+    Told ess mss nss n = (j : ℕ) × (m ≡ n + j) × (j < length ess) × (fits_on_way limit (series_at ess j) (series_at mss j) (stamps_at nss j).reaches ≡ false)
+
+    by : (first_unfit (n + 1) limit ess mss nss ≡ Some m → Told ess mss nss (n + 1)) → (b : Bool) → fits_on_way limit es ms ns.reaches ≡ b → (if b then first_unfit (n + 1) limit ess mss nss else Some n) ≡ Some m
+        → Told (es ∷ ess) (ms ∷ mss) (ns ∷ nss) n
+    by go true e k =
+        let r = go k in
+        let at : m ≡ (n + 1) + r.0 = r.1 in
+        let less : r.0 < length ess = r.2 in
+        (suc r.0, omega (arith, at), omega (arith, less), r.3)
+    by go false e k = let is : n ≡ m = cc in (0, omega (arith, is), omega arith, e)
 
 taken-first : (p : Planned) (h j rest : List Entry) → AreTaken p h (j ++ rest) → AreTaken p h j
 taken-first p h [] rest t = tt
 taken-first p h (e ∷ j) rest t = (t.0, taken-first p (h ++ e ∷ []) j rest t.1)
 
 pub refused_is_refused : RefusedAreRefused
-refused_is_refused t r h k f alike fit stands taken has lone fault all = by (first_unfit 0 p.limit t.series r.series r.stamps) fault (fit-all 0 p.limit t.series r.series r.stamps each)
+refused_is_refused t r h k m alike fit stands taken has lone fault all = told (unfit-at 0 p.limit t.series r.series r.stamps m (by (first_unfit 0 p.limit t.series r.series r.stamps) fault))
   where
     p : Planned
     p = t.plan
@@ -350,13 +363,13 @@ refused_is_refused t r h k f alike fit stands taken has lone fault all = by (fir
     on : (j rest : List Entry) → j ++ rest ≡ k → InRange p (h ++ j)
     on j rest e = taken-in p fit h j low (taken-first p h j rest (subst (AreTaken p h) (sym e) all))
 
-    by : (o : Option ℕ) → option_map (λ (m : ℕ). faults.Overflow m) o ≡ Some f → o ≡ None → ⊥
-    by None e n = cc
-    by (Some m) e n = cc
+    by : (o : Option ℕ) → option_map (λ (m : ℕ). faults.Overflow m) o ≡ Some (faults.Overflow m) → o ≡ Some m
+    by None e = absurd (cc)
+    by (Some n) e = let is : n ≡ m = cc in ap (λ (x : ℕ). Some x) is
 
-    stream : (m : ℕ) (s : Stream) → stream_of p m ≡ Some s → (shape : Shape) → s.shape ≡ shape
+    stream : (m : ℕ) (s : Stream) → stream_of p m ≡ Some s → AreApart t r m → (shape : Shape) → s.shape ≡ shape
         → fits_on_way p.limit (points_of shape (placements p.limit (arrivals p m h))) (points_of shape (arrivals p m k)) (stamped_of shape (arrivals p m k)).reaches ≡ true
-    stream m s at shape is = at-shape shape is
+    stream m s at apart shape is = at-shape shape is
       where
         ys : Arrivals
         ys = arrivals p m k
@@ -376,13 +389,19 @@ refused_is_refused t r h k f alike fit stands taken has lone fault all = by (fir
         at-shape (shapes.Sum false) is =
             let es : series_at t.series m ≡ points_of (shapes.Sum false) (placements p.limit (arrivals p m h)) = points-before t r h k alike holds stands m s at ∙ ap (λ (x : Shape). points_of x (placements p.limit (arrivals p m h))) is in
             let ms : series_at r.series m ≡ points_of (shapes.Sum false) ys = points-more t r h k alike holds stands m s at ∙ ap (λ (x : Shape). points_of x ys) is in
-            fallen-fits p m (arrivals p m h) k fit (subst AreOnce (λ i. fed_sets p.limit (es i) (ms i)) (lone m (ap may_fall (shape-is p m s at ∙ is)))) (in-range (shapes.Sum false) is)
+            fallen-fits p m (arrivals p m h) k fit (subst AreOnce (λ i. fed_sets p.limit (es i) (ms i)) (apart (ap may_fall (shape-is p m s at ∙ is)))) (in-range (shapes.Sum false) is)
         at-shape shapes.Gauge is = risen-fits shapes.Gauge p.limit (arrivals p m h) ys refl (λ d. refl) (before shapes.Gauge is) (in-range shapes.Gauge is k [] (append-nil k))
         at-shape (shapes.Histogram bounds) is =
             risen-fits (shapes.Histogram bounds) p.limit (arrivals p m h) ys refl (rise (shapes.Histogram bounds) is refl) (before (shapes.Histogram bounds) is) (in-range (shapes.Histogram bounds) is k [] (append-nil k))
 
-    each : (m : ℕ) → m < length t.series → fits_on_way p.limit (series_at t.series m) (series_at r.series m) (stamps_at r.stamps m).reaches ≡ true
-    each m l =
+    each : (m : ℕ) → m < length t.series → AreApart t r m → fits_on_way p.limit (series_at t.series m) (series_at r.series m) (stamps_at r.stamps m).reaches ≡ true
+    each m l apart =
         let s = there p.streams m (subst (λ (n : ℕ). m < n) (ap length stands ∙ length-round p h) l) in
         (λ i. fits_on_way p.limit (points-before t r h k alike holds stands m s.0 s.1 i) (points-more t r h k alike holds stands m s.0 s.1 i) (beside t r h k alike holds stands m s.0 s.1 i).reaches)
-        ∙ stream m s.0 s.1 s.0.shape refl
+        ∙ stream m s.0 s.1 apart s.0.shape refl
+
+    told : (j : ℕ) × (m ≡ 0 + j) × (j < length t.series) × (fits_on_way p.limit (series_at t.series j) (series_at r.series j) (stamps_at r.stamps j).reaches ≡ false) → ⊥
+    told x =
+        let at = x.1 in
+        let is : m ≡ x.0 = omega (arith, at) in
+        true≢false (sym (each x.0 x.2 (subst (AreApart t r) is lone)) ∙ x.3)

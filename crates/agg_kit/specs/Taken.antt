@@ -11,7 +11,7 @@ use Rattle.agg_kit.specs.Refusals.{first_refusal}
 use Rattle.agg_kit.specs.Rounds.{StandsFor}
 use Rattle.agg_kit.specs.Sound.{AreOnce}
 use Rattle.agg_kit.specs.Tallies.{Tallied}
-use Rattle.agg_kit.specs.declared.fault.TallyFault.{TallyFault}
+use Rattle.agg_kit.specs.declared.fault.TallyFault.TheVariants as faults
 
 -- each of the recordings k is accepted after the recordings h and those of k before it
 abbrev pub AreTaken : Planned → List Entry → List Entry → Type 0
@@ -54,12 +54,12 @@ abbrev pub AbsorbedAreTaken : Type 0
 AbsorbedAreTaken = (t : Tallied) (r : Recorded) (h k : List Entry) → r.plan ≡ t.plan → ((i : ℕ) → AreFeeds (length t.plan.streams) (feeds_of t.plan i))
     → StandsFor t h → AreTaken t.plan [] h → HasRecorded r k → absorb_fault t r ≡ None → AreTaken t.plan h k × StandsFor (with_recorder t r) (h ++ k)
 
--- where a tally takes a recorder in, no two of the recorder's sets go under one in a stream of a sum that may fall
-abbrev pub AreApart : Tallied → Recorded → Type 0
-AreApart t r = (m : ℕ) → may_fall (shape_at t.plan m) ≡ true → AreOnce (fed_sets t.plan.limit (series_at t.series m) (series_at r.series m))
+-- where a tally takes a recorder in, no two of the recorder's sets go under one in the stream m, if that is a sum that may fall
+abbrev pub AreApart : Tallied → Recorded → ℕ → Type 0
+AreApart t r m = may_fall (shape_at t.plan m) ≡ true → AreOnce (fed_sets t.plan.limit (series_at t.series m) (series_at r.series m))
 
--- Where a tally that stands for accepted recordings refuses such a recorder, not each of the recorder's recordings would have been accepted there, one
--- after the other.
+-- Where a tally that stands for accepted recordings refuses a recorder, by a stream where its sets go apart, not each of the recorder's recordings would
+-- have been accepted there, one after the other.
 abbrev pub RefusedAreRefused : Type 0
-RefusedAreRefused = (t : Tallied) (r : Recorded) (h k : List Entry) (f : TallyFault) → r.plan ≡ t.plan → ((i : ℕ) → AreFeeds (length t.plan.streams) (feeds_of t.plan i))
-    → StandsFor t h → AreTaken t.plan [] h → HasRecorded r k → AreApart t r → absorb_fault t r ≡ Some f → AreTaken t.plan h k → ⊥
+RefusedAreRefused = (t : Tallied) (r : Recorded) (h k : List Entry) (m : ℕ) → r.plan ≡ t.plan → ((i : ℕ) → AreFeeds (length t.plan.streams) (feeds_of t.plan i))
+    → StandsFor t h → AreTaken t.plan [] h → HasRecorded r k → AreApart t r m → absorb_fault t r ≡ Some (faults.Overflow m) → AreTaken t.plan h k → ⊥

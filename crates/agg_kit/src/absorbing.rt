@@ -1,5 +1,5 @@
 //! How points of later values come into those of a stream, and those of all streams into a tally's.
-ghost use Rattle.std.specs.Prelude.{◌≡◌, ◌≢◌, ◌+◌, ◌<◌, ◌≤◌, ◌^◌, [], length, replicate, true, false, not, None, Some, slice_get, IfOk, IfErr, OnOk, OnErr};
+ghost use Rattle.std.specs.Prelude.{◌≡◌, ◌≢◌, ◌+◌, ◌<◌, ◌≤◌, ◌^◌, [], length, replicate, true, false, not, is_some, None, Some, slice_get, IfOk, IfErr, IfSome, OnOk, OnErr};
 ghost use Rattle.std.specs.Option.{option_map};
 ghost use Rattle.std.specs.Map.{keys_of};
 ghost use Rattle.indexmap.specs.IndexMap.{set_value_at};
@@ -34,13 +34,25 @@ struct Walk {
 }
 
 impl Series {
+    // The amount of the point of a set, where there is one.
+    fn amount_held(&self, set: &AttrSet) -> Option<Amount>
+        ensures found { is_some result ≡ has_point self.now.entries set.now }
+        ensures count { IfSome result (λ a. a.count ≡ count_at self.now.entries set.now) }
+        ensures sum { IfSome result (λ a. a.sum ≡ total_at self.now.entries set.now) }
+    {
+        match self.points.get(set) {
+            Some(payload) => Some(amount_in(payload)),
+            None => None,
+        }
+    }
+
     // The amount of the point of a set, that of no values where there is none.
     fn amount_of(&self, set: &AttrSet) -> Amount
         ensures count { result.count ≡ count_at self.now.entries set.now }
         ensures sum { result.sum ≡ total_at self.now.entries set.now }
     {
-        match self.points.get(set) {
-            Some(payload) => amount_in(payload),
+        match self.amount_held(set) {
+            Some(amount) => amount,
             None => Amount { count: 0, sum: 0 },
         }
     }
@@ -61,12 +73,12 @@ impl Series {
             → result ≡ true → Knows walk.new (with_point limit es (set.now, p)) }
     {
         if *set != *overflow {
-            if self.points.contains_key(set) {
-                return self.amount_of(set).plus(more).is_some();
+            if let Some(held) = self.amount_held(set) {
+                return held.plus(more).is_some();
             }
             if walk.own < limit {
                 walk.own += 1;
-                return self.amount_of(set).plus(more).is_some();
+                return Amount { count: 0, sum: 0 }.plus(more).is_some();
             }
         }
         match walk.over.plus(more) {

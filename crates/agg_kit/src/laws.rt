@@ -76,9 +76,9 @@ pub fn recorded_is_accepted()
 {}
 
 /// A refused recorder means a refused recording: where a tally that stands for accepted recordings refuses to take a recorder in, not
-/// each of its recordings would have been accepted there, one after the other. Of sums that may fall this is said where no two of
-/// the recorder's sets go under one, since how values of two came in turn is not kept. With [`recorded_is_accepted`]: a recorder is
-/// refused exactly where one of its recordings would be.
+/// each of its recordings would have been accepted there, one after the other. Where the stream that is told is a sum that may fall
+/// this is said if no two of the recorder's sets go under one there, since how values of two came in turn is not kept. With
+/// [`recorded_is_accepted`]: a recorder is refused exactly where one of its recordings would be.
 pub fn refused_is_refused()
     ensures { RefusedAreRefused }
 {}

@@ -3,7 +3,7 @@ use super::*;
 use attr_kit::{AttrSet, Keep, NoMemory, Seq, Txt};
 use gateway_kit::Gateway;
 use plan_kit::{DEFAULT_LIMIT, Instrument, Kind, Plan};
-use point_kit::{Shape, Stream, WriterId};
+use point_kit::WriterId;
 use rollup_kit::{Ask, Total, rollup};
 use std::alloc::Global;
 use std::sync::Wait;
@@ -93,13 +93,12 @@ fn fleet(alloc: Global, instances: &[u128], gateways: &[u32]) -> Result<FleetSet
 
 // The total of the one row that a gateway answers, or 0 where it answers none.
 fn total(alloc: Global, gateway: &Gateway) -> Result<Option<i128>, Fail> {
+    let plan = requests(alloc)?;
+    let Some(stream) = plan.stream(0) else {
+        return Ok(None);
+    };
     let ask = Ask {
-        stream: Stream {
-            scope: Txt::from_str(alloc, "app")?,
-            name: Txt::from_str(alloc, "requests")?,
-            unit: Txt::from_str(alloc, "1")?,
-            shape: Shape::Sum { monotonic: true },
-        },
+        stream: stream.try_copy()?,
         service: None,
         only: Seq::new(alloc),
         keep: Keep::All,

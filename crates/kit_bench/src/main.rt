@@ -26,6 +26,7 @@ mod rounds;
 mod takes;
 mod tallies;
 mod threads;
+mod totals;
 mod turns;
 mod words;
 

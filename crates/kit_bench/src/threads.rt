@@ -3,9 +3,9 @@ ghost use Rattle.std.specs.Prelude.{◌≡◌};
 ghost use Rattle.writer_kit.specs.Shared.{IsAt, first_of};
 
 use crate::clock::tell;
-use crate::lanes;
 use crate::lanes::{Lane, Work};
 use crate::tallies::sets;
+use crate::{lanes, totals};
 use anyhow::ensure;
 use attr_kit::AttrSet;
 use indexmap::IndexMap;
@@ -21,7 +21,7 @@ use turn_kit::Seat;
 use writer_kit::{SharedWriter, Writer};
 
 /// More changes than any run makes.
-const LIMIT: u64 = 1 << 62;
+pub const LIMIT: u64 = 1 << 62;
 
 /// How threads record.
 #[derive(Clone, Copy)]
@@ -64,8 +64,8 @@ impl Way {
     }
 }
 
-// Has each thread do the work: how many recordings were accepted, and the time with the threads' start and end.
-fn race<R: Threads + Wait + Sync + Clock, L: Lane + Send + Drop>(
+/// Has each thread do the work: how many recordings were accepted, and the time with the threads' start and end.
+pub fn race<R: Threads + Wait + Sync + Clock, L: Lane + Send + Drop>(
     rt: &R,
     lanes: Vec<L>,
     work: Work<'_>,
@@ -201,7 +201,7 @@ fn run_ways<R: Threads + Wait + Sync + Clock + Eprint + AllocGlobal>(
 }
 
 /// So many recordings of a counter by each of one, two and four threads: at one set without attributes, at one of 4, and at
-/// so many sets of 4 in turn.
+/// so many sets of 4 in turn. Totals of recorders are exact beside a thread that collects ([`totals`]).
 pub fn run<R: Threads + Wait + Sync + Clock + Eprint + AllocGlobal>(
     rt: &R,
     rounds: u32,
@@ -212,6 +212,7 @@ pub fn run<R: Threads + Wait + Sync + Clock + Eprint + AllocGlobal>(
         let sets = sets(rt.alloc(), pairs, count)?;
         eprintln!(rt; "attributes: {pairs}")?;
         run_ways(rt, rounds, sets.as_slice(), recordings)?;
+        totals::run(rt, rt.alloc(), sets.as_slice(), 1, 40)?;
     }
     Ok(())
 }

@@ -1,9 +1,10 @@
 //! `otm run` does the script of the standard input and writes what its lines say to the standard output. `otm fleet` runs a
 //! fleet of threads and writes the total of each gateway.
 //!
-//! Exit statuses: 0 where all of it was done; 1 for a bad line, of which `line N` is printed, and on the standard error what is wrong with
-//! it, a script that is too long (`too long`), or a fleet without an answer (`missing gateway G writer W`, or `fleet failed`); 2 for words that are refused, whose text goes to the standard
-//! error; 3 for want of memory (`no memory`); 4 where a read or a write failed (`read failed` or `write failed`, on the standard error).
+//! Exit statuses: 0 where all of it was done; 1 for a bad line, of which `line N` is printed, and on the standard error what is
+//! wrong with it; 1 too for a script that is too long (`too long`), or a fleet without an answer (`missing gateway G writer W`, or
+//! `fleet failed`); 2 for words that are refused, whose text goes to the standard error; 3 for want of memory (`no memory`); 4 where
+//! a read or a write failed (`read failed` or `write failed`, on the standard error).
 #![tactic(auto)]
 
 ghost use Rattle.std.specs.Prelude.{IfOk};

@@ -9,9 +9,9 @@ ghost use Rattle.rollup_kit.specs.Rollups.{rollup_rows};
 ghost use Rattle.rollup_kit.specs.TableText.{table_text};
 ghost use Rattle.test_kit.specs.Defaults.{ask_of};
 
-use attr_kit::{Keep, Seq, Txt};
+use attr_kit::Txt;
 use gateway_kit::Gateway;
-use point_kit::{Cell, Export, Held, Key, Payload, Shape, Stream};
+use point_kit::{Cell, Export, Held, Key, Payload, Shape};
 use rollup_kit::{Ask, rollup, table};
 use std::alloc::Global;
 
@@ -19,17 +19,8 @@ use std::alloc::Global;
 pub fn ask_requests(alloc: Global) -> anyhow::Result<Ask>
     ensures { IfOk result (λ ask. ask ≡ ask_of (codes "app") (codes "requests") (codes "1") (shapes.Sum true)) }
 {
-    Ok(Ask {
-        stream: Stream {
-            scope: Txt::from_str(alloc, "app")?,
-            name: Txt::from_str(alloc, "requests")?,
-            unit: Txt::from_str(alloc, "1")?,
-            shape: Shape::Sum { monotonic: true },
-        },
-        service: None,
-        only: Seq::new(alloc),
-        keep: Keep::All,
-    })
+    let shape = Shape::Sum { monotonic: true };
+    Ok(test_kit::ask(alloc, "app", "requests", "1", shape)?)
 }
 
 /// Whether two gateways hold the same that took two exports in either order, and one of them twice: they always do.
