@@ -110,7 +110,8 @@ fn measure_at_writer(
 /// Metrics API, "Counter", "Histogram", "Gauge").
 ///
 /// Refused, in this order: `NOTHING` of the writer, then of the attributes; `WRONG_KIND`; `CLOSED`; `NO_INSTRUMENT`; `NEGATIVE`;
-/// `OVERFLOW` with the stream; `NO_MEMORY`. O(feeds of the instrument); no memory where the set was recorded before.
+/// `OVERFLOW` with the stream; `NO_MEMORY`. O(feeds of the instrument). Points that are there take no memory where every feed keeps all
+/// keys, which no clause says here.
 #[unsafe(no_mangle)]
 pub extern "C" fn kit_writer_measure(
     alloc: Global,
