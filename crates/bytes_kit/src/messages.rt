@@ -89,7 +89,8 @@ fn read_fields(reader: &mut Reader<'_>) -> Result<(u32, u32, Carried), DecodeFau
 fn read_message(alloc: Global, bytes: &[u8]) -> Result<(u32, u32, Carried), DecodeFault>
     ensures ok { IfOk result (λ s. bytes.now ≡ bytes_of_message_fields s) }
     ensures sorted { IfOk result (λ s. IsInOrder s.2) }
-    ensures err { IfErr result (λ f. f ≢ faults.NoMemory → (s : MessageFields) → IsMessageFields s → bytes.now ≢ bytes_of_message_fields s) }
+    ensures err { IfErr result (λ f. f ≢ faults.NoMemory → (s : MessageFields) → IsMessageFields s
+        → bytes.now ≢ bytes_of_message_fields s) }
     ensures fault { IfErr result (λ f. IsFieldsFault message_head message_fields bytes.now f) }
 {
     let mut reader = Reader::new(alloc, bytes);
