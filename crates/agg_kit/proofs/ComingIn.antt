@@ -25,10 +25,11 @@ use Rattle.agg_kit.specs.Steps.{Stored, own_count, has_point, fed_set}
 use Rattle.agg_kit.specs.Tallies.{Points}
 use Rattle.agg_kit.specs.declared.absorbing.Walk.{Walk}
 use Rattle.agg_kit.specs.declared.joining.Amount.{Amount}
+use Rattle.agg_kit.proofs.Amounts.{all-shaped, point-amount, sound-shaped}
 use Rattle.agg_kit.proofs.Copies.{take-push}
 use Rattle.agg_kit.proofs.Distinct.{or-no, itself, turn, once-add}
 use Rattle.agg_kit.proofs.Inserts.{put, lookup-here, lookup-other, has_point-here, has_point-still, count-has_point, Way, There, Room, Full, way}
-use Rattle.agg_kit.proofs.JoinedParts.{past-is, total-payload_of_both, count-payload_of_both, sound-payload_of_both}
+use Rattle.agg_kit.proofs.JoinedParts.{past-is, sound-payload_of_both}
 use Rattle.agg_kit.proofs.Records.{sound-length}
 use Rattle.agg_kit.proofs.Rounds.{got}
 use Rattle.agg_kit.proofs.Sound.{sound-insert, sound-lookup, keys-insert}
@@ -134,18 +135,7 @@ untouched limit es (e ∷ ms) a o n =
 
 past-point_with : (shape : Shape) (es : Points) (b : AttrSet) (p : Payload) → AreSound shape es → IsSound shape p
     → (total_of (point_with es b p) ≡ total_at es b +ℤ total_of p) × (count_of (point_with es b p) ≡ count_at es b + count_of p)
-past-point_with shape es b p s t = by (lookup (set_eq b) es) refl
-  where
-    zero-plus : (n : ℤ) → n ≡ pos 0 +ℤ n
-    zero-plus n = omega (arith, ints)
-
-    none-plus : (n : ℕ) → n ≡ 0 + n
-    none-plus n = omega arith
-
-    by : (o : Option Payload) → lookup (set_eq b) es ≡ o
-        → (total_of (option_map_or (λ q. payload_of_both q p) o p) ≡ option_map_or total_of o (pos 0) +ℤ total_of p) × (count_of (option_map_or (λ q. payload_of_both q p) o p) ≡ option_map_or count_of o 0 + count_of p)
-    by None e = (zero-plus (total_of p), none-plus (count_of p))
-    by (Some q) e = let u = at-lookup shape es b q s e in (total-payload_of_both shape q p u t, count-payload_of_both shape q p u t)
+past-point_with shape es b p s t = point-amount shape es b p (all-shaped shape es s) (sound-shaped shape p t)
 
 pub out-point_with : (shape : Shape) (es : Points) (b : AttrSet) (p : Payload) → AreSound shape es → IsSound shape p
     → is_out_of_range (point_with es b p) ≡ is_past (total_at es b +ℤ total_of p) (count_at es b + count_of p)

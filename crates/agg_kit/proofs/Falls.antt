@@ -1,5 +1,5 @@
 -- Sums that may fall: where the least and the greatest of the sums on the way stay in range, each sum on the way does.
-use Rattle.std.proofs.Common.{◌≡◌, ◌∙◌, ℕ, ℤ, pos, ◌+◌, ◌+ℤ◌, ◌^◌, ◌&&◌, ◌||◌, not, cond, Bool, true, false, List, [], ◌∷◌, ◌++◌, Option, None, Some, map, filter, int_lt, nat_le, refl, sym, ap, subst, arith, true≢false, if◌then◌else◌, nat_lt, append_assoc, FitsSigned, w64}
+use Rattle.std.proofs.Common.{◌≡◌, ◌∙◌, ℕ, ℤ, pos, ◌+ℤ◌, ◌^◌, ◌&&◌, ◌||◌, not, cond, Bool, true, false, List, [], ◌∷◌, ◌++◌, Option, None, Some, map, filter, int_lt, nat_le, refl, sym, ap, subst, arith, true≢false, if◌then◌else◌, nat_lt, append_assoc, FitsSigned, w64}
 use Rattle.std.specs.Map.{keys_of, lookup}
 use Rattle.std.specs.Option.{option_map_or}
 use Rattle.std.proofs.lemmas.Int.{ints}
@@ -10,7 +10,7 @@ use Rattle.point_kit.specs.declared.payload.Payload.TheVariants as payloads
 use Rattle.point_kit.specs.declared.shape.Shape.{Shape}
 use Rattle.point_kit.specs.declared.shape.Shape.TheVariants as shapes
 use Rattle.agg_kit.specs.Absorbing.{count_at, total_at}
-use Rattle.agg_kit.specs.Absorbs.{absorb, fed_sets, fits, payload_of_both, point_with, with_point}
+use Rattle.agg_kit.specs.Absorbs.{absorb, fed_sets, fits, point_with, with_point}
 use Rattle.agg_kit.specs.Entries.{Arrivals}
 use Rattle.agg_kit.specs.Feeding.{set_eq, has_set, overflow_set, sets_of, distinct, own_sets, goes_to, placements}
 use Rattle.agg_kit.specs.Joins.{total_of}
@@ -22,10 +22,10 @@ use Rattle.agg_kit.specs.Sound.{AreOnce}
 use Rattle.agg_kit.specs.Stamps.{ends_of, fits_on_way, with_sums}
 use Rattle.agg_kit.specs.Steps.{fed_set, has_point}
 use Rattle.agg_kit.specs.Tallies.{Points}
-use Rattle.agg_kit.proofs.Absorbs.{AreShaped, has-later, has_point-keys, own_count-keys, places_kept, shaped-at, shaped-points, shaped-put}
+use Rattle.agg_kit.proofs.Absorbs.{AreShaped, has-later, has_point-keys, own_count-keys, places_kept, shaped-points}
+use Rattle.agg_kit.proofs.Amounts.{one-total, shaped-after}
 use Rattle.agg_kit.proofs.Distinct.{same, itself, turn, or-no, has-distinct, once-distinct}
-use Rattle.agg_kit.proofs.Inserts.{put, lookup-here, lookup-other}
-use Rattle.agg_kit.proofs.Joins.{IsShaped, shaped-payload_of_both}
+use Rattle.agg_kit.proofs.Inserts.{lookup-here, lookup-other}
 use Rattle.agg_kit.proofs.Limits.{moved, same-fed, not-true, not-false}
 use Rattle.agg_kit.proofs.Parts.{fits-signed, signed-fits}
 use Rattle.agg_kit.proofs.Points.{payload-is, with}
@@ -119,85 +119,6 @@ same-places limit f g (d ∷ ds) es ms h =
     λ i. at i ∷ same-places limit f g ds (with_point limit es (d, f d)) (with_point limit ms (d, g d)) keys i
 
 -- ---- what comes to a point
-
-joined-amount : (shape : Shape) (q p : Payload) → IsShaped shape q → IsShaped shape p → (total_of (payload_of_both q p) ≡ total_of q +ℤ total_of p) × (count_of (payload_of_both q p) ≡ count_of q + count_of p)
-joined-amount (shapes.Sum m) (payloads.Sum n) (payloads.Sum k) s t = (refl, refl)
-joined-amount (shapes.Sum m) (payloads.Sum n) (payloads.Gauge v) s t = absurd t
-joined-amount (shapes.Sum m) (payloads.Sum n) (payloads.Hist c k bs r) s t = absurd t
-joined-amount (shapes.Sum m) (payloads.Gauge v) p s t = absurd s
-joined-amount (shapes.Sum m) (payloads.Hist d n cs w) p s t = absurd s
-joined-amount shapes.Gauge (payloads.Sum n) p s t = absurd s
-joined-amount shapes.Gauge (payloads.Gauge v) (payloads.Sum k) s t = absurd t
-joined-amount shapes.Gauge (payloads.Gauge v) (payloads.Gauge u) s t = (refl, refl)
-joined-amount shapes.Gauge (payloads.Gauge v) (payloads.Hist c k bs r) s t = absurd t
-joined-amount shapes.Gauge (payloads.Hist d n cs w) p s t = absurd s
-joined-amount (shapes.Histogram bounds) (payloads.Sum n) p s t = absurd s
-joined-amount (shapes.Histogram bounds) (payloads.Gauge v) p s t = absurd s
-joined-amount (shapes.Histogram bounds) (payloads.Hist d n cs w) (payloads.Sum k) s t = absurd t
-joined-amount (shapes.Histogram bounds) (payloads.Hist d n cs w) (payloads.Gauge v) s t = absurd t
-joined-amount (shapes.Histogram bounds) (payloads.Hist d n cs w) (payloads.Hist c k bs r) s t = (refl, refl)
-
-pub at-lookup : (shape : Shape) (es : Points) (b : AttrSet) (q : Payload) → AreShaped shape es → lookup (set_eq b) es ≡ Some q → IsShaped shape q
-at-lookup shape es b q s e = subst (IsShaped shape) (ap (λ o. option_map_or (λ (t : Payload). t) o (payload_of shape [])) e) (shaped-at shape es b s)
-
--- one more point
-module _ (shape : Shape) (es : Points) (b : AttrSet) (p : Payload) (s : AreShaped shape es) (t : IsShaped shape p) where
-  abbrev x : Payload
-  x = point_with es b p
-
-  pub shaped-point : IsShaped shape (point_with es b p)
-  shaped-point = by (lookup (set_eq b) es) refl
-    where
-      by : (o : Option Payload) → lookup (set_eq b) es ≡ o → IsShaped shape (option_map_or (λ q. payload_of_both q p) o p)
-      by None e = t
-      by (Some q) e = shaped-payload_of_both shape q p (at-lookup shape es b q s e) t
-
-  pub shaped-after : AreShaped shape (put es b (point_with es b p))
-  shaped-after = shaped-put shape es b (point_with es b p) s shaped-point
-
-  -- it comes to what was there and this
-  pub point-amount : (total_of (point_with es b p) ≡ total_at es b +ℤ total_of p) × (count_of (point_with es b p) ≡ count_at es b + count_of p)
-  point-amount = by (lookup (set_eq b) es) refl
-    where
-      zero-plus : (n : ℤ) → n ≡ pos 0 +ℤ n
-      zero-plus n = omega (arith, ints)
-
-      none-plus : (n : ℕ) → n ≡ 0 + n
-      none-plus n = omega arith
-
-      by : (o : Option Payload) → lookup (set_eq b) es ≡ o
-          → (total_of (option_map_or (λ q. payload_of_both q p) o p) ≡ option_map_or total_of o (pos 0) +ℤ total_of p) × (count_of (option_map_or (λ q. payload_of_both q p) o p) ≡ option_map_or count_of o 0 + count_of p)
-      by None e = (zero-plus (total_of p), none-plus (count_of p))
-      by (Some q) e = joined-amount shape q p (at-lookup shape es b q s e) t
-
-  -- and leaves the others as they were
-  pub one-total : (c : AttrSet) → total_at (put es b (point_with es b p)) c ≡ total_at es c +ℤ cond (set_eq c b) (total_of p) (pos 0)
-  one-total c = by (set_eq c b) refl
-    where
-      nothing-more : (n : ℤ) → n ≡ n +ℤ pos 0
-      nothing-more n = omega (arith, ints)
-
-      by : (t : Bool) → set_eq c b ≡ t → total_at (put es b x) c ≡ total_at es c +ℤ cond t (total_of p) (pos 0)
-      by true e =
-          ap (λ (d : AttrSet). total_at (put es b x) d) (same c b e)
-          ∙ ap (λ o. option_map_or total_of o (pos 0)) (lookup-here es b x)
-          ∙ point-amount.0
-          ∙ ap (λ (d : AttrSet). total_at es d +ℤ total_of p) (sym (same c b e))
-      by false e = ap (λ o. option_map_or total_of o (pos 0)) (lookup-other es c b x e) ∙ nothing-more (total_at es c)
-
-  pub one-count : (c : AttrSet) → count_at (put es b (point_with es b p)) c ≡ count_at es c + cond (set_eq c b) (count_of p) 0
-  one-count c = by (set_eq c b) refl
-    where
-      nothing-more : (n : ℕ) → n ≡ n + 0
-      nothing-more n = omega arith
-
-      by : (t : Bool) → set_eq c b ≡ t → count_at (put es b x) c ≡ count_at es c + cond t (count_of p) 0
-      by true e =
-          ap (λ (d : AttrSet). count_at (put es b x) d) (same c b e)
-          ∙ ap (λ o. option_map_or count_of o 0) (lookup-here es b x)
-          ∙ point-amount.1
-          ∙ ap (λ (d : AttrSet). count_at es d + count_of p) (sym (same c b e))
-      by false e = ap (λ o. option_map_or count_of o 0) (lookup-other es c b x e) ∙ nothing-more (count_at es c)
 
 module _ (g : AttrSet → AttrSet) (c : AttrSet) where
   -- what the sets that go under c add there

@@ -109,41 +109,6 @@ module _ (shape : Shape) where
         let z = below-past (d + c) (or-no (not (fits_sum (k +ℤ n))) (nat_le (2 ^ 64) (d + c)) h).1 in
         omega arith)
 
--- the amount of both
-pub total-payload_of_both : (shape : Shape) (q p : Payload) → IsSound shape q → IsSound shape p → total_of (payload_of_both q p) ≡ total_of q +ℤ total_of p
-total-payload_of_both (shapes.Sum m) (payloads.Sum n) (payloads.Sum k) s t = refl
-total-payload_of_both (shapes.Sum m) (payloads.Sum n) (payloads.Gauge k) s t = absurd (true≢false t.shaped)
-total-payload_of_both (shapes.Sum m) (payloads.Sum n) (payloads.Hist c k bs r) s t = absurd (true≢false t.shaped)
-total-payload_of_both (shapes.Sum m) (payloads.Gauge n) p s t = absurd (true≢false s.shaped)
-total-payload_of_both (shapes.Sum m) (payloads.Hist d n cs w) p s t = absurd (true≢false s.shaped)
-total-payload_of_both shapes.Gauge (payloads.Sum n) p s t = absurd (true≢false s.shaped)
-total-payload_of_both shapes.Gauge (payloads.Gauge n) (payloads.Sum k) s t = absurd (true≢false t.shaped)
-total-payload_of_both shapes.Gauge (payloads.Gauge n) (payloads.Gauge k) s t = refl
-total-payload_of_both shapes.Gauge (payloads.Gauge n) (payloads.Hist c k bs r) s t = absurd (true≢false t.shaped)
-total-payload_of_both shapes.Gauge (payloads.Hist d n cs w) p s t = absurd (true≢false s.shaped)
-total-payload_of_both (shapes.Histogram bounds) (payloads.Sum n) p s t = absurd (true≢false s.shaped)
-total-payload_of_both (shapes.Histogram bounds) (payloads.Gauge n) p s t = absurd (true≢false s.shaped)
-total-payload_of_both (shapes.Histogram bounds) (payloads.Hist d n cs w) (payloads.Sum k) s t = absurd (true≢false t.shaped)
-total-payload_of_both (shapes.Histogram bounds) (payloads.Hist d n cs w) (payloads.Gauge k) s t = absurd (true≢false t.shaped)
-total-payload_of_both (shapes.Histogram bounds) (payloads.Hist d n cs w) (payloads.Hist c k bs r) s t = refl
-
-pub count-payload_of_both : (shape : Shape) (q p : Payload) → IsSound shape q → IsSound shape p → count_of (payload_of_both q p) ≡ count_of q + count_of p
-count-payload_of_both (shapes.Sum m) (payloads.Sum n) (payloads.Sum k) s t = refl
-count-payload_of_both (shapes.Sum m) (payloads.Sum n) (payloads.Gauge k) s t = absurd (true≢false t.shaped)
-count-payload_of_both (shapes.Sum m) (payloads.Sum n) (payloads.Hist c k bs r) s t = absurd (true≢false t.shaped)
-count-payload_of_both (shapes.Sum m) (payloads.Gauge n) p s t = absurd (true≢false s.shaped)
-count-payload_of_both (shapes.Sum m) (payloads.Hist d n cs w) p s t = absurd (true≢false s.shaped)
-count-payload_of_both shapes.Gauge (payloads.Sum n) p s t = absurd (true≢false s.shaped)
-count-payload_of_both shapes.Gauge (payloads.Gauge n) (payloads.Sum k) s t = absurd (true≢false t.shaped)
-count-payload_of_both shapes.Gauge (payloads.Gauge n) (payloads.Gauge k) s t = refl
-count-payload_of_both shapes.Gauge (payloads.Gauge n) (payloads.Hist c k bs r) s t = absurd (true≢false t.shaped)
-count-payload_of_both shapes.Gauge (payloads.Hist d n cs w) p s t = absurd (true≢false s.shaped)
-count-payload_of_both (shapes.Histogram bounds) (payloads.Sum n) p s t = absurd (true≢false s.shaped)
-count-payload_of_both (shapes.Histogram bounds) (payloads.Gauge n) p s t = absurd (true≢false s.shaped)
-count-payload_of_both (shapes.Histogram bounds) (payloads.Hist d n cs w) (payloads.Sum k) s t = absurd (true≢false t.shaped)
-count-payload_of_both (shapes.Histogram bounds) (payloads.Hist d n cs w) (payloads.Gauge k) s t = absurd (true≢false t.shaped)
-count-payload_of_both (shapes.Histogram bounds) (payloads.Hist d n cs w) (payloads.Hist c k bs r) s t = refl
-
 -- ---- what an export asks
 
 counted-either : (d c : ℕ) → (d == 0) ≡ false → (d + c == 0) ≡ false

@@ -1,5 +1,6 @@
 pub mod Absorbs
 pub mod Alike
+pub mod Amounts
 pub mod BoundPoints
 pub mod Bounds
 pub mod ComingIn

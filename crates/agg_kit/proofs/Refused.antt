@@ -29,8 +29,9 @@ use Rattle.agg_kit.specs.Taken.{AreApart, AreTaken, RefusedAreRefused}
 use Rattle.agg_kit.specs.Tallies.{Points}
 use Rattle.agg_kit.specs.declared.fault.TallyFault.TheVariants as faults
 use Rattle.agg_kit.proofs.Absorbs.{AreShaped, places_kept, points_absorbed, shaped-points}
+use Rattle.agg_kit.proofs.Amounts.{at-lookup, one-count, one-total, point-amount, shaped-after, shaped-point}
 use Rattle.agg_kit.proofs.Distinct.{or-no, same, itself}
-use Rattle.agg_kit.proofs.Falls.{InPoints, at-lookup, count-fits, end, ends-with, falls-sum, one-count, one-total, part, point-amount, points-in, put-in, shaped-after, shaped-point, sums-go, total-fits, total-points}
+use Rattle.agg_kit.proofs.Falls.{InPoints, count-fits, end, ends-with, falls-sum, part, points-in, put-in, sums-go, total-fits, total-points}
 use Rattle.agg_kit.proofs.JoinedParts.{past-is}
 use Rattle.agg_kit.proofs.Joins.{IsShaped}
 use Rattle.agg_kit.proofs.Limits.{not-false}

@@ -1,6 +1,7 @@
 pub mod Behind
 pub mod Carrying
 pub mod Gathering
+pub mod Indexing
 pub mod MessageSealing
 pub mod PastRefusing
 pub mod Places

@@ -5,6 +5,7 @@ pub mod Faults
 pub mod Fits
 pub mod Format
 pub mod Groups
+pub mod Index
 pub mod KeyForms
 pub mod Laws
 pub mod Left

@@ -99,7 +99,7 @@ pub(crate) fn write_cells(
     ensures value { OnOk result (IsListed (points_left points.entry)) }
 {
     (count as u64).write(out)?;
-    let mut history = History::new(*out.allocator());
+    let mut history = History::new(*out.allocator())?;
     let mut before = None;
     for point in points {
         write_entry(before, point, &mut history, out)?;
@@ -157,7 +157,7 @@ fn read_listed(reader: &mut Reader<'_>) -> Result<Seq<(Key, Cell)>, DecodeFault>
 {
     let count = u64::read(reader)?;
     let count = reader.within(count)?;
-    let mut history = History::new(reader.alloc());
+    let mut history = History::new(reader.alloc())?;
     let mut items = room(reader, count)?;
     for _ in 0..count {
         let item = read_entry(items.as_slice(), reader, &mut history)?;

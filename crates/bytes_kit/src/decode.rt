@@ -71,7 +71,7 @@ fn read_written(
     ensures end { reader.new.end ≡ reader.old.end }
     ensures fault { IfErr result (IsReadFault reader.old.end) }
 {
-    let mut history = History::new(alloc);
+    let mut history = History::new(alloc)?;
     <(WriterId, (u64, (u64, Seq<ExportPoint>)))>::read_behind(reader, &mut history)
 }
 
@@ -95,9 +95,10 @@ fn read_fields(
 /// The export whose bytes these are, in the one form that docs/BYTES.md tells.
 ///
 /// What is read is sound as `Export::build` has it. A fault other than `NoMemory` comes only where these are the bytes of
-/// no export. O(n) in the bytes, but for hash look-ups of texts that are new and the set of keys that `Export::build` makes;
-/// memory for at most as many values as there are bytes: a number of values or bytes is compared with the bytes that are left
-/// before it is used, and [`crate::weighs_no_more`] says what is held in the end.
+/// no export. O(n) in the bytes, and O(n log n) comparisons at the worst, whatever they are: texts that are new are looked
+/// up, and `Export::build` puts the hashes of keys in order. Memory for at most a fixed number of values for each byte: a
+/// number of values or bytes is compared with the bytes that are left before it is used, and [`crate::weighs_no_more`] says
+/// what is held in the end.
 pub fn decode_export(alloc: Global, bytes: &[u8]) -> Result<Export, DecodeFault>
     // What is read has these bytes.
     ensures ok { IfOk result (λ e. bytes_of e ≡ bytes.now) }

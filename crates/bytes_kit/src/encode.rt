@@ -30,7 +30,7 @@ fn write_fields(export: &Export, out: &mut Vec<u8>) -> Result<(), NoMemory>
     ensures written { OnOk result (out.new.items ≡ out.old.items ++ fields (fields_of export.now)) }
     ensures value { OnOk result (IsExport export.now) }
 {
-    let mut history = History::new(*out.allocator());
+    let mut history = History::new(*out.allocator())?;
     export.writer().write_behind(&mut history, out)?;
     export.start().write(out)?;
     export.time().write(out)?;
@@ -52,7 +52,7 @@ fn write_sealed(export: &Export, out: &mut Vec<u8>) -> Result<(), NoMemory>
 ///
 /// Each export has one form, told in docs/BYTES.md, and [`crate::decode_export`] gives the export back of it: that asks for
 /// values of the sizes that the types have, which `value` says of every export that was written. Refused only where memory
-/// is; the buffer is then empty. O(n) in the bytes, and a hash look-up for each text but those that came of late; beside the
+/// is; the buffer is then empty. O(n) in the bytes, and a look-up for each text but those that came of late; beside the
 /// buffer memory for each text of at most 64 bytes that comes, once.
 pub fn encode_export_into(export: &Export, out: &mut Vec<u8>) -> Result<(), NoMemory>
     ensures ok { OnOk result (out.new.items ≡ bytes_of export.now) }

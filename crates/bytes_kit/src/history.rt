@@ -3,8 +3,8 @@ ghost use Rattle.std.specs.Prelude.{◌≡◌, ◌+◌, ◌<◌, ◌≤◌, ◌^
 ghost use Rattle.bytes_kit.specs.Fits.{IsStream};
 ghost use Rattle.bytes_kit.specs.Past.{no_past, place_of, past_text, with_stream, is_last};
 
+use crate::texts::Texts;
 use attr_kit::{NoMemory, Txt};
-use indexmap::IndexSet;
 use point_kit::{SharedStream, Stream};
 use std::alloc::Global;
 use std::marker::Model;
@@ -19,9 +19,10 @@ const NOTES: usize = 1024;
 /// place: it would be copied for each of its uses, and what is read would take many times the memory of its bytes.
 #[derive(Drop)]
 pub(crate) struct History {
-    texts: IndexSet<Txt>,
+    texts: Texts,
     stream: Option<SharedStream>,
-    /// The place of the text that was noted last of those that share a note: a guess, which is looked at before the hash.
+    /// The place of the text that was noted last of those that share a note: a guess, which is looked at before the hash. For
+    /// who writes, whose texts come again and again.
     notes: [u32; NOTES],
 }
 
@@ -73,31 +74,30 @@ impl Model for History {
 
     ghost Value = { Past };
 
-    ghost view = { λ h. record { texts = h.texts.keys; stream = h.stream } };
+    ghost view = { λ h. record { texts = h.texts; stream = h.stream } };
 
     ghost invariant = { λ h. ForSome h.stream IsStream };
 }
 
 impl History {
     /// Nothing came.
-    pub(crate) fn new(alloc: Global) -> History
-        ensures { result ≡ no_past }
+    pub(crate) fn new(alloc: Global) -> Result<History, NoMemory>
+        ensures { IfOk result (λ history. history ≡ no_past) }
     {
-        History {
-            texts: IndexSet::new(alloc),
+        let texts = Texts::new(alloc)?;
+        Ok(History {
+            texts,
             stream: None,
             notes: [0; NOTES],
-        }
+        })
     }
 
-    // The place of a text among those that came. A hash look-up.
-    #[tactic(auto, unfolding(crate::specs::Past::place_of))]
+    // The place of a text among those that came. A look-up.
     fn place(&self, text: &Txt) -> Option<usize>
         ensures value { result ≡ place_of self.now.texts text.now }
         ensures small { IfSome result (λ place. place < 2 ^ 63) }
     {
-        let _len = self.texts.len();
-        self.texts.get_index_of(text)
+        self.texts.place(text)
     }
 
     // The place of a text where it is the noted one.
@@ -124,7 +124,7 @@ impl History {
         }
     }
 
-    // The place of a text among those that came, by its hash; where it has none, it comes now.
+    // The place of a text among those that came, looked up; where it has none, it comes now.
     #[inline(never)]
     fn look_up(&mut self, note: usize, text: &Txt) -> Result<Option<usize>, NoMemory>
         requires { note < NOTES }
@@ -143,7 +143,7 @@ impl History {
         Ok(place)
     }
 
-    /// The place of a text among those that came; where it has none, it comes now. A hash look-up, but for texts that are noted.
+    /// The place of a text among those that came; where it has none, it comes now. A look-up, but for texts that are noted.
     #[inline]
     pub(crate) fn enter(&mut self, text: &Txt) -> Result<Option<usize>, NoMemory>
         ensures value { IfOk result (λ place. place ≡ place_of self.old.texts text.now) }
@@ -169,18 +169,16 @@ impl History {
         ensures some { IfSome result (λ t. place_of self.now.texts t.now ≡ Some place) }
         ensures none { IfNone result (length self.now.texts ≤ place) }
     {
-        let _len = self.texts.len();
-        self.texts.get_index(place as usize)
+        self.texts.get(place as usize)
     }
 
     // A text that had no place came.
-    #[tactic(auto, unfolding(crate::specs::Past::place_of))]
     fn add(&mut self, text: &Txt) -> Result<(), NoMemory>
         requires { place_of self.old.texts text.now ≡ None }
         ensures { OnOk result (self.new ≡ past_text self.old text.now) }
     {
         if text.as_str().len() <= LONGEST {
-            self.texts.insert(text.try_copy()?)?;
+            self.texts.add(text)?;
         }
         Ok(())
     }

@@ -24,6 +24,7 @@ mod encode;
 mod fault;
 mod fields;
 mod history;
+mod index;
 mod keys;
 mod laws;
 mod messages;
@@ -35,6 +36,7 @@ mod reader;
 mod sound;
 #[cfg(test)]
 mod tests;
+mod texts;
 mod writer;
 
 pub use decode::decode_export;

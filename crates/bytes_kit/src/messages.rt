@@ -47,7 +47,7 @@ fn write_sealed(message: &Message, out: &mut Vec<u8>) -> Result<(), NoMemory>
 ///
 /// Each message has one form, told in docs/BYTES.md: of two whose sender, receiver, number and cells are equal the bytes
 /// are equal. [`decode_message`] gives the message back of it where each cell is one that an export can bring, as all cells
-/// are that came by exports. Refused only where memory is; the buffer is then empty. O(n) in the bytes, and a hash look-up for
+/// are that came by exports. Refused only where memory is; the buffer is then empty. O(n) in the bytes, and a look-up for
 /// each text but those that came of late; beside the buffer memory for each text of at most 64 bytes that comes, once.
 pub fn encode_message_into(message: &Message, out: &mut Vec<u8>) -> Result<(), NoMemory>
     ensures ok { OnOk result (out.new.items ≡ bytes_of_message message.now) }
@@ -89,7 +89,8 @@ fn read_fields(reader: &mut Reader<'_>) -> Result<(u32, u32, Carried), DecodeFau
 fn read_message(alloc: Global, bytes: &[u8]) -> Result<(u32, u32, Carried), DecodeFault>
     ensures ok { IfOk result (λ s. bytes.now ≡ bytes_of_message_fields s) }
     ensures sorted { IfOk result (λ s. IsInOrder s.2) }
-    ensures err { IfErr result (λ f. f ≢ faults.NoMemory → (s : MessageFields) → IsMessageFields s → bytes.now ≢ bytes_of_message_fields s) }
+    ensures err { IfErr result (λ f. f ≢ faults.NoMemory → (s : MessageFields) → IsMessageFields s
+        → bytes.now ≢ bytes_of_message_fields s) }
     ensures fault { IfErr result (λ f. IsFieldsFault message_head message_fields bytes.now f) }
 {
     let mut reader = Reader::new(alloc, bytes);
@@ -106,8 +107,8 @@ fn read_message(alloc: Global, bytes: &[u8]) -> Result<(u32, u32, Carried), Deco
 /// bytes of no such message; `BadExport` has the reason of the first cell that no export brings, at its place among the
 /// cells. Who made the bytes is not known here: see docs/BYTES.md for what a node should check of a sender.
 ///
-/// O(n) in the bytes, with hash look-ups of texts that are new, and O(log n) comparisons of keys for each cell; memory for at
-/// most as many cells as there are bytes: a number of cells, values or bytes is compared with the bytes that are left before
+/// O(n) in the bytes, and O(n log n) comparisons at the worst, whatever they are: of texts that are new, and of keys for each
+/// cell. Memory for at most as many cells as there are bytes: a number of cells, values or bytes is compared with the bytes that are left before
 /// it is used, and [`crate::weighs_no_more`] says what is held in the end.
 pub fn decode_message(alloc: Global, bytes: &[u8]) -> Result<Message, DecodeFault>
     // What is read has these bytes.

@@ -39,7 +39,8 @@ pub fn run_fleet<R: Threads + Wait + Sync, G: Gate + Sync>(
     ensures err { IfErr result (λ f. (setup_fault setup ≡ Some f) ⊎ ((setup_fault setup ≡ None) × IsLate setup f)) }
     ensures ids { IfOk result (λ gs. map (λ g. g.id) gs.items ≡ setup.gateways.items) }
     ensures rows { IfOk result (λ gs. (k : ℕ) (g : GatewayState) → slice_get gs.items k ≡ Some g → (ask : Ask) → AddsUp ask.stream.shape
-        → AllWithin (writers_of setup) (entries_recorded setup) ⊎ IsRegrouped ask → rollup_rows ask g.points ≡ rows_of (writers_of setup) (entries_recorded setup) ask) }
+        → AllWithin (writers_of setup) (entries_recorded setup) ⊎ IsRegrouped ask
+        → rollup_rows ask g.points ≡ rows_of (writers_of setup) (entries_recorded setup) ask) }
 {
     if let Some(fault) = fault_of(&setup) {
         return Err(fault);

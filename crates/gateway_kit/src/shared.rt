@@ -93,7 +93,8 @@ impl<G> SharedGateway<G> {
     pub fn close(self, seat: Seat<Gateway>) -> Result<Gateway, SeatsOut<G>>
         requires { IsAt self seat }
         ensures ok { IfOk result (Closes (λ g. g) after_gateway_change (first_of self) seat) }
-        ensures points { IfOk result (λ g. (c : Closes (λ g. g) after_gateway_change (first_of self) seat g) × Keeps (first_of self) c.history g) }
+        ensures points { IfOk result (λ g.
+            (c : Closes (λ g. g) after_gateway_change (first_of self) seat g) × Keeps (first_of self) c.history g) }
         ensures err { IfErr result (λ e. (e.gateway ≡ self) × IsAt e.gateway e.seat × HasAsked seat e.seat) }
         ensures out { IfErr result (λ e. (e.out ≡ told_out e.seat) × (0 < e.out) × AreOut seat e.out) }
     {

@@ -45,13 +45,14 @@ fn differ_by_hash(alloc: Global, points: &[ExportPoint]) -> Result<bool, NoMemor
     Ok(hashes.as_slice().is_sorted_by(|hash, next| hash < next))
 }
 
-// The least place of a point whose key an earlier one has. O(n log n) comparisons of keys.
+// The least place of a point whose key an earlier one has. O(n log n) comparisons of keys. Sets come first: of a stream that many
+// points share, a long text is then compared only where the sets are equal too, and so are the keys.
 fn first_twice(alloc: Global, points: &[ExportPoint]) -> Result<Option<usize>, NoMemory>
     ensures { IfOk result (λ place. place ≡ repeat same_key points.now) }
 {
     let mut seen = BTreeSet::new(alloc);
     for (place, point) in points.iter().enumerate() {
-        if !seen.insert((&point.stream, &point.attrs))? {
+        if !seen.insert((&point.attrs, &point.stream))? {
             return Ok(Some(place));
         }
     }

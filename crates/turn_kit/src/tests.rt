@@ -51,7 +51,8 @@ impl Counter {
     }
 
     fn add(&mut self, by: u64) -> bool
-        ensures { MatchBool result ((self.new ≡ self.old + by) × (self.old + by ≤ 1000000)) ((self.new ≡ self.old) × (1000000 < self.old + by)) }
+        ensures { MatchBool result ((self.new ≡ self.old + by) × (self.old + by ≤ 1000000))
+            ((self.new ≡ self.old) × (1000000 < self.old + by)) }
     {
         if by > MOST || self.count + by > MOST {
             return false;

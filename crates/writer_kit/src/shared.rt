@@ -70,7 +70,8 @@ impl<G> SharedWriter<G> {
     pub fn close(self, seat: Seat<Writer>) -> Result<Writer, SeatsOut<G>>
         requires { IsAt self seat }
         ensures ok { IfOk result (Closes (λ w. w) after_writer_change (first_of self) seat) }
-        ensures serves { IfOk result (λ w. (c : Closes (λ w. w) after_writer_change (first_of self) seat w) × Serves (first_of self) c.history w) }
+        ensures serves { IfOk result (λ w.
+            (c : Closes (λ w. w) after_writer_change (first_of self) seat w) × Serves (first_of self) c.history w) }
         ensures err { IfErr result (λ e. (e.writer ≡ self) × IsAt e.writer e.seat × HasAsked seat e.seat) }
         ensures out { IfErr result (λ e. (e.out ≡ told_out e.seat) × (0 < e.out) × AreOut seat e.out) }
     {

@@ -18,15 +18,21 @@ use Rattle.point_kit.specs.contracts.stream.StreamPartialEq.TheImpl as streams
 use Rattle.point_kit.specs.ExportFaults.{same_key}
 use Rattle.point_kit.proofs.export.first_twice.Goals as goal
 
-both_equal : (a b : Ordering) → is_eq (ordering_then a b) ≡ (is_eq a && is_eq b)
-both_equal Less b = refl
-both_equal Equal b = refl
-both_equal Greater b = refl
+both_equal : (a b : Ordering) → is_eq (ordering_then a b) ≡ (is_eq b && is_eq a)
+both_equal Less Less = refl
+both_equal Less Equal = refl
+both_equal Less Greater = refl
+both_equal Equal Less = refl
+both_equal Equal Equal = refl
+both_equal Equal Greater = refl
+both_equal Greater Less = refl
+both_equal Greater Equal = refl
+both_equal Greater Greater = refl
 
 -- keys that tie are equal, whichever comes first
-ties : (s t : Stream) (a b : List (List ℕ × AttrValue)) → is_eq (ordering_then ((orders.ghosts).cmp s t) (set_cmp a b)) ≡ ((streams.ghosts).eq t s && (sets.ghosts).eq b a)
+ties : (s t : Stream) (a b : List (List ℕ × AttrValue)) → is_eq (ordering_then (set_cmp a b) ((orders.ghosts).cmp s t)) ≡ ((streams.ghosts).eq t s && (sets.ghosts).eq b a)
 ties s t a b =
-    both_equal ((orders.ghosts).cmp s t) (set_cmp a b)
+    both_equal (set_cmp a b) ((orders.ghosts).cmp s t)
     ∙ (λ i. sym (stream_orders.matches_eq-law s t) i && sym (set_orders.matches_eq-law a b) i)
     ∙ (λ i. (stream_laws.laws-law).symm s t i && (set_laws.laws-law).symm a b i)
 
@@ -37,16 +43,16 @@ undone false added b p q = sym (ap not p) ∙ ap not q
 pub returns-then-not-branch : goal.returns-then-not-branch
 returns-then-not-branch c =
     let x : ExportPoint = c.index-points-place.result in
-    let key : Bor Stream × Bor (List (List ℕ × AttrValue)) = (record { ref_ptr = c.args.points.ref_ptr; now = x.stream }, record { ref_ptr = c.args.points.ref_ptr; now = x.attrs }) in
+    let key : Bor (List (List ℕ × AttrValue)) × Bor Stream = (record { ref_ptr = c.args.points.ref_ptr; now = x.attrs }, record { ref_ptr = c.args.points.ref_ptr; now = x.stream }) in
     let stored = undone _ _ false c.in_ok-insert.ensures.added c.if-not-branch.true in
     sym (repeat_here same_key c.args.points.now c.loop-place.place x c.loop-place-test.true c.loop-place.invariant.so (subst (λ y. list_any (same_key y) (take c.loop-place.place c.args.points.now) ≡ true) c.index-points-place.is (sym (c.loop-place.invariant.seen key) ∙ stored)))
 
 pub loop-place-preserved : goal.loop-place-preserved
 loop-place-preserved c =
     let x : ExportPoint = c.index-points-place.result in
-    let key : Bor Stream × Bor (List (List ℕ × AttrValue)) = (record { ref_ptr = c.args.points.ref_ptr; now = x.stream }, record { ref_ptr = c.args.points.ref_ptr; now = x.attrs }) in
+    let key : Bor (List (List ℕ × AttrValue)) × Bor Stream = (record { ref_ptr = c.args.points.ref_ptr; now = x.attrs }, record { ref_ptr = c.args.points.ref_ptr; now = x.stream }) in
     let stored = undone _ _ true c.in_ok-insert.ensures.added c.if-not-branch.false in
     record {
       so = repeat_later same_key c.args.points.now c.loop-place.place x c.loop-place-test.true c.loop-place.invariant.so (subst (λ y. list_any (same_key y) (take c.loop-place.place c.args.points.now) ≡ false) c.index-points-place.is (sym (c.loop-place.invariant.seen key) ∙ stored));
-      seen = λ q. seen_more (λ p. (streams.ghosts).eq q.0.now p.stream && (sets.ghosts).eq q.1.now p.attrs) c.args.points.now c.loop-place.place x _ _ _ c.loop-place-test.true (c.loop-place.invariant.seen q) (c.in_ok-insert.ensures.updates.0 q) (ties x.stream q.0.now x.attrs q.1.now ∙ ap (λ y. (streams.ghosts).eq q.0.now y.stream && (sets.ghosts).eq q.1.now y.attrs) c.index-points-place.is);
+      seen = λ q. seen_more (λ p. (streams.ghosts).eq q.1.now p.stream && (sets.ghosts).eq q.0.now p.attrs) c.args.points.now c.loop-place.place x _ _ _ c.loop-place-test.true (c.loop-place.invariant.seen q) (c.in_ok-insert.ensures.updates.0 q) (ties x.stream q.1.now x.attrs q.0.now ∙ ap (λ y. (streams.ghosts).eq q.1.now y.stream && (sets.ghosts).eq q.0.now y.attrs) c.index-points-place.is);
     }

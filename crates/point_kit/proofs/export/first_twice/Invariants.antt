@@ -15,5 +15,5 @@ use Rattle.point_kit.proofs.export.first_twice.Given as goal
 abbrev pub invariant-loop-place : goal.invariant-loop-place
 invariant-loop-place l = record {
   so : repeat same_key l.points ≡ repeat_from same_key (take l.place l.points) l.place (drop l.place l.points);
-  seen : (q : Bor Stream × Bor (List (List ℕ × AttrValue))) → tree.contains (λ j k. ordering_then ((orders.ghosts).cmp j.0.now k.0.now) (set_cmp j.1.now k.1.now)) l.seen q ≡ list_any (λ p. (streams.ghosts).eq q.0.now p.stream && (sets.ghosts).eq q.1.now p.attrs) (take l.place l.points);
+  seen : (q : Bor (List (List ℕ × AttrValue)) × Bor Stream) → tree.contains (λ j k. ordering_then (set_cmp j.0.now k.0.now) ((orders.ghosts).cmp j.1.now k.1.now)) l.seen q ≡ list_any (λ p. (streams.ghosts).eq q.1.now p.stream && (sets.ghosts).eq q.0.now p.attrs) (take l.place l.points);
 }
