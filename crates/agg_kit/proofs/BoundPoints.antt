@@ -122,7 +122,7 @@ position-push q xs x i h = by (nat_lt n (length xs)) refl h
         let m : n < length ys = omega (arith, l, length-append xs (x ∷ [])) in
         ap (λ j. cond (nat_lt j (length ys)) (Some j) None) (len-append q xs (x ∷ []) l) ∙ ap (λ b. cond b (Some n) None) (lt-ltb n (length ys) m) ∙ k
 
-position-once : (q : AttrSet → Bool) (xs : List AttrSet) (x : AttrSet) (i : ℕ) → position q xs ≡ Some i → position q (add_once xs x) ≡ Some i
+pub position-once : (q : AttrSet → Bool) (xs : List AttrSet) (x : AttrSet) (i : ℕ) → position q xs ≡ Some i → position q (add_once xs x) ≡ Some i
 position-once q xs x i h = by (has_set xs x)
   where
     by : (b : Bool) → position q (if b then xs else xs ++ x ∷ []) ≡ Some i

@@ -423,7 +423,7 @@ module _ (limit : ℕ) (es ms : Points) (i : ℕ) (e : AttrSet × Payload) (ther
   pub walks-there : (w : Walk) → AreOnce (keys_of ms) → Knows w (absorb limit es (take i ms)) → Walks w es (absorb limit es (take i ms)) e.0
   walks-there w o k = (k, λ own. untouched limit es (take i ms) e.0 own (apart-before o))
 
-  left : drop i ms ≡ e ∷ drop (i + 1) ms
+  pub left : drop i ms ≡ e ∷ drop (i + 1) ms
   left = let z : suc i ≡ i + 1 = omega arith in from ms i there ∙ ap (λ n. e ∷ drop n ms) z
     where
       from : (ms : Points) (i : ℕ) → slice_get ms i ≡ Some e → drop i ms ≡ e ∷ drop (suc i) ms

@@ -17,6 +17,7 @@ pub mod Numbers
 pub mod OwnPoints
 pub mod Parts
 pub mod Payloads
+pub mod Places
 pub mod Points
 pub mod Reaches
 pub mod RecorderParts

@@ -1,17 +1,18 @@
 -- What the code knows of points as later ones come in.
-use Rattle.std.specs.Prelude.{◌≡◌, ℕ, ℤ, pos, true, List, slice_index_or}
+use Rattle.std.specs.Prelude.{◌≡◌, ℕ, ℤ, pos, true, List, [], ◌∷◌, ◌++◌, cond, map, reverse, slice_index_or}
 use Rattle.std.specs.Map.{lookup, values_of}
 use Rattle.std.specs.Option.{option_map_or}
 use Rattle.attr_kit.specs.declared.attr_set.AttrSet.{AttrSet}
 use Rattle.point_kit.specs.declared.payload.Payload.{Payload}
 use Rattle.point_kit.specs.declared.shape.Shape.{Shape}
 use Rattle.point_kit.specs.declared.stream.Stream.{Stream}
-use Rattle.agg_kit.specs.Absorbs.{payload_of_both}
+use Rattle.agg_kit.specs.Absorbs.{payload_of_both, with_point}
 use Rattle.agg_kit.specs.Feeding.{set_eq, overflow_set, is_own}
 use Rattle.agg_kit.specs.Joins.{total_of}
 use Rattle.agg_kit.specs.Parts.{count_of}
 use Rattle.agg_kit.specs.Sound.{IsSound, AreSound, AllSound}
-use Rattle.agg_kit.specs.Steps.{own_count}
+use Rattle.agg_kit.specs.Stamps.{place_or_next}
+use Rattle.agg_kit.specs.Steps.{fed_set, has_point, own_count}
 use Rattle.agg_kit.specs.Tallies.{Points}
 use Rattle.agg_kit.specs.declared.absorbing.Walk.{Walk}
 use Rattle.agg_kit.specs.declared.joining.Amount.{Amount}
@@ -57,3 +58,20 @@ Walks w before es a = Knows w es × (is_own a ≡ true → lookup (set_eq a) es 
 -- how many sets have their own points is known, and a set of its own is as it was before the walk
 abbrev pub Counts : ℕ → Points → Points → AttrSet → Type 0
 Counts n before es a = (n ≡ own_count es) × (is_own a ≡ true → lookup (set_eq a) es ≡ lookup (set_eq a) before)
+
+-- of each later point the place of its set's point, or that of the next point where it has none
+abbrev pub places_of : Points → Points → List ℕ
+places_of es ms = map (λ e. place_or_next es e.0) ms
+
+-- the point that a later one makes as it comes in, where its set feeds none that is there
+abbrev pub point_made : ℕ → Points → AttrSet × Payload → Points
+point_made limit es e = let b = fed_set limit es e.0 in cond (has_point es b) [] ((b, e.1) ∷ [])
+
+-- those that later ones make, one after the other
+abbrev pub points_made : ℕ → Points → Points → Points
+points_made limit es [] = []
+points_made limit es (e ∷ more) = point_made limit es e ++ points_made limit (with_point limit es e) more
+
+-- the point that a later one makes is the last of the copies
+abbrev pub IsNext : ℕ → Points → AttrSet × Payload → Points → Type 0
+IsNext limit es e copies = (rest : Points) × (reverse copies ≡ point_made limit es e ++ rest)

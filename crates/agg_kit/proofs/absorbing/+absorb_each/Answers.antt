@@ -21,7 +21,7 @@ returns-in_default-clause-emptied t c =
 pub fits-requires-clause-sound : goal.fits-requires-clause-sound
 fits-requires-clause-sound t c =
     let s = split c.args.series.now c.args.later.now c.in-Some.points.now c.in-Some-split_first_mut.more.now c.in-Some.rest.now c.in-Some-split_first_mut.others.now c.in-Some.ensures.cases.0 c.in-Some-split_first_mut.ensures.cases.0 c.requires.sound in
-    subst (λ (es : Points). AreBothSound es c.in-Some-split_first_mut.more.now.entries) (sym c.reserve_for.ensures.entries) (first-both c.in-Some.points.now.entries c.in-Some-split_first_mut.more.now.entries (entries_of c.in-Some.rest.now) (entries_of c.in-Some-split_first_mut.others.now) s)
+    first-both c.in-Some.points.now.entries c.in-Some-split_first_mut.more.now.entries (entries_of c.in-Some.rest.now) (entries_of c.in-Some-split_first_mut.others.now) s
 
 pub fits-requires-clause-once : goal.fits-requires-clause-once
 fits-requires-clause-once t c =
@@ -38,22 +38,26 @@ absorb_each-requires t c =
 pub take_in-requires-clause-sound : goal.take_in-requires-clause-sound
 take_in-requires-clause-sound t c =
     let s = split c.args.series.now c.args.later.now c.in-Some.points.now c.in-Some-split_first_mut.more.now c.in-Some.rest.now c.in-Some-split_first_mut.others.now c.in-Some.ensures.cases.0 c.in-Some-split_first_mut.ensures.cases.0 c.requires.sound in
-    subst (λ (es : Points). AreBothSound es c.in-Some-split_first_mut.more.now.entries) (sym c.reserve_for.ensures.entries) (first-both c.in-Some.points.now.entries c.in-Some-split_first_mut.more.now.entries (entries_of c.in-Some.rest.now) (entries_of c.in-Some-split_first_mut.others.now) s)
+    subst (λ (es : Points). AreBothSound es c.in-Some-split_first_mut.more.now.entries) (sym c.reserve.ensures.entries) (first-both c.in-Some.points.now.entries c.in-Some-split_first_mut.more.now.entries (entries_of c.in-Some.rest.now) (entries_of c.in-Some-split_first_mut.others.now) s)
 
 pub newest_over-requires-clause-once : goal.newest_over-requires-clause-once
 newest_over-requires-clause-once t c =
     let s = split c.args.series.now c.args.later.now c.in-Some.points.now c.in-Some-split_first_mut.more.now c.in-Some.rest.now c.in-Some-split_first_mut.others.now c.in-Some.ensures.cases.0 c.in-Some-split_first_mut.ensures.cases.0 c.requires.sound in
     first-once c.in-Some.points.now.entries c.in-Some-split_first_mut.more.now.entries (entries_of c.in-Some.rest.now) (entries_of c.in-Some-split_first_mut.others.now) s
 
-pub returns-in-Some-newest-clause-value : goal.returns-in-Some-newest-clause-value
-returns-in-Some-newest-clause-value t c =
+pub copies_for-requires-clause-once : goal.copies_for-requires-clause-once
+copies_for-requires-clause-once t c =
+    let s = split c.args.series.now c.args.later.now c.in-Some.points.now c.in-Some-split_first_mut.more.now c.in-Some.rest.now c.in-Some-split_first_mut.others.now c.in-Some.ensures.cases.0 c.in-Some-split_first_mut.ensures.cases.0 c.requires.sound in
+    first-once c.in-Some.points.now.entries c.in-Some-split_first_mut.more.now.entries (entries_of c.in-Some.rest.now) (entries_of c.in-Some-split_first_mut.others.now) s
+
+pub returns-clause-value : goal.returns-clause-value
+returns-clause-value t c =
     let limit = c.args.limit in
     let es = c.in-Some.points.now.entries in
     let ms = c.in-Some-split_first_mut.more.now.entries in
     let n = c.in-Some-split_first.own.now.kept.stamps in
-    let x : ℕ × Payload = (c.in-Some-newest.field-0-0, c.in-Some-newest.payload) in
-    let took : c.take_in.new.self.entries ≡ absorb limit es ms = c.take_in.ensures.value ∙ ap (λ (y : Points). absorb limit y ms) c.reserve_for.ensures.entries in
-    let best : Some x ≡ newest_over limit es ms n None = sym c.in-Some-newest.is ∙ c.in_ok-newest.ensures ∙ ap (λ (y : Points). newest_over limit y ms n None) c.reserve_for.ensures.entries in
-    let here : c.put_over.new.self.entries ≡ absorb_stamped limit es ms n = c.put_over.ensures c.in-Some-newest.field-0-0 ∙ (λ i. put_over (took i) (best i)) in
+    let took : c.take_in.new.self.entries ≡ absorb limit es ms = c.take_in.ensures.value ∙ ap (λ (y : Points). absorb limit y ms) c.reserve.ensures.entries in
+    let best : c.in_ok-newest.newest ≡ newest_over limit es ms n None = c.in_ok-newest.ensures in
+    let here : c.put_newest.new.self.entries ≡ absorb_stamped limit es ms n = c.put_newest.ensures ∙ (λ i. put_over (took i) (best i)) in
     (λ i. here i ∷ c.in_ok-absorb_each.ensures.value i)
     ∙ (λ i. series_with limit (entries_of (sym c.in-Some.ensures.cases.0 i)) (entries_of (sym c.in-Some-split_first_mut.ensures.cases.0 i)) (stamped_in (sym c.in-Some-split_first.ensures.cases.0 i)))

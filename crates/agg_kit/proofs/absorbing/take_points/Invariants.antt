@@ -1,18 +1,19 @@
-use Rattle.std.proofs.Common.{◌≡◌, ◌≤◌, true, false, length, reverse}
-use Rattle.agg_kit.specs.Absorbing.{AreBothSound}
+use Rattle.std.proofs.Common.{◌≡◌, ◌≤◌, ℕ, Some, true, length, drop, position, reverse}
+use Rattle.std.specs.Map.{keys_of}
+use Rattle.attr_kit.specs.declared.attr_set.AttrSet.{AttrSet}
+use Rattle.agg_kit.specs.Absorbing.{points_made, AreBothSound}
 use Rattle.agg_kit.specs.Absorbs.{absorb, fits}
-use Rattle.agg_kit.specs.Feeding.{overflow_set}
-use Rattle.agg_kit.specs.Steps.{has_point}
+use Rattle.agg_kit.specs.Feeding.{set_eq}
 use Rattle.agg_kit.proofs.absorbing.take_points.Given as goal
 
-abbrev pub invariant-loop-set : goal.invariant-loop-set
-invariant-loop-set l = record {
-  all : absorb l.limit l.series.entries (reverse l.later.entries) ≡ absorb l.limit l.initial.series.entries (reverse l.initial.later.entries);
-  stay : fits l.limit l.series.entries (reverse l.later.entries) ≡ true;
-  room : length l.later.entries ≤ l.series.room;
-  sound : AreBothSound l.series.entries (reverse l.later.entries);
-  spare_is : has_point l.series.entries overflow_set ≡ false → l.spare ≡ overflow_set;
-}
-
-abbrev pub decreases-loop-set : goal.decreases-loop-set
-decreases-loop-set l = length l.later.entries
+abbrev pub invariant-loop-place : goal.invariant-loop-place
+invariant-loop-place l =
+    let ms = drop l.place l.later.entries in
+    record {
+      all : absorb l.limit l.series.entries ms ≡ absorb l.limit l.initial.series.entries l.later.entries;
+      stay : fits l.limit l.series.entries ms ≡ true;
+      sound : AreBothSound l.series.entries ms;
+      made : reverse l.copies.items ≡ points_made l.limit l.series.entries ms;
+      room : length l.copies.items ≤ l.series.room;
+      held : (a : AttrSet) (i : ℕ) → position (set_eq a) (keys_of l.initial.series.entries) ≡ Some i → position (set_eq a) (keys_of l.series.entries) ≡ Some i;
+    }

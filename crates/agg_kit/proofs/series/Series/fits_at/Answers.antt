@@ -11,9 +11,19 @@ use Rattle.agg_kit.specs.Tallies.{Points}
 use Rattle.agg_kit.specs.declared.absorbing.Walk.{Walk}
 use Rattle.agg_kit.proofs.ComingIn.{walks-there, sound-there, seen-more, fits-more, fits-not}
 use Rattle.agg_kit.proofs.Copies.{none-there}
+use Rattle.agg_kit.proofs.Places.{place-read, place-within}
 use Rattle.agg_kit.proofs.Ways.{at-with_sums, fits-end, keys-with_sums, length-with_sums, sound-with_sums}
 use Rattle.agg_kit.proofs.series.Series.fits_at.Goals as goal
 use Rattle.agg_kit.proofs.series.Series.fits_at.Goals.{in-Some+else-not-steps_over, in_default}
+
+pub bounds-places-place : goal.bounds-places-place
+bounds-places-place c =
+    let n = place-within c.args.self.now.entries c.later.inside.points.entries c.args.later.now.entries c.args.places.now c.requires.places (ap (λ (s : Stored). s.entries) c.later.view_is) in
+    omega (arith, n, c.loop-place-test.true, c.len-place-end.ensures.len)
+
+pub steps_over-requires-clause-at : goal.steps_over-requires-clause-at
+steps_over-requires-clause-at c =
+    place-read c.args.self.now.entries c.later.inside.points.entries c.args.later.now.entries c.args.places.now c.loop-place.place (c.in-Some.set.now, c.in-Some.payload.now) c.requires.places (ap (λ (s : Stored). s.entries) c.later.view_is) (sym c.in-Some.ensures.entry)
 
 pub returns-then-not-steps_over : goal.returns-then-not-steps_over
 returns-then-not-steps_over c =

@@ -1,90 +1,86 @@
-use Rattle.std.proofs.Common.{◌≡◌, ◌∙◌, ◌<◌, ℕ, None, not, ap, sym, subst, true≢false, is_some}
+use Rattle.std.proofs.Common.{◌≡◌, ◌∙◌, ◌++◌, ◌∷◌, [], ℕ, None, Some, not, length, reverse, ap, sym, refl, is_some, arith}
+use Rattle.std.proofs.lemmas.List.{length_push}
 use Rattle.std.specs.Map.{lookup}
 use Rattle.indexmap.specs.IndexMap.{set_value_at}
 use Rattle.attr_kit.specs.declared.attr_set.AttrSet.{AttrSet}
 use Rattle.point_kit.specs.declared.payload.Payload.{Payload}
 use Rattle.agg_kit.specs.Absorbs.{point_with}
-use Rattle.agg_kit.specs.Feeding.{set_eq, overflow_set}
+use Rattle.agg_kit.specs.Feeding.{set_eq}
 use Rattle.agg_kit.specs.Payloads.{is_out_of_range}
-use Rattle.agg_kit.specs.Steps.{own_count, fed_set}
+use Rattle.agg_kit.specs.Steps.{fed_set}
 use Rattle.agg_kit.specs.Tallies.{Points}
-use Rattle.agg_kit.proofs.ComingIn.{point_with-there, put-there, new-with_point, lacks-before, over-place, has_point-over, over-own}
-use Rattle.agg_kit.proofs.Recorders.{place-roomy}
+use Rattle.agg_kit.proofs.BoundPoints.{has_point-at}
+use Rattle.agg_kit.proofs.ComingIn.{point_with-there, popped, put-there, new-with_point}
+use Rattle.agg_kit.proofs.Places.{next-is, next-none, none-made, one-made}
 use Rattle.agg_kit.proofs.Steps.{absent}
 use Rattle.agg_kit.proofs.series.Series.merge.Goals as goal
-
--- where there is no room the set goes to the overflow set, which has no point yet
-full : (limit : ℕ) (es : Points) (set : AttrSet) → lookup (set_eq (fed_set limit es set)) es ≡ None → (own_count es < limit → ⊥) → (fed_set limit es set ≡ overflow_set) × (lookup (set_eq overflow_set) es ≡ None)
-full limit es set gone past = let at = over-place limit es set gone past in (at, subst (λ (a : AttrSet). lookup (set_eq a) es ≡ None) at gone)
 
 pub join_at-requires-clause-in_range : goal.join_at-requires-clause-in_range
 join_at-requires-clause-in_range c =
     let es = c.args.self.now.entries in
-    ap (λ (p : Payload). is_out_of_range p) (point_with-there es (fed_set c.args.limit es c.args.set) c.args.payload c.in-Some.index (sym c.find.ensures ∙ c.in-Some.is)) ∙ c.requires.fits
+    ap (λ (p : Payload). is_out_of_range p) (point_with-there es (fed_set c.args.limit es c.args.set.now) c.args.payload.now c.in-Some.index (sym c.place_after.ensures ∙ c.in-Some.is)) ∙ c.requires.fits
 
 pub returns-in-Some-clause-value : goal.returns-in-Some-clause-value
 returns-in-Some-clause-value c =
     let es = c.args.self.now.entries in
-    let b = fed_set c.args.limit es c.args.set in
-    let p = c.args.payload in
-    let at = sym c.find.ensures ∙ c.in-Some.is in
+    let b = fed_set c.args.limit es c.args.set.now in
+    let p = c.args.payload.now in
+    let at = sym c.place_after.ensures ∙ c.in-Some.is in
     c.join_at.ensures.value ∙ ap (set_value_at es c.in-Some.index) (point_with-there es b p c.in-Some.index at) ∙ put-there es b (point_with es b p) c.in-Some.index at
 
-pub returns-in-Some-clause-spare : goal.returns-in-Some-clause-spare
-returns-in-Some-clause-spare c = λ n.
+pub returns-in-Some-clause-copies : goal.returns-in-Some-clause-copies
+returns-in-Some-clause-copies c =
     let es = c.args.self.now.entries in
-    let b = fed_set c.args.limit es c.args.set in
-    let p = c.args.payload in
-    let at = sym c.find.ensures ∙ c.in-Some.is in
-    let now = c.join_at.ensures.value ∙ ap (set_value_at es c.in-Some.index) (point_with-there es b p c.in-Some.index at) ∙ put-there es b (point_with es b p) c.in-Some.index at in
-    c.requires.spare (lacks-before c.args.limit es c.join_at.new.self.entries c.args.set p now n)
+    let e : AttrSet × Payload = (c.args.set.now, c.args.payload.now) in
+    let here = has_point-at es (fed_set c.args.limit es e.0) c.in-Some.index (sym c.place_after.ensures ∙ c.in-Some.is) in
+    sym (ap (λ (l : Points). l ++ reverse c.args.copies.now.items) (none-made c.args.limit es e here))
 
 pub insert-requires : goal.insert-requires
 insert-requires c =
     let es = c.args.self.now.entries in
-    let b = fed_set c.args.limit es c.args.set in
-    let gone : lookup (set_eq b) es ≡ None = absent es b (sym c.find.ensures ∙ c.in_default.is) in
-    let at : b ≡ c.args.set = place-roomy c.args.limit es c.args.set (c.has_room.ensures.0 c.if-has_room.true) in
-    record { ready = (c.requires.room, subst (λ (a : AttrSet). lookup (set_eq a) es ≡ None) at gone, c.ne-own.ensures ∙ ap (λ (o : AttrSet). not (set_eq c.args.set o)) c.requires.overflow) }
+    let e : AttrSet × Payload = (c.args.set.now, c.args.payload.now) in
+    let b = fed_set c.args.limit es e.0 in
+    let x : AttrSet × Payload = (c.in-Some-pop.set, c.in-Some-pop.payload) in
+    let gone : lookup (set_eq b) es ≡ None = absent es b (sym c.place_after.ensures ∙ c.in_default.is) in
+    let is : x ≡ (b, e.1) = next-is c.args.limit es c.args.copies.now.items c.pop.new.self.items e x c.requires.copies (ap is_some gone) c.in-Some-pop.ensures.items in
+    record {
+      ready = (
+        omega (arith, c.requires.room, ap length c.in-Some-pop.ensures.items, length_push c.pop.new.self.items x),
+        ap (λ (y : AttrSet × Payload). lookup (set_eq y.0) es) is ∙ gone,
+        c.ne-own.ensures ∙ ap (λ (o : AttrSet). not (set_eq c.in-Some-pop.set o)) c.requires.overflow,
+      );
+    }
 
-pub returns-then-has_room-clause-value : goal.returns-then-has_room-clause-value
-returns-then-has_room-clause-value c =
+pub returns-in-Some-pop-clause-value : goal.returns-in-Some-pop-clause-value
+returns-in-Some-pop-clause-value c =
     let es = c.args.self.now.entries in
-    let b = fed_set c.args.limit es c.args.set in
-    let gone : lookup (set_eq b) es ≡ None = absent es b (sym c.find.ensures ∙ c.in_default.is) in
-    let at : b ≡ c.args.set = place-roomy c.args.limit es c.args.set (c.has_room.ensures.0 c.if-has_room.true) in
-    c.insert.ensures.value ∙ new-with_point c.args.limit es c.args.set c.args.set c.args.payload gone (sym at)
+    let e : AttrSet × Payload = (c.args.set.now, c.args.payload.now) in
+    let b = fed_set c.args.limit es e.0 in
+    let x : AttrSet × Payload = (c.in-Some-pop.set, c.in-Some-pop.payload) in
+    let gone : lookup (set_eq b) es ≡ None = absent es b (sym c.place_after.ensures ∙ c.in_default.is) in
+    let is : x ≡ (b, e.1) = next-is c.args.limit es c.args.copies.now.items c.pop.new.self.items e x c.requires.copies (ap is_some gone) c.in-Some-pop.ensures.items in
+    c.insert.ensures.value ∙ ap (λ (y : AttrSet × Payload). es ++ y ∷ []) is ∙ new-with_point c.args.limit es e.0 b e.1 gone refl
 
-pub returns-then-has_room-clause-spare : goal.returns-then-has_room-clause-spare
-returns-then-has_room-clause-spare c = λ n.
-    let es = c.args.self.now.entries in
-    let b = fed_set c.args.limit es c.args.set in
-    let gone : lookup (set_eq b) es ≡ None = absent es b (sym c.find.ensures ∙ c.in_default.is) in
-    let at : b ≡ c.args.set = place-roomy c.args.limit es c.args.set (c.has_room.ensures.0 c.if-has_room.true) in
-    let now = c.insert.ensures.value ∙ new-with_point c.args.limit es c.args.set c.args.set c.args.payload gone (sym at) in
-    c.requires.spare (lacks-before c.args.limit es c.insert.new.self.entries c.args.set c.args.payload now n)
+pub returns-in-Some-pop-clause-room : goal.returns-in-Some-pop-clause-room
+returns-in-Some-pop-clause-room c =
+    let x : AttrSet × Payload = (c.in-Some-pop.set, c.in-Some-pop.payload) in
+    omega (arith, c.requires.room, c.insert.ensures.room, ap length c.in-Some-pop.ensures.items, length_push c.pop.new.self.items x)
 
-pub insert-requires-else-has_room : goal.insert-requires-else-has_room
-insert-requires-else-has_room c =
+pub returns-in-Some-pop-clause-copies : goal.returns-in-Some-pop-clause-copies
+returns-in-Some-pop-clause-copies c =
     let es = c.args.self.now.entries in
-    let gone = absent es (fed_set c.args.limit es c.args.set) (sym c.find.ensures ∙ c.in_default.is) in
-    let over = full c.args.limit es c.args.set gone (λ l. absurd (true≢false (sym (c.has_room.ensures.1 l) ∙ c.if-has_room.false))) in
-    let is : c.replace-set.result ≡ overflow_set = c.replace-set.ensures.value ∙ c.requires.spare (ap is_some over.1) in
-    record { ready = (c.requires.room, subst (λ (a : AttrSet). lookup (set_eq a) es ≡ None) (sym is) over.1, over-own c.replace-set.result is) }
+    let e : AttrSet × Payload = (c.args.set.now, c.args.payload.now) in
+    let b = fed_set c.args.limit es e.0 in
+    let x : AttrSet × Payload = (c.in-Some-pop.set, c.in-Some-pop.payload) in
+    let gone : lookup (set_eq b) es ≡ None = absent es b (sym c.place_after.ensures ∙ c.in_default.is) in
+    let is : x ≡ (b, e.1) = next-is c.args.limit es c.args.copies.now.items c.pop.new.self.items e x c.requires.copies (ap is_some gone) c.in-Some-pop.ensures.items in
+    popped c.args.copies.now.items c.pop.new.self.items x c.in-Some-pop.ensures.items
+    ∙ ap (λ (y : AttrSet × Payload). y ∷ reverse c.pop.new.self.items) is
+    ∙ sym (ap (λ (l : Points). l ++ reverse c.pop.new.self.items) (one-made c.args.limit es e b refl (ap is_some gone)))
 
-pub returns-else-has_room-clause-value : goal.returns-else-has_room-clause-value
-returns-else-has_room-clause-value c =
+pub returns-in_default-pop-clause-value : goal.returns-in_default-pop-clause-value
+returns-in_default-pop-clause-value c =
     let es = c.args.self.now.entries in
-    let gone = absent es (fed_set c.args.limit es c.args.set) (sym c.find.ensures ∙ c.in_default.is) in
-    let over = full c.args.limit es c.args.set gone (λ l. absurd (true≢false (sym (c.has_room.ensures.1 l) ∙ c.if-has_room.false))) in
-    let is : c.replace-set.result ≡ overflow_set = c.replace-set.ensures.value ∙ c.requires.spare (ap is_some over.1) in
-    c.insert-else-has_room.ensures.value ∙ new-with_point c.args.limit es c.args.set c.replace-set.result c.args.payload gone (is ∙ sym over.0)
-
-pub returns-else-has_room-clause-spare : goal.returns-else-has_room-clause-spare
-returns-else-has_room-clause-spare c = λ n.
-    let es = c.args.self.now.entries in
-    let gone = absent es (fed_set c.args.limit es c.args.set) (sym c.find.ensures ∙ c.in_default.is) in
-    let over = full c.args.limit es c.args.set gone (λ l. absurd (true≢false (sym (c.has_room.ensures.1 l) ∙ c.if-has_room.false))) in
-    let is : c.replace-set.result ≡ overflow_set = c.replace-set.ensures.value ∙ c.requires.spare (ap is_some over.1) in
-    let now = c.insert-else-has_room.ensures.value ∙ new-with_point c.args.limit es c.args.set c.replace-set.result c.args.payload gone (is ∙ sym over.0) in
-    absurd (true≢false (sym (has_point-over c.args.limit es c.insert-else-has_room.new.self.entries c.args.set c.args.payload now over.0) ∙ n))
+    let e : AttrSet × Payload = (c.args.set.now, c.args.payload.now) in
+    let gone : lookup (set_eq (fed_set c.args.limit es e.0)) es ≡ None = absent es (fed_set c.args.limit es e.0) (sym c.place_after.ensures ∙ c.in_default.is) in
+    absurd (next-none c.args.limit es c.args.copies.now.items e (sym c.args.copies.now.ok.0 ∙ c.in_default-pop.ensures.cases.0) c.requires.copies (ap is_some gone))

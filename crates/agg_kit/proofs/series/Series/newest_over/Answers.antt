@@ -10,8 +10,18 @@ use Rattle.agg_kit.specs.Steps.{Stored, own_count, fed_set}
 use Rattle.agg_kit.specs.Tallies.{Points}
 use Rattle.agg_kit.proofs.ComingIn.{counts-there, newest-more, newest-out, seen-more}
 use Rattle.agg_kit.proofs.Copies.{none-there}
+use Rattle.agg_kit.proofs.Places.{place-read, place-within}
 use Rattle.agg_kit.proofs.series.Series.newest_over.Goals as goal
 use Rattle.agg_kit.proofs.series.Series.newest_over.Goals.{in-Some-get_index+then-goes_over+in_ok-newest, in-Some-get_index+else-goes_over, in_default-get_index}
+
+pub bounds-places-place : goal.bounds-places-place
+bounds-places-place c =
+    let n = place-within c.args.self.now.entries c.later.inside.points.entries c.args.later.now.entries c.args.places.now c.requires.places (ap (λ (s : Stored). s.entries) c.later.view_is) in
+    omega (arith, n, c.loop-place-test.true, c.len-place-end.ensures.len)
+
+pub goes_over-requires-clause-at : goal.goes_over-requires-clause-at
+goes_over-requires-clause-at c =
+    place-read c.args.self.now.entries c.later.inside.points.entries c.args.later.now.entries c.args.places.now c.loop-place.place (c.in-Some-get_index.set.now, c.in-Some-get_index.payload.now) c.requires.places (ap (λ (s : Stored). s.entries) c.later.view_is) (sym c.in-Some-get_index.ensures.entry)
 
 pub returns-in_default : goal.returns-in_default
 returns-in_default c =

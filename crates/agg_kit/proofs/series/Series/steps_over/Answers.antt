@@ -43,33 +43,33 @@ is-over limit es a n = ap (fed_set limit es) (same a overflow_set (not-false (se
 pub returns-in-Some-clause-fits : goal.returns-in-Some-clause-fits
 returns-in-Some-clause-fits c = λ es p k s m.
     let it : ComesIn c.args.walk.now c.args.self.now.entries es c.args.set.now p = record { walks = k; sound = s; amount = c.args.more; count = m.count; sum = m.sum } in
-    let own = own-is c.args.set.now c.ne.result true c.requires c.ne.ensures c.if-ne.true in
-    let here = there it c.args.limit c.amount_held.result true own c.amount_held.ensures.found (ap is_some c.in-Some.is) in
-    own-fits it c.args.limit c.in-Some.held (not c.is_some.result) own (place-has_point c.args.limit es c.args.set.now here) c.in-Some.ensures.count c.in-Some.ensures.sum (c.plus.ensures.fits ∙ ap not (sym c.is_some.ensures))
+    let own = own-is c.args.set.now c.ne.result true c.requires.overflow c.ne.ensures c.if-ne.true in
+    let here = there it c.args.limit c.held_at.result true own (c.held_at.ensures.found c.args.set.now c.requires.at) (ap is_some c.in-Some.is) in
+    own-fits it c.args.limit c.in-Some.held (not c.is_some.result) own (place-has_point c.args.limit es c.args.set.now here) (c.in-Some.ensures.count c.args.set.now c.requires.at) (c.in-Some.ensures.sum c.args.set.now c.requires.at) (c.plus.ensures.fits ∙ ap not (sym c.is_some.ensures))
 
 pub returns-in-Some-clause-goes : goal.returns-in-Some-clause-goes
 returns-in-Some-clause-goes c = λ es p k s m _.
     let it : ComesIn c.args.walk.now c.args.self.now.entries es c.args.set.now p = record { walks = k; sound = s; amount = c.args.more; count = m.count; sum = m.sum } in
-    let own = own-is c.args.set.now c.ne.result true c.requires c.ne.ensures c.if-ne.true in
-    let here = there it c.args.limit c.amount_held.result true own c.amount_held.ensures.found (ap is_some c.in-Some.is) in
+    let own = own-is c.args.set.now c.ne.result true c.requires.overflow c.ne.ensures c.if-ne.true in
+    let here = there it c.args.limit c.held_at.result true own (c.held_at.ensures.found c.args.set.now c.requires.at) (ap is_some c.in-Some.is) in
     knows-there c.args.walk.now c.args.walk.now es c.args.limit c.args.set.now p k.0 own here refl
 
 pub returns-then-walk-limit-clause-fits : goal.returns-then-walk-limit-clause-fits
 returns-then-walk-limit-clause-fits c = λ es p k s m.
     let it : ComesIn c.args.walk.now c.args.self.now.entries es c.args.set.now p = record { walks = k; sound = s; amount = c.args.more; count = m.count; sum = m.sum } in
-    let own = own-is c.args.set.now c.ne.result true c.requires c.ne.ensures c.if-ne.true in
+    let own = own-is c.args.set.now c.ne.result true c.requires.overflow c.ne.ensures c.if-ne.true in
     let before = c.args.self.now.entries in
-    let gone = there it c.args.limit c.amount_held.result false own c.amount_held.ensures.found (ap is_some c.in_default.is) in
+    let gone = there it c.args.limit c.held_at.result false own (c.held_at.ensures.found c.args.set.now c.requires.at) (ap is_some c.in_default.is) in
     let room : own_count es < c.args.limit = subst (λ (i : ℕ). i < c.args.limit) k.0.own c.if-walk-limit.true in
-    let none = none-held before c.args.set.now (sym c.amount_held.ensures.found ∙ ap is_some c.in_default.is) in
+    let none = none-held before c.args.set.now (sym (c.held_at.ensures.found c.args.set.now c.requires.at) ∙ ap is_some c.in_default.is) in
     own-fits it c.args.limit (record { count = 0; sum = pos 0 }) (not c.is_some-then-walk-limit.result) own (place-room c.args.limit es c.args.set.now gone room) none.0 none.1
     (c.plus-then-walk-limit.ensures.fits ∙ ap not (sym c.is_some-then-walk-limit.ensures))
 
 pub returns-then-walk-limit-clause-goes : goal.returns-then-walk-limit-clause-goes
 returns-then-walk-limit-clause-goes c = λ es p k s m _.
     let it : ComesIn c.args.walk.now c.args.self.now.entries es c.args.set.now p = record { walks = k; sound = s; amount = c.args.more; count = m.count; sum = m.sum } in
-    let own = own-is c.args.set.now c.ne.result true c.requires c.ne.ensures c.if-ne.true in
-    let gone = there it c.args.limit c.amount_held.result false own c.amount_held.ensures.found (ap is_some c.in_default.is) in
+    let own = own-is c.args.set.now c.ne.result true c.requires.overflow c.ne.ensures c.if-ne.true in
+    let gone = there it c.args.limit c.held_at.result false own (c.held_at.ensures.found c.args.set.now c.requires.at) (ap is_some c.in_default.is) in
     let room : own_count es < c.args.limit = subst (λ (i : ℕ). i < c.args.limit) k.0.own c.if-walk-limit.true in
     let w = c.args.walk.now in
     knows-new w (record { own = w.own + 1; over = w.over }) es c.args.limit c.args.set.now p k.0 own gone room refl refl
@@ -78,8 +78,8 @@ pub returns-in-Some-plus-clause-fits : goal.returns-in-Some-plus-clause-fits
 returns-in-Some-plus-clause-fits c = λ es p k s m.
     let it : ComesIn c.args.walk.now c.args.self.now.entries es c.args.set.now p = record { walks = k; sound = s; amount = c.args.more; count = m.count; sum = m.sum } in
     let at : fed_set c.args.limit es c.args.set.now ≡ overflow_set = elim c.if-ne.branch [
-      | then-ne+in_default+else-walk-limit w ↦ past it c.args.limit w.amount_held.result (own-is c.args.set.now c.ne.result true c.requires c.ne.ensures w.if-ne.true) w.amount_held.ensures.found w.in_default.is w.if-walk-limit.false
-      | else-ne w ↦ is-over c.args.limit es c.args.set.now (own-is c.args.set.now c.ne.result false c.requires c.ne.ensures w.if-ne.false)
+      | then-ne+in_default+else-walk-limit w ↦ past it c.args.limit w.held_at.result (own-is c.args.set.now c.ne.result true c.requires.overflow c.ne.ensures w.if-ne.true) (w.held_at.ensures.found c.args.set.now c.requires.at) w.in_default.is w.if-walk-limit.false
+      | else-ne w ↦ is-over c.args.limit es c.args.set.now (own-is c.args.set.now c.ne.result false c.requires.overflow c.ne.ensures w.if-ne.false)
     ] in
     over-fits it c.args.limit false at (c.plus-2.ensures.fits ∙ ap (λ (o : Option Amount). not (is_some o)) c.in-Some-plus.is)
 
@@ -87,8 +87,8 @@ pub returns-in-Some-plus-clause-goes : goal.returns-in-Some-plus-clause-goes
 returns-in-Some-plus-clause-goes c = λ es p k s m _.
     let it : ComesIn c.args.walk.now c.args.self.now.entries es c.args.set.now p = record { walks = k; sound = s; amount = c.args.more; count = m.count; sum = m.sum } in
     let at : fed_set c.args.limit es c.args.set.now ≡ overflow_set = elim c.if-ne.branch [
-      | then-ne+in_default+else-walk-limit w ↦ past it c.args.limit w.amount_held.result (own-is c.args.set.now c.ne.result true c.requires c.ne.ensures w.if-ne.true) w.amount_held.ensures.found w.in_default.is w.if-walk-limit.false
-      | else-ne w ↦ is-over c.args.limit es c.args.set.now (own-is c.args.set.now c.ne.result false c.requires c.ne.ensures w.if-ne.false)
+      | then-ne+in_default+else-walk-limit w ↦ past it c.args.limit w.held_at.result (own-is c.args.set.now c.ne.result true c.requires.overflow c.ne.ensures w.if-ne.true) (w.held_at.ensures.found c.args.set.now c.requires.at) w.in_default.is w.if-walk-limit.false
+      | else-ne w ↦ is-over c.args.limit es c.args.set.now (own-is c.args.set.now c.ne.result false c.requires.overflow c.ne.ensures w.if-ne.false)
     ] in
     let w = c.args.walk.now in
     knows-over w (record { own = w.own; over = c.in-Some-plus.over }) es c.args.limit c.args.set.now p k.0 s.0 s.1 s.2 at refl
@@ -98,7 +98,7 @@ pub returns-in-None-clause-fits : goal.returns-in-None-clause-fits
 returns-in-None-clause-fits c = λ es p k s m.
     let it : ComesIn c.args.walk.now c.args.self.now.entries es c.args.set.now p = record { walks = k; sound = s; amount = c.args.more; count = m.count; sum = m.sum } in
     let at : fed_set c.args.limit es c.args.set.now ≡ overflow_set = elim c.if-ne.branch [
-      | then-ne+in_default+else-walk-limit w ↦ past it c.args.limit w.amount_held.result (own-is c.args.set.now c.ne.result true c.requires c.ne.ensures w.if-ne.true) w.amount_held.ensures.found w.in_default.is w.if-walk-limit.false
-      | else-ne w ↦ is-over c.args.limit es c.args.set.now (own-is c.args.set.now c.ne.result false c.requires c.ne.ensures w.if-ne.false)
+      | then-ne+in_default+else-walk-limit w ↦ past it c.args.limit w.held_at.result (own-is c.args.set.now c.ne.result true c.requires.overflow c.ne.ensures w.if-ne.true) (w.held_at.ensures.found c.args.set.now c.requires.at) w.in_default.is w.if-walk-limit.false
+      | else-ne w ↦ is-over c.args.limit es c.args.set.now (own-is c.args.set.now c.ne.result false c.requires.overflow c.ne.ensures w.if-ne.false)
     ] in
     over-fits it c.args.limit true at (c.plus-2.ensures.fits ∙ ap (λ (o : Option Amount). not (is_some o)) c.in-None.is)
