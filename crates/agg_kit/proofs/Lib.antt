@@ -7,6 +7,7 @@ pub mod ComingIn
 pub mod Copies
 pub mod Distinct
 pub mod Falls
+pub mod Front
 pub mod Here
 pub mod Inserts
 pub mod JoinedParts

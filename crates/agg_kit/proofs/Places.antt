@@ -20,10 +20,10 @@ use Rattle.agg_kit.proofs.Sound.{keys-insert}
 
 -- ---- the place of a set's point, or that of the next
 
-first-step : (es : Points) (x : AttrSet × Payload) (a : AttrSet) (i : ℕ) → i ≡ place_or_next (x ∷ es) a → set_eq a x.0 ≡ true → i ≡ 0
+pub first-step : (es : Points) (x : AttrSet × Payload) (a : AttrSet) (i : ℕ) → i ≡ place_or_next (x ∷ es) a → set_eq a x.0 ≡ true → i ≡ 0
 first-step es x a i is h = is ∙ ap (λ b. cond (not b) (1 + place_or_next es a) 0) h
 
-next-step : (es : Points) (x : AttrSet × Payload) (a : AttrSet) (i : ℕ) → i ≡ place_or_next (x ∷ es) a → set_eq a x.0 ≡ false → i ≡ suc (place_or_next es a)
+pub next-step : (es : Points) (x : AttrSet × Payload) (a : AttrSet) (i : ℕ) → i ≡ place_or_next (x ∷ es) a → set_eq a x.0 ≡ false → i ≡ suc (place_or_next es a)
 next-step es x a i is h = let n = place_or_next es a in let z : 1 + n ≡ suc n = omega arith in is ∙ ap (λ b. cond (not b) (1 + n) 0) h ∙ z
 
 pub at-place : (es : Points) (a : AttrSet) (i : ℕ) (e : AttrSet × Payload) → slice_get es i ≡ Some e → i ≡ place_or_next es a → lookup (set_eq a) es ≡ Some e.1

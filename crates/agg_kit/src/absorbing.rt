@@ -17,11 +17,11 @@ ghost use Rattle.agg_kit.specs.Tallies.{Points};
 ghost use Rattle.agg_kit.specs.declared.fault.TallyFault.TheVariants as faults;
 
 use crate::TallyFault;
-use crate::joining::{Amount, amount_in, amount_with, join};
+use crate::joining::{Amount, amount_in, amount_with};
+use crate::point_map::PointMap;
 use crate::series::{Fresh, Series};
 use crate::stamps::Stamps;
 use attr_kit::{AttrSet, NoMemory, TryCopy};
-use indexmap::IndexMap;
 use point_kit::Payload;
 
 /// What a walk over later points knows of the points that they have come to: how many sets have a point of their own, and the
@@ -283,7 +283,7 @@ impl Series {
         ensures value { self.new.entries ≡ set_value_at self.old.entries index (payload_joined self.old.entries index later.now) }
         ensures room { self.new.room ≡ self.old.room }
     {
-        join(&mut self.points[index], later);
+        self.points.join(index, later);
     }
 
     // The place of the point that a set feeds, if it is there. `at` is the place of the set's point, if it is one of the first `held`.
@@ -365,7 +365,7 @@ impl Series {
         ensures emptied { later.new.entries ≡ [] }
     {
         take_points(self, limit, overflow, places, copies, &later.points);
-        later.points.clear();
+        later.points.retire(limit);
         later.own = 0;
         later.alike = true;
     }
@@ -403,7 +403,7 @@ fn take_points(
     overflow: &AttrSet,
     places: &[usize],
     mut copies: Vec<(AttrSet, Payload)>,
-    later: &IndexMap<AttrSet, Payload>,
+    later: &PointMap,
 )
     requires overflow { overflow.now ≡ overflow_set }
     requires places { places.now ≡ places_of series.old.entries later.now.entries }

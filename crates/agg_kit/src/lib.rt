@@ -31,6 +31,7 @@ mod fault;
 mod joining;
 mod laws;
 mod payload;
+mod point_map;
 mod recorder;
 mod recording;
 mod series;
