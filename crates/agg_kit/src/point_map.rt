@@ -111,9 +111,13 @@ impl PointMap {
         ensures index { result ≡ position (set_eq set.now) (keys_of self.now.entries) }
         ensures found { is_some result ≡ has_point self.now.entries set.now }
     {
-        match self.map.get_index_of(set) {
-            Some(place) if place < self.active => Some(place),
-            _ => None,
+        let Some(place) = self.map.get_index_of(set) else {
+            return None;
+        };
+        if place < self.active {
+            Some(place)
+        } else {
+            None
         }
     }
 
@@ -286,7 +290,7 @@ fn call_up(
     requires proper { IsTrue (is_proper shape.now) }
     ensures entries { result ≡ true → (a : AttrSet) (p : Payload) → slice_get map.old.entries place ≡ Some (a, p)
         → take (active + 1) map.new.entries
-            ≡ take active map.old.entries ++ (a, payload_with_value (bounds_of shape.now) (payload_of shape.now []) value) ∷ [] }
+        ≡ take active map.old.entries ++ (a, payload_with_value (bounds_of shape.now) (payload_of shape.now []) value) ∷ [] }
     ensures len { result ≡ true → length map.new.entries ≡ length map.old.entries }
     ensures kept { result ≡ false → map.new ≡ map.old }
 {
