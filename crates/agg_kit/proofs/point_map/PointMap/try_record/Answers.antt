@@ -8,11 +8,10 @@ use Rattle.agg_kit.specs.Feeding.{set_eq}
 use Rattle.agg_kit.specs.Payloads.{is_out_of_range, payload_of}
 use Rattle.agg_kit.specs.Steps.{Stored, bounds_of, payload_with_value}
 use Rattle.agg_kit.specs.Tallies.{Points}
-use Rattle.agg_kit.proofs.BoundPoints.{has_point-at}
 use Rattle.agg_kit.proofs.Front.{found-is, front-set, front-value, index-behind, index-front, index-none, key-there, set-len}
 use Rattle.agg_kit.proofs.Rounds.{got}
 use Rattle.agg_kit.proofs.Sound.{sound-at}
-use Rattle.agg_kit.proofs.Steps.{add_under-has_point, range-there, set_value_at-same}
+use Rattle.agg_kit.proofs.Steps.{set_value_at-same}
 use Rattle.agg_kit.proofs.point_map.PointMap.try_record.Goals as goal
 
 pub returns-in_default-clause-tells : goal.returns-in_default-clause-tells
@@ -49,10 +48,11 @@ returns-then-place-self-clause-tells c =
     let fits = simp to_z-of_z at c.try_add.ensures.fits in
     let added = simp to_z-of_z at c.try_add.ensures.added in
     let put = front-set es n i c.try_add.new.payload ∙ ap (λ (s : Stored). set_value_at s.entries i c.try_add.new.payload) c.self.view_is in (
-      has_point-at now a i here,
-      range-there shape now a v i (not c.try_add.result) here (ap (λ (p : Payload). is_out_of_range (payload_with_value (bounds_of shape) p v)) read ∙ fits),
-      λ yes. put ∙ ap (set_value_at now i) (added yes ∙ ap (λ (p : Payload). payload_with_value (bounds_of shape) p v) (sym read)) ∙ add_under-has_point shape now a v i here,
-      λ no. put ∙ ap (set_value_at now i) (c.try_add.ensures.kept no) ∙ set_value_at-same now i c.index_mut.result.now there,
+      i,
+      here,
+      ap (λ (p : Payload). is_out_of_range (payload_with_value (bounds_of shape) p v)) read ∙ fits,
+      λ y. put ∙ ap (set_value_at now i) (added y ∙ ap (λ (p : Payload). payload_with_value (bounds_of shape) p v) (sym read)),
+      λ n. put ∙ ap (set_value_at now i) (c.try_add.ensures.kept n) ∙ set_value_at-same now i c.index_mut.result.now there,
     )
 
 pub returns-then-own-limit-clause-tells : goal.returns-then-own-limit-clause-tells
