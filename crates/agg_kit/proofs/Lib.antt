@@ -29,6 +29,7 @@ pub mod Refused
 pub mod RoundLaws
 pub mod Rounds
 pub mod SeriesLaws
+pub mod Sights
 pub mod Sound
 pub mod Stamping
 pub mod Steps
