@@ -56,6 +56,12 @@ entries-at (s ∷ ss) zero q h = let e : s ≡ q = cc in ap (λ (s : Stored). s.
 entries-at (s ∷ ss) (suc i) q h = entries-at ss i q h
 
 -- the points of the stream at a place, as they were read there
+-- what was read of a list, put back
+pub put-back : {X : Type 0} (xs : List X) (i : ℕ) (x y : X) → y ≡ get_or xs i y → x ≡ y → set xs i x ≡ xs
+put-back [] i x y e h = refl
+put-back (z ∷ xs) zero x y e h = ap (λ w. w ∷ xs) (h ∙ e)
+put-back (z ∷ xs) (suc i) x y e h = ap (λ l. z ∷ l) (put-back xs i x y e h)
+
 pub entries-read : (ss : List Stored) (i : ℕ) (y : Stored) → i < length ss → y ≡ get_or ss i y → series_at (entries_of ss) i ≡ y.entries
 entries-read [] i y l e = absurd (omega arith)
 entries-read (s ∷ ss) zero y l e = ap (λ (s : Stored). s.entries) (sym e)

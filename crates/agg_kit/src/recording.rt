@@ -4,7 +4,7 @@ ghost use Rattle.std.specs.Option.{unwrap_or};
 ghost use Rattle.plan_kit.specs.Plans.{is_proper, AreFeeds, lacks};
 ghost use Rattle.attr_kit.specs.Keeping.{kept};
 ghost use Rattle.attr_kit.specs.declared.keep.Keep.TheVariants as keeps;
-ghost use Rattle.agg_kit.specs.BoundPoints.{place_of, KnowPlaces, MayGive, StandAt};
+ghost use Rattle.agg_kit.specs.BoundPoints.{KnowPlaces, StandAt};
 ghost use Rattle.agg_kit.specs.Feeding.{overflow_set};
 ghost use Rattle.agg_kit.specs.Feeds.{entries_of, shape_at, early_out_at, out_at, points_with, AreHeld};
 ghost use Rattle.agg_kit.specs.Kept.{whole_feed};
@@ -55,28 +55,8 @@ pub(crate) fn set_or<'a>(only: &'a Option<AttrSet>, attrs: &'a AttrSet) -> &'a A
     }
 }
 
-// The place of the point that a set feeds, if it is there: the first that is given, or where it is found.
-#[inline(always)]
-fn place_in(
-    series: &Series,
-    limit: u64,
-    overflow: &AttrSet,
-    set: &AttrSet,
-    given: &[usize],
-) -> Option<usize>
-    requires overflow { overflow.now ≡ overflow_set }
-    requires given { MayGive given.now (place_of limit series.now.entries set.now) }
-    ensures { result ≡ place_of limit series.now.entries set.now }
-{
-    if given.is_empty() {
-        series.find(limit, overflow, set)
-    } else {
-        Some(given[0])
-    }
-}
-
-/// Records a value in every feed's stream, or in none. Where the stream of a lone feed is given and the point is there, the
-/// point's place alone is needed. `places` are those of the feeds' points, or none.
+/// Records a value in every feed's stream, or in none. Where the stream of a lone feed is given and the point is there, or its set
+/// waits there, one look is all that is needed. `places` are those of the feeds' points, or none.
 #[inline(always)]
 pub(crate) fn record(
     plan: &Plan,
@@ -101,16 +81,42 @@ pub(crate) fn record(
     ensures held { AreHeld plan.now feeds.now attrs.now series.old.items → IfErr result (λ f. f ≢ faults.NoMemory) }
     ensures known { places.now ≢ [] → IfErr result (λ f. f ≢ faults.NoMemory) }
 {
-    if let Some(stream) = lone
-        && let Some(place) = place_in(&series[stream], plan.limit(), overflow, attrs, places)
-    {
-        let shape = shape_of(plan, stream);
-        let points = &mut series[stream];
-        if !points.try_add(place, shape, value) {
+    let Some(stream) = lone else {
+        return record_all(plan, overflow, series, feeds, attrs, places, value);
+    };
+    let shape = shape_of(plan, stream);
+    let points = &mut series[stream];
+    if let Some(fits) = points.try_record(plan.limit(), overflow, attrs, places, shape, value) {
+        if !fits {
             return Err(TallyFault::Overflow(stream));
         }
         return Ok(());
     }
+    record_all(plan, overflow, series, feeds, attrs, places, value)
+}
+
+// Records a value in every feed's stream, or in none, whatever the feeds. `places` are those of the feeds' points, or none.
+fn record_all(
+    plan: &Plan,
+    overflow: &AttrSet,
+    series: &mut Vec<Series>,
+    feeds: &[Feed],
+    attrs: &AttrSet,
+    places: &[usize],
+    value: i64,
+) -> Result<(), TallyFault>
+    requires overflow { overflow.now ≡ overflow_set }
+    requires feeds { AreFeeds (length series.old.items) feeds.now }
+    requires sound { AllSound plan.now.streams (entries_of series.old.items) }
+    requires known { KnowPlaces plan.now feeds.now places.now attrs.now series.old.items }
+    ensures value { OnOk result (entries_of series.new.items ≡ points_with plan.now feeds.now attrs.now value series.old.items) }
+    ensures ok { OnOk result (out_at plan.now attrs.now value series.old.items feeds.now ≡ None) }
+    ensures unchanged { OnErr result (entries_of series.new.items ≡ entries_of series.old.items) }
+    ensures err { IfErr result (λ f. f ≢ faults.NoMemory → out_at plan.now attrs.now value series.old.items feeds.now ≡ Some f) }
+    ensures no_memory { IfErr result (λ f. f ≡ faults.NoMemory → early_out_at plan.now attrs.now value series.old.items feeds.now ≡ None) }
+    ensures held { AreHeld plan.now feeds.now attrs.now series.old.items → IfErr result (λ f. f ≢ faults.NoMemory) }
+    ensures known { places.now ≢ [] → IfErr result (λ f. f ≢ faults.NoMemory) }
+{
     if places.is_empty() {
         record_each(plan, overflow, series, feeds, attrs, value, Memory::Found)
     } else {

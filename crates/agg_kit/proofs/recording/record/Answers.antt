@@ -1,33 +1,19 @@
-use Rattle.std.proofs.Common.{◌≡◌, ◌∙◌, [], ◌<◌, ℕ, List, length, sym, subst, ap, refl, true, false, not, FitsSigned, w64, rules}
+use Rattle.std.proofs.Common.{◌≡◌, ◌∙◌, [], ◌<◌, ℕ, List, Some, length, sym, subst, ap, refl, true, false, not, FitsSigned, w64, rules}
+use Rattle.std.proofs.Math.ListN.{set}
 use Rattle.std.proofs.lemmas.Int.{to_z-of_z}
-use Rattle.indexmap.specs.IndexMap.{set_value_at}
 use Rattle.point_kit.specs.declared.shape.Shape.{Shape}
+use Rattle.plan_kit.specs.Plans.{AreFeeds}
 use Rattle.plan_kit.specs.declared.feed.Feed.{Feed}
-use Rattle.agg_kit.specs.BoundPoints.{AreKnown}
-use Rattle.agg_kit.specs.Feeds.{entries_of, shape_at, first_out, after_feeds}
-use Rattle.agg_kit.specs.FreshPoints.{payload_in}
+use Rattle.agg_kit.specs.BoundPoints.{AreKnown, KnowPlaces}
+use Rattle.agg_kit.specs.Feeds.{entries_of, shape_at, first_out, after_feeds, AreHeld, early_out_at, out_at, points_with}
 use Rattle.agg_kit.specs.Kept.{whole_feed}
 use Rattle.agg_kit.specs.Payloads.{is_out_of_range}
-use Rattle.agg_kit.specs.Sound.{AreSound}
-use Rattle.agg_kit.specs.Steps.{fed_set, bounds_of, payload_with_value}
+use Rattle.agg_kit.specs.Sound.{AllSound, AreSound}
+use Rattle.agg_kit.specs.Steps.{Stored, fed_set, payload_after, step}
 use Rattle.agg_kit.specs.Tallies.{Points}
 use Rattle.agg_kit.proofs.BoundPoints.{known-lone}
-use Rattle.agg_kit.proofs.Records.{entries-read, stored-length, sound-shape, leaves-here, first-here, first-kept, read-there, recorded-here, same_entries, found-again, lone-is, lone-within}
-use Rattle.agg_kit.proofs.Steps.{range-there, add_under-has_point, within-has_point}
+use Rattle.agg_kit.proofs.Records.{entries-read, stored-length, sound-shape, leaves-here, first-here, first-kept, read-there, recorded-here, same_entries, lone-is, lone-within, put-back}
 use Rattle.agg_kit.proofs.recording.record.Goals as goal
-
-pub index-requires : goal.index-requires
-index-requires c =
-    let l : c.in-Some.stream < length c.args.series.now.items = lone-within (length c.args.series.now.items) c.args.lone c.in-Some.stream c.args.feeds.now c.in-Some.is c.requires.lone c.requires.feeds in
-    search rules
-
-pub place_in-requires-clause-given : goal.place_in-requires-clause-given
-place_in-requires-clause-given c =
-    let p = c.args.plan.now in
-    let ss = c.args.series.now.items in
-    let l = lone-within (length c.args.series.now.items) c.args.lone c.in-Some.stream c.args.feeds.now c.in-Some.is c.requires.lone c.requires.feeds in
-    known-lone p c.in-Some.stream c.args.places.now c.args.attrs.now ss c.index.result.now c.limit.result c.limit.ensures.value l c.index.ensures
-    (subst (λ (fs : List Feed). AreKnown p fs c.args.places.now c.args.attrs.now (entries_of ss)) (lone-is c.args.lone c.in-Some.stream c.args.feeds.now c.in-Some.is c.requires.lone) c.requires.known)
 
 pub shape_of-shape-requires : goal.shape_of-shape-requires
 shape_of-shape-requires c =
@@ -38,8 +24,16 @@ index_mut-points-requires c =
     let l : c.in-Some.stream < length c.args.series.now.items = lone-within (length c.args.series.now.items) c.args.lone c.in-Some.stream c.args.feeds.now c.in-Some.is c.requires.lone c.requires.feeds in
     search rules
 
-pub try_add-requires-clause-sound : goal.try_add-requires-clause-sound
-try_add-requires-clause-sound c =
+pub try_record-requires-clause-given : goal.try_record-requires-clause-given
+try_record-requires-clause-given c =
+    let p = c.args.plan.now in
+    let ss = c.args.series.now.items in
+    let l = lone-within (length c.args.series.now.items) c.args.lone c.in-Some.stream c.args.feeds.now c.in-Some.is c.requires.lone c.requires.feeds in
+    known-lone p c.in-Some.stream c.args.places.now c.args.attrs.now ss c.index_mut-points.result.now c.limit.result c.limit.ensures.value l c.index_mut-points.ensures.value
+    (subst (λ (fs : List Feed). AreKnown p fs c.args.places.now c.args.attrs.now (entries_of ss)) (lone-is c.args.lone c.in-Some.stream c.args.feeds.now c.in-Some.is c.requires.lone) c.requires.known)
+
+pub try_record-requires-clause-sound : goal.try_record-requires-clause-sound
+try_record-requires-clause-sound c =
     let p = c.args.plan.now in
     let stream = c.in-Some.stream in
     let ss = c.args.series.now.items in
@@ -49,66 +43,74 @@ try_add-requires-clause-sound c =
     subst (λ (s : Shape). AreSound s points.entries) (sym c.shape_of-shape.ensures.value)
     (subst (λ (es : Points). AreSound (shape_at p stream) es) (entries-read ss stream points l c.index_mut-points.ensures.value) sound)
 
-pub try_add-requires-clause-within : goal.try_add-requires-clause-within
-try_add-requires-clause-within c =
-    let l = lone-within (length c.args.series.now.items) c.args.lone c.in-Some.stream c.args.feeds.now c.in-Some.is c.requires.lone c.requires.feeds in
-    let at = found-again c.args.plan.now c.args.attrs.now c.args.series.now.items c.in-Some.stream c.index.result.now c.index_mut-points.result.now c.limit.result c.args.attrs.now c.place_in.result c.in-Some-place_in.place l c.index.ensures c.index_mut-points.ensures.value c.limit.ensures.value refl c.in-Some-place_in.is c.place_in.ensures in
-    let points = c.index_mut-points.result.now in
-    within-has_point points.entries (fed_set c.args.plan.now.limit points.entries c.args.attrs.now) c.in-Some-place_in.place at
-
-pub returns-then-not-try_add-clause-err : goal.returns-then-not-try_add-clause-err
-returns-then-not-try_add-clause-err c = λ _.
-    let l = lone-within (length c.args.series.now.items) c.args.lone c.in-Some.stream c.args.feeds.now c.in-Some.is c.requires.lone c.requires.feeds in
-    let at = found-again c.args.plan.now c.args.attrs.now c.args.series.now.items c.in-Some.stream c.index.result.now c.index_mut-points.result.now c.limit.result c.args.attrs.now c.place_in.result c.in-Some-place_in.place l c.index.ensures c.index_mut-points.ensures.value c.limit.ensures.value refl c.in-Some-place_in.is c.place_in.ensures in
-    let points = c.index_mut-points.result.now in
-    let v = c.args.value in
-    let fit : FitsSigned w64 v = c.ranges.value in
-    let shape = shape_at c.args.plan.now c.in-Some.stream in
-    let i = c.in-Some-place_in.place in
-    let told : is_out_of_range (payload_with_value (bounds_of shape) (payload_in shape points.entries i) v) ≡ not c.try_add.result =
-    sym (ap (λ (s : Shape). is_out_of_range (payload_with_value (bounds_of s) (payload_in s points.entries i) v)) c.shape_of-shape.ensures.value) ∙ (simp to_z-of_z at c.try_add.ensures.fits) in
+pub returns-then-not-fits-clause-err : goal.returns-then-not-fits-clause-err
+returns-then-not-fits-clause-err c = λ _.
+    let f : FitsSigned w64 c.args.value = c.ranges.value in
     let p = c.args.plan.now in
     let a = c.args.attrs.now in
+    let v = c.args.value in
     let ss = c.args.series.now.items in
-    let feed = whole_feed c.in-Some.stream in
-    let out = range-there shape points.entries (fed_set c.args.plan.now.limit points.entries c.args.attrs.now) v i true at (told ∙ ap not c.if-not-try_add.true) in
-    ap (first_out p a v (entries_of ss)) (lone-is c.args.lone c.in-Some.stream c.args.feeds.now c.in-Some.is c.requires.lone) ∙ first-here p a v (entries_of ss) feed [] (leaves-here p feed a v ss points l c.index_mut-points.ensures.value ∙ out)
-
-pub returns-then-not-try_add-clause-unchanged : goal.returns-then-not-try_add-clause-unchanged
-returns-then-not-try_add-clause-unchanged c =
-    same_entries c.args.series.now.items c.in-Some.stream c.try_add.new.self c.index_mut-points.result.now c.index_mut-points.ensures.value (c.try_add.ensures.kept c.if-not-try_add.true)
-
-pub returns-clause-value : goal.returns-clause-value
-returns-clause-value c =
-    let p = c.args.plan.now in
-    let a = c.args.attrs.now in
-    let ss = c.args.series.now.items in
+    let stream = c.in-Some.stream in
+    let feed = whole_feed stream in
     let l = lone-within (length c.args.series.now.items) c.args.lone c.in-Some.stream c.args.feeds.now c.in-Some.is c.requires.lone c.requires.feeds in
     let points = c.index_mut-points.result.now in
-    let at = found-again c.args.plan.now c.args.attrs.now c.args.series.now.items c.in-Some.stream c.index.result.now c.index_mut-points.result.now c.limit.result c.args.attrs.now c.place_in.result c.in-Some-place_in.place l c.index.ensures c.index_mut-points.ensures.value c.limit.ensures.value refl c.in-Some-place_in.is c.place_in.ensures in
-    let v = c.args.value in
-    let fit : FitsSigned w64 v = c.ranges.value in
-    let shape = shape_at c.args.plan.now c.in-Some.stream in
-    let i = c.in-Some-place_in.place in
-    let feed = whole_feed c.in-Some.stream in
     let was = c.index_mut-points.ensures.value in
-    let done : Points → Points = λ es. set_value_at es i (payload_with_value (bounds_of shape) (payload_in shape es i) v) in
-    recorded-here p feed [] a v ss ss points points points c.try_add.new.self done (read-there ss feed.stream points l was) refl was
-    refl (add_under-has_point shape points.entries (fed_set c.args.plan.now.limit points.entries c.args.attrs.now) v i at)
-    ((simp to_z-of_z at c.try_add.ensures.added) c.if-not-try_add.false ∙ ap (λ (s : Shape). set_value_at points.entries i (payload_with_value (bounds_of s) (payload_in s points.entries i) v)) c.shape_of-shape.ensures.value)
+    let es = points.entries in
+    let told : is_out_of_range (payload_after (shape_at p stream) es (fed_set p.limit es a) v) ≡ not c.in-Some-try_record.fits =
+    (λ i. is_out_of_range (payload_after (sym c.shape_of-shape.ensures.value i) es (fed_set (sym c.limit.ensures.value i) es a) v)) ∙ (simp to_z-of_z at c.in-Some-try_record.ensures.fits) in
+    ap (first_out p a v (entries_of ss)) (lone-is c.args.lone c.in-Some.stream c.args.feeds.now c.in-Some.is c.requires.lone) ∙ first-here p a v (entries_of ss) feed [] (leaves-here p feed a v ss points l was ∙ told ∙ ap not c.if-not-fits.true)
+
+pub returns-then-not-fits-clause-unchanged : goal.returns-then-not-fits-clause-unchanged
+returns-then-not-fits-clause-unchanged c =
+    same_entries c.args.series.now.items c.in-Some.stream c.try_record.new.self c.index_mut-points.result.now c.index_mut-points.ensures.value (c.try_record.ensures.kept (c.in-Some-try_record.is ∙ ap (λ b. Some b) c.if-not-fits.true))
+
+pub returns-in-Some-try_record-clause-value : goal.returns-in-Some-try_record-clause-value
+returns-in-Some-try_record-clause-value c =
+    let f : FitsSigned w64 c.args.value = c.ranges.value in
+    let p = c.args.plan.now in
+    let a = c.args.attrs.now in
+    let v = c.args.value in
+    let ss = c.args.series.now.items in
+    let stream = c.in-Some.stream in
+    let feed = whole_feed stream in
+    let l = lone-within (length c.args.series.now.items) c.args.lone c.in-Some.stream c.args.feeds.now c.in-Some.is c.requires.lone c.requires.feeds in
+    let points = c.index_mut-points.result.now in
+    let was = c.index_mut-points.ensures.value in
+    let es = points.entries in
+    let added = (simp to_z-of_z at c.try_record.ensures.added) (c.in-Some-try_record.is ∙ ap (λ b. Some b) c.if-not-fits.false) in
+    let done : Points → Points = λ es. step (shape_at p stream) p.limit es a v in
+    recorded-here p feed [] a v ss ss points points points c.try_record.new.self done (read-there ss stream points l was) refl was refl refl
+    (added ∙ (λ i. step (c.shape_of-shape.ensures.value i) (c.limit.ensures.value i) es a v))
     ∙ ap (λ (fs : List Feed). after_feeds p fs a v (entries_of ss)) (sym (lone-is c.args.lone c.in-Some.stream c.args.feeds.now c.in-Some.is c.requires.lone))
 
-pub returns-clause-ok : goal.returns-clause-ok
-returns-clause-ok c =
+pub returns-in-Some-try_record-clause-ok : goal.returns-in-Some-try_record-clause-ok
+returns-in-Some-try_record-clause-ok c =
+    let f : FitsSigned w64 c.args.value = c.ranges.value in
+    let p = c.args.plan.now in
+    let a = c.args.attrs.now in
+    let v = c.args.value in
+    let ss = c.args.series.now.items in
+    let stream = c.in-Some.stream in
+    let feed = whole_feed stream in
     let l = lone-within (length c.args.series.now.items) c.args.lone c.in-Some.stream c.args.feeds.now c.in-Some.is c.requires.lone c.requires.feeds in
     let points = c.index_mut-points.result.now in
-    let at = found-again c.args.plan.now c.args.attrs.now c.args.series.now.items c.in-Some.stream c.index.result.now c.index_mut-points.result.now c.limit.result c.args.attrs.now c.place_in.result c.in-Some-place_in.place l c.index.ensures c.index_mut-points.ensures.value c.limit.ensures.value refl c.in-Some-place_in.is c.place_in.ensures in
+    let was = c.index_mut-points.ensures.value in
+    let es = points.entries in
+    let told : is_out_of_range (payload_after (shape_at p stream) es (fed_set p.limit es a) v) ≡ not c.in-Some-try_record.fits =
+    (λ i. is_out_of_range (payload_after (sym c.shape_of-shape.ensures.value i) es (fed_set (sym c.limit.ensures.value i) es a) v)) ∙ (simp to_z-of_z at c.in-Some-try_record.ensures.fits) in
+    first-kept p a v ss points feed [] c.args.feeds.now (lone-is c.args.lone c.in-Some.stream c.args.feeds.now c.in-Some.is c.requires.lone) l was (told ∙ ap not c.if-not-fits.false)
+
+pub record_all-requires-2 : goal.record_all-requires-2
+record_all-requires-2 c =
+    let p = c.args.plan.now in
+    let a = c.args.attrs.now in
     let v = c.args.value in
-    let fit : FitsSigned w64 v = c.ranges.value in
+    let fs = c.args.feeds.now in
     let ss = c.args.series.now.items in
-    let shape = shape_at c.args.plan.now c.in-Some.stream in
-    let i = c.in-Some-place_in.place in
-    let told : is_out_of_range (payload_with_value (bounds_of shape) (payload_in shape points.entries i) v) ≡ not c.try_add.result =
-    sym (ap (λ (s : Shape). is_out_of_range (payload_with_value (bounds_of s) (payload_in s points.entries i) v)) c.shape_of-shape.ensures.value) ∙ (simp to_z-of_z at c.try_add.ensures.fits) in
-    let ok = range-there shape points.entries (fed_set c.args.plan.now.limit points.entries c.args.attrs.now) v i false at (told ∙ ap not c.if-not-try_add.false) in
-    first-kept c.args.plan.now c.args.attrs.now v ss points (whole_feed c.in-Some.stream) [] c.args.feeds.now (lone-is c.args.lone c.in-Some.stream c.args.feeds.now c.in-Some.is c.requires.lone) l c.index_mut-points.ensures.value ok
+    let back : set ss c.in-Some.stream c.try_record.new.self ≡ ss = put-back ss c.in-Some.stream c.try_record.new.self c.index_mut-points.result.now c.index_mut-points.ensures.value (c.try_record.ensures.unchanged c.in_default-try_record.is) in
+    record {
+      overflow = c.requires.overflow;
+      feeds = subst (λ (xs : List Stored). AreFeeds (length xs) fs) (sym back) c.requires.feeds;
+      sound = subst (λ (xs : List Stored). AllSound p.streams (entries_of xs)) (sym back) c.requires.sound;
+      known = subst (λ (xs : List Stored). KnowPlaces p fs c.args.places.now a xs) (sym back) c.requires.known;
+    }
