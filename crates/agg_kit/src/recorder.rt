@@ -30,7 +30,8 @@ use std::marker::Model;
 /// Of a gauge it knows which set was recorded last, since that one counts where sets meet under a tally's overflow set. Of a sum
 /// that may fall it knows how far each set's sum went down and up, since a tally may not take in what left the range on its way.
 ///
-/// Once a tally has taken it in, its bound points know places that are gone. Release each ([`Bound::release`]): it is looked up
+/// Once a tally has taken it in, its sets wait in it, as many as the limit says: the next value of one takes no copy of it where its
+/// instrument has one feed that keeps all keys. Its bound points know places that are gone then. Release each ([`Bound::release`]): it is looked up
 /// again at its first value.
 #[derive(Drop)]
 pub struct Recorder {

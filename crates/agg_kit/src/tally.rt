@@ -247,12 +247,13 @@ impl Tally {
     }
 
     /// Takes in what a recorder of the same plan holds, as if each of its recordings had been measured here, one after the other,
-    /// and leaves the recorder empty. The sets are moved where there is no point for them. No clause says what room the recorder
-    /// has then, and its bound points are to be released or bound again.
+    /// and leaves the recorder empty. Sets that have no point here are copied; the recorder's own wait there for their next values,
+    /// as many as the limit says. No clause says so, and its bound points are to be released or bound again.
     ///
     /// Refuses, and leaves both as they were: `Overflow` with the first stream of which a point would leave its range, or would have
     /// on the way, `NoMemory`. Of sums that may fall each set counts by how far down and up it went: that is exact where the set has
-    /// its own point here, and no less than exact where sets meet under the overflow set. O(streams, and points of the recorder).
+    /// its own point here, and no less than exact where sets meet under the overflow set. O(streams, and points of the recorder):
+    /// a set is looked up once.
     pub fn absorb(&mut self, recorder: &mut Recorder) -> Result<(), TallyFault>
         requires { recorder.old.plan ≡ self.old.plan }
         ensures ok { OnOk result (absorb_fault self.old recorder.old ≡ None) }
