@@ -3,6 +3,7 @@ ghost use Rattle.std.specs.Prelude.{◌≡◌, [], false, true, cond, pos, ◌+�
 ghost use Rattle.std.specs.List.{list_all};
 ghost use Rattle.plan_kit.specs.Plans.{AreFeeds};
 ghost use Rattle.agg_kit.specs.Feeds.{entries_of};
+ghost use Rattle.agg_kit.specs.Kept.{whole_feed};
 ghost use Rattle.agg_kit.specs.Laws.{is_gauge};
 ghost use Rattle.agg_kit.specs.Reaches.{reach_with};
 ghost use Rattle.agg_kit.specs.Stamps.{can_stamp, has_noted, is_noted, note, put_at, stamp, stamped_in, stamps_put, unstamped, widen};
@@ -110,7 +111,8 @@ impl Stamps {
     }
 
     // Notes one more value of a stream of a shape, of the set whose point is at a place and comes to a sum then.
-    fn note(&mut self, shape: &Shape, place: usize, sum: i64)
+    #[inline(always)]
+    pub(crate) fn note(&mut self, shape: &Shape, place: usize, sum: i64)
         requires { CanNote shape.now self.old place }
         ensures { self.new.kept ≡ note shape.now self.old.kept place sum }
     {
@@ -210,12 +212,22 @@ pub(crate) fn can_stamp_each(plan: &Plan, stamps: &Vec<Stamps>, feeds: &[Feed]) 
     let Some((feed, rest)) = feeds.split_first() else {
         return true;
     };
-    let gauge = is_gauge(shape_of(plan, feed.stream));
-    let fits = stamps[feed.stream].can_stamp();
-    if gauge && !fits {
+    if !can_stamp_in(plan, stamps, feed.stream) {
         return false;
     }
     can_stamp_each(plan, stamps, rest)
+}
+
+/// Whether a stream can number one more value, if it is a gauge.
+#[inline(always)]
+pub(crate) fn can_stamp_in(plan: &Plan, stamps: &Vec<Stamps>, stream: usize) -> bool
+    requires within { stream < length plan.now.streams }
+    requires long { length stamps.now.items ≡ length plan.now.streams }
+    ensures { result ≡ can_stamp plan.now (stamped_in stamps.now.items) (whole_feed stream) }
+{
+    let gauge = is_gauge(shape_of(plan, stream));
+    let fits = stamps[stream].can_stamp();
+    !gauge || fits
 }
 
 /// Finds the places of a set's points, or of the next ones, and makes room beside them.

@@ -2,7 +2,7 @@
 ghost use Rattle.std.specs.Prelude.{◌≡◌, ◌≢◌, ◌↔◌, ◌<◌, ◌∷◌, [], ℤ, length, replicate, slice_get, Some, None, true, false, IfOk, IfErr, IfSome, IsOk, OnOk, OnErr, IsTrue};
 ghost use Rattle.std.specs.Option.{option_map};
 ghost use Rattle.agg_kit.specs.Alike.{ShareKeys};
-ghost use Rattle.agg_kit.specs.BoundPoints.{AreKnown, HasInstrument, IsBound, LacksInstrument, entry_at};
+ghost use Rattle.agg_kit.specs.BoundPoints.{AreKnown, HasInstrument, IsBound, IsOwnPoint, LacksInstrument, entry_at};
 ghost use Rattle.agg_kit.specs.Entries.{entry_of};
 ghost use Rattle.agg_kit.specs.Feeding.{overflow_set};
 ghost use Rattle.agg_kit.specs.Feeds.{entries_of, series_at, IsHeld};
@@ -17,9 +17,9 @@ ghost use Rattle.plan_kit.specs.Plans.{feeds_of, kind_of, AllRise};
 ghost use Rattle.plan_kit.specs.declared.instrument.Kind.{Kind};
 
 use crate::absorbing::absorb_into;
-use crate::bound::places_of;
+use crate::bound::{OwnPoint, places_of};
 use crate::recorder::{feeds_in, keep_each};
-use crate::recording::record;
+use crate::recording::{record, shape_of};
 use crate::series::Series;
 use crate::stamps::{Stamps, clear_each, find_spots, note_each};
 use crate::{Bound, Recorder, TallyFault};
@@ -203,6 +203,30 @@ impl Tally {
         )
     }
 
+    // The stream of an instrument's one feed, where that keeps all keys.
+    #[inline(always)]
+    pub(crate) fn lone(&self, instrument: usize) -> Option<usize>
+        ensures { IfSome result (λ m. feeds_of self.now.plan instrument ≡ whole_feed m ∷ []) }
+    {
+        lone_at(&self.lone, instrument)
+    }
+
+    // Where the set's own point stands, if the instrument has one feed, which keeps all keys, and the point is there.
+    #[inline(always)]
+    pub(crate) fn own_point(&self, instrument: usize, attrs: &AttrSet) -> Option<OwnPoint>
+        ensures { IfSome result (IsOwnPoint self.now instrument attrs.now) }
+    {
+        // What the plan says of the feeds of all its instruments.
+        let _ = self.plan.streams_len();
+        let stream = lone_at(&self.lone, instrument)?;
+        let points = &self.series[stream];
+        let place = points.place_or_next(attrs);
+        if place == points.len() {
+            return None;
+        }
+        Some(OwnPoint { stream, place })
+    }
+
     // Whether the stream of each feed of an instrument has a point of its own for the set, or room for one.
     pub(crate) fn keeps_sets(&self, instrument: usize, attrs: &AttrSet) -> Result<bool, NoMemory>
         ensures value { IfOk result (λ keeps. (v : ℤ) → keeps ≡ keeps_sets self.now (entry_of instrument attrs.now v)) }
@@ -244,6 +268,19 @@ impl Tally {
     {
         let feeds = feeds_in(&self.plan, instrument);
         note_each(&self.plan, &self.series, stamps, feeds, spots);
+    }
+
+    // Notes one more value at a point. The point has it already.
+    #[inline(always)]
+    pub(crate) fn note_at(&self, stamps: &mut Vec<Stamps>, point: OwnPoint)
+        requires within { point.stream < length self.now.plan.streams }
+        requires long { length stamps.old.items ≡ length self.now.plan.streams }
+        requires can { CanNoteEach self.now.plan (whole_feed point.stream ∷ []) (point.place ∷ []) stamps.old.items }
+        ensures { stamped_in stamps.new.items
+            ≡ stamps_put self.now.plan (whole_feed point.stream ∷ []) (point.place ∷ []) self.now.series (stamped_in stamps.old.items) }
+    {
+        let sum = self.series[point.stream].sum_at(point.place);
+        stamps[point.stream].note(shape_of(&self.plan, point.stream), point.place, sum);
     }
 
     /// Takes in what a recorder of the same plan holds, as if each of its recordings had been measured here, one after the other,
