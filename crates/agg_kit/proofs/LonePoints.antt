@@ -1,13 +1,13 @@
 -- A set's own point, in the stream of an instrument's one feed.
-use Rattle.std.proofs.Common.{◌≡◌, ◌≢◌, ◌∙◌, ◌&&◌, ℕ, ℤ, pos, Bool, true, false, List, [], ◌∷◌, Option, Some, get_or, position, refl, sym, ap, subst, cond}
-use Rattle.std.specs.List.{list_all}
+use Rattle.std.proofs.Common.{◌≡◌, ◌≢◌, ◌∙◌, ◌&&◌, ℕ, ℤ, pos, Bool, true, false, List, [], ◌∷◌, Option, None, Some, length, get_or, position, refl, sym, ap, subst}
+use Rattle.std.specs.List.{list_all, position_or_len}
 use Rattle.std.specs.Map.{keys_of}
 use Rattle.std.specs.Option.{option_map}
 use Rattle.attr_kit.specs.declared.attr_set.AttrSet.{AttrSet}
-use Rattle.plan_kit.specs.Plans.{Planned, feeds_of}
+use Rattle.plan_kit.specs.Plans.{feeds_of}
 use Rattle.plan_kit.specs.declared.feed.Feed.{Feed}
-use Rattle.agg_kit.specs.BoundPoints.{place_of, AreAt, AreKnown, IsBound, IsOwnPoint, entry_at}
-use Rattle.agg_kit.specs.Entries.{Entry, entry_of}
+use Rattle.agg_kit.specs.BoundPoints.{AreAt, IsOwnPoint, entry_at}
+use Rattle.agg_kit.specs.Entries.{entry_of}
 use Rattle.agg_kit.specs.Feeding.{set_eq}
 use Rattle.agg_kit.specs.Feeds.{series_at}
 use Rattle.agg_kit.specs.Kept.{whole_feed}
@@ -23,7 +23,7 @@ use Rattle.agg_kit.proofs.BoundPoints.{has_point-at}
 use Rattle.agg_kit.proofs.Distinct.{itself}
 use Rattle.agg_kit.proofs.RecorderParts.{after-noted}
 use Rattle.agg_kit.proofs.Recorders.{keeps-first, keeps-place, record-as_record_fault}
-use Rattle.agg_kit.proofs.Stamping.{AreLong, can-known, spots-known}
+use Rattle.agg_kit.proofs.Stamping.{AreLong, can-known, next-place, position-spot, spots-known}
 use Rattle.agg_kit.proofs.Steps.{place-has_point}
 
 and-true : (b : Bool) → (b && true) ≡ b
@@ -79,7 +79,7 @@ module _ (t : Tallied) (i : ℕ) (a : AttrSet) (o : OwnPoint) (own : IsOwnPoint 
 
 -- the point of a bound point that knows its places, each of a set's own point
 pub bound-own : (t : Tallied) (b : Bound) (m i : ℕ) → feeds_of t.plan b.instrument ≡ whole_feed m ∷ [] → AreAt t.plan (feeds_of t.plan b.instrument) b.places.items b.attrs t.series → keeps_sets t (entry_at b (pos 0)) ≡ true
-    → i ≡ get_or b.places.items 0 i → IsOwnPoint t b.instrument b.attrs (record { stream = m; place = i })
+    → i ≡ get_or b.places.items 0 0 → IsOwnPoint t b.instrument b.attrs (record { stream = m; place = i })
 bound-own t b m i lone at keeps is = record { lone = lone; own = by b.places.items (subst (λ (fs : List Feed). AreAt t.plan fs b.places.items b.attrs t.series) lone at) is }
   where
     es : Points
@@ -88,6 +88,14 @@ bound-own t b m i lone at keeps is = record { lone = lone; own = by b.places.ite
     goes : fed_set t.plan.limit es b.attrs ≡ b.attrs
     goes = keeps-place t.plan b.attrs t.series (whole_feed m) (keeps-first t.plan b.attrs t.series (whole_feed m) [] (ap (list_all (keeps_set t.plan b.attrs t.series)) (sym lone) ∙ keeps))
 
-    by : (is : List ℕ) → AreAt t.plan (whole_feed m ∷ []) is b.attrs t.series → i ≡ get_or is 0 i → position (set_eq b.attrs) (keys_of es) ≡ Some i
+    by : (is : List ℕ) → AreAt t.plan (whole_feed m ∷ []) is b.attrs t.series → i ≡ get_or is 0 0 → position (set_eq b.attrs) (keys_of es) ≡ Some i
     by [] h e = absurd h
     by (j ∷ is) h e = ap (λ (x : AttrSet). position (set_eq x) (keys_of es)) (sym goes) ∙ h.0 ∙ ap (λ (n : ℕ). Some n) (sym e)
+
+-- a place that is not the next is that of the set's own point
+pub own-there : (q : AttrSet → Bool) (xs : List AttrSet) → (position_or_len q xs ≢ length xs) → position q xs ≡ Some (position_or_len q xs)
+own-there q xs n = by (position q xs) refl
+  where
+    by : (o : Option ℕ) → position q xs ≡ o → position q xs ≡ Some (position_or_len q xs)
+    by None e = absurd (n (sym (next-place q xs e)))
+    by (Some i) e = e ∙ ap (λ (k : ℕ). Some k) (position-spot q xs i e).0

@@ -1,4 +1,4 @@
-use Rattle.std.proofs.Common.{◌≡◌, ◌≢◌, ◌∙◌, ◌∷◌, [], ℕ, List, Some, None, true, length, inr, refl, sym, ap, subst, FitsSigned, w64, rules}
+use Rattle.std.proofs.Common.{◌≡◌, ◌≢◌, ◌∙◌, ◌∷◌, [], ℕ, Some, None, true, length, inr, refl, sym, ap, subst, FitsSigned, w64, rules}
 use Rattle.std.proofs.lemmas.Int.{to_z-of_z}
 use Rattle.attr_kit.specs.declared.attr_set.AttrSet.{AttrSet}
 use Rattle.plan_kit.specs.Plans.{Planned, AllRise, feeds_of, kind_of}
@@ -6,7 +6,7 @@ use Rattle.plan_kit.specs.declared.instrument.Kind.{Kind}
 use Rattle.agg_kit.specs.BoundPoints.{IsOwnPoint}
 use Rattle.agg_kit.specs.Entries.{Entry, entry_of}
 use Rattle.agg_kit.specs.Kept.{whole_feed}
-use Rattle.agg_kit.specs.Measuring.{after_measure, fault_of}
+use Rattle.agg_kit.specs.Measuring.{after_measure}
 use Rattle.agg_kit.specs.Recorders.{Recorded, tally_in, recorded_in, recorder_after, as_record_fault, record_fault_of}
 use Rattle.agg_kit.specs.Stamps.{can_stamp, stamped_in, CanNoteEach}
 use Rattle.agg_kit.specs.Tallies.{Tallied}
