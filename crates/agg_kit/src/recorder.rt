@@ -199,8 +199,7 @@ impl Recorder {
         if !can_stamp_in(plan, &self.stamps, point.stream) {
             return Err(RecordFault::Full);
         }
-        self.tally
-            .measure_at(instrument, attrs, &[point.place], value)?;
+        self.tally.measure_at(instrument, Some(point.stream), attrs, &[point.place], value)?;
         self.tally.note_at(&mut self.stamps, point);
         Ok(())
     }
@@ -229,7 +228,7 @@ impl Recorder {
             return Err(RecordFault::Full);
         }
         self.tally
-            .measure_at(bound.instrument, &bound.attrs, places, value)?;
+            .measure_at(bound.instrument, None, &bound.attrs, places, value)?;
         self.tally
             .note_each(bound.instrument, &mut self.stamps, places);
         Ok(())
@@ -245,7 +244,9 @@ impl Recorder {
         can_stamp_each(plan, &self.stamps, feeds_in(plan, instrument))
     }
 
-    // Records a value as `measure` does, where the sets are kept, and notes it beside the points.
+    // Records a value as `measure` does, where the sets are kept, and notes it beside the points. Not inlined, so that `measure` is
+    // short where the point is there.
+    #[inline(never)]
     fn measure_noted(
         &mut self,
         instrument: usize,

@@ -83,7 +83,7 @@ impl Tally {
         ensures held { IsHeld self.old (entry_of instrument attrs.now value) → IfErr result (λ f. f ≢ TallyFault.NoMemory) }
         ensures unchanged { OnErr result (self.new ≡ self.old) }
     {
-        self.measure_at(instrument, attrs, &[], value)
+        self.measure_at(instrument, self.lone(instrument), attrs, &[], value)
     }
 
     /// An instrument and a set whose points are looked up once: what `measure_bound` records goes there without a look.
@@ -160,23 +160,27 @@ impl Tally {
         // What the plan says of the feeds of all its instruments.
         let _ = self.plan().streams_len();
         let places = bound.places.as_slice();
-        self.measure_at(bound.instrument, &bound.attrs, places, value)?;
+        let lone = self.lone(bound.instrument);
+        self.measure_at(bound.instrument, lone, &bound.attrs, places, value)?;
         if bound.places.is_empty() {
             self.rebind(bound);
         }
         Ok(())
     }
 
-    // Records a value as `measure` does. `places` are those of the feeds' points, or none.
+    // Records a value as `measure` does. `lone` is the stream of the one feed, if that keeps all keys and is known, and `places` are
+    // those of the feeds' points, or none.
     #[inline(always)]
     pub(crate) fn measure_at(
         &mut self,
         instrument: usize,
+        lone: Option<usize>,
         attrs: &AttrSet,
         places: &[usize],
         value: i64,
     ) -> Result<(), TallyFault>
-        requires { AreKnown self.old.plan (feeds_of self.old.plan instrument) places.now attrs.now self.old.series }
+        requires lone { IfSome lone (λ m. feeds_of self.old.plan instrument ≡ whole_feed m ∷ []) }
+        requires known { AreKnown self.old.plan (feeds_of self.old.plan instrument) places.now attrs.now self.old.series }
         ensures ok { OnOk result (fault_of self.old (entry_of instrument attrs.now value) ≡ None) }
         ensures value { OnOk result (self.new ≡ after_measure self.old (entry_of instrument attrs.now value)) }
         ensures err { IfErr result (λ f. f ≢ TallyFault.NoMemory → fault_of self.old (entry_of instrument attrs.now value) ≡ Some f) }
@@ -195,7 +199,7 @@ impl Tally {
             &self.plan,
             &self.overflow,
             &mut self.series,
-            lone_at(&self.lone, instrument),
+            lone,
             feeds,
             attrs,
             places,

@@ -29,8 +29,11 @@ can_stamp_in-requires-clause-long c =
     let fit : AllFit t.plan = subst AllFit c.plan-plan.ensures.value c.streams_len.ensures.feeds in
     sym (length-stamped ns) ∙ long-streams (recorded_in t (stamped_in ns)) fit c.self.invariant ∙ ap (λ (q : Planned). length q.streams) (sym c.plan-plan.ensures.value)
 
-pub measure_at-requires : goal.measure_at-requires
-measure_at-requires c =
+pub measure_at-requires-clause-lone : goal.measure_at-requires-clause-lone
+measure_at-requires-clause-lone c = ap (λ (r : Recorded). feeds_of r.plan c.args.instrument) c.self.view_is ∙ c.requires.lone
+
+pub measure_at-requires-clause-known : goal.measure_at-requires-clause-known
+measure_at-requires-clause-known c =
     let t = c.self.inside.tally in
     let r : Recorded = recorded_in t (stamped_in c.self.inside.stamps.items) in
     let own = seen-own r c.args.self.now c.args.instrument c.args.attrs.now c.args.point c.self.view_is c.requires in
