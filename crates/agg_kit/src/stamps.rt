@@ -6,7 +6,7 @@ ghost use Rattle.agg_kit.specs.Feeds.{entries_of};
 ghost use Rattle.agg_kit.specs.Kept.{whole_feed};
 ghost use Rattle.agg_kit.specs.Laws.{is_gauge};
 ghost use Rattle.agg_kit.specs.Reaches.{reach_with};
-ghost use Rattle.agg_kit.specs.Stamps.{can_stamp, has_noted, is_noted, note, put_at, stamp, stamped_in, stamps_put, unstamped, widen};
+ghost use Rattle.agg_kit.specs.Stamps.{can_stamp, has_noted, is_noted, note, put_at, stamp, stamped_in, stamps_put, sum_at, unstamped, widen};
 ghost use Rattle.agg_kit.specs.Stamps.{AreSpots, CanNote, CanNoteEach, CanPut, HasRoom, HaveRooms};
 
 use crate::recording::{kept_set, set_or, shape_of};
@@ -110,16 +110,16 @@ impl Stamps {
         }
     }
 
-    // Notes one more value of a stream of a shape, of the set whose point is at a place and comes to a sum then.
+    // Notes one more value of a stream of a shape, of the set whose point is at a place. The points have it already.
     #[inline(always)]
-    pub(crate) fn note(&mut self, shape: &Shape, place: usize, sum: i64)
+    pub(crate) fn note(&mut self, shape: &Shape, points: &Series, place: usize)
         requires { CanNote shape.now self.old place }
-        ensures { self.new.kept ≡ note shape.now self.old.kept place sum }
+        ensures { self.new.kept ≡ note shape.now self.old.kept place (sum_at points.now.entries place) }
     {
         match shape {
             Shape::Sum { monotonic } => {
                 if !*monotonic {
-                    self.widen(place, sum);
+                    self.widen(place, points.sum_at(place));
                 }
             }
             Shape::Gauge => self.stamp(place),
@@ -275,7 +275,7 @@ pub(crate) fn note_each(
     let Some((spot, others)) = spots.split_first() else {
         return;
     };
-    let sum = series[feed.stream].sum_at(*spot);
-    stamps[feed.stream].note(shape_of(plan, feed.stream), *spot, sum);
+    let points = &series[feed.stream];
+    stamps[feed.stream].note(shape_of(plan, feed.stream), points, *spot);
     note_each(plan, series, stamps, rest, others);
 }

@@ -283,8 +283,8 @@ impl Tally {
         ensures { stamped_in stamps.new.items
             ≡ stamps_put self.now.plan (whole_feed point.stream ∷ []) (point.place ∷ []) self.now.series (stamped_in stamps.old.items) }
     {
-        let sum = self.series[point.stream].sum_at(point.place);
-        stamps[point.stream].note(shape_of(&self.plan, point.stream), point.place, sum);
+        let points = &self.series[point.stream];
+        stamps[point.stream].note(shape_of(&self.plan, point.stream), points, point.place);
     }
 
     /// Takes in what a recorder of the same plan holds, as if each of its recordings had been measured here, one after the other,

@@ -1,15 +1,14 @@
-use Rattle.std.proofs.Common.{◌≡◌, ◌<◌, ◌∙◌, ℕ, length, set, ap, sym, subst, rules, FitsSigned, w64}
-use Rattle.std.proofs.lemmas.Int.{to_z-of_z}
+use Rattle.std.proofs.Common.{◌≡◌, ◌<◌, ◌∙◌, ℕ, length, set, ap, sym, subst, rules}
 use Rattle.point_kit.specs.declared.shape.Shape.{Shape}
 use Rattle.agg_kit.specs.Feeds.{entries_of, series_at, shape_at}
 use Rattle.agg_kit.specs.Stamps.{note, stamped_in, stamps_at, sum_at, Stamped, CanNote}
-use Rattle.agg_kit.specs.Tallies.{Points, Tallied}
+use Rattle.agg_kit.specs.Tallies.{Tallied}
 use Rattle.agg_kit.proofs.Records.{entries-read, read-there, stored-length}
 use Rattle.agg_kit.proofs.Stamping.{kept-read, stamped-set}
 use Rattle.agg_kit.proofs.tally.Tally.note_at.Goals as goal
 
-pub index-requires : goal.index-requires
-index-requires c =
+pub index-points-requires : goal.index-points-requires
+index-points-requires c =
     let within : c.args.point.stream < length c.self.inside.plan.streams = subst (λ (t : Tallied). c.args.point.stream < length t.plan.streams) (sym c.self.view_is) c.requires.within in
     let l : c.args.point.stream < length c.self.inside.series.items = subst (λ (n : ℕ). c.args.point.stream < n) (sym (stored-length c.self.inside.plan.streams c.self.inside.series.items c.self.invariant.sound)) within in
     search rules
@@ -34,11 +33,9 @@ returns c =
     let within : m < length p.streams = subst (λ (t : Tallied). m < length t.plan.streams) (sym c.self.view_is) c.requires.within in
     let there : m < length ss = subst (λ (n : ℕ). m < n) (sym (stored-length p.streams ss c.self.invariant.sound)) within in
     let beside : m < length ns = subst (λ (n : ℕ). m < n) (sym c.requires.long) c.requires.within in
-    let sum : c.sum_at-sum.result ≡ sum_at (series_at (entries_of ss) m) i =
-    c.sum_at-sum.ensures ∙ ap (λ (es : Points). sum_at es i) (sym (entries-read ss m c.index.result.now there c.index.ensures)) in
-    let fits : FitsSigned w64 c.sum_at-sum.result = search rules in
+    let read : series_at (entries_of ss) m ≡ c.index-points.result.now.entries = entries-read ss m c.index-points.result.now there c.index-points.ensures in
     stamped-set ns m c.note.new.self
     ∙ ap (set (stamped_in ns) m)
-    (c.note.ensures ∙ ap (note c.shape_of.result.now old.kept i) (to_z-of_z w64 c.sum_at-sum.result fits) ∙ (λ j. note (c.shape_of.ensures.value j) old.kept i (sum j))
+    (c.note.ensures ∙ (λ j. note (c.shape_of.ensures.value j) old.kept i (sum_at (sym read j) i))
     ∙ ap (λ (s : Stamped). note (shape_at p m) s i (sum_at (series_at (entries_of ss) m) i)) (sym (kept-read ns m old beside c.index_mut.ensures.value)))
     ∙ ap (λ (t : Tallied). set (stamped_in ns) m (note (shape_at t.plan m) (stamps_at (stamped_in ns) m) i (sum_at (series_at t.series m) i))) c.self.view_is
