@@ -1,5 +1,5 @@
 -- A set's own point, in the stream of an instrument's one feed.
-use Rattle.std.proofs.Common.{◌≡◌, ◌≢◌, ◌∙◌, ◌&&◌, ℕ, ℤ, pos, Bool, true, false, List, [], ◌∷◌, Option, None, Some, length, get_or, position, refl, sym, ap, subst}
+use Rattle.std.proofs.Common.{◌≡◌, ◌≢◌, ◌∙◌, ◌&&◌, ◌||◌, ℕ, ℤ, pos, Bool, true, false, List, [], ◌∷◌, Option, None, Some, length, get_or, position, refl, sym, ap, subst}
 use Rattle.std.specs.List.{list_all, position_or_len}
 use Rattle.std.specs.Map.{keys_of}
 use Rattle.std.specs.Option.{option_map}
@@ -9,11 +9,11 @@ use Rattle.plan_kit.specs.declared.feed.Feed.{Feed}
 use Rattle.agg_kit.specs.BoundPoints.{AreAt, IsOwnPoint, entry_at}
 use Rattle.agg_kit.specs.Entries.{entry_of}
 use Rattle.agg_kit.specs.Feeding.{set_eq}
-use Rattle.agg_kit.specs.Feeds.{series_at}
+use Rattle.agg_kit.specs.Feeds.{series_at, shape_at}
 use Rattle.agg_kit.specs.Kept.{whole_feed}
 use Rattle.agg_kit.specs.Measuring.{after_measure, fault_of}
 use Rattle.agg_kit.specs.Recorders.{keeps_set, keeps_sets, recorded_in, recorder_after, can_stamp_all, as_record_fault, record_fault_of}
-use Rattle.agg_kit.specs.Stamps.{Stamped, StampedIn, can_stamp, stamped_in, stamps_put, AreSpots, CanNoteEach}
+use Rattle.agg_kit.specs.Stamps.{Stamped, StampedIn, can_stamp, has_noted, is_noted, stamped_in, stamps_put, AreSpots, CanNoteEach}
 use Rattle.agg_kit.specs.Steps.{fed_set}
 use Rattle.agg_kit.specs.Tallies.{Points, Tallied}
 use Rattle.agg_kit.specs.declared.bound.Bound.{Bound}
@@ -21,7 +21,7 @@ use Rattle.agg_kit.specs.declared.bound.OwnPoint.{OwnPoint}
 use Rattle.agg_kit.specs.declared.fault.TallyFault.{TallyFault}
 use Rattle.agg_kit.proofs.BoundPoints.{has_point-at}
 use Rattle.agg_kit.proofs.Distinct.{itself}
-use Rattle.agg_kit.proofs.RecorderParts.{after-noted}
+use Rattle.agg_kit.proofs.RecorderParts.{after-noted, IsPlain}
 use Rattle.agg_kit.proofs.Recorders.{keeps-first, keeps-place, record-as_record_fault}
 use Rattle.agg_kit.proofs.Stamping.{AreLong, can-known, next-place, position-spot, spots-known}
 use Rattle.agg_kit.proofs.Steps.{place-has_point}
@@ -58,6 +58,10 @@ module _ (t : Tallied) (i : ℕ) (a : AttrSet) (o : OwnPoint) (own : IsOwnPoint 
 
   pub own-can : (ns : List Stamped) → can_stamp_all (recorded_in t ns) i ≡ can_stamp t.plan ns (whole_feed o.stream)
   own-can ns = ap (list_all (can_stamp t.plan ns)) own.lone ∙ and-true (can_stamp t.plan ns (whole_feed o.stream))
+
+  -- where nothing is kept beside the points of the stream
+  pub own-plain : (v : ℤ) → is_noted (shape_at t.plan o.stream) ≡ false → IsPlain t (entry_of i a v)
+  own-plain v none = (own-keeps v, ap (has_noted t.plan) own.lone ∙ ap (λ (b : Bool). b || false) none)
 
   -- so a tally's refusal is the recorder's
   pub own-fault : (ns : List Stamped) (v : ℤ) (f : Option TallyFault) → can_stamp t.plan ns (whole_feed o.stream) ≡ true → fault_of t (entry_of i a v) ≡ f → record_fault_of (recorded_in t ns) (entry_of i a v) ≡ option_map as_record_fault f

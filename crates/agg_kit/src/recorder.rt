@@ -11,9 +11,9 @@ ghost use Rattle.agg_kit.specs.Stamps.{has_noted};
 ghost use Rattle.agg_kit.specs.Taken.{HasRecorded, IsRecorder, RecordsAlso};
 
 use crate::bound::OwnPoint;
-use crate::recording::{kept_set, set_or};
+use crate::recording::{kept_set, set_or, shape_of};
 use crate::series::Series;
-use crate::stamps::{Stamps, can_stamp_each, can_stamp_in, feed_noted, no_stamps};
+use crate::stamps::{Stamps, can_stamp_each, can_stamp_in, feed_noted, is_noted, no_stamps};
 use crate::{Bound, RecordFault, Tally};
 use attr_kit::{AttrSet, NoMemory};
 use plan_kit::{Feed, Plan};
@@ -196,10 +196,17 @@ impl Recorder {
         let plan = self.tally.plan();
         let _ = plan.streams_len();
         let _ = feeds_in(plan, instrument);
+        let lone = Some(point.stream);
+        if !is_noted(shape_of(plan, point.stream)) {
+            self.tally
+                .measure_at(instrument, lone, attrs, &[point.place], value)?;
+            return Ok(());
+        }
         if !can_stamp_in(plan, &self.stamps, point.stream) {
             return Err(RecordFault::Full);
         }
-        self.tally.measure_at(instrument, Some(point.stream), attrs, &[point.place], value)?;
+        self.tally
+            .measure_at(instrument, lone, attrs, &[point.place], value)?;
         self.tally.note_at(&mut self.stamps, point);
         Ok(())
     }

@@ -155,8 +155,8 @@ fn is_gauge(shape: &Shape) -> bool
     }
 }
 
-// Whether something is kept beside points of a shape.
-fn is_noted(shape: &Shape) -> bool
+/// Whether something is kept beside points of a shape.
+pub(crate) fn is_noted(shape: &Shape) -> bool
     ensures { result ≡ is_noted shape.now }
 {
     match shape {
