@@ -1,4 +1,4 @@
-use Rattle.std.proofs.Common.{◌≡◌, ◌<◌, ◌∙◌, ℕ, length, ap, sym, subst, rules}
+use Rattle.std.proofs.Common.{◌≡◌, ◌<◌, ◌∙◌, ℕ, length, sym, subst, rules}
 use Rattle.std.proofs.lemmas.List.{length-set}
 use Rattle.point_kit.specs.declared.shape.Shape.{Shape}
 use Rattle.agg_kit.specs.Feeds.{entries_of, series_at}
