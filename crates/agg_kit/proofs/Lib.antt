@@ -14,6 +14,7 @@ pub mod JoinedParts
 pub mod Joins
 pub mod Latest
 pub mod Limits
+pub mod LonePoints
 pub mod Numbers
 pub mod OwnPoints
 pub mod Parts

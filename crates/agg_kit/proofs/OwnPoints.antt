@@ -1,5 +1,5 @@
 -- Bound points of recorders: sets with points of their own keep them.
-use Rattle.std.proofs.Common.{◌≡◌, ℕ, pos, ◌∙◌, ◌&&◌, inl, inr, true, List, [], ◌∷◌, Some, Result, Ok, Err, OnOk, OnErr, length, refl, ap}
+use Rattle.std.proofs.Common.{◌≡◌, ℕ, pos, ◌∙◌, ◌&&◌, inl, inr, true, List, [], ◌∷◌, Some, Result, Ok, Err, OnOk, OnErr, length, refl, sym, ap, subst}
 use Rattle.std.specs.List.{list_all}
 use Rattle.attr_kit.specs.declared.attr_set.AttrSet.{AttrSet}
 use Rattle.attr_kit.specs.Keeping.{kept}
@@ -11,7 +11,7 @@ use Rattle.agg_kit.specs.Entries.{Entry, Arrivals, arrivals_from, entry_of}
 use Rattle.agg_kit.specs.Feeding.{set_eq}
 use Rattle.agg_kit.specs.Feeds.{series_at, shape_at}
 use Rattle.agg_kit.specs.Measuring.{points_after, series_after, after_measure}
-use Rattle.agg_kit.specs.Recorders.{tally_in, keeps_set, keeps_sets, OwnBoundPointsStay}
+use Rattle.agg_kit.specs.Recorders.{Recorded, recorder_after, tally_in, keeps_set, keeps_sets, IsOwnBound, OwnBoundPointsStay}
 use Rattle.agg_kit.specs.Steps.{fed_set, payload_after, step}
 use Rattle.agg_kit.specs.Tallies.{Points, Tallied}
 use Rattle.agg_kit.specs.declared.bound.Bound.{Bound}
@@ -54,3 +54,8 @@ keeps-after (Ok x) r n b c e now was fits (inr at) known keeps i a =
     ∙ keeps-still r e (feeds_of r.plan b.instrument) b.places.items b.attrs fits at
     ∙ keeps
 keeps-after (Err x) r n b c e now was fits (inr at) known keeps i a = (λ j. keeps_sets (was j) (entry_of (i j) (a j) (pos 0))) ∙ keeps
+
+pub own_bound_either : {T E : Type 0} (o : Result T E) (r n : Recorded) (e : Entry) (b : Bound) → AreFeeds (length r.plan.streams) (feeds_of r.plan b.instrument) → IsOwnBound r b → OnOk o (n ≡ recorder_after r e) → OnErr o (n ≡ r)
+    → IsOwnBound n b
+own_bound_either (Ok x) r n e b fits own now was = subst (λ (x : Recorded). IsOwnBound x b) (sym now) (own_bound_stays r e b fits own)
+own_bound_either (Err x) r n e b fits own now was = subst (λ (x : Recorded). IsOwnBound x b) (sym was) own

@@ -230,7 +230,7 @@ can-put p (f ∷ fs) (i ∷ is) a ss ns h r c l =
 
 -- ---- places that a bound point knows
 
-position-spot : (q : AttrSet → Bool) (xs : List AttrSet) (i : ℕ) → position q xs ≡ Some i → (i ≡ position_or_len q xs) × (position_or_len q xs < length xs)
+pub position-spot : (q : AttrSet → Bool) (xs : List AttrSet) (i : ℕ) → position q xs ≡ Some i → (i ≡ position_or_len q xs) × (position_or_len q xs < length xs)
 position-spot q xs i h = by (nat_lt (position_or_len q xs) (length xs)) refl h
   where
     by : (b : Bool) → nat_lt (position_or_len q xs) (length xs) ≡ b → cond b (Some (position_or_len q xs)) None ≡ Some i → (i ≡ position_or_len q xs) × (position_or_len q xs < length xs)

@@ -8,10 +8,12 @@ use Rattle.plan_kit.specs.declared.feed.Feed.{Feed}
 use Rattle.agg_kit.specs.Entries.{Entry, entry_of}
 use Rattle.agg_kit.specs.Feeding.{set_eq}
 use Rattle.agg_kit.specs.Feeds.{entries_of, series_at}
+use Rattle.agg_kit.specs.Kept.{whole_feed}
 use Rattle.agg_kit.specs.Measuring.{after_measure}
 use Rattle.agg_kit.specs.Steps.{Stored, fed_set}
 use Rattle.agg_kit.specs.Tallies.{Points, Tallied}
 use Rattle.agg_kit.specs.declared.bound.Bound.{Bound}
+use Rattle.agg_kit.specs.declared.bound.OwnPoint.{OwnPoint}
 
 -- where the point stands that a value of the set would go to
 abbrev pub place_of : ℕ → Points → AttrSet → Option ℕ
@@ -31,6 +33,11 @@ AreKnown p fs is a ss = (is ≡ []) ⊎ AreAt p fs is a ss
 -- a bound point is at home in a tally: what it knows of places is true there
 abbrev pub IsBound : Tallied → Bound → Type 0
 IsBound t b = AreKnown t.plan (feeds_of t.plan b.instrument) b.places.items b.attrs t.series
+
+-- the stream is that of the instrument's one feed, which keeps all keys, and the set's own point stands there at the place
+pub record IsOwnPoint (t : Tallied) (i : ℕ) (a : AttrSet) (o : OwnPoint) : Type 0 where
+  pub lone : feeds_of t.plan i ≡ whole_feed o.stream ∷ []
+  pub own : position (set_eq a) (keys_of (series_at t.series o.stream)) ≡ Some o.place
 
 -- the recording of a value at a bound point
 abbrev pub entry_at : Bound → ℤ → Entry

@@ -48,6 +48,13 @@ impl Bound {
     }
 }
 
+/// Where a set's own point stands: in the stream of an instrument's one feed, which keeps all keys.
+#[derive(Clone, Copy)]
+pub(crate) struct OwnPoint {
+    pub(crate) stream: usize,
+    pub(crate) place: usize,
+}
+
 /// The place of each feed's point, in the order of the feeds, or none where one of the points is not there.
 pub(crate) fn places_of(
     alloc: Global,

@@ -2,7 +2,7 @@
 ghost use Rattle.std.specs.Prelude.{◌≡◌, ◌≢◌, ◌↔◌, [], pos, true, false, length, Some, None, IfOk, IfErr, OnOk, OnErr, IsOk, IsTrue};
 ghost use Rattle.plan_kit.specs.Plans.{feeds_of, kind_of, AllRise, AreFeeds};
 ghost use Rattle.plan_kit.specs.declared.instrument.Kind.{Kind};
-ghost use Rattle.agg_kit.specs.BoundPoints.{HasInstrument, IsBound, LacksInstrument, entry_at};
+ghost use Rattle.agg_kit.specs.BoundPoints.{HasInstrument, IsBound, IsOwnPoint, LacksInstrument, entry_at};
 ghost use Rattle.agg_kit.specs.Entries.{entry_of};
 ghost use Rattle.agg_kit.specs.Feeding.{overflow_set};
 ghost use Rattle.agg_kit.specs.Feeds.{IsHeld, AreHeld};
@@ -10,9 +10,10 @@ ghost use Rattle.agg_kit.specs.Recorders.{recorder_after, can_stamp_all, empty_r
 ghost use Rattle.agg_kit.specs.Stamps.{has_noted};
 ghost use Rattle.agg_kit.specs.Taken.{HasRecorded, IsRecorder, RecordsAlso};
 
-use crate::recording::{kept_set, set_or};
+use crate::bound::OwnPoint;
+use crate::recording::{kept_set, set_or, shape_of};
 use crate::series::Series;
-use crate::stamps::{Stamps, can_stamp_each, feed_noted, no_stamps};
+use crate::stamps::{Stamps, can_stamp_each, can_stamp_in, feed_noted, is_noted, no_stamps};
 use crate::{Bound, RecordFault, Tally};
 use attr_kit::{AttrSet, NoMemory};
 use plan_kit::{Feed, Plan};
@@ -92,6 +93,9 @@ impl Recorder {
             → has_noted self.old.plan (feeds_of self.old.plan instrument) ≡ false → IfErr result (λ f. f ≢ RecordFault.NoMemory) }
         ensures unchanged { OnErr result (self.new ≡ self.old) }
     {
+        if let Some(point) = self.tally.own_point(instrument, attrs) {
+            return self.measure_own(instrument, attrs, point, value);
+        }
         if !self.tally.keeps_sets(instrument, attrs)? {
             return Err(RecordFault::Full);
         }
@@ -172,6 +176,42 @@ impl Recorder {
         self.measure_known(bound, value)
     }
 
+    // Records a value at a set's own point, and notes it beside the point. Takes no memory.
+    #[inline(always)]
+    fn measure_own(
+        &mut self,
+        instrument: usize,
+        attrs: &AttrSet,
+        point: OwnPoint,
+        value: i64,
+    ) -> Result<(), RecordFault>
+        requires { IsOwnPoint (tally_in self.old) instrument attrs.now point }
+        ensures ok { OnOk result (record_fault_of self.old (entry_of instrument attrs.now value) ≡ None) }
+        ensures value { OnOk result (self.new ≡ recorder_after self.old (entry_of instrument attrs.now value)) }
+        ensures recorded { OnOk result (RecordsAlso self.old (entry_of instrument attrs.now value) self.new) }
+        ensures err { IfErr result (λ f. record_fault_of self.old (entry_of instrument attrs.now value) ≡ Some f) }
+        ensures memory { IfErr result (λ f. f ≢ RecordFault.NoMemory) }
+        ensures unchanged { OnErr result (self.new ≡ self.old) }
+    {
+        // What the plan says of the feeds of all its instruments, and of this one's.
+        let plan = self.tally.plan();
+        let _ = plan.streams_len();
+        let _ = feeds_in(plan, instrument);
+        let lone = Some(point.stream);
+        if !is_noted(shape_of(plan, point.stream)) {
+            self.tally
+                .measure_at(instrument, lone, attrs, &[point.place], value)?;
+            return Ok(());
+        }
+        if !can_stamp_in(plan, &self.stamps, point.stream) {
+            return Err(RecordFault::Full);
+        }
+        self.tally
+            .measure_at(instrument, lone, attrs, &[point.place], value)?;
+        self.tally.note_at(&mut self.stamps, point);
+        Ok(())
+    }
+
     // Records a value at a bound point that knows its places, each of a set's own point.
     fn measure_known(&mut self, bound: &Bound, value: i64) -> Result<(), RecordFault>
         requires bound { IsBound (tally_in self.old) bound.now }
@@ -186,12 +226,17 @@ impl Recorder {
     {
         // What the plan says of the feeds of all its instruments.
         let _ = self.tally.plan().streams_len();
+        let places = bound.places.as_slice();
+        if let Some(stream) = self.tally.lone(bound.instrument) {
+            let place = places[0];
+            let point = OwnPoint { stream, place };
+            return self.measure_own(bound.instrument, &bound.attrs, point, value);
+        }
         if !self.can_stamp(bound.instrument) {
             return Err(RecordFault::Full);
         }
-        let places = bound.places.as_slice();
         self.tally
-            .measure_at(bound.instrument, &bound.attrs, places, value)?;
+            .measure_at(bound.instrument, None, &bound.attrs, places, value)?;
         self.tally
             .note_each(bound.instrument, &mut self.stamps, places);
         Ok(())
@@ -207,7 +252,9 @@ impl Recorder {
         can_stamp_each(plan, &self.stamps, feeds_in(plan, instrument))
     }
 
-    // Records a value as `measure` does, where the sets are kept, and notes it beside the points.
+    // Records a value as `measure` does, where the sets are kept, and notes it beside the points. Not inlined, so that `measure` is
+    // short where the point is there.
+    #[inline(never)]
     fn measure_noted(
         &mut self,
         instrument: usize,

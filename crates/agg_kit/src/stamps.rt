@@ -3,9 +3,10 @@ ghost use Rattle.std.specs.Prelude.{◌≡◌, [], false, true, cond, pos, ◌+�
 ghost use Rattle.std.specs.List.{list_all};
 ghost use Rattle.plan_kit.specs.Plans.{AreFeeds};
 ghost use Rattle.agg_kit.specs.Feeds.{entries_of};
+ghost use Rattle.agg_kit.specs.Kept.{whole_feed};
 ghost use Rattle.agg_kit.specs.Laws.{is_gauge};
 ghost use Rattle.agg_kit.specs.Reaches.{reach_with};
-ghost use Rattle.agg_kit.specs.Stamps.{can_stamp, has_noted, is_noted, note, put_at, stamp, stamped_in, stamps_put, unstamped, widen};
+ghost use Rattle.agg_kit.specs.Stamps.{can_stamp, has_noted, is_noted, note, put_at, stamp, stamped_in, stamps_put, sum_at, unstamped, widen};
 ghost use Rattle.agg_kit.specs.Stamps.{AreSpots, CanNote, CanNoteEach, CanPut, HasRoom, HaveRooms};
 
 use crate::recording::{kept_set, set_or, shape_of};
@@ -109,15 +110,16 @@ impl Stamps {
         }
     }
 
-    // Notes one more value of a stream of a shape, of the set whose point is at a place and comes to a sum then.
-    fn note(&mut self, shape: &Shape, place: usize, sum: i64)
+    // Notes one more value of a stream of a shape, of the set whose point is at a place. The points have it already.
+    #[inline(always)]
+    pub(crate) fn note(&mut self, shape: &Shape, points: &Series, place: usize)
         requires { CanNote shape.now self.old place }
-        ensures { self.new.kept ≡ note shape.now self.old.kept place sum }
+        ensures { self.new.kept ≡ note shape.now self.old.kept place (sum_at points.now.entries place) }
     {
         match shape {
             Shape::Sum { monotonic } => {
                 if !*monotonic {
-                    self.widen(place, sum);
+                    self.widen(place, points.sum_at(place));
                 }
             }
             Shape::Gauge => self.stamp(place),
@@ -153,8 +155,8 @@ fn is_gauge(shape: &Shape) -> bool
     }
 }
 
-// Whether something is kept beside points of a shape.
-fn is_noted(shape: &Shape) -> bool
+/// Whether something is kept beside points of a shape.
+pub(crate) fn is_noted(shape: &Shape) -> bool
     ensures { result ≡ is_noted shape.now }
 {
     match shape {
@@ -210,12 +212,22 @@ pub(crate) fn can_stamp_each(plan: &Plan, stamps: &Vec<Stamps>, feeds: &[Feed]) 
     let Some((feed, rest)) = feeds.split_first() else {
         return true;
     };
-    let gauge = is_gauge(shape_of(plan, feed.stream));
-    let fits = stamps[feed.stream].can_stamp();
-    if gauge && !fits {
+    if !can_stamp_in(plan, stamps, feed.stream) {
         return false;
     }
     can_stamp_each(plan, stamps, rest)
+}
+
+/// Whether a stream can number one more value, if it is a gauge.
+#[inline(always)]
+pub(crate) fn can_stamp_in(plan: &Plan, stamps: &Vec<Stamps>, stream: usize) -> bool
+    requires within { stream < length plan.now.streams }
+    requires long { length stamps.now.items ≡ length plan.now.streams }
+    ensures { result ≡ can_stamp plan.now (stamped_in stamps.now.items) (whole_feed stream) }
+{
+    let gauge = is_gauge(shape_of(plan, stream));
+    let fits = stamps[stream].can_stamp();
+    !gauge || fits
 }
 
 /// Finds the places of a set's points, or of the next ones, and makes room beside them.
@@ -263,7 +275,7 @@ pub(crate) fn note_each(
     let Some((spot, others)) = spots.split_first() else {
         return;
     };
-    let sum = series[feed.stream].sum_at(*spot);
-    stamps[feed.stream].note(shape_of(plan, feed.stream), *spot, sum);
+    let points = &series[feed.stream];
+    stamps[feed.stream].note(shape_of(plan, feed.stream), points, *spot);
     note_each(plan, series, stamps, rest, others);
 }

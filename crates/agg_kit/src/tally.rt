@@ -2,7 +2,7 @@
 ghost use Rattle.std.specs.Prelude.{◌≡◌, ◌≢◌, ◌↔◌, ◌<◌, ◌∷◌, [], ℤ, length, replicate, slice_get, Some, None, true, false, IfOk, IfErr, IfSome, IsOk, OnOk, OnErr, IsTrue};
 ghost use Rattle.std.specs.Option.{option_map};
 ghost use Rattle.agg_kit.specs.Alike.{ShareKeys};
-ghost use Rattle.agg_kit.specs.BoundPoints.{AreKnown, HasInstrument, IsBound, LacksInstrument, entry_at};
+ghost use Rattle.agg_kit.specs.BoundPoints.{AreKnown, HasInstrument, IsBound, IsOwnPoint, LacksInstrument, entry_at};
 ghost use Rattle.agg_kit.specs.Entries.{entry_of};
 ghost use Rattle.agg_kit.specs.Feeding.{overflow_set};
 ghost use Rattle.agg_kit.specs.Feeds.{entries_of, series_at, IsHeld};
@@ -17,9 +17,9 @@ ghost use Rattle.plan_kit.specs.Plans.{feeds_of, kind_of, AllRise};
 ghost use Rattle.plan_kit.specs.declared.instrument.Kind.{Kind};
 
 use crate::absorbing::absorb_into;
-use crate::bound::places_of;
+use crate::bound::{OwnPoint, places_of};
 use crate::recorder::{feeds_in, keep_each};
-use crate::recording::record;
+use crate::recording::{record, shape_of};
 use crate::series::Series;
 use crate::stamps::{Stamps, clear_each, find_spots, note_each};
 use crate::{Bound, Recorder, TallyFault};
@@ -83,7 +83,7 @@ impl Tally {
         ensures held { IsHeld self.old (entry_of instrument attrs.now value) → IfErr result (λ f. f ≢ TallyFault.NoMemory) }
         ensures unchanged { OnErr result (self.new ≡ self.old) }
     {
-        self.measure_at(instrument, attrs, &[], value)
+        self.measure_at(instrument, self.lone(instrument), attrs, &[], value)
     }
 
     /// An instrument and a set whose points are looked up once: what `measure_bound` records goes there without a look.
@@ -160,23 +160,27 @@ impl Tally {
         // What the plan says of the feeds of all its instruments.
         let _ = self.plan().streams_len();
         let places = bound.places.as_slice();
-        self.measure_at(bound.instrument, &bound.attrs, places, value)?;
+        let lone = self.lone(bound.instrument);
+        self.measure_at(bound.instrument, lone, &bound.attrs, places, value)?;
         if bound.places.is_empty() {
             self.rebind(bound);
         }
         Ok(())
     }
 
-    // Records a value as `measure` does. `places` are those of the feeds' points, or none.
+    // Records a value as `measure` does. `lone` is the stream of the one feed, if that keeps all keys and is known, and `places` are
+    // those of the feeds' points, or none.
     #[inline(always)]
     pub(crate) fn measure_at(
         &mut self,
         instrument: usize,
+        lone: Option<usize>,
         attrs: &AttrSet,
         places: &[usize],
         value: i64,
     ) -> Result<(), TallyFault>
-        requires { AreKnown self.old.plan (feeds_of self.old.plan instrument) places.now attrs.now self.old.series }
+        requires lone { IfSome lone (λ m. feeds_of self.old.plan instrument ≡ whole_feed m ∷ []) }
+        requires known { AreKnown self.old.plan (feeds_of self.old.plan instrument) places.now attrs.now self.old.series }
         ensures ok { OnOk result (fault_of self.old (entry_of instrument attrs.now value) ≡ None) }
         ensures value { OnOk result (self.new ≡ after_measure self.old (entry_of instrument attrs.now value)) }
         ensures err { IfErr result (λ f. f ≢ TallyFault.NoMemory → fault_of self.old (entry_of instrument attrs.now value) ≡ Some f) }
@@ -195,12 +199,36 @@ impl Tally {
             &self.plan,
             &self.overflow,
             &mut self.series,
-            lone_at(&self.lone, instrument),
+            lone,
             feeds,
             attrs,
             places,
             value,
         )
+    }
+
+    // The stream of an instrument's one feed, where that keeps all keys.
+    #[inline(always)]
+    pub(crate) fn lone(&self, instrument: usize) -> Option<usize>
+        ensures { IfSome result (λ m. feeds_of self.now.plan instrument ≡ whole_feed m ∷ []) }
+    {
+        lone_at(&self.lone, instrument)
+    }
+
+    // Where the set's own point stands, if the instrument has one feed, which keeps all keys, and the point is there.
+    #[inline(always)]
+    pub(crate) fn own_point(&self, instrument: usize, attrs: &AttrSet) -> Option<OwnPoint>
+        ensures { IfSome result (IsOwnPoint self.now instrument attrs.now) }
+    {
+        // What the plan says of the feeds of all its instruments.
+        let _ = self.plan.streams_len();
+        let stream = lone_at(&self.lone, instrument)?;
+        let points = &self.series[stream];
+        let place = points.place_or_next(attrs);
+        if place == points.len() {
+            return None;
+        }
+        Some(OwnPoint { stream, place })
     }
 
     // Whether the stream of each feed of an instrument has a point of its own for the set, or room for one.
@@ -244,6 +272,19 @@ impl Tally {
     {
         let feeds = feeds_in(&self.plan, instrument);
         note_each(&self.plan, &self.series, stamps, feeds, spots);
+    }
+
+    // Notes one more value at a point. The point has it already.
+    #[inline(always)]
+    pub(crate) fn note_at(&self, stamps: &mut Vec<Stamps>, point: OwnPoint)
+        requires within { point.stream < length self.now.plan.streams }
+        requires long { length stamps.old.items ≡ length self.now.plan.streams }
+        requires can { CanNoteEach self.now.plan (whole_feed point.stream ∷ []) (point.place ∷ []) stamps.old.items }
+        ensures { stamped_in stamps.new.items
+            ≡ stamps_put self.now.plan (whole_feed point.stream ∷ []) (point.place ∷ []) self.now.series (stamped_in stamps.old.items) }
+    {
+        let points = &self.series[point.stream];
+        stamps[point.stream].note(shape_of(&self.plan, point.stream), points, point.place);
     }
 
     /// Takes in what a recorder of the same plan holds, as if each of its recordings had been measured here, one after the other,

@@ -1,10 +1,8 @@
-use Rattle.std.proofs.Common.{◌≡◌, ◌<◌, ◌∙◌, ℕ, length, ap, sym, subst, rules, FitsSigned, w64}
-use Rattle.std.proofs.lemmas.Int.{to_z-of_z}
+use Rattle.std.proofs.Common.{◌≡◌, ◌<◌, ◌∙◌, ℕ, length, sym, subst, rules}
 use Rattle.std.proofs.lemmas.List.{length-set}
 use Rattle.point_kit.specs.declared.shape.Shape.{Shape}
 use Rattle.agg_kit.specs.Feeds.{entries_of, series_at}
 use Rattle.agg_kit.specs.Stamps.{note, sum_at, CanNote}
-use Rattle.agg_kit.specs.Tallies.{Points}
 use Rattle.agg_kit.proofs.Records.{entries-read}
 use Rattle.agg_kit.proofs.Stamping.{can-here, can-rest, fits-rest, put-step, within-plan}
 use Rattle.agg_kit.proofs.stamps.+note_each.Goals as goal
@@ -42,10 +40,8 @@ returns t c =
     let i = c.in-Some-split_first.spot.now in
     let here : f.stream < length p.streams = within-plan p fs c.in-Some.rest.now f c.in-Some.ensures.cases.0 c.requires.feeds ns c.requires.long old c.index_mut.ensures.value in
     let there : f.stream < length ss = subst (λ (n : ℕ). f.stream < n) (sym c.requires.wide) here in
-    let sum : c.sum_at-sum.result ≡ sum_at (series_at (entries_of ss) f.stream) i =
-    c.sum_at-sum.ensures ∙ ap (λ (es : Points). sum_at es i) (sym (entries-read ss f.stream c.index.result.now there c.index.ensures)) in
-    let fits : FitsSigned w64 c.sum_at-sum.result = search rules in
+    let read : series_at (entries_of ss) f.stream ≡ c.index-points.result.now.entries = entries-read ss f.stream c.index-points.result.now there c.index-points.ensures in
     c.note_each.ensures
     ∙ put-step p fs c.in-Some.rest.now f c.in-Some.ensures.cases.0 c.requires.feeds ns c.requires.long old c.index_mut.ensures.value
     c.args.spots.now c.in-Some-split_first.others.now i c.in-Some-split_first.ensures.cases.0 (entries_of ss) c.note.new.self
-    (c.note.ensures ∙ ap (note c.shape_of.result.now old.kept i) (to_z-of_z w64 c.sum_at-sum.result fits) ∙ (λ j. note (c.shape_of.ensures.value j) old.kept i (sum j)))
+    (c.note.ensures ∙ (λ j. note (c.shape_of.ensures.value j) old.kept i (sum_at (sym read j) i)))

@@ -1,4 +1,4 @@
-use Rattle.std.proofs.Common.{◌≡◌, ◌≢◌, ◌∙◌, ℕ, List, [], Some, None, true, length, pos, inl, inr, refl, sym, ap, subst, FitsSigned, w64}
+use Rattle.std.proofs.Common.{◌≡◌, ◌≢◌, ◌∙◌, ℕ, List, [], Some, None, true, length, get_or, pos, inl, inr, refl, sym, ap, subst, FitsSigned, w64}
 use Rattle.std.proofs.lemmas.Int.{to_z-of_z}
 use Rattle.attr_kit.specs.declared.attr_set.AttrSet.{AttrSet}
 use Rattle.plan_kit.specs.Plans.{Planned, AllRise, feeds_of, kind_of}
@@ -13,7 +13,8 @@ use Rattle.agg_kit.specs.BoundPoints.{AreAt, AreKnown, IsBound, entry_at}
 use Rattle.agg_kit.specs.Recorders.{IsOwnBound}
 use Rattle.agg_kit.specs.Tallies.{Points}
 use Rattle.agg_kit.specs.declared.bound.Bound.{Bound}
-use Rattle.agg_kit.proofs.OwnPoints.{own_bound_stays}
+use Rattle.agg_kit.proofs.LonePoints.{bound-own}
+use Rattle.agg_kit.proofs.OwnPoints.{own_bound_either, own_bound_stays}
 use Rattle.agg_kit.proofs.RecorderParts.{AllFit, accepts, after-noted, long-recorder, long-streams, recorder-step}
 use Rattle.agg_kit.proofs.Stamping.{can-known, length-stamped, spots-known}
 use Rattle.agg_kit.proofs.recorder.Recorder.measure_known.Goals as goal
@@ -29,6 +30,22 @@ at-home r seen b is bound known = known-at r.plan (feeds_of r.plan b.instrument)
 own-spots : (r seen : Recorded) (b : Bound) → r ≡ seen → IsBound (tally_in seen) b → (b.places.items ≢ []) → keeps_sets (tally_in seen) (entry_at b (pos 0)) ≡ true → AreSpots (feeds_of r.plan b.instrument) b.places.items b.attrs r.series
 own-spots r seen b is bound known keeps =
     spots-known r.plan (feeds_of r.plan b.instrument) b.places.items b.attrs r.series (at-home r seen b is bound known) (ap (λ (x : Recorded). keeps_sets (tally_in x) (entry_at b (pos 0))) is ∙ keeps)
+
+pub measure_own-requires : goal.measure_own-requires
+measure_own-requires c =
+    let t = tally_in c.args.self.now in
+    let b = c.args.bound.now in
+    bound-own t b c.in-Some.stream _ (ap (λ (x : Recorded). feeds_of x.plan b.instrument) (sym c.self.view_is) ∙ c.in-Some.ensures)
+    (known-at t.plan (feeds_of t.plan b.instrument) b.places.items b.attrs t.series c.requires.bound c.requires.known) c.requires.keeps (ap (λ (l : List ℕ). get_or l 0 0) c.as_slice-places.ensures.value)
+
+pub returns-in-Some-clause-bound : goal.returns-in-Some-clause-bound
+returns-in-Some-clause-bound c =
+    let fits : FitsSigned w64 c.args.value = c.ranges.value in
+    let r = c.args.self.now in
+    let b = c.args.bound.now in
+    let fit : AllFit r.plan = subst (λ (x : Recorded). AllFit x.plan) c.self.view_is (subst AllFit c.plan.ensures.value c.streams_len.ensures.feeds) in
+    own_bound_either c.measure_own.result r c.measure_own.new.self (entry_at b c.args.value) b (fit b.instrument) (c.requires.bound, inr c.requires.keeps)
+    (simp to_z-of_z at c.measure_own.ensures.value) c.measure_own.ensures.unchanged
 
 pub note_each-requires-clause-long : goal.note_each-requires-clause-long
 note_each-requires-clause-long c =

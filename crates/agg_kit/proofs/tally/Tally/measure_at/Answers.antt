@@ -1,4 +1,4 @@
-use Rattle.std.proofs.Common.{◌≡◌, ◌∙◌, ◌∷◌, [], ℕ, List, length, slice_get, ap, sym, subst, refl, false, Option, Some, FitsSigned, w64, true≢false}
+use Rattle.std.proofs.Common.{◌≡◌, ◌∙◌, ◌∷◌, [], ℕ, List, length, ap, sym, subst, refl, false, Option, Some, FitsSigned, w64, true≢false}
 use Rattle.std.proofs.lemmas.Int.{to_z-of_z}
 use Rattle.plan_kit.specs.Plans.{feeds_of, kind_of, AreFeeds, AllRise}
 use Rattle.plan_kit.specs.declared.instrument.Kind.{Kind}
@@ -48,12 +48,12 @@ record-requires-clause-feeds c =
 pub record-requires-clause-known : goal.record-requires-clause-known
 record-requires-clause-known c =
     subst (λ (fs : List Feed). AreKnown c.self.inside.plan fs c.args.places.now c.args.attrs.now (entries_of c.self.inside.series.items)) (sym c.in-Some.ensures.value)
-    (subst (λ (t : Tallied). AreKnown t.plan (feeds_of t.plan c.args.instrument) c.args.places.now c.args.attrs.now t.series) (sym c.self.view_is) c.requires)
+    (subst (λ (t : Tallied). AreKnown t.plan (feeds_of t.plan c.args.instrument) c.args.places.now c.args.attrs.now t.series) (sym c.self.view_is) c.requires.known)
 
 pub record-requires-clause-lone : goal.record-requires-clause-lone
 record-requires-clause-lone c =
-    if_some (λ (m : ℕ). slice_get c.self.inside.lone.items c.args.instrument ≡ Some (Some m)) (λ (m : ℕ). c.in-Some.feeds.now ≡ whole_feed m ∷ []) c.lone_at.result
-    (λ m at. c.in-Some.ensures.value ∙ c.self.invariant.lone_is c.args.instrument m at) c.lone_at.ensures
+    if_some (λ (m : ℕ). feeds_of c.args.self.now.plan c.args.instrument ≡ whole_feed m ∷ []) (λ (m : ℕ). c.in-Some.feeds.now ≡ whole_feed m ∷ []) c.args.lone
+    (λ m at. c.in-Some.ensures.value ∙ ap (λ (t : Tallied). feeds_of t.plan c.args.instrument) c.self.view_is ∙ at) c.requires.lone
 
 pub invariant_of-self : goal.invariant_of-self
 invariant_of-self c =
