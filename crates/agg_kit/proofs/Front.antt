@@ -1,9 +1,9 @@
 -- The first entries of a map, and an entry that comes behind them from further on.
-use Rattle.std.proofs.Common.{◌≡◌, ℕ, ◌+◌, ◌<◌, ◌≤◌, Bool, true, false, cond, List, [], ◌∷◌, ◌++◌, Option, None, Some, length, is_some, take, slice_get, slice_set, slice_index_or, position, swap, refl, sym, ap, ◌∙◌, arith, suc, zero, true≢false, nat_lt, le-ltb, ltb-false, if◌then◌else◌}
+use Rattle.std.proofs.Common.{◌≡◌, ℕ, ◌+◌, ◌<◌, ◌≤◌, Bool, true, false, cond, List, [], ◌∷◌, ◌++◌, Option, None, Some, length, is_some, take, slice_get, slice_set, slice_index_or, position, swap, refl, sym, ap, ◌∙◌, arith, suc, zero, nat_lt, le-ltb, ltb-false}
 use Rattle.std.specs.List.{position_or_len}
 use Rattle.std.specs.Map.{keys_of, values_of, lookup}
 use Rattle.indexmap.specs.IndexMap.{set_value_at}
-use Rattle.std.proofs.lemmas.List.{length-map, length-set}
+use Rattle.std.proofs.lemmas.List.{length-map}
 use Rattle.attr_kit.specs.declared.attr_set.AttrSet.{AttrSet}
 use Rattle.point_kit.specs.declared.payload.Payload.{Payload}
 use Rattle.agg_kit.specs.Feeding.{set_eq}

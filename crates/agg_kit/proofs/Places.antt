@@ -1,5 +1,5 @@
 -- Where the sets of later points stand, and the points that they make as they come in.
-use Rattle.std.proofs.Common.{◌≡◌, ℕ, ◌+◌, ◌<◌, ◌≤◌, Bool, true, false, cond, not, List, [], ◌∷◌, ◌++◌, Option, None, Some, length, is_some, take, drop, reverse, slice_get, position, refl, sym, ap, ◌∙◌, arith, suc, zero, if◌then◌else◌, true≢false, ◌||◌, nat_lt, lt-ltb}
+use Rattle.std.proofs.Common.{◌≡◌, ℕ, ◌+◌, ◌<◌, ◌≤◌, Bool, true, false, cond, not, List, [], ◌∷◌, ◌++◌, None, Some, length, is_some, take, drop, reverse, slice_get, position, refl, sym, ap, ◌∙◌, arith, suc, zero, if◌then◌else◌, true≢false, ◌||◌, nat_lt, lt-ltb}
 use Rattle.std.proofs.Math.ListN.{get_or}
 use Rattle.std.proofs.lemmas.List.{append_assoc, append-nil, length-map}
 use Rattle.std.specs.List.{position_or_len}

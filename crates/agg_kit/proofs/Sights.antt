@@ -1,12 +1,12 @@
 -- What a look at a set tells of a recording to its point.
-use Rattle.std.proofs.Common.{◌≡◌, ℕ, ℤ, ◌+◌, ◌<◌, Bool, true, false, cond, not, List, [], ◌∷◌, ◌++◌, ◌==◌, Option, None, Some, length, position, refl, sym, ap, ◌∙◌, is_some, true≢false, FitsSigned, w64}
+use Rattle.std.proofs.Common.{◌≡◌, ℕ, ℤ, ◌<◌, Bool, false, not, List, [], ◌∷◌, ◌++◌, ◌==◌, Option, None, Some, length, position, refl, sym, ap, ◌∙◌, true≢false, FitsSigned, w64}
 use Rattle.std.proofs.Math.ListN.{get_or}
 use Rattle.std.specs.Map.{keys_of, lookup}
 use Rattle.attr_kit.specs.declared.attr_set.AttrSet.{AttrSet}
 use Rattle.point_kit.specs.declared.payload.Payload.{Payload}
 use Rattle.point_kit.specs.declared.shape.Shape.{Shape}
 use Rattle.agg_kit.specs.BoundPoints.{place_of, MayGive}
-use Rattle.agg_kit.specs.Feeding.{set_eq, is_own}
+use Rattle.agg_kit.specs.Feeding.{set_eq}
 use Rattle.agg_kit.specs.FreshPoints.{add_at, payload_with}
 use Rattle.agg_kit.specs.Payloads.{is_out_of_range, payload_of}
 use Rattle.agg_kit.specs.Steps.{add_under, bounds_of, fed_set, has_point, own_count, payload_after, payload_with_value, step}

@@ -1,5 +1,4 @@
-use Rattle.std.proofs.Common.{◌≡◌, ◌∙◌, ◌∷◌, ℕ, List, Some, None, length, sym, ap, subst, arith, rules}
-use Rattle.point_kit.specs.declared.payload.Payload.{Payload}
+use Rattle.std.proofs.Common.{◌≡◌, ◌∙◌, ◌∷◌, List, None, length, sym, ap, subst, arith, rules}
 use Rattle.agg_kit.specs.Absorbing.{AreAllSound, AreBothSound}
 use Rattle.agg_kit.specs.Absorbs.{absorb}
 use Rattle.agg_kit.specs.Feeds.{entries_of}

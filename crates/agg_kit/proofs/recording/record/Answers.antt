@@ -1,11 +1,11 @@
-use Rattle.std.proofs.Common.{◌≡◌, ◌∙◌, [], ◌<◌, ℕ, List, Some, length, sym, subst, ap, refl, true, false, not, FitsSigned, w64, rules}
+use Rattle.std.proofs.Common.{◌≡◌, ◌∙◌, [], ◌<◌, ℕ, List, Some, length, sym, subst, ap, refl, not, FitsSigned, w64, rules}
 use Rattle.std.proofs.Math.ListN.{set}
 use Rattle.std.proofs.lemmas.Int.{to_z-of_z}
 use Rattle.point_kit.specs.declared.shape.Shape.{Shape}
 use Rattle.plan_kit.specs.Plans.{AreFeeds}
 use Rattle.plan_kit.specs.declared.feed.Feed.{Feed}
 use Rattle.agg_kit.specs.BoundPoints.{AreKnown, KnowPlaces}
-use Rattle.agg_kit.specs.Feeds.{entries_of, shape_at, first_out, after_feeds, AreHeld, early_out_at, out_at, points_with}
+use Rattle.agg_kit.specs.Feeds.{entries_of, shape_at, first_out, after_feeds}
 use Rattle.agg_kit.specs.Kept.{whole_feed}
 use Rattle.agg_kit.specs.Payloads.{is_out_of_range}
 use Rattle.agg_kit.specs.Sound.{AllSound, AreSound}

@@ -1,4 +1,4 @@
-use Rattle.std.proofs.Common.{◌≡◌, ◌∙◌, ◌↔◌, ◌++◌, ◌∷◌, [], ap, sym, refl, subst, slice_get, true≢false}
+use Rattle.std.proofs.Common.{◌∙◌, ◌↔◌, ap, sym, subst, slice_get, true≢false}
 use Rattle.std.specs.Prelude.{IsTrue}
 use Rattle.std.specs.Map.{keys_of}
 use Rattle.attr_kit.specs.declared.attr_set.AttrSet.{AttrSet}

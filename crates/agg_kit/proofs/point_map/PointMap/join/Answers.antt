@@ -1,16 +1,13 @@
-use Rattle.std.proofs.Common.{◌≡◌, ◌∙◌, [], Some, ap, sym, FitsSigned, w64, slice_get, length, arith, not}
+use Rattle.std.proofs.Common.{◌≡◌, ◌∙◌, Some, ap, sym, slice_get, length, arith}
 use Rattle.std.specs.Map.{values_of}
-use Rattle.std.proofs.lemmas.Int.{to_z-of_z}
 use Rattle.indexmap.specs.IndexMap.{set_value_at}
 use Rattle.point_kit.specs.declared.payload.Payload.{Payload}
-use Rattle.agg_kit.specs.Payloads.{payload_of, is_out_of_range}
-use Rattle.agg_kit.specs.Absorbing.{payload_joined}
+use Rattle.agg_kit.specs.Payloads.{is_out_of_range}
 use Rattle.agg_kit.specs.Absorbs.{payload_of_both}
-use Rattle.agg_kit.specs.Steps.{Stored, bounds_of, payload_with_value}
+use Rattle.agg_kit.specs.Steps.{Stored}
 use Rattle.agg_kit.proofs.Front.{front-set, front-value, front-within, set-len}
 use Rattle.agg_kit.proofs.Rounds.{got}
 use Rattle.agg_kit.proofs.Sound.{sound-at}
-use Rattle.agg_kit.proofs.Steps.{set_value_at-same}
 use Rattle.agg_kit.proofs.point_map.PointMap.join.Goals as goal
 
 pub index_mut-requires : goal.index_mut-requires

@@ -1,4 +1,4 @@
-use Rattle.std.proofs.Common.{◌≡◌, ◌∙◌, length, slice_get, ap, sym, arith}
+use Rattle.std.proofs.Common.{◌∙◌, length, slice_get, ap, sym, arith}
 use Rattle.std.specs.Map.{values_of}
 use Rattle.agg_kit.specs.Steps.{Stored}
 use Rattle.agg_kit.proofs.Front.{front-value, front-within}

@@ -1,7 +1,6 @@
-use Rattle.std.proofs.Common.{◌≡◌, ◌∙◌, length, subst, ap, sym, arith}
+use Rattle.std.proofs.Common.{◌∙◌, length, ap, arith}
 use Rattle.indexmap.specs.IndexMap.{set_value_at}
 use Rattle.agg_kit.specs.Steps.{Stored}
-use Rattle.agg_kit.specs.Tallies.{Points}
 use Rattle.agg_kit.proofs.Front.{front-set, front-within, set-len}
 use Rattle.agg_kit.proofs.point_map.PointMap.put.Goals as goal
 

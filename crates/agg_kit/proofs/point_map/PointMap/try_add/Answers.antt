@@ -1,10 +1,9 @@
-use Rattle.std.proofs.Common.{◌≡◌, ◌∙◌, [], Some, ap, sym, FitsSigned, w64, slice_get, length, arith, not}
+use Rattle.std.proofs.Common.{◌≡◌, ◌∙◌, [], Some, ap, sym, FitsSigned, w64, slice_get, length, arith}
 use Rattle.std.specs.Map.{values_of}
 use Rattle.std.proofs.lemmas.Int.{to_z-of_z}
 use Rattle.indexmap.specs.IndexMap.{set_value_at}
 use Rattle.point_kit.specs.declared.payload.Payload.{Payload}
 use Rattle.agg_kit.specs.Payloads.{payload_of, is_out_of_range}
-use Rattle.agg_kit.specs.FreshPoints.{payload_in}
 use Rattle.agg_kit.specs.Steps.{Stored, bounds_of, payload_with_value}
 use Rattle.agg_kit.proofs.Front.{front-set, front-value, front-within, set-len}
 use Rattle.agg_kit.proofs.Rounds.{got}

@@ -1,5 +1,4 @@
-use Rattle.std.proofs.Common.{◌≡◌, ◌∙◌, ap, sym, subst, arith, length}
-use Rattle.agg_kit.specs.Steps.{Stored}
+use Rattle.std.proofs.Common.{sym, arith}
 use Rattle.agg_kit.proofs.Copies.{copied-more, none-there}
 use Rattle.agg_kit.proofs.point_map.PointMap.try_copy.Goals as goal
 use Rattle.agg_kit.proofs.point_map.PointMap.try_copy.Goals.{in-Some+in_ok-insert_copy, in_default}

@@ -1,4 +1,4 @@
-use Rattle.std.proofs.Common.{◌≡◌, ◌∙◌, ◌++◌, ◌∷◌, [], None, Some, position, slice_get, not, true, false, ap, sym, arith, FitsSigned, w64}
+use Rattle.std.proofs.Common.{◌≡◌, ◌∙◌, ◌++◌, ◌∷◌, [], None, Some, position, slice_get, ap, sym, arith, FitsSigned, w64}
 use Rattle.std.specs.Map.{keys_of, values_of}
 use Rattle.std.proofs.lemmas.Int.{to_z-of_z}
 use Rattle.indexmap.specs.IndexMap.{set_value_at}
@@ -7,7 +7,6 @@ use Rattle.point_kit.specs.declared.payload.Payload.{Payload}
 use Rattle.agg_kit.specs.Feeding.{set_eq}
 use Rattle.agg_kit.specs.Payloads.{is_out_of_range, payload_of}
 use Rattle.agg_kit.specs.Steps.{Stored, bounds_of, payload_with_value}
-use Rattle.agg_kit.specs.Tallies.{Points}
 use Rattle.agg_kit.proofs.Front.{found-is, front-set, front-value, index-behind, index-front, index-none, key-there, set-len}
 use Rattle.agg_kit.proofs.Rounds.{got}
 use Rattle.agg_kit.proofs.Sound.{sound-at}

@@ -1,4 +1,4 @@
-use Rattle.std.proofs.Common.{◌≡◌, ◌∙◌, ◌++◌, ◌∷◌, [], ◌+◌, length, true, false, is_some, ap, sym, subst, take, drop, reverse, arith}
+use Rattle.std.proofs.Common.{◌≡◌, ◌∙◌, ◌++◌, ◌∷◌, [], length, true, false, is_some, ap, sym, subst, take, reverse, arith}
 use Rattle.std.proofs.lemmas.List.{append-nil, reverse-reverse}
 use Rattle.std.specs.Map.{keys_of}
 use Rattle.attr_kit.specs.declared.attr_set.AttrSet.{AttrSet}

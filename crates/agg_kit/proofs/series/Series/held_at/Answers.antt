@@ -1,9 +1,5 @@
-use Rattle.std.proofs.Common.{◌≡◌, ◌∙◌, pos, Some, None, is_some, slice_get, ap, sym}
-use Rattle.std.specs.Map.{lookup}
+use Rattle.std.proofs.Common.{◌∙◌, pos, is_some, slice_get, ap, sym}
 use Rattle.std.specs.Option.{option_map_or}
-use Rattle.attr_kit.specs.declared.attr_set.AttrSet.{AttrSet}
-use Rattle.point_kit.specs.declared.payload.Payload.{Payload}
-use Rattle.agg_kit.specs.Feeding.{set_eq}
 use Rattle.agg_kit.specs.Joins.{total_of}
 use Rattle.agg_kit.specs.Parts.{count_of}
 use Rattle.agg_kit.specs.Steps.{Stored}

@@ -1,4 +1,4 @@
-use Rattle.std.proofs.Common.{◌≡◌, ◌∙◌, ◌↔◌, length, ap, sym, subst, arith}
+use Rattle.std.proofs.Common.{◌∙◌, ◌↔◌, length, ap, sym, subst, arith}
 use Rattle.std.specs.Prelude.{IsTrue}
 use Rattle.agg_kit.specs.Alike.{ShareKeys}
 use Rattle.indexmap.specs.IndexMap.{set_value_at}

@@ -1,10 +1,7 @@
-use Rattle.std.proofs.Common.{◌≡◌, ◌+◌, ◌<◌, ◌∙◌, ◌↔◌, [], ℕ, Bool, Some, true, false, cond, ap, refl, sym, subst, FitsSigned, w64}
+use Rattle.std.proofs.Common.{◌≡◌, ◌+◌, ◌<◌, ◌∙◌, [], ℕ, Some, false, cond, ap, refl, sym, subst, FitsSigned, w64}
 use Rattle.std.proofs.lemmas.Int.{to_z-of_z}
 use Rattle.std.proofs.lemmas.Option.{same_Some}
-use Rattle.std.specs.Prelude.{IsTrue}
-use Rattle.indexmap.specs.IndexMap.{set_value_at}
 use Rattle.point_kit.specs.declared.payload.Payload.{Payload}
-use Rattle.agg_kit.specs.Alike.{ShareKeys}
 use Rattle.agg_kit.specs.BoundPoints.{place_of}
 use Rattle.agg_kit.specs.Feeding.{is_own}
 use Rattle.agg_kit.specs.FreshPoints.{payload_with}
