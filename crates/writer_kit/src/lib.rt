@@ -37,15 +37,19 @@ mod bound;
 mod fault;
 mod laws;
 mod pace;
+mod room;
 mod shared;
 mod writer;
 
 pub use bound::BoundPoint;
-pub use fault::{AbsorbFault, BoundFault, CollectFault, MeasureFault, RestartFault};
+pub use fault::{
+    AbsorbFault, BoundFault, CollectFault, MeasureFault, RecordingFault, RestartFault,
+};
 pub use laws::{
     absorbing_is_measuring, histories_are_told, refusals_are_of_recordings, steps_are_events,
 };
 pub use pace::{DEFAULT_INTERVAL, Pace};
+pub use room::Room;
 pub use shared::{SeatsOut, SharedWriter, WriterChange};
 pub use writer::Writer;
 

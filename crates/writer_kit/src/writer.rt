@@ -3,16 +3,24 @@ ghost use Rattle.std.specs.Prelude.{◌≡◌, ◌≢◌, ◌<◌, ◌≤◌, []
 ghost use Rattle.agg_kit.specs.Entries.{entry_of};
 ghost use Rattle.agg_kit.specs.Feeds.{IsHeld};
 ghost use Rattle.agg_kit.specs.Rounds.{StandsFor};
-ghost use Rattle.agg_kit.specs.Recorders.{empty_recorder};
+ghost use Rattle.agg_kit.specs.Recorders.{empty_recorder, record_fault_of, recorder_after, tally_in};
+ghost use Rattle.agg_kit.specs.Stamps.{has_noted};
+ghost use Rattle.agg_kit.specs.Taken.{RecordsAlso};
+ghost use Rattle.plan_kit.specs.Plans.{feeds_of};
 ghost use Rattle.agg_kit.specs.BoundPoints.{HasInstrument, LacksInstrument, entry_at};
 ghost use Rattle.writer_kit.specs.Absorbing.{absorb_fault, no_memory_for, with_recordings};
 ghost use Rattle.writer_kit.specs.BoundPoints.{IsAtHome, RefusesAt};
 ghost use Rattle.writer_kit.specs.Following.{Follows};
 ghost use Rattle.writer_kit.specs.Recording.{after_record, after_collect, after_restart, round_now};
+ghost use Rattle.writer_kit.specs.Room.{recorder_at, recorder_left, RefusesApart, OnApart, OnTaken, AtApart, AtAbsorb, OnFull};
 ghost use Rattle.writer_kit.specs.Refusals.{no_memory, fault_now, early_fault, collect_fault, restart_fault};
 
-use crate::{AbsorbFault, BoundFault, BoundPoint, CollectFault, MeasureFault, RestartFault};
-use agg_kit::{Recorder, Tally, TallyFault};
+use crate::room::{record_apart, record_first};
+use crate::{
+    AbsorbFault, BoundFault, BoundPoint, CollectFault, MeasureFault, RecordingFault, RestartFault,
+    Room,
+};
+use agg_kit::{RecordFault, Recorder, Tally, TallyFault};
 use attr_kit::{AttrSet, NoMemory};
 use bumpalo::Bump;
 use plan_kit::Plan;
@@ -228,6 +236,51 @@ impl Writer {
             Ok(()) => Ok(()),
             Err(fault) => Err(AbsorbFault::Refused(fault)),
         }
+    }
+
+    /// Records a value by a recorder of the writer's plan. Where the recorder is full, takes in what it holds, as `absorb` does, and
+    /// records the value by the recorder, which holds nothing else then. Answers whether there was room. Rounds have the value
+    /// once the recorder is taken in again.
+    ///
+    /// Refuses, in this order: `Recorder` with what `Recorder::measure` refuses, but that it is full; `Absorb` with what `absorb`
+    /// refuses; `Emptied` where the recorder was taken in and refuses the value even so, for want of memory or for a cause that is
+    /// looked for after whether it is full. It is never full then. The value is recorded nowhere, and but for `Emptied` nothing
+    /// is changed. O(feeds of the instrument), and what `absorb` takes where the recorder is full.
+    pub fn record(
+        &mut self,
+        recorder: &mut Recorder,
+        instrument: usize,
+        attrs: &AttrSet,
+        value: i64,
+    ) -> Result<Room, RecordingFault<AbsorbFault>>
+        requires { recorder.old.plan ≡ self.old.tally.plan }
+        ensures plan { recorder.new.plan ≡ self.new.tally.plan }
+        // By the recorder as it was, or by one that holds nothing.
+        ensures ok { IfOk result (λ room. record_fault_of (recorder_at room recorder.old) (entry_of instrument attrs.now value) ≡ None) }
+        ensures value { IfOk result (λ room.
+            recorder.new ≡ recorder_after (recorder_at room recorder.old) (entry_of instrument attrs.now value)) }
+        ensures recorded { IfOk result (λ room.
+            RecordsAlso (recorder_at room recorder.old) (entry_of instrument attrs.now value) recorder.new) }
+        ensures full { OnFull result (record_fault_of recorder.old (entry_of instrument attrs.now value) ≡ Some RecordFault.Full) }
+        ensures apart { OnApart result (self.new ≡ self.old) }
+        ensures fits { OnTaken result (absorb_fault self.old recorder.old ≡ None) }
+        ensures taken { OnTaken result (self.new ≡ with_recordings self.old recorder.old) }
+        ensures err { IfErr result (RefusesApart recorder.old (entry_of instrument attrs.now value)) }
+        // Points that are there take no memory where every feed keeps all keys and none leads to a gauge or a sum that may fall.
+        ensures held { IsHeld (tally_in recorder.old) (entry_of instrument attrs.now value)
+            → has_noted recorder.old.plan (feeds_of recorder.old.plan instrument) ≡ false
+            → IfErr result (AtApart (λ f. f ≢ RecordFault.NoMemory)) }
+        ensures kept { IfErr result (λ f. recorder.new ≡ recorder_left f recorder.old) }
+        ensures refused { IfErr result (AtAbsorb (λ f. f ≢ no_memory_for → absorb_fault self.old recorder.old ≡ Some f)) }
+        ensures no_memory { IfErr result (AtAbsorb (λ f. f ≡ no_memory_for → self.old.closed ≡ false)) }
+        ensures unchanged { IfErr result (AtAbsorb (λ f. self.new ≡ self.old)) }
+    {
+        if record_apart(recorder, instrument, attrs, value).map_err(RecordingFault::Recorder)? {
+            return Ok(Room::Had);
+        }
+        self.absorb(recorder).map_err(RecordingFault::Absorb)?;
+        record_first(recorder, instrument, attrs, value).map_err(RecordingFault::Emptied)?;
+        Ok(Room::Made)
     }
 
     /// The points since the start, in an arena, as of a time. The writer stays as it is.
