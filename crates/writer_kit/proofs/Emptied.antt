@@ -1,5 +1,5 @@
 -- A recorder that holds nothing is never full.
-use Rattle.std.proofs.Common.{◌≡◌, ◌∙◌, ℕ, ℤ, ◌<◌, ◌+◌, ◌^◌, ◌&&◌, ◌||◌, Bool, true, false, not, nat_lt, is_none, List, [], ◌∷◌, length, replicate, zero, suc, Option, None, Some, refl, sym, ap, subst, FitsSigned, w64}
+use Rattle.std.proofs.Common.{◌≡◌, ◌≢◌, ◌∙◌, ℕ, ℤ, ◌<◌, ◌+◌, ◌^◌, ◌&&◌, ◌||◌, Bool, true, false, not, nat_lt, is_none, List, [], ◌∷◌, length, replicate, zero, suc, Option, None, Some, Result, Ok, Err, IfErr, refl, sym, ap, subst, FitsSigned, w64}
 use Rattle.std.specs.List.{list_all}
 use Rattle.std.specs.Option.{option_map}
 use Rattle.attr_kit.specs.declared.attr_set.AttrSet.{AttrSet}
@@ -12,7 +12,7 @@ use Rattle.agg_kit.specs.Feeds.{series_at, shape_at, first_out}
 use Rattle.agg_kit.specs.Laws.{is_gauge}
 use Rattle.agg_kit.specs.Measuring.{empty_tally, fault_of}
 use Rattle.agg_kit.specs.Payloads.{is_out_of_range}
-use Rattle.agg_kit.specs.Recorders.{empty_recorder, keeps_set, as_record_fault, record_fault_of}
+use Rattle.agg_kit.specs.Recorders.{Recorded, empty_recorder, keeps_set, as_record_fault, record_fault_of}
 use Rattle.agg_kit.specs.Refusals.{is_negative_for}
 use Rattle.agg_kit.specs.Rounds.{round}
 use Rattle.agg_kit.specs.Stamps.{Stamped, can_stamp, stamps_at, stamps_of, unstamped}
@@ -20,6 +20,7 @@ use Rattle.agg_kit.specs.Steps.{fed_set, payload_after}
 use Rattle.agg_kit.specs.Tallies.{Points}
 use Rattle.agg_kit.specs.declared.fault.TallyFault.{TallyFault}
 use Rattle.agg_kit.specs.declared.fault.TallyFault.TheVariants as faults
+use Rattle.agg_kit.specs.declared.fault.RecordFault as records
 use Rattle.agg_kit.specs.declared.fault.RecordFault.TheVariants as record_faults
 use Rattle.agg_kit.proofs.Distinct.{itself}
 use Rattle.agg_kit.proofs.Numbers.{stamps-none}
@@ -108,3 +109,9 @@ never_full p e limited fit small full = by (is_none (kind_of p e.instrument)) (i
     by true below n b = let h = is_full (Some faults.NoInstrument) (fault-gone p e n) in cc
     by false true n b = let h = is_full (Some faults.Negative) (fault-negative p e n b) in cc
     by false false n b = let h = is_full None (fault-none p e fit small n b) in cc
+
+pub not_full : {R : Type 0} (x : Result R records.RecordFault) (r : Recorded) (p : Planned) (e : Entry) → r ≡ empty_recorder p → 0 < p.limit → AreFeeds (length p.streams) (feeds_of p e.instrument)
+    → FitsSigned w64 e.value → IfErr x (λ f. f ≢ record_faults.NoMemory → record_fault_of r e ≡ Some f) → IfErr x (λ f. f ≢ record_faults.Full)
+not_full (Ok y) r p e is limited fit small told = tt
+not_full (Err f) r p e is limited fit small told =
+    λ same. never_full p e limited fit small (sym (ap (λ (s : Recorded). record_fault_of s e) is) ∙ told (λ short. let apart = sym same ∙ short in cc) ∙ ap Some same)
