@@ -9,7 +9,7 @@ ghost use Rattle.agg_kit.specs.Taken.{RecordsAlso};
 ghost use Rattle.plan_kit.specs.Plans.{feeds_of};
 ghost use Rattle.agg_kit.specs.BoundPoints.{HasInstrument, LacksInstrument, entry_at};
 ghost use Rattle.writer_kit.specs.Absorbing.{absorb_fault, no_memory_for, with_recordings};
-ghost use Rattle.writer_kit.specs.BoundPoints.{IsAtHome, RefusesAt};
+ghost use Rattle.writer_kit.specs.BoundPoints.{IsAtHome, IsOfIncarnation, RefusesAt};
 ghost use Rattle.writer_kit.specs.Following.{Follows};
 ghost use Rattle.writer_kit.specs.Recording.{after_record, after_collect, after_restart, round_now};
 ghost use Rattle.writer_kit.specs.Room.{recorder_at, recorder_left, RefusesApart, OnApart, OnTaken, AtApart, AtAbsorb, OnFull};
@@ -146,7 +146,8 @@ impl Writer {
     /// Refuses, in this order: `NoInstrument`, `NoMemory`. O(feeds of the instrument times the size of the attributes).
     pub fn bind(&self, instrument: usize, attrs: &AttrSet) -> Result<BoundPoint, TallyFault>
         ensures ok { OnOk result (HasInstrument self.now.tally instrument) }
-        ensures value { IfOk result (λ b. (b.point.instrument ≡ instrument) × (b.point.attrs ≡ attrs.now) × (b.start ≡ self.now.start)) }
+        ensures value { IfOk result (λ b. (b.point.instrument ≡ instrument) × (b.point.attrs ≡ attrs.now)) }
+        ensures incarnation { IfOk result (λ b. IsOfIncarnation self.now b) }
         ensures home { IfOk result (λ b. IsAtHome self.now b) }
         ensures err { IfErr result (λ f. f ≢ TallyFault.NoMemory
             → (f ≡ TallyFault.NoInstrument) × LacksInstrument self.now.tally instrument) }
@@ -154,6 +155,7 @@ impl Writer {
     {
         Ok(BoundPoint {
             point: self.tally.bind(instrument, attrs)?,
+            instance: self.id.instance,
             start: self.start,
         })
     }
@@ -163,38 +165,40 @@ impl Writer {
     pub fn rebind(&self, bound: &mut BoundPoint)
         ensures instrument { bound.new.point.instrument ≡ bound.old.point.instrument }
         ensures attrs { bound.new.point.attrs ≡ bound.old.point.attrs }
-        ensures start { bound.new.start ≡ self.now.start }
+        ensures incarnation { IsOfIncarnation self.now bound.new }
         ensures home { IsAtHome self.now bound.new }
     {
         self.tally.rebind(&mut bound.point);
+        bound.instance = self.id.instance;
         bound.start = self.start;
     }
 
     /// Records a value as `measure` does with the bound point's instrument and attributes, and looks up no set where it knows the
     /// places. Else it knows them after the first value that is recorded, if memory is not refused.
     ///
-    /// Refuses, in this order: `Closed`; `Stale` where the point is of another start; `Refused` as `measure` does, but for want of
-    /// memory, which never comes where the places are known. A refusal changes nothing. O(feeds of the instrument).
+    /// Refuses, in this order: `Closed`; `Stale` where the point is of another instance or another start; `Refused` as `measure` does,
+    /// but for want of memory, which never comes where the places are known. A refusal changes nothing. O(feeds of the instrument).
     ///
-    /// A point that another writer of the same start bound is at home here only where its places are those of this one: that
-    /// is asked of the caller, and no run looks for it.
+    /// Two writers of one instance and one start are no two incarnations, as the standard has it, but a program can make them. A point
+    /// that the one bound is at home in the other only where its places are those of that one: this alone is asked of the caller.
     #[tactic(auto, using(crate::proofs::Refusals::now_accepted))]
     pub fn measure_bound(&mut self, bound: &mut BoundPoint, value: i64) -> Result<(), BoundFault>
         requires { IsAtHome self.old bound.old }
         ensures ok { OnOk result (fault_now self.old (entry_at bound.old.point value) ≡ None) }
-        ensures fresh { OnOk result (bound.old.start ≡ self.old.start) }
+        ensures fresh { OnOk result (IsOfIncarnation self.old bound.old) }
         ensures value { OnOk result (self.new ≡ after_record self.old (entry_at bound.old.point value)) }
         ensures err { IfErr result (λ f. RefusesAt self.old bound.old value f) }
         ensures unchanged { OnErr result (self.new ≡ self.old) }
         ensures instrument { bound.new.point.instrument ≡ bound.old.point.instrument }
         ensures attrs { bound.new.point.attrs ≡ bound.old.point.attrs }
+        ensures instance { bound.new.instance ≡ bound.old.instance }
         ensures start { bound.new.start ≡ bound.old.start }
         ensures home { IsAtHome self.new bound.new }
     {
         if self.closed {
             return Err(BoundFault::Closed);
         }
-        if bound.start != self.start {
+        if bound.start != self.start || bound.instance != self.id.instance {
             return Err(BoundFault::Stale);
         }
         if let Err(fault) = self.tally.measure_bound(&mut bound.point, value) {
