@@ -9,7 +9,7 @@ use Rattle.agg_kit.specs.Recorders.{Recorded}
 use Rattle.agg_kit.specs.Tallies.{Tallied}
 use Rattle.plan_kit.specs.Plans.{AreFeeds, Planned, feeds_of}
 use Rattle.writer_kit.specs.Absorbing.{with_recordings}
-use Rattle.writer_kit.specs.BoundPoints.{IsAtHome}
+use Rattle.writer_kit.specs.BoundPoints.{IsAtHome, IsOfIncarnation}
 use Rattle.writer_kit.specs.Recording.{after_restart, after_record}
 use Rattle.writer_kit.specs.Refusals.{restart_fault}
 use Rattle.writer_kit.specs.Written.{Written}
@@ -38,7 +38,7 @@ keeps_restarted w start later s knows = All-weaker (IsKept w s.attrs) (IsKept (a
         record {
           attrs = k.attrs;
           begun = omega arith;
-          home = λ (same : b.start ≡ start). absurd (omega arith);
+          home = λ (same : IsOfIncarnation (after_restart w start) b). let again : b.start ≡ start = same.1 in absurd (omega arith);
         }
 
 pub keeps_measured : {U F : Type 0} (w v : Written) (e : Entry) (r : Result U F) → ((i : ℕ) → AreFeeds (length w.tally.plan.streams) (feeds_of w.tally.plan i))
@@ -76,11 +76,13 @@ knows_set w v s n old new keeps knows within was attrs begun home =
 
 -- and once a new one was put behind, where memory was given
 pub knows_push : (w v : Written) (s : HeldSet) (b : BoundPoint) (ok : Bool) (bs : List BoundPoint) → Keeps w v → KnowsPoints w s
-    → bs ≡ (if ok then s.points.items ++ b ∷ [] else s.points.items) → b.point.attrs ≡ s.attrs → b.start ≡ v.start → IsAtHome v b → All (IsKept v s.attrs) bs
-knows_push w v s b ok bs keeps knows is attrs start home = subst (All (IsKept v s.attrs)) (sym is) (by ok)
+    → bs ≡ (if ok then s.points.items ++ b ∷ [] else s.points.items) → b.point.attrs ≡ s.attrs → IsOfIncarnation v b → IsAtHome v b → All (IsKept v s.attrs) bs
+knows_push w v s b ok bs keeps knows is attrs here home = subst (All (IsKept v s.attrs)) (sym is) (by ok)
   where
     by : (t : Bool) → All (IsKept v s.attrs) (if t then s.points.items ++ b ∷ [] else s.points.items)
-    by true = All-push (IsKept v s.attrs) s.points.items b (keeps s knows) (record { attrs = attrs; begun = omega arith; home = home })
+    by true =
+        let start : b.start ≡ v.start = here.1 in
+        All-push (IsKept v s.attrs) s.points.items b (keeps s knows) (record { attrs = attrs; begun = omega arith; home = home })
     by false = keeps s knows
 
 pub attrs_stay : (ss : List HeldSet) (n : ℕ) (t : HeldSet) → n < length ss → t.attrs ≡ (get_or ss n t).attrs → map attrs_of (set ss n t) ≡ map attrs_of ss

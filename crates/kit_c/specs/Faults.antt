@@ -5,7 +5,7 @@ use Rattle.std.specs.Str.{is_utf8}
 use Rattle.agg_kit.specs.Entries.{entry_of}
 use Rattle.attr_kit.specs.Putting.{pairs_fault}
 use Rattle.attr_kit.specs.Refusing.{first, when}
-use Rattle.writer_kit.specs.Refusals.{collect_fault, fault_now, restart_fault}
+use Rattle.writer_kit.specs.Refusals.{collect_fault, early_fault, fault_now, restart_fault}
 use Rattle.kit_c.specs.Handles.{pairs_of}
 use Rattle.kit_c.specs.declared.fault.Fault.{Fault}
 use Rattle.kit_c.specs.declared.fault.Fault.TheVariants as faults
@@ -29,6 +29,11 @@ text_fault bytes = when (not (is_utf8 bytes)) faults.NotText
 abbrev pub recording_fault : ℕ → ℤ → Content → Content → Option Fault
 recording_fault i x (Writer h) (Attributes a) = option_map (λ f. faults.Measure f) (fault_now h.writer (entry_of i a x))
 recording_fault i x it other = Some faults.WrongKind
+
+-- what is looked for before a recording takes memory
+abbrev pub early_recording_fault : ℕ → ℤ → Content → Content → Option Fault
+early_recording_fault i x (Writer h) (Attributes a) = option_map (λ f. faults.Measure f) (early_fault h.writer (entry_of i a x))
+early_recording_fault i x it other = Some faults.WrongKind
 
 -- a handle that is to be filled has something
 abbrev pub full_fault : Option Content → Option Fault

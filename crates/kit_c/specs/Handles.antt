@@ -1,6 +1,7 @@
 -- What calls make of what handles have.
 use Rattle.std.specs.Prelude.{ℕ, ℤ, Bool, List, [], Option, Some, None}
 use Rattle.agg_kit.specs.Entries.{entry_of}
+use Rattle.agg_kit.specs.Feeds.{IsHeld}
 use Rattle.attr_kit.specs.declared.attr_value.AttrValue.{AttrValue}
 use Rattle.writer_kit.specs.Recording.{after_collect, after_restart, after_record}
 use Rattle.kit_c.specs.declared.content.Content.{Content}
@@ -15,6 +16,11 @@ after_recording i x it other = it
 abbrev pub in_first : (Content → Content → Content) → Option Content → Option Content → Option Content
 in_first change (Some h) (Some other) = Some (change h other)
 in_first change m n = m
+
+-- the points of a recording are there, so that it takes no memory
+abbrev pub HasPoints : ℕ → ℤ → Option Content → Option Content → Type 0
+HasPoints i x (Some (Writer h)) (Some (Attributes a)) = IsHeld h.writer.tally (entry_of i a x)
+HasPoints i x m n = ⊥
 
 -- the pairs that a handle has
 abbrev pub pairs_of : Option Content → List (List ℕ × AttrValue)

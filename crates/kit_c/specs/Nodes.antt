@@ -3,7 +3,7 @@ use Rattle.std.specs.Prelude.{◌≡◌, ℕ, [], ◌∷◌, Option, Some, None}
 use Rattle.std.specs.FinMap as finite
 use Rattle.std.specs.Option.{option_map}
 use Rattle.gateway_kit.specs.GatewayState.{GatewayState}
-use Rattle.gossip_kit.specs.Gossip.{acked_after, acknowledged, answer_of, carried_to, delta_to, hand_fault, Brings, CarriesHeld, Renumbers}
+use Rattle.gossip_kit.specs.Gossip.{acked_after, acknowledged, answer_of, carried_to, delta_to, first_node, hand_fault, Brings, CarriesHeld, Renumbers}
 use Rattle.gossip_kit.specs.Views.{MessageModel, NodeModel}
 use Rattle.point_kit.specs.Exports.{Points, state, join_points, changed_points}
 use Rattle.kit_c.specs.declared.fault.Fault.{Fault}
@@ -11,17 +11,9 @@ use Rattle.kit_c.specs.declared.fault.Fault.TheVariants as faults
 use Rattle.kit_c.specs.declared.content.Content.{Content}
 use Rattle.kit_c.specs.declared.content.Content.TheVariants.{Export, Gateway, Message, Node}
 
--- a node has a gateway's points, has not changed yet, and nobody acknowledged anything to it
-pub record Begins (g : GatewayState) (n : NodeModel) : Type 0 where
-  pub id : n.gateway.id ≡ g.id
-  pub points : n.gateway.points ≡ g.points
-  pub change : n.change ≡ 0
-  pub numbers : n.gateway.numbers ≡ finite.empty
-  pub acked : n.acked ≡ finite.empty
-
--- the same of handles: the second has the node of the first one's gateway
+-- the second handle has a node of the first one's gateway, as it is before any change
 abbrev pub IsNodeOf : Option Content → Option Content → Type 0
-IsNodeOf (Some (Gateway g)) (Some (Node n)) = Begins g n
+IsNodeOf (Some (Gateway g)) (Some (Node n)) = n ≡ first_node g
 IsNodeOf m n = ⊥
 
 -- a thing is no node

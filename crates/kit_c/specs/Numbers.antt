@@ -2,6 +2,7 @@
 use Rattle.std.specs.Prelude.{ℕ, ℤ, [], ◌∷◌, ◌++◌, length, slice_get, Option, Some, None}
 use Rattle.std.specs.Option.{option_map}
 use Rattle.agg_kit.specs.Entries.{entry_of}
+use Rattle.agg_kit.specs.Feeds.{IsHeld}
 use Rattle.attr_kit.specs.declared.attr_set.AttrSet.{AttrSet}
 use Rattle.writer_kit.specs.Recording.{after_record}
 use Rattle.writer_kit.specs.Refusals.{fault_now}
@@ -35,6 +36,11 @@ abbrev pub recorded_at : ℕ → ℤ → Written → Option AttrSet → Written
 recorded_at i x w (Some a) = after_record w (entry_of i a x)
 recorded_at i x w None = w
 
+-- the points of such a recording are there, so that it takes no memory
+abbrev pub HasPointsAt : ℕ → ℤ → Written → Option AttrSet → Type 0
+HasPointsAt i x w (Some a) = IsHeld w.tally (entry_of i a x)
+HasPointsAt i x w None = ⊥
+
 -- a recording at the set of a number
 abbrev pub numbered_fault : ℕ → ℕ → ℤ → Content → Option Fault
 numbered_fault i n x (Writer h) = set_fault i x h.writer (slice_get h.sets n)
@@ -43,3 +49,7 @@ numbered_fault i n x it = Some faults.WrongKind
 abbrev pub after_numbered : ℕ → ℕ → ℤ → Content → Content
 after_numbered i n x (Writer h) = Writer (record h { writer = recorded_at i x h.writer (slice_get h.sets n) })
 after_numbered i n x it = it
+
+abbrev pub HasNumberedPoints : ℕ → ℕ → ℤ → Option Content → Type 0
+HasNumberedPoints i n x (Some (Writer h)) = HasPointsAt i x h.writer (slice_get h.sets n)
+HasNumberedPoints i n x m = ⊥

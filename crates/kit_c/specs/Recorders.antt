@@ -1,9 +1,12 @@
 -- Recorders behind handles: what they record, and writers that take them in.
-use Rattle.std.specs.Prelude.{◌≡◌, ◌≢◌, ℕ, ℤ, Bool, slice_get, Option, Some, None, IsTrue, ◌↔◌}
+use Rattle.std.specs.Prelude.{◌≡◌, ◌≢◌, ℕ, ℤ, Bool, false, slice_get, Option, Some, None, IsTrue, ◌↔◌}
 use Rattle.std.specs.Option.{option_map}
-use Rattle.agg_kit.specs.Entries.{entry_of}
-use Rattle.agg_kit.specs.Recorders.{Recorded, empty_recorder, record_fault_of, recorder_after}
+use Rattle.agg_kit.specs.Entries.{Entry, entry_of}
+use Rattle.agg_kit.specs.Feeds.{IsHeld}
+use Rattle.agg_kit.specs.Recorders.{Recorded, empty_recorder, record_fault_of, recorder_after, tally_in}
+use Rattle.agg_kit.specs.Stamps.{has_noted}
 use Rattle.attr_kit.specs.declared.attr_set.AttrSet.{AttrSet}
+use Rattle.plan_kit.specs.Plans.{feeds_of}
 use Rattle.writer_kit.specs.Absorbing.{absorb_fault, no_memory_for, with_recordings}
 use Rattle.kit_c.specs.Holdings.{Holding}
 use Rattle.kit_c.specs.RecorderSets.{Recording}
@@ -31,6 +34,14 @@ abbrev pub after_record : ℕ → ℤ → Content → Content → Content
 after_record i x (Recorder r) (Attributes a) = Recorder (record r { recorder = recorder_after r.recorder (entry_of i a x) })
 after_record i x h other = h
 
+-- no recording like this one takes memory: its points are there, and no feed leads to a gauge or a sum that may fall
+abbrev pub IsOwnHeld : Recorded → Entry → Type 0
+IsOwnHeld r e = IsHeld (tally_in r) e × (has_noted r.plan (feeds_of r.plan e.instrument) ≡ false)
+
+abbrev pub HasOwnPoints : ℕ → ℤ → Option Content → Option Content → Type 0
+HasOwnPoints i x (Some (Recorder r)) (Some (Attributes a)) = IsOwnHeld r.recorder (entry_of i a x)
+HasOwnPoints i x m n = ⊥
+
 -- a recording at a set that there may not be
 abbrev pub own_set_fault : ℕ → ℤ → Recorded → Option AttrSet → Option Fault
 own_set_fault i x r (Some a) = option_map (λ f. faults.Record f) (record_fault_of r (entry_of i a x))
@@ -40,6 +51,10 @@ abbrev pub recorder_at : ℕ → ℤ → Recorded → Option AttrSet → Recorde
 recorder_at i x r (Some a) = recorder_after r (entry_of i a x)
 recorder_at i x r None = r
 
+abbrev pub HasOwnPointsAt : ℕ → ℤ → Recorded → Option AttrSet → Type 0
+HasOwnPointsAt i x r (Some a) = IsOwnHeld r (entry_of i a x)
+HasOwnPointsAt i x r None = ⊥
+
 -- a recording at the set of a number
 abbrev pub number_fault : ℕ → ℕ → ℤ → Content → Option Fault
 number_fault i n x (Recorder r) = own_set_fault i x r.recorder (slice_get r.sets n)
@@ -48,6 +63,10 @@ number_fault i n x h = Some faults.WrongKind
 abbrev pub after_number : ℕ → ℕ → ℤ → Content → Content
 after_number i n x (Recorder r) = Recorder (record r { recorder = recorder_at i x r.recorder (slice_get r.sets n) })
 after_number i n x h = h
+
+abbrev pub HasOwnNumberedPoints : ℕ → ℕ → ℤ → Option Content → Type 0
+HasOwnNumberedPoints i n x (Some (Recorder r)) = HasOwnPointsAt i x r.recorder (slice_get r.sets n)
+HasOwnNumberedPoints i n x m = ⊥
 
 -- a thing is no recorder
 abbrev pub recorder_fault : Content → Option Fault

@@ -2,13 +2,14 @@
 ghost use Rattle.std.specs.Prelude.{◌≡◌, ◌≢◌, ◌<◌, ◌≤◌, false, ◌++◌, ◌∷◌, [], map, length, slice_get, All, None, Some, OnOk, OnErr, IfErr, IfOk, IfSome};
 ghost use Rattle.agg_kit.specs.BoundPoints.{entry_at};
 ghost use Rattle.agg_kit.specs.Entries.{entry_of};
+ghost use Rattle.agg_kit.specs.Feeds.{IsHeld};
 ghost use Rattle.kit_c.specs.Codes.{code_of, no_memory as refused_memory};
 ghost use Rattle.kit_c.specs.Holdings.{IsPlaceOf, Keeps, KnowsPoints, attrs_of};
-ghost use Rattle.kit_c.specs.Numbers.{recorded_at, set_fault};
+ghost use Rattle.kit_c.specs.Numbers.{HasPointsAt, recorded_at, set_fault};
 ghost use Rattle.kit_c.specs.Recorders.{Absorbs, WhyNotAbsorbed};
 ghost use Rattle.writer_kit.specs.BoundPoints.{IsAtHome};
 ghost use Rattle.writer_kit.specs.Recording.{after_collect, after_restart, after_record};
-ghost use Rattle.writer_kit.specs.Refusals.{fault_now, no_memory, restart_fault};
+ghost use Rattle.writer_kit.specs.Refusals.{early_fault, fault_now, no_memory, restart_fault};
 
 use crate::fault::Fault;
 use crate::recorder::HoldingRecorder;
@@ -46,6 +47,7 @@ fn measure_at_point(
     ensures ok { OnOk result (fault_now writer.old (entry_at point.old.point value) ≡ None) }
     ensures value { OnOk result (writer.new ≡ after_record writer.old (entry_at point.old.point value)) }
     ensures err { IfErr result (λ f. f ≢ no_memory → fault_now writer.old (entry_at point.old.point value) ≡ Some f) }
+    ensures held { IsHeld writer.old.tally (entry_at point.old.point value) → IfErr result (λ f. f ≢ no_memory) }
     ensures unchanged { OnErr result (writer.new ≡ writer.old) }
     ensures instrument { point.new.point.instrument ≡ point.old.point.instrument }
     ensures attrs { point.new.point.attrs ≡ point.old.point.attrs }
@@ -75,6 +77,7 @@ fn measure_at_set(
     ensures ok { OnOk result (fault_now writer.old (entry_of instrument set.old.attrs value) ≡ None) }
     ensures value { OnOk result (writer.new ≡ after_record writer.old (entry_of instrument set.old.attrs value)) }
     ensures err { IfErr result (λ f. f ≢ no_memory → fault_now writer.old (entry_of instrument set.old.attrs value) ≡ Some f) }
+    ensures held { IsHeld writer.old.tally (entry_of instrument set.old.attrs value) → IfErr result (λ f. f ≢ no_memory) }
     ensures unchanged { OnErr result (writer.new ≡ writer.old) }
     ensures attrs { set.new.attrs ≡ set.old.attrs }
     ensures knows { KnowsPoints writer.new set.new }
@@ -93,7 +96,7 @@ fn measure_at_set(
 }
 
 // Records at the set of a number.
-#[tactic(auto, using(crate::proofs::Holdings::attrs_stay, crate::proofs::Holdings::attrs_read, crate::proofs::Holdings::attrs_past))]
+#[tactic(auto, using(crate::proofs::Holdings::attrs_stay, crate::proofs::Holdings::attrs_read, crate::proofs::Holdings::attrs_past, crate::proofs::Codes::memory_of_recording))]
 fn measure_by_number(
     writer: &mut Writer,
     sets: &mut Vec<HeldSet>,
@@ -107,6 +110,8 @@ fn measure_by_number(
         ≡ recorded_at instrument value writer.old (slice_get (map attrs_of sets.old.items) number)) }
     ensures err { IfErr result (λ f. code_of f ≢ refused_memory
         → set_fault instrument value writer.old (slice_get (map attrs_of sets.old.items) number) ≡ Some f) }
+    ensures held { HasPointsAt instrument value writer.old (slice_get (map attrs_of sets.old.items) number)
+        → IfErr result (λ f. code_of f ≢ refused_memory) }
     ensures unchanged { OnErr result (writer.new ≡ writer.old) }
     ensures sets { map attrs_of sets.new.items ≡ map attrs_of sets.old.items }
     ensures knows { All (KnowsPoints writer.new) sets.new.items }
@@ -174,6 +179,8 @@ impl HoldingWriter {
         ensures value { OnOk result (self.new
             ≡ record self.old { writer = after_record self.old.writer (entry_of instrument attrs.now value) }) }
         ensures err { IfErr result (λ f. f ≢ no_memory → fault_now self.old.writer (entry_of instrument attrs.now value) ≡ Some f) }
+        ensures short { IfErr result (λ f. f ≡ no_memory → early_fault self.old.writer (entry_of instrument attrs.now value) ≡ None) }
+        ensures held { IsHeld self.old.writer.tally (entry_of instrument attrs.now value) → IfErr result (λ f. f ≢ no_memory) }
         ensures unchanged { OnErr result (self.new ≡ self.old) }
     {
         // What the plan says of the feeds of all its instruments.
@@ -205,6 +212,8 @@ impl HoldingWriter {
             { writer = recorded_at instrument value self.old.writer (slice_get self.old.sets number) }) }
         ensures err { IfErr result (λ f. code_of f ≢ refused_memory
             → set_fault instrument value self.old.writer (slice_get self.old.sets number) ≡ Some f) }
+        ensures held { HasPointsAt instrument value self.old.writer (slice_get self.old.sets number)
+            → IfErr result (λ f. code_of f ≢ refused_memory) }
         ensures unchanged { OnErr result (self.new ≡ self.old) }
     {
         measure_by_number(&mut self.writer, &mut self.sets, instrument, number, value)
@@ -224,6 +233,7 @@ impl HoldingWriter {
         ensures ok { OnOk result (restart_fault self.old.writer start ≡ None) }
         ensures value { OnOk result (self.new ≡ record self.old { writer = after_restart self.old.writer start }) }
         ensures err { IfErr result (λ f. f ≢ RestartFault.NoMemory → restart_fault self.old.writer start ≡ Some f) }
+        ensures short { IfErr result (λ f. f ≡ RestartFault.NoMemory → restart_fault self.old.writer start ≡ None) }
         ensures unchanged { OnErr result (self.new ≡ self.old) }
     {
         self.writer.restart(start)

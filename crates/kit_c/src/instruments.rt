@@ -22,7 +22,7 @@ use std::alloc::Global;
 pub(crate) fn kind_of(number: u8) -> Result<Kind, Fault>
     ensures ok { OnOk result (kind_fault number ≡ None) }
     ensures value { IfOk result (λ kind. numbered_kind number ≡ Some kind) }
-    ensures err { IfErr result (λ f. code_of f ≢ no_memory → kind_fault number ≡ Some f) }
+    ensures err { IfErr result (λ f. kind_fault number ≡ Some f) }
 {
     match number {
         0 => Ok(Kind::Counter),

@@ -20,7 +20,8 @@
 //!     MUST(kit_writer_collect(&writer, 200, &collected, &place));
 //!
 //! A call answers 0, or the code of the first refusal that fits; then each handle is as it was. Which refusal of the kit a code stands for
-//! is a definition (specs `Codes`), which each export's contract cites.
+//! is a definition (specs `Codes`), which each export's contract cites. `NO_MEMORY` stands last in each list of refusals; it may come
+//! earlier, wherever memory is refused, but where a clause `short` says that nothing else fits then.
 #![tactic(auto)]
 
 mod ask;

@@ -4,7 +4,7 @@ ghost use Rattle.agg_kit.specs.Entries.{entry_of};
 ghost use Rattle.agg_kit.specs.Recorders.{empty_recorder, record_fault_of, recorder_after};
 ghost use Rattle.kit_c.specs.Codes.{code_of, no_memory as refused_memory};
 ghost use Rattle.kit_c.specs.RecorderSets.{IsBoundPlace, KeepsOwn, KnowNothing, KnowsOwnPoints, attrs_in};
-ghost use Rattle.kit_c.specs.Recorders.{own_set_fault, recorder_at};
+ghost use Rattle.kit_c.specs.Recorders.{HasOwnPointsAt, IsOwnHeld, own_set_fault, recorder_at};
 ghost use Rattle.writer_kit.specs.Absorbing.{absorb_fault, no_memory_for, with_recordings};
 
 use crate::fault::Fault;
@@ -48,6 +48,7 @@ fn measure_at_set(
     ensures value { OnOk result (recorder.new ≡ recorder_after recorder.old (entry_of instrument set.old.attrs value)) }
     ensures err { IfErr result (λ f. f ≢ RecordFault.NoMemory
         → record_fault_of recorder.old (entry_of instrument set.old.attrs value) ≡ Some f) }
+    ensures held { IsOwnHeld recorder.old (entry_of instrument set.old.attrs value) → IfErr result (λ f. f ≢ RecordFault.NoMemory) }
     ensures unchanged { OnErr result (recorder.new ≡ recorder.old) }
     ensures attrs { set.new.attrs ≡ set.old.attrs }
     ensures knows { KnowsOwnPoints recorder.new set.new }
@@ -66,7 +67,7 @@ fn measure_at_set(
 }
 
 // Records at the set of a number.
-#[tactic(auto, using(crate::proofs::RecorderSets::attrs_stay, crate::proofs::RecorderSets::attrs_read, crate::proofs::RecorderSets::attrs_past))]
+#[tactic(auto, using(crate::proofs::RecorderSets::attrs_stay, crate::proofs::RecorderSets::attrs_read, crate::proofs::RecorderSets::attrs_past, crate::proofs::Codes::memory_of_record))]
 fn measure_by_number(
     recorder: &mut Recorder,
     sets: &mut Vec<RecorderSet>,
@@ -80,6 +81,8 @@ fn measure_by_number(
         ≡ recorder_at instrument value recorder.old (slice_get (map attrs_in sets.old.items) number)) }
     ensures err { IfErr result (λ f. code_of f ≢ refused_memory
         → own_set_fault instrument value recorder.old (slice_get (map attrs_in sets.old.items) number) ≡ Some f) }
+    ensures held { HasOwnPointsAt instrument value recorder.old (slice_get (map attrs_in sets.old.items) number)
+        → IfErr result (λ f. code_of f ≢ refused_memory) }
     ensures unchanged { OnErr result (recorder.new ≡ recorder.old) }
     ensures sets { map attrs_in sets.new.items ≡ map attrs_in sets.old.items }
     ensures knows { All (KnowsOwnPoints recorder.new) sets.new.items }
@@ -166,6 +169,7 @@ impl HoldingRecorder {
             ≡ record self.old { recorder = recorder_after self.old.recorder (entry_of instrument attrs.now value) }) }
         ensures err { IfErr result (λ f. f ≢ RecordFault.NoMemory
             → record_fault_of self.old.recorder (entry_of instrument attrs.now value) ≡ Some f) }
+        ensures held { IsOwnHeld self.old.recorder (entry_of instrument attrs.now value) → IfErr result (λ f. f ≢ RecordFault.NoMemory) }
         ensures unchanged { OnErr result (self.new ≡ self.old) }
     {
         // What the plan says of the feeds of all its instruments.
@@ -185,6 +189,8 @@ impl HoldingRecorder {
             { recorder = recorder_at instrument value self.old.recorder (slice_get self.old.sets number) }) }
         ensures err { IfErr result (λ f. code_of f ≢ refused_memory
             → own_set_fault instrument value self.old.recorder (slice_get self.old.sets number) ≡ Some f) }
+        ensures held { HasOwnPointsAt instrument value self.old.recorder (slice_get self.old.sets number)
+            → IfErr result (λ f. code_of f ≢ refused_memory) }
         ensures unchanged { OnErr result (self.new ≡ self.old) }
     {
         measure_by_number(

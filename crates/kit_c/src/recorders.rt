@@ -6,7 +6,7 @@ ghost use Rattle.kit_c.specs.Codes.{code_of, no_memory};
 ghost use Rattle.kit_c.specs.Desks.{TwoRefused};
 ghost use Rattle.kit_c.specs.Faults.{full_fault, of_one, of_two};
 ghost use Rattle.kit_c.specs.Handles.{in_first, in_one};
-ghost use Rattle.kit_c.specs.Recorders.{AbsorbRefused, HasAbsorbed, IsRecorderOf, TellsEmpty, after_number, after_record, number_fault, opening_fault, record_fault, recorder_fault};
+ghost use Rattle.kit_c.specs.Recorders.{AbsorbRefused, HasAbsorbed, HasOwnNumberedPoints, HasOwnPoints, IsRecorderOf, TellsEmpty, after_number, after_record, number_fault, opening_fault, record_fault, recorder_fault};
 
 use crate::content::Content;
 use crate::fault::{FULL, Fault, NOTHING, OK, code_with_place};
@@ -57,6 +57,7 @@ pub extern "C" fn kit_recorder_open(
     }
 }
 
+#[tactic(auto, using(crate::proofs::Codes::memory_of_record))]
 fn measure_at_recorder(
     content: &mut Content,
     instrument: usize,
@@ -66,6 +67,7 @@ fn measure_at_recorder(
     ensures ok { OnOk result (record_fault instrument value content.old set.now ≡ None) }
     ensures value { OnOk result (content.new ≡ after_record instrument value content.old set.now) }
     ensures err { IfErr result (λ f. code_of f ≢ no_memory → record_fault instrument value content.old set.now ≡ Some f) }
+    ensures held { HasOwnPoints instrument value (Some content.old) (Some set.now) → IfErr result (λ f. code_of f ≢ no_memory) }
     ensures unchanged { OnErr result (content.new ≡ content.old) }
 {
     let Content::Recorder(recorder) = content else {
@@ -86,7 +88,8 @@ fn measure_at_recorder(
 /// Refused, in this order: `NOTHING` of the recorder, then of the attributes; `WRONG_KIND`; `RECORDER_FULL` where a stream of the
 /// instrument has points for as many sets as the limit says; `NO_INSTRUMENT`; `NEGATIVE`; `RECORDER_FULL` where a sum would leave its
 /// range; `NO_MEMORY`. A full recorder is taken in by a writer (`kit_writer_absorb`), and records again; what an
-/// empty one refuses so is recorded by the writer itself. O(feeds of the instrument).
+/// empty one refuses so is recorded by the writer itself. O(feeds of the instrument); no memory where every feed keeps all keys, its
+/// stream has the point, and is neither a gauge nor a sum that may fall.
 #[unsafe(no_mangle)]
 pub extern "C" fn kit_recorder_measure(
     alloc: Global,
@@ -100,6 +103,7 @@ pub extern "C" fn kit_recorder_measure(
         ≡ in_first (after_record instrument value) recorder.old.inner.value attributes.old.inner.value }
     ensures err { result ≢ pos 0 → result ≢ no_memory
         → option_map code_of (of_two recorder.old.inner.value attributes.old.inner.value (record_fault instrument value)) ≡ Some result }
+    ensures held { HasOwnPoints instrument value recorder.old.inner.value attributes.old.inner.value → result ≢ no_memory }
     ensures unchanged { result ≢ pos 0 → recorder.new.inner.value ≡ recorder.old.inner.value }
     ensures kept { attributes.new.inner.value ≡ attributes.old.inner.value }
 {
@@ -128,6 +132,7 @@ fn measure_held_at_recorder(
     ensures ok { OnOk result (number_fault instrument number value content.old ≡ None) }
     ensures value { OnOk result (content.new ≡ after_number instrument number value content.old) }
     ensures err { IfErr result (λ f. code_of f ≢ no_memory → number_fault instrument number value content.old ≡ Some f) }
+    ensures held { HasOwnNumberedPoints instrument number value (Some content.old) → IfErr result (λ f. code_of f ≢ no_memory) }
     ensures unchanged { OnErr result (content.new ≡ content.old) }
 {
     let Content::Recorder(recorder) = content else {
@@ -153,6 +158,7 @@ pub extern "C" fn kit_recorder_measure_held(
         ≡ in_one (after_number instrument number value) recorder.old.inner.value }
     ensures err { result ≢ pos 0 → result ≢ no_memory
         → option_map code_of (of_one recorder.old.inner.value (number_fault instrument number value)) ≡ Some result }
+    ensures held { HasOwnNumberedPoints instrument number value recorder.old.inner.value → result ≢ no_memory }
     ensures unchanged { result ≢ pos 0 → recorder.new.inner.value ≡ recorder.old.inner.value }
 {
     let Some(mut content) = recorder.take(alloc) else {

@@ -90,13 +90,13 @@ fn set_kind(content: &mut Content, kind: Kind) -> Result<(), Fault>
 
 /// From now on a view is of instruments of one kind: 0 counters, 1 up-down counters, 2 gauges, 3 histograms.
 ///
-/// Refused, in this order: `BAD_NUMBER` where the kind is none of these; `NOTHING` and `WRONG_KIND` of the view; `NO_MEMORY`.
+/// Refused, in this order: `BAD_NUMBER` where the kind is none of these; `NOTHING` and `WRONG_KIND` of the view. Takes no memory.
 #[unsafe(no_mangle)]
 pub extern "C" fn kit_view_kind(alloc: Global, view: &mut KitHandle, kind: u8) -> i32
     ensures ok { result ≡ pos 0 → first (kind_fault kind ∷ of_one view.old.inner.value view_fault ∷ []) ≡ None }
     ensures value { result ≡ pos 0 → (k : _) → numbered_kind kind ≡ Some k
         → view.new.inner.value ≡ in_one (with_kind k) view.old.inner.value }
-    ensures err { result ≢ pos 0 → result ≢ no_memory
+    ensures err { result ≢ pos 0
         → option_map code_of (first (kind_fault kind ∷ of_one view.old.inner.value view_fault ∷ [])) ≡ Some result }
     ensures unchanged { result ≢ pos 0 → view.new.inner.value ≡ view.old.inner.value }
 {
@@ -237,7 +237,7 @@ pub extern "C" fn kit_view_keep(alloc: Global, view: &mut KitHandle, keys: &mut 
 fn aggregation_of(number: u8) -> Result<Aggregation, Fault>
     ensures ok { OnOk result (aggregation_fault number ≡ None) }
     ensures value { IfOk result (λ a. numbered_aggregation number ≡ Some a) }
-    ensures err { IfErr result (λ f. code_of f ≢ no_memory → aggregation_fault number ≡ Some f) }
+    ensures err { IfErr result (λ f. aggregation_fault number ≡ Some f) }
 {
     match number {
         0 => Ok(Aggregation::Default),
@@ -263,13 +263,13 @@ fn set_aggregation(content: &mut Content, aggregation: Aggregation) -> Result<()
 
 /// From now on a view aggregates so: 0 as the kind of the instrument does, 1 a sum, 2 the last value, 3 not at all.
 ///
-/// Refused, in this order: `BAD_NUMBER` where the number is none of these; `NOTHING` and `WRONG_KIND` of the view; `NO_MEMORY`.
+/// Refused, in this order: `BAD_NUMBER` where the number is none of these; `NOTHING` and `WRONG_KIND` of the view. Takes no memory.
 #[unsafe(no_mangle)]
 pub extern "C" fn kit_view_aggregation(alloc: Global, view: &mut KitHandle, number: u8) -> i32
     ensures ok { result ≡ pos 0 → first (aggregation_fault number ∷ of_one view.old.inner.value view_fault ∷ []) ≡ None }
     ensures value { result ≡ pos 0 → (a : _) → numbered_aggregation number ≡ Some a
         → view.new.inner.value ≡ in_one (with_aggregation a) view.old.inner.value }
-    ensures err { result ≢ pos 0 → result ≢ no_memory
+    ensures err { result ≢ pos 0
         → option_map code_of (first (aggregation_fault number ∷ of_one view.old.inner.value view_fault ∷ [])) ≡ Some result }
     ensures unchanged { result ≢ pos 0 → view.new.inner.value ≡ view.old.inner.value }
 {

@@ -3,11 +3,11 @@ ghost use Rattle.std.specs.Prelude.{◌≡◌, ◌≢◌, ◌∷◌, [], pos, tr
 ghost use Rattle.std.specs.Option.{option_map};
 ghost use Rattle.attr_kit.specs.Refusing.{first};
 ghost use Rattle.kit_c.specs.Codes.{code_of, no_memory};
-ghost use Rattle.kit_c.specs.Faults.{collecting_fault, collection_fault, full_fault, of_one, of_two, recording_fault, restarting_fault, starting_fault, text_fault};
-ghost use Rattle.kit_c.specs.Handles.{after_collection, after_recording, after_restarting, in_first, in_one};
+ghost use Rattle.kit_c.specs.Faults.{collecting_fault, collection_fault, early_recording_fault, full_fault, of_one, of_two, recording_fault, restarting_fault, starting_fault, text_fault};
+ghost use Rattle.kit_c.specs.Handles.{HasPoints, after_collection, after_recording, after_restarting, in_first, in_one};
 ghost use Rattle.kit_c.specs.Places.{place_after};
 ghost use Rattle.kit_c.specs.declared.content.Content.TheVariants as things;
-ghost use Rattle.kit_c.specs.Numbers.{after_holding, after_numbered, holding_fault, numbered_fault, sets_len};
+ghost use Rattle.kit_c.specs.Numbers.{HasNumberedPoints, after_holding, after_numbered, holding_fault, numbered_fault, sets_len};
 ghost use Rattle.kit_c.specs.Writers.{HasStarted, IsCollection, instance_of};
 
 use crate::content::Content;
@@ -83,6 +83,7 @@ pub extern "C" fn kit_writer_start(
     }
 }
 
+#[tactic(auto, using(crate::proofs::Codes::memory_of_recording))]
 fn measure_at_writer(
     content: &mut Content,
     instrument: usize,
@@ -92,6 +93,8 @@ fn measure_at_writer(
     ensures ok { OnOk result (recording_fault instrument value content.old set.now ≡ None) }
     ensures value { OnOk result (content.new ≡ after_recording instrument value content.old set.now) }
     ensures err { IfErr result (λ f. code_of f ≢ no_memory → recording_fault instrument value content.old set.now ≡ Some f) }
+    ensures short { IfErr result (λ f. code_of f ≡ no_memory → early_recording_fault instrument value content.old set.now ≡ None) }
+    ensures held { HasPoints instrument value (Some content.old) (Some set.now) → IfErr result (λ f. code_of f ≢ no_memory) }
     ensures unchanged { OnErr result (content.new ≡ content.old) }
 {
     let Content::Writer(writer) = content else {
@@ -110,8 +113,8 @@ fn measure_at_writer(
 /// Metrics API, "Counter", "Histogram", "Gauge").
 ///
 /// Refused, in this order: `NOTHING` of the writer, then of the attributes; `WRONG_KIND`; `CLOSED`; `NO_INSTRUMENT`; `NEGATIVE`;
-/// `OVERFLOW` with the stream; `NO_MEMORY`. O(feeds of the instrument). Points that are there take no memory where every feed keeps all
-/// keys, which no clause says here.
+/// `OVERFLOW` with the stream; `NO_MEMORY`, but that a feed which keeps a list of keys may want memory before it and the feeds behind
+/// it are looked at. O(feeds of the instrument); no memory where every feed keeps all keys and its stream has the point.
 #[unsafe(no_mangle)]
 pub extern "C" fn kit_writer_measure(
     alloc: Global,
@@ -126,6 +129,9 @@ pub extern "C" fn kit_writer_measure(
         ≡ in_first (after_recording instrument value) writer.old.inner.value attributes.old.inner.value }
     ensures err { result ≢ pos 0 → result ≢ no_memory
         → option_map code_of (of_two writer.old.inner.value attributes.old.inner.value (recording_fault instrument value)) ≡ Some result }
+    ensures short { result ≡ no_memory
+        → of_two writer.old.inner.value attributes.old.inner.value (early_recording_fault instrument value) ≡ None }
+    ensures held { HasPoints instrument value writer.old.inner.value attributes.old.inner.value → result ≢ no_memory }
     ensures place { result ≢ no_memory → place.new
         ≡ place_after (of_two writer.old.inner.value attributes.old.inner.value (recording_fault instrument value)) place.old }
     ensures no_memory { result ≡ no_memory → place.new ≡ place.old }
@@ -213,6 +219,7 @@ fn measure_held_at_writer(
     ensures ok { OnOk result (numbered_fault instrument number value content.old ≡ None) }
     ensures value { OnOk result (content.new ≡ after_numbered instrument number value content.old) }
     ensures err { IfErr result (λ f. code_of f ≢ no_memory → numbered_fault instrument number value content.old ≡ Some f) }
+    ensures held { HasNumberedPoints instrument number value (Some content.old) → IfErr result (λ f. code_of f ≢ no_memory) }
     ensures unchanged { OnErr result (content.new ≡ content.old) }
 {
     let Content::Writer(writer) = content else {
@@ -238,6 +245,7 @@ pub extern "C" fn kit_writer_measure_held(
         ≡ in_one (after_numbered instrument number value) writer.old.inner.value }
     ensures err { result ≢ pos 0 → result ≢ no_memory
         → option_map code_of (of_one writer.old.inner.value (numbered_fault instrument number value)) ≡ Some result }
+    ensures held { HasNumberedPoints instrument number value writer.old.inner.value → result ≢ no_memory }
     ensures place { result ≢ no_memory
         → place.new ≡ place_after (of_one writer.old.inner.value (numbered_fault instrument number value)) place.old }
     ensures no_memory { result ≡ no_memory → place.new ≡ place.old }
@@ -255,7 +263,7 @@ pub extern "C" fn kit_writer_measure_held(
 }
 
 // Collects, and closes the writer where asked. The writer is marked last, where nothing can be refused any more.
-#[tactic(auto, using(writer_kit::proofs::Refusals::collect_open, writer_kit::proofs::Refusals::collect_later))]
+#[tactic(auto, using(writer_kit::proofs::Refusals::collect_open, writer_kit::proofs::Refusals::collect_later, crate::proofs::Codes::memory_of_collection))]
 fn collect_writer(
     alloc: Global,
     content: &mut Content,
@@ -266,6 +274,7 @@ fn collect_writer(
     ensures value { OnOk result (content.new ≡ after_collection time closing content.old) }
     ensures export { IfOk result (λ made. IsCollection time (Some content.old) (Some made.value)) }
     ensures err { IfErr result (λ f. code_of f ≢ no_memory → collection_fault time content.old ≡ Some f) }
+    ensures short { IfErr result (λ f. code_of f ≡ no_memory → collection_fault time content.old ≡ None) }
     ensures unchanged { OnErr result (content.new ≡ content.old) }
 {
     let Content::Writer(writer) = content else {
@@ -296,6 +305,7 @@ fn collect_into(
     ensures export { result ≡ pos 0 → IsCollection time writer.old.inner.value export.new.inner.value }
     ensures err { result ≢ pos 0 → result ≢ no_memory
         → option_map code_of (collecting_fault time writer.old.inner.value export.old.inner.value) ≡ Some result }
+    ensures short { result ≡ no_memory → collecting_fault time writer.old.inner.value export.old.inner.value ≡ None }
     ensures place { result ≢ no_memory
         → place.new ≡ place_after (collecting_fault time writer.old.inner.value export.old.inner.value) place.old }
     ensures no_memory { result ≡ no_memory → place.new ≡ place.old }
@@ -337,6 +347,7 @@ pub extern "C" fn kit_writer_collect(
     ensures export { result ≡ pos 0 → IsCollection time writer.old.inner.value export.new.inner.value }
     ensures err { result ≢ pos 0 → result ≢ no_memory
         → option_map code_of (collecting_fault time writer.old.inner.value export.old.inner.value) ≡ Some result }
+    ensures short { result ≡ no_memory → collecting_fault time writer.old.inner.value export.old.inner.value ≡ None }
     ensures place { result ≢ no_memory
         → place.new ≡ place_after (collecting_fault time writer.old.inner.value export.old.inner.value) place.old }
     ensures no_memory { result ≡ no_memory → place.new ≡ place.old }
@@ -362,6 +373,7 @@ pub extern "C" fn kit_writer_shutdown(
     ensures export { result ≡ pos 0 → IsCollection time writer.old.inner.value export.new.inner.value }
     ensures err { result ≢ pos 0 → result ≢ no_memory
         → option_map code_of (collecting_fault time writer.old.inner.value export.old.inner.value) ≡ Some result }
+    ensures short { result ≡ no_memory → collecting_fault time writer.old.inner.value export.old.inner.value ≡ None }
     ensures place { result ≢ no_memory
         → place.new ≡ place_after (collecting_fault time writer.old.inner.value export.old.inner.value) place.old }
     ensures no_memory { result ≡ no_memory → place.new ≡ place.old }
@@ -371,10 +383,12 @@ pub extern "C" fn kit_writer_shutdown(
     collect_into(alloc, writer, time, true, export, place)
 }
 
+#[tactic(auto, using(crate::proofs::Codes::memory_of_restart))]
 fn restart_writer(content: &mut Content, start: u64) -> Result<(), Fault>
     ensures ok { OnOk result (restarting_fault start content.old ≡ None) }
     ensures value { OnOk result (content.new ≡ after_restarting start content.old) }
     ensures err { IfErr result (λ f. code_of f ≢ no_memory → restarting_fault start content.old ≡ Some f) }
+    ensures short { IfErr result (λ f. code_of f ≡ no_memory → restarting_fault start content.old ≡ None) }
     ensures unchanged { OnErr result (content.new ≡ content.old) }
 {
     let Content::Writer(writer) = content else {
@@ -401,6 +415,7 @@ pub extern "C" fn kit_writer_restart(
     ensures value { result ≡ pos 0 → writer.new.inner.value ≡ in_one (after_restarting start) writer.old.inner.value }
     ensures err { result ≢ pos 0 → result ≢ no_memory
         → option_map code_of (of_one writer.old.inner.value (restarting_fault start)) ≡ Some result }
+    ensures short { result ≡ no_memory → of_one writer.old.inner.value (restarting_fault start) ≡ None }
     ensures place { result ≢ no_memory
         → place.new ≡ place_after (of_one writer.old.inner.value (restarting_fault start)) place.old }
     ensures no_memory { result ≡ no_memory → place.new ≡ place.old }

@@ -5,6 +5,7 @@ pub mod Pacing
 pub mod PlanFeeds
 pub mod Recording
 pub mod Refusals
+pub mod Room
 pub mod Schedules
 pub mod Shared
 pub mod Written

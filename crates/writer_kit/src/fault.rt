@@ -1,8 +1,9 @@
 //! Why a writer refuses.
 ghost use Rattle.std.specs.Prelude.{◌≡◌};
 
-use agg_kit::TallyFault;
+use agg_kit::{RecordFault, TallyFault};
 use attr_kit::NoMemory;
+use std::fmt::Display;
 use thiserror::Error;
 
 /// Why a recording is refused, in the order in which it is looked for.
@@ -22,8 +23,8 @@ pub enum BoundFault {
     /// The writer was shut down, and not restarted since.
     #[error("the writer is closed")]
     Closed,
-    /// The point was bound by another incarnation, one of another start.
-    #[error("the bound point is of another start")]
+    /// The point was bound by another incarnation: by a writer of another instance, or of another start.
+    #[error("the bound point is of another incarnation")]
     Stale,
     /// The tally of the writer refuses the recording; no memory is one of its refusals.
     #[error("the recording is refused: {0}")]
@@ -39,6 +40,22 @@ pub enum AbsorbFault {
     /// The tally of the writer refuses the recorder: a total of a stream would be out of range, or no memory.
     #[error("the recorder is refused: {0}")]
     Refused(TallyFault),
+}
+
+/// Why a value is recorded nowhere that a recorder was to record, and a writer was to take in first where that was full, in the
+/// order in which it is looked for. `A` says why a writer takes none in.
+#[derive(Debug, PartialEq, Eq, Drop, Error)]
+#[error_bound(A: Display)]
+pub enum RecordingFault<A> {
+    /// The recorder refuses the recording, and is not full. The writer was not asked.
+    #[error("the recording is refused: {0}")]
+    Recorder(RecordFault),
+    /// The recorder is full, and is not taken in.
+    #[error("the recorder is full, and not taken in: {0}")]
+    Absorb(A),
+    /// The recorder was full and was taken in. It holds nothing now, and refuses the recording; it is not full.
+    #[error("the recorder was taken in, and the recording is refused: {0}")]
+    Emptied(RecordFault),
 }
 
 /// Why a collection is refused, in the order in which it is looked for.

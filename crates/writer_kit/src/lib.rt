@@ -11,11 +11,13 @@
 //!   [`BoundPoint`] with no look, and refuses one of another incarnation by a [`BoundFault`].
 //! - `Writer::recorder` makes a [`Recorder`](agg_kit::Recorder) of the writer's plan, with which a thread records by itself.
 //!   `Writer::absorb` takes it in as if each of its recordings had been measured at the writer, one after the other
-//!   ([`absorbing_is_measuring`]), or answers an [`AbsorbFault`].
+//!   ([`absorbing_is_measuring`]), or answers an [`AbsorbFault`]. `Writer::record` records by a recorder, which it takes in first
+//!   where that is full. It answers whether there was [`Room`], or a [`RecordingFault`].
 //! - A [`SharedWriter`] is a writer that threads record with and collect from, each by a seat of its own. Whatever they do at
 //!   once, there is one history, and each round is that of all that the history has before it. `SharedWriter::absorb` takes a
-//!   thread's recorder in by one change, which the history tells as the recorder's recordings ([`histories_are_told`]). Contracts
-//!   speak of the history's entries, each a [`WriterChange`]. It is closed unless other seats are out ([`SeatsOut`]).
+//!   thread's recorder in by one change, which the history tells as the recorder's recordings ([`histories_are_told`]), and
+//!   `SharedWriter::record` does so where the recorder is full. Contracts speak of the history's entries, each a [`WriterChange`].
+//!   It is closed unless other seats are out ([`SeatsOut`]).
 //!
 //! A caller, from `crates/uses/src/recording.rt`:
 //!
@@ -30,22 +32,26 @@
 //! Times are nanoseconds since the Unix epoch. What contracts cite stands in `specs/`: `Written` (what contracts see of a
 //! writer), `Refusals`, `BoundPoints`, `Recording` (what accepted calls make of it), `Schedules` (the events that a writer
 //! accepts, and what is read off them), `Following` (what a writer is after them), `Absorbing` (recorders that a writer takes in),
-//! `Shared` (the history of a shared writer), `Pacing`.
+//! `Room` (recordings by a recorder that is taken in where it is full), `Shared` (the history of a shared writer), `Pacing`.
 #![tactic(auto)]
 
 mod bound;
 mod fault;
 mod laws;
 mod pace;
+mod room;
 mod shared;
 mod writer;
 
 pub use bound::BoundPoint;
-pub use fault::{AbsorbFault, BoundFault, CollectFault, MeasureFault, RestartFault};
+pub use fault::{
+    AbsorbFault, BoundFault, CollectFault, MeasureFault, RecordingFault, RestartFault,
+};
 pub use laws::{
     absorbing_is_measuring, histories_are_told, refusals_are_of_recordings, steps_are_events,
 };
 pub use pace::{DEFAULT_INTERVAL, Pace};
+pub use room::Room;
 pub use shared::{SeatsOut, SharedWriter, WriterChange};
 pub use writer::Writer;
 

@@ -3,16 +3,24 @@ ghost use Rattle.std.specs.Prelude.{◌≡◌, ◌≢◌, ◌<◌, ◌≤◌, []
 ghost use Rattle.agg_kit.specs.Entries.{entry_of};
 ghost use Rattle.agg_kit.specs.Feeds.{IsHeld};
 ghost use Rattle.agg_kit.specs.Rounds.{StandsFor};
-ghost use Rattle.agg_kit.specs.Recorders.{empty_recorder};
+ghost use Rattle.agg_kit.specs.Recorders.{empty_recorder, record_fault_of, recorder_after, tally_in};
+ghost use Rattle.agg_kit.specs.Stamps.{has_noted};
+ghost use Rattle.agg_kit.specs.Taken.{RecordsAlso};
+ghost use Rattle.plan_kit.specs.Plans.{feeds_of};
 ghost use Rattle.agg_kit.specs.BoundPoints.{HasInstrument, LacksInstrument, entry_at};
 ghost use Rattle.writer_kit.specs.Absorbing.{absorb_fault, no_memory_for, with_recordings};
-ghost use Rattle.writer_kit.specs.BoundPoints.{IsAtHome, RefusesAt};
+ghost use Rattle.writer_kit.specs.BoundPoints.{IsAtHome, IsOfIncarnation, RefusesAt};
 ghost use Rattle.writer_kit.specs.Following.{Follows};
 ghost use Rattle.writer_kit.specs.Recording.{after_record, after_collect, after_restart, round_now};
+ghost use Rattle.writer_kit.specs.Room.{recorder_at, recorder_left, RefusesApart, OnApart, OnTaken, AtApart, AtAbsorb, OnFull};
 ghost use Rattle.writer_kit.specs.Refusals.{no_memory, fault_now, early_fault, collect_fault, restart_fault};
 
-use crate::{AbsorbFault, BoundFault, BoundPoint, CollectFault, MeasureFault, RestartFault};
-use agg_kit::{Recorder, Tally, TallyFault};
+use crate::room::{record_apart, record_first};
+use crate::{
+    AbsorbFault, BoundFault, BoundPoint, CollectFault, MeasureFault, RecordingFault, RestartFault,
+    Room,
+};
+use agg_kit::{RecordFault, Recorder, Tally, TallyFault};
 use attr_kit::{AttrSet, NoMemory};
 use bumpalo::Bump;
 use plan_kit::Plan;
@@ -138,7 +146,8 @@ impl Writer {
     /// Refuses, in this order: `NoInstrument`, `NoMemory`. O(feeds of the instrument times the size of the attributes).
     pub fn bind(&self, instrument: usize, attrs: &AttrSet) -> Result<BoundPoint, TallyFault>
         ensures ok { OnOk result (HasInstrument self.now.tally instrument) }
-        ensures value { IfOk result (λ b. (b.point.instrument ≡ instrument) × (b.point.attrs ≡ attrs.now) × (b.start ≡ self.now.start)) }
+        ensures value { IfOk result (λ b. (b.point.instrument ≡ instrument) × (b.point.attrs ≡ attrs.now)) }
+        ensures incarnation { IfOk result (λ b. IsOfIncarnation self.now b) }
         ensures home { IfOk result (λ b. IsAtHome self.now b) }
         ensures err { IfErr result (λ f. f ≢ TallyFault.NoMemory
             → (f ≡ TallyFault.NoInstrument) × LacksInstrument self.now.tally instrument) }
@@ -146,6 +155,7 @@ impl Writer {
     {
         Ok(BoundPoint {
             point: self.tally.bind(instrument, attrs)?,
+            instance: self.id.instance,
             start: self.start,
         })
     }
@@ -155,38 +165,40 @@ impl Writer {
     pub fn rebind(&self, bound: &mut BoundPoint)
         ensures instrument { bound.new.point.instrument ≡ bound.old.point.instrument }
         ensures attrs { bound.new.point.attrs ≡ bound.old.point.attrs }
-        ensures start { bound.new.start ≡ self.now.start }
+        ensures incarnation { IsOfIncarnation self.now bound.new }
         ensures home { IsAtHome self.now bound.new }
     {
         self.tally.rebind(&mut bound.point);
+        bound.instance = self.id.instance;
         bound.start = self.start;
     }
 
     /// Records a value as `measure` does with the bound point's instrument and attributes, and looks up no set where it knows the
     /// places. Else it knows them after the first value that is recorded, if memory is not refused.
     ///
-    /// Refuses, in this order: `Closed`; `Stale` where the point is of another start; `Refused` as `measure` does, but for want of
-    /// memory, which never comes where the places are known. A refusal changes nothing. O(feeds of the instrument).
+    /// Refuses, in this order: `Closed`; `Stale` where the point is of another instance or another start; `Refused` as `measure` does,
+    /// but for want of memory, which never comes where the places are known. A refusal changes nothing. O(feeds of the instrument).
     ///
-    /// A point that another writer of the same start bound is at home here only where its places are those of this one: that
-    /// is asked of the caller, and no run looks for it.
+    /// Two writers of one instance and one start are no two incarnations, as the standard has it, but a program can make them. A point
+    /// that the one bound is at home in the other only where its places are those of that one: this alone is asked of the caller.
     #[tactic(auto, using(crate::proofs::Refusals::now_accepted))]
     pub fn measure_bound(&mut self, bound: &mut BoundPoint, value: i64) -> Result<(), BoundFault>
         requires { IsAtHome self.old bound.old }
         ensures ok { OnOk result (fault_now self.old (entry_at bound.old.point value) ≡ None) }
-        ensures fresh { OnOk result (bound.old.start ≡ self.old.start) }
+        ensures fresh { OnOk result (IsOfIncarnation self.old bound.old) }
         ensures value { OnOk result (self.new ≡ after_record self.old (entry_at bound.old.point value)) }
         ensures err { IfErr result (λ f. RefusesAt self.old bound.old value f) }
         ensures unchanged { OnErr result (self.new ≡ self.old) }
         ensures instrument { bound.new.point.instrument ≡ bound.old.point.instrument }
         ensures attrs { bound.new.point.attrs ≡ bound.old.point.attrs }
+        ensures instance { bound.new.instance ≡ bound.old.instance }
         ensures start { bound.new.start ≡ bound.old.start }
         ensures home { IsAtHome self.new bound.new }
     {
         if self.closed {
             return Err(BoundFault::Closed);
         }
-        if bound.start != self.start {
+        if bound.start != self.start || bound.instance != self.id.instance {
             return Err(BoundFault::Stale);
         }
         if let Err(fault) = self.tally.measure_bound(&mut bound.point, value) {
@@ -228,6 +240,51 @@ impl Writer {
             Ok(()) => Ok(()),
             Err(fault) => Err(AbsorbFault::Refused(fault)),
         }
+    }
+
+    /// Records a value by a recorder of the writer's plan. Where the recorder is full, takes in what it holds, as `absorb` does, and
+    /// records the value by the recorder, which holds nothing else then. Answers whether there was room. Rounds have the value
+    /// once the recorder is taken in again.
+    ///
+    /// Refuses, in this order: `Recorder` with what `Recorder::measure` refuses, but that it is full; `Absorb` with what `absorb`
+    /// refuses; `Emptied` where the recorder was taken in and refuses the value even so, for want of memory or for a cause that is
+    /// looked for after whether it is full. It is never full then. The value is recorded nowhere, and but for `Emptied` nothing
+    /// is changed. O(feeds of the instrument), and what `absorb` takes where the recorder is full.
+    pub fn record(
+        &mut self,
+        recorder: &mut Recorder,
+        instrument: usize,
+        attrs: &AttrSet,
+        value: i64,
+    ) -> Result<Room, RecordingFault<AbsorbFault>>
+        requires { recorder.old.plan ≡ self.old.tally.plan }
+        ensures plan { recorder.new.plan ≡ self.new.tally.plan }
+        // By the recorder as it was, or by one that holds nothing.
+        ensures ok { IfOk result (λ room. record_fault_of (recorder_at room recorder.old) (entry_of instrument attrs.now value) ≡ None) }
+        ensures value { IfOk result (λ room.
+            recorder.new ≡ recorder_after (recorder_at room recorder.old) (entry_of instrument attrs.now value)) }
+        ensures recorded { IfOk result (λ room.
+            RecordsAlso (recorder_at room recorder.old) (entry_of instrument attrs.now value) recorder.new) }
+        ensures full { OnFull result (record_fault_of recorder.old (entry_of instrument attrs.now value) ≡ Some RecordFault.Full) }
+        ensures apart { OnApart result (self.new ≡ self.old) }
+        ensures fits { OnTaken result (absorb_fault self.old recorder.old ≡ None) }
+        ensures taken { OnTaken result (self.new ≡ with_recordings self.old recorder.old) }
+        ensures err { IfErr result (RefusesApart recorder.old (entry_of instrument attrs.now value)) }
+        // Points that are there take no memory where every feed keeps all keys and none leads to a gauge or a sum that may fall.
+        ensures held { IsHeld (tally_in recorder.old) (entry_of instrument attrs.now value)
+            → has_noted recorder.old.plan (feeds_of recorder.old.plan instrument) ≡ false
+            → IfErr result (AtApart (λ f. f ≢ RecordFault.NoMemory)) }
+        ensures kept { IfErr result (λ f. recorder.new ≡ recorder_left f recorder.old) }
+        ensures refused { IfErr result (AtAbsorb (λ f. f ≢ no_memory_for → absorb_fault self.old recorder.old ≡ Some f)) }
+        ensures no_memory { IfErr result (AtAbsorb (λ f. f ≡ no_memory_for → self.old.closed ≡ false)) }
+        ensures unchanged { IfErr result (AtAbsorb (λ f. self.new ≡ self.old)) }
+    {
+        if record_apart(recorder, instrument, attrs, value).map_err(RecordingFault::Recorder)? {
+            return Ok(Room::Had);
+        }
+        self.absorb(recorder).map_err(RecordingFault::Absorb)?;
+        record_first(recorder, instrument, attrs, value).map_err(RecordingFault::Emptied)?;
+        Ok(Room::Made)
     }
 
     /// The points since the start, in an arena, as of a time. The writer stays as it is.

@@ -4,7 +4,8 @@ ghost use Rattle.writer_kit.specs.Shared.{IsAt};
 
 use super::*;
 use crate::tests::{counting_from, held};
-use crate::{CollectFault, MeasureFault};
+use crate::{AbsorbFault, CollectFault, MeasureFault, RecordingFault, Room};
+use agg_kit::TallyFault;
 use attr_kit::AttrSet;
 use bumpalo::Bump;
 use round_kit::{Round, RoundPayload};
@@ -190,5 +191,24 @@ fn a_new_seat_and_a_look_that_wait(rt: HostRuntime) -> Result<(), Fail> {
     };
     assert!(rt; measures(rt.alloc(), &shared, &mut seat, 3) == Ok(()));
     assert!(rt; shared.look(&rt, &mut other, HeldTotal) == Some(3));
+    Ok(())
+}
+
+#[test]
+fn a_full_recorder_is_taken_in(rt: HostRuntime) -> Result<(), Fail> {
+    let alloc = rt.alloc();
+    let none = AttrSet::empty(alloc);
+    let mut writer = counting_from(alloc, 100)?;
+    let mut recorder = writer.recorder(alloc)?;
+    assert!(rt; writer.record(&mut recorder, 0, &none, 1) == Ok(Room::Had));
+    let Ok((shared, mut seat)) = SharedWriter::new(alloc, writer, 8) else {
+        return Err("not shared".into());
+    };
+    let made = shared.try_record(&mut seat, &mut recorder, 0, &none, i64::MAX);
+    assert!(rt; made == Ok(Room::Made));
+    assert!(rt; collects(alloc, &shared, &mut seat, 200) == Ok(Some(1)));
+    let refused = shared.record(&rt, &mut seat, &mut recorder, 0, &none, 1);
+    let past = AbsorbFault::Refused(TallyFault::Overflow(0));
+    assert!(rt; refused == Err(RecordingFault::Absorb(ChangeFault::Refused(past))));
     Ok(())
 }

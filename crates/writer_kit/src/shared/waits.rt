@@ -1,14 +1,21 @@
 //! The calls that ask for the turn until they have it.
-ghost use Rattle.std.specs.Prelude.{◌≡◌, OnOk, OnErr, IfOk, IfErr};
-ghost use Rattle.agg_kit.specs.Recorders.{empty_recorder};
+ghost use Rattle.std.specs.Prelude.{◌≡◌, ◌≢◌, false, None, Some, OnOk, OnErr, IfOk, IfErr};
+ghost use Rattle.plan_kit.specs.Plans.{feeds_of};
+ghost use Rattle.agg_kit.specs.Entries.{entry_of};
+ghost use Rattle.agg_kit.specs.Feeds.{IsHeld};
+ghost use Rattle.agg_kit.specs.Recorders.{empty_recorder, record_fault_of, recorder_after, tally_in};
+ghost use Rattle.agg_kit.specs.Stamps.{has_noted};
+ghost use Rattle.agg_kit.specs.Taken.{RecordsAlso};
 ghost use Rattle.turn_kit.specs.Public.{AtBusy, AtExhausted, AtRefused};
+ghost use Rattle.writer_kit.specs.Room.{recorder_at, recorder_left, RefusesApart, OnApart, OnTaken, AtApart, AtAbsorb, OnFull};
 ghost use Rattle.writer_kit.specs.Shared.{IsAt, IsRound, Accepts, Adds, HasAllMeasured, IsNewest, LooksAt, Sees, IsExhausted, IsRefused, MayRefuseRound, MayRefuseRecorder, Declines, first_of};
 ghost use Rattle.writer_kit.specs.declared.shared.change.WriterChange.TheVariants.{Measured, Collected, Absorbed};
 
 use super::SharedWriter;
 use super::steps::{Collect, Measure};
-use crate::{AbsorbFault, CollectFault, MeasureFault, Writer};
-use agg_kit::Recorder;
+use crate::room::{record_apart, record_first};
+use crate::{AbsorbFault, CollectFault, MeasureFault, RecordingFault, Room, Writer};
+use agg_kit::{RecordFault, Recorder};
 use attr_kit::AttrSet;
 use bumpalo::Bump;
 use round_kit::Round;
@@ -72,6 +79,59 @@ impl SharedWriter {
         ensures refused { IfErr result (AtRefused (λ f. IsRefused self.now (λ w. MayRefuseRecorder w recorder.old f) seat.old seat.new)) }
     {
         self.turn.change_mut(rt, seat, recorder)
+    }
+
+    /// Records a value by a recorder of the writer's plan. Where the recorder is full, asks for the turn until it is had, takes in what the
+    /// recorder holds, as `absorb` does, and records the value by the recorder, which holds nothing else then. Answers whether
+    /// there was room. Rounds have the value once the recorder is taken in again.
+    ///
+    /// Refused, in this order: `Recorder` with what `Recorder::measure` refuses, but that it is full; `Absorb` with what `absorb`
+    /// refuses; `Emptied` where the recorder was taken in and refuses the value even so, for want of memory or for a cause that
+    /// is looked for after whether it is full. It is never full then. The value is recorded nowhere, and but for
+    /// `Emptied` nothing is changed. It never answers `Busy`.
+    /// The turn is held while the recorder's points come in, and not asked for where the recorder has room.
+    pub fn record<R: Wait>(
+        &self,
+        rt: &R,
+        seat: &mut Seat<Writer>,
+        recorder: &mut Recorder,
+        instrument: usize,
+        attrs: &AttrSet,
+        value: i64,
+    ) -> Result<Room, RecordingFault<ChangeFault<AbsorbFault>>>
+        requires seat { IsAt self.now seat.old }
+        requires plan { recorder.old.plan ≡ (first_of self.now).tally.plan }
+        ensures seat { IsAt self.now seat.new }
+        ensures plan { recorder.new.plan ≡ (first_of self.now).tally.plan }
+        // By the recorder as it was, or by one that holds nothing.
+        ensures ok { IfOk result (λ room. record_fault_of (recorder_at room recorder.old) (entry_of instrument attrs.now value) ≡ None) }
+        ensures value { IfOk result (λ room.
+            recorder.new ≡ recorder_after (recorder_at room recorder.old) (entry_of instrument attrs.now value)) }
+        ensures recorded { IfOk result (λ room.
+            RecordsAlso (recorder_at room recorder.old) (entry_of instrument attrs.now value) recorder.new) }
+        ensures full { OnFull result (record_fault_of recorder.old (entry_of instrument attrs.now value) ≡ Some RecordFault.Full) }
+        // Where the recorder has room, and where it refuses by itself, the turn is not asked for.
+        ensures apart { OnApart result (seat.new ≡ seat.old) }
+        ensures taken { OnTaken result (Accepts self.now (Absorbed recorder.old) (λ w. Unit {0}) seat.old seat.new) }
+        ensures serves { OnTaken result (Adds self.now (Absorbed recorder.old) seat.old seat.new) }
+        ensures err { IfErr result (RefusesApart recorder.old (entry_of instrument attrs.now value)) }
+        // Points that are there take no memory where every feed keeps all keys and none leads to a gauge or a sum that may fall.
+        ensures held { IsHeld (tally_in recorder.old) (entry_of instrument attrs.now value)
+            → has_noted recorder.old.plan (feeds_of recorder.old.plan instrument) ≡ false
+            → IfErr result (AtApart (λ f. f ≢ RecordFault.NoMemory)) }
+        ensures kept { IfErr result (λ f. recorder.new ≡ recorder_left f recorder.old) }
+        ensures busy { IfErr result (AtAbsorb (AtBusy ⊥)) }
+        ensures exhausted { IfErr result (AtAbsorb (AtExhausted (IsExhausted self.now seat.old seat.new))) }
+        ensures refused { IfErr result (AtAbsorb (AtRefused (λ f.
+            IsRefused self.now (λ w. MayRefuseRecorder w recorder.old f) seat.old seat.new))) }
+    {
+        if record_apart(recorder, instrument, attrs, value).map_err(RecordingFault::Recorder)? {
+            return Ok(Room::Had);
+        }
+        self.absorb(rt, seat, recorder)
+            .map_err(RecordingFault::Absorb)?;
+        record_first(recorder, instrument, attrs, value).map_err(RecordingFault::Emptied)?;
+        Ok(Room::Made)
     }
 
     /// Asks for the turn until it is had, and then collects, as `Writer::collect` does: the round is placed in the arena
