@@ -78,15 +78,15 @@ impl<G: GiveBack> SharedWriter<G> {
         self.turn.try_change_mut(seat, recorder)
     }
 
-    /// Records a value by a recorder of the writer's plan. Where the recorder is full, asks for the turn once, takes in what the
-    /// recorder holds, as `try_absorb` does, and records the value by the recorder, which holds nothing else then. Answers whether
-    /// there was room. Rounds have the value once the recorder is taken in again.
+    /// Records a value by a recorder of the writer's plan. Where the recorder is full, asks for the turn once, takes in what it
+    /// holds, as `try_absorb` does, and records the value by the recorder, which holds nothing else then. Answers whether there
+    /// was room. Rounds have the value once the recorder is taken in again.
     ///
-    /// Refused, in this order: `Recorder` with what `Recorder::measure` refuses, but that it is full; `Absorb` with what `try_absorb`
-    /// refuses; `Emptied` where the recorder was taken in and refuses the value even so, for want of memory or for a cause that
-    /// is looked for after whether it is full. It is never full then. The value is recorded nowhere, and but for
-    /// `Emptied` nothing is changed.
-    /// The turn is held while the recorder's points come in, and not asked for where the recorder has room.
+    /// Refused, in this order: `Recorder` with what `Recorder::measure` refuses, but that it is full; `Absorb` with what
+    /// `try_absorb` refuses; `Emptied` where the recorder was taken in and refuses the value even so, for want of memory or for
+    /// a cause that is looked for after whether it is full. It is never full then. The value is recorded nowhere, and but for
+    /// `Emptied` nothing is changed. The turn is held while the recorder's points come in, and not asked for where there is
+    /// room.
     pub fn try_record(
         &self,
         seat: &mut Seat<Writer>,
