@@ -78,7 +78,7 @@ enum {
     KIT_BAD_CHECKSUM = 64,    /* the checksum is not that of the bytes before it: * its byte */
     KIT_BAD_EXPORT = 65,      /* the values make no export, or a message has a point that no export brings */
 
-    KIT_RECORDER_FULL = 70,   /* a recorder may not hold this by itself: a writer takes it in first, or the recording itself */
+    KIT_RECORDER_FULL = 70,   /* a recorder may not hold this by itself: a writer takes it in first */
     KIT_OTHER_PLAN = 71,      /* the recorder is of another plan than the writer */
 };
 
@@ -162,8 +162,8 @@ int32_t kit_seat_collect(kit_handle *seat, uint64_t time, kit_handle *export_, u
 
 /* Recorders are threads' own: each thread records with its own, which meets no other, and a writer takes in what it holds. A recorder has
  * the writer's plan, and the sets that the writer held, by their numbers; it may be the recorder of any writer of an equal plan. Where it
- * is full (KIT_RECORDER_FULL) a writer absorbs it, and the recording is made again; what an empty recorder refuses so the
- * writer records. A writer refuses a recorder whose sums leave the range there, those of up-down counters on their way, too. A recorder that is freed loses what it holds. */
+ * is full (KIT_RECORDER_FULL) a writer absorbs it, and the recording is made again: an empty recorder is never full. A writer refuses a
+ * recorder whose sums leave the range there, those of up-down counters on their way, too. A recorder that is freed loses what it holds. */
 int32_t kit_recorder_open(kit_handle *recorder, kit_handle *writer);
 int32_t kit_recorder_measure(kit_handle *recorder, size_t instrument, kit_handle *attributes, int64_t value);
 int32_t kit_recorder_measure_held(kit_handle *recorder, size_t instrument, size_t number, int64_t value);

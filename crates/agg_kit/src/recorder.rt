@@ -25,8 +25,8 @@ use std::marker::Model;
 ///
 /// A recorder lets no set go to the overflow set by the limit: where it has points of their own for as many sets of a stream as
 /// the limit says, it refuses another by `Full`, and so it does where a sum of its own would leave its range. Whoever gets `Full`
-/// has a tally absorb the recorder and records again; where the recorder is empty it measures at the tally itself. A recorder that
-/// is dropped loses what it holds.
+/// has a tally absorb the recorder and records again: one that holds nothing is never full. A recorder that is dropped loses what
+/// it holds.
 ///
 /// Of a gauge it knows which set was recorded last, since that one counts where sets meet under a tally's overflow set. Of a sum
 /// that may fall it knows how far each set's sum went down and up, since a tally may not take in what left the range on its way.

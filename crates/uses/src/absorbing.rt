@@ -4,7 +4,6 @@ ghost use Rattle.agg_kit.specs.Entries.{entry_of};
 ghost use Rattle.agg_kit.specs.Recorders.{empty_recorder, recorder_after};
 ghost use Rattle.turn_kit.specs.Public.{AtBusy};
 ghost use Rattle.writer_kit.specs.Absorbing.{with_recordings};
-ghost use Rattle.writer_kit.specs.Recording.{after_record};
 ghost use Rattle.writer_kit.specs.Shared.{IsAt, Adds, first_of};
 ghost use Rattle.writer_kit.specs.declared.shared.change.WriterChange.TheVariants.{Absorbed};
 
@@ -12,32 +11,43 @@ use agg_kit::{RecordFault, Recorder, TallyFault};
 use attr_kit::AttrSet;
 use std::sync::Wait;
 use turn_kit::{ChangeFault, Seat};
-use writer_kit::{AbsorbFault, SharedWriter, Writer};
+use writer_kit::{AbsorbFault, RecordingFault, Room, SharedWriter, Writer};
 
-/// Records a value by a recorder, and says whether that had room for it. Where it had none, the writer takes the recorder in and
-/// measures the value itself.
+/// Records a value by a recorder, and says whether that had room for it. Where it had none, the writer took it in first.
 pub fn record_apart(
     writer: &mut Writer,
     recorder: &mut Recorder,
     instrument: usize,
     attrs: &AttrSet,
     value: i64,
-) -> anyhow::Result<bool>
+) -> Result<bool, RecordingFault<AbsorbFault>>
     requires { recorder.old.plan ≡ writer.old.tally.plan }
     ensures value { IfOk result (λ apart. MatchBool apart
         ((recorder.new ≡ recorder_after recorder.old (entry_of instrument attrs.now value)) × (writer.new ≡ writer.old))
-        ((writer.new ≡ after_record (with_recordings writer.old recorder.old) (entry_of instrument attrs.now value))
-        × (recorder.new ≡ empty_recorder recorder.old.plan))) }
+        ((recorder.new ≡ recorder_after (empty_recorder recorder.old.plan) (entry_of instrument attrs.now value))
+        × (writer.new ≡ with_recordings writer.old recorder.old))) }
     ensures plan { recorder.new.plan ≡ writer.new.tally.plan }
+{
+    match writer.record(recorder, instrument, attrs, value)? {
+        Room::Had => Ok(true),
+        Room::Made => Ok(false),
+    }
+}
+
+/// Records a value by a recorder where no writer is at hand, and says whether there was room: then somebody is to take it in.
+pub fn record_alone(
+    recorder: &mut Recorder,
+    instrument: usize,
+    attrs: &AttrSet,
+    value: i64,
+) -> Result<bool, RecordFault>
+    ensures { IfOk result (λ room. MatchBool room
+        (recorder.new ≡ recorder_after recorder.old (entry_of instrument attrs.now value)) (recorder.new ≡ recorder.old)) }
 {
     match recorder.measure(instrument, attrs, value) {
         Ok(()) => Ok(true),
-        Err(RecordFault::Full) => {
-            writer.absorb(recorder)?;
-            writer.measure(instrument, attrs, value)?;
-            Ok(false)
-        }
-        Err(fault) => Err(anyhow::Error::from(fault)),
+        Err(RecordFault::Full) => Ok(false),
+        Err(fault) => Err(fault),
     }
 }
 

@@ -217,7 +217,7 @@ impl Writer {
     }
 
     /// Takes in what a recorder of the writer's plan holds, as if each of its recordings had been measured here, one after the
-    /// other, and leaves the recorder empty. The sets are moved where there is no point for them.
+    /// other, and leaves the recorder empty. Sets for which there is no point are copied.
     ///
     /// Refuses, in this order: `Closed`; `Refused` with what the tally refuses, `Overflow` with the first stream of which a point
     /// would leave its range, or `NoMemory`. A refusal leaves writer and recorder as they were. O(streams, and points of the
