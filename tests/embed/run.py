@@ -7,7 +7,7 @@ The archive is crates/kit_c/out/libkit_c.a, which `rt lib` builds in crates/kit_
 proved here. The declarations are held to the exports (embed/build). Then the first script, in C and C++ under each
 compiler that is there, in Rust, Go and Python: each must print examples/first.out. In C every refusal is raised once, each growth of
 each call is refused in turn, threads record, recorders come to what one writer records one by one, and exports go as bytes, which are then
-changed, cut and made up, each plainly and under AddressSanitizer with its leak check. In Rust and Go the tests run, and callers in
+changed, cut and made up, or of texts and sets that were picked to be slow, each plainly and under AddressSanitizer with its leak check. In Rust and Go the tests run, and callers in
 Rust that misuse the types must not compile. Then exports between processes: examples/pipe, a writer in C and a gateway in
 Rust, and examples/broker, where there is a redis-server. What the machine has not is told and passed over.
 
@@ -96,6 +96,7 @@ class Run:
                 self.compiled(f"C, {compiler}{how}: threads", compiler, HERE / "threads.c", C + flags)
                 self.compiled(f"C, {compiler}{how}: recorders", compiler, HERE / "absorbed.c", C + flags, words=FEW_LISTS if how else ())
                 self.compiled(f"C, {compiler}{how}: bytes", compiler, HERE / "mutated.c", C + flags + WRAPPED, words=FEW if how else ())
+                self.compiled(f"C, {compiler}{how}: picked texts and sets", compiler, HERE / "chosen.c", C + flags)
             self.installed(compiler)
 
     def installed(self, compiler):

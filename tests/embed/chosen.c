@@ -1,0 +1,169 @@
+/* Bytes whose texts, or whose points' keys, were picked to share a hash are written and read nearly as fast as others. The kit's hash has no
+ * secret, so a sender can pick them: texts that would all stand at one slot of the table of an export, and sets whose hashes are equal.
+ * Were texts or keys found by the hash alone, reading would take the square of their number, here some 200 times as long. Prints the
+ * first check that does not hold and exits with 1; else the times. */
+#define _POSIX_C_SOURCE 200809L
+#include <kotskhin.h>
+#include <stdio.h>
+#include <stdlib.h>
+#include <string.h>
+#include <time.h>
+
+#define TEXT(s) (const uint8_t *)(s), sizeof(s) - 1
+#define CHECK(holds)                                                 \
+    do {                                                             \
+        if (!(holds)) {                                              \
+            printf("line %d: %s does not hold\n", __LINE__, #holds); \
+            exit(1);                                                 \
+        }                                                            \
+    } while (0)
+
+/* As many points as there are slots for a quarter of; how often each is timed, and how much slower the picked ones may be. */
+enum { SLOTS = 1 << 14, POINTS = SLOTS / 4, LETTERS = 8, ROUNDS = 5, SLOWER = 20 };
+
+static const uint64_t INITIAL = 0x243f6a8885a308d3, MULTIPLIER = 0x9e3779b97f4a7c15;
+static const uint8_t END_OF_TEXT = 0xff;
+
+static uint64_t place, changed, seed = 0x2545f4914f6cdd1d;
+
+/* xorshift64* */
+static uint64_t any(void) {
+    seed ^= seed >> 12, seed ^= seed << 25, seed ^= seed >> 27;
+    return seed * 0x2545f4914f6cdd1d;
+}
+
+/* The kit's hash (FoldHasher of Rattle's library) takes up to 8 bytes at a time. */
+static uint64_t fed(uint64_t state, const void *bytes, size_t len) {
+    uint8_t it[8] = {0};
+    uint32_t low, high;
+    uint64_t number;
+    memcpy(it, bytes, len);
+    if (len >= 4) {
+        memcpy(&low, it, 4), memcpy(&high, it + len - 4, 4);
+        number = low | (uint64_t)high << 32;
+    } else {
+        number = len ? it[0] | (uint64_t)it[len / 2] << 8 | (uint64_t)it[len - 1] << 16 : 0;
+    }
+    unsigned __int128 product = (unsigned __int128)(state ^ number) * (MULTIPLIER ^ 2 * len);
+    return (uint64_t)product ^ (uint64_t)(product >> 64);
+}
+
+static uint64_t fed_number(uint64_t state, uint64_t number) { return fed(state, &number, sizeof number); }
+
+static uint64_t fed_text(uint64_t state, const char *text, size_t len) { return fed(fed(state, text, len), &END_OF_TEXT, 1); }
+
+static void lettered(char *text) {
+    uint64_t number = any();
+    for (size_t i = 0; i < LETTERS; i++, number /= 26) text[i] = (char)('a' + number % 26);
+}
+
+/* Any text, or one of those whose hash names the first slot. */
+static void text_of(char *text, bool picked) {
+    do lettered(text);
+    while (picked && fed_text(INITIAL, text, LETTERS) % SLOTS);
+}
+
+/* The whole number that makes the hash of the set of a text under `a` and of it under `z` zero. */
+static int64_t zeroing(const char *text) {
+    enum { A_TEXT = 0, A_WHOLE_NUMBER = 2 };
+    uint64_t state = fed_text(fed_number(INITIAL, 2), "a", 1);
+    state = fed_text(fed_number(state, A_TEXT), text, LETTERS);
+    return (int64_t)fed_number(fed_text(state, "z", 1), A_WHOLE_NUMBER);
+}
+
+enum pick { NONE, ITS_TEXTS, ITS_SETS };
+
+static void recorded(kit_handle *writer, enum pick pick) {
+    kit_handle pairs = KIT_EMPTY, set = KIT_EMPTY;
+    char text[LETTERS];
+    text_of(text, pick == ITS_TEXTS);
+    int64_t number = pick == ITS_SETS ? zeroing(text) : (int64_t)any();
+    CHECK(!kit_pairs_add_text(&pairs, TEXT("a"), (const uint8_t *)text, LETTERS));
+    CHECK(!kit_pairs_add_whole(&pairs, TEXT("z"), number) && !kit_attributes_make(&set, &pairs, &place));
+    CHECK(!kit_writer_measure(writer, 0, &set, 1, &place));
+    kit_free(&pairs), kit_free(&set);
+}
+
+static void collected(kit_handle *export_, enum pick pick) {
+    kit_handle instruments = KIT_EMPTY, views = KIT_EMPTY, plan = KIT_EMPTY, writer = KIT_EMPTY;
+    uint64_t second;
+    CHECK(!kit_instruments_add(&instruments, TEXT("app"), TEXT("requests"), TEXT("1"), KIT_COUNTER));
+    CHECK(!kit_plan_build(&plan, &instruments, &views, POINTS + 1, &place, &second));
+    CHECK(!kit_writer_start(&writer, &plan, TEXT("shop"), 0, 1, 100));
+    for (size_t i = 0; i < POINTS; i++) recorded(&writer, pick);
+    CHECK(!kit_writer_collect(&writer, 200, export_, &place));
+    kit_free(&instruments), kit_free(&views), kit_free(&plan), kit_free(&writer);
+}
+
+/* What a node of no peers tells another of an export. */
+static void told(kit_handle *export_, kit_handle *message) {
+    kit_handle gateway = KIT_EMPTY, node = KIT_EMPTY;
+    CHECK(!kit_gateway_open(&gateway, 1) && !kit_node_open(&node, &gateway));
+    CHECK(!kit_node_take(&node, export_, &changed) && !kit_node_send(&node, 2, message));
+    kit_free(&gateway), kit_free(&node);
+}
+
+struct form {
+    int32_t (*encode)(kit_handle *it, kit_handle *bytes);
+    int32_t (*decode)(kit_handle *it, const uint8_t *bytes, size_t len, uint64_t *at);
+};
+static const struct form AN_EXPORT = {kit_export_encode, kit_export_decode};
+static const struct form A_MESSAGE = {kit_message_encode, kit_message_decode};
+
+/* Microseconds. */
+static double now(void) {
+    struct timespec at;
+    clock_gettime(CLOCK_MONOTONIC, &at);
+    return (double)at.tv_sec * 1e6 + (double)at.tv_nsec / 1e3;
+}
+
+struct took {
+    double written, read;
+};
+
+static double least(double one, double other) { return one < other ? one : other; }
+
+static struct took timed(const struct form *form, kit_handle *it) {
+    static uint8_t copy[64 * POINTS];
+    struct took took = {1e12, 1e12};
+    for (size_t round = 0; round < ROUNDS; round++) {
+        kit_handle bytes = KIT_EMPTY, read = KIT_EMPTY;
+        size_t len = 0;
+        double start = now();
+        CHECK(!form->encode(it, &bytes));
+        took.written = least(took.written, now() - start);
+        CHECK(!kit_bytes_copy(&bytes, copy, sizeof copy, &len) && len <= sizeof copy);
+        start = now();
+        CHECK(!form->decode(&read, copy, len, &place));
+        took.read = least(took.read, now() - start);
+        kit_free(&bytes), kit_free(&read);
+    }
+    return took;
+}
+
+struct both {
+    struct took export_, message;
+};
+
+static struct both of(enum pick pick) {
+    kit_handle export_ = KIT_EMPTY, message = KIT_EMPTY;
+    collected(&export_, pick), told(&export_, &message);
+    struct both both = {timed(&AN_EXPORT, &export_), timed(&A_MESSAGE, &message)};
+    kit_free(&export_), kit_free(&message);
+    return both;
+}
+
+static void compared(const char *what, struct took picked, struct took plain) {
+    printf("%s: written in %.0f us, of others in %.0f; read in %.0f, of others in %.0f\n", what, picked.written, plain.written, picked.read,
+           plain.read);
+    CHECK(picked.written < SLOWER * plain.written && picked.read < SLOWER * plain.read);
+}
+
+int main(void) {
+    struct both plain = of(NONE), texts = of(ITS_TEXTS), sets = of(ITS_SETS);
+    compared("an export of picked texts", texts.export_, plain.export_);
+    compared("a message of picked texts", texts.message, plain.message);
+    compared("an export of picked sets", sets.export_, plain.export_);
+    compared("a message of picked sets", sets.message, plain.message);
+    return 0;
+}
