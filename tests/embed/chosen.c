@@ -1,7 +1,9 @@
 /* Bytes whose texts, or whose points' keys, were picked to share a hash are written and read nearly as fast as others. The kit's hash has no
  * secret, so a sender can pick them: texts that would all stand at one slot of the table of an export, and sets whose hashes are equal.
- * Were texts or keys found by the hash alone, reading would take the square of their number, here some 200 times as long. Prints the
- * first check that does not hold and exits with 1; else the times. */
+ * Were texts or keys found by the hash alone, reading would take the square of their number, here some hundred times as long. Prints the
+ * first check that does not hold and exits with 1; else the times.
+ *
+ *     chosen [POINTS]      how many points an export has, a power of two. 8192 where nothing is said */
 #define _POSIX_C_SOURCE 200809L
 #include <kotskhin.h>
 #include <stdio.h>
@@ -18,8 +20,10 @@
         }                                                            \
     } while (0)
 
-/* As many points as there are slots for a quarter of; how often each is timed, and how much slower the picked ones may be. */
-enum { SLOTS = 1 << 14, POINTS = SLOTS / 4, LETTERS = 8, ROUNDS = 5, SLOWER = 20 };
+/* How many slots the table has for each of so many texts; how often each is timed, and how much slower the picked ones may be. */
+enum { SLOTS_EACH = 4, MOST = 1 << 13, LETTERS = 8, ROUNDS = 5, SLOWER = 40 };
+
+static size_t points = MOST;
 
 static const uint64_t INITIAL = 0x243f6a8885a308d3, MULTIPLIER = 0x9e3779b97f4a7c15;
 static const uint8_t END_OF_TEXT = 0xff;
@@ -54,13 +58,13 @@ static uint64_t fed_text(uint64_t state, const char *text, size_t len) { return 
 
 static void lettered(char *text) {
     uint64_t number = any();
-    for (size_t i = 0; i < LETTERS; i++, number /= 26) text[i] = (char)('a' + number % 26);
+    for (size_t i = 0; i < LETTERS; i++, number >>= 4) text[i] = (char)('a' + number % 16);
 }
 
 /* Any text, or one of those whose hash names the first slot. */
 static void text_of(char *text, bool picked) {
     do lettered(text);
-    while (picked && fed_text(INITIAL, text, LETTERS) % SLOTS);
+    while (picked && fed_text(INITIAL, text, LETTERS) % (SLOTS_EACH * points));
 }
 
 /* The whole number that makes the hash of the set of a text under `a` and of it under `z` zero. */
@@ -88,9 +92,9 @@ static void collected(kit_handle *export_, enum pick pick) {
     kit_handle instruments = KIT_EMPTY, views = KIT_EMPTY, plan = KIT_EMPTY, writer = KIT_EMPTY;
     uint64_t second;
     CHECK(!kit_instruments_add(&instruments, TEXT("app"), TEXT("requests"), TEXT("1"), KIT_COUNTER));
-    CHECK(!kit_plan_build(&plan, &instruments, &views, POINTS + 1, &place, &second));
+    CHECK(!kit_plan_build(&plan, &instruments, &views, points + 1, &place, &second));
     CHECK(!kit_writer_start(&writer, &plan, TEXT("shop"), 0, 1, 100));
-    for (size_t i = 0; i < POINTS; i++) recorded(&writer, pick);
+    for (size_t i = 0; i < points; i++) recorded(&writer, pick);
     CHECK(!kit_writer_collect(&writer, 200, export_, &place));
     kit_free(&instruments), kit_free(&views), kit_free(&plan), kit_free(&writer);
 }
@@ -124,7 +128,7 @@ struct took {
 static double least(double one, double other) { return one < other ? one : other; }
 
 static struct took timed(const struct form *form, kit_handle *it) {
-    static uint8_t copy[64 * POINTS];
+    static uint8_t copy[64 * MOST];
     struct took took = {1e12, 1e12};
     for (size_t round = 0; round < ROUNDS; round++) {
         kit_handle bytes = KIT_EMPTY, read = KIT_EMPTY;
@@ -159,7 +163,9 @@ static void compared(const char *what, struct took picked, struct took plain) {
     CHECK(picked.written < SLOWER * plain.written && picked.read < SLOWER * plain.read);
 }
 
-int main(void) {
+int main(int count, char **given) {
+    points = count > 1 ? strtoul(given[1], NULL, 10) : points;
+    CHECK(0 < points && points <= MOST);
     struct both plain = of(NONE), texts = of(ITS_TEXTS), sets = of(ITS_SETS);
     compared("an export of picked texts", texts.export_, plain.export_);
     compared("a message of picked texts", texts.message, plain.message);

@@ -34,6 +34,7 @@ ASAN = ["-g", "-fsanitize=address", "-fno-omit-frame-pointer"]
 SECONDS = 600
 FEW = ("2000", "50000")
 FEW_LISTS = ("1000",)
+FEW_POINTS = ("1024",)
 WRAPPED = ["-Wl,--wrap=malloc,--wrap=realloc"]
 ERROR = re.compile(r"^// (error\[E\d+\])$", re.M)
 
@@ -96,7 +97,7 @@ class Run:
                 self.compiled(f"C, {compiler}{how}: threads", compiler, HERE / "threads.c", C + flags)
                 self.compiled(f"C, {compiler}{how}: recorders", compiler, HERE / "absorbed.c", C + flags, words=FEW_LISTS if how else ())
                 self.compiled(f"C, {compiler}{how}: bytes", compiler, HERE / "mutated.c", C + flags + WRAPPED, words=FEW if how else ())
-                self.compiled(f"C, {compiler}{how}: picked texts and sets", compiler, HERE / "chosen.c", C + flags)
+                self.compiled(f"C, {compiler}{how}: picked texts and sets", compiler, HERE / "chosen.c", C + flags, words=FEW_POINTS if how else ())
             self.installed(compiler)
 
     def installed(self, compiler):
