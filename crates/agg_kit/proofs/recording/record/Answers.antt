@@ -46,19 +46,13 @@ try_record-requires-clause-sound c =
 pub returns-then-not-fits-clause-err : goal.returns-then-not-fits-clause-err
 returns-then-not-fits-clause-err c = λ _.
     let f : FitsSigned w64 c.args.value = c.ranges.value in
-    let p = c.args.plan.now in
-    let a = c.args.attrs.now in
-    let v = c.args.value in
-    let ss = c.args.series.now.items in
-    let stream = c.in-Some.stream in
-    let feed = whole_feed stream in
+    let feed = whole_feed c.in-Some.stream in
     let l = lone-within (length c.args.series.now.items) c.args.lone c.in-Some.stream c.args.feeds.now c.in-Some.is c.requires.lone c.requires.feeds in
     let points = c.index_mut-points.result.now in
-    let was = c.index_mut-points.ensures.value in
     let es = points.entries in
-    let told : is_out_of_range (payload_after (shape_at p stream) es (fed_set p.limit es a) v) ≡ not c.in-Some-try_record.fits =
-    (λ i. is_out_of_range (payload_after (sym c.shape_of-shape.ensures.value i) es (fed_set (sym c.limit.ensures.value i) es a) v)) ∙ (simp to_z-of_z at c.in-Some-try_record.ensures.fits) in
-    ap (first_out p a v (entries_of ss)) (lone-is c.args.lone c.in-Some.stream c.args.feeds.now c.in-Some.is c.requires.lone) ∙ first-here p a v (entries_of ss) feed [] (leaves-here p feed a v ss points l was ∙ told ∙ ap not c.if-not-fits.true)
+    let told : is_out_of_range (payload_after (shape_at c.args.plan.now c.in-Some.stream) es (fed_set c.args.plan.now.limit es c.args.attrs.now) c.args.value) ≡ not c.in-Some-try_record.fits =
+    (λ i. is_out_of_range (payload_after (sym c.shape_of-shape.ensures.value i) es (fed_set (sym c.limit.ensures.value i) es c.args.attrs.now) c.args.value)) ∙ (simp to_z-of_z at c.in-Some-try_record.ensures.fits) in
+    ap (first_out c.args.plan.now c.args.attrs.now c.args.value (entries_of c.args.series.now.items)) (lone-is c.args.lone c.in-Some.stream c.args.feeds.now c.in-Some.is c.requires.lone) ∙ first-here c.args.plan.now c.args.attrs.now c.args.value (entries_of c.args.series.now.items) feed [] (leaves-here c.args.plan.now feed c.args.attrs.now c.args.value c.args.series.now.items points l c.index_mut-points.ensures.value ∙ told ∙ ap not c.if-not-fits.true)
 
 pub returns-then-not-fits-clause-unchanged : goal.returns-then-not-fits-clause-unchanged
 returns-then-not-fits-clause-unchanged c =
@@ -67,38 +61,26 @@ returns-then-not-fits-clause-unchanged c =
 pub returns-in-Some-try_record-clause-value : goal.returns-in-Some-try_record-clause-value
 returns-in-Some-try_record-clause-value c =
     let f : FitsSigned w64 c.args.value = c.ranges.value in
-    let p = c.args.plan.now in
-    let a = c.args.attrs.now in
-    let v = c.args.value in
-    let ss = c.args.series.now.items in
-    let stream = c.in-Some.stream in
-    let feed = whole_feed stream in
+    let feed = whole_feed c.in-Some.stream in
     let l = lone-within (length c.args.series.now.items) c.args.lone c.in-Some.stream c.args.feeds.now c.in-Some.is c.requires.lone c.requires.feeds in
     let points = c.index_mut-points.result.now in
-    let was = c.index_mut-points.ensures.value in
     let es = points.entries in
     let added = (simp to_z-of_z at c.try_record.ensures.added) (c.in-Some-try_record.is ∙ ap (λ b. Some b) c.if-not-fits.false) in
-    let done : Points → Points = λ es. step (shape_at p stream) p.limit es a v in
-    recorded-here p feed [] a v ss ss points points points c.try_record.new.self done (read-there ss stream points l was) refl was refl refl
-    (added ∙ (λ i. step (c.shape_of-shape.ensures.value i) (c.limit.ensures.value i) es a v))
-    ∙ ap (λ (fs : List Feed). after_feeds p fs a v (entries_of ss)) (sym (lone-is c.args.lone c.in-Some.stream c.args.feeds.now c.in-Some.is c.requires.lone))
+    let done : Points → Points = λ es. step (shape_at c.args.plan.now c.in-Some.stream) c.args.plan.now.limit es c.args.attrs.now c.args.value in
+    recorded-here c.args.plan.now feed [] c.args.attrs.now c.args.value c.args.series.now.items c.args.series.now.items points points points c.try_record.new.self done (read-there c.args.series.now.items c.in-Some.stream points l c.index_mut-points.ensures.value) refl c.index_mut-points.ensures.value refl refl
+    (added ∙ (λ i. step (c.shape_of-shape.ensures.value i) (c.limit.ensures.value i) es c.args.attrs.now c.args.value))
+    ∙ ap (λ (fs : List Feed). after_feeds c.args.plan.now fs c.args.attrs.now c.args.value (entries_of c.args.series.now.items)) (sym (lone-is c.args.lone c.in-Some.stream c.args.feeds.now c.in-Some.is c.requires.lone))
 
 pub returns-in-Some-try_record-clause-ok : goal.returns-in-Some-try_record-clause-ok
 returns-in-Some-try_record-clause-ok c =
     let f : FitsSigned w64 c.args.value = c.ranges.value in
-    let p = c.args.plan.now in
-    let a = c.args.attrs.now in
-    let v = c.args.value in
-    let ss = c.args.series.now.items in
-    let stream = c.in-Some.stream in
-    let feed = whole_feed stream in
+    let feed = whole_feed c.in-Some.stream in
     let l = lone-within (length c.args.series.now.items) c.args.lone c.in-Some.stream c.args.feeds.now c.in-Some.is c.requires.lone c.requires.feeds in
     let points = c.index_mut-points.result.now in
-    let was = c.index_mut-points.ensures.value in
     let es = points.entries in
-    let told : is_out_of_range (payload_after (shape_at p stream) es (fed_set p.limit es a) v) ≡ not c.in-Some-try_record.fits =
-    (λ i. is_out_of_range (payload_after (sym c.shape_of-shape.ensures.value i) es (fed_set (sym c.limit.ensures.value i) es a) v)) ∙ (simp to_z-of_z at c.in-Some-try_record.ensures.fits) in
-    first-kept p a v ss points feed [] c.args.feeds.now (lone-is c.args.lone c.in-Some.stream c.args.feeds.now c.in-Some.is c.requires.lone) l was (told ∙ ap not c.if-not-fits.false)
+    let told : is_out_of_range (payload_after (shape_at c.args.plan.now c.in-Some.stream) es (fed_set c.args.plan.now.limit es c.args.attrs.now) c.args.value) ≡ not c.in-Some-try_record.fits =
+    (λ i. is_out_of_range (payload_after (sym c.shape_of-shape.ensures.value i) es (fed_set (sym c.limit.ensures.value i) es c.args.attrs.now) c.args.value)) ∙ (simp to_z-of_z at c.in-Some-try_record.ensures.fits) in
+    first-kept c.args.plan.now c.args.attrs.now c.args.value c.args.series.now.items points feed [] c.args.feeds.now (lone-is c.args.lone c.in-Some.stream c.args.feeds.now c.in-Some.is c.requires.lone) l c.index_mut-points.ensures.value (told ∙ ap not c.if-not-fits.false)
 
 pub record_all-requires-2 : goal.record_all-requires-2
 record_all-requires-2 c =

@@ -56,21 +56,15 @@ returns-then-place-self-clause-tells c =
 
 pub returns-then-own-limit-clause-tells : goal.returns-then-own-limit-clause-tells
 returns-then-own-limit-clause-tells c =
-    let a = c.args.set.now in
-    let es = c.self.inside.map.entries in
-    let n = c.self.inside.active in
-    let at : position (set_eq a) (keys_of es) ≡ Some c.in-Some.place = sym c.get_index_of.ensures.index ∙ c.in-Some.is in
-    let gone : None ≡ position (set_eq a) (keys_of c.args.self.now.entries) = sym (index-behind es n a c.in-Some.place at c.if-place-self.false) ∙ ap (λ (s : Stored). position (set_eq a) (keys_of s.entries)) c.self.view_is in
-    sym (found-is c.args.self.now.entries a None gone)
+    let at : position (set_eq c.args.set.now) (keys_of c.self.inside.map.entries) ≡ Some c.in-Some.place = sym c.get_index_of.ensures.index ∙ c.in-Some.is in
+    let gone : None ≡ position (set_eq c.args.set.now) (keys_of c.args.self.now.entries) = sym (index-behind c.self.inside.map.entries c.self.inside.active c.args.set.now c.in-Some.place at c.if-place-self.false) ∙ ap (λ (s : Stored). position (set_eq c.args.set.now) (keys_of s.entries)) c.self.view_is in
+    sym (found-is c.args.self.now.entries c.args.set.now None gone)
 
 pub returns-then-not-call_up-clause-tells : goal.returns-then-not-call_up-clause-tells
 returns-then-not-call_up-clause-tells c =
-    let a = c.args.set.now in
-    let es = c.self.inside.map.entries in
-    let n = c.self.inside.active in
-    let at : position (set_eq a) (keys_of es) ≡ Some c.in-Some.place = sym c.get_index_of.ensures.index ∙ c.in-Some.is in
-    let gone : None ≡ position (set_eq a) (keys_of c.args.self.now.entries) = sym (index-behind es n a c.in-Some.place at c.if-place-self.false) ∙ ap (λ (s : Stored). position (set_eq a) (keys_of s.entries)) c.self.view_is in
-    sym (found-is c.args.self.now.entries a None gone)
+    let at : position (set_eq c.args.set.now) (keys_of c.self.inside.map.entries) ≡ Some c.in-Some.place = sym c.get_index_of.ensures.index ∙ c.in-Some.is in
+    let gone : None ≡ position (set_eq c.args.set.now) (keys_of c.args.self.now.entries) = sym (index-behind c.self.inside.map.entries c.self.inside.active c.args.set.now c.in-Some.place at c.if-place-self.false) ∙ ap (λ (s : Stored). position (set_eq c.args.set.now) (keys_of s.entries)) c.self.view_is in
+    sym (found-is c.args.self.now.entries c.args.set.now None gone)
 
 pub returns-clause-tells : goal.returns-clause-tells
 returns-clause-tells c =

@@ -37,29 +37,27 @@ returns-in-Some-clause-copies c =
 
 pub insert-requires : goal.insert-requires
 insert-requires c =
-    let es = c.args.self.now.entries in
     let e : AttrSet × Payload = (c.args.set.now, c.args.payload.now) in
-    let b = fed_set c.args.limit es e.0 in
+    let b = fed_set c.args.limit c.args.self.now.entries e.0 in
     let x : AttrSet × Payload = (c.in-Some-pop.set, c.in-Some-pop.payload) in
-    let gone : lookup (set_eq b) es ≡ None = absent es b (sym c.place_after.ensures ∙ c.in_default.is) in
-    let is : x ≡ (b, e.1) = next-is c.args.limit es c.args.copies.now.items c.pop.new.self.items e x c.requires.copies (ap is_some gone) c.in-Some-pop.ensures.items in
+    let gone : lookup (set_eq b) c.args.self.now.entries ≡ None = absent c.args.self.now.entries b (sym c.place_after.ensures ∙ c.in_default.is) in
+    let is : x ≡ (b, e.1) = next-is c.args.limit c.args.self.now.entries c.args.copies.now.items c.pop.new.self.items e x c.requires.copies (ap is_some gone) c.in-Some-pop.ensures.items in
     record {
       ready = (
         omega (arith, c.requires.room, ap length c.in-Some-pop.ensures.items, length_push c.pop.new.self.items x),
-        ap (λ (y : AttrSet × Payload). lookup (set_eq y.0) es) is ∙ gone,
+        ap (λ (y : AttrSet × Payload). lookup (set_eq y.0) c.args.self.now.entries) is ∙ gone,
         c.ne-own.ensures ∙ ap (λ (o : AttrSet). not (set_eq c.in-Some-pop.set o)) c.requires.overflow,
       );
     }
 
 pub returns-in-Some-pop-clause-value : goal.returns-in-Some-pop-clause-value
 returns-in-Some-pop-clause-value c =
-    let es = c.args.self.now.entries in
     let e : AttrSet × Payload = (c.args.set.now, c.args.payload.now) in
-    let b = fed_set c.args.limit es e.0 in
+    let b = fed_set c.args.limit c.args.self.now.entries e.0 in
     let x : AttrSet × Payload = (c.in-Some-pop.set, c.in-Some-pop.payload) in
-    let gone : lookup (set_eq b) es ≡ None = absent es b (sym c.place_after.ensures ∙ c.in_default.is) in
-    let is : x ≡ (b, e.1) = next-is c.args.limit es c.args.copies.now.items c.pop.new.self.items e x c.requires.copies (ap is_some gone) c.in-Some-pop.ensures.items in
-    c.insert.ensures.value ∙ ap (λ (y : AttrSet × Payload). es ++ y ∷ []) is ∙ new-with_point c.args.limit es e.0 b e.1 gone refl
+    let gone : lookup (set_eq b) c.args.self.now.entries ≡ None = absent c.args.self.now.entries b (sym c.place_after.ensures ∙ c.in_default.is) in
+    let is : x ≡ (b, e.1) = next-is c.args.limit c.args.self.now.entries c.args.copies.now.items c.pop.new.self.items e x c.requires.copies (ap is_some gone) c.in-Some-pop.ensures.items in
+    c.insert.ensures.value ∙ ap (λ (y : AttrSet × Payload). c.args.self.now.entries ++ y ∷ []) is ∙ new-with_point c.args.limit c.args.self.now.entries e.0 b e.1 gone refl
 
 pub returns-in-Some-pop-clause-room : goal.returns-in-Some-pop-clause-room
 returns-in-Some-pop-clause-room c =
@@ -68,15 +66,14 @@ returns-in-Some-pop-clause-room c =
 
 pub returns-in-Some-pop-clause-copies : goal.returns-in-Some-pop-clause-copies
 returns-in-Some-pop-clause-copies c =
-    let es = c.args.self.now.entries in
     let e : AttrSet × Payload = (c.args.set.now, c.args.payload.now) in
-    let b = fed_set c.args.limit es e.0 in
+    let b = fed_set c.args.limit c.args.self.now.entries e.0 in
     let x : AttrSet × Payload = (c.in-Some-pop.set, c.in-Some-pop.payload) in
-    let gone : lookup (set_eq b) es ≡ None = absent es b (sym c.place_after.ensures ∙ c.in_default.is) in
-    let is : x ≡ (b, e.1) = next-is c.args.limit es c.args.copies.now.items c.pop.new.self.items e x c.requires.copies (ap is_some gone) c.in-Some-pop.ensures.items in
+    let gone : lookup (set_eq b) c.args.self.now.entries ≡ None = absent c.args.self.now.entries b (sym c.place_after.ensures ∙ c.in_default.is) in
+    let is : x ≡ (b, e.1) = next-is c.args.limit c.args.self.now.entries c.args.copies.now.items c.pop.new.self.items e x c.requires.copies (ap is_some gone) c.in-Some-pop.ensures.items in
     popped c.args.copies.now.items c.pop.new.self.items x c.in-Some-pop.ensures.items
     ∙ ap (λ (y : AttrSet × Payload). y ∷ reverse c.pop.new.self.items) is
-    ∙ sym (ap (λ (l : Points). l ++ reverse c.pop.new.self.items) (one-made c.args.limit es e b refl (ap is_some gone)))
+    ∙ sym (ap (λ (l : Points). l ++ reverse c.pop.new.self.items) (one-made c.args.limit c.args.self.now.entries e b refl (ap is_some gone)))
 
 pub returns-in_default-pop-clause-value : goal.returns-in_default-pop-clause-value
 returns-in_default-pop-clause-value c =

@@ -16,16 +16,11 @@ use Rattle.agg_kit.proofs.series.Series.try_record.Goals as goal
 pub invariant_of-self : goal.invariant_of-self
 invariant_of-self c =
     let f : FitsSigned w64 c.args.value = c.ranges.value in
-    let shape = c.args.shape.now in
-    let limit = c.args.limit in
-    let es = c.args.self.now.entries in
-    let a = c.args.set.now in
-    let v = c.args.value in
     let held = c.self.inside.points.entries in
-    let view : held ≡ es = ap (λ (s : Stored). s.entries) c.self.view_is in
+    let view : held ≡ c.args.self.now.entries = ap (λ (s : Stored). s.entries) c.self.view_is in
     let tells = simp to_z-of_z at c.in-Point.ensures.tells in
     let ns = c.try_record.new.self.entries in
-    let w = payload_with shape held tells.0 v in (
+    let w = payload_with c.args.shape.now held tells.0 c.args.value in (
       c.self.invariant.0 ∙ sym (counts-stay held ns tells.0 w c.in-Point.fits tells.3 tells.4),
       alike-stays held ns tells.0 w c.in-Point.fits tells.3 tells.4 c.self.invariant.1,
     )
@@ -33,134 +28,84 @@ invariant_of-self c =
 pub invariant_of-self-in-Waiting : goal.invariant_of-self-in-Waiting
 invariant_of-self-in-Waiting c =
     let f : FitsSigned w64 c.args.value = c.ranges.value in
-    let shape = c.args.shape.now in
-    let limit = c.args.limit in
-    let es = c.args.self.now.entries in
-    let a = c.args.set.now in
-    let v = c.args.value in
     let held = c.self.inside.points.entries in
-    let view : held ≡ es = ap (λ (s : Stored). s.entries) c.self.view_is in
+    let view : held ≡ c.args.self.now.entries = ap (λ (s : Stored). s.entries) c.self.view_is in
     let tells = simp to_z-of_z at c.in-Waiting.ensures.tells in
-    let room = subst (λ (n : ℕ). n < limit) c.self.invariant.0 tells.1 in
+    let room = subst (λ (n : ℕ). n < c.args.limit) c.self.invariant.0 tells.1 in
     let ns = c.try_record.new.self.entries in
-    let first : Payload = payload_with_value (bounds_of shape) (payload_of shape []) v in (
-      c.own_with-self-inside.ensures ∙ ap (λ (n : ℕ). n + cond (is_own a) 1 0) c.self.invariant.0 ∙ sym (own_count-inserted held ns a first (is_own a) refl tells.2),
+    let first : Payload = payload_with_value (bounds_of c.args.shape.now) (payload_of c.args.shape.now []) c.args.value in (
+      c.own_with-self-inside.ensures ∙ ap (λ (n : ℕ). n + cond (is_own c.args.set.now) 1 0) c.self.invariant.0 ∙ sym (own_count-inserted held ns c.args.set.now first (is_own c.args.set.now) refl tells.2),
       c.stays_alike-self-inside.ensures held first tells.2 c.self.invariant.1,
     )
 
 pub returns-then-not-is_empty-clause-fits : goal.returns-then-not-is_empty-clause-fits
 returns-then-not-is_empty-clause-fits c =
     let f : FitsSigned w64 c.args.value = c.ranges.value in
-    let shape = c.args.shape.now in
-    let limit = c.args.limit in
-    let es = c.args.self.now.entries in
-    let a = c.args.set.now in
-    let v = c.args.value in
-    let at = given-place c.args.places.now (place_of limit es a) c.is_empty.result c.requires.given c.is_empty.ensures c.if-not-is_empty.true in
-    point-out shape limit es es a v refl _ c.try_add.result at (simp to_z-of_z at c.try_add.ensures.fits)
+    let at = given-place c.args.places.now (place_of c.args.limit c.args.self.now.entries c.args.set.now) c.is_empty.result c.requires.given c.is_empty.ensures c.if-not-is_empty.true in
+    point-out c.args.shape.now c.args.limit c.args.self.now.entries c.args.self.now.entries c.args.set.now c.args.value refl _ c.try_add.result at (simp to_z-of_z at c.try_add.ensures.fits)
 
 pub returns-then-not-is_empty-clause-added : goal.returns-then-not-is_empty-clause-added
 returns-then-not-is_empty-clause-added c = λ y.
     let f : FitsSigned w64 c.args.value = c.ranges.value in
-    let shape = c.args.shape.now in
-    let limit = c.args.limit in
-    let es = c.args.self.now.entries in
-    let a = c.args.set.now in
-    let v = c.args.value in
-    let at = given-place c.args.places.now (place_of limit es a) c.is_empty.result c.requires.given c.is_empty.ensures c.if-not-is_empty.true in
-    point-step shape limit es es a v refl _ c.try_add.new.self.entries at ((simp to_z-of_z at c.try_add.ensures.added) (same_Some _ _ y))
+    let at = given-place c.args.places.now (place_of c.args.limit c.args.self.now.entries c.args.set.now) c.is_empty.result c.requires.given c.is_empty.ensures c.if-not-is_empty.true in
+    point-step c.args.shape.now c.args.limit c.args.self.now.entries c.args.self.now.entries c.args.set.now c.args.value refl _ c.try_add.new.self.entries at ((simp to_z-of_z at c.try_add.ensures.added) (same_Some _ _ y))
 
 pub returns-in-Point-clause-fits : goal.returns-in-Point-clause-fits
 returns-in-Point-clause-fits c =
     let f : FitsSigned w64 c.args.value = c.ranges.value in
-    let shape = c.args.shape.now in
-    let limit = c.args.limit in
-    let es = c.args.self.now.entries in
-    let a = c.args.set.now in
-    let v = c.args.value in
     let held = c.self.inside.points.entries in
-    let view : held ≡ es = ap (λ (s : Stored). s.entries) c.self.view_is in
+    let view : held ≡ c.args.self.now.entries = ap (λ (s : Stored). s.entries) c.self.view_is in
     let tells = simp to_z-of_z at c.in-Point.ensures.tells in
-    point-out shape limit held es a v view tells.0 c.in-Point.fits (own-place limit held a tells.0 tells.1) tells.2
+    point-out c.args.shape.now c.args.limit held c.args.self.now.entries c.args.set.now c.args.value view tells.0 c.in-Point.fits (own-place c.args.limit held c.args.set.now tells.0 tells.1) tells.2
 
 pub returns-in-Point-clause-added : goal.returns-in-Point-clause-added
 returns-in-Point-clause-added c = λ y.
     let f : FitsSigned w64 c.args.value = c.ranges.value in
-    let shape = c.args.shape.now in
-    let limit = c.args.limit in
-    let es = c.args.self.now.entries in
-    let a = c.args.set.now in
-    let v = c.args.value in
     let held = c.self.inside.points.entries in
-    let view : held ≡ es = ap (λ (s : Stored). s.entries) c.self.view_is in
+    let view : held ≡ c.args.self.now.entries = ap (λ (s : Stored). s.entries) c.self.view_is in
     let tells = simp to_z-of_z at c.in-Point.ensures.tells in
-    point-step shape limit held es a v view tells.0 c.try_record.new.self.entries (own-place limit held a tells.0 tells.1) (tells.3 (same_Some _ _ y))
+    point-step c.args.shape.now c.args.limit held c.args.self.now.entries c.args.set.now c.args.value view tells.0 c.try_record.new.self.entries (own-place c.args.limit held c.args.set.now tells.0 tells.1) (tells.3 (same_Some _ _ y))
 
 pub returns-in-Point-clause-kept : goal.returns-in-Point-clause-kept
 returns-in-Point-clause-kept c = λ n.
     let f : FitsSigned w64 c.args.value = c.ranges.value in
-    let shape = c.args.shape.now in
-    let limit = c.args.limit in
-    let es = c.args.self.now.entries in
-    let a = c.args.set.now in
-    let v = c.args.value in
     let held = c.self.inside.points.entries in
-    let view : held ≡ es = ap (λ (s : Stored). s.entries) c.self.view_is in
+    let view : held ≡ c.args.self.now.entries = ap (λ (s : Stored). s.entries) c.self.view_is in
     let tells = simp to_z-of_z at c.in-Point.ensures.tells in
     tells.4 (same_Some _ _ n) ∙ view
 
 pub returns-in-Waiting-clause-fits : goal.returns-in-Waiting-clause-fits
 returns-in-Waiting-clause-fits c =
     let f : FitsSigned w64 c.args.value = c.ranges.value in
-    let shape = c.args.shape.now in
-    let limit = c.args.limit in
-    let es = c.args.self.now.entries in
-    let a = c.args.set.now in
-    let v = c.args.value in
     let held = c.self.inside.points.entries in
-    let view : held ≡ es = ap (λ (s : Stored). s.entries) c.self.view_is in
+    let view : held ≡ c.args.self.now.entries = ap (λ (s : Stored). s.entries) c.self.view_is in
     let tells = simp to_z-of_z at c.in-Waiting.ensures.tells in
-    let room = subst (λ (n : ℕ). n < limit) c.self.invariant.0 tells.1 in
-    waiting-out shape limit held es a v view f tells.0 room
+    let room = subst (λ (n : ℕ). n < c.args.limit) c.self.invariant.0 tells.1 in
+    waiting-out c.args.shape.now c.args.limit held c.args.self.now.entries c.args.set.now c.args.value view f tells.0 room
 
 pub returns-in-Waiting-clause-added : goal.returns-in-Waiting-clause-added
 returns-in-Waiting-clause-added c = λ _.
     let f : FitsSigned w64 c.args.value = c.ranges.value in
-    let shape = c.args.shape.now in
-    let limit = c.args.limit in
-    let es = c.args.self.now.entries in
-    let a = c.args.set.now in
-    let v = c.args.value in
     let held = c.self.inside.points.entries in
-    let view : held ≡ es = ap (λ (s : Stored). s.entries) c.self.view_is in
+    let view : held ≡ c.args.self.now.entries = ap (λ (s : Stored). s.entries) c.self.view_is in
     let tells = simp to_z-of_z at c.in-Waiting.ensures.tells in
-    let room = subst (λ (n : ℕ). n < limit) c.self.invariant.0 tells.1 in
-    waiting-step shape limit held es a v view c.try_record.new.self.entries tells.0 room tells.2
+    let room = subst (λ (n : ℕ). n < c.args.limit) c.self.invariant.0 tells.1 in
+    waiting-step c.args.shape.now c.args.limit held c.args.self.now.entries c.args.set.now c.args.value view c.try_record.new.self.entries tells.0 room tells.2
 
 pub returns-in-Some-clause-fits : goal.returns-in-Some-clause-fits
 returns-in-Some-clause-fits c =
     let f : FitsSigned w64 c.args.value = c.ranges.value in
-    let shape = c.args.shape.now in
-    let limit = c.args.limit in
-    let es = c.args.self.now.entries in
-    let a = c.args.set.now in
-    let v = c.args.value in
-    let same : c.try_record.new.self.entries ≡ es = ap (λ (s : Stored). s.entries) (c.try_record.ensures.unchanged c.in-Nowhere.is ∙ c.self.view_is) in
+    let same : c.try_record.new.self.entries ≡ c.args.self.now.entries = ap (λ (s : Stored). s.entries) (c.try_record.ensures.unchanged c.in-Nowhere.is ∙ c.self.view_is) in
     let held = c.try_record.new.self.entries in
-    let gone : has_point held a ≡ false = ap (λ (x : Points). has_point x a) (ap (λ (s : Stored). s.entries) (c.try_record.ensures.unchanged c.in-Nowhere.is)) ∙ c.in-Nowhere.ensures.tells in
-    let at : place_of limit held a ≡ Some c.in-Some.place = sym (place-past limit held a c.find_past.result gone (no-position held a gone) c.find_past.ensures.room c.find_past.ensures.full) ∙ c.in-Some.is in
-    point-out shape limit held es a v same c.in-Some.place c.try_add-in-Nowhere.result at (simp to_z-of_z at c.try_add-in-Nowhere.ensures.fits)
+    let gone : has_point held c.args.set.now ≡ false = ap (λ (x : Points). has_point x c.args.set.now) (ap (λ (s : Stored). s.entries) (c.try_record.ensures.unchanged c.in-Nowhere.is)) ∙ c.in-Nowhere.ensures.tells in
+    let at : place_of c.args.limit held c.args.set.now ≡ Some c.in-Some.place = sym (place-past c.args.limit held c.args.set.now c.find_past.result gone (no-position held c.args.set.now gone) c.find_past.ensures.room c.find_past.ensures.full) ∙ c.in-Some.is in
+    point-out c.args.shape.now c.args.limit held c.args.self.now.entries c.args.set.now c.args.value same c.in-Some.place c.try_add-in-Nowhere.result at (simp to_z-of_z at c.try_add-in-Nowhere.ensures.fits)
 
 pub returns-in-Some-clause-added : goal.returns-in-Some-clause-added
 returns-in-Some-clause-added c = λ y.
     let f : FitsSigned w64 c.args.value = c.ranges.value in
-    let shape = c.args.shape.now in
-    let limit = c.args.limit in
-    let es = c.args.self.now.entries in
-    let a = c.args.set.now in
-    let v = c.args.value in
-    let same : c.try_record.new.self.entries ≡ es = ap (λ (s : Stored). s.entries) (c.try_record.ensures.unchanged c.in-Nowhere.is ∙ c.self.view_is) in
+    let same : c.try_record.new.self.entries ≡ c.args.self.now.entries = ap (λ (s : Stored). s.entries) (c.try_record.ensures.unchanged c.in-Nowhere.is ∙ c.self.view_is) in
     let held = c.try_record.new.self.entries in
-    let gone : has_point held a ≡ false = ap (λ (x : Points). has_point x a) (ap (λ (s : Stored). s.entries) (c.try_record.ensures.unchanged c.in-Nowhere.is)) ∙ c.in-Nowhere.ensures.tells in
-    let at : place_of limit held a ≡ Some c.in-Some.place = sym (place-past limit held a c.find_past.result gone (no-position held a gone) c.find_past.ensures.room c.find_past.ensures.full) ∙ c.in-Some.is in
-    point-step shape limit held es a v same c.in-Some.place c.try_add-in-Nowhere.new.self.entries at ((simp to_z-of_z at c.try_add-in-Nowhere.ensures.added) (same_Some _ _ y))
+    let gone : has_point held c.args.set.now ≡ false = ap (λ (x : Points). has_point x c.args.set.now) (ap (λ (s : Stored). s.entries) (c.try_record.ensures.unchanged c.in-Nowhere.is)) ∙ c.in-Nowhere.ensures.tells in
+    let at : place_of c.args.limit held c.args.set.now ≡ Some c.in-Some.place = sym (place-past c.args.limit held c.args.set.now c.find_past.result gone (no-position held c.args.set.now gone) c.find_past.ensures.room c.find_past.ensures.full) ∙ c.in-Some.is in
+    point-step c.args.shape.now c.args.limit held c.args.self.now.entries c.args.set.now c.args.value same c.in-Some.place c.try_add-in-Nowhere.new.self.entries at ((simp to_z-of_z at c.try_add-in-Nowhere.ensures.added) (same_Some _ _ y))
