@@ -41,4 +41,4 @@ pub returns-in-Ok-clause-knows : goal.returns-in-Ok-clause-knows
 returns-in-Ok-clause-knows c =
     let told = c.in-Ok.ensures.value in
     knows_push c.args.writer.now c.measure.new.self c.args.set.now c.in-Ok.point (is_ok c.push-kept.result) c.push-kept.new.self.items
-    (returns-in-Ok-clause-keeps c) c.requires c.push-kept.ensures.items told.1 told.2 c.in-Ok.ensures.home
+    (returns-in-Ok-clause-keeps c) c.requires c.push-kept.ensures.items told.1 c.in-Ok.ensures.incarnation c.in-Ok.ensures.home
