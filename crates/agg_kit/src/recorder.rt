@@ -32,8 +32,8 @@ use std::marker::Model;
 /// that may fall it knows how far each set's sum went down and up, since a tally may not take in what left the range on its way.
 ///
 /// Once a tally has taken it in, its sets wait in it, as many as the limit says: the next value of one takes no copy of it where its
-/// instrument has one feed that keeps all keys. Its bound points know places that are gone then. Release each ([`Bound::release`]): it is looked up
-/// again at its first value.
+/// instrument has one feed that keeps all keys. Its bound points know places that are gone then. Release each
+/// ([`Bound::release`]): it is looked up again at its first value.
 #[derive(Drop)]
 pub struct Recorder {
     pub(crate) tally: Tally,
