@@ -3,14 +3,14 @@ ghost use Rattle.std.specs.List.{IsDistinct};
 ghost use Rattle.std.specs.Prelude.{◌≡◌, ◌≢◌, ◌<◌, IfOk, IfErr, OnOk, OnErr, Some, None, All, length, position, true};
 ghost use Rattle.attr_kit.specs.Refusing.{repeat};
 ghost use Rattle.point_kit.specs.ExportFaults.{same_key, export_fault};
-ghost use Rattle.point_kit.specs.Hashes.{key_hash};
+ghost use Rattle.point_kit.specs.Hashes.{content_hash, key_hash};
 ghost use Rattle.point_kit.specs.Payload.{wrong_shape, wrong_buckets, wrong_count, negative, wrong_range, IsSound};
 
 use crate::{ExportFault, ExportPoint, WriterId};
 use attr_kit::{NoMemory, Seq, TryCopy};
 use std::alloc::Global;
 use std::collections::BTreeSet;
-use std::hash::{FoldHasher, Hash, Hasher};
+use std::hash::{DefaultHasher, FoldHasher, Hash, Hasher};
 
 /// The points of one collection of a writer (Metrics Data Model, "Temporality": cumulative points of one start). Its
 /// start and time are nanoseconds since the Unix epoch. No key stands twice, and each payload is sound in its stream.
@@ -45,14 +45,25 @@ fn differ_by_hash(alloc: Global, points: &[ExportPoint]) -> Result<bool, NoMemor
     Ok(hashes.as_slice().is_sorted_by(|hash, next| hash < next))
 }
 
-// The least place of a point whose key an earlier one has. O(n log n) comparisons of keys. Sets come first: of a stream that many
-// points share, a long text is then compared only where the sets are equal too, and so are the keys.
+// A hash of all that a key has, by SipHash-1-3. Keys that were picked to share the first hash differ in this one: to find many
+// that share both takes more steps than anybody has.
+fn content_hash(point: &ExportPoint) -> u64
+    ensures { result ≡ content_hash point.now.stream point.now.attrs }
+{
+    let mut state = DefaultHasher::new();
+    point.stream.get().hash(&mut state);
+    point.attrs.pairs().hash(&mut state);
+    state.finish()
+}
+
+// The least place of a point whose key an earlier one has. O(n log n) comparisons of hashes, and of keys only where those are equal.
 fn first_twice(alloc: Global, points: &[ExportPoint]) -> Result<Option<usize>, NoMemory>
     ensures { IfOk result (λ place. place ≡ repeat same_key points.now) }
 {
     let mut seen = BTreeSet::new(alloc);
     for (place, point) in points.iter().enumerate() {
-        if !seen.insert((&point.attrs, &point.stream))? {
+        let key = (&point.attrs, &point.stream);
+        if !seen.insert((content_hash(point), key))? {
             return Ok(Some(place));
         }
     }
@@ -145,8 +156,8 @@ impl Export {
     /// Refused, in this order, each at its least place: `TimeNotAfterStart`, `KeyTwice`, `WrongShape`, `BucketCount`,
     /// `CountMismatch`, `NegativeTotal`, `BadRange`. `NoMemory` comes only where the time is after the start and what is
     /// noted of at least two points found no room; whether one of the others fits is then open. That bounds rise is not
-    /// checked. O(n log n) comparisons of the n points' hashes, and O(n) in points and buckets. Where two hashes are
-    /// equal, O(n log n) comparisons of streams and sets too, whatever the points.
+    /// checked. O(n log n) comparisons of the n points' hashes, and O(n) in points and buckets. Where two hashes are equal,
+    /// one more hash of all that each key has, O(n log n) comparisons of these, and of keys only where these are equal too.
     pub fn build(
         alloc: Global,
         writer: WriterId,
