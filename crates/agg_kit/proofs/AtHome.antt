@@ -1,5 +1,5 @@
 -- Whether a bound point is at home: by the set at its one place, or by a look at each of its points.
-use Rattle.std.proofs.Common.{◌≡◌, ◌≢◌, ◌∙◌, ◌+◌, ◌<◌, ◌||◌, ◌↔◌, IsTrue, ℕ, ℤ, Bool, true, false, not, cond, List, [], ◌∷◌, Option, Some, length, get_or, slice_get, position, inl, inr, refl, sym, ap, subst, suc, zero, arith, true≢false}
+use Rattle.std.proofs.Common.{◌≡◌, ◌≢◌, ◌∙◌, ◌+◌, ◌<◌, ◌||◌, ◌↔◌, IsTrue, ℕ, ℤ, Bool, true, false, not, cond, List, [], ◌∷◌, Option, Some, length, get_or, slice_get, ◌⊎◌, pos, inl, inr, refl, sym, ap, subst, suc, zero, arith, true≢false}
 use Rattle.std.specs.Map.{keys_of}
 use Rattle.attr_kit.specs.Keeping.{kept}
 use Rattle.attr_kit.specs.declared.attr_set.AttrSet.{AttrSet}
@@ -108,6 +108,15 @@ known-is p fs is a ss at some stand = ((λ h. inr (stand.0 h)), by)
     by : AreKnown p fs is a ss → IsTrue at
     by (inl n) = absurd (some n)
     by (inr k) = stand.1 k
+
+-- and of a recorder that it stands, where the sets are kept
+pub own-is : (t : Tallied) (b : Bound) (at keeps : Bool) → (b.places.items ≢ []) → (IsTrue at ↔ AreAt t.plan (feeds_of t.plan b.instrument) b.places.items b.attrs t.series) → at ≡ true → keeps ≡ keeps_sets t (entry_at b (pos 0))
+    → IsTrue keeps ↔ (IsBound t b × ((b.places.items ≡ []) ⊎ (keeps_sets t (entry_at b (pos 0)) ≡ true)))
+own-is t b at keeps some stand on told = ((λ h. (inr (stand.0 on), inr (sym told ∙ h))), by)
+  where
+    by : IsBound t b × ((b.places.items ≡ []) ⊎ (keeps_sets t (entry_at b (pos 0)) ≡ true)) → IsTrue keeps
+    by (home, inl n) = absurd (some n)
+    by (home, inr k) = told ∙ k
 
 -- ---- what takes no memory
 

@@ -1,8 +1,7 @@
-use Rattle.std.proofs.Common.{◌≡◌, ◌∙◌, ◌∷◌, length, sym, subst, ap}
-use Rattle.attr_kit.specs.Keeping.{kept}
+use Rattle.std.proofs.Common.{◌∙◌, ◌∷◌, length, subst}
 use Rattle.plan_kit.specs.Plans.{AreFeeds}
 use Rattle.agg_kit.specs.BoundPoints.{place_of}
-use Rattle.agg_kit.specs.Feeds.{entries_of, series_at}
+use Rattle.agg_kit.specs.Feeds.{entries_of}
 use Rattle.agg_kit.proofs.AtHome.{at-here, at-other, place-seen}
 use Rattle.agg_kit.proofs.Recorders.{if_ok}
 use Rattle.agg_kit.proofs.bound.+are_at.Goals as goal

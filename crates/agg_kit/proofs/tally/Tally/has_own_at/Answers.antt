@@ -1,4 +1,4 @@
-use Rattle.std.proofs.Common.{◌≡◌, ◌∙◌, ℕ, List, Some, length, get_or, pos, sym, ap}
+use Rattle.std.proofs.Common.{◌∙◌, ℕ, List, length, get_or, pos, sym, ap}
 use Rattle.std.specs.Option.{option_map}
 use Rattle.attr_kit.specs.declared.attr_set.AttrSet.{AttrSet}
 use Rattle.point_kit.specs.declared.payload.Payload.{Payload}

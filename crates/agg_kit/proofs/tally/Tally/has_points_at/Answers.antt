@@ -1,4 +1,4 @@
-use Rattle.std.proofs.Common.{length, sym, subst, ℕ}
+use Rattle.std.proofs.Common.{sym, subst, ℕ}
 use Rattle.plan_kit.specs.Plans.{AreFeeds}
 use Rattle.agg_kit.proofs.Records.{stored-length}
 use Rattle.agg_kit.proofs.tally.Tally.has_points_at.Goals as goal
