@@ -166,11 +166,17 @@ impl Recorder {
             → has_noted self.old.plan (feeds_of self.old.plan bound.old.instrument) ≡ false → IfErr result (λ f. f ≢ RecordFault.NoMemory) }
         ensures known { bound.old.places.items ≢ [] → IfErr result (λ f. f ≢ RecordFault.NoMemory) }
         ensures unchanged { OnErr result (self.new ≡ self.old) }
+        ensures kept { OnErr result (bound.new ≡ bound.old) }
         ensures instrument { bound.new.instrument ≡ bound.old.instrument }
         ensures attrs { bound.new.attrs ≡ bound.old.attrs }
         ensures bound { IsOwnBound self.new bound.new }
     {
-        self.measure_at_home(bound, value)
+        if bound.places.is_empty() {
+            self.measure(bound.instrument, &bound.attrs, value)?;
+            self.rebind(bound);
+            return Ok(());
+        }
+        self.measure_known(bound, value)
     }
 
     /// Whether a bound point is at home in this recorder: it knows no places, or its sets have points of their own, which stand at the
@@ -226,34 +232,10 @@ impl Recorder {
         if !home {
             return Err(HomeFault::Stale);
         }
-        match self.measure_at_home(bound, value) {
+        match self.measure_bound(bound, value) {
             Ok(()) => Ok(()),
             Err(fault) => Err(HomeFault::Refused(fault)),
         }
-    }
-
-    // Records a value at a bound point that is at home, which a refusal leaves as it was.
-    #[inline(always)]
-    fn measure_at_home(&mut self, bound: &mut Bound, value: i64) -> Result<(), RecordFault>
-        requires { IsOwnBound self.old bound.old }
-        ensures ok { OnOk result (record_fault_of self.old (entry_at bound.old value) ≡ None) }
-        ensures value { OnOk result (self.new ≡ recorder_after self.old (entry_at bound.old value)) }
-        ensures err { IfErr result (λ f. f ≢ RecordFault.NoMemory → record_fault_of self.old (entry_at bound.old value) ≡ Some f) }
-        ensures held { IsHeld (tally_in self.old) (entry_at bound.old value)
-            → has_noted self.old.plan (feeds_of self.old.plan bound.old.instrument) ≡ false → IfErr result (λ f. f ≢ RecordFault.NoMemory) }
-        ensures known { bound.old.places.items ≢ [] → IfErr result (λ f. f ≢ RecordFault.NoMemory) }
-        ensures unchanged { OnErr result (self.new ≡ self.old) }
-        ensures kept { OnErr result (bound.new ≡ bound.old) }
-        ensures instrument { bound.new.instrument ≡ bound.old.instrument }
-        ensures attrs { bound.new.attrs ≡ bound.old.attrs }
-        ensures bound { IsOwnBound self.new bound.new }
-    {
-        if bound.places.is_empty() {
-            self.measure(bound.instrument, &bound.attrs, value)?;
-            self.rebind(bound);
-            return Ok(());
-        }
-        self.measure_known(bound, value)
     }
 
     // Records a value at a set's own point, and notes it beside the point. Takes no memory.

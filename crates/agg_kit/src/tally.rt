@@ -155,11 +155,20 @@ impl Tally {
         ensures held { IsHeld self.old (entry_at bound.old value) → IfErr result (λ f. f ≢ TallyFault.NoMemory) }
         ensures known { bound.old.places.items ≢ [] → IfErr result (λ f. f ≢ TallyFault.NoMemory) }
         ensures unchanged { OnErr result (self.new ≡ self.old) }
+        ensures kept { OnErr result (bound.new ≡ bound.old) }
         ensures instrument { bound.new.instrument ≡ bound.old.instrument }
         ensures attrs { bound.new.attrs ≡ bound.old.attrs }
         ensures bound { IsBound self.new bound.new }
     {
-        self.measure_at_home(bound, value)
+        // What the plan says of the feeds of all its instruments.
+        let _ = self.plan().streams_len();
+        let places = bound.places.as_slice();
+        let lone = self.lone(bound.instrument);
+        self.measure_at(bound.instrument, lone, &bound.attrs, places, value)?;
+        if bound.places.is_empty() {
+            self.rebind(bound);
+        }
+        Ok(())
     }
 
     /// Whether a bound point is at home in this tally: it knows no places, or its points stand at the places that it knows. Whatever
@@ -212,37 +221,10 @@ impl Tally {
         if !home {
             return Err(HomeFault::Stale);
         }
-        match self.measure_at_home(bound, value) {
+        match self.measure_bound(bound, value) {
             Ok(()) => Ok(()),
             Err(fault) => Err(HomeFault::Refused(fault)),
         }
-    }
-
-    // Records a value at a bound point that is at home, which a refusal leaves as it was.
-    #[inline(always)]
-    fn measure_at_home(&mut self, bound: &mut Bound, value: i64) -> Result<(), TallyFault>
-        requires { IsBound self.old bound.old }
-        ensures ok { OnOk result (fault_of self.old (entry_at bound.old value) ≡ None) }
-        ensures value { OnOk result (self.new ≡ after_measure self.old (entry_at bound.old value)) }
-        ensures err { IfErr result (λ f. f ≢ TallyFault.NoMemory → fault_of self.old (entry_at bound.old value) ≡ Some f) }
-        ensures no_memory { IfErr result (λ f. f ≡ faults.NoMemory → early_fault_of self.old (entry_at bound.old value) ≡ None) }
-        ensures held { IsHeld self.old (entry_at bound.old value) → IfErr result (λ f. f ≢ TallyFault.NoMemory) }
-        ensures known { bound.old.places.items ≢ [] → IfErr result (λ f. f ≢ TallyFault.NoMemory) }
-        ensures unchanged { OnErr result (self.new ≡ self.old) }
-        ensures kept { OnErr result (bound.new ≡ bound.old) }
-        ensures instrument { bound.new.instrument ≡ bound.old.instrument }
-        ensures attrs { bound.new.attrs ≡ bound.old.attrs }
-        ensures bound { IsBound self.new bound.new }
-    {
-        // What the plan says of the feeds of all its instruments.
-        let _ = self.plan().streams_len();
-        let places = bound.places.as_slice();
-        let lone = self.lone(bound.instrument);
-        self.measure_at(bound.instrument, lone, &bound.attrs, places, value)?;
-        if bound.places.is_empty() {
-            self.rebind(bound);
-        }
-        Ok(())
     }
 
     // Whether a bound point knows one place, and its set's own point stands there, in the stream of the instrument's one feed, which
