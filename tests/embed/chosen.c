@@ -1,9 +1,15 @@
 /* Bytes whose texts, or whose points' keys, were picked to share a hash are written and read nearly as fast as others. The kit's hash has no
  * secret, so a sender can pick them: texts that would all stand at one slot of the table of an export, and sets whose hashes are equal.
- * Were texts or keys found by the hash alone, reading would take the square of their number, here some hundred times as long. Prints the
- * first check that does not hold and exits with 1; else the times.
+ * Were texts or keys found by the hash alone, reading would take the square of their number, here some hundred times as long.
  *
- *     chosen [POINTS]      how many points an export has, a power of two. 8192 where nothing is said */
+ * So are bytes of which one pair of keys was picked, where keys of one set differ in the last byte of their scopes alone: the pair makes
+ * reading look further than at the hashes of all keys. Scopes of 64 bytes are shared by the points of a stream, longer ones stand at each
+ * point: were those shared too, comparing keys would take as long as the scopes are for points of a few bytes each.
+ *
+ * Each is compared with as many points, of about as many bytes, of which none was picked. Prints the first check that does not hold and exits
+ * with 1; else the times.
+ *
+ *     chosen [POINTS]      how many points an export has, a power of two from 256 on. 8192 where nothing is said */
 #define _POSIX_C_SOURCE 200809L
 #include <kotskhin.h>
 #include <stdio.h>
@@ -22,6 +28,10 @@
 
 /* How many slots the table has for each of so many texts; how often each is timed, and how much slower the picked ones may be. */
 enum { SLOTS_EACH = 4, MOST = 1 << 13, LETTERS = 8, ROUNDS = 5, SLOWER = 40 };
+
+/* How long a scope is that points share, and one that stands at each, of which there are fewer sets; and room for the bytes of the largest
+ * export or message here. */
+enum { SHARED = 64, LONG = 1 << 16, FEWER = 128, ROOM = 1 << 24 };
 
 static size_t points = MOST;
 
@@ -75,26 +85,46 @@ static int64_t zeroing(const char *text) {
     return (int64_t)fed_number(fed_text(state, "z", 1), A_WHOLE_NUMBER);
 }
 
-enum pick { NONE, ITS_TEXTS, ITS_SETS };
+enum pick { NONE, ITS_TEXTS, ITS_SETS, A_PAIR };
 
-static void recorded(kit_handle *writer, enum pick pick) {
+/* The points of an export: so many streams, which differ in the last byte of scopes of one length, and the same sets in each. */
+struct kind {
+    size_t streams, scope, sets;
+};
+
+/* Of a pair the first two sets have one hash, and no others. */
+static enum pick pick_of(enum pick pick, size_t set) {
+    if (pick != A_PAIR) return pick;
+    return set < 2 ? ITS_SETS : NONE;
+}
+
+static void recorded(kit_handle *writer, size_t streams, enum pick pick) {
     kit_handle pairs = KIT_EMPTY, set = KIT_EMPTY;
     char text[LETTERS];
     text_of(text, pick == ITS_TEXTS);
     int64_t number = pick == ITS_SETS ? zeroing(text) : (int64_t)any();
     CHECK(!kit_pairs_add_text(&pairs, TEXT("a"), (const uint8_t *)text, LETTERS));
     CHECK(!kit_pairs_add_whole(&pairs, TEXT("z"), number) && !kit_attributes_make(&set, &pairs, &place));
-    CHECK(!kit_writer_measure(writer, 0, &set, 1, &place));
+    for (size_t i = 0; i < streams; i++) CHECK(!kit_writer_measure(writer, i, &set, 1, &place));
     kit_free(&pairs), kit_free(&set);
 }
 
-static void collected(kit_handle *export_, enum pick pick) {
+static void scoped(kit_handle *instruments, const struct kind *kind) {
+    static uint8_t scope[LONG];
+    memset(scope, 's', kind->scope);
+    for (size_t i = 0; i < kind->streams; i++) {
+        scope[kind->scope - 1] = (uint8_t)('a' + i);
+        CHECK(!kit_instruments_add(instruments, scope, kind->scope, TEXT("requests"), TEXT("1"), KIT_COUNTER));
+    }
+}
+
+static void collected(kit_handle *export_, const struct kind *kind, enum pick pick) {
     kit_handle instruments = KIT_EMPTY, views = KIT_EMPTY, plan = KIT_EMPTY, writer = KIT_EMPTY;
     uint64_t second;
-    CHECK(!kit_instruments_add(&instruments, TEXT("app"), TEXT("requests"), TEXT("1"), KIT_COUNTER));
-    CHECK(!kit_plan_build(&plan, &instruments, &views, points + 1, &place, &second));
+    scoped(&instruments, kind);
+    CHECK(!kit_plan_build(&plan, &instruments, &views, kind->sets + 1, &place, &second));
     CHECK(!kit_writer_start(&writer, &plan, TEXT("shop"), 0, 1, 100));
-    for (size_t i = 0; i < points; i++) recorded(&writer, pick);
+    for (size_t i = 0; i < kind->sets; i++) recorded(&writer, kind->streams, pick_of(pick, i));
     CHECK(!kit_writer_collect(&writer, 200, export_, &place));
     kit_free(&instruments), kit_free(&views), kit_free(&plan), kit_free(&writer);
 }
@@ -128,7 +158,7 @@ struct took {
 static double least(double one, double other) { return one < other ? one : other; }
 
 static struct took timed(const struct form *form, kit_handle *it) {
-    static uint8_t copy[64 * MOST];
+    static uint8_t copy[ROOM];
     struct took took = {1e12, 1e12};
     for (size_t round = 0; round < ROUNDS; round++) {
         kit_handle bytes = KIT_EMPTY, read = KIT_EMPTY;
@@ -149,27 +179,33 @@ struct both {
     struct took export_, message;
 };
 
-static struct both of(enum pick pick) {
+static struct both of(const struct kind *kind, enum pick pick) {
     kit_handle export_ = KIT_EMPTY, message = KIT_EMPTY;
-    collected(&export_, pick), told(&export_, &message);
+    collected(&export_, kind, pick), told(&export_, &message);
     struct both both = {timed(&AN_EXPORT, &export_), timed(&A_MESSAGE, &message)};
     kit_free(&export_), kit_free(&message);
     return both;
 }
 
-static void compared(const char *what, struct took picked, struct took plain) {
-    printf("%s: written in %.0f us, of others in %.0f; read in %.0f, of others in %.0f\n", what, picked.written, plain.written, picked.read,
-           plain.read);
+static void compared_one(const char *a, const char *what, struct took picked, struct took plain) {
+    printf("%s of %s: written in %.0f us, of others in %.0f; read in %.0f, of others in %.0f\n", a, what, picked.written, plain.written,
+           picked.read, plain.read);
     CHECK(picked.written < SLOWER * plain.written && picked.read < SLOWER * plain.read);
+}
+
+static void compared(const char *what, struct both picked, struct both plain) {
+    compared_one("an export", what, picked.export_, plain.export_);
+    compared_one("a message", what, picked.message, plain.message);
 }
 
 int main(int count, char **given) {
     points = count > 1 ? strtoul(given[1], NULL, 10) : points;
-    CHECK(0 < points && points <= MOST);
-    struct both plain = of(NONE), texts = of(ITS_TEXTS), sets = of(ITS_SETS);
-    compared("an export of picked texts", texts.export_, plain.export_);
-    compared("a message of picked texts", texts.message, plain.message);
-    compared("an export of picked sets", sets.export_, plain.export_);
-    compared("a message of picked sets", sets.message, plain.message);
+    CHECK(2 * FEWER <= points && points <= MOST);
+    const struct kind one = {1, 3, points}, shared = {2, SHARED, points / 4}, longer = {2, LONG, points / FEWER};
+    struct both plain = of(&one, NONE);
+    compared("picked texts", of(&one, ITS_TEXTS), plain);
+    compared("picked sets", of(&one, ITS_SETS), plain);
+    compared("a picked pair in shared scopes", of(&shared, A_PAIR), of(&shared, NONE));
+    compared("a picked pair in long scopes", of(&longer, A_PAIR), of(&longer, NONE));
     return 0;
 }

@@ -2,11 +2,14 @@
 use Rattle.std.proofs.Common.{◌≡◌, ℕ, zero, suc, ◌+◌, ◌<◌, ◌≤◌, ◌*◌, ◌&&◌, ◌==◌, nat_eq, ℤ, cond, Bool, true, false, List, [], ◌∷◌, ◌++◌, length, get_or, Option, Some, None, refl, sym, ap, subst, ◌∙◌, arith, length-append}
 use Rattle.std.proofs.lemmas.Bool.{le-leb, leb-true, false≢true}
 use Rattle.std.proofs.lemmas.List.Quantifiers.{position-Some}
+use Rattle.std.proofs.lemmas.Option.{cond_some, none-some}
 use Rattle.std.specs.Cmp.Lexicographic.{pointwise}
 use Rattle.std.specs.Int.{w32, to_be_bytes}
 use Rattle.std.specs.List.{AllByRecursion, flat_map}
+use Rattle.std.specs.Option.{ForSome}
 use Rattle.gossip_kit.specs.Views.{MessageModel}
 use Rattle.attr_kit.specs.Exact.{exact_texts, first_holds, second_holds}
+use Rattle.attr_kit.specs.Refusing.{when}
 use Rattle.attr_kit.specs.declared.attr_value.AttrValue.{AttrValue}
 use Rattle.attr_kit.specs.declared.attr_value.AttrValue.TheVariants as values
 use Rattle.point_kit.specs.Exact.{exact_streams}
@@ -27,8 +30,8 @@ use Rattle.bytes_kit.specs.Checksum.{checksum}
 use Rattle.bytes_kit.specs.Format.{Fields, fields, fields_of, head, with_checksum, bytes_of, varint, integer, text, text_or_place, text_behind, list_of, pair_behind, past_pair, forms_behind, past_all, list_behind, value, past_value, attributes, past_attributes, shape, stream, past_stream, stream_or_last, past_stream_or_last, point_stream, past_point_stream, payload, point, past_point, writer, past_writer}
 use Rattle.bytes_kit.specs.Laws.{varint_bytes, integer_bytes}
 use Rattle.bytes_kit.specs.MessageLaws.{entry_bytes}
-use Rattle.bytes_kit.specs.Messages.{Earlier, Entry, common, common_of, has_few_bounds, is_light, common_form, key_rest, past_rest, key, entry, past_entry, nothing_earlier, cell, cells, payload_or_conflict, body_bytes, message_head, message_fields, fields_of_message, bytes_of_message, bytes_of_message_fields, MessageFields}
-use Rattle.bytes_kit.specs.Past.{Past, no_past, place_of, more_texts, texts_behind, past_text, is_short, is_last}
+use Rattle.bytes_kit.specs.Messages.{Earlier, Entry, common, common_of, common_form, key_rest, past_rest, key, entry, past_entry, nothing_earlier, cell, cells, payload_or_conflict, body_bytes, message_head, message_fields, fields_of_message, bytes_of_message, bytes_of_message_fields, MessageFields}
+use Rattle.bytes_kit.specs.Past.{Past, no_past, place_of, more_texts, texts_behind, past_text, is_short, has_few_bounds, is_light, shareable, is_last}
 use Rattle.bytes_kit.specs.Weights.{text_weight, list_weight, value_weight, pair_weight, shape_weight, stream_weight, payload_weight, held_stream_weight, point_weight, points_weight, export_weight, held_weight, entry_weight, carried_weight, message_weight}
 use Rattle.bytes_kit.specs.declared.carried.Carried.{Carried}
 use Rattle.bytes_kit.specs.declared.carried.Carried.TheVariants as bodies
@@ -214,18 +217,33 @@ last_of : (o : Option Stream) (s : Stream) → is_last o s ≡ true → o ≡ So
 last_of None s e = absurd (false≢true e)
 last_of (Some r) s e = ap (λ (x : Stream). Some x) (exact_streams r s e)
 
-held_is : (b : Bool) (p : Past) (s : Stream) → is_last p.stream s ≡ b → (past_stream_or_last b p s).stream ≡ Some s
-held_is true p s e = last_of p.stream s e
-held_is false p s e = refl
+-- the stream that a point may share is light
+abbrev IsShareable : Option Stream → Type 0
+IsShareable o = ForSome o (λ s. is_light s ≡ true)
 
-point_keeps : (p : Past) (x : ExportPoint) → (past_point p x).stream ≡ Some x.stream
-point_keeps p x = attributes_keep (past_point_stream p x.stream) x.attrs ∙ held_is (is_last p.stream x.stream) p x.stream refl
+shareable_stream : (s : Stream) → IsShareable (shareable s)
+shareable_stream s r e =
+    let both = cond_some (is_light s) s r e in
+    subst (λ (x : Stream). is_light x ≡ true) both.1 both.0
 
-points_weigh : (p : Past) (xs : List ExportPoint) → AreShort p → points_weight p.stream xs ≤ length (forms_behind point past_point p xs)
-points_weigh p [] all = omega arith
-points_weigh p (x ∷ xs) all =
-    let later : points_weight (past_point p x).stream xs ≤ length (forms_behind point past_point (past_point p x) xs) = points_weigh (past_point p x) xs (short_point p x all) in
-    let same : points_weight (past_point p x).stream xs ≡ points_weight (Some x.stream) xs = ap (λ (o : Option Stream). points_weight o xs) (point_keeps p x) in
+held_is : (b : Bool) (p : Past) (s : Stream) → IsShareable p.stream → is_last p.stream s ≡ b → (past_stream_or_last b p s).stream ≡ shareable s
+held_is true p s light e =
+    let same = last_of p.stream s e in
+    same ∙ sym (ap (λ (b : Bool). when b s) (light s same))
+held_is false p s light e = refl
+
+point_keeps : (p : Past) (x : ExportPoint) → IsShareable p.stream → (past_point p x).stream ≡ shareable x.stream
+point_keeps p x light = attributes_keep (past_point_stream p x.stream) x.attrs ∙ held_is (is_last p.stream x.stream) p x.stream light refl
+
+shareable_point : (p : Past) (x : ExportPoint) → IsShareable p.stream → IsShareable (past_point p x).stream
+shareable_point p x light = subst IsShareable (sym (point_keeps p x light)) (shareable_stream x.stream)
+
+points_weigh : (p : Past) (xs : List ExportPoint) → AreShort p → IsShareable p.stream → points_weight p.stream xs ≤ length (forms_behind point past_point p xs)
+points_weigh p [] all light = omega arith
+points_weigh p (x ∷ xs) all light =
+    let q = past_point p x in
+    let later : points_weight q.stream xs ≤ length (forms_behind point past_point q xs) = points_weigh q xs (short_point p x all) (shareable_point p x light) in
+    let same : points_weight q.stream xs ≡ points_weight (shareable x.stream) xs = ap (λ (o : Option Stream). points_weight o xs) (point_keeps p x light) in
     omega (arith, point_weighs p x all, later, same, length-append (point p x) (forms_behind point past_point (past_point p x) xs))
 
 short_writer : (p : Past) (w : WriterId) → AreShort p → AreShort (past_writer p w)
@@ -238,7 +256,7 @@ sealed_long bytes = omega (arith, length-append bytes (to_be_bytes w32 (checksum
 fields_weigh : (x : Fields) → text_weight x.0.service + points_weight None x.1.1.1 ≤ length (fields x)
 fields_weigh x =
     let q = past_writer no_past x.0 in
-    let points : points_weight None x.1.1.1 ≤ length (forms_behind point past_point q x.1.1.1) = points_weigh q x.1.1.1 (short_writer no_past x.0 tt) in
+    let points : points_weight None x.1.1.1 ≤ length (forms_behind point past_point q x.1.1.1) = points_weigh q x.1.1.1 (short_writer no_past x.0 tt) (λ s e. absurd (none-some s e)) in
     omega (
       arith,
       text_weighs no_past x.0.service tt,

@@ -126,7 +126,7 @@ stream p s = stream_fields p (fields_of_stream s)
 abbrev pub past_stream : Past → Stream → Past
 past_stream p s = past_stream_fields p (fields_of_stream s)
 
--- 0 where it is the last stream; else 1 and the stream
+-- 0 where it is the last stream, and light; else 1 and the stream
 abbrev pub stream_or_last : Bool → Past → Stream → List ℕ
 stream_or_last true p s = 0 ∷ []
 stream_or_last false p s = 1 ∷ stream p s

@@ -18,8 +18,8 @@ use Rattle.bytes_kit.specs.Codes.{IsCode}
 use Rattle.bytes_kit.specs.Format.{varint, pair_of, pair_behind, same_behind, past_same, attributes, stream, past_stream, writer, past_writer}
 use Rattle.bytes_kit.specs.KeyForms.{Inherits}
 use Rattle.bytes_kit.specs.Laws.{varint_code, varint_bytes, pair_code, pair_bytes, code_through}
-use Rattle.bytes_kit.specs.Messages.{Earlier, Entry, common, common_form, common_of, is_light, series_fields, key_fields, key_rest, key, payload_or_conflict, cell, entry, past_entry, nothing_earlier, cells, body_bytes, message_fields}
-use Rattle.bytes_kit.specs.Past.{Past, is_short}
+use Rattle.bytes_kit.specs.Messages.{Earlier, Entry, common, common_form, common_of, series_fields, key_fields, key_rest, key, payload_or_conflict, cell, entry, past_entry, nothing_earlier, cells, body_bytes, message_fields}
+use Rattle.bytes_kit.specs.Past.{Past, is_short, is_light}
 use Rattle.bytes_kit.specs.PastLaws.{IsCodeBehind, pair_behind_code, list_behind_code}
 use Rattle.bytes_kit.specs.FieldLaws.{writer_code, stream_code, attributes_code, payload_code, payload_bytes}
 use Rattle.bytes_kit.specs.declared.carried.Carried.TheVariants as bodies

@@ -1,5 +1,5 @@
 -- The one form of a message.
-use Rattle.std.specs.Prelude.{ℕ, Bool, true, false, ◌&&◌, ◌==◌, List, [], ◌∷◌, ◌++◌, Option, Some, None, nat_le, length}
+use Rattle.std.specs.Prelude.{ℕ, Bool, true, false, ◌&&◌, ◌==◌, List, [], ◌∷◌, ◌++◌, Option, Some, None}
 use Rattle.std.specs.FinMap.{entries}
 use Rattle.gossip_kit.specs.Views.{MessageModel}
 use Rattle.point_kit.specs.Exports.{Points}
@@ -10,13 +10,11 @@ use Rattle.point_kit.specs.declared.cell.Held.{Held}
 use Rattle.point_kit.specs.declared.cell.Held.TheVariants.{One, Conflict}
 use Rattle.point_kit.specs.declared.key.Key.{Key}
 use Rattle.point_kit.specs.declared.payload.Payload.{Payload}
-use Rattle.point_kit.specs.declared.shape.Shape.{Shape}
-use Rattle.point_kit.specs.declared.shape.Shape.TheVariants as shapes
 use Rattle.point_kit.specs.declared.stream.Stream.{Stream}
 use Rattle.point_kit.specs.declared.writer_id.WriterId.{WriterId}
 use Rattle.attr_kit.specs.declared.attr_value.AttrValue.{AttrValue}
 use Rattle.bytes_kit.specs.Format.{varint, attributes, past_attributes, stream, past_stream, payload, writer, past_writer, pair_behind, past_pair, same_behind, past_same, list_behind, head_of, with_checksum}
-use Rattle.bytes_kit.specs.Past.{Past, no_past, longest, is_short}
+use Rattle.bytes_kit.specs.Past.{Past, no_past, is_short, is_light}
 use Rattle.bytes_kit.specs.declared.carried.Carried.{Carried}
 use Rattle.bytes_kit.specs.declared.carried.Carried.TheVariants as bodies
 use Rattle.bytes_kit.specs.declared.keys.Shared.{Shared}
@@ -30,14 +28,6 @@ abbrev pub common_of : Bool → Bool → Shared
 common_of true true = shares.Stream
 common_of true false = shares.Incarnation
 common_of false same = shares.Nothing
-
--- a stream that is copied for each cell at little cost: no text of it is long, and its bounds are few
-abbrev pub has_few_bounds : Shape → Bool
-has_few_bounds (shapes.Histogram bounds) = nat_le (length bounds) longest
-has_few_bounds s = true
-
-abbrev pub is_light : Stream → Bool
-is_light s = (is_short s.scope && is_short s.name) && (is_short s.unit && has_few_bounds s.shape)
 
 -- what writer, start and stream share with the key before: a writer of a long name and a stream that is not light are written again
 abbrev pub common_fields : Option Key → WriterId → ℕ → Stream → Shared

@@ -8,6 +8,6 @@ use Rattle.bytes_kit.specs.Past.{Past, place_of, is_last}
 abbrev pub IsNewText : Past → List ℕ → Type 0
 IsNewText p t = IsText t × (place_of p.texts t ≡ None)
 
--- a stream that is not the last
+-- a stream that is not the last, or not light
 abbrev pub IsOtherStream : Past → Stream → Type 0
 IsOtherStream p s = IsStream s × (is_last p.stream s ≡ false)

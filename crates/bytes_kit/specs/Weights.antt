@@ -1,5 +1,5 @@
 -- How much is held of an export or a message: points, streams, pairs, bounds and buckets, and bytes of long texts.
-use Rattle.std.specs.Prelude.{ℕ, ◌+◌, if◌then◌else◌, Bool, true, false, List, [], ◌∷◌, length, Option, Some, None}
+use Rattle.std.specs.Prelude.{ℕ, ◌+◌, if◌then◌else◌, Bool, true, false, List, [], ◌∷◌, length, Option, None}
 use Rattle.gossip_kit.specs.Views.{MessageModel}
 use Rattle.attr_kit.specs.declared.attr_value.AttrValue.{AttrValue}
 use Rattle.attr_kit.specs.declared.attr_value.AttrValue.TheVariants as values
@@ -13,7 +13,7 @@ use Rattle.point_kit.specs.declared.shape.Shape.{Shape}
 use Rattle.point_kit.specs.declared.shape.Shape.TheVariants as shapes
 use Rattle.point_kit.specs.declared.stream.Stream.{Stream}
 use Rattle.bytes_kit.specs.Messages.{Entry, fields_of_message}
-use Rattle.bytes_kit.specs.Past.{is_short, is_last}
+use Rattle.bytes_kit.specs.Past.{is_short, shareable, is_last}
 use Rattle.bytes_kit.specs.declared.carried.Carried.{Carried}
 use Rattle.bytes_kit.specs.declared.carried.Carried.TheVariants as bodies
 
@@ -47,7 +47,7 @@ payload_weight (payloads.Sum n) = 0
 payload_weight (payloads.Gauge n) = 0
 payload_weight (payloads.Hist count sum buckets range) = length buckets
 
--- a stream that is the last is held with the point before
+-- a stream that is the last, and light, is held with the point before
 abbrev pub held_stream_weight : Bool → Stream → ℕ
 held_stream_weight true s = 0
 held_stream_weight false s = 1 + stream_weight s
@@ -57,7 +57,7 @@ point_weight last x = held_stream_weight (is_last last x.stream) x.stream + (lis
 
 abbrev pub points_weight : Option Stream → List ExportPoint → ℕ
 points_weight last [] = 0
-points_weight last (x ∷ xs) = (1 + point_weight last x) + points_weight (Some x.stream) xs
+points_weight last (x ∷ xs) = (1 + point_weight last x) + points_weight (shareable x.stream) xs
 
 abbrev pub export_weight : Export → ℕ
 export_weight e = text_weight e.writer.service + points_weight None e.points

@@ -95,8 +95,8 @@ fn read_fields(
 /// The export whose bytes these are, in the one form that docs/BYTES.md tells.
 ///
 /// What is read is sound as `Export::build` has it. A fault other than `NoMemory` comes only where these are the bytes of
-/// no export. O(n) in the bytes, and O(n log n) comparisons at the worst, whatever they are: texts that are new are looked
-/// up, and `Export::build` puts the hashes of keys in order. Memory for at most a fixed number of values for each byte: a
+/// no export. O(n) in the bytes, whatever they are, as docs/BYTES.md counts it ("Time."): texts that are new are looked up,
+/// and `Export::build` puts the hashes of keys in order. Memory for at most a fixed number of values for each byte: a
 /// number of values or bytes is compared with the bytes that are left before it is used, and [`crate::weighs_no_more`] says
 /// what is held in the end.
 pub fn decode_export(alloc: Global, bytes: &[u8]) -> Result<Export, DecodeFault>

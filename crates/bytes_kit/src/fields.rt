@@ -227,7 +227,7 @@ fn see_stream(stream: &Stream)
     see_shape(&stream.shape);
 }
 
-// A stream that is not the last, behind the 1 that says so.
+// A stream that is not the last, or not light, behind the 1 that says so.
 fn read_other(
     place: usize,
     reader: &mut Reader<'_>,

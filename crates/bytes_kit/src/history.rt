@@ -1,22 +1,21 @@
-//! What came before a form: texts that are not written again, and the last stream.
+//! What came before a form: texts that are not written again, and the stream that the next point may share.
 ghost use Rattle.std.specs.Prelude.{◌≡◌, ◌+◌, ◌<◌, ◌≤◌, ◌^◌, length, true, IfNone, IfOk, IfSome, OnOk, Some, None};
 ghost use Rattle.bytes_kit.specs.Fits.{IsStream};
 ghost use Rattle.bytes_kit.specs.Past.{no_past, place_of, past_text, with_stream, is_last};
 
+use crate::light::{LONGEST, is_light};
 use crate::texts::Texts;
 use attr_kit::{NoMemory, Txt};
 use point_kit::{SharedStream, Stream};
 use std::alloc::Global;
 use std::marker::Model;
 
-/// So long is a text that has a place.
-pub(crate) const LONGEST: usize = 64;
-
 // How many places are noted.
 const NOTES: usize = 1024;
 
 /// The texts that came, each once, in the order in which they first came; and the stream that came last. A long text has no
-/// place: it would be copied for each of its uses, and what is read would take many times the memory of its bytes.
+/// place: it would be copied for each of its uses, and what is read would take many times the memory of its bytes. A stream
+/// that is not light is not kept: it would be compared for each of its uses, and take many times the time of its bytes.
 #[derive(Drop)]
 pub(crate) struct History {
     texts: Texts,
@@ -183,7 +182,7 @@ impl History {
         Ok(())
     }
 
-    /// The stream that came last.
+    /// The stream that came last, if it was light.
     pub(crate) fn last(&self) -> Result<Option<SharedStream>, NoMemory>
         ensures { IfOk result (λ last. last ≡ self.now.stream) }
     {
@@ -193,7 +192,7 @@ impl History {
         }
     }
 
-    /// Whether a stream is the one that came last.
+    /// Whether a stream is the one that came last, which was light. Compares no more of it than is cheap.
     pub(crate) fn is_last(&self, stream: &Stream) -> bool
         ensures value { result ≡ is_last self.now.stream stream.now }
         ensures fits { result ≡ true → IsStream stream.now }
@@ -209,6 +208,10 @@ impl History {
         requires { IsStream stream }
         ensures { self.new ≡ with_stream self.old stream }
     {
-        self.stream = Some(stream);
+        self.stream = if is_light(stream.get()) {
+            Some(stream)
+        } else {
+            None
+        };
     }
 }

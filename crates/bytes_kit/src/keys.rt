@@ -3,19 +3,19 @@ ghost use Rattle.std.specs.Prelude.{◌≡◌, ◌≢◌, ◌++◌, IfErr, IfOk,
 ghost use Rattle.bytes_kit.specs.Explaining.{IsReadFault};
 ghost use Rattle.bytes_kit.specs.KeyForms.{Inherits, IsAny, IsKeyLike, IsKeyRest, key_before, key_at};
 ghost use Rattle.bytes_kit.specs.MessageFits.{IsKey};
-ghost use Rattle.bytes_kit.specs.Messages.{common, common_form, common_fields, has_few_bounds, is_light, key, past_key, key_rest, past_rest};
-ghost use Rattle.bytes_kit.specs.Past.{is_short};
+ghost use Rattle.bytes_kit.specs.Messages.{common, common_form, common_fields, key, past_key, key_rest, past_rest};
 ghost use Rattle.bytes_kit.specs.Reading.{Reads, NoneAt};
 ghost use Rattle.bytes_kit.specs.declared.fault.DecodeFault.TheVariants as faults;
 
 use crate::DecodeFault;
-use crate::history::{History, LONGEST};
+use crate::history::History;
+use crate::light::{is_light, is_short};
 use crate::passage::Passage;
 use crate::piece::Piece;
 use crate::reader::Reader;
-use attr_kit::{AttrSet, NoMemory, Txt};
+use attr_kit::{AttrSet, NoMemory};
 use gateway_kit::PointRef;
-use point_kit::{Key, Shape, Stream, WriterId};
+use point_kit::{Key, Stream, WriterId};
 
 /// What a key shares with the one before it: nothing that counts, writer and start, or its stream too.
 #[derive(Clone, Copy, PartialEq, Eq)]
@@ -23,32 +23,6 @@ pub(crate) enum Shared {
     Nothing,
     Incarnation,
     Stream,
-}
-
-// Whether a text is copied at little cost.
-fn is_short(text: &Txt) -> bool
-    ensures { result ≡ is_short text.now }
-{
-    text.as_str().len() <= LONGEST
-}
-
-fn has_few_bounds(shape: &Shape) -> bool
-    ensures { result ≡ has_few_bounds shape.now }
-{
-    match shape {
-        Shape::Histogram { bounds } => bounds.len() <= LONGEST,
-        _ => true,
-    }
-}
-
-// Whether a stream is copied at little cost.
-fn is_light(stream: &Stream) -> bool
-    ensures { result ≡ is_light stream.now }
-{
-    is_short(&stream.scope)
-        && is_short(&stream.name)
-        && is_short(&stream.unit)
-        && has_few_bounds(&stream.shape)
 }
 
 // What writer, start and stream of a key share with the key of the point before it.

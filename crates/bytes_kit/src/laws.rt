@@ -37,8 +37,9 @@ pub fn stays_sound()
 {}
 
 /// An export has no more points, streams, pairs, bounds, buckets, and bytes of texts of more than 64 bytes, all added up, than
-/// it has bytes: a stream of points behind one another counts once, as it is held once. A message, each of whose cells has a
-/// writer and a stream of its own, has at most 65 times as many. So what is read takes memory for no more of them.
+/// it has bytes: a stream of points behind one another counts once where it is held once, which is where it has no such text
+/// and at most 64 bounds. A message, each of whose cells has a writer and a stream of its own, has at most 65 times as many.
+/// So what is read takes memory for no more of them.
 pub fn weighs_no_more()
     ensures exports { (e : Export) → export_weight e ≤ length (bytes_of e) }
     ensures messages { (m : MessageModel) → message_weight m ≤ 65 * length (bytes_of_message m) }

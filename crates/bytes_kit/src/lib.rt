@@ -27,6 +27,7 @@ mod history;
 mod index;
 mod keys;
 mod laws;
+mod light;
 mod messages;
 mod passage;
 mod passages;

@@ -55,9 +55,10 @@ fn set(alloc: Global, pairs: &[(&str, &str)]) -> Result<AttrSet, Fail> {
     Ok(AttrSet::from_pairs(attributes)?)
 }
 
-fn example(alloc: Global) -> Result<Export, Fail> {
+// Two points of one stream, of this scope.
+fn sold(alloc: Global, scope: &str) -> Result<Export, Fail> {
     let stream = Stream {
-        scope: text(alloc, "app")?,
+        scope: text(alloc, scope)?,
         name: text(alloc, "sales")?,
         unit: text(alloc, "1")?,
         shape: Shape::Sum { monotonic: true },
@@ -81,9 +82,18 @@ fn example(alloc: Global) -> Result<Export, Fail> {
     Ok(Export::build(alloc, writer, 100, 200, Seq::from_vec(points))?)
 }
 
-// Why the example with one byte changed is refused.
-fn changed(alloc: Global, place: usize, byte: u8) -> Result<Option<DecodeFault>, NoMemory> {
-    let mut bytes = EXAMPLE.to_vec(alloc)?;
+fn example(alloc: Global) -> Result<Export, Fail> {
+    sold(alloc, "app")
+}
+
+// Why bytes of which one is changed are refused.
+fn changed(
+    alloc: Global,
+    bytes: &[u8],
+    place: usize,
+    byte: u8,
+) -> Result<Option<DecodeFault>, NoMemory> {
+    let mut bytes = bytes.to_vec(alloc)?;
     if let Some(at) = bytes.get_mut(place) {
         *at = byte;
     }
@@ -106,17 +116,44 @@ fn the_worked_example(rt: HostRuntime) -> Result<(), Fail> {
     Ok(())
 }
 
+// The second point shares a stream whose scope has 64 bytes. One of 65 it has again: 1 and the scope, and name, unit and shape
+// in a byte each, in place of the one byte.
+#[test]
+fn a_long_stream_stands_at_each_point(rt: HostRuntime) -> Result<(), Fail> {
+    let alloc = rt.alloc();
+    let shared = "0123456789abcdef0123456789abcdef0123456789abcdef0123456789abcdef";
+    let long = "0123456789abcdef0123456789abcdef0123456789abcdef0123456789abcdef.";
+    for (scope, size) in [(shared, 88 + 61), (long, 88 + 62 + 2 + 65 + 3)] {
+        let export = sold(alloc, scope)?;
+        let bytes = encode_export(alloc, &export)?;
+        assert_eq!(rt; bytes.len(), size);
+        let found = there_and_back(alloc, &export)
+            .ok()
+            .ok_or("it is read again")?;
+        assert_eq!(rt; found, export);
+    }
+    // The one byte, though the stream before is long.
+    let bytes = encode_export(alloc, &sold(alloc, long)?)?;
+    let fault = changed(alloc, bytes.as_slice(), 126, 0)?;
+    assert_eq!(rt; fault, Some(DecodeFault::NotCanonical(126)));
+    Ok(())
+}
+
 #[test]
 fn refusals(rt: HostRuntime) -> Result<(), Fail> {
     let alloc = rt.alloc();
-    assert_eq!(rt; changed(alloc, 2, 0)?, Some(DecodeFault::BadMagic(2)));
-    assert_eq!(rt; changed(alloc, 4, 1)?, Some(DecodeFault::BadVersion(4)));
-    assert_eq!(rt; changed(alloc, 7, 255)?, Some(DecodeFault::NotText(6)));
-    // The time in one group too many.
-    assert_eq!(rt; changed(alloc, 30, 0)?, Some(DecodeFault::NotCanonical(29)));
-    // A number behind the last text.
-    assert_eq!(rt; changed(alloc, 66, 7)?, Some(DecodeFault::NotCanonical(66)));
-    assert_eq!(rt; changed(alloc, 83, 14)?, Some(DecodeFault::BadChecksum(84)));
+    for (place, byte, fault) in [
+        (2, 0, DecodeFault::BadMagic(2)),
+        (4, 1, DecodeFault::BadVersion(4)),
+        (7, 255, DecodeFault::NotText(6)),
+        // The time in one group too many.
+        (30, 0, DecodeFault::NotCanonical(29)),
+        // A number behind the last text.
+        (66, 7, DecodeFault::NotCanonical(66)),
+        (83, 14, DecodeFault::BadChecksum(84)),
+    ] {
+        assert_eq!(rt; changed(alloc, &EXAMPLE, place, byte)?, Some(fault));
+    }
     let fault = decode_export(alloc, &AGAIN).err();
     assert_eq!(rt; fault, Some(DecodeFault::NotCanonical(28)));
     let fault = decode_export(alloc, &AT_ITS_START).err();
