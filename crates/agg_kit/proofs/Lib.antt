@@ -1,6 +1,7 @@
 pub mod Absorbs
 pub mod Alike
 pub mod Amounts
+pub mod AtHome
 pub mod BoundPoints
 pub mod Bounds
 pub mod ComingIn

@@ -1,6 +1,7 @@
 pub mod Absorbing
 pub mod Absorbs
 pub mod Alike
+pub mod AtHome
 pub mod BoundPoints
 pub mod Entries
 pub mod Feeding

@@ -1,7 +1,8 @@
 //! Bound points: an instrument and a set, with the places where their values go.
-ghost use Rattle.std.specs.Prelude.{◌≡◌, [], length, IfOk};
-ghost use Rattle.agg_kit.specs.BoundPoints.{KnowPlaces};
+ghost use Rattle.std.specs.Prelude.{◌≡◌, ◌↔◌, [], length, IfOk, IsOk, IsTrue};
+ghost use Rattle.agg_kit.specs.BoundPoints.{KnowPlaces, StandAt};
 ghost use Rattle.agg_kit.specs.Feeding.{overflow_set};
+ghost use Rattle.agg_kit.specs.Feeds.{AllWhole};
 ghost use Rattle.plan_kit.specs.Plans.{AreFeeds};
 
 use crate::recording::{kept_set, set_or};
@@ -15,6 +16,10 @@ use std::alloc::Global;
 /// `Tally::bind` makes one. It knows the places of its points once they are all there, and until then it is looked up at each
 /// value as any set is: binding makes no point, and takes no place in first-seen order or under the limit. What it knows stays
 /// true in its tally until a restart. [`Bound::release`] makes it forget, and `Tally::rebind` look again.
+///
+/// It doesn't say which tally or recorder it is of. Who knows that it is at home takes `measure_bound`, which asks for that and looks
+/// at no set. Who can't know it takes `measure_if_at_home`, which refuses it by `Stale` where it is not: that compares one set where
+/// the instrument has one feed, which keeps all keys, and looks each feed's set up else.
 #[derive(Drop)]
 pub struct Bound {
     pub(crate) instrument: usize,
@@ -79,4 +84,32 @@ pub(crate) fn places_of(
         }
     }
     Ok(places)
+}
+
+/// Whether the places are those of the feeds' points, in the order of the feeds, and as many.
+pub(crate) fn are_at(
+    plan: &Plan,
+    overflow: &AttrSet,
+    series: &Vec<Series>,
+    feeds: &[Feed],
+    places: &[usize],
+    attrs: &AttrSet,
+) -> Result<bool, NoMemory>
+    requires overflow { overflow.now ≡ overflow_set }
+    requires feeds { AreFeeds (length series.now.items) feeds.now }
+    ensures value { IfOk result (λ at. IsTrue at ↔ StandAt plan.now feeds.now places.now attrs.now series.now.items) }
+    ensures whole { AllWhole feeds.now → IsOk result }
+{
+    let Some((feed, feeds)) = feeds.split_first() else {
+        return Ok(places.is_empty());
+    };
+    let Some((place, places)) = places.split_first() else {
+        return Ok(false);
+    };
+    let only = kept_set(attrs, &feed.keep)?;
+    let set = set_or(&only, attrs);
+    if !series[feed.stream].stands_at(plan.limit(), overflow, set, *place) {
+        return Ok(false);
+    }
+    are_at(plan, overflow, series, feeds, places, attrs)
 }

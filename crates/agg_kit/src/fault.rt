@@ -2,6 +2,7 @@
 ghost use Rattle.std.specs.Prelude.{◌≡◌};
 
 use attr_kit::NoMemory;
+use std::fmt::Display;
 use thiserror::Error;
 
 /// Why a recording is refused, in the order in which it is looked for.
@@ -71,4 +72,17 @@ impl From<NoMemory> for RecordFault {
     fn from(_error: NoMemory) -> RecordFault {
         RecordFault::NoMemory
     }
+}
+
+/// Why a value is not recorded at a bound point that may not be at home, in the order in which it is looked for. `F` says why the tally
+/// or the recorder refuses a recording.
+#[derive(Debug, PartialEq, Eq, Drop, Error)]
+#[error_bound(F: Display)]
+pub enum HomeFault<F> {
+    /// The bound point is not at home: it knows places where its points do not stand.
+    #[error("the bound point is not at home")]
+    Stale,
+    /// The recording is refused. Memory for the test whether the bound point is at home is one of the refusals.
+    #[error("the recording is refused: {0}")]
+    Refused(F),
 }

@@ -2,10 +2,11 @@
 ghost use Rattle.std.specs.Prelude.{◌≡◌, ◌≢◌, ◌↔◌, [], pos, true, false, length, Some, None, IfOk, IfErr, OnOk, OnErr, IsOk, IsTrue};
 ghost use Rattle.plan_kit.specs.Plans.{feeds_of, kind_of, AllRise, AreFeeds};
 ghost use Rattle.plan_kit.specs.declared.instrument.Kind.{Kind};
+ghost use Rattle.agg_kit.specs.AtHome.{IfRefused, OnStale};
 ghost use Rattle.agg_kit.specs.BoundPoints.{HasInstrument, IsBound, IsOwnPoint, LacksInstrument, entry_at};
 ghost use Rattle.agg_kit.specs.Entries.{entry_of};
 ghost use Rattle.agg_kit.specs.Feeding.{overflow_set};
-ghost use Rattle.agg_kit.specs.Feeds.{IsHeld, AreHeld};
+ghost use Rattle.agg_kit.specs.Feeds.{AllWhole, AreHeld, IsHeld};
 ghost use Rattle.agg_kit.specs.Recorders.{recorder_after, can_stamp_all, empty_recorder, keep_sets, keeps_sets, record_fault_of, tally_in, IsOwnBound};
 ghost use Rattle.agg_kit.specs.Stamps.{has_noted};
 ghost use Rattle.agg_kit.specs.Taken.{HasRecorded, IsRecorder, RecordsAlso};
@@ -14,7 +15,7 @@ use crate::bound::OwnPoint;
 use crate::recording::{kept_set, set_or, shape_of};
 use crate::series::Series;
 use crate::stamps::{Stamps, can_stamp_each, can_stamp_in, feed_noted, is_noted, no_stamps};
-use crate::{Bound, RecordFault, Tally};
+use crate::{Bound, HomeFault, RecordFault, Tally};
 use attr_kit::{AttrSet, NoMemory};
 use plan_kit::{Feed, Plan};
 use std::alloc::Global;
@@ -155,6 +156,7 @@ impl Recorder {
     ///
     /// The bound point is at home in this recorder: it was bound or bound again by it since a tally took it in, or is released.
     /// Refuses as `measure` does, but for want of memory, which never comes where the places are known. O(feeds of the instrument).
+    /// Who can't know that it is at home takes `measure_if_at_home`.
     pub fn measure_bound(&mut self, bound: &mut Bound, value: i64) -> Result<(), RecordFault>
         requires { IsOwnBound self.old bound.old }
         ensures ok { OnOk result (record_fault_of self.old (entry_at bound.old value) ≡ None) }
@@ -164,6 +166,7 @@ impl Recorder {
             → has_noted self.old.plan (feeds_of self.old.plan bound.old.instrument) ≡ false → IfErr result (λ f. f ≢ RecordFault.NoMemory) }
         ensures known { bound.old.places.items ≢ [] → IfErr result (λ f. f ≢ RecordFault.NoMemory) }
         ensures unchanged { OnErr result (self.new ≡ self.old) }
+        ensures kept { OnErr result (bound.new ≡ bound.old) }
         ensures instrument { bound.new.instrument ≡ bound.old.instrument }
         ensures attrs { bound.new.attrs ≡ bound.old.attrs }
         ensures bound { IsOwnBound self.new bound.new }
@@ -174,6 +177,65 @@ impl Recorder {
             return Ok(());
         }
         self.measure_known(bound, value)
+    }
+
+    /// Whether a bound point is at home in this recorder: it knows no places, or its sets have points of their own, which stand at the
+    /// places that it knows. Whatever tally or recorder bound it.
+    ///
+    /// Refuses with `NoMemory` alone, and only where it knows places and a feed keeps a list of keys. O(size of the attributes) where
+    /// the instrument has one feed, which keeps all keys, and the set's point stands at the place that is known: two sets are compared
+    /// then, and none is hashed. Else O(feeds of the instrument times the size of the attributes), as `bind`.
+    pub fn is_at_home(&self, bound: &Bound) -> Result<bool, NoMemory>
+        ensures value { IfOk result (λ home. IsTrue home ↔ IsOwnBound self.now bound.now) }
+        ensures known { bound.now.places.items ≡ [] → IsOk result }
+        ensures whole { AllWhole (feeds_of self.now.plan bound.now.instrument) → IsOk result }
+    {
+        if bound.places.is_empty() || self.tally.has_own_at(bound) {
+            return Ok(true);
+        }
+        if !self.tally.has_points_at(bound)? {
+            return Ok(false);
+        }
+        self.tally.keeps_sets(bound.instrument, &bound.attrs)
+    }
+
+    /// Records a value as `measure_bound` does where the bound point is at home, and asks nothing: for who can't know that it is.
+    ///
+    /// Refuses, in this order, and leaves the recorder and the bound point as they were: `Stale` where the bound point is not at home,
+    /// `Refused` as `measure_bound` does. That is `Refused(NoMemory)`, too, where the bound point knows places, a feed keeps a list of
+    /// keys, and there is no memory to see whether it is at home. O(feeds of the instrument), and what `is_at_home` costs.
+    pub fn measure_if_at_home(
+        &mut self,
+        bound: &mut Bound,
+        value: i64,
+    ) -> Result<(), HomeFault<RecordFault>>
+        ensures ok { OnOk result (record_fault_of self.old (entry_at bound.old value) ≡ None) }
+        ensures value { OnOk result (self.new ≡ recorder_after self.old (entry_at bound.old value)) }
+        ensures home { OnOk result (IsOwnBound self.old bound.old) }
+        ensures stale { OnStale result (¬ IsOwnBound self.old bound.old) }
+        ensures err { IfRefused result (λ f. f ≢ RecordFault.NoMemory → record_fault_of self.old (entry_at bound.old value) ≡ Some f) }
+        ensures err_home { IfRefused result (λ f. f ≢ RecordFault.NoMemory → IsOwnBound self.old bound.old) }
+        ensures held { IsHeld (tally_in self.old) (entry_at bound.old value)
+            → has_noted self.old.plan (feeds_of self.old.plan bound.old.instrument) ≡ false
+            → IfRefused result (λ f. f ≢ RecordFault.NoMemory) }
+        ensures known { bound.old.places.items ≢ [] → AllWhole (feeds_of self.old.plan bound.old.instrument)
+            → IfRefused result (λ f. f ≢ RecordFault.NoMemory) }
+        ensures unchanged { OnErr result (self.new ≡ self.old) }
+        ensures kept { OnErr result (bound.new ≡ bound.old) }
+        ensures instrument { bound.new.instrument ≡ bound.old.instrument }
+        ensures attrs { bound.new.attrs ≡ bound.old.attrs }
+        ensures bound { OnOk result (IsOwnBound self.new bound.new) }
+    {
+        let Ok(home) = self.is_at_home(bound) else {
+            return Err(HomeFault::Refused(RecordFault::NoMemory));
+        };
+        if !home {
+            return Err(HomeFault::Stale);
+        }
+        match self.measure_bound(bound, value) {
+            Ok(()) => Ok(()),
+            Err(fault) => Err(HomeFault::Refused(fault)),
+        }
     }
 
     // Records a value at a set's own point, and notes it beside the point. Takes no memory.

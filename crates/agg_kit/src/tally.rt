@@ -1,11 +1,12 @@
 //! The points of all streams of a plan, as recordings come in.
-ghost use Rattle.std.specs.Prelude.{◌≡◌, ◌≢◌, ◌↔◌, ◌<◌, ◌∷◌, [], ℤ, length, replicate, slice_get, Some, None, true, false, IfOk, IfErr, IfSome, IsOk, OnOk, OnErr, IsTrue};
+ghost use Rattle.std.specs.Prelude.{◌≡◌, ◌≢◌, ◌↔◌, ◌<◌, ◌∷◌, [], pos, ℤ, length, replicate, slice_get, Some, None, true, false, IfOk, IfErr, IfSome, IsOk, OnOk, OnErr, IsTrue};
 ghost use Rattle.std.specs.Option.{option_map};
 ghost use Rattle.agg_kit.specs.Alike.{ShareKeys};
-ghost use Rattle.agg_kit.specs.BoundPoints.{AreKnown, HasInstrument, IsBound, IsOwnPoint, LacksInstrument, entry_at};
+ghost use Rattle.agg_kit.specs.AtHome.{IfRefused, OnStale};
+ghost use Rattle.agg_kit.specs.BoundPoints.{AreAt, AreKnown, HasInstrument, IsBound, IsOwnPoint, LacksInstrument, entry_at};
 ghost use Rattle.agg_kit.specs.Entries.{entry_of};
 ghost use Rattle.agg_kit.specs.Feeding.{overflow_set};
-ghost use Rattle.agg_kit.specs.Feeds.{entries_of, series_at, IsHeld};
+ghost use Rattle.agg_kit.specs.Feeds.{entries_of, series_at, AllWhole, IsHeld};
 ghost use Rattle.agg_kit.specs.Kept.{whole_feed, AreLone};
 ghost use Rattle.agg_kit.specs.Measuring.{after_measure, early_fault_of, empty_tally, fault_of};
 ghost use Rattle.agg_kit.specs.Recorders.{absorb_fault, empty_recorder, keeps_sets, recorded_in, with_recorder};
@@ -17,12 +18,12 @@ ghost use Rattle.plan_kit.specs.Plans.{feeds_of, kind_of, AllRise};
 ghost use Rattle.plan_kit.specs.declared.instrument.Kind.{Kind};
 
 use crate::absorbing::absorb_into;
-use crate::bound::{OwnPoint, places_of};
+use crate::bound::{OwnPoint, are_at, places_of};
 use crate::recorder::{feeds_in, keep_each};
 use crate::recording::{record, shape_of};
 use crate::series::Series;
 use crate::stamps::{Stamps, clear_each, find_spots, note_each};
-use crate::{Bound, Recorder, TallyFault};
+use crate::{Bound, HomeFault, Recorder, TallyFault};
 use attr_kit::{AttrSet, AttrValue, Keep, NoMemory, Txt};
 use plan_kit::{Feed, Kind, Plan};
 use point_kit::Payload;
@@ -143,7 +144,8 @@ impl Tally {
     /// places. Else it knows them after the first value that is recorded, if memory is not refused.
     ///
     /// The bound point is at home in this tally: it was bound or bound again by this tally since its start, or is released. Refuses
-    /// as `measure` does, but for want of memory, which never comes where the places are known. O(feeds of the instrument).
+    /// as `measure` does, but for want of memory, which never comes where the places are known. O(feeds of the instrument). Who can't
+    /// know that it is at home takes `measure_if_at_home`.
     pub fn measure_bound(&mut self, bound: &mut Bound, value: i64) -> Result<(), TallyFault>
         requires { IsBound self.old bound.old }
         ensures ok { OnOk result (fault_of self.old (entry_at bound.old value) ≡ None) }
@@ -153,6 +155,7 @@ impl Tally {
         ensures held { IsHeld self.old (entry_at bound.old value) → IfErr result (λ f. f ≢ TallyFault.NoMemory) }
         ensures known { bound.old.places.items ≢ [] → IfErr result (λ f. f ≢ TallyFault.NoMemory) }
         ensures unchanged { OnErr result (self.new ≡ self.old) }
+        ensures kept { OnErr result (bound.new ≡ bound.old) }
         ensures instrument { bound.new.instrument ≡ bound.old.instrument }
         ensures attrs { bound.new.attrs ≡ bound.old.attrs }
         ensures bound { IsBound self.new bound.new }
@@ -166,6 +169,99 @@ impl Tally {
             self.rebind(bound);
         }
         Ok(())
+    }
+
+    /// Whether a bound point is at home in this tally: it knows no places, or its points stand at the places that it knows. Whatever
+    /// tally or recorder bound it.
+    ///
+    /// Refuses with `NoMemory` alone, and only where it knows places and a feed keeps a list of keys. O(size of the attributes) where
+    /// the instrument has one feed, which keeps all keys, and the set has its own point at the place that is known: two sets are
+    /// compared then, and none is hashed. Else O(feeds of the instrument times the size of the attributes), as `bind`.
+    pub fn is_at_home(&self, bound: &Bound) -> Result<bool, NoMemory>
+        ensures value { IfOk result (λ home. IsTrue home ↔ IsBound self.now bound.now) }
+        ensures known { bound.now.places.items ≡ [] → IsOk result }
+        ensures whole { AllWhole (feeds_of self.now.plan bound.now.instrument) → IsOk result }
+    {
+        if bound.places.is_empty() || self.has_own_at(bound) {
+            return Ok(true);
+        }
+        self.has_points_at(bound)
+    }
+
+    /// Records a value as `measure_bound` does where the bound point is at home, and asks nothing: for who can't know that it is.
+    ///
+    /// Refuses, in this order, and leaves the tally and the bound point as they were: `Stale` where the bound point is not at home,
+    /// `Refused` as `measure_bound` does. That is `Refused(NoMemory)`, too, where the bound point knows places, a feed keeps a list of
+    /// keys, and there is no memory to see whether it is at home. O(feeds of the instrument), and what `is_at_home` costs.
+    pub fn measure_if_at_home(
+        &mut self,
+        bound: &mut Bound,
+        value: i64,
+    ) -> Result<(), HomeFault<TallyFault>>
+        ensures ok { OnOk result (fault_of self.old (entry_at bound.old value) ≡ None) }
+        ensures value { OnOk result (self.new ≡ after_measure self.old (entry_at bound.old value)) }
+        ensures home { OnOk result (IsBound self.old bound.old) }
+        ensures stale { OnStale result (¬ IsBound self.old bound.old) }
+        ensures err { IfRefused result (λ f. f ≢ TallyFault.NoMemory → fault_of self.old (entry_at bound.old value) ≡ Some f) }
+        ensures err_home { IfRefused result (λ f. f ≢ TallyFault.NoMemory → IsBound self.old bound.old) }
+        ensures no_memory { IfRefused result (λ f. f ≡ faults.NoMemory → bound.old.places.items ≡ []
+            → early_fault_of self.old (entry_at bound.old value) ≡ None) }
+        ensures held { IsHeld self.old (entry_at bound.old value) → IfRefused result (λ f. f ≢ TallyFault.NoMemory) }
+        ensures known { bound.old.places.items ≢ [] → AllWhole (feeds_of self.old.plan bound.old.instrument)
+            → IfRefused result (λ f. f ≢ TallyFault.NoMemory) }
+        ensures unchanged { OnErr result (self.new ≡ self.old) }
+        ensures kept { OnErr result (bound.new ≡ bound.old) }
+        ensures instrument { bound.new.instrument ≡ bound.old.instrument }
+        ensures attrs { bound.new.attrs ≡ bound.old.attrs }
+        ensures bound { OnOk result (IsBound self.new bound.new) }
+    {
+        let Ok(home) = self.is_at_home(bound) else {
+            return Err(HomeFault::Refused(TallyFault::NoMemory));
+        };
+        if !home {
+            return Err(HomeFault::Stale);
+        }
+        match self.measure_bound(bound, value) {
+            Ok(()) => Ok(()),
+            Err(fault) => Err(HomeFault::Refused(fault)),
+        }
+    }
+
+    // Whether a bound point knows one place, and its set's own point stands there, in the stream of the instrument's one feed, which
+    // keeps all keys. No set has two points in a stream, so that the set at the place tells, with no look.
+    pub(crate) fn has_own_at(&self, bound: &Bound) -> bool
+        ensures bound { IsTrue result → IsBound self.now bound.now }
+        ensures keeps { IsTrue result → keeps_sets self.now (entry_at bound.now (pos 0)) ≡ true }
+    {
+        let Some(stream) = self.lone(bound.instrument) else {
+            return false;
+        };
+        // What it says of the points: no two of one set.
+        let _ = self.plan();
+        let places = bound.places.as_slice();
+        if places.len() != 1 {
+            return false;
+        }
+        match self.entry(stream, places[0]) {
+            Some((set, _)) => *set == bound.attrs,
+            None => false,
+        }
+    }
+
+    // Whether the places that a bound point knows are those of its points, each of which is looked up.
+    pub(crate) fn has_points_at(&self, bound: &Bound) -> Result<bool, NoMemory>
+        ensures value { IfOk result (λ at. IsTrue at ↔ AreAt self.now.plan (feeds_of self.now.plan bound.now.instrument)
+            bound.now.places.items bound.now.attrs self.now.series) }
+        ensures whole { AllWhole (feeds_of self.now.plan bound.now.instrument) → IsOk result }
+    {
+        are_at(
+            &self.plan,
+            &self.overflow,
+            &self.series,
+            feeds_in(&self.plan, bound.instrument),
+            bound.places.as_slice(),
+            &bound.attrs,
+        )
     }
 
     // Records a value as `measure` does. `lone` is the stream of the one feed, if that keeps all keys and is known, and `places` are
