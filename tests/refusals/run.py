@@ -49,8 +49,10 @@ SPARING += ("Periodic::tick", "Periodic::flush", "World::apply, Collect", "World
 # A take that brings in new keys sets its guesses at places right where there is memory for it, and else leaves them.
 SPARING += ("World::apply, Deliver",)
 
-# Takes whose last growth is that of the guesses: it may be spared alone and with all that follow.
+# Takes whose last growth is that of the guesses, and bound points whose last growth is that of the places which they know: it may
+# be spared alone and with all that follow.
 GUESSING = ("Gateway::take, a new writer", "SharedGateway::try_take", "SharedGateway::take", "Node::take")
+GUESSING += ("Tally::bind", "Tally::measure_bound, a new set")
 
 # The calls. What each prints with ample memory: the answer, and of a call that changes something what it left and what it
 # answers when it is made again; and what a refused growth makes of the first two, each of which must come. The third is then
@@ -72,6 +74,16 @@ CALLS = [
     ("Tally::measure, a held set", "Ok(()) | changed | Ok(())", NO_MEMORY_TAKEN),
     ("Tally::restart", "Ok(()) | changed | Ok(())", KEPT),
     ("Tally::try_copy", "Ok", MADE),
+    ("Tally::bind", "Ok", MADE),
+    ("Tally::measure_bound, a new set", "Ok(()) | changed | Ok(())", KEPT),
+    ("Tally::measure_bound, a held set", "Ok(()) | changed | Ok(())", NO_MEMORY_TAKEN),
+    ("Tally::absorb", "Ok(()) | changed | Ok(())", KEPT),
+    ("Recorder::new", "Ok", MADE),
+    ("Recorder::measure, two feeds", "Ok(()) | changed | Ok(())", KEPT),
+    ("Recorder::measure, one feed", "Ok(()) | changed | Ok(())", KEPT),
+    ("Recorder::measure, a held set", "Ok(()) | changed | Ok(())", NO_MEMORY_TAKEN),
+    ("Writer::record, a new set", "Ok(Had) | changed | Ok(Had)", ("Err(Recorder(NoMemory)) | as before",)),
+    ("Writer::record, a held set", "Ok(Had) | changed | Ok(Had)", NO_MEMORY_TAKEN),
     ("place", "Ok", MADE),
     ("Round::copy_out", "Ok", MADE),
     ("Writer::start", "Ok", MADE),

@@ -4,7 +4,7 @@ ghost use Rattle.agg_kit.specs.Recorders.{IsOwnBound};
 
 use crate::clock::tell;
 use crate::tallies::{plan, set, tally};
-use agg_kit::{Bound, RecordFault, Recorder, Tally, TallyFault};
+use agg_kit::{Bound, HomeFault, RecordFault, Recorder, Tally, TallyFault};
 use attr_kit::AttrSet;
 use plan_kit::Kind;
 use std::alloc::Global;
@@ -38,6 +38,17 @@ fn record_bound(tally: &mut Tally, point: &mut Bound, turns: u32) -> Result<(), 
 {
     for turn in 0..turns {
         tally.measure_bound(point, value(turn))?;
+    }
+    Ok(())
+}
+
+fn record_if_at_home(
+    tally: &mut Tally,
+    point: &mut Bound,
+    turns: u32,
+) -> Result<(), HomeFault<TallyFault>> {
+    for turn in 0..turns {
+        tally.measure_if_at_home(point, value(turn))?;
     }
     Ok(())
 }
@@ -83,6 +94,17 @@ fn time_bound(
     Ok(start.elapsed(rt)?)
 }
 
+fn time_if_at_home(
+    rt: &HostRuntime,
+    tally: &mut Tally,
+    point: &mut Bound,
+    turns: u32,
+) -> anyhow::Result<Duration> {
+    let start = Instant::now(rt)?;
+    record_if_at_home(tally, point, turns)?;
+    Ok(start.elapsed(rt)?)
+}
+
 fn time_own(
     rt: &HostRuntime,
     recorder: &mut Recorder,
@@ -119,6 +141,19 @@ fn tell_found(
     tell(rt, "found", u64::from(turns), least)
 }
 
+fn tell_if_at_home(
+    rt: &HostRuntime,
+    tally: &mut Tally,
+    point: &mut Bound,
+    turns: u32,
+) -> anyhow::Result<()> {
+    let mut least = Duration::MAX;
+    for _ in 0..ROUNDS {
+        least = least.min(time_if_at_home(rt, tally, point, turns)?);
+    }
+    tell(rt, "bound, if at home", u64::from(turns), least)
+}
+
 fn tell_bound(
     rt: &HostRuntime,
     tally: &mut Tally,
@@ -126,6 +161,7 @@ fn tell_bound(
     turns: u32,
 ) -> anyhow::Result<()>
     requires { IsBound tally.old point.old }
+    ensures { IsBound tally.new point.new }
 {
     let mut least = Duration::MAX;
     for _ in 0..ROUNDS {
@@ -149,12 +185,13 @@ fn tell_own(
     tell(rt, "bound in a recorder", u64::from(turns), least)
 }
 
-// One set that is held: found at each recording, and bound once.
+// One set that is held: found at each recording, bound once, and compared at each.
 fn beside(rt: &HostRuntime, tally: &mut Tally, set: &AttrSet, turns: u32) -> anyhow::Result<()> {
     tally.measure(0, set, 1)?;
     tell_found(rt, tally, set, turns)?;
     let mut point = tally.bind(0, set)?;
-    tell_bound(rt, tally, &mut point, turns)
+    tell_bound(rt, tally, &mut point, turns)?;
+    tell_if_at_home(rt, tally, &mut point, turns)
 }
 
 fn beside_own(

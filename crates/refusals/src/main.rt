@@ -10,6 +10,7 @@ mod exports;
 mod gateways;
 mod nodes;
 mod pushes;
+mod recorders;
 mod rollups;
 mod rounds;
 mod same;
@@ -32,6 +33,7 @@ fn data(rt: &HostRuntime, call: &str) -> anyhow::Result<bool> {
         sets::make_call(rt, call)?
             || exports::make_call(rt, call)?
             || tallies::make_call(rt, call)?
+            || recorders::make_call(rt, call)?
             || rounds::make_call(rt, call)?
             || writers::make_call(rt, call)?,
     )

@@ -32,8 +32,8 @@ fn new(rt: &HostRuntime) -> anyhow::Result<()> {
     tell_made(rt, answer)
 }
 
-// A tally that holds the first set in each stream.
-fn holding(alloc: Global) -> anyhow::Result<Tally> {
+/// A tally that holds the first set in each stream.
+pub fn holding(alloc: Global) -> anyhow::Result<Tally> {
     let mut tally = Tally::new(alloc, plan(alloc)?)?;
     let attrs = set(alloc, 1)?;
     tally.measure(0, &attrs, 3)?;

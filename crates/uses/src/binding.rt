@@ -1,12 +1,12 @@
 //! Points that are looked up once: a set that is recorded under again and again.
 ghost use Rattle.std.specs.Prelude.{◌≡◌, ◌≢◌, IfErr, OnOk, OnErr};
-ghost use Rattle.agg_kit.specs.BoundPoints.{entry_at};
+ghost use Rattle.agg_kit.specs.BoundPoints.{IsBound, entry_at};
 ghost use Rattle.agg_kit.specs.Entries.{entry_of};
 ghost use Rattle.agg_kit.specs.Measuring.{after_measure};
 ghost use Rattle.writer_kit.specs.BoundPoints.{IsAtHome};
 ghost use Rattle.writer_kit.specs.Recording.{after_record};
 
-use agg_kit::{Bound, Tally, TallyFault};
+use agg_kit::{Bound, HomeFault, Tally, TallyFault};
 use attr_kit::AttrSet;
 use writer_kit::{BoundFault, BoundPoint, Writer};
 
@@ -45,4 +45,20 @@ pub fn record_two(
     let mut point: Bound = tally.bind(instrument, attrs)?;
     tally.measure_bound(&mut point, first)?;
     tally.measure_bound(&mut point, second)
+}
+
+/// Records a value at a bound point, whatever tally looked it up. Where that was another, it is looked up anew.
+pub fn record_anywhere(tally: &mut Tally, point: &mut Bound, value: i64) -> Result<(), TallyFault>
+    ensures value { OnOk result (tally.new ≡ after_measure tally.old (entry_at point.old value)) }
+    ensures unchanged { OnErr result (tally.new ≡ tally.old) }
+    ensures home { OnOk result (IsBound tally.new point.new) }
+{
+    match tally.measure_if_at_home(point, value) {
+        Ok(()) => Ok(()),
+        Err(HomeFault::Stale) => {
+            tally.rebind(point);
+            tally.measure_bound(point, value)
+        }
+        Err(HomeFault::Refused(fault)) => Err(fault),
+    }
 }
