@@ -1,20 +1,20 @@
 -- A set's own point, in the stream of an instrument's one feed.
-use Rattle.std.proofs.Common.{◌≡◌, ◌≢◌, ◌∙◌, ◌&&◌, ◌||◌, ℕ, ℤ, pos, Bool, true, false, List, [], ◌∷◌, Option, None, Some, length, get_or, position, refl, sym, ap, subst}
+use Rattle.std.proofs.Common.{◌≡◌, ◌≢◌, ◌∙◌, ◌<◌, ◌&&◌, ◌||◌, ℕ, ℤ, pos, Bool, true, false, List, [], ◌∷◌, Option, None, Some, length, get_or, position, refl, sym, ap, subst}
 use Rattle.std.specs.List.{list_all, position_or_len}
 use Rattle.std.specs.Map.{keys_of}
 use Rattle.std.specs.Option.{option_map}
 use Rattle.attr_kit.specs.declared.attr_set.AttrSet.{AttrSet}
-use Rattle.plan_kit.specs.Plans.{feeds_of}
+use Rattle.plan_kit.specs.Plans.{Planned, feeds_of}
 use Rattle.plan_kit.specs.declared.feed.Feed.{Feed}
 use Rattle.agg_kit.specs.BoundPoints.{AreAt, IsOwnPoint, entry_at}
 use Rattle.agg_kit.specs.Entries.{entry_of}
 use Rattle.agg_kit.specs.Feeding.{set_eq}
-use Rattle.agg_kit.specs.Feeds.{series_at, shape_at}
+use Rattle.agg_kit.specs.Feeds.{entries_of, series_at, shape_at}
 use Rattle.agg_kit.specs.Kept.{whole_feed}
 use Rattle.agg_kit.specs.Measuring.{after_measure, fault_of}
 use Rattle.agg_kit.specs.Recorders.{keeps_set, keeps_sets, recorded_in, recorder_after, can_stamp_all, as_record_fault, record_fault_of}
 use Rattle.agg_kit.specs.Stamps.{Stamped, StampedIn, can_stamp, has_noted, is_noted, stamped_in, stamps_put, AreSpots, CanNoteEach}
-use Rattle.agg_kit.specs.Steps.{fed_set}
+use Rattle.agg_kit.specs.Steps.{Stored, fed_set, own_count}
 use Rattle.agg_kit.specs.Tallies.{Points, Tallied}
 use Rattle.agg_kit.specs.declared.bound.Bound.{Bound}
 use Rattle.agg_kit.specs.declared.bound.OwnPoint.{OwnPoint}
@@ -22,7 +22,7 @@ use Rattle.agg_kit.specs.declared.fault.TallyFault.{TallyFault}
 use Rattle.agg_kit.proofs.BoundPoints.{has_point-at}
 use Rattle.agg_kit.proofs.Distinct.{itself}
 use Rattle.agg_kit.proofs.RecorderParts.{after-noted, IsPlain}
-use Rattle.agg_kit.proofs.Recorders.{keeps-first, keeps-place, record-as_record_fault}
+use Rattle.agg_kit.proofs.Recorders.{keeps-first, keeps-here, keeps-place, place-roomy, record-as_record_fault}
 use Rattle.agg_kit.proofs.Stamping.{AreLong, can-known, next-place, position-spot, spots-known}
 use Rattle.agg_kit.proofs.Steps.{place-has_point}
 
@@ -103,3 +103,12 @@ own-there q xs n = by (position q xs) refl
     by : (o : Option ℕ) → position q xs ≡ o → position q xs ≡ Some (position_or_len q xs)
     by None e = absurd (n (sym (next-place q xs e)))
     by (Some i) e = e ∙ ap (λ (k : ℕ). Some k) (position-spot q xs i e).0
+
+-- where the stream of a lone feed has room for one more set, every set is kept
+pub roomy-keeps : (p : Planned) (i m : ℕ) (a : AttrSet) (ss : List Stored) (s : Stored) → m < length ss → s ≡ get_or ss m s → feeds_of p i ≡ whole_feed m ∷ [] → own_count s.entries < p.limit
+    → list_all (keeps_set p a (entries_of ss)) (feeds_of p i) ≡ true
+roomy-keeps p i m a ss s l was lone room =
+    ap (list_all (keeps_set p a (entries_of ss))) lone ∙ ap (λ (b : Bool). b && true) (keeps-here p (whole_feed m) a ss s l was (place-roomy p.limit s.entries a room))
+
+pub lone-plain : (p : Planned) (i m : ℕ) → feeds_of p i ≡ whole_feed m ∷ [] → is_noted (shape_at p m) ≡ false → has_noted p (feeds_of p i) ≡ false
+lone-plain p i m lone none = ap (has_noted p) lone ∙ ap (λ (b : Bool). b || false) none

@@ -1,5 +1,5 @@
 //! Recorders: a thread's own tally, which another tally takes in.
-ghost use Rattle.std.specs.Prelude.{◌≡◌, ◌≢◌, ◌↔◌, [], pos, true, false, length, Some, None, IfOk, IfErr, OnOk, OnErr, IsOk, IsTrue};
+ghost use Rattle.std.specs.Prelude.{◌≡◌, ◌≢◌, ◌↔◌, ◌∷◌, [], pos, true, false, length, Some, None, IfOk, IfErr, IfSome, OnOk, OnErr, IsOk, IsTrue};
 ghost use Rattle.plan_kit.specs.Plans.{feeds_of, kind_of, AllRise, AreFeeds};
 ghost use Rattle.plan_kit.specs.declared.instrument.Kind.{Kind};
 ghost use Rattle.agg_kit.specs.AtHome.{IfRefused, OnStale};
@@ -7,6 +7,7 @@ ghost use Rattle.agg_kit.specs.BoundPoints.{HasInstrument, IsBound, IsOwnPoint, 
 ghost use Rattle.agg_kit.specs.Entries.{entry_of};
 ghost use Rattle.agg_kit.specs.Feeding.{overflow_set};
 ghost use Rattle.agg_kit.specs.Feeds.{AllWhole, AreHeld, IsHeld};
+ghost use Rattle.agg_kit.specs.Kept.{whole_feed};
 ghost use Rattle.agg_kit.specs.Recorders.{recorder_after, can_stamp_all, empty_recorder, keep_sets, keeps_sets, record_fault_of, tally_in, IsOwnBound};
 ghost use Rattle.agg_kit.specs.Stamps.{has_noted};
 ghost use Rattle.agg_kit.specs.Taken.{HasRecorded, IsRecorder, RecordsAlso};
@@ -94,6 +95,9 @@ impl Recorder {
             → has_noted self.old.plan (feeds_of self.old.plan instrument) ≡ false → IfErr result (λ f. f ≢ RecordFault.NoMemory) }
         ensures unchanged { OnErr result (self.new ≡ self.old) }
     {
+        if let Some(stream) = self.tally.roomy(instrument) {
+            return self.measure_plain(instrument, Some(stream), attrs, value);
+        }
         if let Some(point) = self.tally.own_point(instrument, attrs) {
             return self.measure_own(instrument, attrs, point, value);
         }
@@ -104,7 +108,34 @@ impl Recorder {
         if feed_noted(plan, feeds_in(plan, instrument)) {
             return self.measure_noted(instrument, attrs, value);
         }
-        match self.tally.measure(instrument, attrs, value) {
+        let lone = self.tally.lone(instrument);
+        self.measure_plain(instrument, lone, attrs, value)
+    }
+
+    // Records a value as `measure` does, where the sets are kept and nothing is kept beside their points: one look is all where the set
+    // has a point or waits. `lone` is the stream of the one feed, if that keeps all keys and is known.
+    #[inline(always)]
+    fn measure_plain(
+        &mut self,
+        instrument: usize,
+        lone: Option<usize>,
+        attrs: &AttrSet,
+        value: i64,
+    ) -> Result<(), RecordFault>
+        requires lone { IfSome lone (λ m. feeds_of self.old.plan instrument ≡ whole_feed m ∷ []) }
+        requires keeps { keeps_sets (tally_in self.old) (entry_of instrument attrs.now value) ≡ true }
+        requires plain { has_noted self.old.plan (feeds_of self.old.plan instrument) ≡ false }
+        ensures ok { OnOk result (record_fault_of self.old (entry_of instrument attrs.now value) ≡ None) }
+        ensures value { OnOk result (self.new ≡ recorder_after self.old (entry_of instrument attrs.now value)) }
+        ensures recorded { OnOk result (RecordsAlso self.old (entry_of instrument attrs.now value) self.new) }
+        ensures err { IfErr result (λ f. f ≢ RecordFault.NoMemory
+            → record_fault_of self.old (entry_of instrument attrs.now value) ≡ Some f) }
+        ensures held { IsHeld (tally_in self.old) (entry_of instrument attrs.now value) → IfErr result (λ f. f ≢ RecordFault.NoMemory) }
+        ensures unchanged { OnErr result (self.new ≡ self.old) }
+    {
+        // What the plan says of the feeds of this instrument.
+        let _ = feeds_in(self.tally.plan(), instrument);
+        match self.tally.measure_at(instrument, lone, attrs, &[], value) {
             Ok(()) => Ok(()),
             Err(fault) => Err(RecordFault::from(fault)),
         }

@@ -1,5 +1,5 @@
 //! The points of all streams of a plan, as recordings come in.
-ghost use Rattle.std.specs.Prelude.{◌≡◌, ◌≢◌, ◌↔◌, ◌<◌, ◌∷◌, [], pos, ℤ, length, replicate, slice_get, Some, None, true, false, IfOk, IfErr, IfSome, IsOk, OnOk, OnErr, IsTrue};
+ghost use Rattle.std.specs.Prelude.{◌≡◌, ◌≢◌, ◌↔◌, ◌<◌, ◌∷◌, [], pos, ℤ, length, replicate, slice_get, Some, None, true, false, IfOk, IfErr, IfSome, IsOk, IsSome, OnOk, OnErr, IsTrue};
 ghost use Rattle.std.specs.Option.{option_map};
 ghost use Rattle.agg_kit.specs.Alike.{ShareKeys};
 ghost use Rattle.agg_kit.specs.AtHome.{IfRefused, OnStale};
@@ -10,7 +10,7 @@ ghost use Rattle.agg_kit.specs.Feeds.{entries_of, series_at, AllWhole, IsHeld};
 ghost use Rattle.agg_kit.specs.Kept.{whole_feed, AreLone};
 ghost use Rattle.agg_kit.specs.Measuring.{after_measure, early_fault_of, empty_tally, fault_of};
 ghost use Rattle.agg_kit.specs.Recorders.{absorb_fault, empty_recorder, keeps_sets, recorded_in, with_recorder};
-ghost use Rattle.agg_kit.specs.Stamps.{stamped_in, stamps_put, AreSpots, CanNoteEach, HaveRooms};
+ghost use Rattle.agg_kit.specs.Stamps.{has_noted, stamped_in, stamps_put, AreSpots, CanNoteEach, HaveRooms};
 ghost use Rattle.agg_kit.specs.Refusals.{is_negative_for};
 ghost use Rattle.agg_kit.specs.declared.fault.TallyFault.TheVariants as faults;
 ghost use Rattle.agg_kit.specs.Sound.{AllSound};
@@ -22,7 +22,7 @@ use crate::bound::{OwnPoint, are_at, places_of};
 use crate::recorder::{feeds_in, keep_each};
 use crate::recording::{record, shape_of};
 use crate::series::Series;
-use crate::stamps::{Stamps, clear_each, find_spots, note_each};
+use crate::stamps::{Stamps, clear_each, find_spots, is_noted, note_each};
 use crate::{Bound, HomeFault, Recorder, TallyFault};
 use attr_kit::{AttrSet, AttrValue, Keep, NoMemory, Txt};
 use plan_kit::{Feed, Kind, Plan};
@@ -309,6 +309,26 @@ impl Tally {
         ensures { IfSome result (λ m. feeds_of self.now.plan instrument ≡ whole_feed m ∷ []) }
     {
         lone_at(&self.lone, instrument)
+    }
+
+    // The stream of an instrument's one feed, where that keeps all keys, keeps nothing beside its points and has room for one more set:
+    // whatever the set, it is kept, with no look.
+    #[inline(always)]
+    pub(crate) fn roomy(&self, instrument: usize) -> Option<usize>
+        ensures lone { IfSome result (λ m. feeds_of self.now.plan instrument ≡ whole_feed m ∷ []) }
+        ensures keeps { IsSome result → (a : AttrSet) (v : ℤ) → keeps_sets self.now (entry_of instrument a v) ≡ true }
+        ensures plain { IsSome result → has_noted self.now.plan (feeds_of self.now.plan instrument) ≡ false }
+    {
+        // What the plan says of the feeds of all its instruments.
+        let _ = self.plan.streams_len();
+        let stream = lone_at(&self.lone, instrument)?;
+        if is_noted(shape_of(&self.plan, stream)) {
+            return None;
+        }
+        if !self.series[stream].has_room(self.plan.limit()) {
+            return None;
+        }
+        Some(stream)
     }
 
     // Where the set's own point stands, if the instrument has one feed, which keeps all keys, and the point is there.
