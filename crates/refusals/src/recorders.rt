@@ -11,7 +11,9 @@ use plan_kit::Plan;
 use std::alloc::Global;
 
 // What a recorder holds, as the tally that takes it in has it. Leaves it empty.
-fn taken_out(alloc: Global, recorder: &mut Recorder) -> anyhow::Result<Tally> {
+fn taken_out(alloc: Global, recorder: &mut Recorder) -> anyhow::Result<Tally>
+    ensures { recorder.new.plan ≡ recorder.old.plan }
+{
     let mut tally = Tally::new(alloc, recorder.plan().try_copy()?)?;
     tally.absorb(recorder)?;
     Ok(tally)
