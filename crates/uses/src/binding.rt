@@ -47,7 +47,7 @@ pub fn record_two(
     tally.measure_bound(&mut point, second)
 }
 
-/// Records a value at a bound point, whatever tally looked it up. Where that was another, it is looked up anew.
+/// Records a value at a bound point, whatever tally looked it up. Where it is not at home in this one, it is looked up anew.
 pub fn record_anywhere(tally: &mut Tally, point: &mut Bound, value: i64) -> Result<(), TallyFault>
     ensures value { OnOk result (tally.new ≡ after_measure tally.old (entry_at point.old value)) }
     ensures unchanged { OnErr result (tally.new ≡ tally.old) }
