@@ -1,5 +1,5 @@
 -- What a recorder keeps beside its points, and what it makes of a recording.
-use Rattle.std.proofs.Common.{◌≡◌, ℕ, ◌<◌, ◌||◌, Bool, true, false, List, [], ◌∷◌, ◌++◌, Option, Some, None, Result, Ok, Err, OnOk, OnErr, length, replicate, take, drop, refl, sym, ap, subst, ◌∙◌, true≢false}
+use Rattle.std.proofs.Common.{◌≡◌, ℕ, ◌<◌, ◌||◌, Bool, true, false, List, [], ◌∷◌, ◌++◌, Option, Some, None, Result, Ok, Err, OnOk, OnErr, length, replicate, take, drop, fold, refl, sym, ap, subst, ◌∙◌, true≢false}
 use Rattle.std.specs.Option.{option_map}
 use Rattle.std.proofs.lemmas.List.{length-map, ext_get_or}
 use Rattle.attr_kit.specs.declared.attr_set.AttrSet.{AttrSet}
@@ -11,15 +11,16 @@ use Rattle.plan_kit.specs.declared.feed.Feed.{Feed}
 use Rattle.agg_kit.specs.Entries.{Entry, Arrivals, arrivals}
 use Rattle.agg_kit.specs.Feeding.{has_set, sets_of, distinct}
 use Rattle.agg_kit.specs.Feeds.{series_at, shape_at}
-use Rattle.agg_kit.specs.Measuring.{after_measure, empty_tally, fault_of}
+use Rattle.agg_kit.specs.Measuring.{after_measure, emptied_tally, empty_tally, fault_of, series_after}
 use Rattle.agg_kit.specs.Payloads.{payload_of}
 use Rattle.agg_kit.specs.Reaches.{reach}
-use Rattle.agg_kit.specs.Recorders.{Recorded, tally_in, recorded_in, empty_recorder, recorder_after, keeps_sets, can_stamp_all, as_record_fault, record_fault_of, Holds}
-use Rattle.agg_kit.specs.Rounds.{points_of, values_of}
+use Rattle.agg_kit.specs.Recorders.{Recorded, tally_in, recorded_in, emptied, empty_recorder, recorder_after, keeps_sets, can_stamp_all, as_record_fault, record_fault_of, Holds}
+use Rattle.agg_kit.specs.Rounds.{points_of, round, values_of}
 use Rattle.agg_kit.specs.Stamps.{Stamped, StampedIn, unstamped, stamped_in, stamps_at, last_number, stamped_of, stamps_of, has_noted, stamps_put, AreSpots}
-use Rattle.agg_kit.specs.Taken.{IsRecorder}
+use Rattle.agg_kit.specs.Taken.{AreRecorded, HasRecorded, IsRecorder}
 use Rattle.agg_kit.specs.Tallies.{Points, Tallied}
 use Rattle.agg_kit.specs.declared.fault.TallyFault.{TallyFault}
+use Rattle.agg_kit.specs.declared.home.Home.{Home}
 use Rattle.agg_kit.proofs.ComingIn.{whole-slice}
 use Rattle.agg_kit.proofs.Distinct.{itself, has-distinct}
 use Rattle.agg_kit.proofs.Numbers.{length-stamps, stamps-at, stamps-none}
@@ -32,12 +33,12 @@ use Rattle.agg_kit.proofs.Taken.{has-more, recorded_holds, recorded_none}
 abbrev pub AllFit : Planned → Type 0
 AllFit p = (i : ℕ) → AreFeeds (length p.streams) (feeds_of p i)
 
-pub none-recorded : (p : Planned) → IsRecorder (empty_recorder p)
-none-recorded p = ([], recorded_none p)
+pub none-recorded : (r : Recorded) → IsRecorder (emptied r)
+none-recorded r = ([], recorded_none r)
 
 -- a recorder that is like an empty one has recorded nothing
-pub none-recorder : (r : Recorded) (p : Planned) → r ≡ empty_recorder p → IsRecorder r
-none-recorder r p is = subst IsRecorder (sym is) (none-recorded p)
+pub none-recorder : (r s : Recorded) → r ≡ emptied s → IsRecorder r
+none-recorder r s is = subst IsRecorder (sym is) (none-recorded s)
 
 pub holds-some : (r : Recorded) → AllFit r.plan → IsRecorder r → (k : List Entry) × Holds r k
 holds-some r fit is = (is.0, recorded_holds r is.0 fit is.1)
@@ -85,11 +86,11 @@ no-arrivals shape (x ∷ xs) h =
     empty (d ∷ ds) h k = cc
 
 -- a recorder whose points are none has nothing beside them
-pub begins-recorder : (r : Recorded) → AllFit r.plan → IsRecorder r → tally_in r ≡ empty_tally r.plan → r ≡ empty_recorder r.plan
+pub begins-recorder : (r : Recorded) → AllFit r.plan → IsRecorder r → tally_in r ≡ emptied_tally (tally_in r) → r ≡ emptied r
 begins-recorder r fit is e =
     let h = holds-some r fit is in
     let p = r.plan in
-    let series : r.series ≡ (empty_tally p).series = ap (λ (t : Tallied). t.series) e in
+    let series : r.series ≡ round p [] = ap (λ (t : Tallied). t.series) e in
     let none : (m : ℕ) → m < length p.streams → arrivals p m h.0 ≡ [] =
     λ m l. no-arrivals (shape_at p m) (arrivals p m h.0)
     (sym (ap (λ l. series_at l m) h.1.0 ∙ whole-at p h.0 m l) ∙ ap (λ l. series_at l m) (series ∙ round-none p) ∙ none-at (length p.streams) m) in
@@ -97,17 +98,46 @@ begins-recorder r fit is e =
     ext_get_or unstamped (stamps_of p h.0) (stamps_of p []) (length-stamps p h.0 ∙ sym (length-stamps p []))
     (λ m l. let l' : m < length p.streams = subst (λ (n : ℕ). m < n) (length-stamps p h.0) l in
     stamps-at p h.0 m l' ∙ ap (stamped_of (shape_at p m)) (none m l') ∙ sym (stamps-at p [] m l')) in
-    (λ i. record { plan = p; series = series i; stamps = (h.1.1 ∙ stamps) i })
+    (λ i. record { plan = p; series = series i; stamps = (h.1.1 ∙ stamps) i; home = r.home })
 
 -- a recorder of so many streams whose stamps are forgotten, with the points of none
-pub forgotten : (p : Planned) (t : Tallied) (ns : List Stamped) (n : ℕ) → t ≡ empty_tally p → ns ≡ replicate n unstamped → n ≡ length p.streams → recorded_in t ns ≡ empty_recorder p
-forgotten p t ns n e s l = (λ i. recorded_in (e i) ((s ∙ ap (λ k. replicate k unstamped) l ∙ sym (stamps-none p)) i))
+pub forgotten : (p : Planned) (h : Home) (t : Tallied) (ns : List Stamped) (n : ℕ) → t ≡ record (empty_tally p) { home = h } → ns ≡ replicate n unstamped → n ≡ length p.streams → recorded_in t ns ≡ record (empty_recorder p) { home = h }
+forgotten p h t ns n e s l = (λ i. recorded_in (e i) ((s ∙ ap (λ k. replicate k unstamped) l ∙ sym (stamps-none p)) i))
 
 -- what a recorder holds in memory once all is forgotten: `ns` was there, and `cs` is what each became
-pub cleared : (p : Planned) (t : Tallied) (long : ℕ) (cs ns : List StampedIn) → t ≡ empty_tally p → long ≡ length ns → length cs ≡ length ns → stamped_in cs ≡ replicate (length ns) unstamped → length ns ≡ length p.streams
-    → recorded_in t (stamped_in (take long (cs ++ drop (length cs) ns))) ≡ empty_recorder p
-cleared p t long cs ns e size keep all many =
-    forgotten p t (stamped_in (take long (cs ++ drop (length cs) ns))) (length ns) e (ap stamped_in (whole-slice long cs ns size keep) ∙ all) many
+pub cleared : (p : Planned) (h : Home) (t : Tallied) (long : ℕ) (cs ns : List StampedIn) → t ≡ record (empty_tally p) { home = h } → long ≡ length ns → length cs ≡ length ns → stamped_in cs ≡ replicate (length ns) unstamped → length ns ≡ length p.streams
+    → recorded_in t (stamped_in (take long (cs ++ drop (length cs) ns))) ≡ record (empty_recorder p) { home = h }
+cleared p h t long cs ns e size keep all many =
+    forgotten p h t (stamped_in (take long (cs ++ drop (length cs) ns))) (length ns) e (ap stamped_in (whole-slice long cs ns size keep) ∙ all) many
+
+-- ---- of what home a recorder is
+
+rehomed-after : (r : Recorded) (h : Home) (e : Entry) → recorder_after (record r { home = h }) e ≡ record (recorder_after r e) { home = h }
+unfolding series_after
+rehomed-after r h e = refl
+
+rehomed-fault : (r : Recorded) (h : Home) (e : Entry) → record_fault_of (record r { home = h }) e ≡ record_fault_of r e
+unfolding fault_of series_after
+rehomed-fault r h e = refl
+
+rehomed-each : (r : Recorded) (h : Home) (k : List Entry) → AreRecorded r k → AreRecorded (record r { home = h }) k
+rehomed-each r h [] rec = tt
+rehomed-each r h (e ∷ k) rec = (
+  rehomed-fault r h e ∙ rec.0,
+  rec.1,
+  subst (λ (x : Recorded). AreRecorded x k) (sym (rehomed-after r h e)) (rehomed-each (recorder_after r e) h k rec.2),
+)
+
+rehomed-all : (r : Recorded) (h : Home) (k : List Entry) → fold recorder_after (record r { home = h }) k ≡ record (fold recorder_after r k) { home = h }
+rehomed-all r h [] = refl
+rehomed-all r h (e ∷ k) = ap (λ (x : Recorded). fold recorder_after x k) (rehomed-after r h e) ∙ rehomed-all (recorder_after r e) h k
+
+-- a recorder has recorded the same, whatever its home
+pub rehomed : (r : Recorded) (h : Home) (k : List Entry) → HasRecorded r k → HasRecorded (record r { home = h }) k
+rehomed r h k has = record {
+  each = rehomed-each (emptied r) h k has.each;
+  all = rehomed-all (emptied r) h k ∙ ap (λ (x : Recorded). record x { home = h }) has.all;
+}
 
 -- ---- one more recording
 

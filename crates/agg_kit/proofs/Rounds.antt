@@ -20,6 +20,7 @@ use Rattle.agg_kit.specs.Measuring.{empty_tally, points_after, series_after}
 use Rattle.agg_kit.specs.Rounds.{points_of, round, StandsFor}
 use Rattle.agg_kit.specs.Steps.{step}
 use Rattle.agg_kit.specs.Tallies.{Points, Tallied}
+use Rattle.agg_kit.specs.declared.home.Home.{Home}
 use Rattle.agg_kit.proofs.SeriesLaws.{series_of, series-push}
 
 -- reading a list at a place
@@ -198,7 +199,7 @@ round-none p = each p.streams 0
     each [] n = refl
     each (s ∷ ss) n = ap (λ l. [] ∷ l) (each ss (n + 1))
 
-pub begins : (p : Planned) (ss : List Points) (n : ℕ) → ss ≡ replicate n [] → n ≡ length p.streams → record { plan = p; series = ss } ≡ empty_tally p
-begins p ss n none len =
+pub begins : (p : Planned) (ss : List Points) (h : Home) (n : ℕ) → ss ≡ replicate n [] → n ≡ length p.streams → record { plan = p; series = ss; home = h } ≡ record (empty_tally p) { home = h }
+begins p ss h n none len =
     let is : ss ≡ round p [] = none ∙ ap (λ (n : ℕ). replicate n []) len ∙ sym (round-none p) in
-    λ i. record { plan = p; series = is i }
+    λ i. record { plan = p; series = is i; home = h }

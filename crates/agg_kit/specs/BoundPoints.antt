@@ -8,6 +8,7 @@ use Rattle.plan_kit.specs.declared.feed.Feed.{Feed}
 use Rattle.agg_kit.specs.Entries.{Entry, entry_of}
 use Rattle.agg_kit.specs.Feeding.{set_eq}
 use Rattle.agg_kit.specs.Feeds.{entries_of, series_at}
+use Rattle.agg_kit.specs.Homes.{IsOf}
 use Rattle.agg_kit.specs.Kept.{whole_feed}
 use Rattle.agg_kit.specs.Measuring.{after_measure}
 use Rattle.agg_kit.specs.Steps.{Stored, fed_set}
@@ -33,6 +34,10 @@ AreKnown p fs is a ss = (is ≡ []) ⊎ AreAt p fs is a ss
 -- a bound point is at home in a tally: what it knows of places is true there
 abbrev pub IsBound : Tallied → Bound → Type 0
 IsBound t b = AreKnown t.plan (feeds_of t.plan b.instrument) b.places.items b.attrs t.series
+
+-- it is of another home, or at home in the tally
+abbrev pub IsAtHome : Tallied → Bound → Type 0
+IsAtHome t b = IsOf t.home b → IsBound t b
 
 -- the stream is that of the instrument's one feed, which keeps all keys, and the set's own point stands there at the place
 pub record IsOwnPoint (t : Tallied) (i : ℕ) (a : AttrSet) (o : OwnPoint) : Type 0 where

@@ -7,6 +7,7 @@ pub mod Entries
 pub mod Feeding
 pub mod Feeds
 pub mod FreshPoints
+pub mod Homes
 pub mod Joins
 pub mod Kept
 pub mod Laws

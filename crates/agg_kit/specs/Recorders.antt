@@ -10,6 +10,7 @@ use Rattle.agg_kit.specs.BoundPoints.{IsBound, entry_at}
 use Rattle.agg_kit.specs.Entries.{Entry, arrivals}
 use Rattle.agg_kit.specs.Feeding.{set_eq}
 use Rattle.agg_kit.specs.Feeds.{entries_of, series_at}
+use Rattle.agg_kit.specs.Homes.{IsOf, next_home, unnamed}
 use Rattle.agg_kit.specs.Measuring.{fault_of, series_after}
 use Rattle.agg_kit.specs.Rounds.{points_of, round, StandsFor}
 use Rattle.agg_kit.specs.Stamps.{Stamped, absorb_stamped, can_stamp, fits_on_way, stamps_after, stamps_of}
@@ -20,28 +21,38 @@ use Rattle.agg_kit.specs.declared.fault.TallyFault.{TallyFault}
 use Rattle.agg_kit.specs.declared.fault.TallyFault.TheVariants as faults
 use Rattle.agg_kit.specs.declared.fault.RecordFault.{RecordFault}
 use Rattle.agg_kit.specs.declared.fault.RecordFault.TheVariants as record_faults
+use Rattle.agg_kit.specs.declared.home.Home.{Home}
 
 -- the points of each stream where every set has a point of its own, however many there are
 unfoldable pub whole_round : Planned → List Entry → List Points
 whole_round p h = map (λ s. points_of s.1.shape (arrivals p s.0 h)) (enumerate_from 0 p.streams)
 
--- what contracts see of a recorder: its plan, the points of each stream, and what it keeps beside them
+-- what contracts see of a recorder: its plan, the points of each stream, what it keeps beside them, and by what its bound points know it
 pub record Recorded : Type 0 where
   pub plan : Planned
   pub series : List Points
   pub stamps : List Stamped
+  pub home : Home
 
 -- the recorder's points, as a tally
 abbrev pub tally_in : Recorded → Tallied
-tally_in r = record { plan = r.plan; series = r.series }
+tally_in r = record { plan = r.plan; series = r.series; home = r.home }
 
 -- a tally's points, with what is kept beside them
 abbrev pub recorded_in : Tallied → List Stamped → Recorded
-recorded_in t ns = record { plan = t.plan; series = t.series; stamps = ns }
+recorded_in t ns = record { plan = t.plan; series = t.series; stamps = ns; home = t.home }
 
--- a recorder that holds nothing
+-- a recorder that holds nothing and has no name
 abbrev pub empty_recorder : Planned → Recorded
-empty_recorder p = record { plan = p; series = round p []; stamps = stamps_of p [] }
+empty_recorder p = record { plan = p; series = round p []; stamps = stamps_of p []; home = unnamed }
+
+-- a recorder without what it holds
+abbrev pub emptied : Recorded → Recorded
+emptied r = record r { series = round r.plan []; stamps = stamps_of r.plan [] }
+
+-- a recorder once it was taken in: it begins anew
+abbrev pub after_absorb : Recorded → Recorded
+after_absorb r = record (emptied r) { home = next_home r.home }
 
 -- a recorder stands for a list of recordings where its points are their round without a limit, with what these recordings leave beside them
 abbrev pub Holds : Recorded → List Entry → Type 0
@@ -51,7 +62,7 @@ Holds r k = (r.series ≡ whole_round r.plan k) × (r.stamps ≡ stamps_of r.pla
 abbrev pub recorder_after : Recorded → Entry → Recorded
 recorder_after r e =
     let after = series_after (tally_in r) e in
-    record { plan = r.plan; series = after; stamps = stamps_after r.plan (feeds_of r.plan e.instrument) e.attrs r.series after r.stamps }
+    record r { series = after; stamps = stamps_after r.plan (feeds_of r.plan e.instrument) e.attrs r.series after r.stamps }
 
 -- the set that a feed keeps has its own point in the feed's stream, or room for one
 abbrev pub keeps_set : Planned → AttrSet → List Points → Feed → Bool
@@ -68,6 +79,10 @@ can_stamp_all r i = list_all (can_stamp r.plan r.stamps) (feeds_of r.plan i)
 -- a bound point is at home in a recorder: what it knows of places is true there, and each is that of a set's own point
 abbrev pub IsOwnBound : Recorded → Bound → Type 0
 IsOwnBound r b = IsBound (tally_in r) b × ((b.places.items ≡ []) ⊎ (keeps_sets (tally_in r) (entry_at b (pos 0)) ≡ true))
+
+-- it is of another home, or at home in the recorder
+abbrev pub IsOwnAtHome : Recorded → Bound → Type 0
+IsOwnAtHome r b = IsOf r.home b → IsOwnBound r b
 
 -- a tally's refusal as a recorder's: a sum that would leave its range is one that the recorder cannot hold
 abbrev pub as_record_fault : TallyFault → RecordFault

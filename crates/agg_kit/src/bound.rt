@@ -1,10 +1,11 @@
 //! Bound points: an instrument and a set, with the places where their values go.
-ghost use Rattle.std.specs.Prelude.{◌≡◌, ◌↔◌, [], length, IfOk, IsOk, IsTrue};
+ghost use Rattle.std.specs.Prelude.{◌≡◌, ◌↔◌, [], length, None, IfOk, IsOk, IsTrue};
 ghost use Rattle.agg_kit.specs.BoundPoints.{KnowPlaces, StandAt};
 ghost use Rattle.agg_kit.specs.Feeding.{overflow_set};
 ghost use Rattle.agg_kit.specs.Feeds.{AllWhole};
 ghost use Rattle.plan_kit.specs.Plans.{AreFeeds};
 
+use crate::home::Home;
 use crate::recording::{kept_set, set_or};
 use crate::series::Series;
 use attr_kit::{AttrSet, NoMemory};
@@ -15,17 +16,20 @@ use std::alloc::Global;
 ///
 /// `Tally::bind` makes one. It knows the places of its points once they are all there, and until then it is looked up at each
 /// value as any set is: binding makes no point, and takes no place in first-seen order or under the limit. What it knows stays
-/// true in its tally until a restart. [`Bound::release`] makes it forget, and `Tally::rebind` look again.
+/// true in its tally until that begins anew. [`Bound::release`] makes it forget, and `Tally::rebind` look again.
 ///
-/// It doesn't say which tally or recorder it is of. Who knows that it is at home takes `measure_bound`, which asks for that and looks
-/// at no set. Who can't know it takes `measure_if_at_home`, which refuses it by `Stale` where it is not: that compares one set where
-/// the instrument has one feed, which keeps all keys, and looks each feed's set up else.
+/// It is of the tally or recorder that bound it, and of that one's beginning ([`Home`]): used at another `measure_bound` refuses it by
+/// `Stale`. Homes are told apart by name and beginning, so of two tallies of one name it is asked that the point is at home; it is
+/// compared with no set. `measure_if_at_home` asks nothing: it compares one set where the instrument has one feed, which keeps all
+/// keys, looks each feed's set up else, and refuses by `Stale` what is not at home.
 #[derive(Drop)]
 pub struct Bound {
     pub(crate) instrument: usize,
     pub(crate) attrs: AttrSet,
     // The place of each feed's point, in the order of the feeds, or none.
     pub(crate) places: Vec<usize>,
+    // Whose it is, unless it was released.
+    pub(crate) home: Option<Home>,
 }
 
 impl Bound {
@@ -43,13 +47,22 @@ impl Bound {
         &self.attrs
     }
 
-    /// Forgets the places, so that it is at home in every tally. O(1), takes no memory.
+    /// Whose it is: of no tally once it was released. O(1), takes no memory.
+    pub fn home(&self) -> Option<Home>
+        ensures { result ≡ self.now.home }
+    {
+        self.home
+    }
+
+    /// Forgets the places and whose it is, so that it is at home in every tally. O(1), takes no memory.
     pub fn release(&mut self)
         ensures places { self.new.places.items ≡ [] }
+        ensures home { self.new.home ≡ None }
         ensures instrument { self.new.instrument ≡ self.old.instrument }
         ensures attrs { self.new.attrs ≡ self.old.attrs }
     {
         self.places.clear();
+        self.home = None;
     }
 }
 

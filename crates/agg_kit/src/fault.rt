@@ -74,12 +74,13 @@ impl From<NoMemory> for RecordFault {
     }
 }
 
-/// Why a value is not recorded at a bound point that may not be at home, in the order in which it is looked for. `F` says why the tally
-/// or the recorder refuses a recording.
+/// Why a value is not recorded at a bound point, in the order in which it is looked for. `F` says why the tally or the recorder
+/// refuses a recording.
 #[derive(Debug, PartialEq, Eq, Drop, Error)]
 #[error_bound(F: Display)]
 pub enum HomeFault<F> {
-    /// The bound point is not at home: it knows places where its points do not stand.
+    /// The bound point is not at home: it is of another tally or recorder, or of an earlier beginning of this one; where a set is looked
+    /// at, it knows places where its points do not stand.
     #[error("the bound point is not at home")]
     Stale,
     /// The recording is refused. Memory for the test whether the bound point is at home is one of the refusals.

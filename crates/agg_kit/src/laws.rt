@@ -1,13 +1,14 @@
 //! What tallies stand for.
 ghost use Rattle.std.specs.Prelude.{◌≡◌, ◌++◌, ◌∷◌, [], List};
-ghost use Rattle.plan_kit.specs.Plans.{Planned, feeds_of};
+ghost use Rattle.plan_kit.specs.Plans.{feeds_of};
 ghost use Rattle.agg_kit.specs.Absorbs.{PointsAreAbsorbed, PlacesAreKept, OthersAreAbsorbed};
 ghost use Rattle.agg_kit.specs.BoundPoints.{BoundPointsStay};
 ghost use Rattle.agg_kit.specs.Entries.{Entry};
 ghost use Rattle.agg_kit.specs.Feeds.{AllWhole};
+ghost use Rattle.agg_kit.specs.Homes.{HomesDiffer};
 ghost use Rattle.agg_kit.specs.Laws.{SumsAddUp, CountsAddUp, IsLimited, OwnPointsStay, FedGrows, RoundsHaveFed};
-ghost use Rattle.agg_kit.specs.Measuring.{after_measure, early_fault_of, empty_tally, fault_of};
-ghost use Rattle.agg_kit.specs.Recorders.{empty_recorder, Holds, RecordersHold, AbsorbingIsRecording, OwnBoundPointsStay};
+ghost use Rattle.agg_kit.specs.Measuring.{after_measure, early_fault_of, emptied_tally, fault_of};
+ghost use Rattle.agg_kit.specs.Recorders.{Recorded, emptied, Holds, RecordersHold, AbsorbingIsRecording, OwnBoundPointsStay};
 ghost use Rattle.agg_kit.specs.Refusals.{first_refusal};
 ghost use Rattle.agg_kit.specs.Rounds.{StandsFor};
 ghost use Rattle.agg_kit.specs.Taken.{AbsorbedAreTaken, HasRecorded, RecordersHave, RefusedAreRefused};
@@ -17,7 +18,7 @@ ghost use Rattle.agg_kit.specs.Tallies.{Tallied};
 /// a recording for the list followed by it, and refuses what is refused after the list. Where every feed keeps all keys,
 /// nothing is looked for after memory is wanted.
 pub fn steps_are_recordings()
-    ensures empty { (p : Planned) → StandsFor (empty_tally p) [] }
+    ensures empty { (t : Tallied) → StandsFor (emptied_tally t) [] }
     ensures stands { (t : Tallied) (h : List Entry) (e : Entry) → StandsFor t h → StandsFor (after_measure t e) (h ++ e ∷ []) }
     ensures refused { (t : Tallied) (h : List Entry) (e : Entry) → StandsFor t h → fault_of t e ≡ first_refusal t.plan h e }
     ensures whole { (t : Tallied) (e : Entry) → AllWhole (feeds_of t.plan e.instrument) → early_fault_of t e ≡ fault_of t e }
@@ -47,6 +48,11 @@ pub fn own_bound_points_stay()
     ensures { OwnBoundPointsStay }
 {}
 
+/// A tally or a recorder that began anew has another home than before, so that what was bound there is not of it.
+pub fn homes_differ()
+    ensures { HomesDiffer }
+{}
+
 /// Points that another tally has of later values, taken in one after the other, are as if each of their values had been recorded;
 /// of gauges, where no two sets of the other go under one. Whatever they are, the sets go where their values would, and but for
 /// the payload of the overflow set of a gauge all is as if recorded.
@@ -60,7 +66,7 @@ pub fn points_are_absorbed()
 /// Taking a recorder in is recording what it holds: one that holds nothing stands for no recordings, one that takes a recording
 /// stands for it too, and a tally with what a recorder holds stands for its recordings followed by the recorder's.
 pub fn absorbing_is_recording()
-    ensures empty { (p : Planned) → Holds (empty_recorder p) [] }
+    ensures empty { (r : Recorded) → Holds (emptied r) [] }
     ensures holds { RecordersHold }
     ensures stands { AbsorbingIsRecording }
 {}
@@ -70,7 +76,7 @@ pub fn absorbing_is_recording()
 /// its own, `Plan::streams_len` says.
 #[tactic(auto, using(crate::proofs::Taken::recorded_none))]
 pub fn recorded_is_accepted()
-    ensures empty { (p : Planned) → HasRecorded (empty_recorder p) [] }
+    ensures empty { (r : Recorded) → HasRecorded (emptied r) [] }
     ensures records { RecordersHave }
     ensures accepted { AbsorbedAreTaken }
 {}

@@ -1,18 +1,20 @@
 //! Recorders: a thread's own tally, which another tally takes in.
-ghost use Rattle.std.specs.Prelude.{◌≡◌, ◌≢◌, ◌↔◌, ◌∷◌, [], pos, true, false, length, Some, None, IfOk, IfErr, IfSome, OnOk, OnErr, IsOk, IsTrue};
+ghost use Rattle.std.specs.Prelude.{◌≡◌, ◌≢◌, ◌↔◌, ◌∷◌, [], pos, true, false, length, List, Some, None, IfOk, IfErr, IfSome, OnOk, OnErr, IsOk, IsTrue};
 ghost use Rattle.plan_kit.specs.Plans.{feeds_of, kind_of, AllRise, AreFeeds};
 ghost use Rattle.plan_kit.specs.declared.instrument.Kind.{Kind};
 ghost use Rattle.agg_kit.specs.AtHome.{IfRefused, OnStale};
 ghost use Rattle.agg_kit.specs.BoundPoints.{HasInstrument, IsBound, IsOwnPoint, LacksInstrument, entry_at};
-ghost use Rattle.agg_kit.specs.Entries.{entry_of};
+ghost use Rattle.agg_kit.specs.Entries.{Entry, entry_of};
 ghost use Rattle.agg_kit.specs.Feeding.{overflow_set};
 ghost use Rattle.agg_kit.specs.Feeds.{AllWhole, AreHeld, IsHeld};
+ghost use Rattle.agg_kit.specs.Homes.{IsOf};
 ghost use Rattle.agg_kit.specs.Kept.{whole_feed};
-ghost use Rattle.agg_kit.specs.Recorders.{recorder_after, can_stamp_all, empty_recorder, keep_sets, keeps_sets, record_fault_of, tally_in, IsOwnBound};
+ghost use Rattle.agg_kit.specs.Recorders.{recorder_after, can_stamp_all, emptied, empty_recorder, keep_sets, keeps_sets, record_fault_of, tally_in, IsOwnAtHome, IsOwnBound};
 ghost use Rattle.agg_kit.specs.Stamps.{has_noted};
 ghost use Rattle.agg_kit.specs.Taken.{HasRecorded, IsRecorder, RecordsAlso};
 
 use crate::bound::OwnPoint;
+use crate::home::Home;
 use crate::recording::{kept_set, set_or, shape_of};
 use crate::series::Series;
 use crate::stamps::{Stamps, can_stamp_each, can_stamp_in, feed_noted, is_noted, no_stamps};
@@ -34,8 +36,8 @@ use std::marker::Model;
 /// that may fall it knows how far each set's sum went down and up, since a tally may not take in what left the range on its way.
 ///
 /// Once a tally has taken it in, its sets wait in it, as many as the limit says: the next value of one takes no copy of it where its
-/// instrument has one feed that keeps all keys. Its bound points know places that are gone then. Release each
-/// ([`Bound::release`]): it is looked up again at its first value.
+/// instrument has one feed that keeps all keys. It begins anew then, so what was bound there is of an earlier beginning, and refused by
+/// `Stale`: bind it again, or release it ([`Bound::release`]), and it is looked up at its first value.
 #[derive(Drop)]
 pub struct Recorder {
     pub(crate) tally: Tally,
@@ -53,13 +55,13 @@ impl Model for Recorder {
 
     ghost Value = { Recorded };
 
-    ghost view = { λ r. record { plan = r.tally.plan; series = r.tally.series; stamps = stamped_in r.stamps.items } };
+    ghost view = { λ r. record { plan = r.tally.plan; series = r.tally.series; stamps = stamped_in r.stamps.items; home = r.tally.home } };
 
-    ghost invariant = { λ r. IsRecorder (record { plan = r.tally.plan; series = r.tally.series; stamps = stamped_in r.stamps.items }) };
+    ghost invariant = { λ r. IsRecorder (record { plan = r.tally.plan; series = r.tally.series; stamps = stamped_in r.stamps.items; home = r.tally.home }) };
 }
 
 impl Recorder {
-    /// A recorder of a plan, which holds nothing. O(size of the plan).
+    /// A recorder of a plan, which holds nothing and has no name. O(size of the plan).
     pub fn new(alloc: Global, plan: &Plan) -> Result<Recorder, NoMemory>
         ensures value { IfOk result (λ recorder. recorder ≡ empty_recorder plan.now) }
         ensures empty { IfOk result (λ recorder. HasRecorded recorder []) }
@@ -71,6 +73,23 @@ impl Recorder {
             stamps,
             spots: Vec::new(alloc),
         })
+    }
+
+    /// The recorder with a name, by which bound points tell it from others. Whatever was bound there is of another home. O(1), takes
+    /// no memory.
+    pub fn named(mut self, name: u64) -> Recorder
+        ensures value { result ≡ record self { home = record self.home { name = name } } }
+        ensures recorded { (k : List Entry) → HasRecorded self k → HasRecorded result k }
+    {
+        self.tally = self.tally.named(name);
+        self
+    }
+
+    /// By what its bound points know it. O(1), takes no memory.
+    pub fn home(&self) -> Home
+        ensures { result ≡ self.now.home }
+    {
+        self.tally.home()
     }
 
     /// Records a value in the stream of every feed of the instrument, or in none.
@@ -148,6 +167,7 @@ impl Recorder {
     pub fn bind(&self, instrument: usize, attrs: &AttrSet) -> Result<Bound, RecordFault>
         ensures ok { OnOk result (HasInstrument (tally_in self.now) instrument) }
         ensures value { IfOk result (λ b. (b.instrument ≡ instrument) × (b.attrs ≡ attrs.now)) }
+        ensures of { IfOk result (λ b. b.home ≡ Some self.now.home) }
         ensures bound { IfOk result (λ b. IsOwnBound self.now b) }
         ensures err { IfErr result (λ f. f ≢ RecordFault.NoMemory → f ≡ RecordFault.NoInstrument) }
         ensures lacks { IfErr result (λ f. f ≢ RecordFault.NoMemory → LacksInstrument (tally_in self.now) instrument) }
@@ -158,11 +178,12 @@ impl Recorder {
         Ok(bound)
     }
 
-    /// Looks the points of a bound point up again, whatever tally or recorder it was bound by: it is at home in this one then.
+    /// Looks the points of a bound point up again, whatever tally or recorder it was bound by: it is of this one then, and at home.
     /// O(feeds of the instrument times the size of the attributes).
     pub fn rebind(&self, bound: &mut Bound)
         ensures instrument { bound.new.instrument ≡ bound.old.instrument }
         ensures attrs { bound.new.attrs ≡ bound.old.attrs }
+        ensures of { bound.new.home ≡ Some self.now.home }
         ensures bound { IsOwnBound self.now bound.new }
     {
         self.tally.rebind(bound);
@@ -174,21 +195,59 @@ impl Recorder {
         requires { IsBound (tally_in self.now) bound.old }
         ensures instrument { bound.new.instrument ≡ bound.old.instrument }
         ensures attrs { bound.new.attrs ≡ bound.old.attrs }
+        ensures home { bound.new.home ≡ bound.old.home }
         ensures bound { IsOwnBound self.now bound.new }
     {
         match self.tally.keeps_sets(bound.instrument, &bound.attrs) {
             Ok(true) => {}
-            _ => bound.release(),
+            _ => bound.places.clear(),
         }
     }
 
     /// Records a value as `measure` does with the bound point's instrument and attributes, and looks up no set where it knows the
     /// places. Else it knows them after the first value that is recorded, if memory is not refused.
     ///
-    /// The bound point is at home in this recorder: it was bound or bound again by it since a tally took it in, or is released.
-    /// Refuses as `measure` does, but for want of memory, which never comes where the places are known. O(feeds of the instrument).
-    /// Who can't know that it is at home takes `measure_if_at_home`.
-    pub fn measure_bound(&mut self, bound: &mut Bound, value: i64) -> Result<(), RecordFault>
+    /// Refuses, in this order, and leaves the recorder and the bound point as they were: `Stale` where the bound point is of another
+    /// recorder, or was bound before a tally took this one in; `Refused` as `measure` does, but for want of memory, which never comes
+    /// where the places are known. O(feeds of the instrument).
+    ///
+    /// Recorders are told apart by their names and beginnings. A bound point that this name and beginning fit, or that was released,
+    /// is asked to be at home: it is where it was bound or bound again by this recorder, or is released. Who can't know it takes
+    /// `measure_if_at_home`.
+    pub fn measure_bound(
+        &mut self,
+        bound: &mut Bound,
+        value: i64,
+    ) -> Result<(), HomeFault<RecordFault>>
+        requires { IsOwnAtHome self.old bound.old }
+        ensures ok { OnOk result (record_fault_of self.old (entry_at bound.old value) ≡ None) }
+        ensures fresh { OnOk result (IsOf self.old.home bound.old) }
+        ensures value { OnOk result (self.new ≡ recorder_after self.old (entry_at bound.old value)) }
+        ensures stale { OnStale result (¬ IsOf self.old.home bound.old) }
+        ensures err { IfRefused result (λ f. f ≢ RecordFault.NoMemory → record_fault_of self.old (entry_at bound.old value) ≡ Some f) }
+        ensures err_fresh { IfRefused result (λ f. IsOf self.old.home bound.old) }
+        ensures held { IsHeld (tally_in self.old) (entry_at bound.old value)
+            → has_noted self.old.plan (feeds_of self.old.plan bound.old.instrument) ≡ false
+            → IfRefused result (λ f. f ≢ RecordFault.NoMemory) }
+        ensures known { bound.old.places.items ≢ [] → IfRefused result (λ f. f ≢ RecordFault.NoMemory) }
+        ensures unchanged { OnErr result (self.new ≡ self.old) }
+        ensures kept { OnErr result (bound.new ≡ bound.old) }
+        ensures instrument { bound.new.instrument ≡ bound.old.instrument }
+        ensures attrs { bound.new.attrs ≡ bound.old.attrs }
+        ensures of { OnOk result (bound.new.home ≡ Some self.old.home) }
+        ensures home { IsOwnAtHome self.new bound.new }
+    {
+        if self.tally.is_away(bound) {
+            return Err(HomeFault::Stale);
+        }
+        match self.measure_here(bound, value) {
+            Ok(()) => Ok(()),
+            Err(fault) => Err(HomeFault::Refused(fault)),
+        }
+    }
+
+    // Records a value at a bound point that is at home. The bound point is this recorder's then.
+    fn measure_here(&mut self, bound: &mut Bound, value: i64) -> Result<(), RecordFault>
         requires { IsOwnBound self.old bound.old }
         ensures ok { OnOk result (record_fault_of self.old (entry_at bound.old value) ≡ None) }
         ensures value { OnOk result (self.new ≡ recorder_after self.old (entry_at bound.old value)) }
@@ -200,6 +259,7 @@ impl Recorder {
         ensures kept { OnErr result (bound.new ≡ bound.old) }
         ensures instrument { bound.new.instrument ≡ bound.old.instrument }
         ensures attrs { bound.new.attrs ≡ bound.old.attrs }
+        ensures of { OnOk result (bound.new.home ≡ Some self.old.home) }
         ensures bound { IsOwnBound self.new bound.new }
     {
         if bound.places.is_empty() {
@@ -207,7 +267,9 @@ impl Recorder {
             self.rebind(bound);
             return Ok(());
         }
-        self.measure_known(bound, value)
+        self.measure_known(bound, value)?;
+        bound.home = Some(self.tally.home());
+        Ok(())
     }
 
     /// Whether a bound point is at home in this recorder: it knows no places, or its sets have points of their own, which stand at the
@@ -230,7 +292,8 @@ impl Recorder {
         self.tally.keeps_sets(bound.instrument, &bound.attrs)
     }
 
-    /// Records a value as `measure_bound` does where the bound point is at home, and asks nothing: for who can't know that it is.
+    /// Records a value as `measure_bound` does where the bound point is at home, whatever tally or recorder bound it, and asks nothing:
+    /// for who can't know that it is.
     ///
     /// Refuses, in this order, and leaves the recorder and the bound point as they were: `Stale` where the bound point is not at home,
     /// `Refused` as `measure_bound` does. That is `Refused(NoMemory)`, too, where the bound point knows places, a feed keeps a list of
@@ -255,6 +318,7 @@ impl Recorder {
         ensures kept { OnErr result (bound.new ≡ bound.old) }
         ensures instrument { bound.new.instrument ≡ bound.old.instrument }
         ensures attrs { bound.new.attrs ≡ bound.old.attrs }
+        ensures of { OnOk result (bound.new.home ≡ Some self.old.home) }
         ensures bound { OnOk result (IsOwnBound self.new bound.new) }
     {
         let Ok(home) = self.is_at_home(bound) else {
@@ -263,7 +327,7 @@ impl Recorder {
         if !home {
             return Err(HomeFault::Stale);
         }
-        match self.measure_bound(bound, value) {
+        match self.measure_here(bound, value) {
             Ok(()) => Ok(()),
             Err(fault) => Err(HomeFault::Refused(fault)),
         }
@@ -377,7 +441,7 @@ impl Recorder {
 
     /// Whether it holds no recordings. O(streams), takes no memory.
     pub fn is_empty(&self) -> bool
-        ensures { IsTrue result ↔ (self.now ≡ empty_recorder self.now.plan) }
+        ensures { IsTrue result ↔ (self.now ≡ emptied self.now) }
     {
         // What the plan says of the feeds of all its instruments.
         let _ = self.tally.plan().streams_len();

@@ -3,13 +3,14 @@ ghost use Rattle.std.specs.Prelude.{◌≡◌, ◌≢◌, ◌↔◌, ◌<◌, �
 ghost use Rattle.std.specs.Option.{option_map};
 ghost use Rattle.agg_kit.specs.Alike.{ShareKeys};
 ghost use Rattle.agg_kit.specs.AtHome.{IfRefused, OnStale};
-ghost use Rattle.agg_kit.specs.BoundPoints.{AreAt, AreKnown, HasInstrument, IsBound, IsOwnPoint, LacksInstrument, entry_at};
+ghost use Rattle.agg_kit.specs.BoundPoints.{AreAt, AreKnown, HasInstrument, IsAtHome, IsBound, IsOwnPoint, LacksInstrument, entry_at};
 ghost use Rattle.agg_kit.specs.Entries.{entry_of};
 ghost use Rattle.agg_kit.specs.Feeding.{overflow_set};
 ghost use Rattle.agg_kit.specs.Feeds.{entries_of, series_at, AllWhole, IsHeld};
+ghost use Rattle.agg_kit.specs.Homes.{IsOf, next_home};
 ghost use Rattle.agg_kit.specs.Kept.{whole_feed, AreLone};
-ghost use Rattle.agg_kit.specs.Measuring.{after_measure, early_fault_of, empty_tally, fault_of};
-ghost use Rattle.agg_kit.specs.Recorders.{absorb_fault, empty_recorder, keeps_sets, recorded_in, with_recorder};
+ghost use Rattle.agg_kit.specs.Measuring.{after_measure, begun_anew, early_fault_of, emptied_tally, empty_tally, fault_of};
+ghost use Rattle.agg_kit.specs.Recorders.{absorb_fault, after_absorb, keeps_sets, recorded_in, with_recorder};
 ghost use Rattle.agg_kit.specs.Stamps.{has_noted, stamped_in, stamps_put, AreSpots, CanNoteEach, HaveRooms};
 ghost use Rattle.agg_kit.specs.Refusals.{is_negative_for};
 ghost use Rattle.agg_kit.specs.declared.fault.TallyFault.TheVariants as faults;
@@ -19,6 +20,7 @@ ghost use Rattle.plan_kit.specs.declared.instrument.Kind.{Kind};
 
 use crate::absorbing::absorb_into;
 use crate::bound::{OwnPoint, are_at, places_of};
+use crate::home::Home;
 use crate::recorder::{feeds_in, keep_each};
 use crate::recording::{record, shape_of};
 use crate::series::Series;
@@ -38,6 +40,7 @@ pub struct Tally {
     series: Vec<Series>,
     // Of each instrument with one feed, which keeps all keys, the feed's stream: a short way to a point that is held.
     lone: Vec<Option<usize>>,
+    home: Home,
 }
 
 impl Model for Tally {
@@ -47,13 +50,13 @@ impl Model for Tally {
 
     ghost Value = { Tallied };
 
-    ghost view = { λ t. record { plan = t.plan; series = entries_of t.series.items } };
+    ghost view = { λ t. record { plan = t.plan; series = entries_of t.series.items; home = t.home } };
 
     ghost invariant = { λ t. IsTally t.plan t.overflow (entries_of t.series.items) t.lone.items };
 }
 
 impl Tally {
-    /// A tally without points.
+    /// A tally without points, and without a name.
     pub fn new(alloc: Global, plan: Plan) -> Result<Tally, NoMemory>
         ensures value { IfOk result (λ tally. tally ≡ empty_tally plan) }
     {
@@ -65,7 +68,24 @@ impl Tally {
             overflow,
             series,
             lone,
+            home: Home::unnamed(),
         })
+    }
+
+    /// The tally with a name, by which bound points tell it from others. What it was called before, and whatever was bound there,
+    /// is of another home. O(1), takes no memory.
+    pub fn named(mut self, name: u64) -> Tally
+        ensures { result ≡ record self { home = record self.home { name = name } } }
+    {
+        self.home.name = name;
+        self
+    }
+
+    /// By what its bound points know it. O(1), takes no memory.
+    pub fn home(&self) -> Home
+        ensures { result ≡ self.now.home }
+    {
+        self.home
     }
 
     /// Records a value in the stream of every feed of the instrument, or in none.
@@ -94,6 +114,7 @@ impl Tally {
     pub fn bind(&self, instrument: usize, attrs: &AttrSet) -> Result<Bound, TallyFault>
         ensures ok { OnOk result (HasInstrument self.now instrument) }
         ensures value { IfOk result (λ b. (b.instrument ≡ instrument) × (b.attrs ≡ attrs.now)) }
+        ensures of { IfOk result (λ b. b.home ≡ Some self.now.home) }
         ensures bound { IfOk result (λ b. IsBound self.now b) }
         ensures err { IfErr result (λ f. f ≢ TallyFault.NoMemory
             → (f ≡ TallyFault.NoInstrument) × LacksInstrument self.now instrument) }
@@ -114,18 +135,21 @@ impl Tally {
                 feeds,
                 attrs,
             )?,
+            home: Some(self.home),
         })
     }
 
-    /// Looks the points of a bound point up again, whatever tally it was bound by: it is at home in this one then. Where a point
+    /// Looks the points of a bound point up again, whatever tally it was bound by: it is of this one then, and at home. Where a point
     /// is not there or memory is refused it knows no places. O(feeds of the instrument times the size of the attributes).
     pub fn rebind(&self, bound: &mut Bound)
         ensures instrument { bound.new.instrument ≡ bound.old.instrument }
         ensures attrs { bound.new.attrs ≡ bound.old.attrs }
+        ensures of { bound.new.home ≡ Some self.now.home }
         ensures bound { IsBound self.now bound.new }
     {
         let alloc = *self.series.allocator();
         bound.release();
+        bound.home = Some(self.home);
         if let Some(feeds) = self.plan.feeds(bound.instrument)
             && let Ok(places) = places_of(
                 alloc,
@@ -143,10 +167,57 @@ impl Tally {
     /// Records a value as `measure` does with the bound point's instrument and attributes, and looks up no set where it knows the
     /// places. Else it knows them after the first value that is recorded, if memory is not refused.
     ///
-    /// The bound point is at home in this tally: it was bound or bound again by this tally since its start, or is released. Refuses
-    /// as `measure` does, but for want of memory, which never comes where the places are known. O(feeds of the instrument). Who can't
-    /// know that it is at home takes `measure_if_at_home`.
-    pub fn measure_bound(&mut self, bound: &mut Bound, value: i64) -> Result<(), TallyFault>
+    /// Refuses, in this order, and leaves the tally and the bound point as they were: `Stale` where the bound point is of another tally,
+    /// or of an earlier beginning of this one; `Refused` as `measure` does, but for want of memory, which never comes where the places
+    /// are known. O(feeds of the instrument).
+    ///
+    /// Tallies are told apart by their names and beginnings. A bound point that this name and beginning fit, or that was released, is
+    /// asked to be at home: it is where it was bound or bound again by this tally, or is released. Who can't know it takes
+    /// `measure_if_at_home`.
+    pub fn measure_bound(
+        &mut self,
+        bound: &mut Bound,
+        value: i64,
+    ) -> Result<(), HomeFault<TallyFault>>
+        requires { IsAtHome self.old bound.old }
+        ensures ok { OnOk result (fault_of self.old (entry_at bound.old value) ≡ None) }
+        ensures fresh { OnOk result (IsOf self.old.home bound.old) }
+        ensures value { OnOk result (self.new ≡ after_measure self.old (entry_at bound.old value)) }
+        ensures stale { OnStale result (¬ IsOf self.old.home bound.old) }
+        ensures err { IfRefused result (λ f. f ≢ TallyFault.NoMemory → fault_of self.old (entry_at bound.old value) ≡ Some f) }
+        ensures err_fresh { IfRefused result (λ f. IsOf self.old.home bound.old) }
+        ensures no_memory { IfRefused result (λ f. f ≡ faults.NoMemory → early_fault_of self.old (entry_at bound.old value) ≡ None) }
+        ensures held { IsHeld self.old (entry_at bound.old value) → IfRefused result (λ f. f ≢ TallyFault.NoMemory) }
+        ensures known { bound.old.places.items ≢ [] → IfRefused result (λ f. f ≢ TallyFault.NoMemory) }
+        ensures unchanged { OnErr result (self.new ≡ self.old) }
+        ensures kept { OnErr result (bound.new ≡ bound.old) }
+        ensures instrument { bound.new.instrument ≡ bound.old.instrument }
+        ensures attrs { bound.new.attrs ≡ bound.old.attrs }
+        ensures of { OnOk result (bound.new.home ≡ Some self.old.home) }
+        ensures home { IsAtHome self.new bound.new }
+    {
+        if self.is_away(bound) {
+            return Err(HomeFault::Stale);
+        }
+        match self.measure_here(bound, value) {
+            Ok(()) => Ok(()),
+            Err(fault) => Err(HomeFault::Refused(fault)),
+        }
+    }
+
+    /// Whether a bound point is of another tally than this, or of an earlier beginning.
+    #[inline(always)]
+    pub(crate) fn is_away(&self, bound: &Bound) -> bool
+        ensures { IsTrue result ↔ (¬ IsOf self.now.home bound.now) }
+    {
+        match bound.home {
+            Some(home) => home != self.home,
+            None => false,
+        }
+    }
+
+    // Records a value at a bound point that is at home. The bound point is this tally's then.
+    fn measure_here(&mut self, bound: &mut Bound, value: i64) -> Result<(), TallyFault>
         requires { IsBound self.old bound.old }
         ensures ok { OnOk result (fault_of self.old (entry_at bound.old value) ≡ None) }
         ensures value { OnOk result (self.new ≡ after_measure self.old (entry_at bound.old value)) }
@@ -158,6 +229,7 @@ impl Tally {
         ensures kept { OnErr result (bound.new ≡ bound.old) }
         ensures instrument { bound.new.instrument ≡ bound.old.instrument }
         ensures attrs { bound.new.attrs ≡ bound.old.attrs }
+        ensures of { OnOk result (bound.new.home ≡ Some self.old.home) }
         ensures bound { IsBound self.new bound.new }
     {
         // What the plan says of the feeds of all its instruments.
@@ -165,6 +237,7 @@ impl Tally {
         let places = bound.places.as_slice();
         let lone = self.lone(bound.instrument);
         self.measure_at(bound.instrument, lone, &bound.attrs, places, value)?;
+        bound.home = Some(self.home);
         if bound.places.is_empty() {
             self.rebind(bound);
         }
@@ -188,7 +261,8 @@ impl Tally {
         self.has_points_at(bound)
     }
 
-    /// Records a value as `measure_bound` does where the bound point is at home, and asks nothing: for who can't know that it is.
+    /// Records a value as `measure_bound` does where the bound point is at home, whatever tally or recorder bound it, and asks nothing:
+    /// for who can't know that it is.
     ///
     /// Refuses, in this order, and leaves the tally and the bound point as they were: `Stale` where the bound point is not at home,
     /// `Refused` as `measure_bound` does. That is `Refused(NoMemory)`, too, where the bound point knows places, a feed keeps a list of
@@ -213,6 +287,7 @@ impl Tally {
         ensures kept { OnErr result (bound.new ≡ bound.old) }
         ensures instrument { bound.new.instrument ≡ bound.old.instrument }
         ensures attrs { bound.new.attrs ≡ bound.old.attrs }
+        ensures of { OnOk result (bound.new.home ≡ Some self.old.home) }
         ensures bound { OnOk result (IsBound self.new bound.new) }
     {
         let Ok(home) = self.is_at_home(bound) else {
@@ -221,7 +296,7 @@ impl Tally {
         if !home {
             return Err(HomeFault::Stale);
         }
-        match self.measure_bound(bound, value) {
+        match self.measure_here(bound, value) {
             Ok(()) => Ok(()),
             Err(fault) => Err(HomeFault::Refused(fault)),
         }
@@ -405,7 +480,7 @@ impl Tally {
 
     /// Takes in what a recorder of the same plan holds, as if each of its recordings had been measured here, one after the other,
     /// and leaves the recorder empty. Sets that have no point here are copied; the recorder's own wait there for their next values,
-    /// as many as the limit says. No clause says so, and its bound points are to be released or bound again.
+    /// as many as the limit says; no clause says so. The recorder begins anew, so what was bound there is not of it ([`crate::homes_differ`]).
     ///
     /// Refuses, and leaves both as they were: `Overflow` with the first stream of which a point would leave its range, or would have
     /// on the way, `NoMemory`. Of sums that may fall each set counts by how far down and up it went: that is exact where the set has
@@ -415,7 +490,7 @@ impl Tally {
         requires { recorder.old.plan ≡ self.old.plan }
         ensures ok { OnOk result (absorb_fault self.old recorder.old ≡ None) }
         ensures value { OnOk result (self.new ≡ with_recorder self.old recorder.old) }
-        ensures emptied { OnOk result (recorder.new ≡ empty_recorder recorder.old.plan) }
+        ensures emptied { OnOk result (recorder.new ≡ after_absorb recorder.old) }
         ensures err { IfErr result (λ f. f ≢ TallyFault.NoMemory → absorb_fault self.old recorder.old ≡ Some f) }
         ensures unchanged { OnErr result (self.new ≡ self.old) }
         ensures kept { OnErr result (recorder.new ≡ recorder.old) }
@@ -423,6 +498,7 @@ impl Tally {
         // What the plan says of the feeds of all its instruments.
         let _ = self.plan().streams_len();
         self.take_from(&mut recorder.tally, recorder.stamps.as_slice())?;
+        recorder.tally.begin_anew();
         clear_each(recorder.stamps.as_mut_slice());
         Ok(())
     }
@@ -433,7 +509,7 @@ impl Tally {
         requires long { length stamps.now ≡ length self.old.plan.streams }
         ensures ok { OnOk result (absorb_fault self.old (recorded_in other.old (stamped_in stamps.now)) ≡ None) }
         ensures value { OnOk result (self.new ≡ with_recorder self.old (recorded_in other.old (stamped_in stamps.now))) }
-        ensures emptied { OnOk result (other.new ≡ empty_tally other.old.plan) }
+        ensures emptied { OnOk result (other.new ≡ emptied_tally other.old) }
         ensures err { IfErr result (λ f. f ≢ TallyFault.NoMemory
             → absorb_fault self.old (recorded_in other.old (stamped_in stamps.now)) ≡ Some f) }
         ensures unchanged { OnErr result (self.new ≡ self.old) }
@@ -448,25 +524,33 @@ impl Tally {
         )
     }
 
+    // Has another home from now on, so that what was bound before is not of it.
+    fn begin_anew(&mut self)
+        ensures { self.new ≡ record self.old { home = next_home self.old.home } }
+    {
+        self.home = self.home.next();
+    }
+
     /// Whether there are no points. O(streams), takes no memory.
     pub fn is_empty(&self) -> bool
-        ensures { IsTrue result ↔ (self.now ≡ empty_tally self.now.plan) }
+        ensures { IsTrue result ↔ (self.now ≡ emptied_tally self.now) }
     {
         are_empty(&self.series)
     }
 
-    /// Begins anew, without points, under the same plan.
+    /// Begins anew, without points, under the same plan and name. What was bound there is not of it ([`crate::homes_differ`]).
     pub fn restart(&mut self) -> Result<(), NoMemory>
-        ensures value { OnOk result (self.new ≡ empty_tally self.old.plan) }
+        ensures value { OnOk result (self.new ≡ begun_anew self.old) }
         ensures unchanged { OnErr result (self.new ≡ self.old) }
     {
         let alloc = *self.series.allocator();
         let series = no_points(alloc, self.plan.streams_len())?;
         self.series = series;
+        self.begin_anew();
         Ok(())
     }
 
-    /// An equal tally.
+    /// An equal tally, of the same home: with a name of its own (`named`) it is told from this one.
     pub fn try_copy(&self) -> Result<Tally, NoMemory>
         ensures value { IfOk result (λ copy. copy ≡ self.now) }
     {
@@ -475,6 +559,7 @@ impl Tally {
             overflow: self.overflow.try_copy()?,
             series: copy_series(&self.series)?,
             lone: Vec::from_slice(*self.lone.allocator(), self.lone.as_slice())?,
+            home: self.home,
         })
     }
 

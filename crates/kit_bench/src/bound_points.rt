@@ -1,6 +1,6 @@
 //! Recordings at a bound point of a tally and of a recorder, beside those that find the set, and an atomic addition.
-ghost use Rattle.agg_kit.specs.BoundPoints.{IsBound};
-ghost use Rattle.agg_kit.specs.Recorders.{IsOwnBound};
+ghost use Rattle.agg_kit.specs.BoundPoints.{IsAtHome};
+ghost use Rattle.agg_kit.specs.Recorders.{IsOwnAtHome};
 
 use crate::clock::tell;
 use crate::tallies::{plan, set, tally};
@@ -32,9 +32,13 @@ fn record(tally: &mut Tally, set: &AttrSet, turns: u32) -> Result<(), TallyFault
     Ok(())
 }
 
-fn record_bound(tally: &mut Tally, point: &mut Bound, turns: u32) -> Result<(), TallyFault>
-    requires { IsBound tally.old point.old }
-    ensures { IsBound tally.new point.new }
+fn record_bound(
+    tally: &mut Tally,
+    point: &mut Bound,
+    turns: u32,
+) -> Result<(), HomeFault<TallyFault>>
+    requires { IsAtHome tally.old point.old }
+    ensures { IsAtHome tally.new point.new }
 {
     for turn in 0..turns {
         tally.measure_bound(point, value(turn))?;
@@ -53,9 +57,13 @@ fn record_if_at_home(
     Ok(())
 }
 
-fn record_own(recorder: &mut Recorder, point: &mut Bound, turns: u32) -> Result<(), RecordFault>
-    requires { IsOwnBound recorder.old point.old }
-    ensures { IsOwnBound recorder.new point.new }
+fn record_own(
+    recorder: &mut Recorder,
+    point: &mut Bound,
+    turns: u32,
+) -> Result<(), HomeFault<RecordFault>>
+    requires { IsOwnAtHome recorder.old point.old }
+    ensures { IsOwnAtHome recorder.new point.new }
 {
     for turn in 0..turns {
         recorder.measure_bound(point, value(turn))?;
@@ -86,8 +94,8 @@ fn time_bound(
     point: &mut Bound,
     turns: u32,
 ) -> anyhow::Result<Duration>
-    requires { IsBound tally.old point.old }
-    ensures { IsBound tally.new point.new }
+    requires { IsAtHome tally.old point.old }
+    ensures { IsAtHome tally.new point.new }
 {
     let start = Instant::now(rt)?;
     record_bound(tally, point, turns)?;
@@ -111,8 +119,8 @@ fn time_own(
     point: &mut Bound,
     turns: u32,
 ) -> anyhow::Result<Duration>
-    requires { IsOwnBound recorder.old point.old }
-    ensures { IsOwnBound recorder.new point.new }
+    requires { IsOwnAtHome recorder.old point.old }
+    ensures { IsOwnAtHome recorder.new point.new }
 {
     let start = Instant::now(rt)?;
     record_own(recorder, point, turns)?;
@@ -160,8 +168,8 @@ fn tell_bound(
     point: &mut Bound,
     turns: u32,
 ) -> anyhow::Result<()>
-    requires { IsBound tally.old point.old }
-    ensures { IsBound tally.new point.new }
+    requires { IsAtHome tally.old point.old }
+    ensures { IsAtHome tally.new point.new }
 {
     let mut least = Duration::MAX;
     for _ in 0..ROUNDS {
@@ -176,7 +184,7 @@ fn tell_own(
     point: &mut Bound,
     turns: u32,
 ) -> anyhow::Result<()>
-    requires { IsOwnBound recorder.old point.old }
+    requires { IsOwnAtHome recorder.old point.old }
 {
     let mut least = Duration::MAX;
     for _ in 0..ROUNDS {

@@ -1,6 +1,6 @@
 //! What each of several threads records with.
 ghost use Rattle.std.specs.Prelude.{◌≡◌, IfOk, All};
-ghost use Rattle.agg_kit.specs.BoundPoints.{IsBound};
+ghost use Rattle.agg_kit.specs.BoundPoints.{IsAtHome};
 ghost use Rattle.writer_kit.specs.Shared.{IsAt, first_of};
 
 use crate::fleets::{Totals, add};
@@ -166,7 +166,7 @@ fn record_bound(alloc: Global, tally: &mut Tally, work: Work<'_>) -> anyhow::Res
 
 // A bound point for each set.
 fn points(alloc: Global, tally: &Tally, sets: &[AttrSet]) -> anyhow::Result<Vec<agg_kit::Bound>>
-    ensures { IfOk result (λ points. All (IsBound tally.now) points.items) }
+    ensures { IfOk result (λ points. All (IsAtHome tally.now) points.items) }
 {
     let mut points = Vec::new(alloc);
     for set in sets {
@@ -176,8 +176,8 @@ fn points(alloc: Global, tally: &Tally, sets: &[AttrSet]) -> anyhow::Result<Vec<
 }
 
 fn record_points(tally: &mut Tally, points: &mut Vec<agg_kit::Bound>) -> u64
-    requires { All (IsBound tally.old) points.old.items }
-    ensures { All (IsBound tally.new) points.new.items }
+    requires { All (IsAtHome tally.old) points.old.items }
+    ensures { All (IsAtHome tally.new) points.new.items }
 {
     let mut count: u64 = 0;
     for place in 0..points.len() {
@@ -188,8 +188,8 @@ fn record_points(tally: &mut Tally, points: &mut Vec<agg_kit::Bound>) -> u64
 
 // Records at one of the points: the others stay at home.
 fn record_point(tally: &mut Tally, points: &mut Vec<agg_kit::Bound>, place: usize) -> bool
-    requires { All (IsBound tally.old) points.old.items }
-    ensures { All (IsBound tally.new) points.new.items }
+    requires { All (IsAtHome tally.old) points.old.items }
+    ensures { All (IsAtHome tally.new) points.new.items }
 {
     // What the plan says of the feeds of all its instruments.
     let _ = tally.plan().streams_len();

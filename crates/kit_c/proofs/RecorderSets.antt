@@ -3,7 +3,7 @@ use Rattle.std.proofs.Common.{◌≡◌, ◌<◌, ◌≤◌, ◌+◌, ◌∙◌,
 use Rattle.std.specs.List.{All}
 use Rattle.std.proofs.lemmas.List.Elements.{All-push, All-set, All-weaker}
 use Rattle.agg_kit.specs.Entries.{Entry}
-use Rattle.agg_kit.specs.Recorders.{IsOwnBound, Recorded, recorder_after}
+use Rattle.agg_kit.specs.Recorders.{IsOwnAtHome, Recorded, recorder_after}
 use Rattle.agg_kit.specs.declared.bound.Bound.{Bound}
 use Rattle.agg_kit.proofs.OwnPoints.{own_bound_stays}
 use Rattle.attr_kit.specs.declared.attr_set.AttrSet.{AttrSet}
@@ -15,7 +15,7 @@ pub keeps_recorded : (r : Recorded) (e : Entry) → ((i : ℕ) → AreFeeds (len
 keeps_recorded r e feeds s knows = All-weaker (IsOwnPoint r s.attrs) (IsOwnPoint (recorder_after r e) s.attrs) by s.points.items knows
   where
     by : (b : Bound) → IsOwnPoint r s.attrs b → IsOwnPoint (recorder_after r e) s.attrs b
-    by b k = record { attrs = k.attrs; home = own_bound_stays r e b (feeds b.instrument) k.home }
+    by b k = record { attrs = k.attrs; home = λ of. own_bound_stays r e b (feeds b.instrument) (k.home of) }
 
 pub keeps_measured : {U F : Type 0} (r t : Recorded) (e : Entry) (o : Result U F) → ((i : ℕ) → AreFeeds (length r.plan.streams) (feeds_of r.plan i))
     → OnOk o (t ≡ recorder_after r e) → OnErr o (t ≡ r) → KeepsOwn r t
@@ -29,14 +29,14 @@ feeds_here p t is feeds = subst (λ (q : Planned). (i : ℕ) → AreFeeds (lengt
 
 -- the point that a set has kept once more, after it was recorded at
 pub knows_set : (r t : Recorded) (s : RecorderSet) (n : ℕ) (old new : Bound) → KeepsOwn r t → KnowsOwnPoints r s → n < length s.points.items
-    → old ≡ get_or s.points.items n old → new.attrs ≡ old.attrs → IsOwnBound t new → All (IsOwnPoint t s.attrs) (set s.points.items n new)
+    → old ≡ get_or s.points.items n old → new.attrs ≡ old.attrs → IsOwnAtHome t new → All (IsOwnPoint t s.attrs) (set s.points.items n new)
 knows_set r t s n old new keeps knows within was attrs home =
     let k : IsOwnPoint r s.attrs old = subst (IsOwnPoint r s.attrs) (sym was) (knows n old within) in
     All-set (IsOwnPoint t s.attrs) s.points.items n new (record { attrs = attrs ∙ k.attrs; home = home }) (keeps s knows)
 
 -- and once a new one was put behind, where memory was given
 pub knows_push : (r t : Recorded) (s : RecorderSet) (b : Bound) (ok : Bool) (bs : List Bound) → KeepsOwn r t → KnowsOwnPoints r s
-    → bs ≡ (if ok then s.points.items ++ b ∷ [] else s.points.items) → b.attrs ≡ s.attrs → IsOwnBound t b → All (IsOwnPoint t s.attrs) bs
+    → bs ≡ (if ok then s.points.items ++ b ∷ [] else s.points.items) → b.attrs ≡ s.attrs → IsOwnAtHome t b → All (IsOwnPoint t s.attrs) bs
 knows_push r t s b ok bs keeps knows is attrs home = subst (All (IsOwnPoint t s.attrs)) (sym is) (by ok)
   where
     by : (v : Bool) → All (IsOwnPoint t s.attrs) (if v then s.points.items ++ b ∷ [] else s.points.items)

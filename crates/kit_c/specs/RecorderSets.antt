@@ -1,6 +1,6 @@
 -- Sets that recorders hold by number, with the points where their values go.
 use Rattle.std.specs.Prelude.{◌≡◌, ◌<◌, ℕ, List, length, slice_index_or, All}
-use Rattle.agg_kit.specs.Recorders.{IsOwnBound, Recorded}
+use Rattle.agg_kit.specs.Recorders.{IsOwnAtHome, Recorded}
 use Rattle.agg_kit.specs.declared.bound.Bound.{Bound}
 use Rattle.attr_kit.specs.declared.attr_set.AttrSet.{AttrSet}
 use Rattle.kit_c.specs.declared.recorder.RecorderSet.{RecorderSet}
@@ -10,10 +10,10 @@ pub record Recording : Type 0 where
   pub recorder : Recorded
   pub sets : List AttrSet
 
--- a point that is kept at a set: it is of the set, and what it knows is true in the recorder
+-- a point that is kept at a set: it is of the set, and of another home or at home in the recorder
 pub record IsOwnPoint (r : Recorded) (a : AttrSet) (b : Bound) : Type 0 where
   pub attrs : b.attrs ≡ a
-  pub home : IsOwnBound r b
+  pub home : IsOwnAtHome r b
 
 abbrev pub KnowsOwnPoints : Recorded → RecorderSet → Type 0
 KnowsOwnPoints r s = All (IsOwnPoint r s.attrs) s.points.items

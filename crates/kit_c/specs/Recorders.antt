@@ -3,7 +3,7 @@ use Rattle.std.specs.Prelude.{◌≡◌, ◌≢◌, ℕ, ℤ, Bool, false, slice
 use Rattle.std.specs.Option.{option_map}
 use Rattle.agg_kit.specs.Entries.{Entry, entry_of}
 use Rattle.agg_kit.specs.Feeds.{IsHeld}
-use Rattle.agg_kit.specs.Recorders.{Recorded, empty_recorder, record_fault_of, recorder_after, tally_in}
+use Rattle.agg_kit.specs.Recorders.{Recorded, after_absorb, emptied, empty_recorder, record_fault_of, recorder_after, tally_in}
 use Rattle.agg_kit.specs.Stamps.{has_noted}
 use Rattle.attr_kit.specs.declared.attr_set.AttrSet.{AttrSet}
 use Rattle.plan_kit.specs.Plans.{feeds_of}
@@ -75,7 +75,7 @@ recorder_fault h = Some faults.WrongKind
 
 -- a thing is a recorder that holds no recordings, or is not
 abbrev pub TellsEmpty : Bool → Content → Type 0
-TellsEmpty b (Recorder r) = IsTrue b ↔ (r.recorder ≡ empty_recorder r.recorder.plan)
+TellsEmpty b (Recorder r) = IsTrue b ↔ (r.recorder ≡ emptied r.recorder)
 TellsEmpty b h = ⊥
 
 -- a writer took in what a recorder of its plan held: the recorder holds nothing then, and both hold their sets
@@ -84,7 +84,7 @@ pub record Absorbs (h : Holding) (r : Recording) (k : Holding) (s : Recording) :
   pub fits : absorb_fault h.writer r.recorder ≡ None
   pub writer : k.writer ≡ with_recordings h.writer r.recorder
   pub writer_sets : k.sets ≡ h.sets
-  pub recorder : s.recorder ≡ empty_recorder r.recorder.plan
+  pub recorder : s.recorder ≡ after_absorb r.recorder
   pub recorder_sets : s.sets ≡ r.sets
 
 -- the same of handles: the first took in the second, and they are then the third and the fourth

@@ -1,7 +1,8 @@
 //! Recorders with the sets that they hold by number.
 ghost use Rattle.std.specs.Prelude.{◌≡◌, ◌≢◌, ◌↔◌, [], map, slice_get, All, None, Some, IsTrue, OnOk, OnErr, IfErr, IfOk, IfSome};
+ghost use Rattle.agg_kit.specs.BoundPoints.{entry_at};
 ghost use Rattle.agg_kit.specs.Entries.{entry_of};
-ghost use Rattle.agg_kit.specs.Recorders.{empty_recorder, record_fault_of, recorder_after};
+ghost use Rattle.agg_kit.specs.Recorders.{after_absorb, emptied, empty_recorder, record_fault_of, recorder_after, IsOwnAtHome};
 ghost use Rattle.kit_c.specs.Codes.{code_of, no_memory as refused_memory};
 ghost use Rattle.kit_c.specs.RecorderSets.{IsBoundPlace, KeepsOwn, KnowNothing, KnowsOwnPoints, attrs_in};
 ghost use Rattle.kit_c.specs.Recorders.{HasOwnPointsAt, IsOwnHeld, own_set_fault, recorder_at};
@@ -10,7 +11,7 @@ ghost use Rattle.writer_kit.specs.Absorbing.{absorb_fault, no_memory_for, with_r
 use crate::fault::Fault;
 use crate::holding::HoldingWriter;
 use crate::same_plan::{instruments_len, is_same};
-use agg_kit::{Bound, RecordFault, Recorder};
+use agg_kit::{Bound, HomeFault, RecordFault, Recorder};
 use attr_kit::{AttrSet, NoMemory, Seq};
 use plan_kit::Plan;
 use std::alloc::Global;
@@ -36,6 +37,33 @@ impl RecorderSet {
     }
 }
 
+// Records at a point that is kept. One that is stale is looked up anew.
+fn measure_at_point(
+    recorder: &mut Recorder,
+    point: &mut Bound,
+    value: i64,
+) -> Result<(), RecordFault>
+    requires { IsOwnAtHome recorder.old point.old }
+    ensures ok { OnOk result (record_fault_of recorder.old (entry_at point.old value) ≡ None) }
+    ensures value { OnOk result (recorder.new ≡ recorder_after recorder.old (entry_at point.old value)) }
+    ensures err { IfErr result (λ f. f ≢ RecordFault.NoMemory → record_fault_of recorder.old (entry_at point.old value) ≡ Some f) }
+    ensures held { IsOwnHeld recorder.old (entry_at point.old value) → IfErr result (λ f. f ≢ RecordFault.NoMemory) }
+    ensures unchanged { OnErr result (recorder.new ≡ recorder.old) }
+    ensures instrument { point.new.instrument ≡ point.old.instrument }
+    ensures attrs { point.new.attrs ≡ point.old.attrs }
+    ensures home { IsOwnAtHome recorder.new point.new }
+{
+    match recorder.measure_bound(point, value) {
+        Ok(()) => Ok(()),
+        Err(HomeFault::Stale) => {
+            let outcome = recorder.measure(point.instrument(), point.attrs(), value);
+            recorder.rebind(point);
+            outcome
+        }
+        Err(HomeFault::Refused(fault)) => Err(fault),
+    }
+}
+
 // Records at a set. Where the value went is kept for the next one, if memory is given.
 fn measure_at_set(
     recorder: &mut Recorder,
@@ -57,7 +85,7 @@ fn measure_at_set(
     // What the plan says of the feeds of all its instruments.
     let _ = recorder.plan().streams_len();
     if let Some(place) = set.place_of(instrument) {
-        return recorder.measure_bound(&mut set.points[place], value);
+        return measure_at_point(recorder, &mut set.points[place], value);
     }
     recorder.measure(instrument, &set.attrs, value)?;
     if let Ok(point) = recorder.bind(instrument, &set.attrs) {
@@ -204,7 +232,7 @@ impl HoldingRecorder {
 
     /// Whether it holds no recordings.
     pub(crate) fn is_empty(&self) -> bool
-        ensures { IsTrue result ↔ (self.now.recorder ≡ empty_recorder self.now.recorder.plan) }
+        ensures { IsTrue result ↔ (self.now.recorder ≡ emptied self.now.recorder) }
     {
         self.recorder.is_empty()
     }
@@ -221,7 +249,7 @@ impl HoldingRecorder {
         requires { self.old.recorder.plan ≡ writer.old.tally.plan }
         ensures ok { OnOk result (absorb_fault writer.old self.old.recorder ≡ None) }
         ensures value { OnOk result (writer.new ≡ with_recordings writer.old self.old.recorder) }
-        ensures emptied { OnOk result (self.new ≡ record self.old { recorder = empty_recorder self.old.recorder.plan }) }
+        ensures emptied { OnOk result (self.new ≡ record self.old { recorder = after_absorb self.old.recorder }) }
         ensures err { IfErr result (λ f. f ≢ no_memory_for → absorb_fault writer.old self.old.recorder ≡ Some f) }
         ensures unchanged { OnErr result (writer.new ≡ writer.old) }
         ensures kept { OnErr result (self.new ≡ self.old) }

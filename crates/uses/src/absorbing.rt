@@ -1,7 +1,7 @@
 //! A recorder, with which a thread records by itself, and the writer that takes it in.
 ghost use Rattle.std.specs.Prelude.{◌≡◌, MatchBool, IfOk, IfErr, OnOk, OnErr, true, false};
 ghost use Rattle.agg_kit.specs.Entries.{entry_of};
-ghost use Rattle.agg_kit.specs.Recorders.{empty_recorder, recorder_after};
+ghost use Rattle.agg_kit.specs.Recorders.{after_absorb, recorder_after};
 ghost use Rattle.turn_kit.specs.Public.{AtBusy};
 ghost use Rattle.writer_kit.specs.Absorbing.{with_recordings};
 ghost use Rattle.writer_kit.specs.Shared.{IsAt, Adds, first_of};
@@ -24,7 +24,7 @@ pub fn record_apart(
     requires { recorder.old.plan ≡ writer.old.tally.plan }
     ensures value { IfOk result (λ apart. MatchBool apart
         ((recorder.new ≡ recorder_after recorder.old (entry_of instrument attrs.now value)) × (writer.new ≡ writer.old))
-        ((recorder.new ≡ recorder_after (empty_recorder recorder.old.plan) (entry_of instrument attrs.now value))
+        ((recorder.new ≡ recorder_after (after_absorb recorder.old) (entry_of instrument attrs.now value))
         × (writer.new ≡ with_recordings writer.old recorder.old))) }
     ensures plan { recorder.new.plan ≡ writer.new.tally.plan }
 {
@@ -56,7 +56,7 @@ pub fn record_alone(
 pub fn take_in(writer: &mut Writer, recorder: &mut Recorder) -> Result<bool, TallyFault>
     requires { recorder.old.plan ≡ writer.old.tally.plan }
     ensures value { IfOk result (λ done. MatchBool done
-        ((writer.new ≡ with_recordings writer.old recorder.old) × (recorder.new ≡ empty_recorder recorder.old.plan))
+        ((writer.new ≡ with_recordings writer.old recorder.old) × (recorder.new ≡ after_absorb recorder.old))
         ((writer.new ≡ writer.old) × (recorder.new ≡ recorder.old))) }
     ensures closed { IfOk result (λ done. done ≡ false → writer.old.closed ≡ true) }
 {
@@ -79,7 +79,7 @@ pub fn hand_over<R: Wait>(
     requires plan { recorder.old.plan ≡ (first_of shared.now).tally.plan }
     ensures seat { IsAt shared.now seat.new }
     ensures taken { OnOk result (Adds shared.now (Absorbed recorder.old) seat.old seat.new) }
-    ensures emptied { OnOk result (recorder.new ≡ empty_recorder recorder.old.plan) }
+    ensures emptied { OnOk result (recorder.new ≡ after_absorb recorder.old) }
     ensures kept { OnErr result (recorder.new ≡ recorder.old) }
     ensures busy { IfErr result (AtBusy ⊥) }
 {

@@ -367,9 +367,10 @@ module _ (w : WorldState) (v : ℕ) (x : Written) (at_v : slice_get w.writers v 
       closes false o e = sym (ap not e)
 
       tally_is : (s : Setup) (v : ℕ) (x : Written) (f : ℕ) (acts : List (Act Entry)) → slice_index (starts_of s) v ≡ f → x.tally.plan ≡ (writer_at s v).plan → StandsFor x.tally (running f acts)
-          → x.tally ≡ record { plan = (writer_at s v).plan; series = round (writer_at s v).plan (running (slice_index (starts_of s) v) acts) }
+          → x.tally ≡ record { plan = (writer_at s v).plan; home = x.tally.home; series = round (writer_at s v).plan (running (slice_index (starts_of s) v) acts) }
       tally_is s v x f acts starts plan stands n = record {
         plan = plan n;
+        home = x.tally.home;
         series = (stands ∙ ap (λ (p : Planned). round p (running f acts)) plan ∙ ap (λ k. round (writer_at s v).plan (running k acts)) (sym starts)) n;
       }
 

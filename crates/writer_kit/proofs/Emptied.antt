@@ -12,16 +12,17 @@ use Rattle.agg_kit.specs.Feeds.{series_at, shape_at, first_out}
 use Rattle.agg_kit.specs.Laws.{is_gauge}
 use Rattle.agg_kit.specs.Measuring.{empty_tally, fault_of}
 use Rattle.agg_kit.specs.Payloads.{is_out_of_range}
-use Rattle.agg_kit.specs.Recorders.{Recorded, empty_recorder, keeps_set, as_record_fault, record_fault_of}
+use Rattle.agg_kit.specs.Recorders.{Recorded, emptied, empty_recorder, keeps_set, as_record_fault, record_fault_of}
 use Rattle.agg_kit.specs.Refusals.{is_negative_for}
 use Rattle.agg_kit.specs.Rounds.{round}
 use Rattle.agg_kit.specs.Stamps.{Stamped, can_stamp, stamps_at, stamps_of, unstamped}
 use Rattle.agg_kit.specs.Steps.{fed_set, payload_after}
-use Rattle.agg_kit.specs.Tallies.{Points}
+use Rattle.agg_kit.specs.Tallies.{Points, Tallied}
 use Rattle.agg_kit.specs.declared.fault.TallyFault.{TallyFault}
 use Rattle.agg_kit.specs.declared.fault.TallyFault.TheVariants as faults
 use Rattle.agg_kit.specs.declared.fault.RecordFault as records
 use Rattle.agg_kit.specs.declared.fault.RecordFault.TheVariants as record_faults
+use Rattle.agg_kit.specs.declared.home.Home.{Home}
 use Rattle.agg_kit.proofs.Distinct.{itself}
 use Rattle.agg_kit.proofs.Numbers.{stamps-none}
 use Rattle.agg_kit.proofs.Records.{first-later, new-fits}
@@ -80,38 +81,47 @@ first-fits-all p a v (f ∷ fs) small = first-later p a v (round p []) f fs here
         ap (λ (es : Points). is_out_of_range (payload_after (shape_at p f.stream) es (fed_set p.limit es (kept f.keep a)) v)) (none-there p f.stream)
         ∙ new-fits (shape_at p f.stream) [] (fed_set p.limit [] (kept f.keep a)) v small refl
 
+-- a tally without points, and a recorder that holds nothing, of any home
+abbrev bare : Planned → Home → Tallied
+bare p h = record (empty_tally p) { home = h }
+
+abbrev idle : Planned → Home → Recorded
+idle p h = record (empty_recorder p) { home = h }
+
 -- why a tally without points refuses a recording
-fault-gone : (p : Planned) (e : Entry) → is_none (kind_of p e.instrument) ≡ true → fault_of (empty_tally p) e ≡ Some faults.NoInstrument
+fault-gone : (p : Planned) (h : Home) (e : Entry) → is_none (kind_of p e.instrument) ≡ true → fault_of (bare p h) e ≡ Some faults.NoInstrument
 unfolding fault_of
-fault-gone p e n = into-gone (empty_tally p) e (feeds_of p e.instrument) n
+fault-gone p h e n = into-gone (bare p h) e (feeds_of p e.instrument) n
 
-fault-negative : (p : Planned) (e : Entry) → is_none (kind_of p e.instrument) ≡ false → is_negative_for (kind_of p e.instrument) e.value ≡ true → fault_of (empty_tally p) e ≡ Some faults.Negative
+fault-negative : (p : Planned) (h : Home) (e : Entry) → is_none (kind_of p e.instrument) ≡ false → is_negative_for (kind_of p e.instrument) e.value ≡ true → fault_of (bare p h) e ≡ Some faults.Negative
 unfolding fault_of
-fault-negative p e n b = into-negative (empty_tally p) e (feeds_of p e.instrument) n b
+fault-negative p h e n b = into-negative (bare p h) e (feeds_of p e.instrument) n b
 
-fault-none : (p : Planned) (e : Entry) → AreFeeds (length p.streams) (feeds_of p e.instrument) → FitsSigned w64 e.value → is_none (kind_of p e.instrument) ≡ false
-    → is_negative_for (kind_of p e.instrument) e.value ≡ false → fault_of (empty_tally p) e ≡ None
+fault-none : (p : Planned) (h : Home) (e : Entry) → AreFeeds (length p.streams) (feeds_of p e.instrument) → FitsSigned w64 e.value → is_none (kind_of p e.instrument) ≡ false
+    → is_negative_for (kind_of p e.instrument) e.value ≡ false → fault_of (bare p h) e ≡ None
 unfolding fault_of
-fault-none p e fit small n b =
-    into-points (empty_tally p) (empty_tally p) e (λ gs. gs) (feeds_of p e.instrument) refl refl (all-part (feeds_of p e.instrument)) fit n b
+fault-none p h e fit small n b =
+    into-points (bare p h) (bare p h) e (λ gs. gs) (feeds_of p e.instrument) refl refl (all-part (feeds_of p e.instrument)) fit n b
     ∙ first-fits-all p e.attrs e.value (feeds_of p e.instrument) small
 
 -- what a recorder that holds nothing refuses is refused for another cause
-pub never_full : (p : Planned) (e : Entry) → 0 < p.limit → AreFeeds (length p.streams) (feeds_of p e.instrument) → FitsSigned w64 e.value
-    → record_fault_of (empty_recorder p) e ≡ Some record_faults.Full → ⊥
-never_full p e limited fit small full = by (is_none (kind_of p e.instrument)) (is_negative_for (kind_of p e.instrument) e.value) refl refl
+pub never_full : (p : Planned) (h : Home) (e : Entry) → 0 < p.limit → AreFeeds (length p.streams) (feeds_of p e.instrument) → FitsSigned w64 e.value
+    → record_fault_of (idle p h) e ≡ Some record_faults.Full → ⊥
+never_full p h e limited fit small full = by (is_none (kind_of p e.instrument)) (is_negative_for (kind_of p e.instrument) e.value) refl refl
   where
-    is_full : (o : Option TallyFault) → fault_of (empty_tally p) e ≡ o → option_map as_record_fault o ≡ Some record_faults.Full
+    is_full : (o : Option TallyFault) → fault_of (bare p h) e ≡ o → option_map as_record_fault o ≡ Some record_faults.Full
     is_full o is =
-        sym (record-as_record_fault (empty_recorder p) e o (keeps-any p e.attrs (feeds_of p e.instrument) limited) (stamps-any p (feeds_of p e.instrument)) is) ∙ full
+        sym (record-as_record_fault (idle p h) e o (keeps-any p e.attrs (feeds_of p e.instrument) limited) (stamps-any p (feeds_of p e.instrument)) is) ∙ full
 
     by : (gone below : Bool) → is_none (kind_of p e.instrument) ≡ gone → is_negative_for (kind_of p e.instrument) e.value ≡ below → ⊥
-    by true below n b = let h = is_full (Some faults.NoInstrument) (fault-gone p e n) in cc
-    by false true n b = let h = is_full (Some faults.Negative) (fault-negative p e n b) in cc
-    by false false n b = let h = is_full None (fault-none p e fit small n b) in cc
+    by true below n b = let h = is_full (Some faults.NoInstrument) (fault-gone p h e n) in cc
+    by false true n b = let h = is_full (Some faults.Negative) (fault-negative p h e n b) in cc
+    by false false n b = let h = is_full None (fault-none p h e fit small n b) in cc
 
-pub not_full : {R : Type 0} (x : Result R records.RecordFault) (r : Recorded) (p : Planned) (e : Entry) → r ≡ empty_recorder p → 0 < p.limit → AreFeeds (length p.streams) (feeds_of p e.instrument)
+pub not_full : {R : Type 0} (x : Result R records.RecordFault) (r : Recorded) (p : Planned) (e : Entry) → r ≡ emptied r → p ≡ r.plan → 0 < p.limit → AreFeeds (length p.streams) (feeds_of p e.instrument)
     → FitsSigned w64 e.value → IfErr x (λ f. f ≢ record_faults.NoMemory → record_fault_of r e ≡ Some f) → IfErr x (λ f. f ≢ record_faults.Full)
-not_full (Ok y) r p e is limited fit small told = tt
-not_full (Err f) r p e is limited fit small told =
-    λ same. never_full p e limited fit small (sym (ap (λ (s : Recorded). record_fault_of s e) is) ∙ told (λ short. let apart = sym same ∙ short in cc) ∙ ap Some same)
+not_full (Ok y) r p e is at limited fit small told = tt
+not_full (Err f) r p e is at limited fit small told =
+    λ same.
+    let idles : r ≡ idle p r.home = is ∙ ap (λ (q : Planned). idle q r.home) (sym at) in
+    never_full p r.home e limited fit small (sym (ap (λ (s : Recorded). record_fault_of s e) idles) ∙ told (λ short. let apart = sym same ∙ short in cc) ∙ ap Some same)

@@ -2,6 +2,7 @@
 use Rattle.std.specs.Prelude.{◌≡◌, ◌≢◌, true, false, None, Some, [], ℤ}
 use Rattle.agg_kit.specs.BoundPoints.{IsBound, entry_at}
 use Rattle.agg_kit.specs.Feeds.{IsHeld}
+use Rattle.agg_kit.specs.Homes.{IsOf}
 use Rattle.agg_kit.specs.Measuring.{fault_of, early_fault_of}
 use Rattle.agg_kit.specs.declared.fault.TallyFault.TheVariants as tallies
 use Rattle.writer_kit.specs.Written.{Written}
@@ -9,9 +10,9 @@ use Rattle.writer_kit.specs.declared.bound.BoundPoint.{BoundPoint}
 use Rattle.writer_kit.specs.declared.fault.BoundFault.{BoundFault}
 use Rattle.writer_kit.specs.declared.fault.BoundFault.TheVariants.{Closed, Stale, Refused}
 
--- it is of a writer of this instance, and of this start
+-- it is of a writer of this instance, of this start, and of this name
 abbrev pub IsOfIncarnation : Written → BoundPoint → Type 0
-IsOfIncarnation w b = (b.instance ≡ w.id.instance) × (b.start ≡ w.start)
+IsOfIncarnation w b = (b.instance ≡ w.id.instance) × (b.start ≡ w.start) × IsOf w.tally.home b.point
 
 -- it is of another incarnation, or what it knows is true here
 abbrev pub IsAtHome : Written → BoundPoint → Type 0

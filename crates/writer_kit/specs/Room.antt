@@ -1,7 +1,7 @@
 -- Recordings by a recorder, which a writer takes in where it is full.
 use Rattle.std.specs.Prelude.{◌≡◌, ◌≢◌, Some, Result, Ok, Err}
 use Rattle.agg_kit.specs.Entries.{Entry}
-use Rattle.agg_kit.specs.Recorders.{Recorded, empty_recorder, record_fault_of}
+use Rattle.agg_kit.specs.Recorders.{Recorded, after_absorb, record_fault_of}
 use Rattle.agg_kit.specs.declared.fault.RecordFault.{RecordFault}
 use Rattle.agg_kit.specs.declared.fault.RecordFault.TheVariants.{Full, NoMemory}
 use Rattle.writer_kit.specs.declared.fault.RecordingFault.{RecordingFault}
@@ -12,13 +12,13 @@ use Rattle.writer_kit.specs.declared.room.Room.TheVariants.{Had, Made}
 -- the recorder by which a value is recorded: as it was, or with nothing in it
 abbrev pub recorder_at : Room → Recorded → Recorded
 recorder_at Had r = r
-recorder_at Made r = empty_recorder r.plan
+recorder_at Made r = after_absorb r
 
 -- and what a refusal leaves of it
 abbrev pub recorder_left : {A : Type 0} → RecordingFault A → Recorded → Recorded
 recorder_left (Recorder f) r = r
 recorder_left (Absorb f) r = r
-recorder_left (Emptied f) r = empty_recorder r.plan
+recorder_left (Emptied f) r = after_absorb r
 
 -- a recorder may refuse a recording with this, which is not that it is full
 abbrev pub MayRefuseApart : Recorded → Entry → RecordFault → Type 0
@@ -28,7 +28,7 @@ MayRefuseApart r e f = (f ≢ Full) × (f ≢ NoMemory → record_fault_of r e �
 abbrev pub RefusesApart : {A : Type 0} → Recorded → Entry → RecordingFault A → Type 0
 RefusesApart r e (Recorder f) = MayRefuseApart r e f
 RefusesApart r e (Absorb f) = Unit {0}
-RefusesApart r e (Emptied f) = MayRefuseApart (empty_recorder r.plan) e f
+RefusesApart r e (Emptied f) = MayRefuseApart (after_absorb r) e f
 
 -- what holds where the writer was not asked
 abbrev pub OnApart : {A : Type 0} → Result Room (RecordingFault A) → Type 0 → Type 0

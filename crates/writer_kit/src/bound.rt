@@ -5,8 +5,8 @@ use agg_kit::Bound;
 use attr_kit::AttrSet;
 use uuid::Uuid;
 
-/// An instrument and a set whose points an incarnation of a writer has looked up, with the instance and the start by which that
-/// incarnation is told from others: recording there hashes and compares no set. `Writer::bind` makes one, and `Writer::rebind`
+/// An instrument and a set whose points an incarnation of a writer has looked up, with the instance, the start and the name by
+/// which that incarnation is told from others: recording there hashes and compares no set. `Writer::bind` makes one, and `Writer::rebind`
 /// brings it to another incarnation.
 #[derive(Drop)]
 pub struct BoundPoint {

@@ -23,7 +23,7 @@ pub enum BoundFault {
     /// The writer was shut down, and not restarted since.
     #[error("the writer is closed")]
     Closed,
-    /// The point was bound by another incarnation: by a writer of another instance, or of another start.
+    /// The point was bound by another incarnation: by a writer of another instance, of another start, or of another name.
     #[error("the bound point is of another incarnation")]
     Stale,
     /// The tally of the writer refuses the recording; no memory is one of its refusals.

@@ -3,7 +3,7 @@ ghost use Rattle.std.specs.Prelude.{◌≡◌, ◌≢◌, ◌<◌, ◌≤◌, []
 ghost use Rattle.agg_kit.specs.Entries.{entry_of};
 ghost use Rattle.agg_kit.specs.Feeds.{IsHeld};
 ghost use Rattle.agg_kit.specs.Rounds.{StandsFor};
-ghost use Rattle.agg_kit.specs.Recorders.{empty_recorder, record_fault_of, recorder_after, tally_in};
+ghost use Rattle.agg_kit.specs.Recorders.{after_absorb, empty_recorder, record_fault_of, recorder_after, tally_in};
 ghost use Rattle.agg_kit.specs.Stamps.{has_noted};
 ghost use Rattle.agg_kit.specs.Taken.{RecordsAlso};
 ghost use Rattle.plan_kit.specs.Plans.{feeds_of};
@@ -20,7 +20,7 @@ use crate::{
     AbsorbFault, BoundFault, BoundPoint, CollectFault, MeasureFault, RecordingFault, RestartFault,
     Room,
 };
-use agg_kit::{RecordFault, Recorder, Tally, TallyFault};
+use agg_kit::{HomeFault, RecordFault, Recorder, Tally, TallyFault};
 use attr_kit::{AttrSet, NoMemory};
 use bumpalo::Bump;
 use plan_kit::Plan;
@@ -140,6 +140,15 @@ impl Writer {
         }
     }
 
+    /// The writer with a name, by which its bound points tell it from another of its instance and start, as a copy is. What was bound
+    /// before is of another name. O(1), takes no memory.
+    pub fn named(mut self, name: u64) -> Writer
+        ensures { result ≡ record self { tally = record self.tally { home = record self.tally.home { name = name } } } }
+    {
+        self.tally = self.tally.named(name);
+        self
+    }
+
     /// An instrument and a set whose points are looked up once: what `measure_bound` records goes there without a look.
     /// Nothing is recorded, and no point appears before a value comes. It is of this incarnation.
     ///
@@ -176,11 +185,12 @@ impl Writer {
     /// Records a value as `measure` does with the bound point's instrument and attributes, and looks up no set where it knows the
     /// places. Else it knows them after the first value that is recorded, if memory is not refused.
     ///
-    /// Refuses, in this order: `Closed`; `Stale` where the point is of another instance or another start; `Refused` as `measure` does,
-    /// but for want of memory, which never comes where the places are known. A refusal changes nothing. O(feeds of the instrument).
+    /// Refuses, in this order: `Closed`; `Stale` where the point is of another instance, another start or another name; `Refused` as
+    /// `measure` does, but for want of memory, which never comes where the places are known. A refusal changes nothing. O(feeds of the
+    /// instrument).
     ///
-    /// Two writers of one instance and one start are no two incarnations, as the standard has it, but a program can make them. A point
-    /// that the one bound is at home in the other only where its places are those of that one: this alone is asked of the caller.
+    /// Two writers of one instance and one start are no two incarnations, as the standard has it, but a program can make them; names
+    /// tell them apart (`named`). Of two that share a name, too, it is asked that a point that the one bound is at home in the other.
     #[tactic(auto, using(crate::proofs::Refusals::now_accepted))]
     pub fn measure_bound(&mut self, bound: &mut BoundPoint, value: i64) -> Result<(), BoundFault>
         requires { IsAtHome self.old bound.old }
@@ -193,6 +203,7 @@ impl Writer {
         ensures attrs { bound.new.point.attrs ≡ bound.old.point.attrs }
         ensures instance { bound.new.instance ≡ bound.old.instance }
         ensures start { bound.new.start ≡ bound.old.start }
+        ensures of { OnOk result (IsOfIncarnation self.new bound.new) }
         ensures home { IsAtHome self.new bound.new }
     {
         if self.closed {
@@ -201,10 +212,11 @@ impl Writer {
         if bound.start != self.start || bound.instance != self.id.instance {
             return Err(BoundFault::Stale);
         }
-        if let Err(fault) = self.tally.measure_bound(&mut bound.point, value) {
-            return Err(BoundFault::Refused(fault));
+        match self.tally.measure_bound(&mut bound.point, value) {
+            Ok(()) => Ok(()),
+            Err(HomeFault::Stale) => Err(BoundFault::Stale),
+            Err(HomeFault::Refused(fault)) => Err(BoundFault::Refused(fault)),
         }
-        Ok(())
     }
 
     /// A recorder of the writer's plan, which holds nothing: a thread records with it by itself, and `absorb` takes it in.
@@ -227,7 +239,7 @@ impl Writer {
         requires { recorder.old.plan ≡ self.old.tally.plan }
         ensures ok { OnOk result (absorb_fault self.old recorder.old ≡ None) }
         ensures value { OnOk result (self.new ≡ with_recordings self.old recorder.old) }
-        ensures emptied { OnOk result (recorder.new ≡ empty_recorder recorder.old.plan) }
+        ensures emptied { OnOk result (recorder.new ≡ after_absorb recorder.old) }
         ensures err { IfErr result (λ f. f ≢ no_memory_for → absorb_fault self.old recorder.old ≡ Some f) }
         ensures no_memory { IfErr result (λ f. f ≡ no_memory_for → self.old.closed ≡ false) }
         ensures unchanged { OnErr result (self.new ≡ self.old) }
@@ -389,7 +401,7 @@ impl Writer {
         Ok(())
     }
 
-    /// An equal writer. Refuses with `NoMemory` alone. O(size of the plan and the points).
+    /// An equal writer, of the same name. Refuses with `NoMemory` alone. O(size of the plan and the points).
     pub fn try_copy(&self) -> Result<Writer, NoMemory>
         ensures value { IfOk result (λ copy. copy ≡ self.now) }
     {

@@ -1,7 +1,7 @@
 //! The changes of a shared writer, each made while the turn is held.
 ghost use Rattle.std.specs.Prelude.{◌≡◌};
 ghost use Rattle.agg_kit.specs.Entries.{entry_of};
-ghost use Rattle.agg_kit.specs.Recorders.{empty_recorder};
+ghost use Rattle.agg_kit.specs.Recorders.{after_absorb};
 ghost use Rattle.writer_kit.specs.Shared.{IsRound, MayRefuse, MayRefuseRound, MayRefuseRecorder};
 ghost use Rattle.writer_kit.specs.declared.shared.change.WriterChange.TheVariants.{Measured, Collected, Absorbed};
 
@@ -71,7 +71,7 @@ impl StepMut<Writer> for Recorder {
 
     ghost entry = { λ r. Absorbed r };
 
-    ghost replies = { λ r w u s. s ≡ empty_recorder r.plan };
+    ghost replies = { λ r w u s. s ≡ after_absorb r };
 
     ghost refuses = { λ r w f. MayRefuseRecorder w r f };
 

@@ -3,7 +3,7 @@ ghost use Rattle.std.specs.Prelude.{◌≡◌, ◌≢◌, false, None, Some, OnO
 ghost use Rattle.plan_kit.specs.Plans.{feeds_of};
 ghost use Rattle.agg_kit.specs.Entries.{entry_of};
 ghost use Rattle.agg_kit.specs.Feeds.{IsHeld};
-ghost use Rattle.agg_kit.specs.Recorders.{empty_recorder, record_fault_of, recorder_after, tally_in};
+ghost use Rattle.agg_kit.specs.Recorders.{after_absorb, record_fault_of, recorder_after, tally_in};
 ghost use Rattle.agg_kit.specs.Stamps.{has_noted};
 ghost use Rattle.agg_kit.specs.Taken.{RecordsAlso};
 ghost use Rattle.turn_kit.specs.Public.{IsLeft, AtBusy, AtExhausted, AtRefused};
@@ -69,7 +69,7 @@ impl<G: GiveBack> SharedWriter<G> {
         ensures seat { IsAt self.now seat.new }
         ensures ok { IfOk result (λ r. Accepts self.now (Absorbed recorder.old) (λ w. Unit {0}) seat.old seat.new) }
         ensures serves { IfOk result (λ r. Adds self.now (Absorbed recorder.old) seat.old seat.new) }
-        ensures emptied { OnOk result (recorder.new ≡ empty_recorder recorder.old.plan) }
+        ensures emptied { OnOk result (recorder.new ≡ after_absorb recorder.old) }
         ensures kept { OnErr result (recorder.new ≡ recorder.old) }
         ensures busy { IfErr result (AtBusy (IsLeft seat.old seat.new)) }
         ensures exhausted { IfErr result (AtExhausted (IsExhausted self.now seat.old seat.new)) }

@@ -1,5 +1,5 @@
-use Rattle.agg_kit.specs.Recorders.{IsOwnBound}
+use Rattle.agg_kit.specs.Recorders.{IsOwnAtHome}
 use Rattle.kit_bench.proofs.bound_points.tell_own.Given as goal
 
 abbrev pub invariant-loop : goal.invariant-loop
-invariant-loop l = IsOwnBound l.recorder l.point
+invariant-loop l = IsOwnAtHome l.recorder l.point

@@ -18,7 +18,7 @@ use Rattle.agg_kit.proofs.tally.Tally.measure_at.Goals as goal
 pub returns-in_default-clause-err : goal.returns-in_default-clause-err
 unfolding fault_of
 returns-in_default-clause-err c = λ _.
-    let t : Tallied = record { plan = c.self.inside.plan; series = entries_of c.self.inside.series.items } in
+    let t : Tallied = record { plan = c.self.inside.plan; series = entries_of c.self.inside.series.items; home = c.self.inside.home } in
     let e : Entry = entry_of c.args.instrument c.args.attrs.now c.args.value in
     let gone = kind-gone t.plan c.args.instrument (λ l. absurd (true≢false (sym (c.in_default.ensures.variant.1 l)))) in
     ap (λ (x : Tallied). fault_of x e) (sym c.self.view_is) ∙ into-gone t e (feeds_of t.plan e.instrument) gone
@@ -29,7 +29,7 @@ returns-in_default-clause-no_memory c = λ n. absurd (cc)
 pub returns-then-is_negative-clause-err : goal.returns-then-is_negative-clause-err
 unfolding fault_of
 returns-then-is_negative-clause-err c = λ _.
-    let t : Tallied = record { plan = c.self.inside.plan; series = entries_of c.self.inside.series.items } in
+    let t : Tallied = record { plan = c.self.inside.plan; series = entries_of c.self.inside.series.items; home = c.self.inside.home } in
     let e : Entry = entry_of c.args.instrument c.args.attrs.now c.args.value in
     let fit : FitsSigned w64 c.args.value = c.ranges.value in
     let some = kind-there t.plan c.args.instrument (c.in-Some.ensures.variant.0 refl) in
@@ -76,7 +76,7 @@ invariant_of-self c =
 pub returns-clause-ok : goal.returns-clause-ok
 unfolding fault_of
 returns-clause-ok c =
-    let t : Tallied = record { plan = c.self.inside.plan; series = entries_of c.self.inside.series.items } in
+    let t : Tallied = record { plan = c.self.inside.plan; series = entries_of c.self.inside.series.items; home = c.self.inside.home } in
     let e : Entry = entry_of c.args.instrument c.args.attrs.now c.args.value in
     let fit : FitsSigned w64 c.args.value = c.ranges.value in
     let rises : is_negative_for (kind_of t.plan c.args.instrument) c.args.value ≡ false = sym ((simp to_z-of_z at c.if-is_negative.ensures) ∙ ap (λ (k : Option Kind). is_negative_for k c.args.value) c.kind.ensures.value) in
@@ -85,19 +85,19 @@ returns-clause-ok c =
 
 pub returns-clause-value : goal.returns-clause-value
 returns-clause-value c =
-    let t : Tallied = record { plan = c.self.inside.plan; series = entries_of c.self.inside.series.items } in
+    let t : Tallied = record { plan = c.self.inside.plan; series = entries_of c.self.inside.series.items; home = c.self.inside.home } in
     let e : Entry = entry_of c.args.instrument c.args.attrs.now c.args.value in
     let fit : FitsSigned w64 c.args.value = c.ranges.value in
     let feeds : AreFeeds (length t.plan.streams) c.in-Some.feeds.now = subst (AreFeeds (length t.plan.streams)) (sym c.in-Some.ensures.value) c.in-Some.ensures.feeds in
     let long = sound-length t.plan.streams t.series c.self.invariant.sound in
     on_ok _ _ c.record.result
-    (λ now. (λ i. record { plan = t.plan; series = (now ∙ after_feeds-is t e c.in-Some.feeds.now c.in-Some.ensures.value feeds long) i }) ∙ ap (λ (x : Tallied). after_measure x e) c.self.view_is)
+    (λ now. (λ i. record { plan = t.plan; home = t.home; series = (now ∙ after_feeds-is t e c.in-Some.feeds.now c.in-Some.ensures.value feeds long) i }) ∙ ap (λ (x : Tallied). after_measure x e) c.self.view_is)
     (simp to_z-of_z at c.record.ensures.value)
 
 pub returns-clause-err : goal.returns-clause-err
 unfolding fault_of
 returns-clause-err c =
-    let t : Tallied = record { plan = c.self.inside.plan; series = entries_of c.self.inside.series.items } in
+    let t : Tallied = record { plan = c.self.inside.plan; series = entries_of c.self.inside.series.items; home = c.self.inside.home } in
     let e : Entry = entry_of c.args.instrument c.args.attrs.now c.args.value in
     let fit : FitsSigned w64 c.args.value = c.ranges.value in
     let rises : is_negative_for (kind_of t.plan c.args.instrument) c.args.value ≡ false = sym ((simp to_z-of_z at c.if-is_negative.ensures) ∙ ap (λ (k : Option Kind). is_negative_for k c.args.value) c.kind.ensures.value) in
@@ -107,7 +107,7 @@ returns-clause-err c =
 pub returns-clause-no_memory : goal.returns-clause-no_memory
 unfolding early_fault_of
 returns-clause-no_memory c =
-    let t : Tallied = record { plan = c.self.inside.plan; series = entries_of c.self.inside.series.items } in
+    let t : Tallied = record { plan = c.self.inside.plan; series = entries_of c.self.inside.series.items; home = c.self.inside.home } in
     let e : Entry = entry_of c.args.instrument c.args.attrs.now c.args.value in
     let fit : FitsSigned w64 c.args.value = c.ranges.value in
     let rises : is_negative_for (kind_of t.plan c.args.instrument) c.args.value ≡ false = sym ((simp to_z-of_z at c.if-is_negative.ensures) ∙ ap (λ (k : Option Kind). is_negative_for k c.args.value) c.kind.ensures.value) in

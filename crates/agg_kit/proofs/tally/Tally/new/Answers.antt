@@ -1,5 +1,6 @@
 use Rattle.std.proofs.Common.{◌∙◌, [], ap, sym, subst, replicate}
 use Rattle.agg_kit.specs.Feeds.{entries_of}
+use Rattle.agg_kit.specs.Measuring.{empty_tally}
 use Rattle.agg_kit.specs.Sound.{AllSound}
 use Rattle.agg_kit.proofs.Records.{sound-nothing}
 use Rattle.agg_kit.proofs.Rounds.{begins}
@@ -13,4 +14,4 @@ invariant_of-result c = record {
 }
 
 pub returns : goal.returns
-returns c = record { value = begins c.args.plan (entries_of c.in_ok-series.series.items) c.streams_len.result c.in_ok-series.ensures c.streams_len.ensures.len }
+returns c = record { value = begins c.args.plan (entries_of c.in_ok-series.series.items) c.unnamed.result c.streams_len.result c.in_ok-series.ensures c.streams_len.ensures.len ∙ (λ i. record (empty_tally c.args.plan) { home = c.unnamed.ensures i }) }

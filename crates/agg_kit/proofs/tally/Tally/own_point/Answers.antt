@@ -29,7 +29,7 @@ returns c =
     let m = c.in_ok-stream.stream in
     let es = c.index-points.result.now.entries in
     let o : OwnPoint = record { stream = m; place = c.place_or_next-place.result } in
-    let t : Tallied = record { plan = p; series = entries_of ss } in
+    let t : Tallied = record { plan = p; series = entries_of ss; home = c.self.inside.home } in
     let lone : feeds_of p c.args.instrument ≡ whole_feed m ∷ [] = c.self.invariant.lone_is c.args.instrument m c.in_ok-stream.ensures in
     let within : m < length p.streams = (subst (AreFeeds (length p.streams)) lone (c.streams_len.ensures.feeds c.args.instrument)).0 in
     let l : m < length ss = subst (λ (n : ℕ). m < n) (sym (stored-length p.streams ss c.self.invariant.sound)) within in

@@ -1,8 +1,8 @@
 use Rattle.std.proofs.Common.{◌∙◌, [], ap, sym, subst, replicate}
 use Rattle.agg_kit.specs.Feeds.{entries_of}
-use Rattle.agg_kit.specs.Measuring.{empty_tally}
+use Rattle.agg_kit.specs.Homes.{next_home}
+use Rattle.agg_kit.specs.Measuring.{begun_anew}
 use Rattle.agg_kit.specs.Sound.{AllSound}
-use Rattle.agg_kit.specs.Tallies.{Tallied}
 use Rattle.agg_kit.proofs.Records.{sound-nothing}
 use Rattle.agg_kit.proofs.Rounds.{begins}
 use Rattle.agg_kit.proofs.tally.Tally.restart.Goals as goal
@@ -16,5 +16,6 @@ invariant_of-self c = record {
 
 pub returns-clause-value : goal.returns-clause-value
 returns-clause-value c =
-    begins c.self.inside.plan (entries_of c.in_ok-series.series.items) c.streams_len.result c.in_ok-series.ensures c.streams_len.ensures.len
-    ∙ ap (λ (t : Tallied). empty_tally t.plan) c.self.view_is
+    c.begin_anew.ensures
+    ∙ (λ i. record (begins c.self.inside.plan (entries_of c.in_ok-series.series.items) c.self.inside.home c.streams_len.result c.in_ok-series.ensures c.streams_len.ensures.len i) { home = next_home c.self.inside.home })
+    ∙ ap begun_anew c.self.view_is

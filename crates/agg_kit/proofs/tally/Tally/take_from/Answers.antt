@@ -1,7 +1,7 @@
 use Rattle.std.proofs.Common.{◌≡◌, ◌∙◌, ℕ, [], length, replicate, ap, sym, subst}
 use Rattle.plan_kit.specs.Plans.{Planned}
 use Rattle.agg_kit.specs.Feeds.{entries_of}
-use Rattle.agg_kit.specs.Measuring.{empty_tally}
+use Rattle.agg_kit.specs.Measuring.{emptied_tally}
 use Rattle.agg_kit.specs.Recorders.{series_with}
 use Rattle.agg_kit.specs.Sound.{AllSound}
 use Rattle.agg_kit.specs.Stamps.{stamped_in}
@@ -41,8 +41,8 @@ pub returns-clause-emptied : goal.returns-clause-emptied
 returns-clause-emptied c =
     let p = c.other.inside.plan in
     on_ok _ _ c.absorb_into.result
-    (λ e. begins p (entries_of c.absorb_into.new.later.items) (length c.other.inside.series.items) e (stored-length p.streams c.other.inside.series.items c.other.invariant.sound)
-    ∙ ap (λ (t : Tallied). empty_tally t.plan) c.other.view_is)
+    (λ e. begins p (entries_of c.absorb_into.new.later.items) c.other.inside.home (length c.other.inside.series.items) e (stored-length p.streams c.other.inside.series.items c.other.invariant.sound)
+    ∙ ap emptied_tally c.other.view_is)
     c.absorb_into.ensures.emptied
 
 pub absorb_into-requires-clause-long : goal.absorb_into-requires-clause-long

@@ -1,5 +1,5 @@
 use Rattle.std.proofs.Common.{◌≡◌}
-use Rattle.agg_kit.specs.Recorders.{empty_recorder}
+use Rattle.agg_kit.specs.Recorders.{after_absorb}
 use Rattle.writer_kit.specs.declared.shared.change.WriterChange.TheVariants.{Absorbed}
 use Rattle.writer_kit.proofs.Sharing.{accepts, adds, has_replied, plan_stays}
 use Rattle.writer_kit.proofs.shared.waits.SharedWriter.absorb.Goals as goal
@@ -9,12 +9,12 @@ change_mut-requires-clause-met g c = plan_stays _ _ c.args.self.now.planned c.re
 
 pub returns-clause-ok : goal.returns-clause-ok
 returns-clause-ok g c =
-    accepts c.args.self.now c.args.seat.now c.change_mut.new.seat c.args.self.now.planned (Absorbed c.args.recorder.now) (λ _. c.change_mut.new.step ≡ empty_recorder c.args.recorder.now.plan) c.change_mut.result c.change_mut.ensures.ok
+    accepts c.args.self.now c.args.seat.now c.change_mut.new.seat c.args.self.now.planned (Absorbed c.args.recorder.now) (λ _. c.change_mut.new.step ≡ after_absorb c.args.recorder.now) c.change_mut.result c.change_mut.ensures.ok
 
 pub returns-clause-serves : goal.returns-clause-serves
 returns-clause-serves g c =
-    adds c.args.self.now c.args.seat.now c.change_mut.new.seat c.args.self.now.planned (Absorbed c.args.recorder.now) (λ _ _. c.change_mut.new.step ≡ empty_recorder c.args.recorder.now.plan) c.change_mut.result c.change_mut.ensures.ok
+    adds c.args.self.now c.args.seat.now c.change_mut.new.seat c.args.self.now.planned (Absorbed c.args.recorder.now) (λ _ _. c.change_mut.new.step ≡ after_absorb c.args.recorder.now) c.change_mut.result c.change_mut.ensures.ok
 
 pub returns-clause-emptied : goal.returns-clause-emptied
 returns-clause-emptied g c =
-    has_replied c.args.self.now c.args.seat.now c.change_mut.new.seat c.args.self.now.planned (Absorbed c.args.recorder.now) (c.change_mut.new.step ≡ empty_recorder c.args.recorder.now.plan) c.change_mut.result c.change_mut.ensures.ok
+    has_replied c.args.self.now c.args.seat.now c.change_mut.new.seat c.args.self.now.planned (Absorbed c.args.recorder.now) (c.change_mut.new.step ≡ after_absorb c.args.recorder.now) c.change_mut.result c.change_mut.ensures.ok

@@ -5,7 +5,7 @@ use Rattle.agg_kit.specs.BoundPoints.{AreKnown}
 use Rattle.agg_kit.specs.Entries.{entry_of}
 use Rattle.agg_kit.specs.Tallies.{Tallied}
 use Rattle.agg_kit.proofs.BoundPoints.{known-stays}
-use Rattle.agg_kit.proofs.tally.Tally.measure_bound.Goals as goal
+use Rattle.agg_kit.proofs.tally.Tally.measure_here.Goals as goal
 
 pub returns-else-is_empty-clause-bound : goal.returns-else-is_empty-clause-bound
 returns-else-is_empty-clause-bound c =
