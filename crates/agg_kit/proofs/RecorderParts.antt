@@ -14,7 +14,7 @@ use Rattle.agg_kit.specs.Feeds.{series_at, shape_at}
 use Rattle.agg_kit.specs.Measuring.{after_measure, emptied_tally, empty_tally, fault_of, series_after}
 use Rattle.agg_kit.specs.Payloads.{payload_of}
 use Rattle.agg_kit.specs.Reaches.{reach}
-use Rattle.agg_kit.specs.Recorders.{Recorded, tally_in, recorded_in, emptied, empty_recorder, recorder_after, keeps_sets, can_stamp_all, as_record_fault, record_fault_of, Holds}
+use Rattle.agg_kit.specs.Recorders.{Recorded, tally_in, recorded_in, emptied_recorder, empty_recorder, recorder_after, keeps_sets, can_stamp_all, as_record_fault, record_fault_of, Holds}
 use Rattle.agg_kit.specs.Rounds.{points_of, round, values_of}
 use Rattle.agg_kit.specs.Stamps.{Stamped, StampedIn, unstamped, stamped_in, stamps_at, last_number, stamped_of, stamps_of, has_noted, stamps_put, AreSpots}
 use Rattle.agg_kit.specs.Taken.{AreRecorded, HasRecorded, IsRecorder}
@@ -33,11 +33,11 @@ use Rattle.agg_kit.proofs.Taken.{has-more, recorded_holds, recorded_none}
 abbrev pub AllFit : Planned → Type 0
 AllFit p = (i : ℕ) → AreFeeds (length p.streams) (feeds_of p i)
 
-pub none-recorded : (r : Recorded) → IsRecorder (emptied r)
+pub none-recorded : (r : Recorded) → IsRecorder (emptied_recorder r)
 none-recorded r = ([], recorded_none r)
 
 -- a recorder that is like an empty one has recorded nothing
-pub none-recorder : (r s : Recorded) → r ≡ emptied s → IsRecorder r
+pub none-recorder : (r s : Recorded) → r ≡ emptied_recorder s → IsRecorder r
 none-recorder r s is = subst IsRecorder (sym is) (none-recorded s)
 
 pub holds-some : (r : Recorded) → AllFit r.plan → IsRecorder r → (k : List Entry) × Holds r k
@@ -86,7 +86,7 @@ no-arrivals shape (x ∷ xs) h =
     empty (d ∷ ds) h k = cc
 
 -- a recorder whose points are none has nothing beside them
-pub begins-recorder : (r : Recorded) → AllFit r.plan → IsRecorder r → tally_in r ≡ emptied_tally (tally_in r) → r ≡ emptied r
+pub begins-recorder : (r : Recorded) → AllFit r.plan → IsRecorder r → tally_in r ≡ emptied_tally (tally_in r) → r ≡ emptied_recorder r
 begins-recorder r fit is e =
     let h = holds-some r fit is in
     let p = r.plan in
@@ -135,8 +135,8 @@ rehomed-all r h (e ∷ k) = ap (λ (x : Recorded). fold recorder_after x k) (reh
 -- a recorder has recorded the same, whatever its home
 pub rehomed : (r : Recorded) (h : Home) (k : List Entry) → HasRecorded r k → HasRecorded (record r { home = h }) k
 rehomed r h k has = record {
-  each = rehomed-each (emptied r) h k has.each;
-  all = rehomed-all (emptied r) h k ∙ ap (λ (x : Recorded). record x { home = h }) has.all;
+  each = rehomed-each (emptied_recorder r) h k has.each;
+  all = rehomed-all (emptied_recorder r) h k ∙ ap (λ (x : Recorded). record x { home = h }) has.all;
 }
 
 -- ---- one more recording

@@ -18,7 +18,7 @@ use Rattle.agg_kit.specs.Feeding.{set_eq, overflow_set, placements, fed}
 use Rattle.agg_kit.specs.Feeds.{entries_of, series_at, shape_at}
 use Rattle.agg_kit.specs.Laws.{is_gauge}
 use Rattle.agg_kit.specs.Measuring.{fault_of, points_after, series_after}
-use Rattle.agg_kit.specs.Recorders.{Recorded, tally_in, emptied, whole_round, Holds, keeps_set, keeps_sets, keep_sets, can_stamp_all, record_fault_of, as_record_fault, series_with, RecordersHold, AbsorbingIsRecording}
+use Rattle.agg_kit.specs.Recorders.{Recorded, tally_in, emptied_recorder, whole_round, Holds, keeps_set, keeps_sets, keep_sets, can_stamp_all, record_fault_of, as_record_fault, series_with, RecordersHold, AbsorbingIsRecording}
 use Rattle.agg_kit.specs.Rounds.{points_of, round}
 use Rattle.agg_kit.specs.Stamps.{Stamped, stamps_at, stamped_of, stamps_of, stamps_after, newest_over, put_over, absorb_stamped}
 use Rattle.agg_kit.specs.Steps.{Stored, own_count, has_point, fed_set, add_under, step}
@@ -60,7 +60,7 @@ whole-none p = each p.streams 0
     each [] n = refl
     each (s ∷ ss) n = ap (λ l. [] ∷ l) (each ss (n + 1))
 
-pub holds-none : (r : Recorded) → Holds (emptied r) []
+pub holds-none : (r : Recorded) → Holds (emptied_recorder r) []
 holds-none r = (round-none r.plan ∙ sym (whole-none r.plan), refl)
 
 pub none-at : (n m : ℕ) → series_at (replicate n []) m ≡ []

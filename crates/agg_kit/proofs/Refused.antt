@@ -20,7 +20,7 @@ use Rattle.agg_kit.specs.Joins.{total_of}
 use Rattle.agg_kit.specs.Parts.{count_of}
 use Rattle.agg_kit.specs.Payloads.{total, fits_sum, is_out_of_range, payload_of}
 use Rattle.agg_kit.specs.Reaches.{may_fall, reach, reach_with}
-use Rattle.agg_kit.specs.Recorders.{Holds, first_unfit, emptied}
+use Rattle.agg_kit.specs.Recorders.{Holds, first_unfit, emptied_recorder}
 use Rattle.agg_kit.specs.Rounds.{values_of, points_of}
 use Rattle.agg_kit.specs.Sound.{AreOnce}
 use Rattle.agg_kit.specs.Stamps.{Stamped, stamps_at, stamped_of, ends_of, fits_on_way, with_sums}
@@ -383,7 +383,7 @@ refused_is_refused t r h k m alike fit stands taken has lone fault all = told (u
         before shape is a = ap (λ (x : Shape). is_out_of_range (payload_of x (values_of (placements p.limit (arrivals p m h)) a))) (sym is) ∙ low m s a at
 
         rise : (shape : Shape) → s.shape ≡ shape → rises shape ≡ true → (d : AttrSet) → int_lt (total (values_of ys d)) (pos 0) ≡ false
-        rise shape is up d = total-rise (values_of ys d) (values-rise ys d (recorded-rise p (emptied r) k m alike (ap rises (shape-is p m s at ∙ is) ∙ up) has.each))
+        rise shape is up d = total-rise (values_of ys d) (values-rise ys d (recorded-rise p (emptied_recorder r) k m alike (ap rises (shape-is p m s at ∙ is) ∙ up) has.each))
 
         at-shape : (shape : Shape) → s.shape ≡ shape → fits_on_way p.limit (points_of shape (placements p.limit (arrivals p m h))) (points_of shape ys) (stamped_of shape ys).reaches ≡ true
         at-shape (shapes.Sum true) is = risen-fits (shapes.Sum true) p.limit (arrivals p m h) ys refl (rise (shapes.Sum true) is refl) (before (shapes.Sum true) is) (in-range (shapes.Sum true) is k [] (append-nil k))

@@ -22,7 +22,7 @@ use Rattle.agg_kit.specs.Laws.{is_gauge}
 use Rattle.agg_kit.specs.Measuring.{after_measure, fault_of, is_over}
 use Rattle.agg_kit.specs.Payloads.{total, fits_sum, is_out_of_range, payload_of}
 use Rattle.agg_kit.specs.Reaches.{may_fall}
-use Rattle.agg_kit.specs.Recorders.{Recorded, tally_in, recorder_after, emptied, whole_round, Holds, record_fault_of, as_record_fault, with_recorder, first_unfit, absorb_fault}
+use Rattle.agg_kit.specs.Recorders.{Recorded, tally_in, recorder_after, emptied_recorder, whole_round, Holds, record_fault_of, as_record_fault, with_recorder, first_unfit, absorb_fault}
 use Rattle.agg_kit.specs.Refusals.{is_negative_for, overflows, first_refusal}
 use Rattle.agg_kit.specs.Rounds.{values_of, points_of, StandsFor}
 use Rattle.agg_kit.specs.Stamps.{Stamped, stamps_at, stamped_of, stamps_of, absorb_stamped, fits_on_way}
@@ -442,7 +442,7 @@ held-all p fit r h (e ∷ k) is holds rec =
 
 -- what a recorder recorded, it holds
 pub recorded_holds : (r : Recorded) (k : List Entry) → ((i : ℕ) → AreFeeds (length r.plan.streams) (feeds_of r.plan i)) → HasRecorded r k → Holds r k
-recorded_holds r k fit has = subst (λ (x : Recorded). Holds x k) has.all (held-all r.plan fit (emptied r) [] k refl (holds-none r) has.each)
+recorded_holds r k fit has = subst (λ (x : Recorded). Holds x k) has.all (held-all r.plan fit (emptied_recorder r) [] k refl (holds-none r) has.each)
 
 recorded-push : (r : Recorded) (k : List Entry) (e : Entry) → AreRecorded r k → record_fault_of (fold recorder_after r k) e ≡ None → Rises r.plan e → AreRecorded r (k ++ e ∷ [])
 recorded-push r [] e rec none up = (none, up, tt)
@@ -454,11 +454,11 @@ fold-push r (x ∷ k) e = fold-push (recorder_after r x) k e
 
 pub recorders_have : RecordersHave
 recorders_have r k e has none up = record {
-  each = recorded-push (emptied r) k e has.each (subst (λ (x : Recorded). record_fault_of x e ≡ None) (sym has.all) none) up;
-  all = fold-push (emptied r) k e ∙ ap (λ (x : Recorded). recorder_after x e) has.all;
+  each = recorded-push (emptied_recorder r) k e has.each (subst (λ (x : Recorded). record_fault_of x e ≡ None) (sym has.all) none) up;
+  all = fold-push (emptied_recorder r) k e ∙ ap (λ (x : Recorded). recorder_after x e) has.all;
 }
 
-pub recorded_none : (r : Recorded) → HasRecorded (emptied r) []
+pub recorded_none : (r : Recorded) → HasRecorded (emptied_recorder r) []
 recorded_none r = record { each = tt; all = refl }
 
 -- nothing is out of range where nothing is recorded
@@ -472,7 +472,7 @@ series_with_taken t r h k alike fit stands taken has fits_all =
     let after : StandsFor (with_recorder t r) (h ++ k) = absorbing_is_recording t r h k alike stands holds in
     let low : InRange p h = taken-in p fit [] h (range-none p) taken in
     let high : InRange p (h ++ k) = whole-in t r h k alike holds stands low fits_all after in
-    (taken-all p h k (emptied r) alike has.each (on-way t r h k alike holds stands low fits_all) low high, after)
+    (taken-all p h k (emptied_recorder r) alike has.each (on-way t r h k alike holds stands low fits_all) low high, after)
 
 -- where totals of a feed's stream only rise, its instrument takes no value below 0
 pub accepted-rises : (r : Recorded) (e : Entry) → ((k : Kind) → kind_of r.plan e.instrument ≡ Some k → AllRise r.plan k (feeds_of r.plan e.instrument)) → record_fault_of r e ≡ None → Rises r.plan e

@@ -4,8 +4,8 @@ use Rattle.agg_kit.specs.declared.bound.Bound.{Bound}
 use Rattle.agg_kit.specs.declared.home.Home.{Home}
 
 -- the home of a tally without a name
-abbrev pub unnamed : Home
-unnamed = record { name = 0; begun = 0 }
+abbrev pub unnamed_home : Home
+unnamed_home = record { name = 0; begun = 0 }
 
 -- that of a tally once it begins anew
 abbrev pub next_home : Home → Home

@@ -11,7 +11,7 @@ use Rattle.plan_kit.specs.declared.feed.Feed.{Feed}
 use Rattle.agg_kit.specs.Entries.{Entry, Arrivals, arrivals_from}
 use Rattle.agg_kit.specs.Feeding.{overflow_set}
 use Rattle.agg_kit.specs.Feeds.{series_at, whole_first}
-use Rattle.agg_kit.specs.Homes.{next_home, unnamed}
+use Rattle.agg_kit.specs.Homes.{next_home, unnamed_home}
 use Rattle.agg_kit.specs.Payloads.{is_out_of_range}
 use Rattle.agg_kit.specs.Refusals.{is_negative_for}
 use Rattle.agg_kit.specs.Rounds.{round}
@@ -22,15 +22,15 @@ use Rattle.agg_kit.specs.declared.fault.TallyFault.TheVariants as faults
 
 -- a tally without points or a name
 abbrev pub empty_tally : Planned → Tallied
-empty_tally p = record { plan = p; series = round p []; home = unnamed }
+empty_tally p = record { plan = p; series = round p []; home = unnamed_home }
 
 -- a tally without its points
 abbrev pub emptied_tally : Tallied → Tallied
 emptied_tally t = record t { series = round t.plan [] }
 
 -- a tally that begins anew
-abbrev pub begun_anew : Tallied → Tallied
-begun_anew t = record (emptied_tally t) { home = next_home t.home }
+abbrev pub tally_after_restart : Tallied → Tallied
+tally_after_restart t = record (emptied_tally t) { home = next_home t.home }
 
 -- the points of a stream after what arrives there
 abbrev pub points_after : Shape → ℕ → Points → Arrivals → Points

@@ -10,7 +10,7 @@ use Rattle.agg_kit.specs.BoundPoints.{IsBound, entry_at}
 use Rattle.agg_kit.specs.Entries.{Entry, arrivals}
 use Rattle.agg_kit.specs.Feeding.{set_eq}
 use Rattle.agg_kit.specs.Feeds.{entries_of, series_at}
-use Rattle.agg_kit.specs.Homes.{IsOf, next_home, unnamed}
+use Rattle.agg_kit.specs.Homes.{IsOf, next_home, unnamed_home}
 use Rattle.agg_kit.specs.Measuring.{fault_of, series_after}
 use Rattle.agg_kit.specs.Rounds.{points_of, round, StandsFor}
 use Rattle.agg_kit.specs.Stamps.{Stamped, absorb_stamped, can_stamp, fits_on_way, stamps_after, stamps_of}
@@ -44,15 +44,15 @@ recorded_in t ns = record { plan = t.plan; series = t.series; stamps = ns; home 
 
 -- a recorder that holds nothing and has no name
 abbrev pub empty_recorder : Planned → Recorded
-empty_recorder p = record { plan = p; series = round p []; stamps = stamps_of p []; home = unnamed }
+empty_recorder p = record { plan = p; series = round p []; stamps = stamps_of p []; home = unnamed_home }
 
 -- a recorder without what it holds
-abbrev pub emptied : Recorded → Recorded
-emptied r = record r { series = round r.plan []; stamps = stamps_of r.plan [] }
+abbrev pub emptied_recorder : Recorded → Recorded
+emptied_recorder r = record r { series = round r.plan []; stamps = stamps_of r.plan [] }
 
 -- a recorder once it was taken in: it begins anew
 abbrev pub after_absorb : Recorded → Recorded
-after_absorb r = record (emptied r) { home = next_home r.home }
+after_absorb r = record (emptied_recorder r) { home = next_home r.home }
 
 -- a recorder stands for a list of recordings where its points are their round without a limit, with what these recordings leave beside them
 abbrev pub Holds : Recorded → List Entry → Type 0

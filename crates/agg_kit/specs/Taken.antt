@@ -6,7 +6,7 @@ use Rattle.agg_kit.specs.Absorbs.{fed_sets}
 use Rattle.agg_kit.specs.Entries.{Entry}
 use Rattle.agg_kit.specs.Feeds.{series_at, shape_at}
 use Rattle.agg_kit.specs.Reaches.{may_fall}
-use Rattle.agg_kit.specs.Recorders.{Recorded, recorder_after, emptied, record_fault_of, absorb_fault, with_recorder}
+use Rattle.agg_kit.specs.Recorders.{Recorded, recorder_after, emptied_recorder, record_fault_of, absorb_fault, with_recorder}
 use Rattle.agg_kit.specs.Refusals.{first_refusal}
 use Rattle.agg_kit.specs.Rounds.{StandsFor}
 use Rattle.agg_kit.specs.Sound.{AreOnce}
@@ -33,8 +33,8 @@ AreRecorded r (e ∷ k) = (record_fault_of r e ≡ None) × Rises r.plan e × Ar
 
 -- since it was empty, a recorder has accepted these recordings
 pub record HasRecorded (r : Recorded) (k : List Entry) : Type 0 where
-  pub each : AreRecorded (emptied r) k
-  pub all : fold recorder_after (emptied r) k ≡ r
+  pub each : AreRecorded (emptied_recorder r) k
+  pub all : fold recorder_after (emptied_recorder r) k ≡ r
 
 -- a recorder has accepted some list of recordings since it was empty
 abbrev pub IsRecorder : Recorded → Type 0

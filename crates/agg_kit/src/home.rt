@@ -1,6 +1,6 @@
 //! Homes: by which a bound point knows its tally.
 ghost use Rattle.std.specs.Prelude.{◌≡◌};
-ghost use Rattle.agg_kit.specs.Homes.{next_home, unnamed};
+ghost use Rattle.agg_kit.specs.Homes.{next_home, unnamed_home};
 
 /// A tally or a recorder, as its bound points know it: the name that its maker gave it, and its beginning, counted from 0. A tally
 /// begins anew when it is restarted, and a recorder when a tally has taken it in.
@@ -17,7 +17,7 @@ pub struct Home {
 impl Home {
     /// That of a tally whose maker gave it no name.
     pub(crate) fn unnamed() -> Home
-        ensures { result ≡ unnamed }
+        ensures { result ≡ unnamed_home }
     {
         Home { name: 0, begun: 0 }
     }

@@ -8,7 +8,7 @@ ghost use Rattle.agg_kit.specs.Feeds.{AllWhole};
 ghost use Rattle.agg_kit.specs.Homes.{HomesDiffer};
 ghost use Rattle.agg_kit.specs.Laws.{SumsAddUp, CountsAddUp, IsLimited, OwnPointsStay, FedGrows, RoundsHaveFed};
 ghost use Rattle.agg_kit.specs.Measuring.{after_measure, early_fault_of, emptied_tally, fault_of};
-ghost use Rattle.agg_kit.specs.Recorders.{Recorded, emptied, Holds, RecordersHold, AbsorbingIsRecording, OwnBoundPointsStay};
+ghost use Rattle.agg_kit.specs.Recorders.{Recorded, emptied_recorder, Holds, RecordersHold, AbsorbingIsRecording, OwnBoundPointsStay};
 ghost use Rattle.agg_kit.specs.Refusals.{first_refusal};
 ghost use Rattle.agg_kit.specs.Rounds.{StandsFor};
 ghost use Rattle.agg_kit.specs.Taken.{AbsorbedAreTaken, HasRecorded, RecordersHave, RefusedAreRefused};
@@ -66,7 +66,7 @@ pub fn points_are_absorbed()
 /// Taking a recorder in is recording what it holds: one that holds nothing stands for no recordings, one that takes a recording
 /// stands for it too, and a tally with what a recorder holds stands for its recordings followed by the recorder's.
 pub fn absorbing_is_recording()
-    ensures empty { (r : Recorded) → Holds (emptied r) [] }
+    ensures empty { (r : Recorded) → Holds (emptied_recorder r) [] }
     ensures holds { RecordersHold }
     ensures stands { AbsorbingIsRecording }
 {}
@@ -76,7 +76,7 @@ pub fn absorbing_is_recording()
 /// its own, `Plan::streams_len` says.
 #[tactic(auto, using(crate::proofs::Taken::recorded_none))]
 pub fn recorded_is_accepted()
-    ensures empty { (r : Recorded) → HasRecorded (emptied r) [] }
+    ensures empty { (r : Recorded) → HasRecorded (emptied_recorder r) [] }
     ensures records { RecordersHave }
     ensures accepted { AbsorbedAreTaken }
 {}

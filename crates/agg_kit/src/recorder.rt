@@ -9,7 +9,7 @@ ghost use Rattle.agg_kit.specs.Feeding.{overflow_set};
 ghost use Rattle.agg_kit.specs.Feeds.{AllWhole, AreHeld, IsHeld};
 ghost use Rattle.agg_kit.specs.Homes.{IsOf};
 ghost use Rattle.agg_kit.specs.Kept.{whole_feed};
-ghost use Rattle.agg_kit.specs.Recorders.{recorder_after, can_stamp_all, emptied, empty_recorder, keep_sets, keeps_sets, record_fault_of, tally_in, IsOwnAtHome, IsOwnBound};
+ghost use Rattle.agg_kit.specs.Recorders.{recorder_after, can_stamp_all, emptied_recorder, empty_recorder, keep_sets, keeps_sets, record_fault_of, tally_in, IsOwnAtHome, IsOwnBound};
 ghost use Rattle.agg_kit.specs.Stamps.{has_noted};
 ghost use Rattle.agg_kit.specs.Taken.{HasRecorded, IsRecorder, RecordsAlso};
 
@@ -441,7 +441,7 @@ impl Recorder {
 
     /// Whether it holds no recordings. O(streams), takes no memory.
     pub fn is_empty(&self) -> bool
-        ensures { IsTrue result ↔ (self.now ≡ emptied self.now) }
+        ensures { IsTrue result ↔ (self.now ≡ emptied_recorder self.now) }
     {
         // What the plan says of the feeds of all its instruments.
         let _ = self.tally.plan().streams_len();

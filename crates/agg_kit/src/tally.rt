@@ -9,7 +9,7 @@ ghost use Rattle.agg_kit.specs.Feeding.{overflow_set};
 ghost use Rattle.agg_kit.specs.Feeds.{entries_of, series_at, AllWhole, IsHeld};
 ghost use Rattle.agg_kit.specs.Homes.{IsOf, next_home};
 ghost use Rattle.agg_kit.specs.Kept.{whole_feed, AreLone};
-ghost use Rattle.agg_kit.specs.Measuring.{after_measure, begun_anew, early_fault_of, emptied_tally, empty_tally, fault_of};
+ghost use Rattle.agg_kit.specs.Measuring.{after_measure, early_fault_of, emptied_tally, empty_tally, fault_of, tally_after_restart};
 ghost use Rattle.agg_kit.specs.Recorders.{absorb_fault, after_absorb, keeps_sets, recorded_in, with_recorder};
 ghost use Rattle.agg_kit.specs.Stamps.{has_noted, stamped_in, stamps_put, AreSpots, CanNoteEach, HaveRooms};
 ghost use Rattle.agg_kit.specs.Refusals.{is_negative_for};
@@ -540,7 +540,7 @@ impl Tally {
 
     /// Begins anew, without points, under the same plan and name. What was bound there is not of it ([`crate::homes_differ`]).
     pub fn restart(&mut self) -> Result<(), NoMemory>
-        ensures value { OnOk result (self.new ≡ begun_anew self.old) }
+        ensures value { OnOk result (self.new ≡ tally_after_restart self.old) }
         ensures unchanged { OnErr result (self.new ≡ self.old) }
     {
         let alloc = *self.series.allocator();

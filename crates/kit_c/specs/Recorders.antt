@@ -3,7 +3,7 @@ use Rattle.std.specs.Prelude.{◌≡◌, ◌≢◌, ℕ, ℤ, Bool, false, slice
 use Rattle.std.specs.Option.{option_map}
 use Rattle.agg_kit.specs.Entries.{Entry, entry_of}
 use Rattle.agg_kit.specs.Feeds.{IsHeld}
-use Rattle.agg_kit.specs.Recorders.{Recorded, after_absorb, emptied, empty_recorder, record_fault_of, recorder_after, tally_in}
+use Rattle.agg_kit.specs.Recorders.{Recorded, after_absorb, emptied_recorder, empty_recorder, record_fault_of, recorder_after, tally_in}
 use Rattle.agg_kit.specs.Stamps.{has_noted}
 use Rattle.attr_kit.specs.declared.attr_set.AttrSet.{AttrSet}
 use Rattle.plan_kit.specs.Plans.{feeds_of}
@@ -75,7 +75,7 @@ recorder_fault h = Some faults.WrongKind
 
 -- a thing is a recorder that holds no recordings, or is not
 abbrev pub TellsEmpty : Bool → Content → Type 0
-TellsEmpty b (Recorder r) = IsTrue b ↔ (r.recorder ≡ emptied r.recorder)
+TellsEmpty b (Recorder r) = IsTrue b ↔ (r.recorder ≡ emptied_recorder r.recorder)
 TellsEmpty b h = ⊥
 
 -- a writer took in what a recorder of its plan held: the recorder holds nothing then, and both hold their sets

@@ -2,7 +2,7 @@
 ghost use Rattle.std.specs.Prelude.{◌≡◌, ◌≢◌, ◌↔◌, [], map, slice_get, All, None, Some, IsTrue, OnOk, OnErr, IfErr, IfOk, IfSome};
 ghost use Rattle.agg_kit.specs.BoundPoints.{entry_at};
 ghost use Rattle.agg_kit.specs.Entries.{entry_of};
-ghost use Rattle.agg_kit.specs.Recorders.{after_absorb, emptied, empty_recorder, record_fault_of, recorder_after, IsOwnAtHome};
+ghost use Rattle.agg_kit.specs.Recorders.{after_absorb, emptied_recorder, empty_recorder, record_fault_of, recorder_after, IsOwnAtHome};
 ghost use Rattle.kit_c.specs.Codes.{code_of, no_memory as refused_memory};
 ghost use Rattle.kit_c.specs.RecorderSets.{IsBoundPlace, KeepsOwn, KnowNothing, KnowsOwnPoints, attrs_in};
 ghost use Rattle.kit_c.specs.Recorders.{HasOwnPointsAt, IsOwnHeld, own_set_fault, recorder_at};
@@ -232,7 +232,7 @@ impl HoldingRecorder {
 
     /// Whether it holds no recordings.
     pub(crate) fn is_empty(&self) -> bool
-        ensures { IsTrue result ↔ (self.now.recorder ≡ emptied self.now.recorder) }
+        ensures { IsTrue result ↔ (self.now.recorder ≡ emptied_recorder self.now.recorder) }
     {
         self.recorder.is_empty()
     }

@@ -12,7 +12,7 @@ use Rattle.agg_kit.specs.Feeds.{series_at, shape_at, first_out}
 use Rattle.agg_kit.specs.Laws.{is_gauge}
 use Rattle.agg_kit.specs.Measuring.{empty_tally, fault_of}
 use Rattle.agg_kit.specs.Payloads.{is_out_of_range}
-use Rattle.agg_kit.specs.Recorders.{Recorded, emptied, empty_recorder, keeps_set, as_record_fault, record_fault_of}
+use Rattle.agg_kit.specs.Recorders.{Recorded, emptied_recorder, empty_recorder, keeps_set, as_record_fault, record_fault_of}
 use Rattle.agg_kit.specs.Refusals.{is_negative_for}
 use Rattle.agg_kit.specs.Rounds.{round}
 use Rattle.agg_kit.specs.Stamps.{Stamped, can_stamp, stamps_at, stamps_of, unstamped}
@@ -118,7 +118,7 @@ never_full p h e limited fit small full = by (is_none (kind_of p e.instrument)) 
     by false true n b = let h = is_full (Some faults.Negative) (fault-negative p h e n b) in cc
     by false false n b = let h = is_full None (fault-none p h e fit small n b) in cc
 
-pub not_full : {R : Type 0} (x : Result R records.RecordFault) (r : Recorded) (p : Planned) (e : Entry) → r ≡ emptied r → p ≡ r.plan → 0 < p.limit → AreFeeds (length p.streams) (feeds_of p e.instrument)
+pub not_full : {R : Type 0} (x : Result R records.RecordFault) (r : Recorded) (p : Planned) (e : Entry) → r ≡ emptied_recorder r → p ≡ r.plan → 0 < p.limit → AreFeeds (length p.streams) (feeds_of p e.instrument)
     → FitsSigned w64 e.value → IfErr x (λ f. f ≢ record_faults.NoMemory → record_fault_of r e ≡ Some f) → IfErr x (λ f. f ≢ record_faults.Full)
 not_full (Ok y) r p e is at limited fit small told = tt
 not_full (Err f) r p e is at limited fit small told =

@@ -1,7 +1,7 @@
 -- What the accepted calls make of a writer, and the round that it gives.
 use Rattle.std.specs.Prelude.{ℕ, Bool, false}
 use Rattle.agg_kit.specs.Entries.{Entry}
-use Rattle.agg_kit.specs.Measuring.{after_measure, begun_anew, empty_tally}
+use Rattle.agg_kit.specs.Measuring.{after_measure, empty_tally, tally_after_restart}
 use Rattle.plan_kit.specs.Plans.{Planned}
 use Rattle.point_kit.specs.declared.writer_id.WriterId.{WriterId}
 use Rattle.round_kit.specs.Rounds.{points_of}
@@ -22,7 +22,7 @@ after_collect w time closing = record w { last = time; closed = closing }
 
 -- after a restart
 abbrev pub after_restart : Written → ℕ → Written
-after_restart w start = record w { tally = begun_anew w.tally; start = start; last = start; closed = false }
+after_restart w start = record w { tally = tally_after_restart w.tally; start = start; last = start; closed = false }
 
 -- the round of its points as of a time
 abbrev pub round_now : Written → ℕ → rounds.Collected

@@ -3,7 +3,7 @@ ghost use Rattle.std.specs.Prelude.{◌≡◌, ◌≢◌, false, None, Some, IfO
 ghost use Rattle.plan_kit.specs.Plans.{feeds_of};
 ghost use Rattle.agg_kit.specs.Entries.{entry_of};
 ghost use Rattle.agg_kit.specs.Feeds.{IsHeld};
-ghost use Rattle.agg_kit.specs.Recorders.{emptied, record_fault_of, recorder_after, tally_in};
+ghost use Rattle.agg_kit.specs.Recorders.{emptied_recorder, record_fault_of, recorder_after, tally_in};
 ghost use Rattle.agg_kit.specs.Stamps.{has_noted};
 ghost use Rattle.agg_kit.specs.Taken.{RecordsAlso};
 
@@ -57,7 +57,7 @@ pub(crate) fn record_first(
     ensures ok { OnOk result (record_fault_of recorder.old (entry_of instrument attrs.now value) ≡ None) }
     ensures value { OnOk result (recorder.new ≡ recorder_after recorder.old (entry_of instrument attrs.now value)) }
     ensures recorded { OnOk result (RecordsAlso recorder.old (entry_of instrument attrs.now value) recorder.new) }
-    ensures full { recorder.old ≡ emptied recorder.old → IfErr result (λ f. f ≢ RecordFault.Full) }
+    ensures full { recorder.old ≡ emptied_recorder recorder.old → IfErr result (λ f. f ≢ RecordFault.Full) }
     ensures err { IfErr result (λ f. f ≢ RecordFault.NoMemory
         → record_fault_of recorder.old (entry_of instrument attrs.now value) ≡ Some f) }
     ensures unchanged { OnErr result (recorder.new ≡ recorder.old) }

@@ -1,7 +1,7 @@
 use Rattle.std.proofs.Common.{◌∙◌, [], ap, sym, subst, replicate}
 use Rattle.agg_kit.specs.Feeds.{entries_of}
 use Rattle.agg_kit.specs.Homes.{next_home}
-use Rattle.agg_kit.specs.Measuring.{begun_anew}
+use Rattle.agg_kit.specs.Measuring.{tally_after_restart}
 use Rattle.agg_kit.specs.Sound.{AllSound}
 use Rattle.agg_kit.proofs.Records.{sound-nothing}
 use Rattle.agg_kit.proofs.Rounds.{begins}
@@ -18,4 +18,4 @@ pub returns-clause-value : goal.returns-clause-value
 returns-clause-value c =
     c.begin_anew.ensures
     ∙ (λ i. record (begins c.self.inside.plan (entries_of c.in_ok-series.series.items) c.self.inside.home c.streams_len.result c.in_ok-series.ensures c.streams_len.ensures.len i) { home = next_home c.self.inside.home })
-    ∙ ap begun_anew c.self.view_is
+    ∙ ap tally_after_restart c.self.view_is
