@@ -16,7 +16,7 @@
 //!
 //! A caller, from `crates/uses/src/binding.rt`:
 //!
-//!     let mut point: Bound = tally.bind(instrument, attrs)?;
+//!     let mut point: Bound = tally.bind(instrument, attrs).map_err(HomeFault::Refused)?;
 //!     tally.measure_bound(&mut point, first)?;
 //!     tally.measure_bound(&mut point, second)
 //!

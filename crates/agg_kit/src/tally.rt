@@ -237,9 +237,10 @@ impl Tally {
         let places = bound.places.as_slice();
         let lone = self.lone(bound.instrument);
         self.measure_at(bound.instrument, lone, &bound.attrs, places, value)?;
-        bound.home = Some(self.home);
         if bound.places.is_empty() {
             self.rebind(bound);
+        } else {
+            bound.home = Some(self.home());
         }
         Ok(())
     }

@@ -8,7 +8,8 @@
 //! - A [`MeasureFault`], a [`CollectFault`] or a [`RestartFault`] says why a call is refused, which then changes nothing.
 //! - A [`Pace`] says when the next collection is due.
 //! - `Writer::bind` looks the points of an instrument and a set up once; `Writer::measure_bound` records at such a
-//!   [`BoundPoint`] with no look, and refuses one of another incarnation by a [`BoundFault`].
+//!   [`BoundPoint`] with no look, and refuses one of another incarnation by a [`BoundFault`]. `Writer::named` tells a copy from what
+//!   it was made from.
 //! - `Writer::recorder` makes a [`Recorder`](agg_kit::Recorder) of the writer's plan, with which a thread records by itself.
 //!   `Writer::absorb` takes it in as if each of its recordings had been measured at the writer, one after the other
 //!   ([`absorbing_is_measuring`]), or answers an [`AbsorbFault`]. `Writer::record` records by a recorder, which it takes in first

@@ -1,6 +1,7 @@
-//! Paces at the end of time, and the text of a fault.
+//! Paces at the end of time, the text of a fault, and whose bound points are.
 use super::*;
-use attr_kit::{NoMemory, Seq, Txt};
+use agg_kit::{HomeFault, homes_differ};
+use attr_kit::{AttrSet, NoMemory, Seq, Txt};
 use plan_kit::{DEFAULT_LIMIT, Instrument, Kind, Plan};
 use point_kit::{Payload, WriterId};
 use std::alloc::Global;
@@ -64,5 +65,40 @@ fn faults_are_told(rt: HostRuntime) -> Result<(), Fail> {
         text.as_str(),
         "the time is not after 200, the last collection or the start"
     );
+    Ok(())
+}
+
+#[test]
+fn a_bound_point_is_of_its_recorder(rt: HostRuntime) -> Result<(), Fail> {
+    let alloc = rt.alloc();
+    let none = AttrSet::empty(alloc);
+    let mut writer = counting_from(alloc, 100)?;
+    let mut first = writer.recorder(alloc)?.named(1);
+    let mut second = writer.recorder(alloc)?.named(2);
+    let mut point = first.bind(0, &none)?;
+    assert!(rt; second.measure_bound(&mut point, 4) == Err(HomeFault::Stale));
+    assert!(rt; first.measure_bound(&mut point, 3) == Ok(()));
+    homes_differ();
+    writer.absorb(&mut first)?;
+    assert!(rt; first.measure_bound(&mut point, 5) == Err(HomeFault::Stale));
+    first.rebind(&mut point);
+    assert!(rt; first.measure_bound(&mut point, 5) == Ok(()));
+    writer.absorb(&mut first)?;
+    assert!(rt; second.is_empty());
+    assert!(rt; held(&writer) == Some(8));
+    Ok(())
+}
+
+#[test]
+fn a_bound_point_is_of_its_writer_and_not_of_a_copy(rt: HostRuntime) -> Result<(), Fail> {
+    let alloc = rt.alloc();
+    let writer = counting_from(alloc, 100)?;
+    let mut point = writer.bind(0, &AttrSet::empty(alloc))?;
+    let mut copy = writer.try_copy()?.named(1);
+    assert!(rt; copy.measure_bound(&mut point, 5) == Err(BoundFault::Stale));
+    assert!(rt; held(&copy).is_none());
+    copy.rebind(&mut point);
+    assert!(rt; copy.measure_bound(&mut point, 5) == Ok(()));
+    assert!(rt; held(&copy) == Some(5));
     Ok(())
 }
