@@ -75,7 +75,7 @@ CALLS = [
     ("Tally::restart", "Ok(()) | changed | Ok(())", KEPT),
     ("Tally::try_copy", "Ok", MADE),
     ("Tally::bind", "Ok", MADE),
-    ("Tally::measure_bound, a new set", "Ok(()) | changed | Ok(())", KEPT),
+    ("Tally::measure_bound, a new set", "Ok(()) | changed | Ok(())", ("Err(Refused(NoMemory)) | as before",)),
     ("Tally::measure_bound, a held set", "Ok(()) | changed | Ok(())", NO_MEMORY_TAKEN),
     ("Tally::absorb", "Ok(()) | changed | Ok(())", KEPT),
     ("Recorder::new", "Ok", MADE),
