@@ -1,4 +1,5 @@
 pub mod Absorbing
+pub mod AtPoints
 pub mod Emptied
 pub mod Following
 pub mod Refusals
