@@ -246,7 +246,8 @@ impl Recorder {
         }
     }
 
-    // Records a value at a bound point that is at home. The bound point is this recorder's then.
+    // Records a value at a bound point that is at home.
+    #[inline(always)]
     fn measure_here(&mut self, bound: &mut Bound, value: i64) -> Result<(), RecordFault>
         requires { IsOwnBound self.old bound.old }
         ensures ok { OnOk result (record_fault_of self.old (entry_at bound.old value) ≡ None) }
@@ -259,7 +260,7 @@ impl Recorder {
         ensures kept { OnErr result (bound.new ≡ bound.old) }
         ensures instrument { bound.new.instrument ≡ bound.old.instrument }
         ensures attrs { bound.new.attrs ≡ bound.old.attrs }
-        ensures of { OnOk result (bound.new.home ≡ Some self.old.home) }
+        ensures of { IsOf self.old.home bound.old → OnOk result (bound.new.home ≡ Some self.old.home) }
         ensures bound { IsOwnBound self.new bound.new }
     {
         if bound.places.is_empty() {
@@ -267,9 +268,7 @@ impl Recorder {
             self.rebind(bound);
             return Ok(());
         }
-        self.measure_known(bound, value)?;
-        bound.home = Some(self.tally.home());
-        Ok(())
+        self.measure_known(bound, value)
     }
 
     /// Whether a bound point is at home in this recorder: it knows no places, or its sets have points of their own, which stand at the
@@ -318,7 +317,7 @@ impl Recorder {
         ensures kept { OnErr result (bound.new ≡ bound.old) }
         ensures instrument { bound.new.instrument ≡ bound.old.instrument }
         ensures attrs { bound.new.attrs ≡ bound.old.attrs }
-        ensures of { OnOk result (bound.new.home ≡ Some self.old.home) }
+        ensures of { IsOf self.old.home bound.old → OnOk result (bound.new.home ≡ Some self.old.home) }
         ensures bound { OnOk result (IsOwnBound self.new bound.new) }
     {
         let Ok(home) = self.is_at_home(bound) else {

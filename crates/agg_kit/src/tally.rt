@@ -205,18 +205,19 @@ impl Tally {
         }
     }
 
-    /// Whether a bound point is of another tally than this, or of an earlier beginning.
+    /// Whether a bound point is of another tally than this, or of an earlier beginning. One that was released is of none.
     #[inline(always)]
     pub(crate) fn is_away(&self, bound: &Bound) -> bool
         ensures { IsTrue result ↔ (¬ IsOf self.now.home bound.now) }
     {
         match bound.home {
             Some(home) => home != self.home,
-            None => false,
+            None => !bound.places.is_empty(),
         }
     }
 
-    // Records a value at a bound point that is at home. The bound point is this tally's then.
+    // Records a value at a bound point that is at home.
+    #[inline(always)]
     fn measure_here(&mut self, bound: &mut Bound, value: i64) -> Result<(), TallyFault>
         requires { IsBound self.old bound.old }
         ensures ok { OnOk result (fault_of self.old (entry_at bound.old value) ≡ None) }
@@ -229,7 +230,7 @@ impl Tally {
         ensures kept { OnErr result (bound.new ≡ bound.old) }
         ensures instrument { bound.new.instrument ≡ bound.old.instrument }
         ensures attrs { bound.new.attrs ≡ bound.old.attrs }
-        ensures of { OnOk result (bound.new.home ≡ Some self.old.home) }
+        ensures of { IsOf self.old.home bound.old → OnOk result (bound.new.home ≡ Some self.old.home) }
         ensures bound { IsBound self.new bound.new }
     {
         // What the plan says of the feeds of all its instruments.
@@ -239,8 +240,6 @@ impl Tally {
         self.measure_at(bound.instrument, lone, &bound.attrs, places, value)?;
         if bound.places.is_empty() {
             self.rebind(bound);
-        } else {
-            bound.home = Some(self.home());
         }
         Ok(())
     }
@@ -288,7 +287,7 @@ impl Tally {
         ensures kept { OnErr result (bound.new ≡ bound.old) }
         ensures instrument { bound.new.instrument ≡ bound.old.instrument }
         ensures attrs { bound.new.attrs ≡ bound.old.attrs }
-        ensures of { OnOk result (bound.new.home ≡ Some self.old.home) }
+        ensures of { IsOf self.old.home bound.old → OnOk result (bound.new.home ≡ Some self.old.home) }
         ensures bound { OnOk result (IsBound self.new bound.new) }
     {
         let Ok(home) = self.is_at_home(bound) else {

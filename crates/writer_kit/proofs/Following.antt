@@ -4,6 +4,7 @@ use Rattle.std.proofs.lemmas.Bool.{eq-eqb}
 use Rattle.agg_kit.proofs.Refusals.{first_refusal-is}
 use Rattle.agg_kit.proofs.Rounds.{stands-push}
 use Rattle.agg_kit.specs.Entries.{Entry}
+use Rattle.agg_kit.specs.Homes.{unnamed_home}
 use Rattle.agg_kit.specs.Measuring.{empty_tally}
 use Rattle.agg_kit.specs.Refusals.{first_refusal}
 use Rattle.agg_kit.specs.Tallies.{Tallied}
@@ -31,6 +32,9 @@ runs first acts e = rw (eq-eqb (start_of first acts) (start_of first acts) refl)
 -- a tally without points
 pub plan_of_empty : (t : Tallied) (p : Planned) → t ≡ empty_tally p → t.plan ≡ p
 plan_of_empty t p is = ap (λ (t : Tallied). t.plan) is
+
+pub home_of_empty : (t : Tallied) (p : Planned) → t ≡ empty_tally p → t.home ≡ unnamed_home
+home_of_empty t p is = ap (λ (t : Tallied). t.home) is
 
 pub empty_stands : (t : Tallied) (p : Planned) → t ≡ empty_tally p → StandsFor t []
 empty_stands t p is = subst (λ (t : Tallied). StandsFor t []) (sym is) refl

@@ -1,6 +1,8 @@
 //! Paces at the end of time, the text of a fault, and whose bound points are.
+ghost use Rattle.std.specs.Prelude.{◌≡◌, ◌≢◌};
+
 use super::*;
-use agg_kit::{HomeFault, homes_differ};
+use agg_kit::{HomeFault, RecordFault, Recorder, TallyFault, homes_differ};
 use attr_kit::{AttrSet, NoMemory, Seq, Txt};
 use plan_kit::{DEFAULT_LIMIT, Instrument, Kind, Plan};
 use point_kit::{Payload, WriterId};
@@ -68,37 +70,66 @@ fn faults_are_told(rt: HostRuntime) -> Result<(), Fail> {
     Ok(())
 }
 
-#[test]
-fn a_bound_point_is_of_its_recorder(rt: HostRuntime) -> Result<(), Fail> {
-    let alloc = rt.alloc();
-    let none = AttrSet::empty(alloc);
-    let mut writer = counting_from(alloc, 100)?;
-    let mut first = writer.recorder(alloc)?.named(1);
-    let mut second = writer.recorder(alloc)?.named(2);
-    let mut point = first.bind(0, &none)?;
-    assert!(rt; second.measure_bound(&mut point, 4) == Err(HomeFault::Stale));
-    assert!(rt; first.measure_bound(&mut point, 3) == Ok(()));
+// Whether a point that one recorder bound is stale at another.
+fn is_stale_elsewhere(
+    recorder: &Recorder,
+    other: &mut Recorder,
+    set: &AttrSet,
+) -> Result<bool, RecordFault>
+    requires { recorder.now.home ≢ other.old.home }
+{
+    let mut point = recorder.bind(0, set)?;
+    let answer = other.measure_bound(&mut point, 4);
+    Ok(answer == Err(HomeFault::Stale) && other.is_empty())
+}
+
+// Whether a point is stale at the recorder that bound it once a writer took that in.
+fn is_stale_once_taken_in(
+    writer: &mut Writer,
+    recorder: &mut Recorder,
+    set: &AttrSet,
+) -> Result<bool, HomeFault<RecordFault>>
+    requires { recorder.old.plan ≡ writer.old.tally.plan }
+{
     homes_differ();
-    writer.absorb(&mut first)?;
-    assert!(rt; first.measure_bound(&mut point, 5) == Err(HomeFault::Stale));
-    first.rebind(&mut point);
-    assert!(rt; first.measure_bound(&mut point, 5) == Ok(()));
-    writer.absorb(&mut first)?;
-    assert!(rt; second.is_empty());
-    assert!(rt; held(&writer) == Some(8));
-    Ok(())
+    let mut point = recorder.bind(0, set).map_err(HomeFault::Refused)?;
+    recorder.measure_bound(&mut point, 3)?;
+    let is_taken_in = writer.absorb(recorder).is_ok();
+    let answer = recorder.measure_bound(&mut point, 5);
+    Ok(is_taken_in && answer == Err(HomeFault::Stale) && held(writer) == Some(3))
 }
 
 #[test]
-fn a_bound_point_is_of_its_writer_and_not_of_a_copy(rt: HostRuntime) -> Result<(), Fail> {
+fn a_bound_point_is_of_its_recorder(rt: HostRuntime) -> Result<(), Fail> {
     let alloc = rt.alloc();
-    let writer = counting_from(alloc, 100)?;
-    let mut point = writer.bind(0, &AttrSet::empty(alloc))?;
-    let mut copy = writer.try_copy()?.named(1);
-    assert!(rt; copy.measure_bound(&mut point, 5) == Err(BoundFault::Stale));
-    assert!(rt; held(&copy).is_none());
-    copy.rebind(&mut point);
-    assert!(rt; copy.measure_bound(&mut point, 5) == Ok(()));
-    assert!(rt; held(&copy) == Some(5));
+    let set = AttrSet::empty(alloc);
+    let mut writer = counting_from(alloc, 100)?;
+    let mut first = writer.recorder(alloc)?.named(1);
+    let mut second = writer.recorder(alloc)?.named(2);
+    let is_apart = is_stale_elsewhere(&first, &mut second, &set)?;
+    assert!(rt; is_apart && is_stale_once_taken_in(&mut writer, &mut first, &set)?);
+    Ok(())
+}
+
+// Whether a point that a writer bound is stale at another of its instance and start.
+fn is_stale_at_another(
+    writer: &Writer,
+    other: &mut Writer,
+    set: &AttrSet,
+) -> Result<bool, TallyFault>
+    requires { writer.now.tally.home ≢ other.old.tally.home }
+{
+    let mut point = writer.bind(0, set)?;
+    let answer = other.measure_bound(&mut point, 5);
+    Ok(answer == Err(BoundFault::Stale) && held(other).is_none())
+}
+
+#[test]
+fn a_bound_point_is_not_of_a_copy_with_a_name(rt: HostRuntime) -> Result<(), Fail> {
+    let alloc = rt.alloc();
+    let writer = counting_from(alloc, 100)?.named(1);
+    let mut copy = writer.try_copy()?.named(2);
+    let is_apart = is_stale_at_another(&writer, &mut copy, &AttrSet::empty(alloc))?;
+    assert!(rt; is_apart);
     Ok(())
 }

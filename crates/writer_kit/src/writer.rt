@@ -2,6 +2,7 @@
 ghost use Rattle.std.specs.Prelude.{◌≡◌, ◌≢◌, ◌<◌, ◌≤◌, [], Some, None, false, true, IfOk, IfErr, OnOk, OnErr};
 ghost use Rattle.agg_kit.specs.Entries.{entry_of};
 ghost use Rattle.agg_kit.specs.Feeds.{IsHeld};
+ghost use Rattle.agg_kit.specs.Homes.{unnamed_home};
 ghost use Rattle.agg_kit.specs.Rounds.{StandsFor};
 ghost use Rattle.agg_kit.specs.Recorders.{after_absorb, empty_recorder, record_fault_of, recorder_after, tally_in};
 ghost use Rattle.agg_kit.specs.Stamps.{has_noted};
@@ -52,10 +53,10 @@ impl Model for Writer {
 }
 
 impl Writer {
-    /// A writer that counts from a start on, itself excluded, under a plan; it is open and has recorded nothing.
+    /// A writer that counts from a start on, itself excluded, under a plan; it is open, has recorded nothing, and has no name.
     ///
     /// Refuses with `NoMemory` alone. The writer keeps the allocator. O(streams of the plan).
-    #[tactic(auto, using(crate::proofs::Following::plan_of_empty, crate::proofs::Following::empty_stands, crate::proofs::Following::started))]
+    #[tactic(auto, using(crate::proofs::Following::plan_of_empty, crate::proofs::Following::home_of_empty, crate::proofs::Following::empty_stands, crate::proofs::Following::started))]
     pub fn start(alloc: Global, id: WriterId, plan: Plan, start: u64) -> Result<Writer, NoMemory>
         ensures id { IfOk result (λ w. w.id ≡ id) }
         ensures plan { IfOk result (λ w. w.tally.plan ≡ plan) }
@@ -64,6 +65,7 @@ impl Writer {
         ensures last { IfOk result (λ w. w.last ≡ start) }
         ensures open { IfOk result (λ w. w.closed ≡ false) }
         ensures follows { IfOk result (λ w. Follows start [] w) }
+        ensures home { IfOk result (λ w. w.tally.home ≡ unnamed_home) }
     {
         Ok(Writer {
             id,
@@ -157,6 +159,7 @@ impl Writer {
         ensures ok { OnOk result (HasInstrument self.now.tally instrument) }
         ensures value { IfOk result (λ b. (b.point.instrument ≡ instrument) × (b.point.attrs ≡ attrs.now)) }
         ensures incarnation { IfOk result (λ b. IsOfIncarnation self.now b) }
+        ensures of { IfOk result (λ b. b.point.home ≡ Some self.now.tally.home) }
         ensures home { IfOk result (λ b. IsAtHome self.now b) }
         ensures err { IfErr result (λ f. f ≢ TallyFault.NoMemory
             → (f ≡ TallyFault.NoInstrument) × LacksInstrument self.now.tally instrument) }
@@ -175,6 +178,7 @@ impl Writer {
         ensures instrument { bound.new.point.instrument ≡ bound.old.point.instrument }
         ensures attrs { bound.new.point.attrs ≡ bound.old.point.attrs }
         ensures incarnation { IsOfIncarnation self.now bound.new }
+        ensures of { bound.new.point.home ≡ Some self.now.tally.home }
         ensures home { IsAtHome self.now bound.new }
     {
         self.tally.rebind(&mut bound.point);
