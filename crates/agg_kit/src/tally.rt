@@ -237,6 +237,10 @@ impl Tally {
         let _ = self.plan().streams_len();
         let places = bound.places.as_slice();
         let lone = self.lone(bound.instrument);
+        // One place is handed on by itself, so that its way is told apart.
+        if let [place] = places {
+            return self.measure_at(bound.instrument, lone, &bound.attrs, &[*place], value);
+        }
         self.measure_at(bound.instrument, lone, &bound.attrs, places, value)?;
         if bound.places.is_empty() {
             self.rebind(bound);
