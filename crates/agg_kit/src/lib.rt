@@ -24,8 +24,8 @@
 //! recorder accepted a tally would have accepted, too ([`recorded_is_accepted`], [`refused_is_refused`]); [`points_are_absorbed`] tells
 //! of single points.
 //! What contracts cite stands in `specs/`: `Tallies` (what contracts see of one), `Measuring` (a step and its refusals),
-//! `Rounds` (what a list of recordings comes to), `BoundPoints`, `Homes`, `AtHome`, `Recorders`, `Stamps`, `Absorbs`, `Refusals`, `Entries`,
-//! `Feeding`.
+//! `Rounds` (what a list of recordings comes to), `BoundPoints`, `Homes`, `AtHome`, `Recorders`, `Stamps`, `Absorbs`, `Refusals`,
+//! `Entries`, `Feeding`.
 #![tactic(auto)]
 
 mod absorbing;

@@ -49,15 +49,15 @@ pub struct Recorder {
 
 impl Model for Recorder {
     ghost use Rattle.agg_kit.specs.Entries.{Entry};
-    ghost use Rattle.agg_kit.specs.Recorders.{Recorded};
+    ghost use Rattle.agg_kit.specs.Recorders.{Recorded, recorded_in};
     ghost use Rattle.agg_kit.specs.Stamps.{stamped_in};
     ghost use Rattle.agg_kit.specs.Taken.{IsRecorder};
 
     ghost Value = { Recorded };
 
-    ghost view = { λ r. record { plan = r.tally.plan; series = r.tally.series; stamps = stamped_in r.stamps.items; home = r.tally.home } };
+    ghost view = { λ r. recorded_in r.tally (stamped_in r.stamps.items) };
 
-    ghost invariant = { λ r. IsRecorder (record { plan = r.tally.plan; series = r.tally.series; stamps = stamped_in r.stamps.items; home = r.tally.home }) };
+    ghost invariant = { λ r. IsRecorder (recorded_in r.tally (stamped_in r.stamps.items)) };
 }
 
 impl Recorder {

@@ -484,7 +484,8 @@ impl Tally {
 
     /// Takes in what a recorder of the same plan holds, as if each of its recordings had been measured here, one after the other,
     /// and leaves the recorder empty. Sets that have no point here are copied; the recorder's own wait there for their next values,
-    /// as many as the limit says; no clause says so. The recorder begins anew, so what was bound there is not of it ([`crate::homes_differ`]).
+    /// as many as the limit says; no clause says so. The recorder begins anew, so what was bound there is not of it
+    /// ([`crate::homes_differ`]).
     ///
     /// Refuses, and leaves both as they were: `Overflow` with the first stream of which a point would leave its range, or would have
     /// on the way, `NoMemory`. Of sums that may fall each set counts by how far down and up it went: that is exact where the set has
