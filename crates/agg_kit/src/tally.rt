@@ -174,6 +174,8 @@ impl Tally {
     /// Tallies are told apart by their names and beginnings. A bound point that this name and beginning fit, or that was released, is
     /// asked to be at home: it is where it was bound or bound again by this tally, or is released. Who can't know it takes
     /// `measure_if_at_home`.
+    // Inlined, since at one known place little is left to do.
+    #[inline(always)]
     pub fn measure_bound(
         &mut self,
         bound: &mut Bound,
