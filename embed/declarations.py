@@ -3,11 +3,11 @@
 
     declarations.py [--print] [--archive PATH]
 
-The functions are those of `pub extern "C" fn` in crates/kit_c/src/*.rt, the codes those of crates/kit_c/specs/Codes.antt. Of each
-the declaration is made as C and as Rust, and compared with embed/c/kotskhin.h and embed/rust/kotskhin-sys/src/lib.rs. A wrong
-declaration is undefined behaviour, and nothing else compares them. --print prints what is made. An archive of kit_c that is given
-must define each export, and no other function of its names: one that was built before they changed is refused. Ends with a status
-other than 0 where one differs or is missing."""
+The functions are those of `pub extern "C" fn` in crates/kit_c/src/*.rt, with the fields of the structs that they tell, the codes those
+of crates/kit_c/specs/Codes.antt. Of each the declaration is made as C and as Rust, and compared with embed/c/kotskhin.h and
+embed/rust/kotskhin-sys/src/lib.rs. A wrong declaration is undefined behaviour, and nothing else compares them. --print prints what is
+made. An archive of kit_c that is given must define each export, and no other function of its names: one that was built before they
+changed is refused. Ends with a status other than 0 where one differs or is missing."""
 import pathlib
 import re
 import subprocess
@@ -19,9 +19,12 @@ HEADER = EMBED / "c" / "kotskhin.h"
 RUST = EMBED / "rust" / "kotskhin-sys" / "src" / "lib.rs"
 
 C_TYPES = {"u8": "uint8_t", "i32": "int32_t", "u32": "uint32_t", "i64": "int64_t", "u64": "uint64_t", "usize": "size_t", "bool": "bool"}
+# what C and Rust call the structs of kit_c, and whether their fields are for others to read
+STRUCTS = {"KitHandle": ("kit_handle", "Handle", False), "KitTaken": ("kit_taken", "Taken", True)}
 # (`export` is a word of C++)
 C_NAMES = {"export": "export_"}
 EXPORT = re.compile(r'#\[unsafe\(no_mangle\)\]\s*pub extern "C" fn (\w+)\(([^)]*)\)(?: -> (\w+))?')
+STRUCT = re.compile(r"#\[repr\(C\)\]\n(?:#\[.*\]\n)*pub struct (Kit\w+) \{\n(.*?)\n\}", re.S)
 CODE = re.compile(r"^\w+_(?:code|of) \(?(?:\w+\.)?(?:Refused \(?)?(?:\w+\.)?(\w+)[^=]*= pos (\d+)$", re.M)
 
 
@@ -42,11 +45,21 @@ def crossing(name, kind):
         if found[1]:
             return [(name, f"{C_TYPES[item]} *", f"*mut {item}"), ("room", "size_t ", "usize")]
         return [(name, f"const {C_TYPES[item]} *", f"*const {item}"), (f"{name}_len", "size_t ", "usize")]
-    if kind == "&mut KitHandle":
-        return [(name, "kit_handle *", "*mut Handle")]
+    if found := re.fullmatch(r"&mut (Kit\w+)", kind):
+        c, rust, _ = STRUCTS[found[1]]
+        return [(name, f"{c} *", f"*mut {rust}")]
     if found := re.fullmatch(r"&mut (\w+)", kind):
         return [(name, f"{C_TYPES[found[1]]} *", f"*mut {found[1]}")]
     return [(name, f"{C_TYPES[kind]} ", kind)]
+
+
+def structs():
+    """What calls tell in structs: (name in C, name in Rust, [(field, type)])."""
+    for file in sorted((CRATE / "src").glob("*.rt")):
+        for name, fields in STRUCT.findall(file.read_text(encoding="utf-8")):
+            c, rust, told = STRUCTS[name]
+            if told:
+                yield c, rust, re.findall(r"pub (\w+): (\w+),", fields)
 
 
 def codes():
@@ -64,22 +77,33 @@ def made():
     c, rust = set(), set()
     for name, given, result in exports():
         words = [word for one in given for word in crossing(*one)]
-        c.add(f"{C_TYPES[result] if result else 'void'} {name}({', '.join(f'{kind}{C_NAMES.get(word, word)}' for word, kind, _ in words)});")
+        in_c = ", ".join(f"{kind}{C_NAMES.get(word, word)}" for word, kind, _ in words)
+        c.add(f"{C_TYPES[result] if result else 'void'} {name}({in_c});")
         rust.add(f"pub fn {name}({', '.join(f'{word}: {kind}' for word, _, kind in words)}){f' -> {result}' if result else ''};")
+    for name, other, fields in structs():
+        c.add(f"typedef struct {name} {{ {' '.join(f'{C_TYPES[kind]} {field};' for field, kind in fields)} }} {name};")
+        rust.add(f"pub struct {other} {{ {' '.join(f'pub {field}: {kind},' for field, kind in fields)} }}")
     c |= {f"KIT_{name} = {number}" for name, number in codes()}
     rust |= {f"pub const {name}: i32 = {number};" for name, number in codes()}
     return c, rust
+
+
+def of_structs(found, language):
+    """Of declarations those of the structs that calls tell."""
+    told = {it[language] for it in STRUCTS.values() if it[2]}
+    return {it for it in found if it.split()[2] in told}
 
 
 def declared():
     """What they declare."""
     header = re.sub(r"\s+", " ", re.sub(r"/\*.*?\*/", "", HEADER.read_text(encoding="utf-8"), flags=re.S))
     c = set(re.findall(r"(?:int32_t|void) kit_\w+\([^)]*\);", header))
+    c |= of_structs(re.findall(r"typedef struct \w+ \{[^}]*\} \w+;", header), 0)
     first = header[header.index("enum {"):header.index("};")]
     c |= set(re.findall(r"KIT_\w+ = \d+", first))
-    rust = re.sub(r"\s+", " ", RUST.read_text(encoding="utf-8"))
-    functions = re.findall(r"pub fn kit_\w+\([^)]*\)(?: -> \w+)?;", rust)
-    rust = {re.sub(r",? \)", ")", it.replace("( ", "(")) for it in functions} | set(re.findall(r"pub const \w+: i32 = \d+;", rust))
+    rust = re.sub(r"\s+", " ", re.sub(r"//.*", "", RUST.read_text(encoding="utf-8")))
+    functions = {re.sub(r",? \)", ")", it.replace("( ", "(")) for it in re.findall(r"pub fn kit_\w+\([^)]*\)(?: -> \w+)?;", rust)}
+    rust = functions | of_structs(re.findall(r"pub struct \w+ \{[^}]*\}", rust), 1) | set(re.findall(r"pub const \w+: i32 = \d+;", rust))
     return c, rust
 
 
@@ -87,7 +111,8 @@ def of_archive(path):
     """What an archive lacks of the exports, and what it has beside them."""
     told = subprocess.run(["nm", "--defined-only", "-g", path], capture_output=True, text=True, check=True).stdout
     defined, wanted = set(re.findall(r" T (kit_\w+)$", told, re.M)), {name for name, _, _ in exports()}
-    return [f"{path}: missing: {it}" for it in sorted(wanted - defined)] + [f"{path}: not of kit_c: {it}" for it in sorted(defined - wanted)]
+    missing = [f"{path}: missing: {it}" for it in sorted(wanted - defined)]
+    return missing + [f"{path}: not of kit_c: {it}" for it in sorted(defined - wanted)]
 
 
 def main():

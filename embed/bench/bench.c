@@ -22,10 +22,10 @@
         }                                                                    \
     } while (0)
 
-enum { TIMES = 400000, THREADS = 4, COUNTER = 0, HISTOGRAM = 1 };
+enum { TIMES = 400000, THREADS = 4, COUNTER = 0, HISTOGRAM = 1, PIECE = 1000 };
 
-static kit_handle plan, writer, none, four, seats[THREADS];
-static size_t number, empty;
+static kit_handle plan, writer, none, four, seats[THREADS], logs[THREADS];
+static size_t number, empty, sizes;
 static uint64_t place;
 static int rounds;
 
@@ -56,15 +56,32 @@ static void held(int times) {
 }
 
 static void by_number(int times) {
-    for (int i = 0; i < times; i++) MUST(kit_writer_measure_held(&writer, COUNTER, number, 1, &place));
+    for (int i = 0; i < times; i++) MUST(kit_writer_measure_held(&writer, number, 1, &place));
 }
 
 static void without_by_number(int times) {
-    for (int i = 0; i < times; i++) MUST(kit_writer_measure_held(&writer, COUNTER, empty, 1, &place));
+    for (int i = 0; i < times; i++) MUST(kit_writer_measure_held(&writer, empty, 1, &place));
 }
 
 static void histogram_by_number(int times) {
-    for (int i = 0; i < times; i++) MUST(kit_writer_measure_held(&writer, HISTOGRAM, number, 1, &place));
+    for (int i = 0; i < times; i++) MUST(kit_writer_measure_held(&writer, sizes, 1, &place));
+}
+
+/* as a caller who keeps no number does */
+static void holding(int times) {
+    for (int i = 0; i < times; i++) {
+        size_t told = 0;
+        MUST(kit_writer_hold(&writer, COUNTER, &four, &told));
+        MUST(kit_writer_measure_held(&writer, told, 1, &place));
+    }
+}
+
+static void logged(int times) {
+    kit_taken taken;
+    for (int i = 0; i < times; i++) {
+        MUST(kit_recorder_measure_held(&logs[0], number, 1));
+        if (i % PIECE == PIECE - 1) MUST(kit_writer_take_in(&writer, &logs[0], SIZE_MAX, &taken));
+    }
 }
 
 static void histogram(int times) {
@@ -84,7 +101,7 @@ static void *record(void *seat) {
     uint64_t told = 0;
     for (int i = 0; i < TIMES; i++) {
         int32_t answer;
-        while ((answer = kit_seat_measure_held(seat, COUNTER, number, 1, &told)) == KIT_BUSY) sched_yield();
+        while ((answer = kit_seat_measure_held(seat, number, 1, &told)) == KIT_BUSY) sched_yield();
         MUST(answer);
     }
     return NULL;
@@ -94,6 +111,26 @@ static void by_seats(int times) {
     pthread_t threads[THREADS];
     (void)times;
     for (int i = 0; i < THREADS; i++) pthread_create(&threads[i], NULL, record, &seats[i]);
+    for (int i = 0; i < THREADS; i++) pthread_join(threads[i], NULL);
+}
+
+static void *note(void *at) {
+    kit_handle *log = at, *seat = &seats[log - logs];
+    kit_taken taken;
+    for (int i = 0; i < TIMES; i++) {
+        MUST(kit_recorder_measure_held(log, number, 1));
+        if (i % PIECE != PIECE - 1) continue;
+        int32_t answer;
+        while ((answer = kit_seat_take_in(seat, log, SIZE_MAX, &taken)) == KIT_BUSY) sched_yield();
+        MUST(answer);
+    }
+    return NULL;
+}
+
+static void by_logs(int times) {
+    pthread_t threads[THREADS];
+    (void)times;
+    for (int i = 0; i < THREADS; i++) pthread_create(&threads[i], NULL, note, &logs[i]);
     for (int i = 0; i < THREADS; i++) pthread_join(threads[i], NULL);
 }
 
@@ -113,6 +150,8 @@ static void by_one(void) {
     tell("C: no attributes, by number", without_by_number, TIMES, TIMES);
     tell("C: 4 attributes, a held set", held, TIMES, TIMES);
     tell("C: 4 attributes, by number", by_number, TIMES, TIMES);
+    tell("C: 4 attributes, held at each recording", holding, TIMES, TIMES);
+    tell("C: 4 attributes, by number, in a log, taken in each 1,000", logged, TIMES, TIMES);
     tell("C: 4 attributes, a held set, a histogram", histogram, TIMES, TIMES);
     tell("C: 4 attributes, by number, a histogram", histogram_by_number, TIMES, TIMES);
     tell("C: 4 attributes, made anew", anew, TIMES / 8, TIMES / 8);
@@ -120,9 +159,10 @@ static void by_one(void) {
 
 static void by_threads(void) {
     MUST(kit_writer_share(&writer));
-    seats[0] = writer, writer = KIT_EMPTY;
+    seats[0] = writer, writer = KIT_NONE;
     for (int i = 1; i < THREADS; i++) MUST(kit_seat_split(&seats[0], &seats[i]));
     tell("C: 4 attributes, by number, 4 threads by seats", by_seats, TIMES, (double)THREADS * TIMES);
+    tell("C: 4 attributes, by number, 4 threads by logs", by_logs, TIMES, (double)THREADS * TIMES);
 }
 
 int main(int argc, char **argv) {
@@ -134,8 +174,10 @@ int main(int argc, char **argv) {
     MUST(kit_writer_start(&writer, &plan, TEXT("bench"), 0, 1, 100));
     MUST(kit_attributes_make(&none, &pairs, &place));
     make(&four);
-    MUST(kit_writer_hold(&writer, &four, &number));
-    MUST(kit_writer_hold(&writer, &none, &empty));
+    MUST(kit_writer_hold(&writer, COUNTER, &four, &number));
+    MUST(kit_writer_hold(&writer, COUNTER, &none, &empty));
+    MUST(kit_writer_hold(&writer, HISTOGRAM, &four, &sizes));
+    for (int i = 0; i < THREADS; i++) MUST(kit_recorder_new(&logs[i], PIECE));
     rounds = argc > 1 ? atoi(argv[1]) : 25;
     if (argc > 2) by_threads();
     else by_one();

@@ -4,13 +4,18 @@
 //!
 //! Each line: a name, and the least of the rounds in nanoseconds for each recording; by one thread, or by four.
 use kotskhin::metrics::{BoundCounter, Counter, Histogram, Meter};
-use kotskhin::{Attributes, DEFAULT_LIMIT, Error, Instruments, Kind, Plan, SetNumber, Writer};
+use kotskhin::{
+    Attributes, DEFAULT_LIMIT, Error, HeldNumber, Instruments, Kind, Plan, Recorder, Writer,
+};
 use std::env;
+use std::sync::{Mutex, PoisonError};
 use std::thread;
 use std::time::Instant;
 
 const TIMES: usize = 400_000;
 const THREADS: usize = 4;
+/// How many recordings a recorder has before it is taken in.
+const LOG: usize = 1 << 12;
 
 type Done = Result<(), Error>;
 
@@ -53,7 +58,7 @@ fn four() -> Result<Attributes, Error> {
     Attributes::new(KEYS.map(|key| (key, "value 0")))
 }
 
-fn by_one(writer: &mut Writer, set: &Attributes, number: SetNumber) -> Done {
+fn by_one(writer: &mut Writer, set: &Attributes, number: HeldNumber) -> Done {
     tell(
         "Rust: 4 attributes, a held set, Writer",
         TIMES,
@@ -62,13 +67,19 @@ fn by_one(writer: &mut Writer, set: &Attributes, number: SetNumber) -> Done {
     tell(
         "Rust: 4 attributes, by number, Writer",
         TIMES,
-        times(TIMES, || writer.measure_held(0, number, 1)),
+        times(TIMES, || writer.measure_held(number, 1)),
     )?;
-    let mut recorder = writer.recorder()?;
+    let mut recorder = Recorder::new(LOG)?;
     tell(
-        "Rust: 4 attributes, by number, Recorder",
+        "Rust: 4 attributes, by number, Recorder, taken in",
         TIMES,
-        times(TIMES, || recorder.measure_held(0, number, 1)),
+        times(TIMES, || match recorder.measure_held(number, 1) {
+            Err(Error::RecorderFull) => {
+                writer.take_in(&mut recorder, usize::MAX)?;
+                recorder.measure_held(number, 1)
+            }
+            told => told,
+        }),
     )
 }
 
@@ -95,23 +106,30 @@ fn by_meter(requests: &Counter, sizes: &Histogram, set: &Attributes, bound: &Bou
     )
 }
 
-fn by_recorders(writer: &mut Writer, number: SetNumber) -> Done {
-    let mut recorders = Vec::new();
-    while recorders.len() < THREADS {
-        recorders.push(writer.recorder()?);
-    }
+fn by_recorders(writer: Writer, number: HeldNumber) -> Result<Writer, Error> {
+    let writer = Mutex::new(writer);
+    let lock = || writer.lock().unwrap_or_else(PoisonError::into_inner);
+    let recorders: Result<Vec<_>, _> = (0..THREADS).map(|_| Recorder::new(LOG)).collect();
+    let mut recorders = recorders?;
     tell(
         "Rust: 4 attributes, by number, 4 threads by recorders",
         THREADS * TIMES,
         || {
             by_threads(&mut recorders, |recorder| {
-                recorder.measure_held(0, number, 1)
+                match recorder.measure_held(number, 1) {
+                    Err(Error::RecorderFull) => {
+                        lock().take_in(recorder, usize::MAX)?;
+                        recorder.measure_held(number, 1)
+                    }
+                    told => told,
+                }
             })
         },
-    )
+    )?;
+    Ok(writer.into_inner().unwrap_or_else(PoisonError::into_inner))
 }
 
-fn by_seats(writer: Writer, number: SetNumber) -> Done {
+fn by_seats(writer: Writer, number: HeldNumber) -> Done {
     let mut seats = vec![writer.share().map_err(|(_, error)| error)?];
     while seats.len() < THREADS {
         let next = seats[0].split()?;
@@ -123,7 +141,7 @@ fn by_seats(writer: Writer, number: SetNumber) -> Done {
         || {
             by_threads(&mut seats, |seat| {
                 loop {
-                    match seat.measure_held(0, number, 1) {
+                    match seat.measure_held(number, 1) {
                         Err(Error::Busy) => thread::yield_now(),
                         told => return told,
                     }
@@ -139,7 +157,7 @@ fn main() -> Done {
     let plan = Plan::build(&instruments, DEFAULT_LIMIT)?;
     let mut writer = Writer::start(&plan, "bench", 1, 100)?;
     let set = four()?;
-    let number = writer.hold(&set)?;
+    let number = writer.hold(0, &set)?;
     let (_meter, (requests, sizes)) = Meter::start("bench", 2, "bench", 100, |m| {
         Ok((m.counter("requests", "1")?, m.histogram("sizes", "1")?))
     })?;
@@ -148,7 +166,7 @@ fn main() -> Done {
         by_one(&mut writer, &set, number)?;
         return by_meter(&requests, &sizes, &set, &bound);
     }
-    by_recorders(&mut writer, number)?;
+    let writer = by_recorders(writer, number)?;
     by_seats(writer, number)?;
     let mut hands = vec![bound; THREADS];
     tell(

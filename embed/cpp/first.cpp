@@ -8,7 +8,7 @@ int main() {
     kotskhin::Attributes none{};
     writer.measure(0, none, 3);
     kotskhin::Writer moved = std::move(writer);
-    moved.measure_held(0, moved.hold(none), 4);
+    moved.measure_held(moved.hold(0, none), 4);
 
     kotskhin::Gateway gateway(1), other(2);
     kotskhin::Export collected = moved.collect(200);

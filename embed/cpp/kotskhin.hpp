@@ -37,7 +37,7 @@ class Handle {
 
 public:
     Handle() = default;
-    Handle(Handle &&other) noexcept : raw(std::exchange(other.raw, KIT_EMPTY)) {}
+    Handle(Handle &&other) noexcept : raw(std::exchange(other.raw, KIT_NONE)) {}
     Handle &operator=(Handle &&other) noexcept {
         std::swap(raw, other.raw);
         return *this;
@@ -57,6 +57,10 @@ inline std::vector<uint8_t> copied(Handle &bytes) {
     made.resize(len);
     return made;
 }
+
+// What became of recordings that were taken in from the front of a log: `refused` of them each by itself, the first with this code, at this
+// place among them; `place` is what the code tells.
+using Taken = kit_taken;
 
 class Attributes {
     friend class Recorder;
@@ -120,6 +124,28 @@ public:
     }
 };
 
+// A thread's own log of recordings, up to a capacity: it meets no other thread, and a writer or a seat takes in what it notes.
+// KIT_RECORDER_FULL says that it is to be taken in first.
+class Recorder {
+    friend class Seat;
+    friend class Writer;
+    Handle handle;
+
+public:
+    explicit Recorder(size_t capacity) { checked(kit_recorder_new(handle.at(), capacity)); }
+    void measure(size_t instrument, Attributes &attributes, int64_t value) {
+        checked(kit_recorder_measure(handle.at(), instrument, attributes.handle.at(), value));
+    }
+    // At the pair of a number of the writer that will take the log in.
+    void measure_held(size_t number, int64_t value) { checked(kit_recorder_measure_held(handle.at(), number, value)); }
+    size_t len() {
+        size_t count = 0;
+        checked(kit_recorder_len(handle.at(), &count));
+        return count;
+    }
+    void clear() { checked(kit_recorder_clear(handle.at())); }
+};
+
 // A place at a writer that threads share: each thread has its own. Calls wait for nobody; a code KIT_BUSY says to try again.
 class Seat {
     friend class Writer;
@@ -136,9 +162,21 @@ public:
         uint64_t place = 0;
         checked(kit_seat_measure(handle.at(), instrument, attributes.handle.at(), value, &place), place);
     }
-    void measure_held(size_t instrument, size_t number, int64_t value) {
+    // The number of a pair of an instrument and a set, which any seat of the writer may use.
+    size_t hold(size_t instrument, Attributes &attributes) {
+        size_t number = 0;
+        checked(kit_seat_hold(handle.at(), instrument, attributes.handle.at(), &number));
+        return number;
+    }
+    void measure_held(size_t number, int64_t value) {
         uint64_t place = 0;
-        checked(kit_seat_measure_held(handle.at(), instrument, number, value, &place), place);
+        checked(kit_seat_measure_held(handle.at(), number, value, &place), place);
+    }
+    // As of a writer; by pieces others get in between.
+    Taken take_in(Recorder &recorder, size_t most = SIZE_MAX) {
+        Taken taken{};
+        checked(kit_seat_take_in(handle.at(), recorder.handle.at(), most, &taken));
+        return taken;
     }
     Export collect(uint64_t time) {
         Export made;
@@ -148,28 +186,7 @@ public:
     }
 };
 
-// A thread's own recorder of a writer's plan: it meets no other thread, and Writer::absorb takes in what it holds. KIT_RECORDER_FULL says
-// that a writer is to absorb it first; what it says so of while it is empty is for the writer.
-class Recorder {
-    friend class Writer;
-    Handle handle;
-    Recorder() = default;
-
-public:
-    void measure(size_t instrument, Attributes &attributes, int64_t value) {
-        checked(kit_recorder_measure(handle.at(), instrument, attributes.handle.at(), value));
-    }
-    void measure_held(size_t instrument, size_t number, int64_t value) {
-        checked(kit_recorder_measure_held(handle.at(), instrument, number, value));
-    }
-    bool is_empty() {
-        bool empty = false;
-        checked(kit_recorder_is_empty(handle.at(), &empty));
-        return empty;
-    }
-};
-
-// One thread at a time has a writer: give threads recorders that it absorbs, share it by seats, put a lock of yours round it, or give
+// One thread at a time has a writer: give threads recorders that it takes in, share it by seats, put a lock of yours round it, or give
 // each thread one of its own.
 class Writer {
     Handle handle;
@@ -182,31 +199,28 @@ public:
         uint64_t place = 0;
         checked(kit_writer_measure(handle.at(), instrument, attributes.handle.at(), value, &place), place);
     }
-    size_t hold(Attributes &attributes) {
+    // The number of a pair of an instrument and a set: the same at each call.
+    size_t hold(size_t instrument, Attributes &attributes) {
         size_t number = 0;
-        checked(kit_writer_hold(handle.at(), attributes.handle.at(), &number));
+        checked(kit_writer_hold(handle.at(), instrument, attributes.handle.at(), &number));
         return number;
     }
-    void measure_held(size_t instrument, size_t number, int64_t value) {
+    void measure_held(size_t number, int64_t value) {
         uint64_t place = 0;
-        checked(kit_writer_measure_held(handle.at(), instrument, number, value, &place), place);
+        checked(kit_writer_measure_held(handle.at(), number, value, &place), place);
+    }
+    // Takes in recordings from the front of a log, at most so many, as if each was measured now. What is refused is told, and not thrown;
+    // where memory is wanting the rest stays in the log.
+    Taken take_in(Recorder &recorder, size_t most = SIZE_MAX) {
+        Taken taken{};
+        checked(kit_writer_take_in(handle.at(), recorder.handle.at(), most, &taken));
+        return taken;
     }
     Export collect(uint64_t time) {
         Export made;
         uint64_t place = 0;
         checked(kit_writer_collect(handle.at(), time, made.handle.at(), &place), place);
         return made;
-    }
-    // A recorder for one thread, with the sets that the writer holds.
-    Recorder recorder() {
-        Recorder made;
-        checked(kit_recorder_open(made.handle.at(), handle.at()));
-        return made;
-    }
-    // As if each of its recordings had been made here. It holds nothing then, and goes on.
-    void absorb(Recorder &recorder) {
-        uint64_t place = 0;
-        checked(kit_writer_absorb(handle.at(), recorder.handle.at(), &place), place);
     }
     // The first seat at the writer, which is then moved from.
     Seat share() && {

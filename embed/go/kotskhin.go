@@ -6,7 +6,9 @@ package kotskhin
 import "C"
 
 import (
-	"fmt"
+	"crypto/rand"
+	"encoding/binary"
+	"errors"
 	"runtime"
 	"sync"
 	"unsafe"
@@ -19,14 +21,6 @@ const (
 	Gauge     = 2
 	Histogram = 3
 )
-
-// Refused says why a call is refused: a code of kotskhin.h, with the place that it tells.
-type Refused struct {
-	Code  int32
-	Place uint64
-}
-
-func (r Refused) Error() string { return fmt.Sprintf("kotskhin: refused with code %d", r.Code) }
 
 // A handle is in one call at a time: its lock is held for each. Handles of one call are locked in the order of their numbers.
 type handle struct {
@@ -49,8 +43,11 @@ func newHandle() *handle {
 	return h
 }
 
-// with makes a call that has one handle or two.
+// with makes a call that has one handle or two. A value that no call of this package made has none.
 func with(a, b *handle, call func(place *C.uint64_t) C.int32_t) error {
+	if a == nil || b == nil {
+		return Refused{Code: ErrNothing}
+	}
 	if a.number > b.number {
 		a, b = b, a
 	}
@@ -62,7 +59,7 @@ func with(a, b *handle, call func(place *C.uint64_t) C.int32_t) error {
 	}
 	var place C.uint64_t
 	if code := call(&place); code != C.KIT_OK {
-		return Refused{int32(code), uint64(place)}
+		return Refused{Code: Code(code), Place: uint64(place)}
 	}
 	return nil
 }
@@ -96,10 +93,17 @@ type (
 	Message    struct{ h *handle }
 )
 
-// NewAttributes makes a set of keys and values that take turns.
+// ErrNoValue says that NewAttributes was given a key without a value.
+var ErrNoValue = errors.New("kotskhin: the last key has no value")
+
+// NewAttributes makes a set of keys and values that take turns: of a key that is given twice the later value stays. Make it once, and
+// record with it often. The zero Attributes are no set: a recording with them is refused as ErrNothing.
 func NewAttributes(pairs ...string) (Attributes, error) {
+	if len(pairs)%2 != 0 {
+		return Attributes{}, ErrNoValue
+	}
 	list, h := newHandle(), newHandle()
-	for i := 0; i+1 < len(pairs); i += 2 {
+	for i := 0; i < len(pairs); i += 2 {
 		key, keyLen := text(pairs[i])
 		value, valueLen := text(pairs[i+1])
 		if err := with(list, list, func(*C.uint64_t) C.int32_t {
@@ -126,14 +130,27 @@ func NewPlan(instruments ...Instrument) (Plan, error) {
 			return Plan{}, err
 		}
 	}
-	return Plan{h}, with(h, list, func(place *C.uint64_t) C.int32_t {
+	var second C.uint64_t
+	err := with(h, list, func(place *C.uint64_t) C.int32_t {
 		var views C.kit_handle
-		var second C.uint64_t
 		return C.kit_plan_build(&h.raw, &list.raw, &views, C.KIT_DEFAULT_LIMIT, place, &second)
 	})
+	if why, ok := err.(Refused); ok {
+		why.Second = uint64(second)
+		err = why
+	}
+	return Plan{h}, err
 }
 
-// StartWriter starts a writer of a service's instance, which counts from start on.
+// UniqueInstance draws the high and the low 64 bits of an instance anew: no two processes share it.
+func UniqueInstance() (high, low uint64, err error) {
+	var drawn [16]byte
+	_, err = rand.Read(drawn[:])
+	return binary.BigEndian.Uint64(drawn[:8]), binary.BigEndian.Uint64(drawn[8:]), err
+}
+
+// StartWriter starts a writer of a service's instance, which counts from start on. Of two writers that share service, instance and start
+// a gateway keeps one alone: without an instance of your own take UniqueInstance.
 func StartWriter(plan Plan, service string, high, low, start uint64) (Writer, error) {
 	h := newHandle()
 	s, sLen := text(service)
@@ -148,16 +165,19 @@ func (w Writer) Measure(instrument int, a Attributes, value int64) error {
 	})
 }
 
-// Hold holds a copy of a set as long as the writer is, and tells its number, for MeasureHeld: the shortest way to record.
-func (w Writer) Hold(a Attributes) (int, error) {
+// Hold holds an instrument and a set as long as the writer is, and tells their number, for MeasureHeld: the shortest way to record. Of a
+// pair that is held already it is the number that it has.
+func (w Writer) Hold(instrument int, a Attributes) (int, error) {
 	var number C.size_t
-	err := with(w.h, a.h, func(*C.uint64_t) C.int32_t { return C.kit_writer_hold(&w.h.raw, &a.h.raw, &number) })
+	err := with(w.h, a.h, func(*C.uint64_t) C.int32_t {
+		return C.kit_writer_hold(&w.h.raw, C.size_t(instrument), &a.h.raw, &number)
+	})
 	return int(number), err
 }
 
-func (w Writer) MeasureHeld(instrument, number int, value int64) error {
+func (w Writer) MeasureHeld(number int, value int64) error {
 	return with(w.h, w.h, func(place *C.uint64_t) C.int32_t {
-		return C.kit_writer_measure_held(&w.h.raw, C.size_t(instrument), C.size_t(number), C.int64_t(value), place)
+		return C.kit_writer_measure_held(&w.h.raw, C.size_t(number), C.int64_t(value), place)
 	})
 }
 
@@ -181,37 +201,64 @@ func (w Writer) Restart(start uint64) error {
 	return with(w.h, w.h, func(place *C.uint64_t) C.int32_t { return C.kit_writer_restart(&w.h.raw, C.uint64_t(start), place) })
 }
 
-// Recorder opens a recorder of the writer's plan, for one goroutine, with the sets that the writer holds: it has recorded nothing.
-func (w Writer) Recorder() (Recorder, error) {
+// TakeIn takes in at most so many recordings from the front of a recorder, one after the other, as if each was made now; math.MaxInt
+// takes all. The error is of the call, which then took nothing; what is refused of the recordings the answer tells.
+func (w Writer) TakeIn(r Recorder, most int) (Taken, error) {
+	var told C.kit_taken
+	err := with(w.h, r.h, func(*C.uint64_t) C.int32_t {
+		return C.kit_writer_take_in(&w.h.raw, &r.h.raw, C.size_t(most), &told)
+	})
+	return taken(told), err
+}
+
+// Taken is what became of recordings that were taken in: how many were recorded, how many were refused, each by itself, and of these the
+// first: its place among those that were taken in, from 0, and why, which is nil where none was. Where memory is wanting it stops, and
+// that recording and those behind it stay in the recorder.
+type Taken struct {
+	Recorded, Refused int
+	First             int
+	Why               error
+}
+
+func taken(told C.kit_taken) Taken {
+	made := Taken{Recorded: int(told.recorded), Refused: int(told.refused), First: int(told.first)}
+	if told.code != C.KIT_OK {
+		made.Why = Refused{Code: Code(told.code), Place: uint64(told.place)}
+	}
+	return made
+}
+
+// NewRecorder makes a log for so many recordings, 16 bytes each, for one goroutine. It is of no writer: any may take it in.
+func NewRecorder(capacity int) (Recorder, error) {
 	h := newHandle()
-	return Recorder{h}, with(h, w.h, func(*C.uint64_t) C.int32_t { return C.kit_recorder_open(&h.raw, &w.h.raw) })
+	return Recorder{h}, with(h, h, func(*C.uint64_t) C.int32_t { return C.kit_recorder_new(&h.raw, C.size_t(capacity)) })
 }
 
-// Absorb takes in what a recorder holds, as if each of its recordings had been made here. The recorder holds nothing then, and goes on.
-func (w Writer) Absorb(r Recorder) error {
-	return with(w.h, r.h, func(place *C.uint64_t) C.int32_t { return C.kit_writer_absorb(&w.h.raw, &r.h.raw, place) })
-}
-
-// Measure records a value, and meets no other goroutine. With the code KIT_RECORDER_FULL, 70, a writer is to absorb the recorder first;
-// what it refuses so while it is empty is for the writer.
+// Measure notes a value, and meets no other goroutine. Refused as ErrRecorderFull, the recorder is to be taken in first. An instrument that
+// is not there, or a value below 0 of a counter, is refused once it is taken in.
 func (r Recorder) Measure(instrument int, a Attributes, value int64) error {
 	return with(r.h, a.h, func(*C.uint64_t) C.int32_t {
 		return C.kit_recorder_measure(&r.h.raw, C.size_t(instrument), &a.h.raw, C.int64_t(value))
 	})
 }
 
-// MeasureHeld records a value at a set that the writer held when the recorder was opened: the shortest way for goroutines.
-func (r Recorder) MeasureHeld(instrument, number int, value int64) error {
+// MeasureHeld notes a value at what the writer that will take it in holds under a number: the shortest way for goroutines.
+func (r Recorder) MeasureHeld(number int, value int64) error {
 	return with(r.h, r.h, func(*C.uint64_t) C.int32_t {
-		return C.kit_recorder_measure_held(&r.h.raw, C.size_t(instrument), C.size_t(number), C.int64_t(value))
+		return C.kit_recorder_measure_held(&r.h.raw, C.size_t(number), C.int64_t(value))
 	})
 }
 
-// IsEmpty tells whether the recorder holds no recordings.
-func (r Recorder) IsEmpty() (bool, error) {
-	var empty C.bool
-	err := with(r.h, r.h, func(*C.uint64_t) C.int32_t { return C.kit_recorder_is_empty(&r.h.raw, &empty) })
-	return bool(empty), err
+// Len tells how many recordings the recorder has.
+func (r Recorder) Len() (int, error) {
+	var count C.size_t
+	err := with(r.h, r.h, func(*C.uint64_t) C.int32_t { return C.kit_recorder_len(&r.h.raw, &count) })
+	return int(count), err
+}
+
+// Clear forgets what the recorder has.
+func (r Recorder) Clear() error {
+	return with(r.h, r.h, func(*C.uint64_t) C.int32_t { return C.kit_recorder_clear(&r.h.raw) })
 }
 
 // Share shares the writer: what w has is the first seat at it from then on.
@@ -225,11 +272,36 @@ func (s Seat) Split() (Seat, error) {
 	return Seat{h}, with(s.h, h, func(*C.uint64_t) C.int32_t { return C.kit_seat_split(&s.h.raw, &h.raw) })
 }
 
-// Measure records a value. While another thread's call has the writer it is refused with the code KIT_BUSY, 16: try again.
+// Measure records a value. While another thread's call has the writer it is refused as ErrBusy: try again.
 func (s Seat) Measure(instrument int, a Attributes, value int64) error {
 	return with(s.h, a.h, func(place *C.uint64_t) C.int32_t {
 		return C.kit_seat_measure(&s.h.raw, C.size_t(instrument), &a.h.raw, C.int64_t(value), place)
 	})
+}
+
+// Hold holds an instrument and a set, and tells their number, which any seat of the writer may use.
+func (s Seat) Hold(instrument int, a Attributes) (int, error) {
+	var number C.size_t
+	err := with(s.h, a.h, func(*C.uint64_t) C.int32_t {
+		return C.kit_seat_hold(&s.h.raw, C.size_t(instrument), &a.h.raw, &number)
+	})
+	return int(number), err
+}
+
+// MeasureHeld records a value at what the writer holds under a number. Refused as ErrBusy, try again.
+func (s Seat) MeasureHeld(number int, value int64) error {
+	return with(s.h, s.h, func(place *C.uint64_t) C.int32_t {
+		return C.kit_seat_measure_held(&s.h.raw, C.size_t(number), C.int64_t(value), place)
+	})
+}
+
+// TakeIn takes in a recorder, as a writer does: by pieces others get in between.
+func (s Seat) TakeIn(r Recorder, most int) (Taken, error) {
+	var told C.kit_taken
+	err := with(s.h, r.h, func(*C.uint64_t) C.int32_t {
+		return C.kit_seat_take_in(&s.h.raw, &r.h.raw, C.size_t(most), &told)
+	})
+	return taken(told), err
 }
 
 // Collect collects all that any seat recorded before it.

@@ -2,14 +2,12 @@ package kotskhin
 
 import (
 	"errors"
+	"math"
 	"runtime"
 	"strings"
 	"sync"
 	"testing"
 )
-
-const codeBusy, codeNoPoint, codeNegative, codeClosed, codeStartNotAfter, codeTruncated = 16, 9, 12, 10, 15, 60
-const codeRecorderFull, codeOtherPlan = 70, 71
 
 func must[T any](t *testing.T) func(made T, err error) T {
 	return func(made T, err error) T {
@@ -22,11 +20,11 @@ func must[T any](t *testing.T) func(made T, err error) T {
 }
 
 // refused checks that a call was refused with a code, and with a place where one is told.
-func refused(t *testing.T, err error, code int32, place uint64) {
+func refused(t *testing.T, err error, code Code, place uint64) {
 	t.Helper()
 	var why Refused
-	if !errors.As(err, &why) || why != (Refused{code, place}) {
-		t.Fatalf("%v, not refused with %d at %d", err, code, place)
+	if !errors.As(err, &why) || why != (Refused{Code: code, Place: place}) || !errors.Is(err, code) {
+		t.Fatalf("%v, not %v at %d", err, code, place)
 	}
 }
 
@@ -46,17 +44,17 @@ func total(t *testing.T, g Gateway) string {
 func TestRefusalsChangeNothing(t *testing.T) {
 	w := newWriter(t, 1)
 	none := must[Attributes](t)(NewAttributes())
-	number := must[int](t)(w.Hold(none))
-	if err := w.MeasureHeld(0, number, 7); err != nil {
+	number := must[int](t)(w.Hold(0, none))
+	if err := w.MeasureHeld(number, 7); err != nil {
 		t.Fatal(err)
 	}
-	refused(t, w.MeasureHeld(0, number, -1), codeNegative, 0)
+	refused(t, w.MeasureHeld(number, -1), ErrNegative, 0)
 	g := must[Gateway](t)(OpenGateway(1))
 	_, err := g.Newest("shop", 0, 1, 100)
-	refused(t, err, codeNoPoint, 0)
+	refused(t, err, ErrNoPoint, 0)
 	must[uint64](t)(g.Take(must[Export](t)(w.Shutdown(200))))
-	refused(t, w.Measure(0, none, 1), codeClosed, 0)
-	refused(t, w.Restart(100), codeStartNotAfter, 100)
+	refused(t, w.Measure(0, none, 1), ErrClosed, 0)
+	refused(t, w.Restart(100), ErrStartNotAfter, 100)
 	if err := w.Restart(101); err != nil {
 		t.Fatal(err)
 	}
@@ -77,7 +75,7 @@ func TestExportsGoAsBytes(t *testing.T) {
 		t.Fatal(total(t, g))
 	}
 	_, err := DecodeExport(nil)
-	refused(t, err, codeTruncated, 0)
+	refused(t, err, ErrTruncated, 0)
 }
 
 func TestNodesTellEachOther(t *testing.T) {
@@ -90,7 +88,7 @@ func TestNodesTellEachOther(t *testing.T) {
 	must[uint64](t)(one.Take(must[Export](t)(w.Collect(200))))
 	bytes := must[[]byte](t)(must[Message](t)(one.Send(2)).Encode())
 	_, err := DecodeMessage(nil)
-	refused(t, err, codeTruncated, 0)
+	refused(t, err, ErrTruncated, 0)
 	answer, answered, err := other.Hand(must[Message](t)(DecodeMessage(bytes)))
 	if err != nil || !answered {
 		t.Fatal(answered, err)
@@ -111,8 +109,7 @@ func TestGoroutinesHaveSeats(t *testing.T) {
 	first := must[Seat](t)(newWriter(t, 1).Share())
 	untilFree := func(call func() error) error {
 		for {
-			var why Refused
-			if err := call(); !errors.As(err, &why) || why.Code != codeBusy {
+			if err := call(); !errors.Is(err, ErrBusy) {
 				return err
 			}
 			runtime.Gosched()
@@ -158,44 +155,151 @@ func TestGoroutinesHaveSeats(t *testing.T) {
 	}
 }
 
-// Each goroutine records by a recorder of its own, which the writer absorbs.
+// Each goroutine records by a recorder of its own, which the writer takes in.
 func TestGoroutinesHaveRecorders(t *testing.T) {
 	w := newWriter(t, 1)
 	none := must[Attributes](t)(NewAttributes())
-	number := must[int](t)(w.Hold(none))
+	number := must[int](t)(w.Hold(0, none))
 	var hands sync.WaitGroup
 	for i := 0; i < 4; i++ {
-		recorder := must[Recorder](t)(w.Recorder())
+		recorder := must[Recorder](t)(NewRecorder(100))
 		hands.Add(1)
 		go func() {
 			defer hands.Done()
 			for i := 0; i < 1000; i++ {
-				if err := recorder.MeasureHeld(0, number, 1); err != nil {
+				if err := recorder.MeasureHeld(number, 1); err != nil {
 					t.Error(err)
 				}
 				if i%100 == 99 {
-					if err := w.Absorb(recorder); err != nil {
-						t.Error(err)
+					if made, err := w.TakeIn(recorder, math.MaxInt); err != nil || made != (Taken{Recorded: 100}) {
+						t.Error(made, err)
 					}
 				}
 			}
-			if empty, err := recorder.IsEmpty(); err != nil || !empty {
-				t.Error(empty, err)
+			if count, err := recorder.Len(); err != nil || count != 0 {
+				t.Error(count, err)
 			}
 		}()
 	}
 	hands.Wait()
 	runtime.GC()
+	if again := must[int](t)(w.Hold(0, none)); again != number {
+		t.Fatal(again, number)
+	}
 	g := must[Gateway](t)(OpenGateway(1))
 	must[uint64](t)(g.Take(must[Export](t)(w.Collect(200))))
 	if total(t, g) != "4000" {
 		t.Fatal(total(t, g))
 	}
-	recorder := must[Recorder](t)(w.Recorder())
-	if err := recorder.Measure(0, none, 7); err != nil {
+}
+
+// What is refused of a recorder is told, one by one; a writer takes it in, and a seat does.
+func TestRecordingsAreTakenInOneByOne(t *testing.T) {
+	w := newWriter(t, 1)
+	none := must[Attributes](t)(NewAttributes())
+	r := must[Recorder](t)(NewRecorder(3))
+	for _, value := range []int64{3, -1, 4} {
+		if err := r.Measure(0, none, value); err != nil {
+			t.Fatal(err)
+		}
+	}
+	refused(t, r.Measure(0, none, 1), ErrRecorderFull, 0)
+	made := must[Taken](t)(w.TakeIn(r, 2))
+	if made.Recorded != 1 || made.Refused != 1 || made.First != 1 || !errors.Is(made.Why, ErrNegative) {
+		t.Fatal(made)
+	}
+	seat := must[Seat](t)(w.Share())
+	if made := must[Taken](t)(seat.TakeIn(r, math.MaxInt)); made != (Taken{Recorded: 1}) {
+		t.Fatal(made)
+	}
+	number := must[int](t)(seat.Hold(0, none))
+	if err := seat.MeasureHeld(number, 1<<63-8); err != nil {
 		t.Fatal(err)
 	}
-	refused(t, recorder.Measure(0, none, 1<<63-1), codeRecorderFull, 0)
-	plan := must[Plan](t)(NewPlan(Instrument{Scope: "app", Name: "requests", Unit: "By", Kind: Counter}))
-	refused(t, must[Writer](t)(StartWriter(plan, "shop", 0, 2, 100)).Absorb(recorder), codeOtherPlan, 0)
+	refused(t, seat.MeasureHeld(number+1, 1), ErrNoHeld, 0)
+	if err := r.MeasureHeld(number, 1); err != nil {
+		t.Fatal(err)
+	}
+	made = must[Taken](t)(seat.TakeIn(r, math.MaxInt))
+	refused(t, made.Why, ErrOverflow, 0)
+	if err := r.Measure(0, none, 1); err != nil || r.Clear() != nil || must[int](t)(r.Len()) != 0 {
+		t.Fatal(err)
+	}
+	closed := newWriter(t, 2)
+	must[Export](t)(closed.Shutdown(200))
+	_, err := closed.TakeIn(r, math.MaxInt)
+	refused(t, err, ErrClosed, 0)
+}
+
+func TestRefusalsSayWhy(t *testing.T) {
+	w := newWriter(t, 1)
+	none := must[Attributes](t)(NewAttributes())
+	_, twice := NewPlan(Instrument{Name: "requests", Unit: "1"}, Instrument{Name: "1", Unit: "1"})
+	_, key := NewAttributes("a", "1", "", "2")
+	for says, err := range map[string]error{
+		"kotskhin: NEGATIVE: a counter or a histogram takes no value below 0":         w.Measure(0, none, -1),
+		"kotskhin: START_NOT_AFTER: the new start is not after 100, the start so far": w.Restart(100),
+		"kotskhin: BAD_NAME: the name of instrument 1 breaks the rule of names":       twice,
+		"kotskhin: EMPTY_KEY: the key of pair 1 is empty":                             key,
+		"kotskhin: SAME_STREAM: instruments 2 and 3 feed one stream":                  Refused{ErrSameStream, 2, 3},
+		"kotskhin: code 99": Refused{Code: 99},
+		"kotskhin: CLOSED":  ErrClosed,
+	} {
+		if err == nil || err.Error() != says {
+			t.Errorf("%v, not %s", err, says)
+		}
+	}
+	if err := w.Measure(0, none, -1); errors.Is(err, ErrClosed) || errors.Is(err, errors.New("other")) {
+		t.Error(err)
+	}
+}
+
+// A key without a value would else be dropped, and its values would go to another set.
+func TestAKeyWantsAValue(t *testing.T) {
+	for _, pairs := range [][]string{{"route"}, {"route", "/", "user"}} {
+		if _, err := NewAttributes(pairs...); !errors.Is(err, ErrNoValue) {
+			t.Error(pairs, err)
+		}
+	}
+}
+
+// What no call made is refused, and no panic.
+func TestZeroValuesAreRefused(t *testing.T) {
+	w := newWriter(t, 1)
+	none := must[Attributes](t)(NewAttributes())
+	r := must[Recorder](t)(NewRecorder(10))
+	g := must[Gateway](t)(OpenGateway(1))
+	_, hold := w.Hold(0, Attributes{})
+	_, start := StartWriter(Plan{}, "shop", 0, 1, 100)
+	_, share := Writer{}.Share()
+	_, in := w.TakeIn(Recorder{}, 1)
+	_, collect := Seat{}.Collect(200)
+	_, take := g.Take(Export{})
+	_, sum := Gateway{}.Sum("app", "requests", "1", true)
+	_, node := OpenNode(Gateway{})
+	_, encode := Export{}.Encode()
+	_, _, _, envelope := Message{}.Envelope()
+	_, _, hand := Node{}.Hand(Message{})
+	for i, err := range []error{
+		w.Measure(0, Attributes{}, 1), r.Measure(0, Attributes{}, 1), Writer{}.Measure(0, none, 1), Recorder{}.MeasureHeld(0, 1),
+		hold, start, share, in, collect, take, sum, node, encode, envelope, hand,
+	} {
+		if !errors.Is(err, ErrNothing) {
+			t.Error(i, err)
+		}
+	}
+}
+
+func TestInstancesAreDrawnAnew(t *testing.T) {
+	drawn := map[[2]uint64]bool{}
+	for i := 0; i < 8; i++ {
+		high, low, err := UniqueInstance()
+		if err != nil {
+			t.Fatal(err)
+		}
+		drawn[[2]uint64{high, low}] = true
+	}
+	if len(drawn) != 8 {
+		t.Fatal(drawn)
+	}
 }

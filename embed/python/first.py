@@ -1,5 +1,5 @@
 """Two recordings, one collection, one delivery, one table: the script of examples/first.otm, in Python."""
-from kotskhin import COUNTER, Attributes, Gateway, Plan, Refused, Writer
+from kotskhin import COUNTER, Attributes, Code, Gateway, Plan, Refused, Writer
 
 writer = Writer(Plan([("app", "requests", "1", COUNTER)]), "shop", 1, 100)
 none = Attributes()
@@ -9,7 +9,7 @@ try:
     writer.measure(0, none, -1)
     raise SystemExit("a counter took a value below 0")
 except Refused as refused:
-    assert refused.code == 12
+    assert refused.code == Code.NEGATIVE
 
 gateway, other = Gateway(1), Gateway(2)
 export = writer.collect(200)

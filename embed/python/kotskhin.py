@@ -1,118 +1,278 @@
-"""Proved metrics for Python, by ctypes over a shared library made of libkotskhin.a, whose path is in KOTSKHIN_SO."""
+"""Proved metrics for Python, by ctypes over the shared library that embed/build makes (FOLDER/shared/libkotskhin.so.0).
+
+KOTSKHIN_SO has its path; without it the system's loader looks for libkotskhin.so.0. Times are nanoseconds since the Unix epoch.
+
+Before any call, a number that its C type can't hold is an OverflowError, and a number, a text, bytes or an attribute of another type is a
+TypeError. A call that the kit refuses raises Refused and changes nothing. What was made before a fork raises ForkedError after it."""
 import ctypes
+import enum
+import operator
 import os
+import secrets
 import threading
+import time
+import typing
 from ctypes import POINTER, byref, c_bool, c_char_p, c_int32, c_int64, c_size_t, c_uint8, c_uint32, c_uint64
 
 COUNTER, UP_DOWN, GAUGE, HISTOGRAM = range(4)
+
+
+class Code(enum.IntEnum):
+    """Why a call is refused: the codes of kotskhin.h, each in words. Each {} stands for a place that the refusal tells."""
+
+    NO_MEMORY = 1, "memory was refused"
+    NOTHING = 2, "a handle that is read has nothing"
+    WRONG_KIND = 3, "a handle has something else"
+    FULL = 4, "the handle that is to be filled has something"
+    NOT_TEXT = 5, "a text is not UTF-8, of bytes the one at {}"
+    BAD_NUMBER = 6, "a number stands for nothing here"
+    NO_HELD = 7, "the writer holds nothing under this number"
+    NO_ROW = 8, "there is no row of this number"
+    NO_POINT = 9, "there is no point of what is asked for"
+    CLOSED = 10, "the writer was shut down, and not restarted since"
+    NO_INSTRUMENT = 11, "the plan has no instrument of this number"
+    NEGATIVE = 12, "a counter or a histogram takes no value below 0"
+    OVERFLOW = 13, "a total of stream {} would leave its range"
+    TIME_NOT_AFTER = 14, "the time is not after {}, the last collection or the start"
+    START_NOT_AFTER = 15, "the new start is not after {}, the start so far"
+    BUSY = 16, "another thread's call has the writer that is shared: try again"
+    EXHAUSTED = 17, "the writer that is shared accepted 2^62 changes"
+    SEATS_FULL = 18, "the writer that is shared gave 4,096 seats"
+    EMPTY_KEY = 20, "the key of pair {} is empty"
+    BAD_NAME = 30, "the name of instrument {} breaks the rule of names"
+    BAD_UNIT = 31, "the unit of instrument {} breaks the rule of units"
+    BAD_BOUNDS = 32, "the bounds of view {} do not strictly rise, or are too many"
+    BAD_RENAME = 33, "the new name of view {} breaks the rule of names"
+    WILDCARD_RENAME = 34, "view {} is of every name, and gives a new one"
+    BAD_AGGREGATION = 35, "for instrument {} the aggregation of view {} does not fit"
+    SAME_STREAM = 36, "instruments {} and {} feed one stream"
+    BAD_LIMIT = 37, "the limit is 0"
+    TOO_WIDE = 40, "a total is wider than the number that it is to be told in"
+    NO_BUCKET = 41, "there is no bucket of this number"
+    NOT_ADDRESSED = 50, "the message goes to another id"
+    TRUNCATED = 60, "the bytes end at {}, within what they begin"
+    BAD_MAGIC = 61, "byte {} is not that of an export, or of a message"
+    BAD_VERSION = 62, "the version at byte {} is not known"
+    NOT_CANONICAL = 63, "the value at byte {} is not in its one form"
+    BAD_CHECKSUM = 64, "the checksum at byte {} is not that of the bytes before it"
+    BAD_EXPORT = 65, "the values make no export, or a message has a point that no export brings"
+    RECORDER_FULL = 70, "the recorder has as many recordings as it may, or a number is 2^32 or more: a writer takes it in first"
+
+    def __new__(cls, number, words):
+        code = int.__new__(cls, number)
+        code._value_, code.words = number, words
+        return code
+
+
+class Refused(Exception):
+    """A call is refused, and changed nothing. It has a `code`, the code's `name`, and the `place` that is told, or both, `place` and
+    `second`: None where none is told."""
+
+    def __init__(self, code, place=None, second=None):
+        super().__init__(code, place, second)
+        self.code, self.place, self.second = code, place, second
+
+    @property
+    def name(self):
+        return self.code.name
+
+    def __str__(self):
+        return f"{self.name}: {self.code.words.format(self.place, self.second)}"
+
+
+class ForkedError(RuntimeError):
+    """What is used was made before a fork, by the parent of this process."""
+
+
+class _Number:
+    """A number that the caller gives, as its C type has it."""
+
+    def __init__(self, of):
+        bits, signed = 8 * ctypes.sizeof(of), of(-1).value < 0
+        self.of, self.range = of, (-(1 << bits - 1) if signed else 0, (1 << bits - signed) - 1)
 
 
 class _Raw(ctypes.Structure):
     _fields_ = [("full", c_bool), ("at", ctypes.c_void_p)]
 
 
-_HANDLE, _TEXT = POINTER(_Raw), (c_char_p, c_size_t)
+class _Told(ctypes.Structure):
+    _fields_ = [("recorded", c_size_t), ("refused", c_size_t), ("code", c_int32), ("first", c_size_t), ("place", c_uint64)]
+
+
+_HANDLE, _TEXT, _PLACE = POINTER(_Raw), (c_char_p, c_size_t), object()
+_BYTE, _ID, _WORD, _VALUE, _INDEX = map(_Number, (c_uint8, c_uint32, c_uint64, c_int64, c_size_t))
 _TYPES = {
     "kit_free": [_HANDLE],
-    "kit_instruments_add": [_HANDLE, *_TEXT, *_TEXT, *_TEXT, c_uint8],
-    "kit_plan_build": [_HANDLE, _HANDLE, _HANDLE, c_uint64, POINTER(c_uint64), POINTER(c_uint64)],
+    "kit_instruments_add": [_HANDLE, *_TEXT, *_TEXT, *_TEXT, _BYTE],
+    "kit_plan_build": [_HANDLE, _HANDLE, _HANDLE, _WORD, _PLACE, _PLACE],
     "kit_pairs_add_text": [_HANDLE, *_TEXT, *_TEXT],
-    "kit_pairs_add_whole": [_HANDLE, *_TEXT, c_int64],
+    "kit_pairs_add_whole": [_HANDLE, *_TEXT, _VALUE],
     "kit_pairs_add_truth": [_HANDLE, *_TEXT, c_bool],
-    "kit_attributes_make": [_HANDLE, _HANDLE, POINTER(c_uint64)],
-    "kit_writer_start": [_HANDLE, _HANDLE, *_TEXT, c_uint64, c_uint64, c_uint64],
-    "kit_writer_measure": [_HANDLE, c_size_t, _HANDLE, c_int64, POINTER(c_uint64)],
-    "kit_writer_hold": [_HANDLE, _HANDLE, POINTER(c_size_t)],
-    "kit_writer_measure_held": [_HANDLE, c_size_t, c_size_t, c_int64, POINTER(c_uint64)],
-    "kit_writer_collect": [_HANDLE, c_uint64, _HANDLE, POINTER(c_uint64)],
-    "kit_writer_shutdown": [_HANDLE, c_uint64, _HANDLE, POINTER(c_uint64)],
-    "kit_writer_restart": [_HANDLE, c_uint64, POINTER(c_uint64)],
-    "kit_gateway_open": [_HANDLE, c_uint32],
+    "kit_attributes_make": [_HANDLE, _HANDLE, _PLACE],
+    "kit_writer_start": [_HANDLE, _HANDLE, *_TEXT, _WORD, _WORD, _WORD],
+    "kit_writer_measure": [_HANDLE, _INDEX, _HANDLE, _VALUE, _PLACE],
+    "kit_writer_hold": [_HANDLE, _INDEX, _HANDLE, POINTER(c_size_t)],
+    "kit_writer_measure_held": [_HANDLE, _INDEX, _VALUE, _PLACE],
+    "kit_writer_take_in": [_HANDLE, _HANDLE, _INDEX, POINTER(_Told)],
+    "kit_writer_collect": [_HANDLE, _WORD, _HANDLE, _PLACE],
+    "kit_writer_shutdown": [_HANDLE, _WORD, _HANDLE, _PLACE],
+    "kit_writer_restart": [_HANDLE, _WORD, _PLACE],
+    "kit_gateway_open": [_HANDLE, _ID],
     "kit_gateway_take": [_HANDLE, _HANDLE, POINTER(c_uint64)],
     "kit_gateway_merge": [_HANDLE, _HANDLE, POINTER(c_uint64)],
     "kit_ask_sum": [_HANDLE, *_TEXT, *_TEXT, *_TEXT, c_bool],
     "kit_gateway_rows": [_HANDLE, _HANDLE, _HANDLE],
     "kit_rows_table": [_HANDLE, _HANDLE],
     "kit_text_copy": [_HANDLE, c_char_p, c_size_t, POINTER(c_size_t)],
-    "kit_gateway_newest": [_HANDLE, *_TEXT, c_uint64, c_uint64, c_uint64, POINTER(c_uint64)],
+    "kit_gateway_newest": [_HANDLE, *_TEXT, _WORD, _WORD, _WORD, POINTER(c_uint64)],
     "kit_writer_share": [_HANDLE],
     "kit_seat_split": [_HANDLE, _HANDLE],
-    "kit_seat_measure": [_HANDLE, c_size_t, _HANDLE, c_int64, POINTER(c_uint64)],
-    "kit_seat_collect": [_HANDLE, c_uint64, _HANDLE, POINTER(c_uint64)],
-    "kit_recorder_open": [_HANDLE, _HANDLE],
-    "kit_recorder_measure": [_HANDLE, c_size_t, _HANDLE, c_int64],
-    "kit_recorder_measure_held": [_HANDLE, c_size_t, c_size_t, c_int64],
-    "kit_recorder_is_empty": [_HANDLE, POINTER(c_bool)],
-    "kit_writer_absorb": [_HANDLE, _HANDLE, POINTER(c_uint64)],
+    "kit_seat_measure": [_HANDLE, _INDEX, _HANDLE, _VALUE, _PLACE],
+    "kit_seat_hold": [_HANDLE, _INDEX, _HANDLE, POINTER(c_size_t)],
+    "kit_seat_measure_held": [_HANDLE, _INDEX, _VALUE, _PLACE],
+    "kit_seat_take_in": [_HANDLE, _HANDLE, _INDEX, POINTER(_Told)],
+    "kit_seat_collect": [_HANDLE, _WORD, _HANDLE, _PLACE],
+    "kit_recorder_new": [_HANDLE, _INDEX],
+    "kit_recorder_measure": [_HANDLE, _INDEX, _HANDLE, _VALUE],
+    "kit_recorder_measure_held": [_HANDLE, _INDEX, _VALUE],
+    "kit_recorder_len": [_HANDLE, POINTER(c_size_t)],
+    "kit_recorder_clear": [_HANDLE],
     "kit_node_open": [_HANDLE, _HANDLE],
     "kit_node_gateway": [_HANDLE, _HANDLE],
     "kit_node_take": [_HANDLE, _HANDLE, POINTER(c_uint64)],
     "kit_node_merge": [_HANDLE, _HANDLE, POINTER(c_uint64)],
-    "kit_node_send": [_HANDLE, c_uint32, _HANDLE],
+    "kit_node_send": [_HANDLE, _ID, _HANDLE],
     "kit_node_hand": [_HANDLE, _HANDLE, _HANDLE, POINTER(c_bool)],
     "kit_message_read": [_HANDLE, POINTER(c_uint32), POINTER(c_uint32), POINTER(c_size_t)],
     "kit_export_encode": [_HANDLE, _HANDLE],
-    "kit_export_decode": [_HANDLE, *_TEXT, POINTER(c_uint64)],
+    "kit_export_decode": [_HANDLE, *_TEXT, _PLACE],
     "kit_message_encode": [_HANDLE, _HANDLE],
-    "kit_message_decode": [_HANDLE, *_TEXT, POINTER(c_uint64)],
+    "kit_message_decode": [_HANDLE, *_TEXT, _PLACE],
     "kit_bytes_copy": [_HANDLE, c_char_p, c_size_t, POINTER(c_size_t)],
 }
-_library = ctypes.CDLL(os.environ["KOTSKHIN_SO"])
-for _name, _types in _TYPES.items():
-    getattr(_library, _name).argtypes = _types
-    getattr(_library, _name).restype = None if _name == "kit_free" else c_int32
+
+
+# Where calls tell places: the lock below is held while they are written and read.
+_TOLD = c_uint64(), c_uint64()
+
+
+def _declared(function, types):
+    """Declares a function: it, the ranges of the numbers that it takes of the caller's, and where it tells places."""
+    function.argtypes = [it.of if isinstance(it, _Number) else POINTER(c_uint64) if it is _PLACE else it for it in types]
+    function.restype = c_int32
+    numbers = [(at, *it.range) for at, it in enumerate(types) if isinstance(it, _Number)]
+    return function, numbers, [byref(it) for it in _TOLD[: types.count(_PLACE)]]
+
+
+def _opened():
+    """The library, and its functions."""
+    path = os.environ.get("KOTSKHIN_SO") or "libkotskhin.so.0"
+    try:
+        library = ctypes.CDLL(path)
+        calls = {name: _declared(getattr(library, name), types) for name, types in _TYPES.items()}
+        library.kit_free.argtypes, library.kit_free.restype = [_HANDLE], None
+    except (OSError, AttributeError) as fault:
+        raise ImportError(f"set KOTSKHIN_SO to the path of libkotskhin.so.0, which embed/build makes in FOLDER/shared: {fault}") from None
+    return library, calls
+
 
 # ctypes lets go of Python's own lock during a call, and a handle may be in one call at a time: one lock for all calls. A collector
 # may free a handle while its thread has the lock, so it may be taken again.
 _lock = threading.RLock()
+_library, _CALLS = _opened()
+_forks = 0
 
 
-class Refused(Exception):
-    """A call is refused: a code of kotskhin.h, and the place that it tells."""
+def _forked():
+    """In a child: another thread of the parent may have had the lock, or have been in a call, so what the parent made is left alone."""
+    global _forks, _lock
+    _forks += 1
+    _lock = threading.RLock()
 
-    def __init__(self, code, place):
-        super().__init__(code, place)
-        self.code, self.place = code, place
+
+os.register_at_fork(after_in_child=_forked)
 
 
-def _call(name, *given, place=None):
-    place = place or c_uint64()
+def _refusal(code, *places):
+    """The refusal of a code, with those of the places that it tells."""
+    code = Code(code)
+    return Refused(code, *places[: code.words.count("{}")])
+
+
+def _call(name, *given, index=operator.index):
+    """Calls a function with what is given, where each number fits."""
+    function, numbers, places = _CALLS[name]
+    given = [*given, *places]
+    for at, least, most in numbers:
+        number = given[at] = index(given[at])
+        if not least <= number <= most:
+            raise OverflowError(f"{number} is not within {least} to {most}")
     with _lock:
-        code = getattr(_library, name)(*given)
+        code = function(*given)
+        told = [it.value for it in _TOLD[: len(places)]] if code else None
     if code:
-        raise Refused(code, place.value)
+        raise _refusal(code, *told)
 
 
 def _text(text):
+    if not isinstance(text, str):
+        raise TypeError(f"{text!r} is no text")
     text = text.encode()
     return text, len(text)
 
 
+def _bytes(of):
+    of = bytes(memoryview(of))
+    return of, len(of)
+
+
+def unique_instance():
+    """An instance of 128 bits, drawn anew at each call: no two processes share it, nor do a process and the one that it forks."""
+    return secrets.randbits(128)
+
+
+def _halves(instance):
+    """The high and the low 64 bits of an instance, which has 128."""
+    instance = operator.index(instance)
+    if instance >> 128:
+        raise OverflowError(f"{instance} is not within 0 to {(1 << 128) - 1}")
+    return divmod(instance, 1 << 64)
+
+
 class _Handle:
     def __init__(self):
-        self._raw = _Raw(False, None)
+        self._raw, self._forks = _Raw(False, None), _forks
 
     @property
     def _at(self):
+        if self._forks != _forks:
+            told = f"this {type(self).__name__} was made before a fork"
+            raise ForkedError(f"{told}: make one in each process, a writer under an instance of its own")
         return byref(self._raw)
 
     def __del__(self):
-        with _lock:
-            _library.kit_free(self._at)
+        if self._forks == _forks:
+            with _lock:
+                _library.kit_free(byref(self._raw))
 
 
 class Attributes(_Handle):
+    """A set of attributes, whose values are texts, whole numbers of 64 bits and truths. Of a key that is given twice the later one stays."""
+
     def __init__(self, pairs=()):
         super().__init__()
-        made, place = _Handle(), c_uint64()
+        made = _Handle()
         for key, value in dict(pairs).items():
             if isinstance(value, bool):
                 _call("kit_pairs_add_truth", made._at, *_text(key), value)
             elif isinstance(value, int):
                 _call("kit_pairs_add_whole", made._at, *_text(key), value)
-            else:
+            elif isinstance(value, str):
                 _call("kit_pairs_add_text", made._at, *_text(key), *_text(value))
-        _call("kit_attributes_make", self._at, made._at, byref(place), place=place)
+            else:
+                raise TypeError(f"the value of {key!r} is a {type(value).__name__}, not a text, a whole number or a truth: {value!r}")
+        _call("kit_attributes_make", self._at, made._at)
 
 
 class Plan(_Handle):
@@ -120,10 +280,10 @@ class Plan(_Handle):
 
     def __init__(self, instruments, limit=2000):
         super().__init__()
-        made, views, place, second = _Handle(), _Handle(), c_uint64(), c_uint64()
+        made, views = _Handle(), _Handle()
         for scope, name, unit, kind in instruments:
             _call("kit_instruments_add", made._at, *_text(scope), *_text(name), *_text(unit), kind)
-        _call("kit_plan_build", self._at, made._at, views._at, limit, byref(place), byref(second), place=place)
+        _call("kit_plan_build", self._at, made._at, views._at, limit)
 
 
 def _copied(name, at):
@@ -145,13 +305,66 @@ class Export(_Handle):
 
     @classmethod
     def decode(cls, of):
-        made, place = cls(), c_uint64()
-        _call("kit_export_decode", made._at, of, len(of), byref(place), place=place)
+        """The export of bytes that encode made."""
+        made = cls()
+        _call("kit_export_decode", made._at, *_bytes(of))
         return made
 
 
+class Taken(typing.NamedTuple):
+    """What became of recordings that a writer took in from the front of a recorder: how many were recorded, how many were refused, each by
+    itself, and of these the first, where there is one: its place among those that were taken in, from 0, and why, as a Refused."""
+
+    recorded: int
+    refused: int
+    first: int | None
+    why: Refused | None
+
+
+def _held(name, at, instrument, attributes):
+    """The number of an instrument and a set."""
+    number = c_size_t()
+    _call(name, at, instrument, attributes._at, byref(number))
+    return number.value
+
+
+def _taken_in(name, at, recorder, most):
+    """What became of at most so many recordings of a recorder, or of all."""
+    told = _Told()
+    _call(name, at, recorder._at, _INDEX.range[1] if most is None else most, byref(told))
+    if not told.code:
+        return Taken(told.recorded, told.refused, None, None)
+    return Taken(told.recorded, told.refused, told.first, _refusal(told.code, told.place))
+
+
+class Recorder(_Handle):
+    """A thread's own log of recordings, up to a capacity: what it notes is looked at once a writer or a seat takes it in.
+
+    RECORDER_FULL says that it is to be taken in first. One that is given up loses what it has."""
+
+    def __init__(self, capacity):
+        super().__init__()
+        _call("kit_recorder_new", self._at, capacity)
+
+    def measure(self, instrument, attributes, value):
+        _call("kit_recorder_measure", self._at, instrument, attributes._at, value)
+
+    def measure_held(self, number, value):
+        """Notes a value at what the writer that will take it in holds under a number."""
+        _call("kit_recorder_measure_held", self._at, number, value)
+
+    def __len__(self):
+        count = c_size_t()
+        _call("kit_recorder_len", self._at, byref(count))
+        return count.value
+
+    def clear(self):
+        """Forgets what it has."""
+        _call("kit_recorder_clear", self._at)
+
+
 class Seat(_Handle):
-    """A place at a writer that threads share. While another thread's call has the writer a call is refused with the code 16."""
+    """A place at a writer that threads share. While another thread's call has the writer a call is refused as BUSY."""
 
     def split(self):
         made = Seat()
@@ -159,77 +372,67 @@ class Seat(_Handle):
         return made
 
     def measure(self, instrument, attributes, value):
-        place = c_uint64()
-        _call("kit_seat_measure", self._at, instrument, attributes._at, value, byref(place), place=place)
+        _call("kit_seat_measure", self._at, instrument, attributes._at, value)
+
+    def hold(self, instrument, attributes):
+        """The number of an instrument and a set, which any seat of the writer may use."""
+        return _held("kit_seat_hold", self._at, instrument, attributes)
+
+    def measure_held(self, number, value):
+        """Records at what the writer holds under a number."""
+        _call("kit_seat_measure_held", self._at, number, value)
+
+    def take_in(self, recorder, most=None):
+        """As of a writer: by pieces others get in between."""
+        return _taken_in("kit_seat_take_in", self._at, recorder, most)
 
     def collect(self, time):
-        made, place = Export(), c_uint64()
-        _call("kit_seat_collect", self._at, time, made._at, byref(place), place=place)
+        made = Export()
+        _call("kit_seat_collect", self._at, time, made._at)
         return made
 
 
-class Recorder(_Handle):
-    """A thread's own recorder of a writer's plan, which the writer absorbs. The code 70 says that it is to be absorbed first."""
-
-    def measure(self, instrument, attributes, value):
-        _call("kit_recorder_measure", self._at, instrument, attributes._at, value)
-
-    def measure_held(self, instrument, number, value):
-        """Records at a set that the writer held when the recorder was opened."""
-        _call("kit_recorder_measure_held", self._at, instrument, number, value)
-
-    def is_empty(self):
-        empty = c_bool()
-        _call("kit_recorder_is_empty", self._at, byref(empty))
-        return empty.value
-
-
 class Writer(_Handle):
-    def __init__(self, plan, service, instance, start):
+    """The points of a plan's instruments since a start. Of two writers that share service, instance and start a gateway keeps one alone.
+
+    So without an instance the writer has one that is drawn anew, and without a start that of the clock: `instance` and `start` tell."""
+
+    def __init__(self, plan, service, instance=None, start=None):
         super().__init__()
-        _call("kit_writer_start", self._at, plan._at, *_text(service), instance >> 64, instance & (1 << 64) - 1, start)
+        self.instance = unique_instance() if instance is None else instance
+        self.start = time.time_ns() if start is None else start
+        _call("kit_writer_start", self._at, plan._at, *_text(service), *_halves(self.instance), self.start)
 
     def measure(self, instrument, attributes, value):
-        place = c_uint64()
-        _call("kit_writer_measure", self._at, instrument, attributes._at, value, byref(place), place=place)
+        _call("kit_writer_measure", self._at, instrument, attributes._at, value)
 
-    def hold(self, attributes):
-        """The number of a set that the writer holds from then on."""
-        number = c_size_t()
-        _call("kit_writer_hold", self._at, attributes._at, byref(number))
-        return number.value
+    def hold(self, instrument, attributes):
+        """The number of an instrument and a set, which the writer holds from then on: the same at each call."""
+        return _held("kit_writer_hold", self._at, instrument, attributes)
 
-    def measure_held(self, instrument, number, value):
-        """Records at a set that the writer holds: the shortest way."""
-        place = c_uint64()
-        _call("kit_writer_measure_held", self._at, instrument, number, value, byref(place), place=place)
+    def measure_held(self, number, value):
+        """Records at what the writer holds under a number: the shortest way."""
+        _call("kit_writer_measure_held", self._at, number, value)
+
+    def take_in(self, recorder, most=None):
+        """Takes in recordings from the front of a recorder, at most so many, as if each was made now; what memory is wanting for stays."""
+        return _taken_in("kit_writer_take_in", self._at, recorder, most)
 
     def collect(self, time):
-        made, place = Export(), c_uint64()
-        _call("kit_writer_collect", self._at, time, made._at, byref(place), place=place)
+        made = Export()
+        _call("kit_writer_collect", self._at, time, made._at)
         return made
 
     def shutdown(self, time):
         """Collects for the last time, and closes the writer."""
-        made, place = Export(), c_uint64()
-        _call("kit_writer_shutdown", self._at, time, made._at, byref(place), place=place)
+        made = Export()
+        _call("kit_writer_shutdown", self._at, time, made._at)
         return made
 
     def restart(self, start):
         """Begins anew under a later start: the writer is open and has recorded nothing."""
-        place = c_uint64()
-        _call("kit_writer_restart", self._at, start, byref(place), place=place)
-
-    def recorder(self):
-        """A recorder for one thread, with the sets that the writer holds."""
-        made = Recorder()
-        _call("kit_recorder_open", made._at, self._at)
-        return made
-
-    def absorb(self, recorder):
-        """Takes in what a recorder holds, as if each of its recordings had been made here."""
-        place = c_uint64()
-        _call("kit_writer_absorb", self._at, recorder._at, byref(place), place=place)
+        _call("kit_writer_restart", self._at, start)
+        self.start = start
 
     def share(self):
         """The first seat at the writer, which is none of its own from then on."""
@@ -257,9 +460,9 @@ class Gateway(_Handle):
 
     def newest(self, service, instance, start):
         """The greatest time that is held of one incarnation of a service's instance."""
-        time = c_uint64()
-        _call("kit_gateway_newest", self._at, *_text(service), instance >> 64, instance & (1 << 64) - 1, start, byref(time))
-        return time.value
+        newest = c_uint64()
+        _call("kit_gateway_newest", self._at, *_text(service), *_halves(instance), start, byref(newest))
+        return newest.value
 
     def sum(self, scope, name, unit, monotonic=True):
         """The table of a sum, a line for each attribute set."""
@@ -288,8 +491,8 @@ class Message(_Handle):
     @staticmethod
     def decode(encoded):
         """The message of bytes that encode made."""
-        made, place = Message(), c_uint64()
-        _call("kit_message_decode", made._at, encoded, len(encoded), byref(place), place=place)
+        made = Message()
+        _call("kit_message_decode", made._at, *_bytes(encoded))
         return made
 
 

@@ -6,9 +6,8 @@ import time
 
 from resp import Redis
 from shared import ALL, COUNTED, DONE, EXPORTS, GROUP, INBOX, NAME, PEERS, SCOPE, SECONDS, SERVICE, UNIT, Line, entries
-from kotskhin import Export, Gateway, Message, Node, Refused
+from kotskhin import Code, Export, Gateway, Message, Node, Refused
 
-NO_POINT = 9
 # An export that another gateway read so long ago and did not acknowledge: it is gone, or slow. Then the export comes twice.
 IDLE_MILLISECONDS = 300
 
@@ -24,7 +23,7 @@ def has_all(redis, gateway):
             if gateway.newest(SERVICE, instance, start) < int(last.split()[0]):
                 return False
         except Refused as refused:
-            if refused.code != NO_POINT:
+            if refused.code != Code.NO_POINT:
                 raise
             return False
     return True

@@ -17,19 +17,19 @@ def main():
     line = Line(redis, seed=instance)
     start = time = nanoseconds()
     writer = Writer(Plan([(SCOPE, NAME, UNIT, COUNTER)]), SERVICE, instance, start)
-    sets = [writer.hold(Attributes({"route": it})) for it in ("/", "/cart", "/pay")]
+    numbers = [writer.hold(0, Attributes({"route": it})) for it in ("/", "/cart", "/pay")]
     counted = 0
     for half in (1, 2):
         for _ in range(COLLECTIONS):
             for i in range(EACH):
-                writer.measure_held(0, sets[i % len(sets)], i % (instance + 2))
+                writer.measure_held(numbers[i % len(numbers)], i % (instance + 2))
                 counted += i % (instance + 2)
             time = nanoseconds(after=time)
             line.send(EXPORTS, writer.collect(time).encode())
         line.flush()
         redis("HSET", COUNTED, f"{instance} {start}", f"{time} {counted}")
         if half == 1 and dies:
-            writer.measure_held(0, sets[0], 1000)
+            writer.measure_held(numbers[0], 1000)
             os._exit(DIED)
         if half == 1 and redis("BLPOP", SECOND(instance), SECONDS) is None:
             sys.exit("the second half never came")

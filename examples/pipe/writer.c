@@ -45,7 +45,7 @@ int main(void) {
     static const char *const routes[] = {"/", "/cart", "/pay"};
     kit_handle instruments = KIT_EMPTY, views = KIT_EMPTY, plan = KIT_EMPTY, writer = KIT_EMPTY, kept = KIT_EMPTY;
     uint64_t place = 0, second = 0, counted = 0;
-    size_t sets[3] = {0};
+    size_t numbers[3] = {0};
 
     MUST(kit_instruments_add(&instruments, TEXT("app"), TEXT("requests"), TEXT("1"), KIT_COUNTER));
     MUST(kit_plan_build(&plan, &instruments, &views, KIT_DEFAULT_LIMIT, &place, &second));
@@ -56,12 +56,12 @@ int main(void) {
         while (routes[i][len]) len++;
         MUST(kit_pairs_add_text(&pairs, TEXT("route"), (const uint8_t *)routes[i], len));
         MUST(kit_attributes_make(&set, &pairs, &place));
-        MUST(kit_writer_hold(&writer, &set, &sets[i]));
+        MUST(kit_writer_hold(&writer, 0, &set, &numbers[i]));
         kit_free(&pairs), kit_free(&set);
     }
     for (uint64_t round = 1; round <= 5; round++) {
         for (uint64_t i = 0; i < 1000; i++) {
-            MUST(kit_writer_measure_held(&writer, 0, sets[(round + i) % 3], (int64_t)(i % 7), &place));
+            MUST(kit_writer_measure_held(&writer, numbers[(round + i) % 3], (int64_t)(i % 7), &place));
             counted += i % 7;
         }
         kit_handle collected = KIT_EMPTY;

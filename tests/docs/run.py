@@ -9,14 +9,14 @@ or any. A word of a group in capitals is one of the specs of the crate.
 In every page each relative link leads to a file and to a heading, each crate that is named is one, and no line cites a paper by number.
 In PAGES each file of the repository that is named in code letters is there, and each other name in code letters stands in the code. The
 files of specs/ that DEFINITIONS names exist. README's table has each crate once, and ARCHITECTURE's has what crates.txt says. The crates
-that README copies are COPIED and those that it stands on. In READ_PAGES no sentence has more than MOST_WORDS words, code in letters counted
+that README copies are COPIED and those that it stands on. The files that CONTRIBUTING lists as rooms of a word are those that name it. In READ_PAGES no sentence has more than MOST_WORDS words, code in letters counted
 as one; a heading, a cell of a table and a list's item stand by themselves.
 
 The page of each library, the first comment of its lib.rt, names the file of its caller, whose lines it shows; but for PAGES_ALONE. Each name that it
 links stands in the crate, and each file of specs/ that it names.
 
-Each public type of a library that Rattle calls is imported by a caller in crates/uses. Of those of OF_CONTRACTS no value is made, so a clause of a
-caller names them. GUIDE names each caller.
+Each public type of a library that Rattle calls is imported by a caller in crates/uses, but for those of OF_THE_KIT. Of those of OF_CONTRACTS no value is made, so
+a clause of a caller names them. GUIDE names each caller.
 
     tests/docs/run.py [FOLDER]      FOLDER in place of this repository
 
@@ -27,9 +27,9 @@ import re
 import sys
 
 TOP = pathlib.Path(sys.argv[1] if sys.argv[1:] else pathlib.Path(__file__).resolve().parents[2]).resolve()
-PAGES = ["README.md", *(f"docs/{it}.md" for it in ("ARCHITECTURE", "DECISIONS", "DEFINITIONS", "GOSSIP", "GUIDE", "HISTORIES", "PERFORMANCE", "PROMISES", "SCRIPTS"))]
+PAGES = ["README.md", "CONTRIBUTING.md", *(f"docs/{it}.md" for it in ("ARCHITECTURE", "DECISIONS", "DEFINITIONS", "GOSSIP", "GUIDE", "HISTORIES", "PERFORMANCE", "PROMISES", "SCRIPTS"))]
 # What its users read from its beginning to its end.
-READ_PAGES = ["README.md", "docs/GUIDE.md", "docs/SCRIPTS.md"]
+READ_PAGES = ["README.md", "CONTRIBUTING.md", "docs/GUIDE.md", "docs/SCRIPTS.md"]
 MOST_WORDS = 29
 # The crate that README copies to another repository.
 COPIED = "first"
@@ -39,6 +39,8 @@ FOREIGN = {"arrayvec::ArrayString", "Equivalent", "clap", "HANDLES"}
 PAGES_ALONE = {"schedule_kit", "uses"}
 # The public types, by their crates, that contracts speak of and that no code makes.
 OF_CONTRACTS = {"gateway_kit": {"GatewayChange"}, "writer_kit": {"WriterChange"}}
+# Those that are for other crates of the kit alone, or a part of one of OF_CONTRACTS.
+OF_THE_KIT = {"agg_kit": {"Places"}, "writer_kit": {"Recordings"}}
 FN = re.compile(r"( *)(?:pub(?:\(crate\))? )?(?:unsafe )?(?:extern \"C\" )?fn (\w+)")
 OWNER = re.compile(r"(?:pub(?:\(crate\))? )?(?:unsafe )?(?:impl|trait)\b(?:<[^{]*?> )? ?(?:[\w:<>, &']+ for )?&?(?:\w+::)*(\w+)")
 SPAN = r"`[^`\n]+`"
@@ -114,7 +116,7 @@ def functions():
 class Docs:
     def __init__(self):
         self.crates, self.functions, self.faults, self.claims = crates(), functions(), [], 0
-        code = [it for kind in ("rt", "antt", "edit", "rs", "py", "h", "c", "cpp") for it in TOP.glob(f"*/**/*.{kind}")]
+        code = [it for kind in ("rt", "antt", "edit", "rs", "py", "go", "h", "c", "cpp") for it in TOP.glob(f"*/**/*.{kind}")]
         code = [it for it in code if not {"out", "target"} & set(it.relative_to(TOP).parts) and it.parent != TOP / "tests" / "docs"]
         self.words = {word for it in code for word in [it.stem, *re.findall(r"\w+", text_of(it))]}
         self.words.update(re.findall(r"\w+", text_of(TOP / "crates.txt")))
@@ -277,6 +279,16 @@ class Docs:
                     if not (TOP / "crates" / crate / "specs" / f"{name}.antt").is_file():
                         self.fault(file.relative_to(TOP), f"the page names {name}, no file of its specs")
 
+    def check_rooms(self):
+        """The files that CONTRIBUTING lists under `<!-- rooms: WORD -->` are those whose code names the word."""
+        page = "CONTRIBUTING.md"
+        for word, listed in re.findall(r"^<!-- rooms: (\S+) -->\n\n((?:- .*\n)+)", text_of(TOP / page), re.M):
+            files = [it for it in TOP.glob("crates/*/src/**/*.rt") if it.stem != "tests" and it.parent.name != "tests"]
+            there = {str(it.relative_to(TOP)) for it in files if re.search(rf"^(?!\s*//).*\b{word}\b", text_of(it), re.M)}
+            self.claims += len(there)
+            for file in sorted(there ^ set(spans(listed))):
+                self.fault(page, f"{file} {'names' if file in there else 'does not name'} {word}, and is {'not ' if file in there else ''}among its rooms")
+
     def check_callers(self):
         """What a library re-exports in its lib.rt and defines as a type has a caller: one that imports it, or whose clauses name it."""
         texts = [text_of(it) for it in TOP.glob("crates/uses/src/**/*.rt")]
@@ -297,13 +309,13 @@ class Docs:
                 for name in re.findall(r"^pub (?:struct|enum|trait) (\w+)", text_of(file), re.M):
                     self.claims += 1
                     found = cited if name in OF_CONTRACTS.get(crate, ()) else called
-                    if name in exported and (crate, name) not in found:
+                    if name in exported and name not in OF_THE_KIT.get(crate, ()) and (crate, name) not in found:
                         self.fault(file.relative_to(TOP), f"no caller in crates/uses has the public type {name}")
 
     def check(self):
         for page in ("README.md", "docs/PROMISES.md"):
             self.check_rows(page)
-        for file in sorted([TOP / "README.md", *TOP.glob("docs/**/*.md"), *TOP.glob("wip/*.md")]):
+        for file in sorted([TOP / "README.md", TOP / "CONTRIBUTING.md", *TOP.glob("docs/**/*.md"), *TOP.glob("wip/*.md")]):
             self.check_page(str(file.relative_to(TOP)))
         for page in READ_PAGES:
             self.check_sentences(page)
@@ -311,6 +323,7 @@ class Docs:
         self.check_tables()
         self.check_copied()
         self.check_library_pages()
+        self.check_rooms()
         self.check_callers()
 
 

@@ -46,6 +46,9 @@ static uint64_t any(void) {
     return seed * 0x2545f4914f6cdd1d;
 }
 
+/* (GNU C has it, ISO C has not) */
+__extension__ typedef unsigned __int128 wide;
+
 /* The kit's hash (FoldHasher of Rattle's library) takes up to 8 bytes at a time. */
 static uint64_t fed(uint64_t state, const void *bytes, size_t len) {
     uint8_t it[8] = {0};
@@ -58,7 +61,7 @@ static uint64_t fed(uint64_t state, const void *bytes, size_t len) {
     } else {
         number = len ? it[0] | (uint64_t)it[len / 2] << 8 | (uint64_t)it[len - 1] << 16 : 0;
     }
-    unsigned __int128 product = (unsigned __int128)(state ^ number) * (MULTIPLIER ^ 2 * len);
+    wide product = (wide)(state ^ number) * (MULTIPLIER ^ 2 * len);
     return (uint64_t)product ^ (uint64_t)(product >> 64);
 }
 

@@ -59,6 +59,7 @@ static uint8_t room[256];
 /* The bytes of an export, and of a message. */
 static uint8_t encoded[1024], told[1024];
 static size_t encoded_len, told_len;
+static kit_taken taken;
 
 /* A thing of a kind in an empty handle: of the scope app the counter requests, at no attributes 7, from shop since 100 at 200. */
 static void make(enum kind kind, kit_handle *it) {
@@ -87,7 +88,7 @@ static void make(enum kind kind, kit_handle *it) {
     case WRITER:
         make(PLAN, &one), make(ATTRIBUTES, &two);
         MUST(kit_writer_start(it, &one, TEXT("shop"), 0, 1, 100));
-        MUST(kit_writer_hold(it, &two, &size));
+        MUST(kit_writer_hold(it, 0, &two, &size));
         for (size_t instrument = 0; instrument < 3; instrument++) MUST(kit_writer_measure(it, instrument, &two, 7, &place));
         break;
     case EXPORT:
@@ -115,9 +116,10 @@ static void make(enum kind kind, kit_handle *it) {
         MUST(kit_writer_share(it));
         break;
     case RECORDER:
-        make(WRITER, &one), make(ATTRIBUTES, &two);
-        MUST(kit_recorder_open(it, &one));
-        MUST(kit_recorder_measure(it, 2, &two, 7));
+        make(ATTRIBUTES, &one);
+        MUST(kit_recorder_new(it, 8));
+        MUST(kit_recorder_measure(it, 2, &one, 7));
+        MUST(kit_recorder_measure_held(it, 0, 7));
         break;
     case ASK: MUST(kit_ask_sum(it, TEXT("app"), TEXT("requests"), TEXT("1"), true)); break;
     case TOLD_TEXT:
@@ -170,21 +172,24 @@ CALL(pairs_add_truth, h[0], TEXT("cached"), true)
 CALL(attributes_make, h[0], h[1], &place)
 CALL(writer_start, h[0], h[1], TEXT("a service of more than thirty bytes"), 0, 1, 100)
 CALL(writer_measure, h[0], 0, h[1], 1, &place)
-CALL(writer_hold, h[0], h[1], &size)
-CALL(writer_measure_held, h[0], 0, 0, 1, &place)
+CALL(writer_hold, h[0], 1, h[1], &size)
+CALL(writer_measure_held, h[0], 0, 1, &place)
 CALL(writer_collect, h[0], 300, h[1], &place)
 CALL(writer_shutdown, h[0], 300, h[1], &place)
 CALL(writer_restart, h[0], 300, &place)
 CALL(writer_share, h[0])
 CALL(seat_split, h[0], h[1])
 CALL(seat_measure, h[0], 0, h[1], 1, &place)
-CALL(seat_measure_held, h[0], 0, 0, 1, &place)
+CALL(seat_hold, h[0], 1, h[1], &size)
+CALL(seat_measure_held, h[0], 0, 1, &place)
+CALL(seat_take_in, h[0], h[1], 1, &taken)
 CALL(seat_collect, h[0], 300, h[1], &place)
-CALL(recorder_open, h[0], h[1])
+CALL(recorder_new, h[0], 8)
 CALL(recorder_measure, h[0], 0, h[1], 1)
-CALL(recorder_measure_held, h[0], 0, 0, 1)
-CALL(recorder_is_empty, h[0], &truth)
-CALL(writer_absorb, h[0], h[1], &place)
+CALL(recorder_measure_held, h[0], 0, 1)
+CALL(recorder_len, h[0], &size)
+CALL(recorder_clear, h[0])
+CALL(writer_take_in, h[0], h[1], 1, &taken)
 CALL(export_encode, h[0], h[1])
 CALL(export_decode, h[0], encoded, encoded_len, &place)
 CALL(bytes_copy, h[0], room, sizeof room, &size)
@@ -232,10 +237,11 @@ static const struct row CALLS[] = {
     ROW(writer_measure_held, {THERE, WRITER}), ROW(writer_collect, {THERE, WRITER}, {FILLED, EXPORT}),
     ROW(writer_shutdown, {THERE, WRITER}, {FILLED, EXPORT}), ROW(writer_restart, {THERE, WRITER}), ROW(writer_share, {THERE, WRITER}),
     ROW(seat_split, {THERE, SEAT}, {FILLED, SEAT}), ROW(seat_measure, {THERE, SEAT}, {THERE, ATTRIBUTES}),
-    ROW(seat_measure_held, {THERE, SEAT}), ROW(seat_collect, {THERE, SEAT}, {FILLED, EXPORT}),
-    ROW(recorder_open, {FILLED, RECORDER}, {THERE, WRITER}), ROW(recorder_measure, {THERE, RECORDER}, {THERE, ATTRIBUTES}),
-    ROW(recorder_measure_held, {THERE, RECORDER}), ROW(recorder_is_empty, {THERE, RECORDER}),
-    ROW(writer_absorb, {THERE, WRITER}, {THERE, RECORDER}),
+    ROW(seat_hold, {THERE, SEAT}, {THERE, ATTRIBUTES}), ROW(seat_measure_held, {THERE, SEAT}),
+    ROW(seat_take_in, {THERE, SEAT}, {THERE, RECORDER}), ROW(seat_collect, {THERE, SEAT}, {FILLED, EXPORT}),
+    ROW(recorder_new, {FILLED, RECORDER}), ROW(recorder_measure, {THERE, RECORDER}, {THERE, ATTRIBUTES}),
+    ROW(recorder_measure_held, {THERE, RECORDER}), ROW(recorder_len, {THERE, RECORDER}), ROW(recorder_clear, {THERE, RECORDER}),
+    ROW(writer_take_in, {THERE, WRITER}, {THERE, RECORDER}),
     ROW(export_encode, {THERE, EXPORT}, {FILLED, BYTES}), ROW(export_decode, {FILLED, EXPORT}), ROW(bytes_copy, {THERE, BYTES}),
     ROW(gateway_open, {FILLED, GATEWAY}), ROW(gateway_take, {THERE, GATEWAY}, {THERE, EXPORT}),
     ROW(gateway_merge, {THERE, GATEWAY}, {THERE, GATEWAY}), ROW(gateway_conflicts, {THERE, GATEWAY}), ROW(gateway_newest, {THERE, GATEWAY}),

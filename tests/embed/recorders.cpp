@@ -1,5 +1,5 @@
-// Threads with a recorder each, which a writer absorbs under a lock: its total is exact. Exits with 1 where one is not, or is refused
-// otherwise.
+// Threads with a log each, which a writer takes in under a lock: its total is exact, by numbers and by sets. Exits with 1 where one is not,
+// or is refused otherwise.
 #include <cstdio>
 #include <kotskhin.hpp>
 #include <mutex>
@@ -7,9 +7,9 @@
 
 using namespace kotskhin;
 
-static int32_t code_of(void (*call)(Writer &, Recorder &, Attributes &), Writer &writer, Recorder &recorder, Attributes &none) {
+static int32_t code_of(void (*call)(Recorder &, Attributes &), Recorder &recorder, Attributes &none) {
     try {
-        call(writer, recorder, none);
+        call(recorder, none);
         return KIT_OK;
     } catch (const Refused &why) {
         return why.code;
@@ -17,37 +17,44 @@ static int32_t code_of(void (*call)(Writer &, Recorder &, Attributes &), Writer 
 }
 
 int main() {
-    Plan plan({{"app", "requests", "1", KIT_COUNTER}}), limited({{"app", "requests", "1", KIT_COUNTER}}, 1);
-    Writer writer(plan, "shop", 0, 1, 100), other(limited, "shop", 0, 2, 100);
+    Plan plan({{"app", "requests", "1", KIT_COUNTER}});
+    Writer writer(plan, "shop", 0, 1, 100);
     Attributes none({});
-    size_t number = writer.hold(none);
+    size_t number = writer.hold(0, none);
+    bool once = writer.hold(0, none) == number;
     std::mutex lock;
-    std::vector<Recorder> recorders; /* (opened before the first thread has the writer: it is in one call at a time) */
-    for (int i = 0; i < 4; i++) recorders.push_back(writer.recorder());
     std::vector<std::thread> threads;
     bool emptied = true;
-    for (auto &own : recorders) {
-        threads.emplace_back([&, recorder = std::move(own)]() mutable {
+    for (int i = 0; i < 4; i++) {
+        threads.emplace_back([&] {
+            Recorder recorder(100);
             for (int i = 1; i <= 1000; i++) {
-                recorder.measure_held(0, number, 1);
+                recorder.measure_held(number, 1);
                 if (i % 100) continue;
                 std::lock_guard<std::mutex> held(lock);
-                writer.absorb(recorder);
-                emptied = emptied && recorder.is_empty();
+                Taken taken = writer.take_in(recorder);
+                emptied = emptied && taken.recorded == 100 && taken.code == KIT_OK && recorder.len() == 0;
             }
         });
     }
     for (auto &thread : threads) thread.join();
-    Recorder recorder = writer.recorder();
+    Recorder recorder(2);
+    recorder.measure(0, none, -1);
+    recorder.measure_held(number + 1, 1);
+    int32_t full = code_of([](Recorder &r, Attributes &a) { r.measure(0, a, 1); }, recorder, none);
+    Taken taken = writer.take_in(recorder, 1);
+    bool told = full == KIT_RECORDER_FULL && taken.refused == 1 && taken.code == KIT_NEGATIVE && recorder.len() == 1;
+    Seat seat = std::move(writer).share();
+    taken = seat.take_in(recorder);
+    told = told && taken.refused == 1 && taken.code == KIT_NO_HELD && taken.first == 0 && seat.hold(0, none) == number;
     recorder.measure(0, none, 7);
-    int32_t full = code_of([](Writer &, Recorder &r, Attributes &a) { r.measure(0, a, INT64_MAX); }, other, recorder, none);
-    int32_t apart = code_of([](Writer &w, Recorder &r, Attributes &) { w.absorb(r); }, other, recorder, none);
-    bool told = full == KIT_RECORDER_FULL && apart == KIT_OTHER_PLAN;
-    Export collected = writer.collect(200);
+    recorder.clear();
+    told = told && recorder.len() == 0;
+    Export collected = seat.collect(200);
     Gateway gateway(1);
     gateway.take(collected);
     std::string table = gateway.sum("app", "requests", "1");
-    if (emptied && told && table.size() > 7 && table.substr(table.size() - 7) == "  4000\n") return 0;
-    std::printf("%d, %d, %s", emptied, told, table.c_str());
+    if (once && emptied && told && table.size() > 7 && table.substr(table.size() - 7) == "  4000\n") return 0;
+    std::printf("%d, %d, %d, %s", once, emptied, told, table.c_str());
     return 1;
 }

@@ -32,7 +32,7 @@ static void meddle(void) {
     uint64_t place = 77;
     unsigned after = refused;
     meddles = NULL, refused = 0;
-    meddled[0] = kit_seat_measure_held(seat, 0, 0, 1, &place);
+    meddled[0] = kit_seat_measure_held(seat, 0, 1, &place);
     meddled[1] = kit_seat_collect(seat, 300, &collected, &place);
     meddled[2] = kit_seat_split(seat, &made);
     CHECK(place == 77 && !made.full && !collected.full);
@@ -65,12 +65,12 @@ void *__wrap_realloc(void *at, size_t size) { return refuses() ? NULL : __real_r
 
 static uint64_t place, second, changed;
 
-/* The table of the counter at a gateway is this one. */
+/* The table of the counter at a gateway is this one. It is asked for by a name with a capital, which plans and asks take for the same. */
 static bool tells(kit_handle *gateway, const char *want) {
     kit_handle ask = KIT_EMPTY, rows = KIT_EMPTY, table = KIT_EMPTY;
     uint8_t text[1024];
     size_t len = 0;
-    bool fits = !kit_ask_sum(&ask, TEXT("app"), TEXT("requests"), TEXT("1"), true) && !kit_gateway_rows(gateway, &ask, &rows) &&
+    bool fits = !kit_ask_sum(&ask, TEXT("app"), TEXT("Requests"), TEXT("1"), true) && !kit_gateway_rows(gateway, &ask, &rows) &&
                 !kit_rows_table(&rows, &table) && !kit_text_copy(&table, text, sizeof text, &len) && len == strlen(want) &&
                 !memcmp(text, want, len);
     kit_free(&ask), kit_free(&rows), kit_free(&table);
@@ -205,29 +205,36 @@ static void writers(kit_handle *plan, kit_handle *none, kit_handle *four) {
     CHECK(!kit_writer_start(&writer, plan, TEXT("shop"), 0, 1, 100));
 
     EACH_GROWTH(kit_writer_measure(&writer, 0, none, 3, &place), writer.full && none->full);
-    EACH_GROWTH(kit_writer_hold(&writer, none, &number), number == 77);
+    EACH_GROWTH(kit_writer_hold(&writer, 0, none, &number), number == 77);
     CHECK(number == 0);
-    refused = 1; /* (where the point can't be kept the value is recorded all the same) */
-    CHECK(!kit_writer_measure_held(&writer, 0, number, 1, &place) && refused == 0);
-    CHECK(!kit_writer_measure_held(&writer, 0, number, 1, &place));
-    refused = 1; /* (a point that is kept takes no memory) */
-    CHECK(!kit_writer_measure_held(&writer, 0, number, 2, &place) && refused == 1);
+    refused = 1; /* (a pair that is held takes no memory) */
+    CHECK(!kit_writer_hold(&writer, 0, none, &number) && number == 0 && refused == 1);
+    CHECK(!kit_writer_measure_held(&writer, number, 1, &place)); /* (where the place can't be noted the value is recorded all the same) */
     refused = 0;
+    CHECK(!kit_writer_measure_held(&writer, number, 1, &place));
+    refused = 1; /* (at a place that is known no memory is taken) */
+    CHECK(!kit_writer_measure_held(&writer, number, 2, &place) && refused == 1);
+    refused = 0;
+    CHECK(!kit_writer_hold(&writer, 1, none, &number) && number == 1 && !kit_writer_hold(&writer, 0, four, &number) && number == 2);
+    CHECK(!kit_writer_hold(&writer, 0, none, &number) && number == 0);
+    CHECK(kit_writer_hold(&writer, 2, none, &number) == KIT_NO_INSTRUMENT && number == 0);
+    CHECK(kit_writer_hold(&nothing, 0, none, &number) == KIT_NOTHING && kit_writer_hold(&writer, 0, &nothing, &number) == KIT_NOTHING);
+    CHECK(kit_writer_hold(&writer, 0, plan, &number) == KIT_WRONG_KIND && number == 0);
 
     CHECK(kit_writer_measure(&writer, 2, none, 1, &place) == KIT_NO_INSTRUMENT);
     CHECK(kit_writer_measure(&writer, 0, none, -1, &place) == KIT_NEGATIVE);
     place = 77;
     CHECK(kit_writer_measure(&writer, 0, none, INT64_MAX, &place) == KIT_OVERFLOW && place == 0);
-    CHECK(kit_writer_measure_held(&writer, 0, 1, 1, &place) == KIT_NO_SET);
-    CHECK(kit_writer_measure_held(&writer, 0, number, -1, &place) == KIT_NEGATIVE);
+    CHECK(kit_writer_measure_held(&writer, 3, 1, &place) == KIT_NO_HELD);
+    CHECK(kit_writer_measure_held(&writer, number, -1, &place) == KIT_NEGATIVE);
     CHECK(kit_writer_measure(&nothing, 0, none, 1, &place) == KIT_NOTHING && !nothing.full);
     CHECK(kit_writer_measure(&writer, 0, &nothing, 1, &place) == KIT_NOTHING && !nothing.full && writer.full);
     CHECK(kit_writer_measure(none, 0, none, 1, &place) != KIT_OK && none->full); /* one handle given twice */
     CHECK(kit_writer_measure(&writer, 0, &writer, 1, &place) != KIT_OK && writer.full);
     CHECK(kit_writer_measure(four, 0, none, 1, &place) == KIT_WRONG_KIND && four->full && none->full);
     CHECK(kit_writer_measure(&writer, 0, plan, 1, &place) == KIT_WRONG_KIND && plan->full);
-    CHECK(kit_writer_hold(plan, none, &number) == KIT_WRONG_KIND && number == 0);
-    CHECK(kit_writer_measure_held(plan, 0, 0, 1, &place) == KIT_WRONG_KIND && plan->full);
+    CHECK(kit_writer_hold(plan, 0, none, &number) == KIT_WRONG_KIND && number == 0);
+    CHECK(kit_writer_measure_held(plan, 0, 1, &place) == KIT_WRONG_KIND && plan->full);
     CHECK(has_seven(&writer, 150));
 
     CHECK(kit_writer_collect(&writer, 150, &collected, &place) == KIT_TIME_NOT_AFTER && place == 150 && !collected.full);
@@ -239,12 +246,14 @@ static void writers(kit_handle *plan, kit_handle *none, kit_handle *four) {
     EACH_GROWTH(kit_writer_shutdown(&writer, 300, &collected, &place), !collected.full && writer.full);
     kit_free(&collected);
     CHECK(kit_writer_measure(&writer, 0, none, 1, &place) == KIT_CLOSED);
-    CHECK(kit_writer_measure_held(&writer, 0, 0, 1, &place) == KIT_CLOSED);
+    CHECK(kit_writer_measure_held(&writer, 0, 1, &place) == KIT_CLOSED && kit_writer_measure_held(&writer, 9, 1, &place) == KIT_CLOSED);
+    CHECK(kit_writer_hold(&writer, 1, four, &number) == KIT_CLOSED && number == 0);
+    CHECK(!kit_writer_hold(&writer, 0, four, &number) && number == 2); /* (it is held already) */
     CHECK(kit_writer_collect(&writer, 400, &collected, &place) == KIT_CLOSED && !collected.full);
     CHECK(kit_writer_restart(&writer, 100, &place) == KIT_START_NOT_AFTER && place == 100);
     CHECK(kit_writer_restart(none, 100, &place) == KIT_WRONG_KIND && none->full);
     EACH_GROWTH(kit_writer_restart(&writer, 400, &place), kit_writer_measure(&writer, 0, none, 1, &place) == KIT_CLOSED);
-    CHECK(!kit_writer_measure_held(&writer, 0, 0, 7, &place) && has_seven(&writer, 500));
+    CHECK(!kit_writer_measure_held(&writer, 0, 7, &place) && has_seven(&writer, 500));
     kit_free(&writer), kit_free(&writer);
     CHECK(kit_writer_measure(&writer, 0, none, 1, &place) == KIT_NOTHING); /* an emptied one */
 }
@@ -474,25 +483,42 @@ static void writers_apart(kit_handle *plan, kit_handle *none) {
     kit_free(&collected), kit_free(&gateway);
 }
 
+/* Seats hold pairs: what was held when the writer was shared has its number at each, at no memory; another has one that each may use. */
+static void seats_hold(kit_handle *seat, kit_handle *more, kit_handle *none, kit_handle *four) {
+    kit_handle nothing = KIT_EMPTY;
+    size_t number = 77;
+    refused = 1;
+    CHECK(!kit_seat_hold(seat, 0, none, &number) && number == 0 && !kit_seat_hold(more, 0, none, &number) && number == 0 && refused == 1);
+    refused = 0;
+    number = 77;
+    EACH_GROWTH(kit_seat_hold(seat, 0, four, &number), number == 77 && kit_seat_measure_held(more, 1, 1, &place) == KIT_NO_HELD);
+    CHECK(number == 1 && !kit_seat_hold(seat, 0, four, &number) && number == 1);
+    CHECK(kit_seat_measure_held(more, 1, -1, &place) == KIT_NEGATIVE && !kit_seat_hold(more, 0, four, &number) && number == 2);
+    CHECK(kit_seat_hold(seat, 2, four, &number) == KIT_NO_INSTRUMENT && number == 2);
+    CHECK(kit_seat_hold(&nothing, 0, none, &number) == KIT_NOTHING && kit_seat_hold(seat, 0, &nothing, &number) == KIT_NOTHING);
+    CHECK(kit_seat_hold(none, 0, four, &number) == KIT_WRONG_KIND && kit_seat_hold(seat, 0, more, &number) == KIT_WRONG_KIND && more->full);
+}
+
 /* Seats at one writer, in one thread: what each refuses, and that all of them record into it. */
-static void seats(kit_handle *plan, kit_handle *none) {
+static void seats(kit_handle *plan, kit_handle *none, kit_handle *four) {
     kit_handle seat = KIT_EMPTY, more = KIT_EMPTY, nothing = KIT_EMPTY, collected = KIT_EMPTY, gateway = KIT_EMPTY;
     size_t number = 77;
-    CHECK(!kit_writer_start(&seat, plan, TEXT("shop"), 0, 1, 100) && !kit_writer_hold(&seat, none, &number));
-    CHECK(!kit_writer_measure_held(&seat, 0, number, 1, &place));
+    CHECK(!kit_writer_start(&seat, plan, TEXT("shop"), 0, 1, 100) && !kit_writer_hold(&seat, 0, none, &number));
+    CHECK(!kit_writer_measure_held(&seat, number, 1, &place));
     CHECK(kit_writer_share(&nothing) == KIT_NOTHING && kit_writer_share(none) == KIT_WRONG_KIND && none->full);
-    EACH_GROWTH(kit_writer_share(&seat), !kit_writer_measure_held(&seat, 0, number, 0, &place));
+    EACH_GROWTH(kit_writer_share(&seat), !kit_writer_measure_held(&seat, number, 0, &place));
     CHECK(kit_writer_share(&seat) == KIT_WRONG_KIND && kit_writer_measure(&seat, 0, none, 1, &place) == KIT_WRONG_KIND);
     CHECK(kit_seat_split(&seat, none) == KIT_FULL && kit_seat_split(&nothing, &more) == KIT_NOTHING && !more.full);
     CHECK(kit_seat_split(plan, &more) == KIT_WRONG_KIND && plan->full && !more.full);
     EACH_GROWTH(kit_seat_split(&seat, &more), !more.full && seat.full);
 
     CHECK(!kit_seat_measure(&seat, 0, none, 2, &place) && !kit_seat_measure(&more, 0, none, 3, &place));
-    CHECK(!kit_seat_measure_held(&more, 0, number, 1, &place));
-    CHECK(kit_seat_measure_held(&more, 0, 1, 1, &place) == KIT_NO_SET && kit_seat_measure(&more, 2, none, 1, &place) == KIT_NO_INSTRUMENT);
+    CHECK(!kit_seat_measure_held(&more, number, 1, &place));
+    CHECK(kit_seat_measure_held(&more, 1, 1, &place) == KIT_NO_HELD && kit_seat_measure(&more, 2, none, 1, &place) == KIT_NO_INSTRUMENT);
+    seats_hold(&seat, &more, none, four);
     CHECK(kit_seat_measure(&nothing, 0, none, 1, &place) == KIT_NOTHING && kit_seat_measure(&seat, 0, &nothing, 1, &place) == KIT_NOTHING);
     CHECK(kit_seat_measure(none, 0, none, 1, &place) != KIT_OK && kit_seat_measure(plan, 0, none, 1, &place) == KIT_WRONG_KIND);
-    CHECK(kit_seat_measure(&seat, 0, none, -1, &place) == KIT_NEGATIVE && kit_seat_measure_held(plan, 0, 0, 1, &place) == KIT_WRONG_KIND);
+    CHECK(kit_seat_measure(&seat, 0, none, -1, &place) == KIT_NEGATIVE && kit_seat_measure_held(plan, 0, 1, &place) == KIT_WRONG_KIND);
     place = 77;
     CHECK(kit_seat_measure(&seat, 0, none, INT64_MAX, &place) == KIT_OVERFLOW && place == 0);
 
@@ -515,7 +541,7 @@ static void seats(kit_handle *plan, kit_handle *none) {
     while (!(code = kit_seat_split(&seat, &more))) {
         kit_free(&more), made++;
     }
-    CHECK(code == KIT_SEATS_FULL && made == 4096 && !more.full && !kit_seat_measure_held(&seat, 0, number, 1, &place));
+    CHECK(code == KIT_SEATS_FULL && made == 4096 && !more.full && !kit_seat_measure_held(&seat, number, 1, &place));
     kit_free(&seat), kit_free(&collected), kit_free(&gateway);
 }
 
@@ -528,91 +554,85 @@ static void plan_under(kit_handle *plan, uint8_t kind, uint64_t limit) {
     kit_free(&instruments);
 }
 
-/* Whether a recorder holds nothing. */
-static bool is_empty(kit_handle *recorder) {
-    bool empty = false;
-    return !kit_recorder_is_empty(recorder, &empty) && empty;
+static size_t len_of(kit_handle *recorder) {
+    size_t count = 77;
+    CHECK(!kit_recorder_len(recorder, &count));
+    return count;
 }
 
-/* A recorder takes what it has room for, and no more before a writer took that in. */
-static void recorders_full(kit_handle *none, kit_handle *four) {
-    kit_handle plan = KIT_EMPTY, writer = KIT_EMPTY, recorder = KIT_EMPTY;
-    plan_under(&plan, KIT_UP_DOWN, 1);
-    CHECK(!kit_writer_start(&writer, &plan, TEXT("shop"), 0, 1, 100) && !kit_recorder_open(&recorder, &writer));
-    CHECK(!kit_recorder_measure(&recorder, 1, none, 1) && kit_recorder_measure(&recorder, 1, four, 1) == KIT_RECORDER_FULL);
-    CHECK(!kit_recorder_measure(&recorder, 0, none, 7) && kit_recorder_measure(&recorder, 0, four, 1) == KIT_RECORDER_FULL);
-    CHECK(kit_recorder_measure(&recorder, 0, none, INT64_MAX) == KIT_RECORDER_FULL);
-    CHECK(!kit_writer_absorb(&writer, &recorder, &place) && is_empty(&recorder) && has_seven(&writer, 150));
-    CHECK(!kit_recorder_measure(&recorder, 0, four, 1) && !kit_writer_absorb(&writer, &recorder, &place));
-    CHECK(!has_seven(&writer, 200)); /* (the set of four is the overflow set's there) */
-    kit_free(&plan), kit_free(&writer), kit_free(&recorder);
+/* Whether what was told of a log says so. */
+static bool says(kit_taken told, size_t recorded, size_t refused_ones, int32_t code, size_t first, uint64_t stream) {
+    return told.recorded == recorded && told.refused == refused_ones && told.code == code && told.first == first && told.place == stream;
 }
 
-/* A recorder holds sums that may fall. One that would leave the range on its way is refused where it is absorbed, and writer and recorder
- * are as they were: from 0 on it stays in range, and comes to 0. */
-static void recorders_fall(kit_handle *none) {
-    kit_handle plan = KIT_EMPTY, writer = KIT_EMPTY, recorder = KIT_EMPTY;
+/* What is refused of a log is refused by itself and told, each cause once; where memory is wanting the rest stays. */
+static void logs_in(kit_handle *none, kit_handle *four) {
+    kit_handle plan = KIT_EMPTY, writer = KIT_EMPTY, log = KIT_EMPTY;
+    kit_taken told = {0};
     plan_under(&plan, KIT_UP_DOWN, 7);
-    CHECK(!kit_writer_start(&writer, &plan, TEXT("shop"), 0, 1, 100) && !kit_recorder_open(&recorder, &writer));
-    CHECK(!kit_writer_measure(&writer, 1, none, 5, &place));
-    CHECK(!kit_recorder_measure(&recorder, 1, none, INT64_MAX) && !kit_recorder_measure(&recorder, 1, none, -INT64_MAX));
-    place = 77;
-    CHECK(kit_writer_absorb(&writer, &recorder, &place) == KIT_OVERFLOW && place == 1 && !is_empty(&recorder));
-    CHECK(!kit_writer_measure(&writer, 1, none, -5, &place) && !kit_writer_absorb(&writer, &recorder, &place) && is_empty(&recorder));
-    CHECK(!kit_writer_measure(&writer, 1, none, INT64_MAX, &place) && kit_writer_measure(&writer, 1, none, 1, &place) == KIT_OVERFLOW);
-    kit_free(&plan), kit_free(&writer), kit_free(&recorder);
+    CHECK(!kit_writer_start(&writer, &plan, TEXT("shop"), 0, 1, 100) && !kit_recorder_new(&log, 8));
+    CHECK(!kit_recorder_measure(&log, 0, none, 3) && !kit_recorder_measure(&log, 0, none, -1) && !kit_recorder_measure(&log, 0, none, 4));
+    CHECK(!kit_writer_take_in(&writer, &log, SIZE_MAX, &told) && says(told, 2, 1, KIT_NEGATIVE, 1, 0) && !len_of(&log));
+    CHECK(!kit_recorder_measure(&log, 2, none, 1) && !kit_writer_take_in(&writer, &log, 1, &told));
+    CHECK(says(told, 0, 1, KIT_NO_INSTRUMENT, 0, 0));
+    CHECK(!kit_recorder_measure_held(&log, 0, 1) && !kit_writer_take_in(&writer, &log, 1, &told) && says(told, 0, 1, KIT_NO_HELD, 0, 0));
+    CHECK(!kit_recorder_measure(&log, 1, none, 0) && !kit_recorder_measure(&log, 1, none, INT64_MAX));
+    CHECK(!kit_recorder_measure(&log, 1, none, 1));
+    CHECK(!kit_writer_take_in(&writer, &log, SIZE_MAX, &told) && says(told, 2, 1, KIT_OVERFLOW, 2, 1) && has_seven(&writer, 150));
+    CHECK(!kit_recorder_measure(&log, 0, none, 0) && !kit_recorder_measure(&log, 1, four, 1) && !kit_recorder_measure(&log, 0, none, 0));
+    for (unsigned growth = 1; len_of(&log); growth++) {
+        size_t before = len_of(&log);
+        refused = growth;
+        CHECK(!kit_writer_take_in(&writer, &log, SIZE_MAX, &told) && says(told, before - len_of(&log), 0, KIT_OK, 0, 0));
+        refused = 0;
+    }
+    CHECK(!kit_writer_take_in(&writer, &log, SIZE_MAX, &told) && says(told, 0, 0, KIT_OK, 0, 0) && has_seven(&writer, 160));
+    kit_free(&plan), kit_free(&writer), kit_free(&log);
 }
 
-/* A recorder of a writer: what each of its calls refuses, and that a writer of its plan, and no other, takes in what it holds. */
+/* Logs: what each of their calls refuses, and that writers and seats take in what they have, or leave it where they are closed. */
 static void recorders(kit_handle *plan, kit_handle *none) {
     kit_handle writer = KIT_EMPTY, recorder = KIT_EMPTY, nothing = KIT_EMPTY, collected = KIT_EMPTY;
-    kit_handle other = KIT_EMPTY, limited = KIT_EMPTY;
+    kit_taken told = {.recorded = 77};
     size_t number = 77;
-    bool empty = true;
-    CHECK(!kit_writer_start(&writer, plan, TEXT("shop"), 0, 1, 100) && !kit_writer_hold(&writer, none, &number));
-    CHECK(kit_recorder_open(&recorder, &nothing) == KIT_NOTHING && kit_recorder_open(&recorder, plan) == KIT_WRONG_KIND && !recorder.full);
-    EACH_GROWTH(kit_recorder_open(&recorder, &writer), !recorder.full && writer.full);
-    CHECK(kit_recorder_open(&recorder, &writer) == KIT_FULL && is_empty(&recorder));
-
-    EACH_GROWTH(kit_recorder_measure(&recorder, 0, none, 1), is_empty(&recorder));
-    CHECK(!kit_recorder_is_empty(&recorder, &empty) && !empty);
-    CHECK(kit_recorder_is_empty(&nothing, &empty) == KIT_NOTHING && kit_recorder_is_empty(&writer, &empty) == KIT_WRONG_KIND && !empty);
-    refused = 1; /* (where the point can't be kept the value is recorded all the same) */
-    CHECK(!kit_recorder_measure_held(&recorder, 0, number, 1) && refused == 0);
-    CHECK(!kit_recorder_measure_held(&recorder, 0, number, 1));
-    refused = 1; /* (a point that is kept takes no memory) */
-    CHECK(!kit_recorder_measure_held(&recorder, 0, number, 2) && refused == 1);
+    CHECK(!kit_writer_start(&writer, plan, TEXT("shop"), 0, 1, 100) && !kit_writer_hold(&writer, 0, none, &number));
+    CHECK(kit_recorder_new(&writer, 1) == KIT_FULL && kit_recorder_new(&recorder, SIZE_MAX) == KIT_NO_MEMORY && !recorder.full);
+    EACH_GROWTH(kit_recorder_new(&recorder, 3), !recorder.full);
+    CHECK(kit_recorder_len(&nothing, &number) == KIT_NOTHING && kit_recorder_len(&writer, &number) == KIT_WRONG_KIND && number == 0);
+    CHECK(kit_recorder_clear(&nothing) == KIT_NOTHING && kit_recorder_clear(&writer) == KIT_WRONG_KIND && writer.full);
+    EACH_GROWTH(kit_recorder_measure(&recorder, 0, none, 1), !len_of(&recorder));
+    refused = 1; /* (a number takes no memory, nor does a set that is there) */
+    CHECK(!kit_recorder_measure_held(&recorder, number, 2) && !kit_recorder_measure(&recorder, 0, none, 4) && refused == 1);
     refused = 0;
-    CHECK(kit_recorder_measure_held(&recorder, 0, 1, 1) == KIT_NO_SET && kit_recorder_measure(&recorder, 2, none, 1) == KIT_NO_INSTRUMENT);
-    CHECK(kit_recorder_measure(&recorder, 0, none, -1) == KIT_NEGATIVE);
-    CHECK(kit_recorder_measure_held(&recorder, 0, number, -1) == KIT_NEGATIVE);
-    CHECK(kit_recorder_measure(&recorder, 0, none, INT64_MAX) == KIT_RECORDER_FULL);
+    CHECK(kit_recorder_measure(&recorder, 0, none, 1) == KIT_RECORDER_FULL && len_of(&recorder) == 3);
+    CHECK(kit_recorder_measure_held(&recorder, number, 1) == KIT_RECORDER_FULL);
     CHECK(kit_recorder_measure(&nothing, 0, none, 1) == KIT_NOTHING && kit_recorder_measure(&recorder, 0, &nothing, 1) == KIT_NOTHING);
     CHECK(kit_recorder_measure(&writer, 0, none, 1) == KIT_WRONG_KIND && kit_recorder_measure(&recorder, 0, plan, 1) == KIT_WRONG_KIND);
-    CHECK(kit_recorder_measure_held(&nothing, 0, 0, 1) == KIT_NOTHING && kit_recorder_measure_held(&writer, 0, 0, 1) == KIT_WRONG_KIND);
+    CHECK(kit_recorder_measure_held(&nothing, 0, 1) == KIT_NOTHING && kit_recorder_measure_held(&writer, 0, 1) == KIT_WRONG_KIND);
     CHECK(kit_writer_measure(&recorder, 0, none, 1, &place) == KIT_WRONG_KIND && recorder.full);
 
-    CHECK(kit_writer_absorb(&nothing, &recorder, &place) == KIT_NOTHING && kit_writer_absorb(&writer, &nothing, &place) == KIT_NOTHING);
-    CHECK(kit_writer_absorb(plan, &recorder, &place) == KIT_WRONG_KIND && kit_writer_absorb(&writer, plan, &place) == KIT_WRONG_KIND);
-    plan_under(&limited, KIT_HISTOGRAM, 7);
-    CHECK(!kit_writer_start(&other, &limited, TEXT("shop"), 0, 2, 100));
-    CHECK(kit_writer_absorb(&other, &recorder, &place) == KIT_OTHER_PLAN && !is_empty(&recorder) && other.full);
-    kit_free(&limited), kit_free(&other);
-    CHECK(!kit_writer_measure_held(&writer, 0, number, 1, &place) && !kit_writer_measure_held(&writer, 0, number, 0, &place));
-    EACH_GROWTH(kit_writer_absorb(&writer, &recorder, &place), !kit_recorder_is_empty(&recorder, &empty) && !empty);
-    CHECK(is_empty(&recorder) && !kit_writer_absorb(&writer, &recorder, &place) && is_empty(&recorder));
-    CHECK(!kit_recorder_measure_held(&recorder, 0, number, 1) && !kit_writer_absorb(&writer, &recorder, &place));
-    CHECK(!kit_writer_measure_held(&writer, 0, number, 0, &place) && has_seven(&writer, 150));
+    CHECK(kit_writer_take_in(&nothing, &recorder, 1, &told) == KIT_NOTHING);
+    CHECK(kit_writer_take_in(&writer, &nothing, 1, &told) == KIT_NOTHING);
+    CHECK(kit_writer_take_in(plan, &recorder, 1, &told) == KIT_WRONG_KIND && kit_writer_take_in(&writer, plan, 1, &told) == KIT_WRONG_KIND);
+    CHECK(told.recorded == 77 && len_of(&recorder) == 3);
+    CHECK(!kit_writer_take_in(&writer, &recorder, 2, &told) && says(told, 2, 0, KIT_OK, 0, 0) && len_of(&recorder) == 1);
+    CHECK(!kit_writer_take_in(&writer, &recorder, 0, &told) && says(told, 0, 0, KIT_OK, 0, 0) && len_of(&recorder) == 1);
+    CHECK(!kit_writer_take_in(&writer, &recorder, 2, &told) && says(told, 1, 0, KIT_OK, 0, 0) && has_seven(&writer, 150));
+    CHECK(!kit_recorder_measure_held(&recorder, number, 7) && !kit_recorder_clear(&recorder) && !len_of(&recorder));
+    CHECK(kit_recorder_measure_held(&recorder, (size_t)1 << 32, 1) == KIT_RECORDER_FULL);
+    CHECK(!kit_recorder_measure_held(&recorder, number, 7));
 
-    CHECK(!kit_recorder_measure_held(&recorder, 0, number, INT64_MAX));
-    place = 77;
-    CHECK(kit_writer_absorb(&writer, &recorder, &place) == KIT_OVERFLOW && place == 0 && !is_empty(&recorder) && has_seven(&writer, 160));
     CHECK(!kit_writer_shutdown(&writer, 200, &collected, &place));
-    CHECK(kit_writer_absorb(&writer, &recorder, &place) == KIT_CLOSED && !is_empty(&recorder));
-    plan_under(&limited, KIT_HISTOGRAM, KIT_DEFAULT_LIMIT); /* (an equal plan, made anew) */
-    CHECK(!kit_writer_start(&other, &limited, TEXT("shop"), 0, 2, 100) && !kit_writer_absorb(&other, &recorder, &place));
-    CHECK(is_empty(&recorder) && kit_writer_measure(&other, 0, none, 1, &place) == KIT_OVERFLOW);
-    kit_handle *all[] = {&writer, &recorder, &nothing, &collected, &other, &limited};
+    CHECK(kit_writer_take_in(&writer, &recorder, 1, &told) == KIT_CLOSED && len_of(&recorder) == 1);
+    CHECK(kit_seat_take_in(&writer, &recorder, 1, &told) == KIT_WRONG_KIND && !kit_writer_share(&writer));
+    CHECK(kit_seat_take_in(&writer, &recorder, 1, &told) == KIT_CLOSED && len_of(&recorder) == 1 && says(told, 1, 0, KIT_OK, 0, 0));
+    CHECK(kit_seat_take_in(&nothing, &recorder, 1, &told) == KIT_NOTHING && kit_seat_take_in(&writer, &nothing, 1, &told) == KIT_NOTHING);
+    CHECK(kit_seat_take_in(&writer, plan, 1, &told) == KIT_WRONG_KIND && plan->full);
+    kit_free(&writer);
+    CHECK(!kit_writer_start(&writer, plan, TEXT("shop"), 0, 2, 100) && !kit_writer_share(&writer));
+    CHECK(!kit_seat_hold(&writer, 0, none, &number) && number == 0);
+    CHECK(!kit_seat_take_in(&writer, &recorder, SIZE_MAX, &told) && says(told, 1, 0, KIT_OK, 0, 0) && !len_of(&recorder));
+    kit_handle *all[] = {&writer, &recorder, &nothing, &collected};
     for (size_t i = 0; i < sizeof all / sizeof *all; i++) {
         kit_free(all[i]);
     }
@@ -710,11 +730,10 @@ int main(void) {
     gauges();
     histograms();
     nodes(&plan, &none);
-    seats(&plan, &none);
+    seats(&plan, &none, &four);
     writers_apart(&plan, &none);
     recorders(&plan, &none);
-    recorders_full(&none, &four);
-    recorders_fall(&none);
+    logs_in(&none, &four);
     encodings(&plan, &none);
     told(&plan, &none);
     kit_free(&plan), kit_free(&none), kit_free(&four);

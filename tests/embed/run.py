@@ -5,11 +5,16 @@
 
 The archive is crates/kit_c/out/libkit_c.a, which `rt lib` builds in crates/kit_c, and the gate before it calls this: nothing is
 proved here. The declarations are held to the exports (embed/build). Then the first script, in C and C++ under each
-compiler that is there, in Rust, Go and Python: each must print examples/first.out. In C every refusal is raised once, each growth of
-each call is refused in turn, threads record, recorders come to what one writer records one by one, and exports go as bytes, which are then
-changed, cut and made up, or of texts and sets that were picked to be slow, each plainly and under AddressSanitizer with its leak check. In Rust and Go the tests run, and callers in
-Rust that misuse the types must not compile. Then exports between processes: examples/pipe, a writer in C and a gateway in
-Rust, and examples/broker, where there is a redis-server. What the machine has not is told and passed over.
+compiler that is there, in Rust, Go and Python: each must print examples/first.out.
+
+In C every refusal is raised once, each growth of each call is refused in turn, threads record, logs that are taken in come to what one
+writer records one by one, and exports go as bytes, which are then changed, cut and made up, or of texts and sets that were picked to be
+slow, each plainly and under AddressSanitizer with its leak check. In Rust, Go and Python the tests run, and callers in C and Rust that
+misuse the library must not compile. Then exports between processes: examples/pipe, a writer in C and a gateway in Rust, and
+examples/broker, where there is a redis-server.
+
+The lines that docs/EMBEDDING.md has one type are run twice over one folder, and its table of what wrappers lack is compared with them
+(lacks.py). What the machine has not is told and passed over.
 
 This ends with a status other than 0 where one fails or differs. It leaves nothing in the tree but what lies in out/."""
 import os
@@ -37,6 +42,7 @@ FEW_LISTS = ("1000",)
 FEW_POINTS = ("1024",)
 WRAPPED = ["-Wl,--wrap=malloc,--wrap=realloc"]
 ERROR = re.compile(r"^// (error\[E\d+\])$", re.M)
+WARNING = re.compile(r"^// error: ([\w-]+)$", re.M)
 
 
 class Run:
@@ -95,10 +101,21 @@ class Run:
                 self.compiled(f"C, {compiler}{how}: refusals", compiler, HERE / "refusals.c", C + flags + WRAPPED)
                 self.compiled(f"C, {compiler}{how}: handles", compiler, HERE / "handles.c", C + flags + WRAPPED)
                 self.compiled(f"C, {compiler}{how}: threads", compiler, HERE / "threads.c", C + flags)
-                self.compiled(f"C, {compiler}{how}: recorders", compiler, HERE / "absorbed.c", C + flags, words=FEW_LISTS if how else ())
+                self.compiled(f"C, {compiler}{how}: recorders", compiler, HERE / "taken_in.c", C + flags, words=FEW_LISTS if how else ())
                 self.compiled(f"C, {compiler}{how}: bytes", compiler, HERE / "mutated.c", C + flags + WRAPPED, words=FEW if how else ())
                 self.compiled(f"C, {compiler}{how}: picked texts and sets", compiler, HERE / "chosen.c", C + flags, words=FEW_POINTS if how else ())
             self.installed(compiler)
+            for caller in sorted((HERE / "misuse").glob("*.c")):
+                self.warned(compiler, caller)
+
+    def warned(self, compiler, caller):
+        """A caller that a compiler must warn of, and the warning that says so."""
+        wanted = WARNING.search(caller.read_text(encoding="utf-8"))[1]
+        command = [compiler, *C, self.linked[0], "-c", str(caller), "-o", f"{self.room}/misuse"]
+        done = subprocess.run(command, capture_output=True, text=True, check=False)
+        told = set(re.findall(r"\[-W(?:error[=,])?(?:-W)?([\w-]+)\]", done.stderr))
+        fault = None if done.returncode and told == {wanted} else f"not {wanted} alone\n{done.stderr}"
+        self.say(f"C, {compiler}: refused: {caller.stem}", fault)
 
     def installed(self, compiler):
         """The same by pkg-config, as a service is built."""
@@ -121,7 +138,7 @@ class Run:
                 self.compiled(f"C++, {compiler}{how}: recorders", compiler, HERE / "recorders.cpp", CPP + flags)
 
     def rust(self):
-        if not shutil.which("cargo") or not self.works("cargo"):
+        if not self.works("cargo"):
             print("Rust: there is no cargo")
             return
         target = self.room / "rust"
@@ -154,17 +171,15 @@ class Run:
         self.run("Go: tests", "go", "test", "-count=1", ".", **go)
 
     def python(self):
-        compiler = next((it for it in ("cc", "gcc", "clang") if shutil.which(it)), None)
-        if not compiler:
-            print("Python: there is no compiler to make a shared library with")
+        shared = self.kit / "shared" / "libkotskhin.so.0"
+        if not shared.is_file():
+            print("Python: there is no shared library, which embed/build makes where there is a compiler")
             return
-        shared = self.room / "libkotskhin.so"
-        whole = ["-Wl,--whole-archive", f"{self.kit}/lib/libkotskhin.a", "-Wl,--no-whole-archive"]
-        if self.run("Python: the shared library", compiler, "-shared", "-o", shared, *whole):
-            given = {**os.environ, "KOTSKHIN_SO": str(shared)}
-            self.run("Python: the first script", sys.executable, "-B", EMBED / "python" / "first.py", prints=WANTED, env=given)
-            self.run("Python: recorders", sys.executable, "-B", HERE / "recorders.py", env=given)
-            self.broker(given)
+        given = {**os.environ, "KOTSKHIN_SO": str(shared)}
+        self.run("Python: the first script", sys.executable, "-B", EMBED / "python" / "first.py", prints=WANTED, env=given)
+        self.run("Python: recorders", sys.executable, "-B", HERE / "recorders.py", env=given)
+        self.run("Python: numbers, refusals and forks", sys.executable, "-B", HERE / "wrapper.py", env=given)
+        self.broker(given)
 
     def broker(self, given):
         """Workers and gateways, each a process, over a broker: it compares what the gateways say with what the workers counted."""
@@ -195,8 +210,28 @@ class Run:
             fault = f"it printed\n{done.stdout.decode(errors='replace')}\nwhere the writer {counted.decode(errors='replace')}"
         self.say("Pipe: what the gateway has is what the writer counted", fault)
 
+    def documented(self):
+        """The lines of docs/EMBEDDING.md, twice over one folder: what the first turn leaves must not stand in the way of the second."""
+        self.run("Docs: what each wrapper lacks", sys.executable, "-B", HERE / "lacks.py")
+        folder = self.room / "documented"
+        shutil.copytree(self.kit, folder, symlinks=True)
+        page = (TOP / "docs" / "EMBEDDING.md").read_text(encoding="utf-8")
+        lines = re.search(r"^```sh\nK=.*?\n(.*?)^```$", page, re.M | re.S)[1].splitlines()
+        wanted = [it for it in lines if all(map(self.works, re.findall(r"\b(cc|c\+\+|pkg-config|cargo|go|python3)(?= )", it)))]
+        for it in set(lines) - set(wanted):
+            print(f"Docs: this machine has not what this wants: {it}")
+        given = {**os.environ, "K": str(folder), "PYTHONDONTWRITEBYTECODE": "1"}
+        given |= {"CARGO_NET_OFFLINE": "true", "GOCACHE": f"{self.room}/go", "GOPROXY": "off"}
+        for turn in ("once", "twice"):
+            many = len([it for it in wanted if "first" in it])
+            self.run(f"Docs: the first scripts, {turn}", "sh", "-ec", "\n".join(wanted), prints=WANTED * many, cwd=TOP, env=given)
+
     def works(self, command):
-        return not subprocess.run([command, "--version"], capture_output=True, stdin=subprocess.DEVNULL, check=False).returncode
+        """Whether a command is there and answers."""
+        asked = "version" if command == "go" else "--version"
+        if not shutil.which(command):
+            return False
+        return not subprocess.run([command, asked], capture_output=True, stdin=subprocess.DEVNULL, check=False).returncode
 
 
 def laid_out(kit):
@@ -216,7 +251,7 @@ def main():
         if len(sys.argv) < 2 and not laid_out(kit):
             return 1
         run = Run(kit, room)
-        for language in (run.c, run.cpp, run.rust, run.pipe, run.go, run.python):
+        for language in (run.c, run.cpp, run.rust, run.pipe, run.go, run.python, run.documented):
             language()
     print(f"{run.passed} passed, {run.failed} failed, in {time.time() - began:.0f} s")
     return 1 if run.failed else 0

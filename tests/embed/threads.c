@@ -1,6 +1,6 @@
-/* One writer under a lock of the host, one writer for each thread, one writer with a seat for each, and one that takes in a recorder of
- * each now and then: each comes to all recordings, and no collection that is made meanwhile has fewer than one before. Exits with the
- * number of the first check that fails, or 0. */
+/* One writer under a lock of the host, one writer for each thread, one writer with a seat for each, which also takes logs in by pieces, and
+ * one that takes in a log of each now and then: each comes to all recordings, and no collection that is made meanwhile has fewer than one
+ * before. Exits with the number of the first check that fails, or 0. */
 #include <kotskhin.h>
 #include <pthread.h>
 #include <sched.h>
@@ -8,39 +8,58 @@
 #include <string.h>
 
 #define TEXT(s) (const uint8_t *)(s), sizeof(s) - 1
-enum { THREADS = 4, TIMES = 25000, OFTEN = 1000 };
+enum { THREADS = 4, TIMES = 25000, OFTEN = 1000, PIECE = 300 };
 
 static pthread_mutex_t lock = PTHREAD_MUTEX_INITIALIZER;
 static pthread_mutex_t gathered_lock = PTHREAD_MUTEX_INITIALIZER;
 static kit_handle plan, shared, gathered, own[THREADS], seats[THREADS], recorders[THREADS];
 
-/* The writer that gathers takes in what a recorder holds. */
-static int32_t gather(kit_handle *recorder) {
-    uint64_t place = 0;
+/* The writer that gathers takes in what a log has. */
+static bool gather(kit_handle *recorder) {
+    kit_taken taken;
     pthread_mutex_lock(&gathered_lock);
-    int32_t code = kit_writer_absorb(&gathered, recorder, &place);
+    int32_t code = kit_writer_take_in(&gathered, recorder, SIZE_MAX, &taken);
     pthread_mutex_unlock(&gathered_lock);
-    return code;
+    return !code && taken.recorded == OFTEN && !taken.refused;
+}
+
+/* The writer that is shared takes in a log by pieces. */
+static bool give(kit_handle *seat, kit_handle *recorder) {
+    kit_taken taken = {0};
+    for (size_t left = OFTEN; left; left -= taken.recorded) {
+        int32_t code;
+        while ((code = kit_seat_take_in(seat, recorder, PIECE, &taken)) == KIT_BUSY) {
+            sched_yield();
+        }
+        if (code || taken.refused || taken.recorded != (left < PIECE ? left : PIECE)) return false;
+    }
+    return true;
 }
 
 static void *work(void *at) {
     kit_handle *mine = at, *seat = &seats[mine - own], *recorder = &recorders[mine - own];
-    kit_handle pairs = KIT_EMPTY, none = KIT_EMPTY; /* attributes are this thread's own */
+    kit_handle pairs = KIT_EMPTY, none = KIT_EMPTY, log = KIT_EMPTY; /* attributes are this thread's own */
+    size_t number = 0;
     uint64_t place = 0;
-    if (kit_attributes_make(&none, &pairs, &place)) return "attributes";
+    if (kit_attributes_make(&none, &pairs, &place) || kit_recorder_new(&log, OFTEN)) return "attributes";
+    int32_t code;
+    while ((code = kit_seat_hold(seat, 0, &none, &number)) == KIT_BUSY) {
+        sched_yield();
+    }
+    if (code) return "hold";
     for (int i = 0; i < TIMES; i++) {
         pthread_mutex_lock(&lock);
-        int32_t code = kit_writer_measure(&shared, 0, &none, 1, &place);
+        code = kit_writer_measure(&shared, 0, &none, 1, &place);
         pthread_mutex_unlock(&lock);
         if (code || kit_writer_measure(mine, 0, &none, 1, &place)) return "measure";
         while ((code = kit_seat_measure(seat, 0, &none, 1, &place)) == KIT_BUSY) {
             sched_yield();
         }
-        if (code) return "seat";
-        if (kit_recorder_measure_held(recorder, 0, 0, 1)) return "recorder";
-        if (i % OFTEN == OFTEN - 1 && gather(recorder)) return "absorb";
+        if (code || kit_recorder_measure_held(&log, number, 1)) return "seat";
+        if (kit_recorder_measure_held(recorder, 0, 1)) return "recorder";
+        if (i % OFTEN == OFTEN - 1 && (!gather(recorder) || !give(seat, &log))) return "take in";
     }
-    kit_free(&none);
+    kit_free(&none), kit_free(&log);
     return NULL;
 }
 
@@ -122,9 +141,9 @@ int main(void) {
         if (kit_seat_split(&first, &seats[i])) return 13;
     }
     if (kit_writer_start(&gathered, &plan, TEXT("shop"), 0, 98, 100) || kit_gateway_open(&whole, 4)) return 17;
-    if (kit_attributes_make(&none, &views, &place) || kit_writer_hold(&gathered, &none, &number) || number) return 18;
+    if (kit_attributes_make(&none, &views, &place) || kit_writer_hold(&gathered, 0, &none, &number) || number) return 18;
     for (int i = 0; i < THREADS; i++) {
-        if (kit_recorder_open(&recorders[i], &gathered)) return 19;
+        if (kit_recorder_new(&recorders[i], OFTEN)) return 19;
     }
     for (int i = 0; i < THREADS; i++) {
         if (pthread_create(&threads[i], NULL, work, &own[i])) return 6;
@@ -150,13 +169,13 @@ int main(void) {
     if (!tells(&four, "  4          0  100000\n")) return 11;
     for (int i = 0; i < THREADS; i++) {
         kit_free(&seats[i]);
-        bool empty = false;
-        if (kit_recorder_is_empty(&recorders[i], &empty) || !empty) return 22;
+        size_t left = 77;
+        if (kit_recorder_len(&recorders[i], &left) || left) return 22;
         kit_free(&recorders[i]);
     }
     if (bring_gathered(200, &whole) || total(&whole) != 100000) return 23;
     kit_free(&gathered), kit_free(&whole), kit_free(&none);
-    if (bring_by_seat(&first, 200, &seated) || total(&seated) != 100000) return 16;
+    if (bring_by_seat(&first, 200, &seated) || total(&seated) != 200000) return 16;
     kit_free(&first), kit_free(&seated), kit_free(&plan);
     return 0;
 }

@@ -3,8 +3,8 @@
 
 The proved program `otm run` is given each examples/NAME.otm, and must write examples/NAME.out, byte for byte, and end with
 status 0. So it must with each NAME.otm of tests/examples/rows, of which those that have a bad line end with status 1: the last
-line of their NAME.out says which, and ROW_SENTENCES what the standard error says of it. So it must with each script in PAGES,
-fenced as `otm`: the next block, fenced as `table`, has what it writes. Then it is given what it does not do to the end: each
+line of their NAME.out says which. NAME.err has what the standard error says; where there is none, it says nothing. So it must with
+each script in PAGES, fenced as `otm`: the next block, fenced as `table`, has what it writes. Then it is given what it does not do to the end: each
 kind of bad line, a script that is too long, words that it refuses, an input that cannot be read, an output that cannot be
 written. There its status and both its streams are told below. `rt ci`
 leaves the program in crates/otm/out, as each of two compilers builds it, and `rt run` as the first does: every build that lies
@@ -12,8 +12,8 @@ there does all of it.
 
 What PAGES quote of the crates must stand there: a comment `<!-- FILE: fn NAME -->` names what the next block, fenced as
 `rust`, has whole, and `, body` after it asks for the lines between its braces. Under the words `otm --help`, `otm help fleet` and
-`otm --version` COMMANDS_PAGE shows what these print, and below SENTENCES_HEADING each text of SENTENCES and of NAMES, and no other.
-Some bad line gets each of them here.
+`otm --version` COMMANDS_PAGE shows what these print, below SENTENCES_HEADING each text of SENTENCES and of NAMES, and no other, and
+below NOTES_HEADING each text of NOTES, and no other. Some bad line or some row gets each of them here.
 
 This ends with a status other than 0 where one differs, or where there is no program or no script."""
 import os
@@ -32,6 +32,8 @@ COMMANDS_PAGE = "docs/SCRIPTS.md"
 SENTENCES_HEADING = "## What is wrong with a bad line"
 SENTENCES = "crates/script_kit/src/sentence.rt"
 NAMES = "crates/script_kit/src/reason.rt"
+NOTES_HEADING = "## What else is told of a script"
+NOTES = [f"crates/otm_kit/src/{it}.rt" for it in ("notes", "misplans", "unmatched")]
 
 NO_COMMAND = b"""error: 'otm' requires a subcommand but one was not provided
   [subcommands: run, fleet, help]
@@ -125,9 +127,9 @@ HEADER = b"attributes  points  conflicts  total\n"
 MANY = 10_000
 
 CUT = "a line ends with a line feed"
-BYTES = "a line has only spaces and visible ASCII characters"
+BYTES = "a line has only spaces and visible ASCII characters, and no"
 SPACES = "a line has one space between two words, and none at its ends"
-LABEL = "a label has at most 16 of a to z and 0 to 9"
+NO_LABEL = "is no label: a label has at most 16 of a to z and 0 to 9"
 KINDS = "a kind is counter, updown, gauge or histogram"
 KINDS_ASKED = "a kind is counter, updown, gauge, histogram, or * for any"
 NO_UUID = "is no UUID: a UUID has 32 hexadecimal digits, with hyphens or without"
@@ -145,9 +147,10 @@ BAD_LINES = [
     (b"begin ", SPACES),
     (b" begin", SPACES),
     (b"gateway  1", SPACES),
-    (b"begin\r", BYTES),
-    (b"gateway\t1", BYTES),
-    (b"gateway \xc3\xa9", BYTES),
+    (b"begin\r", f"{BYTES} carriage return"),
+    (b"gateway\t1", f"{BYTES} tab"),
+    (b"gateway \xc3\xa9", f"{BYTES} byte 195"),
+    (b"\x00\r", f"{BYTES} byte 0"),
     (b"unknown", "no line begins with 'unknown'"),
     (b"x" * 41 + b" 1", f"no line begins with '{'x' * 40}..'"),
     (b"x" * 40, f"no line begins with '{'x' * 40}'"),
@@ -179,9 +182,9 @@ BAD_LINES = [
     (b"gateway 4294967296", "4294967296 is too great for an id"),
     (b"merge 1 4294967296", "4294967296 is too great for an id"),
     (b"limit 18446744073709551616", f"{TOO_GREAT} a limit"),
-    (b"writer A shop " + UUID + b" 100", LABEL),
-    (b"writer abcdefghijklmnopq shop " + UUID + b" 100", LABEL),
-    (b"writer A shop " + UUID + b" x", LABEL),
+    (b"writer A shop " + UUID + b" 100", f"'A' {NO_LABEL}, and no 'A'"),
+    (b"writer abcdefghijklmnopq shop " + UUID + b" 100", f"'abcdefghijklmnopq' {NO_LABEL}"),
+    (b"writer a-b_c shop " + UUID + b" x", f"'a-b_c' {NO_LABEL}, and no '-'"),
     (b"writer a shop " + UUID[:-1] + b" 100", f"'{UUID[:-1].decode()}' {NO_UUID}"),
     (b"writer a shop " + UUID + b" 18446744073709551616", f"{TOO_GREAT} a start"),
     (b"instrument c summary app x 1", f"no kind is called 'summary': {KINDS}"),
@@ -192,7 +195,8 @@ BAD_LINES = [
     (b"measure a c 9223372036854775808 -", f"'9223372036854775808' {NO_VALUE}"),
     (b"measure a c -0 -", f"'-0' {NO_VALUE}"),
     (b"measure a c 05 -", f"'05' {NO_VALUE}"),
-    (b"measure a C 5 -", LABEL),
+    (b"measure a C 5 -", f"'C' {NO_LABEL}, and no 'C'"),
+    (b"measure a " + b"c" * 41 + b"+ 5 -", f"'{'c' * 40}..' {NO_LABEL}, and no '+'"),
     (b"measure a c 5 route", f"'route' {NO_ATTRIBUTES}"),
     (b"measure a c 5 =x", f"'=x' {NO_ATTRIBUTES}"),
     (b"measure a c 5 a=1,", f"'a=1,' {NO_ATTRIBUTES}"),
@@ -236,21 +240,6 @@ LATE = [
     (b"newest 1 b 100", "no writer is called 'b'"),
 ]
 
-REFUSED = "'begin' is refused"
-
-# What is said of the bad lines of rows; of those that are not here, REFUSED.
-ROW_SENTENCES = {
-    "bad-double-space": SPACES,
-    "bad-id-range": "4294967296 is too great for an id",
-    "bad-label": LABEL,
-    "bad-leading-zero": f"'01' {NO_NUMBER}",
-    "bad-minus-zero": f"'-0' {NO_NUMBER}",
-    "bad-word-count": "'counter' wants a scope, a name and a unit",
-    "cut-line": CUT,
-    "refusals-and-cut-word": CUT,
-}
-
-
 def many_streams():
     """Many counters, each under a view of its own, and the total of the last. A walk over all pairs would be seen here."""
     lines = [b"instrument i%d counter app name_%d 1\nview name_%d * * - * sum\n" % (number, number, number) for number in range(MANY)]
@@ -277,6 +266,13 @@ def many_pairs():
     cells = [b"{" + b",".join(it + b"=true" for it in sorted(held)) + b"}" for held in (keys, half)]
     head, row = b"attributes".ljust, b"       1          0  7\n"
     return script, b"".join(head(len(it)) + HEADER.removeprefix(b"attributes") + it + row for it in cells)
+
+
+def many_notes():
+    """Many reports of a stream that is not there: their tables, and what is told of the first hundred."""
+    script = COUNTER + b"begin\n" + b"report 1 app requests 1 sum * - *\n" * MANY
+    note = b"line %d: there is no stream 'app requests 1 sum', but 'app requests 1 sum+'\n"
+    return script, HEADER * MANY, b"".join(note % (5 + number) for number in range(100))
 
 
 # A script of some length, that prints a line.
@@ -347,21 +343,55 @@ def shown():
         yield f"{COMMANDS_PAGE}: {words}", "" if block in page else "another text, or none"
 
 
+def texts_of(file):
+    """The texts of more than a word in a file of a crate."""
+    return [it for it in re.findall(r'"([^"]*)"', (TOP / file).read_text()) if " " in it]
+
+
+def listed_below(heading):
+    """What COMMANDS_PAGE lists below a heading, in the first cells of its tables."""
+    section = (TOP / COMMANDS_PAGE).read_text().split(f"{heading}\n")[1].split("\n## ")[0]
+    return {it for cell in re.findall(r"^\| (`.*?) \| ", section, re.M) for it in re.findall(r"`([^`]+)`", cell)}
+
+
+def row_sentences():
+    """What the standard error says of the rows, without the numbers of their lines."""
+    return {line.split(": ", 1)[1] for file in ROWS.glob("*.err") for line in file.read_text().splitlines()}
+
+
+def filled(text, gaps):
+    """A pattern of what a text may be with its gaps filled: each by the pattern of its name, or by a word."""
+    return re.sub(r"\\{(\w+)\\}", lambda gap: gaps.get(gap[1], r"[!-~]+"), re.escape(text))
+
+
+def compared(patterns, whole, tried, told):
+    """Each text by its pattern, whether it was tried and is told; and each that is told, whether it is a whole text."""
+    for name, pattern in patterns:
+        here, there = (any(re.fullmatch(pattern, it) for it in them) for them in (tried, told))
+        yield f"{COMMANDS_PAGE}: {name}", "" if here and there else "the page has it not" if here else "nothing here gets it"
+    for sentence in sorted(told):
+        yield f"{COMMANDS_PAGE}: {sentence}", "" if any(re.fullmatch(it, sentence) for it in whole) else "the program has no such text"
+
+
 def told_sentences():
     """Each text of SENTENCES and of NAMES, and each sentence of COMMANDS_PAGE; and what is wrong with it, or an empty text."""
-    section = (TOP / COMMANDS_PAGE).read_text().split(SENTENCES_HEADING)[1].split("\n## ")[0]
-    told = {it for cell in re.findall(r"^\| (`.*?) \| ", section, re.M) for it in re.findall(r"`([^`]+)`", cell)}
-    tried = {it for _, lines in bad_lines() for _, it in lines} | {*ROW_SENTENCES.values(), REFUSED}
-    texts, names = ([it for it in re.findall(r'"([^"]*)"', (TOP / file).read_text()) if " " in it] for file in (SENTENCES, NAMES))
-    # (a text has gaps for a word, and for a form or a noun, which NAMES has)
+    tried = {it for _, lines in bad_lines() for _, it in lines} | row_sentences()
+    texts, names = texts_of(SENTENCES), texts_of(NAMES)
+    # (a text has gaps for a word, for a form or a noun, which NAMES has, and for what is odd there, which begins with a comma)
+    odd = {it: filled(it, {}) for it in texts if it.startswith(", ")}
     named = f"(?:{'|'.join(map(re.escape, names))})"
-    patterns = [re.sub(r"\\{(\w+)\\}", lambda gap: r"[!-~]+" if gap[1] == "word" else named, re.escape(it)) for it in texts]
-    ends = [f".* {re.escape(it)}" for it in names]
-    for name, pattern in [*zip(texts, patterns), *zip(names, ends)]:
-        here, there = (any(re.fullmatch(pattern, it) for it in them) for them in (tried, told))
-        yield f"{COMMANDS_PAGE}: {name}", "" if here and there else "the page has it not" if here else "no bad line gets it"
-    for sentence in sorted(told):
-        yield f"{COMMANDS_PAGE}: {sentence}", "" if any(re.fullmatch(it, sentence) for it in patterns) else "the program has no such text"
+    gaps = {"form": named, "noun": named, "odd": f"(?:{'|'.join(odd.values())})?"}
+    whole = {it: filled(it, gaps) for it in texts if it not in odd}
+    ends = {name: f".* {re.escape(name)}" for name in names} | {name: f".*{pattern}" for name, pattern in odd.items()}
+    yield from compared([*whole.items(), *ends.items()], whole.values(), tried, listed_below(SENTENCES_HEADING))
+
+
+def told_notes():
+    """Each text of NOTES, and each note of COMMANDS_PAGE; and what is wrong with it, or an empty text."""
+    texts = [it for file in NOTES for it in texts_of(file) if "{note}" not in it]
+    stream = " ".join([r"[!-~]+"] * 4)
+    whole = {it: filled(it, {"named": stream, "near": stream}) for it in texts}
+    yield from compared(whole.items(), whole.values(), row_sentences(), listed_below(NOTES_HEADING))
 
 
 def said(text, sentence):
@@ -382,8 +412,8 @@ def cases(program):
     for script in sorted((TOP / "examples").glob("*.otm")):
         yield script.name, ended(program, ["run"], (0, script.with_suffix(".out").read_bytes(), b""), input=script.read_bytes())
     for script in sorted(ROWS.glob("*.otm")):
-        text = script.with_suffix(".out").read_bytes()
-        wanted = (1, text, said(text, ROW_SENTENCES.get(script.stem, REFUSED))) if BAD_END.fullmatch(text) else (0, text, b"")
+        text, told = script.with_suffix(".out").read_bytes(), script.with_suffix(".err")
+        wanted = int(bool(BAD_END.fullmatch(text))), text, told.read_bytes() if told.is_file() else b""
         yield script.stem, ended(program, ["run"], wanted, input=script.read_bytes())
     for before, lines in bad_lines():
         for line, sentence in lines:
@@ -392,6 +422,8 @@ def cases(program):
     for made in (many_streams, many_points, many_pairs):
         script, text = made()
         yield made.__name__, ended(program, ["run"], (0, text, b""), input=script)
+    script, *wanted = many_notes()
+    yield many_notes.__name__, ended(program, ["run"], (0, *wanted), input=script)
     for name, (words, given, *wanted) in ENDS.items():
         yield name, ended(program, words, tuple(wanted), input=given)
     yield "an input that cannot be read", unread(program)
@@ -403,7 +435,7 @@ def main():
     failed = not list((TOP / "examples").glob("*.otm")) or not list(ROWS.glob("*.otm")) or not any(path.name == BUILDS[0] for path in programs)
     if failed:
         print("NO PROGRAM OR NO SCRIPT: rt ci, or rt run in crates/otm, makes the program")
-    for name, told in [*quotes(), *shown(), *told_sentences()]:
+    for name, told in [*quotes(), *shown(), *told_sentences(), *told_notes()]:
         failed = failed or bool(told)
         print(f"{name}: {'NOT AS TOLD: ' + told if told else 'as told'}")
     for program in programs:

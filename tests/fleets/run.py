@@ -1,5 +1,5 @@
 #!/usr/bin/env python3
-"""Fleets by the built program: a thousand with exact totals, what other options print, and words that it refuses.
+"""Fleets by the built program: a thousand with exact totals, what other options print, words that it refuses, and a full device.
 
     tests/fleets/run.py [COUNT]     COUNT fleets in place of a thousand
 
@@ -23,6 +23,15 @@ TOTALS = [
     (["--writers", "1", "--recorders", "2", "--each", "0"], 2, 0),
     (["--writers", "8", "--recorders=3", "--each", "0", "--gateways", "1"], 1, 0),
     (["--each=1", "--writers=8", "--recorders=8", "--gateways=8"], 8, 64),
+    # each option at its least and at its greatest
+    (["--writers", "1"], 2, 2_000),
+    (["--writers", "8", "--each", "10"], 2, 160),
+    (["--recorders", "1"], 2, 2_000),
+    (["--recorders", "8", "--each", "10"], 2, 160),
+    (["--gateways", "1"], 1, 4_000),
+    (["--gateways", "8"], 8, 4_000),
+    (["--each", "1000000", "--writers", "1", "--recorders", "2", "--gateways", "1"], 1, 2_000_000),
+    (["--each", "+5", "--writers", "+1"], 2, 10),
 ]
 
 REFUSED = [
@@ -57,6 +66,14 @@ def taken(program, options):
     return "" if is_refused else f"{options}: status {ran.returncode}, wrote {ran.stdout!r}, and on the standard error {ran.stderr!r}"
 
 
+def unwritten(program):
+    """What a fleet does otherwise than end in status 4 where the output is a full device."""
+    with open("/dev/full", "wb") as full:
+        ran = subprocess.run([program, "fleet"], stdin=subprocess.DEVNULL, stdout=full, stderr=subprocess.PIPE, timeout=SECONDS)
+    is_told = (ran.returncode, ran.stderr) == (4, b"write failed\n")
+    return "" if is_told else f"a full device: status {ran.returncode}, and on the standard error {ran.stderr!r}"
+
+
 def main():
     count = int(sys.argv[1]) if len(sys.argv) > 1 else COUNT
     programs = [path for path in (TOP / "crates" / "otm" / "out" / name for name in BUILDS) if path.is_file()]
@@ -64,12 +81,12 @@ def main():
     if failed:
         print("NO PROGRAM: rt ci, or rt run in crates/otm, makes the program")
     for program in programs:
-        faults = [wrong(program, *row) for row in TOTALS] + [taken(program, options) for options in REFUSED]
+        faults = [wrong(program, *row) for row in TOTALS] + [taken(program, options) for options in REFUSED] + [unwritten(program)]
         faults += [wrong(program, MANY, 3, 8_000) for _ in range(count)]
         faults = [it for it in faults if it]
         for fault in faults[:6]:
             print(f"{program.name}: NOT AS TOLD: {fault}")
-        print(f"{program.name}: {count + len(TOTALS)} fleets, {len(REFUSED)} refused words: {f'{len(faults)} NOT AS TOLD' if faults else 'as told'}")
+        print(f"{program.name}: {count + len(TOTALS)} fleets, {len(REFUSED)} refused words, a full device: {f'{len(faults)} NOT AS TOLD' if faults else 'as told'}")
         failed |= bool(faults)
     return failed
 

@@ -1,18 +1,20 @@
 #!/usr/bin/env python3
 """The merge gate.
 
-    python3 tests/gate/run.py                   the whole gate
+    python3 tests/gate/run.py [--anew]          the whole gate; with --anew it tries each edit, also those that are known
     python3 tests/gate/run.py edits [NAME..]    the must-fail edits alone, over what earlier checks of the crates kept
 
 First every proof from nothing, each crate's tests and programs, by the toolchain's own `rt ci` with all that it refuses; the tests
 stand on the proof of the crate in the same run. Then the runners of tests/. Then the must-fail edits, over the same proof, many in
-one check (edits.py, trials.py), those of crates that changed most lately first, until GATE_MINUTES (165) are over.
+one check (edits.py, trials.py), those of crates that changed most lately first, until GATE_MINUTES (165) are over. An edit whose result
+is known for just this text (known.py, known.txt) is not tried again, but for a few that chance picks. Both kinds of runs write what they saw to known.txt.
 The table of what it cost goes to docs/log/gate.md. The last line is 'N passed, M failed', with ', K skipped' where time was too short
-for K edits. A crate, a runner and an edit count one each."""
+for K edits. A crate, a runner and an edit count one each; a known edit counts as passed."""
 import contextlib
 import io
 import os
 import pathlib
+import random
 import re
 import subprocess
 import sys
@@ -22,6 +24,7 @@ import time
 import types
 
 import costs
+import known
 import trials
 from kit import ONE_JOB, patiently, rt, rtlib, version, what_is_free, whole_gate
 
@@ -32,6 +35,8 @@ BEGAN = time.time()
 MINUTES = float(os.environ.get("GATE_MINUTES", "165"))
 # What proofs have more than edits have: with the runners of tests/, the last line then still comes in time.
 MORE_MINUTES = 8
+# Known edits that a run tries again all the same.
+TRIED_AGAIN = 10
 COUNT = re.compile(r"^(\d+) passed, (\d+) failed$")
 
 
@@ -159,7 +164,27 @@ def lanes(crates):
     return max(1, min(rt.processors(), int(0.85 * rt.free() / max([rt.need(it) for it in crates], default=1))))
 
 
-def whole(from_nothing, ledger):
+def chosen(crates, book, anew):
+    """Of each crate the edits to be tried: those that are not known, and of the known ones a few that chance picks; and how many are left as known."""
+    found = {crate: rt.edits_of(crate)[0] for crate in crates}
+    told = [(crate, path) for crate, paths in found.items() for path in paths if not anew and book.has(crate, path)]
+    again = random.SystemRandom().sample(told, min(TRIED_AGAIN, len(told)))
+    if told:
+        rt.say(f"{len(told)} edits are known to be refused; tried again all the same: {', '.join(known.name_of(*it) for it in again)}")
+    spared = set(told) - set(again)
+    return {crate: [it for it in paths if (crate, it) not in spared] for crate, paths in found.items()}, len(spared)
+
+
+def note(book, tried, crates):
+    """Writes what came of these trials to the ledger."""
+    for trial in tried:
+        for path, (is_refused, _) in trial.told.items():
+            if is_refused is not None:
+                book.note(trial.crate, path, is_refused)
+    book.write({known.name_of(crate, path) for crate in crates for path in rt.edits_of(crate)[0]})
+
+
+def whole(from_nothing, ledger, anew):
     """The gate, once what earlier runs left is set aside."""
     edits_of, out, stages, at = rt.edits_of, Passing(sys.stdout), [], time.time()
     rt.edits_of = lambda crate: ([], [])
@@ -176,13 +201,17 @@ def whole(from_nothing, ledger):
     good, bad = runners(ledger) if not failed else (0, [])
     stages.append(("runners of tests/", time.time() - at))
     at, os.environ["GATE_UNTIL"] = time.time(), str(BEGAN + 60 * MINUTES)
-    found = {it: rt.edits_of(it) for it in rtlib.crates_below(str(TOP)) if Crate.proved.get((it.name, False)) and Crate.proved.get((it.name, True), True)}
-    misplaced = [os.path.relpath(it, TOP) for _, lost in found.values() for it in lost]
-    order = sorted([it for it, (paths, _) in found.items() if paths], key=lambda it: -changed(it))
-    refused, not_refused, left, took = trials.all_edits([trials.Trial(it, found[it][0], Crate.functions[it.name]) for it in order], lanes(order))
-    stages.append((f"edits: {refused} refused, {left} left for want of time", time.time() - at))
+    crates, book = rtlib.crates_below(str(TOP)), known.Known()
+    proved = [it for it in crates if Crate.proved.get((it.name, False)) and Crate.proved.get((it.name, True), True)]
+    misplaced = [os.path.relpath(path, TOP) for it in proved for path in rt.edits_of(it)[1]]
+    found, spared = chosen(proved, book, anew)
+    order = sorted([it for it, paths in found.items() if paths], key=lambda it: -changed(it))
+    tried = [trials.Trial(it, found[it], Crate.functions[it.name]) for it in order]
+    refused, not_refused, left, took = trials.all_edits(tried, lanes(order))
+    note(book, tried, crates)
+    stages.append((f"edits: {refused} refused, {spared} known, {left} left for want of time", time.time() - at))
     stages.append(("all", time.time() - BEGAN))
-    passed, failed = passed + good + refused, failed + bad + misplaced + not_refused
+    passed, failed = passed + good + refused + spared, failed + bad + misplaced + not_refused
     head = [f"Written by `tests/gate/run.py`: {passed} passed, {len(failed)} failed, on {rt.processors()} processors, {version()}."]
     page = costs.table(ledger, head, stages, took)
     (TOP / "docs" / "log").mkdir(parents=True, exist_ok=True)
@@ -217,13 +246,14 @@ def edits_alone(names):
             rt.say(f"{crate.name}: it is not proved over what was kept: rt check tells why")
             return ended(0, [crate.name], 0)
     refused, failed, left, took = trials.all_edits(begun, lanes([it.crate for it in begun]))
+    note(known.Known(), begun, rtlib.crates_below(str(TOP)))
     for name, seconds in sorted(took.items(), key=lambda it: -it[1]):
         print(f"{seconds:6.1f} {name}")
     return ended(refused, failed, left)
 
 
 def main(words):
-    if words and words[0] != "edits":
+    if words and words != ["--anew"] and words[0] != "edits":
         print(__doc__)
         return 0 if words[0] in ("-h", "--help") else 2
     os.chdir(TOP)
@@ -235,7 +265,7 @@ def main(words):
         if words[:1] == ["edits"]:
             return edits_alone(words[1:])
         print(f"free: {what_is_free()}", flush=True)
-        return whole_gate(lambda from_nothing: whole(from_nothing, ledger))
+        return whole_gate(lambda from_nothing: whole(from_nothing, ledger, words == ["--anew"]))
 
 
 if __name__ == "__main__":

@@ -1,10 +1,12 @@
-"""A plain reading of scripts: what each must print, and the exit status. It keeps lists and maps and takes no care of speed."""
+"""A plain reading of scripts: what each must print, the exit status, and what is told of it beside that. It keeps lists and maps and
+takes no care of speed."""
 import re
 
 LONGEST = 1_048_576
 DEFAULT_BOUNDS = (0, 5, 10, 25, 50, 75, 100, 250, 500, 750, 1000, 2500, 5000, 7500, 10000)
 OVERFLOW = (("otel.metric.overflow", (1, True)),)
 CONFLICT = "conflict"
+MOST_NOTES = 100
 DECLARATIONS = {"instrument": 5, "view": 6, "writer": 4, "gateway": 1, "limit": 1, "begin": 0}
 WORDS = {**DECLARATIONS, "measure": 4, "collect": 2, "shutdown": 2, "restart": 2, "deliver": 2, "merge": 2, "send": 2, "hand": 2}
 WORDS |= {"report": 8, "same": 2, "conflicts": 1, "newest": 3}
@@ -194,6 +196,25 @@ class Plan:
         return [view for view in views if self.matches(view, one)] or [every]
 
 
+def short(word):
+    """A word as it is told."""
+    return (word if len(word) <= 40 else word[:40] + "..") or "-"
+
+
+def stream_words(stream):
+    """The words by which a report asks for a stream, as they are told."""
+    scope, name, unit, (kind, stated) = stream
+    if kind == "hist" and stated != DEFAULT_BOUNDS:
+        kind += ":" + ",".join(map(str, stated[:5])) + ".." * (len(stated) > 5)
+    return " ".join([short(scope), short(name), short(unit), kind])
+
+
+def steps(one, other):
+    """How far a stream is from another one."""
+    name = 0 if one[1] == other[1] else 1 if one[1].lower() == other[1].lower() else 4
+    return name + sum(one[part] != other[part] for part in (0, 2, 3))
+
+
 class Reading:
     """A script as far as it is read."""
 
@@ -201,6 +222,7 @@ class Reading:
         self.answers = answers
         self.instruments, self.views, self.labels = [], [], {}
         self.writers, self.ids, self.most = {}, [], None
+        self.number, self.notes, self.id_lines, self.limit_line = 0, [], [], None
         self.plan = None
         self.exports, self.mails, self.gateways = [], [], {}
         self.printed = []
@@ -221,7 +243,7 @@ class Reading:
     def instrument(self, word, kind, scope, name, unit):
         need(label(word) not in self.labels and kind in FITS)
         self.labels[word] = len(self.instruments)
-        self.instruments.append({"kind": kind, "scope": blank(scope), "name": name, "unit": blank(unit)})
+        self.instruments.append({"kind": kind, "scope": blank(scope), "name": name, "unit": blank(unit), "line": self.number})
 
     def view(self, name, kind, scope, rename, keys, way):
         need(kind == "*" or kind in FITS)
@@ -232,6 +254,7 @@ class Reading:
             "rename": None if rename == "-" else rename,
             "keep": keep(keys),
             "way": aggregation(way),
+            "line": self.number,
         })
 
     def writer(self, word, service, uuid, start):
@@ -240,18 +263,67 @@ class Reading:
 
     def gateway(self, word):
         self.ids.append(number(word, 1 << 32))
+        self.id_lines.append(self.number)
 
     def limit(self, word):
         need(self.most is None)
-        self.most = number(word)
+        self.most, self.limit_line = number(word), self.number
 
     def begin(self):
-        plan = Plan(self.instruments, self.views, 2000 if self.most is None else self.most)
-        same = [(j, i) for j, one in enumerate(self.ids) for i in range(j) if self.ids[i] == one]
-        if same:
-            raise Refused("SameGateway({1}, {0})".format(*min(same)))
+        try:
+            plan = Plan(self.instruments, self.views, 2000 if self.most is None else self.most)
+            same = [(j, i) for j, one in enumerate(self.ids) for i in range(j) if self.ids[i] == one]
+            if same:
+                raise Refused("SameGateway({1}, {0})".format(*min(same)))
+        except Refused as refused:
+            name, *places = re.findall(r"\w+", str(refused))
+            self.notes.append(self.why(name, *map(int, places)))
+            raise
         self.plan = plan
         self.gateways = {one: {} for one in self.ids}
+        for view in self.views:
+            if not any(plan.matches(view, one) for one in self.instruments):
+                self.notes.append((view["line"], f"the view of '{short(view['name'] or '*')}' matches no instrument"))
+
+    def why(self, name, first=0, second=0):
+        """The line and the text of the note on a `begin` that is refused by this name, at these places."""
+        of = (self.ids if name == "SameGateway" else self.instruments if name in ("BadName", "BadUnit", "BadAggregation", "SameStream") else self.views)
+        one = of[first] if first < len(of) else None
+        if name in ("BadName", "BadRename"):
+            word = short(one["name" if name == "BadName" else "rename"])
+            return one["line"], f"'{word}' is no name: a name has at most 255 letters, digits, _, ., - and /, a letter first"
+        if name == "BadUnit":
+            return one["line"], f"'{short(one['unit'])}' is no unit: a unit has at most 63 characters"
+        if name == "BadBounds":
+            return one["line"], "the bounds of a view rise, and are at most 1024"
+        if name == "WildcardRename":
+            return one["line"], "a view of every name gives no new one"
+        if name == "BadAggregation":
+            view = self.views[second]
+            return view["line"], f"no {one['kind']} has the aggregation '{view['way'][0]}', and this view matches that of line {one['line']}"
+        if name == "SameStream":
+            return self.why_same(one, self.instruments[second])
+        if name == "SameGateway":
+            return self.id_lines[second], f"line {self.id_lines[first]} declares the gateway {one} too"
+        return self.limit_line, "a limit is at least 1"
+
+    def fed(self, one):
+        """The streams of an instrument, each with the line of its view."""
+        views = [view for view in self.views if Plan.matches(view, one)]
+        lone = [(view["line"], Plan([one], [view], 1).streams) for view in views] or [(0, Plan([one], [], 1).streams)]
+        return [(line, stream) for line, streams in lone for stream in streams]
+
+    def why_same(self, one, other):
+        ours, theirs = self.fed(one), self.fed(other)
+        if one is not other:
+            stream = next(it for _, it in theirs if it in [held for _, held in ours])
+            return other["line"], f"the instruments of lines {one['line']} and {other['line']} have one stream, '{stream_words(stream)}'"
+        for place, (line, stream) in enumerate(ours):
+            for earlier, held in ours[:place]:
+                if stream == held:
+                    text = f"the views of lines {earlier} and {line} give the instrument of line {one['line']} one stream, '{stream_words(stream)}'"
+                    return line, text
+        raise AssertionError("no two feeds of one stream")
 
     def of(self, word):
         need(word in self.writers)
@@ -365,6 +437,10 @@ class Reading:
         gateway = self.gateways[self.at(word)]
         stream = blank(scope), name, blank(unit), shape(form)
         only, keys = attributes(only), keep(keys)
+        if stream not in self.plan.streams:
+            near = min(self.plan.streams, key=lambda other: steps(stream, other), default=None)
+            but = f", but '{stream_words(near)}'" if near and steps(stream, near) <= 4 else ""
+            self.notes.append((self.number, f"there is no stream '{stream_words(stream)}'{but}"))
         groups = {}
         for key, cell in gateway.items():
             if key[3] == stream and service in ("*", key[0]) and all(pair in key[4] for pair in only):
@@ -408,17 +484,21 @@ def totals(form, cells):
 
 
 def told(script, answers):
-    """What a script must print, and the status. `answers` says whether a handed mail is answered by one."""
+    """What a script must print, the status, and what is told of it besides. `answers` says whether a handed mail is answered by one."""
     if len(script) > LONGEST:
-        return b"too long\n", 1
-    reading = Reading(answers)
+        return b"too long\n", 1, b""
+    reading, ends = Reading(answers), []
     *lines, rest = script.split(b"\n")
     for place, line in enumerate([*lines, rest] if rest else lines):
+        reading.number = place + 1
         try:
             need(place < len(lines))
             if line and not line.startswith(b"#"):
                 need(re.fullmatch(rb"[\x21-\x7e]+( [\x21-\x7e]+)*", line))
                 reading.line(line.decode().split(" "))
         except BadLine:
-            return "".join(text + "\n" for text in [*reading.printed, f"line {place + 1}"]).encode(), 1
-    return "".join(text + "\n" for text in reading.printed).encode(), 0
+            ends = [f"line {place + 1}"]
+            break
+    notes = [f"line {line}: {text}" for line, text in reading.notes[:MOST_NOTES]]
+    printed, besides = ("".join(text + "\n" for text in texts).encode() for texts in ([*reading.printed, *ends], notes))
+    return printed, len(ends), besides

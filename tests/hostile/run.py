@@ -72,6 +72,9 @@ SCRIPTS_TOLD = [
     (HEAD + b"begin\n" + b"deliver 18446744073709551615 1\nhand 0 1\n", b"refused: NoExport\nrefused: NoMail\n", 0),
 ]
 
+# Rows of tests/examples that print refusals: of events, and of a `begin`, which is a bad line then.
+REFUSING = ("refused-events-change-nothing", "refused-by-second-feed", "times-must-rise", "plan-bad-name", "refusals-and-cut-word")
+
 # A script whose second `hand` is of the mail that the first one answers by, where it does.
 ANSWERED = b"gateway 1\ngateway 2\nbegin\nsend 1 2\nhand 1 2\nhand 2 1\n"
 
@@ -82,11 +85,11 @@ def done(program, script):
     return ran.returncode, ran.stdout, ran.stderr
 
 
-def is_told(ran, status, text):
-    """Whether a run wrote this and ended so, and said of a bad line, and of nothing else, what is wrong with it."""
+def is_told(ran, status, text, notes=rb"(?:line [0-9]+: [ -~]{1,300}\n){,100}"):
+    """Whether a run wrote this and ended so, and told these notes, and behind them of a bad line what is wrong with it."""
     mark = BAD_END.search(text) if status == 1 else None
-    says = re.fullmatch(re.escape(mark.group(1)) + rb": [ -~]{1,300}\n", ran[2]) if mark else not ran[2]
-    return ran[:2] == (status, text) and bool(says)
+    says = re.escape(mark.group(1)) + rb": [ -~]{1,300}\n" if mark else b""
+    return ran[:2] == (status, text) and bool(re.fullmatch(notes + says, ran[2]))
 
 
 def shown(script):
@@ -112,7 +115,8 @@ def malformed(program, pool):
 
 
 def streams(library, program):
-    """Lets each read and each write of the examples' runs fail, in turn. The number of runs, and what was not as told."""
+    """Lets each read and each write of the runs of the examples and of REFUSING fail, in turn: but for the writes of `line N`, behind
+    which nothing is done. The number of runs, and what was not as told."""
     runs, wrong = 0, []
 
     def check(script, wanted, status, front, **said):
@@ -122,17 +126,20 @@ def streams(library, program):
         if ran.status != status or ran.err != text or not fits:
             wrong.append(f"{said}: status {ran.status}, {shown(ran.out)}, {shown(ran.err)}")
 
-    for script in sorted((faults.TOP / "examples").glob("*.otm")):
+    rows = [faults.TOP / "tests" / "examples" / "rows" / f"{name}.otm" for name in REFUSING]
+    for script in sorted((faults.TOP / "examples").glob("*.otm")) + rows:
         given, wanted = script.read_bytes(), script.with_suffix(".out").read_bytes()
+        mark = BAD_END.search(wanted)
         whole = faults.run(library, [program, "run"], given, short=1)
-        if (whole.status, whole.out) != (0, wanted):
+        if (whole.status, whole.out, whole.writes) != (1 if mark else 0, wanted, len(wanted)):
             wrong.append(f"{script.name}, a byte at a time: status {whole.status}, {shown(whole.out)}")
+        writes = mark.start(1) if mark else whole.writes
         for number in range(1, whole.reads + 1):
             check(given, b"", 4, False, reads=f"{number}-", short=1)
-        for number in range(1, whole.writes + 1):
+        for number in range(1, writes + 1):
             check(given, wanted, 4, True, writes=f"{number}-", short=1)
             check(given, wanted, 4, True, writes=f"{number}-", short=1, error=0)
-        runs += 1 + whole.reads + 2 * whole.writes
+        runs += 1 + whole.reads + 2 * writes
     return runs, wrong
 
 
@@ -177,13 +184,13 @@ def soak(programs, all_scripts, pool):
 
     def judged(work):
         number, script = work
-        text, status = plain.told(script, answers)
+        text, status, notes = plain.told(script, answers)
         for program in programs:
             if number % SHARES[program.name]:
                 continue
             told = done(program, script)
-            if not is_told(told, status, text):
-                return script, told[0], f"{program.name}: status {told[0]}, {shown(told[1])}, {shown(told[2])}, not {shown(text)}"
+            if not is_told(told, status, text, re.escape(notes)):
+                return script, told[0], f"{program.name}: status {told[0]}, {shown(told[1])}, {shown(told[2])}, not {shown(text)}, {shown(notes)}"
         return script, status, ""
 
     while chunk := list(itertools.islice(works, CHUNK)):

@@ -16,7 +16,8 @@ use Rattle.plan_kit.specs.declared.instrument.Kind.{Kind}
 use Rattle.plan_kit.specs.declared.feed.Feed.{Feed}
 use Rattle.agg_kit.specs.Feeding.{set_eq}
 use Rattle.agg_kit.specs.Feeds.{entries_of, series_at, shape_at, leaves_range, first_out, after_feeds, keeps_all, whole_first}
-use Rattle.agg_kit.specs.Kept.{whole_feed, AreLone}
+use Rattle.agg_kit.specs.Held.{whole_feed}
+use Rattle.agg_kit.specs.Kept.{AreLone}
 use Rattle.agg_kit.specs.Payloads.{is_out_of_range}
 use Rattle.agg_kit.specs.Sound.{AreSound, AreOnce, AllSound}
 use Rattle.agg_kit.specs.Steps.{Stored, bounds_of, has_point, fed_set, payload_after, payload_with_value, step}
@@ -56,12 +57,6 @@ entries-at (s ∷ ss) zero q h = let e : s ≡ q = cc in ap (λ (s : Stored). s.
 entries-at (s ∷ ss) (suc i) q h = entries-at ss i q h
 
 -- the points of the stream at a place, as they were read there
--- what was read of a list, put back
-pub put-back : {X : Type 0} (xs : List X) (i : ℕ) (x y : X) → y ≡ get_or xs i y → x ≡ y → set xs i x ≡ xs
-put-back [] i x y e h = refl
-put-back (z ∷ xs) zero x y e h = ap (λ w. w ∷ xs) (h ∙ e)
-put-back (z ∷ xs) (suc i) x y e h = ap (λ l. z ∷ l) (put-back xs i x y e h)
-
 pub entries-read : (ss : List Stored) (i : ℕ) (y : Stored) → i < length ss → y ≡ get_or ss i y → series_at (entries_of ss) i ≡ y.entries
 entries-read [] i y l e = absurd (omega arith)
 entries-read (s ∷ ss) zero y l e = ap (λ (s : Stored). s.entries) (sym e)
@@ -191,27 +186,18 @@ read-there (y ∷ xs) (suc i) x l e = read-there xs i x (omega arith) e
 pub same-read : {X : Type 0} (xs : List X) (i : ℕ) (x y : X) → i < length xs → x ≡ get_or xs i x → y ≡ get_or xs i y → y ≡ x
 same-read xs i x y l e h = read xs i x y (read-there xs i x l e) h
 
--- where the point of a set is in a stream that is read again, by where it was found as the stream was read first
-pub found-again : (p : Planned) (b : AttrSet) (ss : List Stored) (m : ℕ) (first again : Stored) (limit : ℕ) (set : AttrSet) (found : Option ℕ) (i : ℕ) → m < length ss → first ≡ get_or ss m first → again ≡ get_or ss m again
-    → limit ≡ p.limit → set ≡ b → found ≡ Some i → found ≡ position (set_eq (fed_set limit first.entries set)) (keys_of first.entries) → position (set_eq (fed_set p.limit again.entries b)) (keys_of again.entries) ≡ Some i
-found-again p b ss m first again limit set found i l was now e f is h =
-    subst (λ (s : Stored). position (set_eq (fed_set p.limit s.entries b)) (keys_of s.entries) ≡ Some i) (sym (same-read ss m first again l was now)) (found-at p b first.entries limit set found (Some i) e f is h)
-
--- a list of nothing
-pub empty-list : {X : Type 0} (xs : List X) → (length xs == 0) ≡ true → xs ≡ []
-empty-list [] h = refl
-empty-list (x ∷ xs) h = let k = (unsigned_Decides (length (x ∷ xs)) 0).0 h in absurd (omega arith)
+-- a list of no feeds
+pub no-feeds : (fs : List Feed) → (length fs == 0) ≡ true → fs ≡ []
+no-feeds [] h = refl
+no-feeds (f ∷ fs) h = let k = (unsigned_Decides (length (f ∷ fs)) 0).0 h in absurd (omega arith)
 
 -- the one feed whose stream is known
 pub lone-is : (o : Option ℕ) (m : ℕ) (fs : List Feed) → o ≡ Some m → IfSome o (λ m. fs ≡ whole_feed m ∷ []) → fs ≡ whole_feed m ∷ []
 lone-is o m fs e h = subst (λ (o : Option ℕ). IfSome o (λ m. fs ≡ whole_feed m ∷ [])) e h
 
-pub lone-within : (n : ℕ) (o : Option ℕ) (m : ℕ) (fs : List Feed) → o ≡ Some m → IfSome o (λ m. fs ≡ whole_feed m ∷ []) → AreFeeds n fs → m < n
-lone-within n o m fs e h feeds = (subst (AreFeeds n) (lone-is o m fs e h) feeds).0
-
 -- its stream is that of a feed which has no other beside it, and keeps all keys
 pub lone-here : (fs rest : List Feed) (f : Feed) → fs ≡ f ∷ rest → (length rest == 0) ≡ true → f.keep ≡ All → fs ≡ whole_feed f.stream ∷ []
-lone-here fs rest f is none all = is ∙ ap (λ (l : List Feed). f ∷ l) (empty-list rest none) ∙ ap (λ (k : Keep). let g : Feed = record { stream = f.stream; keep = k } in g ∷ []) all
+lone-here fs rest f is none all = is ∙ ap (λ (l : List Feed). f ∷ l) (no-feeds rest none) ∙ ap (λ (k : Keep). let g : Feed = record { stream = f.stream; keep = k } in g ∷ []) all
 
 pub if_some : {X : Type 0} (P Q : X → Type 0) (o : Option X) → ((x : X) → P x → Q x) → IfSome o P → IfSome o Q
 if_some P Q None f h = tt
@@ -281,14 +267,14 @@ sound-set (t ∷ ss) [] m s x a e k o = absurd a
 sound-set (t ∷ ss) (y ∷ xs) zero s x a e k o = let same : t ≡ s = cc in (subst (λ (u : Stream). AreSound u.shape x) (sym same) k, o, a.2)
 sound-set (t ∷ ss) (y ∷ xs) (suc m) s x a e k o = (a.0, a.1, sound-set ss xs m s x a.2 e k o)
 
-pub sound-after_feeds : (p : Planned) (n : ℕ) (fs : List Feed) (a : AttrSet) (v : ℤ) (xs : List Points) → n ≡ length p.streams → AreFeeds n fs
+pub sound-applied : (p : Planned) (n : ℕ) (fs : List Feed) (a : AttrSet) (v : ℤ) (xs : List Points) → n ≡ length p.streams → AreFeeds n fs
     → Every (λ f. rises (shape_at p f.stream) ≡ true → int_lt v (pos 0) ≡ false) fs → AllSound p.streams xs → AllSound p.streams (after_feeds p fs a v xs)
-sound-after_feeds p n [] a v xs e fit r s = s
-sound-after_feeds p n (f ∷ fs) a v xs e fit r s =
+sound-applied p n [] a v xs e fit r s = s
+sound-applied p n (f ∷ fs) a v xs e fit r s =
     let l : f.stream < length p.streams = subst (λ (k : ℕ). f.stream < k) e fit.0 in
     let t = there p.streams f.stream l in
     let after = after_feeds p fs a v xs in
-    let sound = sound-after_feeds p n fs a v xs e fit.2 r.1 s in
+    let sound = sound-applied p n fs a v xs e fit.2 r.1 s in
     let here = sound-step (shape_at p f.stream) p.limit (series_at after f.stream) (kept f.keep a) v (sound-shape p after f.stream l sound) r.0 in
     sound-set p.streams after f.stream t.0 (step (shape_at p f.stream) p.limit (series_at after f.stream) (kept f.keep a) v) sound t.1
     (subst (λ (s : Shape). AreSound s (step (shape_at p f.stream) p.limit (series_at after f.stream) (kept f.keep a) v)) (shape-is p f.stream t.0 t.1) here)
@@ -311,3 +297,9 @@ rising-feeds p n k (f ∷ fs) v e fit r h =
 pub some-kind : {X : Type 0} (o : Option X) → is_none o ≡ false → (x : X) × (o ≡ Some x)
 some-kind None h = absurd (true≢false h)
 some-kind (Some x) h = (x, refl)
+
+-- a stream that is not there has no points
+pub series-none : (ss : List Points) (m : ℕ) → slice_get ss m ≡ None → series_at ss m ≡ []
+series-none [] m none = refl
+series-none (es ∷ ss) zero none = absurd (cc)
+series-none (es ∷ ss) (suc m) none = series-none ss m none

@@ -16,11 +16,10 @@ use Rattle.plan_kit.specs.declared.feed.Feed.{Feed}
 use Rattle.agg_kit.specs.Entries.{Entry, Arrivals, arrivals_from, arrivals}
 use Rattle.agg_kit.specs.Feeding.{fed, placements}
 use Rattle.agg_kit.specs.Feeds.{series_at, shape_at, after_feeds}
-use Rattle.agg_kit.specs.Measuring.{empty_tally, points_after, series_after}
+use Rattle.agg_kit.specs.Measuring.{emptied_tally, points_after, series_after}
 use Rattle.agg_kit.specs.Rounds.{points_of, round, StandsFor}
 use Rattle.agg_kit.specs.Steps.{step}
 use Rattle.agg_kit.specs.Tallies.{Points, Tallied}
-use Rattle.agg_kit.specs.declared.home.Home.{Home}
 use Rattle.agg_kit.proofs.SeriesLaws.{series_of, series-push}
 
 -- reading a list at a place
@@ -39,7 +38,7 @@ within [] m x h = absurd (cc)
 within (y ∷ xs) zero x h = omega arith
 within (y ∷ xs) (suc m) x h = let k = within xs m x h in omega arith
 
-pub at-enumerated : {X Y : Type 0} (f : ℕ × X → Y) (n : ℕ) (xs : List X) (m : ℕ) (x : X) → slice_get xs m ≡ Some x → slice_get (map f (enumerate_from n xs)) m ≡ Some (f (n + m, x))
+at-enumerated : {X Y : Type 0} (f : ℕ × X → Y) (n : ℕ) (xs : List X) (m : ℕ) (x : X) → slice_get xs m ≡ Some x → slice_get (map f (enumerate_from n xs)) m ≡ Some (f (n + m, x))
 at-enumerated f n [] m x h = absurd (cc)
 at-enumerated {X = X} f n (y ∷ xs) zero x h =
     let e : y ≡ x = cc in
@@ -111,10 +110,10 @@ arrivals_from-none m [] a v l = refl
 arrivals_from-none m (f ∷ fs) a v l =
     ap (λ b. map (λ (f : Feed). let p : AttrSet × ℤ = (kept f.keep a, v) in p) (cond b (f ∷ filter (λ f. f.stream == m) fs) (filter (λ f. f.stream == m) fs))) (apart m f.stream l.0) ∙ arrivals_from-none m fs a v l.1
 
-steps-arrivals_from : (shape : Shape) (limit n m : ℕ) (es : Points) (fs : List Feed) (a : AttrSet) (v : ℤ) → AreFeeds n fs
+steps-brought : (shape : Shape) (limit n m : ℕ) (es : Points) (fs : List Feed) (a : AttrSet) (v : ℤ) → AreFeeds n fs
     → steps shape limit es (arrivals_from m fs a v) ≡ points_after shape limit es (arrivals_from m fs a v)
-steps-arrivals_from shape limit n m es [] a v fit = refl
-steps-arrivals_from shape limit n m es (f ∷ fs) a v fit = by (steps-arrivals_from shape limit n m es fs a v fit.2) (f.stream == m) refl
+steps-brought shape limit n m es [] a v fit = refl
+steps-brought shape limit n m es (f ∷ fs) a v fit = by (steps-brought shape limit n m es fs a v fit.2) (f.stream == m) refl
   where
     all : Bool → Arrivals
     all b = map (λ f. (kept f.keep a, v)) (cond b (f ∷ filter (λ f. f.stream == m) fs) (filter (λ f. f.stream == m) fs))
@@ -176,9 +175,9 @@ stands-push t h e s =
     ∙ sym (at-round p (h ++ e ∷ []) m l))
 
 -- feeds with streams of their own, one after the other, make the same
-pub after_feeds-is : (t : Tallied) (e : Entry) (fs : List Feed) → fs ≡ feeds_of t.plan e.instrument → AreFeeds (length t.plan.streams) fs → length t.series ≡ length t.plan.streams
+pub applied-is : (t : Tallied) (e : Entry) (fs : List Feed) → fs ≡ feeds_of t.plan e.instrument → AreFeeds (length t.plan.streams) fs → length t.series ≡ length t.plan.streams
     → after_feeds t.plan fs e.attrs e.value t.series ≡ series_after t e
-after_feeds-is t e fs is fit long =
+applied-is t e fs is fit long =
     let p = t.plan in
     ext_get_or [] (after_feeds p fs e.attrs e.value t.series) (series_after t e)
     (length-after_feeds p fs e.attrs e.value t.series ∙ long ∙ sym (length-after t e))
@@ -186,7 +185,7 @@ after_feeds-is t e fs is fit long =
     let k' : m < length t.series = subst (λ (n : ℕ). m < n) (length-after_feeds p fs e.attrs e.value t.series) k in
     let l : m < length p.streams = subst (λ (n : ℕ). m < n) long k' in
     at-after_feeds p fs e.attrs e.value t.series m k'
-    ∙ steps-arrivals_from (shape_at p m) p.limit (length p.streams) m (series_at t.series m) fs e.attrs e.value fit
+    ∙ steps-brought (shape_at p m) p.limit (length p.streams) m (series_at t.series m) fs e.attrs e.value fit
     ∙ ap (λ (gs : List Feed). points_after (shape_at p m) p.limit (series_at t.series m) (arrivals_from m gs e.attrs e.value)) is
     ∙ sym (at-after t e m l))
 
@@ -199,7 +198,8 @@ round-none p = each p.streams 0
     each [] n = refl
     each (s ∷ ss) n = ap (λ l. [] ∷ l) (each ss (n + 1))
 
-pub begins : (p : Planned) (ss : List Points) (h : Home) (n : ℕ) → ss ≡ replicate n [] → n ≡ length p.streams → record { plan = p; series = ss; home = h } ≡ record (empty_tally p) { home = h }
-begins p ss h n none len =
-    let is : ss ≡ round p [] = none ∙ ap (λ (n : ℕ). replicate n []) len ∙ sym (round-none p) in
-    λ i. record { plan = p; series = is i; home = h }
+-- a tally of no points begins anew
+pub begins : (t : Tallied) (n : ℕ) → t.series ≡ replicate n [] → n ≡ length t.plan.streams → t ≡ emptied_tally t
+begins t n none len =
+    let is : t.series ≡ round t.plan [] = none ∙ ap (λ (n : ℕ). replicate n []) len ∙ sym (round-none t.plan) in
+    λ i. record t { series = is i }

@@ -1,5 +1,5 @@
 -- What a recording makes of a tally, and why it is refused: by the points of the tally alone.
-use Rattle.std.specs.Prelude.{◌∷◌, [], ℕ, Bool, false, List, Option, find, fold, map, is_none, if◌then◌else◌}
+use Rattle.std.specs.Prelude.{◌≡◌, ◌≢◌, ◌∷◌, [], ℕ, ℤ, Bool, false, List, Option, None, Some, Result, IfErr, OnErr, OnOk, find, fold, map, is_none, slice_get, if◌then◌else◌}
 use Rattle.std.specs.List.{enumerate_from}
 use Rattle.std.specs.Option.{option_map, option_map_or}
 use Rattle.attr_kit.specs.declared.attr_set.AttrSet.{AttrSet}
@@ -8,10 +8,9 @@ use Rattle.attr_kit.specs.Refusing.{first, when}
 use Rattle.point_kit.specs.declared.shape.Shape.{Shape}
 use Rattle.plan_kit.specs.Plans.{Planned, feeds_of, kind_of, stream_of}
 use Rattle.plan_kit.specs.declared.feed.Feed.{Feed}
-use Rattle.agg_kit.specs.Entries.{Entry, Arrivals, arrivals_from}
+use Rattle.agg_kit.specs.Entries.{Entry, Arrivals, arrivals_from, entry_of}
 use Rattle.agg_kit.specs.Feeding.{overflow_set}
-use Rattle.agg_kit.specs.Feeds.{series_at, whole_first}
-use Rattle.agg_kit.specs.Homes.{next_home, unnamed_home}
+use Rattle.agg_kit.specs.Feeds.{IsHeld, series_at, whole_first}
 use Rattle.agg_kit.specs.Payloads.{is_out_of_range}
 use Rattle.agg_kit.specs.Refusals.{is_negative_for}
 use Rattle.agg_kit.specs.Rounds.{round}
@@ -20,17 +19,13 @@ use Rattle.agg_kit.specs.Tallies.{Points, Tallied}
 use Rattle.agg_kit.specs.declared.fault.TallyFault.{TallyFault}
 use Rattle.agg_kit.specs.declared.fault.TallyFault.TheVariants as faults
 
--- a tally without points or a name
+-- a tally without points
 abbrev pub empty_tally : Planned → Tallied
-empty_tally p = record { plan = p; series = round p []; home = unnamed_home }
+empty_tally p = record { plan = p; series = round p []; held = [] }
 
--- a tally without its points
+-- a tally that begins anew: what is held stays
 abbrev pub emptied_tally : Tallied → Tallied
 emptied_tally t = record t { series = round t.plan [] }
-
--- a tally that begins anew
-abbrev pub tally_after_restart : Tallied → Tallied
-tally_after_restart t = record (emptied_tally t) { home = next_home t.home }
 
 -- the points of a stream after what arrives there
 abbrev pub points_after : Shape → ℕ → Points → Arrivals → Points
@@ -70,3 +65,29 @@ fault_of t e = fault_into t e (feeds_of t.plan e.instrument)
 -- the same of the feeds before the first that keeps a list of keys: what is looked for before memory is wanted
 unfoldable pub early_fault_of : Tallied → Entry → Option TallyFault
 early_fault_of t e = fault_into t e (whole_first (feeds_of t.plan e.instrument))
+
+-- what a tally, which is s then, answers to a recording
+pub record IsMeasured {U : Type 0} (t s : Tallied) (e : Entry) (told : Result U TallyFault) : Type 0 where
+  pub ok : OnOk told (fault_of t e ≡ None)
+  pub value : OnOk told (s ≡ after_measure t e)
+  pub err : IfErr told (λ f. f ≢ faults.NoMemory → fault_of t e ≡ Some f)
+  pub no_memory : IfErr told (λ f. f ≡ faults.NoMemory → early_fault_of t e ≡ None)
+  pub held : IsHeld t e → IfErr told (λ f. f ≢ faults.NoMemory)
+  pub unchanged : OnErr told (s ≡ t)
+
+-- ---- at held points: what `measure` would do with the n-th instrument and set that are held
+
+abbrev pub held_entry : Tallied → ℕ → ℤ → Option Entry
+held_entry t n v = option_map (λ h. entry_of h.0 h.1 v) (slice_get t.held n)
+
+-- a tally after a recording at the n-th held point
+abbrev pub after_held : Tallied → ℕ → ℤ → Tallied
+after_held t n v = option_map_or (after_measure t) (held_entry t n v) t
+
+-- why it is refused, memory aside: first, that there is no such point
+abbrev pub held_fault_of : Tallied → ℕ → ℤ → Option TallyFault
+held_fault_of t n v = option_map_or (fault_of t) (held_entry t n v) (Some faults.NoHeld)
+
+-- what of it is looked for before memory is wanted
+abbrev pub early_held_fault_of : Tallied → ℕ → ℤ → Option TallyFault
+early_held_fault_of t n v = option_map_or (early_fault_of t) (held_entry t n v) (Some faults.NoHeld)

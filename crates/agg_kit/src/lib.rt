@@ -6,49 +6,34 @@
 //!   where the stream's limit is reached.
 //! - A [`TallyFault`] says why a value is refused: no such instrument, a value that the kind refuses, a sum that would leave
 //!   its range, or want of memory. A refused value is recorded nowhere.
-//! - A [`Bound`] is an instrument and a set whose points a tally has looked up: `Tally::bind` makes one, and
-//!   `Tally::measure_bound` records the same step as `measure` with no look at the set ([`bound_points_stay`]). One of another
-//!   tally, or of an earlier beginning of this one, it refuses by a [`HomeFault`]: a [`Home`] is a name and a beginning.
-//!   `Tally::measure_if_at_home` does so by a look at the set, and asks nothing of names.
-//! - A [`Recorder`] is a thread's own tally: it records with no lock, or answers a [`RecordFault`].
-//!   `Tally::absorb` takes it in as if each of its recordings had been measured in the tally, one after the other
-//!   ([`absorbing_is_recording`]). It has bound points of its own ([`own_bound_points_stay`]).
+//! - A held point is a number of a tally: `Tally::hold` gives one to an instrument and a set, and `Tally::measure_held` records
+//!   there as `measure` does. From the first value on no set is looked up, and no memory is taken where every feed keeps all keys.
+//!   Numbers outlive a restart.
+//! - [`Places`] are for crates that take logs of recordings in: `Tally::measure_at` looks each set of a log up once.
 //!
-//! A caller, from `crates/uses/src/binding.rt`:
+//! A caller (`crates/uses/src/holding.rt`), over the writer that has the tally:
 //!
-//!     let mut point: Bound = tally.bind(instrument, attrs).map_err(HomeFault::Refused)?;
-//!     tally.measure_bound(&mut point, first)?;
-//!     tally.measure_bound(&mut point, second)
+//!     let number = writer.hold(instrument, attrs)?;
+//!     writer.measure_held(number, first)?;
+//!     writer.measure_held(number, second)?;
 //!
-//! What a tally stands for is a list of recordings: [`steps_are_recordings`] and [`rounds_have_what_was_fed`] are the laws. What a
-//! recorder accepted a tally would have accepted, too ([`recorded_is_accepted`], [`refused_is_refused`]); [`points_are_absorbed`] tells
-//! of single points.
-//! What contracts cite stands in `specs/`: `Tallies` (what contracts see of one), `Measuring` (a step and its refusals),
-//! `Rounds` (what a list of recordings comes to), `BoundPoints`, `Homes`, `AtHome`, `Recorders`, `Stamps`, `Absorbs`, `Refusals`,
-//! `Entries`, `Feeding`.
+//! Both values go to the one point of that instrument and set.
+//!
+//! What a tally stands for is a list of recordings: [`steps_are_recordings`] and [`rounds_have_what_was_fed`] are the laws; that
+//! a known place stays one is the law [`places_stay`]. What contracts cite stands in `specs/`: `Tallies` (what contracts see of one),
+//! `Measuring` (a step and its refusals), `Rounds` (what a list of recordings comes to), `Held`, `Refusals`, `Entries`, `Feeding`.
 #![tactic(auto)]
 
-mod absorbing;
-mod bound;
 mod fault;
-mod home;
-mod joining;
+mod held;
 mod laws;
 mod payload;
-mod point_map;
-mod recorder;
 mod recording;
 mod series;
-mod stamps;
+mod streams;
 mod tally;
 
-pub use bound::Bound;
-pub use fault::{HomeFault, RecordFault, TallyFault};
-pub use home::Home;
-pub use laws::{
-    absorbing_is_recording, bound_points_stay, homes_differ, own_bound_points_stay,
-    points_are_absorbed, recorded_is_accepted, refused_is_refused, rounds_have_what_was_fed,
-    steps_are_recordings,
-};
-pub use recorder::Recorder;
+pub use fault::TallyFault;
+pub use held::Places;
+pub use laws::{places_stay, rounds_have_what_was_fed, steps_are_recordings};
 pub use tally::Tally;

@@ -4,10 +4,10 @@ ghost use Rattle.std.specs.Option.{unwrap_or};
 ghost use Rattle.plan_kit.specs.Plans.{is_proper, AreFeeds, lacks};
 ghost use Rattle.attr_kit.specs.Keeping.{kept};
 ghost use Rattle.attr_kit.specs.declared.keep.Keep.TheVariants as keeps;
-ghost use Rattle.agg_kit.specs.BoundPoints.{KnowPlaces, StandAt};
 ghost use Rattle.agg_kit.specs.Feeding.{overflow_set};
-ghost use Rattle.agg_kit.specs.Feeds.{entries_of, shape_at, early_out_at, out_at, points_with, AreHeld};
-ghost use Rattle.agg_kit.specs.Kept.{whole_feed};
+ghost use Rattle.agg_kit.specs.Feeds.{series_at, entries_of, shape_at, early_out_at, out_at, points_with, AreHeld};
+ghost use Rattle.agg_kit.specs.Held.{place_of, KnowPlaces, MayGive, StandAt};
+ghost use Rattle.agg_kit.specs.Held.{whole_feed};
 ghost use Rattle.agg_kit.specs.Sound.{AllSound};
 ghost use Rattle.agg_kit.specs.declared.fault.TallyFault.TheVariants as faults;
 
@@ -24,9 +24,9 @@ enum Memory {
     Short,
 }
 
-/// The shape of a stream.
+// The shape of a stream.
 #[inline(always)]
-pub(crate) fn shape_of(plan: &Plan, stream: usize) -> &Shape
+fn shape_of(plan: &Plan, stream: usize) -> &Shape
     requires { stream < length plan.now.streams }
     ensures value { result.now ≡ shape_at plan.now stream }
     ensures proper { IsTrue (is_proper result.now) }
@@ -34,8 +34,8 @@ pub(crate) fn shape_of(plan: &Plan, stream: usize) -> &Shape
     &plan.stream(stream).unwrap().shape
 }
 
-// The set that a feed keeps of the attributes, or none where it keeps them all: they are not copied.
-pub(crate) fn kept_set(attrs: &AttrSet, keep: &Keep) -> Result<Option<AttrSet>, NoMemory>
+/// The set that a feed keeps of the attributes, or none where it keeps them all: they are not copied.
+pub(crate) fn restricted(attrs: &AttrSet, keep: &Keep) -> Result<Option<AttrSet>, NoMemory>
     ensures value { IfOk result (λ set. unwrap_or set attrs.now ≡ kept keep.now attrs.now) }
     ensures no_memory { OnErr result (keep.now ≢ keeps.All) }
 {
@@ -45,7 +45,7 @@ pub(crate) fn kept_set(attrs: &AttrSet, keep: &Keep) -> Result<Option<AttrSet>, 
     }
 }
 
-// That set, or the attributes where there is none.
+/// That set, or the attributes where there is none.
 pub(crate) fn set_or<'a>(only: &'a Option<AttrSet>, attrs: &'a AttrSet) -> &'a AttrSet
     ensures { result.now ≡ unwrap_or only.now attrs.now }
 {
@@ -55,8 +55,27 @@ pub(crate) fn set_or<'a>(only: &'a Option<AttrSet>, attrs: &'a AttrSet) -> &'a A
     }
 }
 
-/// Records a value in every feed's stream, or in none. Where the stream of a lone feed is given and the point is there, or its set
-/// waits there, one look is all that is needed. `places` are those of the feeds' points, or none.
+// The place of the point that a set feeds, if it is there: the first of the places that are given, or that which is found.
+#[inline(always)]
+fn place_in(
+    points: &Series,
+    limit: u64,
+    overflow: &AttrSet,
+    set: &AttrSet,
+    places: &[usize],
+) -> Option<usize>
+    requires overflow { overflow.now ≡ overflow_set }
+    requires given { MayGive places.now (place_of limit points.now.entries set.now) }
+    ensures { result ≡ place_of limit points.now.entries set.now }
+{
+    match places.split_first() {
+        Some((place, _)) => Some(*place),
+        None => points.find(limit, overflow, set),
+    }
+}
+
+/// Records a value in every feed's stream, or in none. Where the stream of a lone feed is given and the point is there, the
+/// point's place alone is needed. `places` are those of the feeds' points, or none.
 #[inline(always)]
 pub(crate) fn record(
     plan: &Plan,
@@ -79,20 +98,41 @@ pub(crate) fn record(
     ensures err { IfErr result (λ f. f ≢ faults.NoMemory → out_at plan.now attrs.now value series.old.items feeds.now ≡ Some f) }
     ensures no_memory { IfErr result (λ f. f ≡ faults.NoMemory → early_out_at plan.now attrs.now value series.old.items feeds.now ≡ None) }
     ensures held { AreHeld plan.now feeds.now attrs.now series.old.items → IfErr result (λ f. f ≢ faults.NoMemory) }
-    ensures known { places.now ≢ [] → IfErr result (λ f. f ≢ faults.NoMemory) }
 {
-    let Some(stream) = lone else {
-        return record_all(plan, overflow, series, feeds, attrs, places, value);
-    };
-    let shape = shape_of(plan, stream);
-    let points = &mut series[stream];
-    if let Some(fits) = points.try_record(plan.limit(), overflow, attrs, places, shape, value) {
-        if !fits {
-            return Err(TallyFault::Overflow(stream));
-        }
-        return Ok(());
+    if let Some(stream) = lone
+        && let Some(place) = place_in(&series[stream], plan.limit(), overflow, attrs, places)
+    {
+        return add_own(plan, series, stream, place, attrs, value);
     }
     record_all(plan, overflow, series, feeds, attrs, places, value)
+}
+
+/// Records a value at the place of a set's point, in the stream of a feed that has no other beside it and keeps all keys.
+#[inline(always)]
+pub(crate) fn add_own(
+    plan: &Plan,
+    series: &mut Vec<Series>,
+    stream: usize,
+    place: usize,
+    attrs: &AttrSet,
+    value: i64,
+) -> Result<(), TallyFault>
+    requires stream { stream < length series.old.items }
+    requires sound { AllSound plan.now.streams (entries_of series.old.items) }
+    requires at { place_of plan.now.limit (series_at (entries_of series.old.items) stream) attrs.now ≡ Some place }
+    ensures value { OnOk result (entries_of series.new.items ≡ points_with plan.now (whole_feed stream ∷ []) attrs.now value series.old.items) }
+    ensures ok { OnOk result (out_at plan.now attrs.now value series.old.items (whole_feed stream ∷ []) ≡ None) }
+    ensures unchanged { OnErr result (entries_of series.new.items ≡ entries_of series.old.items) }
+    ensures err { IfErr result (λ f. out_at plan.now attrs.now value series.old.items (whole_feed stream ∷ []) ≡ Some f) }
+    ensures memory { IfErr result (λ f. f ≢ faults.NoMemory) }
+{
+    let _ = attrs;
+    let shape = shape_of(plan, stream);
+    let points = &mut series[stream];
+    if !points.try_add(place, shape, value) {
+        return Err(TallyFault::Overflow(stream));
+    }
+    Ok(())
 }
 
 // Records a value in every feed's stream, or in none, whatever the feeds. `places` are those of the feeds' points, or none.
@@ -187,7 +227,7 @@ fn record_each(
             Memory::Short => Err(TallyFault::NoMemory),
         };
     };
-    let only = kept_set(attrs, &feed.keep)?;
+    let only = restricted(attrs, &feed.keep)?;
     let set = set_or(&only, attrs);
     let limit = plan.limit();
     let shape = shape_of(plan, feed.stream);

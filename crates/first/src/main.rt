@@ -5,6 +5,7 @@
 
 ghost use Rattle.std.specs.Prelude.{◌≡◌, [], OnOk, pos};
 ghost use Rattle.agg_kit.specs.Entries.{entry_of};
+ghost use Rattle.recorder_kit.specs.Log.{ByName};
 ghost use Rattle.writer_kit.specs.Recording.{after_record};
 
 use attr_kit::{AttrSet, Keep, NoMemory, Seq, Txt};
@@ -55,7 +56,7 @@ fn ask(alloc: Global) -> Result<Ask, NoMemory> {
 
 // What the service does: it counts three requests, and four.
 fn serve(alloc: Global, writer: &mut Writer) -> Result<(), MeasureFault>
-    ensures { OnOk result (writer.new ≡ after_record (after_record writer.old (entry_of 0 [] (pos 3))) (entry_of 0 [] (pos 4))) }
+    ensures { OnOk result (writer.new ≡ after_record (after_record writer.old (ByName (entry_of 0 [] (pos 3)))) (ByName (entry_of 0 [] (pos 4)))) }
 {
     let none = AttrSet::empty(alloc);
     writer.measure(0, &none, 3)?;

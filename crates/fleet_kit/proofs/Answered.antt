@@ -10,10 +10,10 @@ use Rattle.rollup_kit.proofs.Fleets.{fleet_rows}
 use Rattle.rollup_kit.specs.Rollups.{AddsUp, rollup_rows}
 use Rattle.rollup_kit.specs.Writers.{AllWithin, AreTold, IsRegrouped, rows_of}
 use Rattle.rollup_kit.specs.declared.ask.Ask.{Ask}
-use Rattle.fleet_kit.proofs.Exports.{are_jobs, are_plans}
+use Rattle.fleet_kit.proofs.Exports.{are_jobs, are_plans, got}
 use Rattle.fleet_kit.proofs.Ties.{none_tied}
 use Rattle.fleet_kit.specs.Checks.{has_id_of, setup_fault, first_tie}
-use Rattle.fleet_kit.specs.Serving.{AreWhole}
+use Rattle.fleet_kit.specs.Serving.{AreOfOthers, AreWhole}
 use Rattle.fleet_kit.specs.Setups.{AreExportsAt, no_writer, entries_recorded, tasks_of, writer_at, writers_of}
 use Rattle.fleet_kit.specs.declared.setup.FleetSetup.{FleetSetup}
 
@@ -43,6 +43,15 @@ are_told s e v w a b same =
         | inr not_later ↦ omega (arith, above, not_later)
       ]
     ]
+
+-- nor do their exports
+pub exports_apart : (s : FleetSetup) (es : List Export) → setup_fault s ≡ None → AreExportsAt s es → AreOfOthers es
+exports_apart s es none are v w d e at there same =
+    let count = are.count in
+    let starts = length-map s.writers.items (λ w. w.2) in
+    let less = (got es v d at).0 in
+    let more = (got es w e there).0 in
+    are_told s none v w (omega (arith, less, count, starts)) (omega (arith, more, count, starts)) (sym (are.each v d at).export.writer ∙ same ∙ (are.each w e there).export.writer)
 
 pub answers_all : (s : FleetSetup) (es : List Export) (ids : List ℕ) (gs : List GatewayState) → setup_fault s ≡ None → AreExportsAt s es → AreWhole es ids gs → (k : ℕ) (g : GatewayState) → slice_get gs k ≡ Some g
     → (ask : Ask) → AddsUp ask.stream.shape → AllWithin (writers_of s) (entries_recorded s) ⊎ IsRegrouped ask → rollup_rows ask g.points ≡ rows_of (writers_of s) (entries_recorded s) ask

@@ -27,6 +27,12 @@ get_at [] k x l e = absurd (omega (arith, l))
 get_at (y ∷ xs) zero x l e = ap Some (sym e)
 get_at (y ∷ xs) (suc k) x l e = get_at xs k x (omega (arith, l)) e
 
+-- a number that stands at a place
+pub get_number : (xs : List ℕ) (k x : ℕ) → k < length xs → x ≡ slice_index xs k → slice_get xs k ≡ Some x
+get_number [] k x less is = absurd (omega (arith, less))
+get_number (y ∷ xs) zero x less is = ap Some (sym is)
+get_number (y ∷ xs) (suc k) x less is = get_number xs k x (omega (arith, less)) is
+
 pub index_at : {A : Type 0} (xs : List A) (k : ℕ) (x d : A) → k < length xs → x ≡ slice_index_or xs k x → x ≡ slice_index_or xs k d
 index_at xs k x d l e = sym ((got xs k x (get_at xs k x l e)).1 d)
 

@@ -1,5 +1,5 @@
 -- The first of several reasons why threads stopped.
-use Rattle.std.proofs.Common.{◌≡◌, ◌⊎◌, inl, inr, ℕ, ◌<◌, ◌≤◌, ◌==◌, ◌&&◌, ◌||◌, Bool, true, false, cond, true≢false, List, [], ◌∷◌, ◌++◌, Option, Some, None, refl, sym, ap, subst, ◌∙◌, arith}
+use Rattle.std.proofs.Common.{◌≡◌, ◌⊎◌, inl, inr, ℕ, ◌<◌, ◌≤◌, ◌==◌, ◌&&◌, ◌||◌, Bool, true, false, true≢false, List, [], ◌∷◌, ◌++◌, Option, Some, None, refl, sym, ap, subst, ◌∙◌, arith}
 use Rattle.std.specs.Prelude.{if◌then◌else◌, is_err, is_ok, map, nat_lt, IfNone, Result, Ok, Err}
 use mathlib.Core.List.{map-append}
 use Rattle.std.proofs.lemmas.Bool.{and_cases, and_left, and_right, cases_lt, eqb-false, le-ltb, ltb-false, ne_eqb, or_from, or_parts}
@@ -30,7 +30,7 @@ shown p q (inl less) = or_from _ _ (le-ltb p.0 q.0 (omega (arith, less))) (and_l
 shown p q (inr h) = let same = h.0 in or_from _ _ (le-ltb p.0 q.0 (omega (arith, same))) (and_right _ _ (le-ltb p.1 q.1 h.1))
 
 -- nothing comes before itself
-self : (h : Halt) → is_before h h ≡ false
+pub self : (h : Halt) → is_before h h ≡ false
 self h = shown (rank h) (rank h) (inr (refl, omega arith))
 
 -- of two, not each comes before the other
@@ -40,7 +40,7 @@ turned p q e = shown q p (dite (ℕ_discrete q.0 p.0)
     (λ other. inl (elim (cases_lt p.0 q.0) [ inl less ↦ less | inr least ↦ absurd (true≢false (sym e ∙ shown p q (inl (omega (arith, least, other))))) ])))
 
 -- what comes after the first of all does not come before it
-further : (p q r : ℕ × ℕ) → before p q ≡ false → before q r ≡ false → before p r ≡ false
+pub further : (p q r : ℕ × ℕ) → before p q ≡ false → before q r ≡ false → before p r ≡ false
 further p q r d e = shown p r (elim (tells p q d) [
   | inl less ↦ elim (tells q r e) [ inl more ↦ inl (omega (arith, less, more)) | inr more ↦ let s = more.0 in inl (omega (arith, less, s)) ]
   | inr less ↦ let s = less.0 in let n = less.1 in elim (tells q r e) [ inl more ↦ inl (omega (arith, s, more)) | inr more ↦ let t = more.0 in let m = more.1 in inr (omega (arith, s, t), omega (arith, n, m)) ]
@@ -95,15 +95,13 @@ module _ (were more : Halt → Type 0) where
     λ x m. elim (split x m) [ inl w ↦ further (rank x) (rank o) (rank t) (first.1 x w) (is.1 o (inl refl)) | inr n ↦ is.1 x (inr n) ],
   )
 
--- one more fault is looked at, which stood before
-pub first_joined : (fault old told : Option Halt) (rest : List (Option Halt)) → IsFirst (λ h. (fault ≡ Some h) ⊎ (old ≡ Some h)) told → IsFirst (λ h. In (Some h) rest) old → IsFirst (λ h. In (Some h) (fault ∷ rest)) told
-first_joined fault old told rest is first =
-    first_more (λ h. In (Some h) rest) (λ h. In (Some h) (fault ∷ rest)) fault old told first (λ h i. elim i [ inl new ↦ inr (sym new) | inr w ↦ inl w ]) (λ h w. inr w) (λ h e. inl (sym e))
-    (round told is)
-  where
-    round : (told : Option Halt) → IsFirst (λ h. (fault ≡ Some h) ⊎ (old ≡ Some h)) told → IsFirst (λ h. (old ≡ Some h) ⊎ (fault ≡ Some h)) told
-    round None is = λ h w. is h (elim w [ inl a ↦ inr a | inr b ↦ inl b ])
-    round (Some t) is = (elim is.0 [ inl a ↦ inr a | inr b ↦ inl b ], λ h w. is.1 h (elim w [ inl a ↦ inr a | inr b ↦ inl b ]))
+-- one more fault is looked at
+pub first_joined : (fault old told : Option Halt) (before : List (Option Halt)) → IsFirst (λ h. (old ≡ Some h) ⊎ (fault ≡ Some h)) told → IsFirst (λ h. In (Some h) before) old
+    → IsFirst (λ h. In (Some h) (before ++ fault ∷ [])) told
+first_joined fault old told before is first =
+    first_more (λ h. In (Some h) before) (λ h. In (Some h) (before ++ fault ∷ [])) fault old told first
+    (λ h i. elim (In-append (Some h) before (fault ∷ []) i) [ inl w ↦ inl w | inr new ↦ elim new [ inl e ↦ inr (sym e) | inr none ↦ absurd none ] ])
+    (λ h w. In-left (Some h) before (fault ∷ []) w) (λ h e. In-right (Some h) before (fault ∷ []) (inl (sym e))) is
 
 -- want of memory comes before none
 last : (h : Halt) → is_before NoMemory h ≡ false

@@ -1,12 +1,13 @@
 pub mod Answered
-pub mod Closed
-pub mod Closing
 pub mod Exported
 pub mod Exports
 pub mod Halts
 pub mod Lists
+pub mod Noting
 pub mod Posting
+pub mod Recorded
 pub mod Refusals
+pub mod Runs
 pub mod Served
 pub mod Stops
 pub mod Ties

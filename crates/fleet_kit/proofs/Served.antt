@@ -1,15 +1,31 @@
 -- What a gateway's thread took.
-use Rattle.std.proofs.Common.{◌≡◌, ◌⊎◌, inl, inr, ℕ, zero, suc, ◌<◌, ◌≤◌, List, [], ◌∷◌, ◌++◌, map, length, slice_get, slice_index, slice_index_or, Some, refl, sym, ap, subst, ◌∙◌, arith}
-use Rattle.std.specs.FinMap.{empty}
+use Rattle.std.proofs.Common.{◌≡◌, inl, inr, ℕ, zero, suc, ◌<◌, ◌≤◌, List, [], ◌∷◌, ◌++◌, map, length, slice_get, slice_index, slice_index_or, Option, Some, refl, sym, ap, subst, ◌∙◌, arith}
+use Rattle.std.specs.Cmp.{Equal-is}
+use Rattle.std.specs.FinMap.{empty, get}
+use Rattle.std.specs.List.{flat_map}
+use Rattle.std.specs.Ordering.{eq_by_cmp}
 use Rattle.gateway_kit.specs.GatewayState.{GatewayState}
+use Rattle.point_kit.proofs.EqualityLaws.{payload_equivalence, payload_exact}
+use Rattle.point_kit.proofs.OrderLaws.{key_exact, key_total}
 use Rattle.point_kit.proofs.PointLaws.{states_join}
-use Rattle.point_kit.specs.Exports.{join_points, state}
+use Rattle.point_kit.proofs.StateLaws.{get-state_of}
+use Rattle.point_kit.specs.Best.{best}
+use Rattle.point_kit.specs.Equality.{payload_eq}
+use Rattle.point_kit.specs.Exports.{join_points, key_of, points_of, state}
+use Rattle.point_kit.specs.Orders.{key_cmp}
+use Rattle.point_kit.specs.States.{points_under}
 use Rattle.point_kit.specs.declared.export.Export.{Export}
+use Rattle.point_kit.specs.declared.export_point.ExportPoint.{ExportPoint}
+use Rattle.point_kit.specs.declared.key.Key.{Key}
+use Rattle.point_kit.specs.declared.payload.Payload.{Payload}
 use Rattle.rollup_kit.specs.Fleets.{AreAt, AreCovered}
-use Rattle.schedule_kit.proofs.Members.{In-append, In-left, In-right}
+use Rattle.schedule_kit.proofs.Members.{filter-In, flat_map-In, map-In, In-append, In-left, In-right}
 use Rattle.schedule_kit.specs.Members.{In}
 use Rattle.fleet_kit.proofs.Exports.{got}
-use Rattle.fleet_kit.specs.Serving.{AreWhole, IsServed, IsWhole}
+use Rattle.fleet_kit.specs.Halts.{HasPoints}
+use Rattle.fleet_kit.specs.Posting.{IsUnsent}
+use Rattle.fleet_kit.specs.Serving.{AreOfOthers, AreWhole, IsServed, IsWhole, Lacks, StopsGateway}
+use Rattle.fleet_kit.specs.declared.halt.Halt.TheVariants.{Missing}
 
 -- nothing was told yet
 pub served_none : (exports : List Export) (id : ℕ) (told : List ℕ) (g : GatewayState) → g.id ≡ id → g.points ≡ empty → told ≡ [] → IsServed exports id told g
@@ -86,3 +102,47 @@ all_whole exports ids gs r = record {
   same_ids = ids_of gs ids r.0 (λ k g at. (r.1 k g at).same_id);
   each = λ k g at. let x = r.1 k g at in record { same_id = refl; took = x.took; taken = x.taken; at = x.at; holds = x.holds; covered = x.covered };
 }
+
+-- ---- a gateway that was not told of a writer lacks its points
+
+no_member : {A : Type 0} (xs : List A) → ((y : A) → In y xs → ⊥) → xs ≡ []
+no_member [] h = refl
+no_member (x ∷ xs) h = absurd (h x (inl refl))
+
+taken_at : (exports : List Export) (took : List ℕ) (taken : List Export) → AreAt exports took taken → (d : Export) → In d taken → (w : ℕ) × In w took × (slice_get exports w ≡ Some d)
+taken_at exports [] [] at d i = absurd i
+taken_at exports [] (e ∷ es) at d i = absurd at
+taken_at exports (w ∷ ws) [] at d i = absurd at
+taken_at exports (w ∷ ws) (e ∷ es) at d (inl is) = (w, inl refl, at.0 ∙ ap Some (sym is))
+taken_at exports (w ∷ ws) (e ∷ es) at d (inr i) = let r = taken_at exports ws es at.1 d i in (r.0, inr r.1, r.2)
+
+-- no point under a key is of an export of another writer
+no_point : (taken : List Export) (k : Key) → ((d : Export) → In d taken → d.writer ≡ k.writer → ⊥) → points_under key_cmp k (flat_map points_of taken) ≡ []
+no_point taken k none = no_member _ (λ y i.
+    let under = map-In (λ (p : Key × (ℕ × Payload)). p.1) y _ i in
+    let kept = filter-In (λ (p : Key × (ℕ × Payload)). eq_by_cmp key_cmp k p.0) under.0 _ under.1 in
+    let of_export = flat_map-In points_of under.0 taken kept.0 in
+    let of_point = map-In (λ (p : ExportPoint). (key_of of_export.0 p, (of_export.0.time, p.payload))) under.0 _ of_export.2 in
+    let tied : k ≡ under.0.0 = key_exact k under.0.0 ((Equal-is (key_cmp k under.0.0)).0 kept.1) in
+    none of_export.0 of_export.1 (sym (ap (λ (x : Key). x.writer) tied ∙ ap (λ (p : Key × (ℕ × Payload)). p.0.writer) of_point.2)))
+
+pub lacks : (exports : List Export) → AreOfOthers exports → (id : ℕ) (told : List ℕ) (g : GatewayState) → IsServed exports id told g → (writer : ℕ) → HasPoints exports writer → (In writer told → ⊥) → Lacks exports id writer
+lacks exports apart id told g s writer has not = record {
+  told = told;
+  gateway = g;
+  served = s;
+  export = has.0;
+  at = has.1;
+  points = has.2;
+  missing = λ p i.
+      let k : Key = key_of has.0 p in
+      let none : points_under key_cmp k (flat_map points_of s.taken) ≡ [] = no_point s.taken k (λ d there same.
+      let at = taken_at exports s.took s.taken s.at d there in
+      not (s.only writer (subst (λ (w : ℕ). In w s.took) (apart at.0 writer d has.0 at.2 has.1 same) at.1))) in
+      ap (λ q. get q k) s.holds ∙ get-state_of key_total key_exact payload_eq payload_equivalence payload_exact (flat_map points_of s.taken) k ∙ ap (best payload_eq) none;
+}
+
+-- why a gateway's thread stops: it could not be told of a writer, or memory was wanting
+pub gateway_lacks : (exports : List Export) → AreOfOthers exports → (place id : ℕ) (sent : List ℕ) (writer : ℕ) (unsent : Option ℕ) (g : GatewayState) → IsServed exports id sent g → IsUnsent exports sent unsent → unsent ≡ Some writer
+    → StopsGateway exports place id unsent (Missing place writer)
+gateway_lacks exports apart place id sent writer unsent g s is some = let u = subst (IsUnsent exports sent) some is in (refl, some, lacks exports apart id sent g s writer u.0 u.1)

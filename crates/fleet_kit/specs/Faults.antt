@@ -1,8 +1,7 @@
 -- Faults of a fleet.
-use Rattle.std.specs.Prelude.{◌≢◌, ◌<◌, ℕ, [], length}
+use Rattle.std.specs.Prelude.{◌≢◌, ◌<◌, ℕ, Bool, [], length}
 use Rattle.point_kit.specs.declared.export.Export.{Export}
-use Rattle.fleet_kit.specs.Halts.{HasEntry}
-use Rattle.fleet_kit.specs.Setups.{IsExportAt}
+use Rattle.fleet_kit.specs.Setups.{AllEnded, IsExportAt, StopsFleet}
 use Rattle.fleet_kit.specs.declared.fault.FleetFault.{FleetFault}
 use Rattle.fleet_kit.specs.declared.fault.FleetFault.TheVariants as faults
 use Rattle.fleet_kit.specs.declared.halt.Halt.{Halt}
@@ -21,15 +20,16 @@ fault_of_halt halts.NoMemory = faults.NoMemory
 abbrev pub HasRound : FleetSetup → ℕ → Type 0
 HasRound s writer = (writer < length s.writers.items) × (e : Export) × IsExportAt s writer e × (e.points ≢ [])
 
--- A fault is none of the setup, and names what the setup has: a job with an entry, an entry of a job, or a gateway and a writer whose round has points.
-abbrev pub IsLate : FleetSetup → FleetFault → Type 0
-IsLate s (faults.NoWriter job) = ⊥
-IsLate s (faults.SameWriter first second) = ⊥
-IsLate s (faults.SameGateway first second) = ⊥
-IsLate s (faults.EndNotAfter writer) = ⊥
-IsLate s (faults.TooManyJobs writer) = ⊥
-IsLate s (faults.GateShut job) = HasEntry s.jobs.items job 0
-IsLate s (faults.Refused job entry) = HasEntry s.jobs.items job entry
-IsLate s faults.NoThread = Unit {0}
-IsLate s (faults.Missing gateway writer) = (gateway < length s.gateways.items) × HasRound s writer
-IsLate s faults.NoMemory = Unit {0}
+-- A fault is none of the setup. Where it is one of jobs, of threads or of memory, the recording stopped short for it, and no job ended for
+-- one that comes before it. Where a gateway lacks a writer, all jobs ended well, and the writer's round has points.
+abbrev pub IsLate : (ℕ → ℕ → Bool → Type 0) → FleetSetup → FleetFault → Type 0
+IsLate passes s (faults.NoWriter job) = ⊥
+IsLate passes s (faults.SameWriter first second) = ⊥
+IsLate passes s (faults.SameGateway first second) = ⊥
+IsLate passes s (faults.EndNotAfter writer) = ⊥
+IsLate passes s (faults.TooManyJobs writer) = ⊥
+IsLate passes s (faults.GateShut job) = StopsFleet passes s (halts.GateShut job)
+IsLate passes s (faults.Refused job entry) = StopsFleet passes s (halts.Refused job entry)
+IsLate passes s faults.NoThread = StopsFleet passes s halts.NoThread
+IsLate passes s (faults.Missing gateway writer) = (gateway < length s.gateways.items) × HasRound s writer × AllEnded passes s
+IsLate passes s faults.NoMemory = StopsFleet passes s halts.NoMemory

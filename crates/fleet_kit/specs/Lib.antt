@@ -1,9 +1,11 @@
 pub mod Checks
-pub mod Closing
 pub mod Collected
+pub mod Ends
 pub mod Faults
 pub mod Halts
 pub mod Jobs
+pub mod Noting
 pub mod Posting
+pub mod Recorded
 pub mod Serving
 pub mod Setups

@@ -1,5 +1,5 @@
 -- The setup of a fleet: its writers by their places, and what its jobs record.
-use Rattle.std.specs.Prelude.{ℕ, ◌≡◌, List, [], length, map, slice_index_or, slice_get, Some}
+use Rattle.std.specs.Prelude.{ℕ, ◌≡◌, ◌<◌, Bool, List, [], length, map, slice_index_or, slice_get, Some}
 use Rattle.agg_kit.specs.Entries.{Entry}
 use Rattle.plan_kit.specs.Plans.{Planned, AreApart}
 use Rattle.point_kit.specs.declared.export.Export.{Export}
@@ -7,7 +7,9 @@ use Rattle.point_kit.specs.declared.writer_id.WriterId.{WriterId}
 use Rattle.rollup_kit.specs.Fleets.{Task, entries_of, collection_of, IsExportOf}
 use Rattle.rollup_kit.specs.Writers.{Writers}
 use Rattle.schedule_kit.specs.Mixed.{AreMixed}
+use Rattle.fleet_kit.specs.Ends.{AllEnd, StopsShort}
 use Rattle.fleet_kit.specs.Jobs.{task_of}
+use Rattle.fleet_kit.specs.declared.halt.Halt.{Halt}
 use Rattle.fleet_kit.specs.declared.setup.FleetSetup.{FleetSetup}
 
 -- what stands where there is no writer
@@ -17,6 +19,13 @@ no_writer = (record { service = []; instance = [] }, record { instruments = []; 
 -- the writer at a place: its identity, its plan and its start
 abbrev pub writer_at : FleetSetup → ℕ → WriterId × Planned × ℕ
 writer_at s w = slice_index_or s.writers.items w no_writer
+
+-- its plan and its start
+abbrev pub plan_at : FleetSetup → ℕ → Planned
+plan_at s w = (writer_at s w).1
+
+abbrev pub start_at : FleetSetup → ℕ → ℕ
+start_at s w = (writer_at s w).2
 
 -- the writers by their places
 abbrev pub writers_of : FleetSetup → Writers
@@ -41,3 +50,19 @@ pub record IsExportAt (s : FleetSetup) (w : ℕ) (e : Export) : Type 0 where
 pub record AreExportsAt (s : FleetSetup) (es : List Export) : Type 0 where
   pub count : length es ≡ length s.writers.items
   pub each : (w : ℕ) (e : Export) → slice_get es w ≡ Some e → IsExportAt s w e
+
+module _ (passes : ℕ → ℕ → Bool → Type 0) (s : FleetSetup) where
+  -- each entry of each job of the writer at a place passed the gate and was recorded; or their recording stopped short for this reason
+  abbrev pub AllEndAt : ℕ → Type 0
+  AllEndAt place = AllEnd passes (plan_at s) (start_at s) (λ w. w ≡ place) s.jobs.items
+
+  abbrev pub StopsAt : ℕ → Halt → Type 0
+  StopsAt place = StopsShort passes (plan_at s) (start_at s) (λ w. w ≡ place) s.jobs.items
+
+  -- each entry of each job passed the gate and was recorded by its writer
+  abbrev pub AllEnded : Type 0
+  AllEnded = AllEnd passes (plan_at s) (start_at s) (λ w. w < length s.writers.items) s.jobs.items
+
+  -- the recording of all jobs stopped short for this reason
+  abbrev pub StopsFleet : Halt → Type 0
+  StopsFleet = StopsShort passes (plan_at s) (start_at s) (λ w. w < length s.writers.items) s.jobs.items

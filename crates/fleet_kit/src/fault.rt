@@ -4,8 +4,7 @@ ghost use Rattle.std.specs.Prelude.{◌≡◌};
 use crate::halt::Halt;
 use thiserror::Error;
 
-/// Why a fleet gives no answer, in the order in which it is looked for. The first five are refusals of the setup, before any
-/// thread is started.
+/// Why a fleet gives no answer, in the order in which it is looked for. The first five are refusals of the setup alone.
 #[derive(Debug, PartialEq, Eq, Drop, Error)]
 pub enum FleetFault {
     /// The least job whose writer is not there.
@@ -24,19 +23,20 @@ pub enum FleetFault {
     /// The least writer with more than 4,095 jobs, or more than 2^61 entries in them.
     #[error("writer {0} has too many jobs")]
     TooManyJobs(usize),
-    /// The gate let an entry of this job not pass, and no lesser job was stopped.
+    /// The gate let an entry of this job not pass, once the entries before it were recorded, and no lesser job was stopped.
     #[error("the gate was shut for job {0}")]
     GateShut(usize),
-    /// The writer refused this entry of this job, for another cause than memory, and no lesser job was stopped.
+    /// The writer's plan refuses this entry of this job after the entries before it, and no lesser job was stopped.
     #[error("entry {entry} of job {job} was refused")]
     Refused { job: usize, entry: usize },
-    /// A thread or a seat for it could not be had.
+    /// A seat for a job could not be had, and no job was stopped. Where a thread can't be made its job is run by the caller, which is
+    /// no fault.
     #[error("no thread")]
     NoThread,
-    /// The gateway could not be told of the writer's collection, which has points; both by place.
+    /// The gateway could not be told of the writer's collection, which has points, and lacks them; both by place.
     #[error("gateway {gateway} lacks writer {writer}")]
     Missing { gateway: usize, writer: usize },
-    /// Memory was refused.
+    /// Memory was refused, and nothing else stopped a job.
     #[error("no memory")]
     NoMemory,
 }

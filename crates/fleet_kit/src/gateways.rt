@@ -1,10 +1,9 @@
 //! The gateways of a fleet: a thread for each, which takes the exports that it is told of.
-ghost use Rattle.std.specs.Prelude.{◌≡◌, [], None, IfErr, IfOk, OnOk, length};
+ghost use Rattle.std.specs.Prelude.{◌≡◌, [], None, IfErr, IfOk, OnOk};
 ghost use Rattle.crossbeam_channel.specs.Claims.{view, IsSeatAt};
 ghost use Rattle.crossbeam_channel.specs.Ends.{receives_on};
-ghost use Rattle.fleet_kit.specs.Halts.{IsLacking, StopsServing};
 ghost use Rattle.fleet_kit.specs.Posting.{IsPosted};
-ghost use Rattle.fleet_kit.specs.Serving.{IsServed, IsWhole, AreWhole};
+ghost use Rattle.fleet_kit.specs.Serving.{IsServed, IsWhole, AreOfOthers, AreWhole, StopsGateway, StopsServing};
 
 use crate::halt::{Halt, gather};
 use crate::posts::{Got, Places, Post, Traffic, posts_for};
@@ -42,18 +41,19 @@ fn serve<R: Wait>(
     Ok(gateway)
 }
 
-// A gateway's thread. It answers the gateway where that was told of each export with points, and `Missing` with the first
-// writer otherwise.
+// A gateway's thread. It answers the gateway where that was told of each export with points, and else `Missing` with the first
+// writer of which it was not told: it lacks the points of that one.
 fn serve_gateway<R: Wait>(
     rt: &R,
     alloc: Global,
     exports: &[Export],
     post: Post,
 ) -> Result<Gateway, Halt>
-    requires { IsPosted exports.now (view post.pass) post.unsent }
+    requires apart { AreOfOthers exports.now }
+    requires posted { IsPosted exports.now (view post.pass) post.unsent }
     ensures ok { IfOk result (λ g. IsWhole exports.now post.id g) }
     ensures told { OnOk result (post.unsent ≡ None) }
-    ensures err { IfErr result (IsLacking post.gateway post.unsent) }
+    ensures err { IfErr result (StopsGateway exports.now post.gateway post.id post.unsent) }
 {
     let Post {
         gateway: place,
@@ -79,17 +79,19 @@ pub(crate) fn gateways_of<R: Threads + Wait + Sync>(
     ids: &[u32],
     exports: &[Export],
 ) -> Result<Vec<Gateway>, Halt>
+    requires apart { AreOfOthers exports.now }
     ensures ok { IfOk result (λ gs. AreWhole exports.now ids.now gs.items) }
-    ensures err { IfErr result (StopsServing exports.now (length ids.now)) }
+    ensures err { IfErr result (StopsServing exports.now ids.now) }
 {
     let posts = posts_for(rt, alloc, ids, exports)?;
     let results = thread::map_vec(
         rt,
         posts,
         &|post: Post| -> Result<Gateway, Halt>
-            requires { IsPosted exports.now (view post.pass) post.unsent }
+            requires apart { AreOfOthers exports.now }
+            requires posted { IsPosted exports.now (view post.pass) post.unsent }
             ensures ok { IfOk result (λ g. IsWhole exports.entry.now post.id g) }
-            ensures err { IfErr result (IsLacking post.gateway post.unsent) }
+            ensures err { IfErr result (StopsGateway exports.entry.now post.gateway post.id post.unsent) }
         { serve_gateway(rt, alloc, exports, post) },
     )?;
     gather(alloc, results)

@@ -1,7 +1,7 @@
 //! What threads of gateways are told: places of exports, each thread over a channel of its own.
 //!
 //! The channels are under a rule, so that contracts can say what was sent over one and that all of it comes.
-ghost use Rattle.std.specs.Prelude.{◌≡◌, ◌<◌, IfOk, MatchBool, length, map, All};
+ghost use Rattle.std.specs.Prelude.{◌≡◌, IfOk, MatchBool, Some, map, slice_get, All};
 ghost use Rattle.crossbeam_channel.specs.Claims.{view, IsSeatAt};
 ghost use Rattle.crossbeam_channel.specs.Ends.{receives_on, sends_on};
 ghost use Rattle.fleet_kit.specs.Posting.{and_sent, IsPosted};
@@ -126,7 +126,7 @@ pub(crate) fn posts_for<R: Wait>(
     exports: &[Export],
 ) -> Result<Vec<Post>, NoMemory>
     ensures ids { IfOk result (λ v. map (λ p. p.id) v.items ≡ ids.now) }
-    ensures gateways { IfOk result (λ v. All (λ p. p.gateway < length ids.now) v.items) }
+    ensures gateways { IfOk result (λ v. All (λ p. slice_get ids.now p.gateway ≡ Some p.id) v.items) }
     ensures told { IfOk result (λ v. All (λ p. IsPosted exports.now (view p.pass) p.unsent) v.items) }
 {
     let mut posts = Vec::new(alloc);

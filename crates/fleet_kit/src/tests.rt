@@ -16,6 +16,8 @@ use uuid::Uuid;
 struct ShutAt(usize, usize);
 
 impl Gate for ShutAt {
+    ghost passes = { λ _ _ _ _. Unit {0} };
+
     fn pass<R: Wait>(&self, _rt: &R, job: usize, entry: usize) -> bool {
         job != self.0 || entry != self.1
     }
@@ -32,6 +34,8 @@ struct Meeting {
 }
 
 impl Gate for Meeting {
+    ghost passes = { λ _ _ _ _. Unit {0} };
+
     fn pass<R: Wait>(&self, _rt: &R, job: usize, _entry: usize) -> bool {
         let (own, other) = if job == 0 {
             (&self.here, &self.there)
@@ -145,10 +149,24 @@ fn jobs_are_stopped(rt: HostRuntime) -> Result<(), Fail> {
     for writer in 0..2 {
         shut.jobs.push(job(alloc, writer, &[1])?)?;
     }
+    let mut late = fleet(alloc, &[1], &[1])?;
+    let mut ones = [1; 4500];
+    ones[4200] = -1;
+    late.jobs.push(job(alloc, 0, &ones)?)?;
+    let mut both = fleet(alloc, &[1], &[1])?;
+    both.jobs.push(job(alloc, 0, &[-1, 1])?)?;
     // Both jobs of the first are refused: the least is told.
     let refused = Some(FleetFault::Refused { job: 0, entry: 1 });
     assert!(rt; run_fleet(&rt, alloc, negative, &Open).err() == refused);
     assert!(rt; run_fleet(&rt, alloc, shut, &ShutAt(1, 0)).err() == Some(FleetFault::GateShut(1)));
+    // In a second log, and before the gate was shut.
+    let behind = Some(FleetFault::Refused {
+        job: 0,
+        entry: 4200,
+    });
+    assert!(rt; run_fleet(&rt, alloc, late, &Open).err() == behind);
+    let first = Some(FleetFault::Refused { job: 0, entry: 0 });
+    assert!(rt; run_fleet(&rt, alloc, both, &ShutAt(0, 1)).err() == first);
     Ok(())
 }
 

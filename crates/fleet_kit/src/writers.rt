@@ -1,17 +1,17 @@
 //! The writers of a fleet, each shared by its recorders and collected once.
 ghost use Rattle.std.specs.Prelude.{◌≡◌, ◌⊎◌, ◌<◌, ℕ, List, [], IfErr, IfOk, length, map};
 ghost use Rattle.agg_kit.specs.Entries.{Entry};
-ghost use Rattle.agg_kit.specs.Rounds.{StandsFor};
 ghost use Rattle.point_kit.specs.declared.export.Export.{Export};
 ghost use Rattle.rollup_kit.specs.Fleets.{entries_of};
-ghost use Rattle.turn_kit.specs.Public.{family};
+ghost use Rattle.writer_kit.specs.Following.{Follows};
 ghost use Rattle.writer_kit.specs.Shared.{IsAt, first_of};
-ghost use Rattle.fleet_kit.specs.Closing.{Weighs};
 ghost use Rattle.fleet_kit.specs.Collected.{IsCopyOf, IsRoundOfMixed};
-ghost use Rattle.fleet_kit.specs.Halts.{StopsRecording};
+ghost use Rattle.fleet_kit.specs.Ends.{AllEndFrom, StopsShortFrom};
 ghost use Rattle.fleet_kit.specs.Jobs.{task_of};
+ghost use Rattle.fleet_kit.specs.Noting.{BeganNew};
+ghost use Rattle.fleet_kit.specs.Recorded.{Brings};
+ghost use Rattle.fleet_kit.specs.Setups.{AllEndAt, AllEnded, AreExportsAt, IsExportAt, StopsAt, StopsFleet};
 ghost use Rattle.fleet_kit.specs.declared.halt.Halt.TheVariants as halts;
-ghost use Rattle.fleet_kit.specs.Setups.{IsExportAt, AreExportsAt};
 
 use crate::halt::{Halt, gather};
 use crate::recorders::run_jobs;
@@ -25,7 +25,7 @@ use std::thread::Threads;
 use turn_kit::Seat;
 use writer_kit::{SharedWriter, Writer};
 
-/// The most changes of a shared writer: the entries of all its jobs, at most 2^61, are fewer.
+/// The most changes of a shared writer. Its jobs have at most 2^61 entries, and no change is of less than one.
 const MOST_CHANGES: u64 = 1 << 62;
 
 // Copies out what the writer has as of a time.
@@ -52,8 +52,9 @@ fn export_closed(
     time: u64,
 ) -> Result<Export, Halt>
     requires at { IsAt shared main }
-    requires empty { StandsFor (first_of shared).tally [] }
-    ensures ok { IfOk result (λ e. (es : List Entry) → Weighs (family main) es → IsRoundOfMixed (first_of shared) time es e) }
+    requires new { BeganNew shared }
+    ensures ok { IfOk result (λ e. (es : List Entry) → Brings (first_of shared).tally main es
+        → IsRoundOfMixed (first_of shared) time es e) }
     ensures err { IfErr result (λ h. (h ≡ halts.NoThread) ⊎ (h ≡ halts.NoMemory)) }
 {
     match shared.close(main) {
@@ -72,9 +73,10 @@ fn export_of<R: Threads + Wait + Sync, G: Gate + Sync>(
     jobs: &[Job],
     end: u64,
 ) -> Result<Export, Halt>
-    requires empty { StandsFor writer.tally [] }
+    requires new { Follows writer.start [] writer }
     ensures ok { IfOk result (λ e. IsRoundOfMixed writer end (entries_of (map task_of jobs.now) place) e) }
-    ensures err { IfErr result (StopsRecording jobs.now) }
+    ensures ends { IfOk result (λ _. AllEndFrom (G.passes gate.now) writer place jobs.now) }
+    ensures err { IfErr result (StopsShortFrom (G.passes gate.now) writer place jobs.now) }
 {
     let Ok((shared, mut main)) = SharedWriter::new(alloc, writer, MOST_CHANGES) else {
         return Err(Halt::NoMemory);
@@ -94,7 +96,8 @@ fn export_at<R: Threads + Wait + Sync, G: Gate + Sync>(
 ) -> Result<Export, Halt>
     requires there { place < length setup.now.writers.items }
     ensures ok { IfOk result (λ e. IsExportAt setup.now place e) }
-    ensures err { IfErr result (StopsRecording setup.now.jobs.items) }
+    ensures ends { IfOk result (λ _. AllEndAt (G.passes gate.now) setup.now place) }
+    ensures err { IfErr result (StopsAt (G.passes gate.now) setup.now place) }
 {
     let writers = setup.writers.as_slice();
     let (id, plan, start) = &writers[place];
@@ -120,7 +123,8 @@ pub(crate) fn exports_of<R: Threads + Wait + Sync, G: Gate + Sync>(
     setup: &FleetSetup,
 ) -> Result<Vec<Export>, Halt>
     ensures ok { IfOk result (λ es. AreExportsAt setup.now es.items) }
-    ensures err { IfErr result (StopsRecording setup.now.jobs.items) }
+    ensures ends { IfOk result (λ _. AllEnded (G.passes gate.now) setup.now) }
+    ensures err { IfErr result (StopsFleet (G.passes gate.now) setup.now) }
 {
     let results = thread::map_indices(
         rt,
@@ -129,7 +133,8 @@ pub(crate) fn exports_of<R: Threads + Wait + Sync, G: Gate + Sync>(
         &|place: usize| -> Result<Export, Halt>
             requires { place < length setup.now.writers.items }
             ensures ok { IfOk result (λ e. IsExportAt setup.entry.now place e) }
-            ensures err { IfErr result (StopsRecording setup.entry.now.jobs.items) }
+            ensures ends { IfOk result (λ _. AllEndAt (G.passes gate.entry.now) setup.entry.now place) }
+            ensures err { IfErr result (StopsAt (G.passes gate.entry.now) setup.entry.now place) }
         { export_at(rt, alloc, gate, setup, place) },
     )?;
     gather(alloc, results)

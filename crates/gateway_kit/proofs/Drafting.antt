@@ -17,7 +17,7 @@ use Rattle.gateway_kit.specs.Bringing.{Brings, is_new, is_change}
 use Rattle.gateway_kit.specs.Changing.{KeyedCell, Drafts, replacement}
 use Rattle.gateway_kit.specs.Keys.{ItemKey, item_cmp, keyed_cell_of}
 use Rattle.point_kit.specs.Equality.{cell_eq}
-use Rattle.gateway_kit.specs.declared.item.Item.{Item}
+use Rattle.gateway_kit.specs.declared.part_item.PartItem.{PartItem}
 use Rattle.point_kit.proofs.EqualityLaws.{cell_itself}
 use Rattle.gateway_kit.proofs.Entries.{not_None, same_Some, find_at}
 use Rattle.gateway_kit.specs.KeyOrders.{item_total, item_exact}
@@ -30,7 +30,7 @@ count_push p xs x = sum_by-append (λ y. cond (p y) 1 0) xs (x ∷ []) ∙ ap (�
 pub drafts_none : (es : List KeyedCell) → Drafts es [] [] []
 drafts_none es = record { brings = brings_none item_cmp (join_cells payload_eq) replacement es; changed = refl; new = refl }
 
-module _ (es came : List KeyedCell) (updates : List (ℕ × Cell Payload)) (fresh : List Item) (so_far : Drafts es came updates fresh) (k : ItemKey) (w : Cell Payload) (first : find item_cmp k came ≡ None) where
+module _ (es came : List KeyedCell) (updates : List (ℕ × Cell Payload)) (fresh : List PartItem) (so_far : Drafts es came updates fresh) (k : ItemKey) (w : Cell Payload) (first : find item_cmp k came ≡ None) where
   change_at : (o : Option (Cell Payload)) → find item_cmp k es ≡ o → is_change item_cmp (join_cells payload_eq) cell_eq es (k, w) ≡ not (option_eq cell_eq o (join_options (join_cells payload_eq) o (Some w)))
   change_at o e = ap (λ x. not (option_eq cell_eq x (join_options (join_cells payload_eq) x (Some w)))) e
 
@@ -57,7 +57,7 @@ module _ (es came : List KeyedCell) (updates : List (ℕ × Cell Payload)) (fres
     new = counted_new false _ (new_at (Some v) there) (omega arith);
   }
 
-  pub drafts_fresh : (item : Item) → keyed_cell_of item ≡ (k, w) → find item_cmp k es ≡ None → Drafts es (came ++ (k, w) ∷ []) updates (fresh ++ item ∷ [])
+  pub drafts_fresh : (item : PartItem) → keyed_cell_of item ≡ (k, w) → find item_cmp k es ≡ None → Drafts es (came ++ (k, w) ∷ []) updates (fresh ++ item ∷ [])
   drafts_fresh item is none = record {
     brings = subst (λ l. Brings item_cmp (join_cells payload_eq) replacement es (came ++ (k, w) ∷ []) updates l) (sym (map-append keyed_cell_of fresh (item ∷ []) ∙ ap (λ e. map keyed_cell_of fresh ++ e ∷ []) is)) (brings_fresh item_cmp (join_cells payload_eq) replacement item_total item_exact es came updates (map keyed_cell_of fresh) so_far.brings k w first none);
     changed = counted true _ (change_at None none) (omega (arith, length-append fresh (item ∷ [])));

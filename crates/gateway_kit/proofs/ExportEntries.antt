@@ -14,7 +14,7 @@ use Rattle.point_kit.specs.ExportFaults.{same_key}
 use Rattle.point_kit.proofs.Sound.{sound_keys}
 use Rattle.gateway_kit.specs.Changing.{keyed_cells_of}
 use Rattle.gateway_kit.specs.Keys.{ItemKey, item_cmp, keyed_cell_of}
-use Rattle.gateway_kit.specs.declared.item.Item.{Item}
+use Rattle.gateway_kit.specs.declared.part_item.PartItem.{PartItem}
 use Rattle.point_kit.specs.declared.cell.Held.TheVariants.{One}
 use Rattle.std.proofs.lemmas.List.{take_more, take-map, map-append}
 use Rattle.gateway_kit.specs.KeyOrders.{item_total}
@@ -68,6 +68,6 @@ pub more_points : (e : Export) (i : ℕ) (x : ExportPoint) → i < length e.poin
 more_points e i x l is = mapped_more (λ p. (point_key p, record { time = e.time; held = One p.payload })) e.points i x l is
 
 -- the keys of items
-pub keys_of_items : (xs : List Item) → map (λ e. e.0) (map keyed_cell_of xs) ≡ map (λ x. (keyed_cell_of x).0) xs
+pub keys_of_items : (xs : List PartItem) → map (λ e. e.0) (map keyed_cell_of xs) ≡ map (λ x. (keyed_cell_of x).0) xs
 keys_of_items [] = refl
 keys_of_items (x ∷ xs) = ap (λ l. (keyed_cell_of x).0 ∷ l) (keys_of_items xs)

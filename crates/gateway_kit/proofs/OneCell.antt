@@ -18,7 +18,7 @@ use Rattle.gateway_kit.specs.Keys.{ItemKey, item_cmp, keyed_cell_of, key_and_num
 use Rattle.gateway_kit.specs.IncarnationState.{IncarnationState}
 use Rattle.gateway_kit.specs.Places.{IsAt, IsGap}
 use Rattle.gateway_kit.specs.Times.{latest}
-use Rattle.gateway_kit.specs.declared.item.Item.{Item}
+use Rattle.gateway_kit.specs.declared.part_item.PartItem.{PartItem}
 use Rattle.gateway_kit.proofs.Counting.{unjoined}
 use Rattle.gateway_kit.proofs.Drafting.{found_place, drafts_none, drafts_kept, drafts_changed, drafts_fresh}
 use Rattle.gateway_kit.proofs.Entries.{as_T, as_true}
@@ -48,7 +48,7 @@ module _ (es : List KeyedCell) (k : ItemKey) (w : Cell Payload) where
       }
 
   -- where none is held
-  pub joins_new : (item : Item) → keyed_cell_of item ≡ (k, w) → find item_cmp k es ≡ None → Joins es (put item_cmp k w es) ((k, w) ∷ []) 1 1
+  pub joins_new : (item : PartItem) → keyed_cell_of item ≡ (k, w) → find item_cmp k es ≡ None → Joins es (put item_cmp k w es) ((k, w) ∷ []) 1 1
   joins_new item is none =
       let drafts : Drafts es ((k, w) ∷ []) [] (item ∷ []) = drafts_fresh es [] [] [] (drafts_none es) k w refl item is none in
       record {
@@ -66,30 +66,30 @@ unfolding IsDistinct
 apart_alone k w = (tt, tt)
 
 -- of items: where the key of the cell stands
-module _ (items : List Item) (sorted : is_sorted item_cmp (map keyed_cell_of items) ≡ true) (place : ℕ) (x : Item) (k : ItemKey) (w : Cell Payload) (at : IsAt item_cmp (map keyed_cell_of items) k place) (is : x ≡ get_or items place x) where
+module _ (items : List PartItem) (sorted : is_sorted item_cmp (map keyed_cell_of items) ≡ true) (place : ℕ) (x : PartItem) (k : ItemKey) (w : Cell Payload) (at : IsAt item_cmp (map keyed_cell_of items) k place) (is : x ≡ get_or items place x) where
   there : find item_cmp k (map keyed_cell_of items) ≡ Some x.cell
   there = found_place keyed_cell_of item_total items place x k (as_T sorted) at is
 
   pub kept_at : join_cells payload_eq x.cell w ≡ x.cell → Joins (map keyed_cell_of items) (map keyed_cell_of items) ((k, w) ∷ []) 0 0
   kept_at same = joins_kept (map keyed_cell_of items) k w x.cell there same
 
-  pub changed_at : (news : List Item) (cell : Cell Payload) → map keyed_cell_of news ≡ with_change replacement (map keyed_cell_of items) place cell → cell ≡ join_cells payload_eq x.cell w → cell_eq x.cell cell ≡ false → Joins (map keyed_cell_of items) (map keyed_cell_of news) ((k, w) ∷ []) 0 1
+  pub changed_at : (news : List PartItem) (cell : Cell Payload) → map keyed_cell_of news ≡ with_change replacement (map keyed_cell_of items) place cell → cell ≡ join_cells payload_eq x.cell w → cell_eq x.cell cell ≡ false → Joins (map keyed_cell_of items) (map keyed_cell_of news) ((k, w) ∷ []) 0 1
   changed_at news cell put joined differs =
       subst (λ (es : List KeyedCell). Joins (map keyed_cell_of items) es ((k, w) ∷ []) 0 1) (sym put)
       (joins_changed (map keyed_cell_of items) k w (as_T sorted) x.cell place cell there at joined differs)
 
 -- and where it belongs
-pub new_at : (items : List Item) (item : Item) (place : ℕ) → IsGap item_cmp (map keyed_cell_of items) (keyed_cell_of item).0 place → Joins (map keyed_cell_of items) (map keyed_cell_of (insert items place item)) (keyed_cell_of item ∷ []) 1 1
+pub new_at : (items : List PartItem) (item : PartItem) (place : ℕ) → IsGap item_cmp (map keyed_cell_of items) (keyed_cell_of item).0 place → Joins (map keyed_cell_of items) (map keyed_cell_of (insert items place item)) (keyed_cell_of item ∷ []) 1 1
 new_at items item place gap =
     subst (λ (es : List KeyedCell). Joins (map keyed_cell_of items) es (keyed_cell_of item ∷ []) 1 1) (sym (map-insert keyed_cell_of items place item ∙ gap.fits item.cell))
     (joins_new (map keyed_cell_of items) (keyed_cell_of item).0 item.cell item refl gap.none)
 
-pub sorted_at : (items : List Item) (item : Item) (place : ℕ) → is_sorted item_cmp (map keyed_cell_of items) ≡ true → IsGap item_cmp (map keyed_cell_of items) (keyed_cell_of item).0 place → is_sorted item_cmp (map keyed_cell_of (insert items place item)) ≡ true
+pub sorted_at : (items : List PartItem) (item : PartItem) (place : ℕ) → is_sorted item_cmp (map keyed_cell_of items) ≡ true → IsGap item_cmp (map keyed_cell_of items) (keyed_cell_of item).0 place → is_sorted item_cmp (map keyed_cell_of (insert items place item)) ≡ true
 sorted_at items item place sorted gap =
     ap (is_sorted item_cmp) (map-insert keyed_cell_of items place item ∙ gap.fits item.cell)
     ∙ as_true _ (is_sorted-put item_cmp item_total (keyed_cell_of item).0 item.cell (map keyed_cell_of items) (as_T sorted))
 
-pub latest_insert : (items : List Item) (item : Item) (place : ℕ) → place ≤ length items → latest (map keyed_cell_of (insert items place item)) ≡ max (latest (map keyed_cell_of items)) item.cell.time
+pub latest_insert : (items : List PartItem) (item : PartItem) (place : ℕ) → place ≤ length items → latest (map keyed_cell_of (insert items place item)) ≡ max (latest (map keyed_cell_of items)) item.cell.time
 latest_insert items item zero h = omega arith
 latest_insert [] item (suc place) h = absurd (omega arith)
 latest_insert (x ∷ items) item (suc place) h =
@@ -102,9 +102,9 @@ joins_alike olds others news now came more changed p q joins =
     subst (λ (es : List KeyedCell). Joins es now (came ∷ []) more changed) p (subst (λ (es : List KeyedCell). Joins olds es (came ∷ []) more changed) q joins)
 
 -- an incarnation as it is seen
-abbrev pub shows : WriterId → ℕ → List Item → IncarnationState
+abbrev pub shows : WriterId → ℕ → List PartItem → IncarnationState
 shows writer start items = record { writer = writer; start = start; cells = from_sorted {R = item_cmp} (map keyed_cell_of items); numbers = from_sorted {R = item_cmp} (map key_and_number items) }
 
 -- the entries that it shows
-pub cells_of : (p : IncarnationState) (writer : WriterId) (start : ℕ) (items : List Item) → is_sorted item_cmp (map keyed_cell_of items) ≡ true → shows writer start items ≡ p → entries p.cells ≡ map keyed_cell_of items
+pub cells_of : (p : IncarnationState) (writer : WriterId) (start : ℕ) (items : List PartItem) → is_sorted item_cmp (map keyed_cell_of items) ≡ true → shows writer start items ≡ p → entries p.cells ≡ map keyed_cell_of items
 cells_of p writer start items sorted is = ap (λ (q : IncarnationState). entries q.cells) (sym is) ∙ entries-from_sorted item_cmp (map keyed_cell_of items) (as_T sorted)

@@ -30,7 +30,7 @@ use Rattle.gateway_kit.specs.Incarnations.{IsWhole, flatten, all_points, all_num
 use Rattle.gateway_kit.specs.Recent.{newer, recent_cells, recent_incarnation, recent_incarnations}
 use Rattle.gateway_kit.specs.Queries.{has_conflict}
 use Rattle.gateway_kit.specs.Tallies.{are_up_to, conflicts_of}
-use Rattle.gateway_kit.specs.declared.item.Item.{Item}
+use Rattle.gateway_kit.specs.declared.part_item.PartItem.{PartItem}
 use Rattle.gateway_kit.proofs.AllMoves.{own_key, get_numbers, viewed, numbers_left, incarnations_woven}
 use Rattle.gateway_kit.proofs.Entries.{as_T, as_true, both, first, second, below_tied, find_below, from_sorted-nil}
 use Rattle.gateway_kit.proofs.ItemMoves.{numbers_in, shows_numbered}
@@ -41,19 +41,19 @@ use Rattle.gateway_kit.proofs.Movement.{told_back}
 use Rattle.gateway_kit.proofs.OneCell.{cells_of, shows}
 use Rattle.gateway_kit.proofs.Tallies.{conflicts_listed}
 
-abbrev key_of : Item → ItemKey
+abbrev key_of : PartItem → ItemKey
 key_of i = (i.stream, i.attrs)
 
 -- ---- items
 
-below_newer : (number : ℕ) (k : ItemKey) (items : List Item) → T (below_all item_cmp k (map keyed_cell_of items)) → T (below_all item_cmp k (map keyed_cell_of (newer number items)))
+below_newer : (number : ℕ) (k : ItemKey) (items : List PartItem) → T (below_all item_cmp k (map keyed_cell_of items)) → T (below_all item_cmp k (map keyed_cell_of (newer number items)))
 below_newer number k [] b = tt
 below_newer number k (z ∷ items) b = elim (nat_lt number z.number) as (λ t. T (below_all item_cmp k (map keyed_cell_of (cond t (z ∷ newer number items) (newer number items))))) [
   | true ↦ both _ _ (first _ _ b) (below_newer number k items (second _ _ b))
   | false ↦ below_newer number k items (second _ _ b)
 ]
 
-pub sorted_newer : (number : ℕ) (items : List Item) → T (is_sorted item_cmp (map keyed_cell_of items)) → T (is_sorted item_cmp (map keyed_cell_of (newer number items)))
+pub sorted_newer : (number : ℕ) (items : List PartItem) → T (is_sorted item_cmp (map keyed_cell_of items)) → T (is_sorted item_cmp (map keyed_cell_of (newer number items)))
 sorted_newer number [] s = tt
 sorted_newer number (z ∷ items) s = elim (nat_lt number z.number) as (λ t. T (is_sorted item_cmp (map keyed_cell_of (cond t (z ∷ newer number items) (newer number items))))) [
   | true ↦ both _ _ (below_newer number (key_of z) items (first _ _ s)) (sorted_newer number items (second _ _ s))
@@ -65,7 +65,7 @@ either_none true = refl
 either_none false = refl
 
 -- what is found among them
-found_newer : (number : ℕ) (items : List Item) → T (is_sorted item_cmp (map keyed_cell_of items)) → (q : ItemKey) → find item_cmp q (map keyed_cell_of (newer number items)) ≡ cond (nat_lt number (number_in item_cmp (map key_and_number items) q)) (find item_cmp q (map keyed_cell_of items)) None
+found_newer : (number : ℕ) (items : List PartItem) → T (is_sorted item_cmp (map keyed_cell_of items)) → (q : ItemKey) → find item_cmp q (map keyed_cell_of (newer number items)) ≡ cond (nat_lt number (number_in item_cmp (map key_and_number items) q)) (find item_cmp q (map keyed_cell_of items)) None
 found_newer number [] s q = either_none (nat_lt number 0)
 found_newer number (z ∷ items) s q =
     let rest = found_newer number items (second _ _ s) q in
@@ -81,7 +81,7 @@ found_newer number (z ∷ items) s q =
       ]
     ] refl
 
-pub up_to_newer : (number n : ℕ) (items : List Item) → are_up_to n items ≡ true → are_up_to n (newer number items) ≡ true
+pub up_to_newer : (number n : ℕ) (items : List PartItem) → are_up_to n items ≡ true → are_up_to n (newer number items) ≡ true
 up_to_newer number n [] h = refl
 up_to_newer number n (z ∷ items) h =
     let rest = up_to_newer number n items ((and_parts (nat_le z.number n) (are_up_to n items) h).1) in
@@ -94,20 +94,20 @@ none_over : (a b number : ℕ) → nat_le a b ≡ true → nat_lt number b ≡ f
 none_over a b number h g = grind (arith, nat_tests)
 
 -- where none is greater, none is newer
-none_newer : (number most : ℕ) (items : List Item) → are_up_to most items ≡ true → nat_lt number most ≡ false → newer number items ≡ []
+none_newer : (number most : ℕ) (items : List PartItem) → are_up_to most items ≡ true → nat_lt number most ≡ false → newer number items ≡ []
 none_newer number most [] h g = refl
 none_newer number most (z ∷ items) h g =
     ap (λ t. cond t (z ∷ newer number items) (newer number items)) (none_over z.number most number ((and_parts (nat_le z.number most) (are_up_to most items) h).0) g)
     ∙ none_newer number most items ((and_parts (nat_le z.number most) (are_up_to most items) h).1) g
 
 -- one more item
-pub newer_more : (number : ℕ) (xs : List Item) (i : ℕ) (x : Item) → i < length xs → x ≡ get_or xs i x → newer number (take (i + 1) xs) ≡ newer number (take i xs) ++ cond (nat_lt number x.number) (x ∷ []) []
+pub newer_more : (number : ℕ) (xs : List PartItem) (i : ℕ) (x : PartItem) → i < length xs → x ≡ get_or xs i x → newer number (take (i + 1) xs) ≡ newer number (take i xs) ++ cond (nat_lt number x.number) (x ∷ []) []
 newer_more number xs i x within is =
-    ap (newer number) (take_more xs i x within ∙ ap (λ (y : Item). take i xs ++ y ∷ []) (sym is))
-    ∙ filter-append (λ (y : Item). nat_lt number y.number) (take i xs) (x ∷ [])
+    ap (newer number) (take_more xs i x within ∙ ap (λ (y : PartItem). take i xs ++ y ∷ []) (sym is))
+    ∙ filter-append (λ (y : PartItem). nat_lt number y.number) (take i xs) (x ∷ [])
 
 -- the cells that they show
-pub newer_cells : (number : ℕ) (p : IncarnationState) (writer : WriterId) (start : ℕ) (items : List Item) → is_sorted item_cmp (map keyed_cell_of items) ≡ true → shows writer start items ≡ p → from_sorted {R = item_cmp} (map keyed_cell_of (newer number items)) ≡ recent_cells number p
+pub newer_cells : (number : ℕ) (p : IncarnationState) (writer : WriterId) (start : ℕ) (items : List PartItem) → is_sorted item_cmp (map keyed_cell_of items) ≡ true → shows writer start items ≡ p → from_sorted {R = item_cmp} (map keyed_cell_of (newer number items)) ≡ recent_cells number p
 newer_cells number p writer start items s is = same_map item_total item_exact _ _ (λ q.
     get-from_sorted item_cmp (map keyed_cell_of (newer number items)) q (sorted_newer number items (as_T s))
     ∙ found_newer number items (as_T s) q
@@ -119,13 +119,13 @@ entries_none : entries (from_sorted {X = Cell Payload} {R = item_cmp} []) ≡ []
 entries_none = entries-from_sorted item_cmp [] tt
 
 -- where no item has a greater number the incarnation has no such cells
-pub none_recent : (number most : ℕ) (p : IncarnationState) (writer : WriterId) (start : ℕ) (items : List Item) → is_sorted item_cmp (map keyed_cell_of items) ≡ true → shows writer start items ≡ p → are_up_to most items ≡ true → has_cells (recent_incarnation number p) ≡ true → nat_lt number most ≡ true
+pub none_recent : (number most : ℕ) (p : IncarnationState) (writer : WriterId) (start : ℕ) (items : List PartItem) → is_sorted item_cmp (map keyed_cell_of items) ≡ true → shows writer start items ≡ p → are_up_to most items ≡ true → has_cells (recent_incarnation number p) ≡ true → nat_lt number most ≡ true
 none_recent number most p writer start items s is up some = go (nat_lt number most) refl
   where
     none : nat_lt number most ≡ false → has_some (entries (recent_cells number p)) ≡ false
     none g =
         ap (λ (c : Cells). has_some (entries c)) (sym (newer_cells number p writer start items s is))
-        ∙ ap (λ (l : List Item). has_some (entries (from_sorted {R = item_cmp} (map keyed_cell_of l)))) (none_newer number most items up g)
+        ∙ ap (λ (l : List PartItem). has_some (entries (from_sorted {R = item_cmp} (map keyed_cell_of l)))) (none_newer number most items up g)
         ∙ ap has_some entries_none
 
     go : (b : Bool) → nat_lt number most ≡ b → nat_lt number most ≡ true
@@ -224,11 +224,11 @@ all_points_few (z ∷ ps) (suc i) =
     omega (arith, rest, all, so_far)
 
 -- whether a list of items has any, as its entries tell
-pub has_items : (items : List Item) (es : List KeyedCell) → map keyed_cell_of items ≡ es → (length items ≡ 0 → ⊥) → has_some es ≡ true
+pub has_items : (items : List PartItem) (es : List KeyedCell) → map keyed_cell_of items ≡ es → (length items ≡ 0 → ⊥) → has_some es ≡ true
 has_items [] es is some = absurd (some refl)
 has_items (z ∷ items) es is some = sym (ap has_some is)
 
-pub has_none_left : (items : List Item) (es : List KeyedCell) → map keyed_cell_of items ≡ es → length items ≡ 0 → has_some es ≡ false
+pub has_none_left : (items : List PartItem) (es : List KeyedCell) → map keyed_cell_of items ≡ es → length items ≡ 0 → has_some es ≡ false
 has_none_left [] es is none = sym (ap has_some is)
 has_none_left (z ∷ items) es is none = absurd (omega (arith, none))
 
@@ -324,14 +324,14 @@ since_whole number olds news len most whole is counted =
     }
 
 -- an incarnation of which no key has a number above 0
-has_none : (items : List Item) → are_up_to 0 items ≡ true → AllAre (λ (i : Item). i.number ≡ 0) items
+has_none : (items : List PartItem) → are_up_to 0 items ≡ true → AllAre (λ (i : PartItem). i.number ≡ 0) items
 has_none [] h i x l is = absurd (omega (arith, l))
-has_none (z ∷ items) h zero x l is = ap (λ (y : Item). y.number) is ∙ least z.number ((and_parts (nat_le z.number 0) (are_up_to 0 items) h).0)
+has_none (z ∷ items) h zero x l is = ap (λ (y : PartItem). y.number) is ∙ least z.number ((and_parts (nat_le z.number 0) (are_up_to 0 items) h).0)
   where
     least : (n : ℕ) → nat_le n 0 ≡ true → n ≡ 0
     least n g = grind (arith, nat_tests)
 has_none (z ∷ items) h (suc i) x l is = has_none items ((and_parts (nat_le z.number 0) (are_up_to 0 items) h).1) i x (omega (arith, l)) is
 
-pub none_numbered : (number most : ℕ) (p : IncarnationState) (writer : WriterId) (start : ℕ) (items : List Item) → is_sorted item_cmp (map keyed_cell_of items) ≡ true → shows writer start items ≡ p → are_up_to most items ≡ true → number ≡ 0 → most ≡ 0 → IsNumbered number p
+pub none_numbered : (number most : ℕ) (p : IncarnationState) (writer : WriterId) (start : ℕ) (items : List PartItem) → is_sorted item_cmp (map keyed_cell_of items) ≡ true → shows writer start items ≡ p → are_up_to most items ≡ true → number ≡ 0 → most ≡ 0 → IsNumbered number p
 none_numbered number most p writer start items s is up zeroed none =
     subst (λ (n : ℕ). IsNumbered n p) (sym zeroed) (subst (λ (q : IncarnationState). IsNumbered 0 q) is (shows_numbered 0 writer start items s (has_none items (subst (λ (n : ℕ). are_up_to n items ≡ true) none up))))

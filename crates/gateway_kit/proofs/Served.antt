@@ -8,11 +8,12 @@ use Rattle.point_kit.specs.declared.payload.Payload.{Payload}
 use Rattle.point_kit.specs.declared.writer_id.WriterId.{WriterId}
 use Rattle.gateway_kit.specs.Changing.{KeyedCell}
 use Rattle.std.proofs.Common.{Option, Some, Bor}
-use Rattle.gateway_kit.specs.declared.item.Item.{Item}
+use Rattle.gateway_kit.specs.declared.part_item.PartItem.{PartItem}
 use Rattle.gateway_kit.specs.declared.points.Points.{Points}
 use Rattle.gateway_kit.specs.Keys.{IncarnationKey, whole_key, keyed_cell_of}
 use Rattle.gateway_kit.specs.IncarnationState.{IncarnationState}
 use Rattle.gateway_kit.specs.Incarnations.{all_points}
+use Rattle.gateway_kit.specs.Queries.{part_points}
 use Rattle.gateway_kit.specs.Walks.{items_left, is_asked, points_left}
 
 -- all entries of an incarnation are of its key
@@ -33,18 +34,19 @@ filter_all [] = refl
 filter_all (x ∷ xs) = ap (λ l. x ∷ l) (filter_all xs)
 
 -- an incarnation is passed on to
-pub passed : (old : Points) (here : Option (Bor IncarnationState × Bor (List Item))) (first : IncarnationState) (others : Bor (List IncarnationState)) → items_left old.here ≡ [] → old.ahead.now ≡ first ∷ others.now → items_left here ≡ cond (is_asked old.service first.writer) (map (λ e. (whole_key (first.writer, first.start) e.0, e.1)) (entries first.cells)) [] → points_left old ≡ points_left (record { here = here; ahead = others; service = old.service })
+pub passed : (old : Points) (here : Option (Bor IncarnationState × Bor (List PartItem))) (first : IncarnationState) (others : Bor (List IncarnationState)) → items_left old.here ≡ [] → old.ahead.now ≡ first ∷ others.now → items_left here ≡ cond (is_asked old.service first.writer) (map (λ e. (whole_key (first.writer, first.start) e.0, e.1)) (entries first.cells)) [] → points_left old ≡ points_left (record { here = here; ahead = others; service = old.service })
 passed old here first others none ahead now =
     (λ i. none i ++ filter (λ e. is_asked old.service e.0.writer) (all_points (ahead i)))
     ∙ filter_incarnation (is_asked old.service) (first.writer, first.start) (entries first.cells) (all_points others.now)
     ∙ ap (λ l. l ++ filter (λ e. is_asked old.service e.0.writer) (all_points others.now)) (sym now)
 
--- the items of an incarnation under their whole keys
-pub lent : (p : IncarnationState) (items : Bor (List Item)) (bor : Bor IncarnationState) → bor.now ≡ p → map keyed_cell_of items.now ≡ entries p.cells → items_left (Some (bor, items)) ≡ map (λ e. (whole_key (p.writer, p.start) e.0, e.1)) (entries p.cells)
-lent p items bor is es =
-    ap (λ (q : IncarnationState). map (λ i. (whole_key (q.writer, q.start) (keyed_cell_of i).0, i.cell)) items.now) is
-    ∙ sym (map-map (λ (e : KeyedCell). (whole_key (p.writer, p.start) e.0, e.1)) keyed_cell_of items.now)
-    ∙ ap (map (λ e. (whole_key (p.writer, p.start) e.0, e.1))) es
+-- the items of an incarnation, as points under their whole keys
+pub items_under : (a : IncarnationKey) (items : List PartItem) (es : List KeyedCell) → map keyed_cell_of items ≡ es → part_points a.0 a.1 items ≡ map (λ e. (whole_key a e.0, e.1)) es
+items_under a items es is = sym (map-map (λ (e : KeyedCell). (whole_key a e.0, e.1)) keyed_cell_of items) ∙ ap (map (λ e. (whole_key a e.0, e.1))) is
+
+-- and as they are lent
+pub lent : (p : IncarnationState) (items : Bor (List PartItem)) (bor : Bor IncarnationState) → bor.now ≡ p → map keyed_cell_of items.now ≡ entries p.cells → items_left (Some (bor, items)) ≡ map (λ e. (whole_key (p.writer, p.start) e.0, e.1)) (entries p.cells)
+lent p items bor is es = ap (λ (q : IncarnationState). part_points q.writer q.start items.now) is ∙ items_under (p.writer, p.start) items.now (entries p.cells) es
 
 pub lent_when : {A : Type 0} (asked wanted : Bool) (here all : List A) → asked ≡ true → asked ≡ wanted → here ≡ all → here ≡ cond wanted all []
 lent_when asked wanted here all taken same is = is ∙ ap (λ b. cond b all []) (sym taken ∙ same)

@@ -18,7 +18,7 @@ use Rattle.gateway_kit.specs.Incarnations.{IsWhole, all_points}
 use Rattle.gateway_kit.specs.Queries.{has_conflict}
 use Rattle.gateway_kit.specs.Tallies.{Tells, conflict, rank, conflicts_in, conflicts_of, incarnation_conflicts}
 use Rattle.gateway_kit.specs.declared.growth.Growth.{Growth}
-use Rattle.gateway_kit.specs.declared.item.Item.{Item}
+use Rattle.gateway_kit.specs.declared.part_item.PartItem.{PartItem}
 use Rattle.gateway_kit.proofs.Counting.{count_cons, count_map}
 use Rattle.gateway_kit.proofs.OneCell.{cells_of, shows}
 use Rattle.gateway_kit.proofs.Times.{below, written}
@@ -27,12 +27,12 @@ counted : (e : KeyedCell) (es : List KeyedCell) → conflicts_in (e ∷ es) ≡ 
 counted e es = count_cons (λ (d : KeyedCell). has_conflict d.1) e es
 
 -- a later cell put at a place
-pub conflicts_put : (xs : List Item) (i : ℕ) (x : Item) (c : Cell Payload) → i < length xs → x ≡ get_or xs i x → rank x.cell < rank c → conflicts_in (with_change replacement (map keyed_cell_of xs) i c) + conflict x.cell ≡ conflicts_in (map keyed_cell_of xs) + conflict c
+pub conflicts_put : (xs : List PartItem) (i : ℕ) (x : PartItem) (c : Cell Payload) → i < length xs → x ≡ get_or xs i x → rank x.cell < rank c → conflicts_in (with_change replacement (map keyed_cell_of xs) i c) + conflict x.cell ≡ conflicts_in (map keyed_cell_of xs) + conflict c
 conflicts_put [] i x c h is up = absurd (omega arith)
 conflicts_put (z ∷ xs) zero x c h is up =
-    let comes : replacement z.cell c ≡ c = ap (λ b. cond b c z.cell) (below (rank z.cell) (rank c) (subst (λ (y : Item). rank y.cell < rank c) is up)) in
+    let comes : replacement z.cell c ≡ c = ap (λ b. cond b c z.cell) (below (rank z.cell) (rank c) (subst (λ (y : PartItem). rank y.cell < rank c) is up)) in
     let now : conflicts_in (((keyed_cell_of z).0, replacement z.cell c) ∷ map keyed_cell_of xs) ≡ conflict c + conflicts_in (map keyed_cell_of xs) = counted ((keyed_cell_of z).0, replacement z.cell c) (map keyed_cell_of xs) ∙ ap (λ (d : Cell Payload). conflict d + conflicts_in (map keyed_cell_of xs)) comes in
-    let was : conflicts_in (keyed_cell_of z ∷ map keyed_cell_of xs) ≡ conflict x.cell + conflicts_in (map keyed_cell_of xs) = counted (keyed_cell_of z) (map keyed_cell_of xs) ∙ ap (λ (y : Item). conflict y.cell + conflicts_in (map keyed_cell_of xs)) (sym is) in
+    let was : conflicts_in (keyed_cell_of z ∷ map keyed_cell_of xs) ≡ conflict x.cell + conflicts_in (map keyed_cell_of xs) = counted (keyed_cell_of z) (map keyed_cell_of xs) ∙ ap (λ (y : PartItem). conflict y.cell + conflicts_in (map keyed_cell_of xs)) (sym is) in
     summed (conflict x.cell) (conflict c) (conflicts_in (map keyed_cell_of xs)) _ _ now was
   where
     summed : (a b n now was : ℕ) → now ≡ b + n → was ≡ a + n → now + a ≡ was + b
@@ -48,14 +48,14 @@ pub conflicts_few : (es : List KeyedCell) → conflicts_in es ≤ length es
 conflicts_few es = count_by-le-length (λ (d : KeyedCell). has_conflict d.1) es
 
 -- a cell that is not earlier, in place of another: what is taken off is there
-module _ (xs : List Item) (i : ℕ) (x : Item) (c : Cell Payload) (within : i < length xs) (is : x ≡ get_or xs i x) (up : rank x.cell < rank c) (before now was : ℕ) (told : before ≡ conflicts_in (map keyed_cell_of xs)) (n : now ≡ conflict c) (w : was ≡ conflict x.cell) where
+module _ (xs : List PartItem) (i : ℕ) (x : PartItem) (c : Cell Payload) (within : i < length xs) (is : x ≡ get_or xs i x) (up : rank x.cell < rank c) (before now was : ℕ) (told : before ≡ conflicts_in (map keyed_cell_of xs)) (n : now ≡ conflict c) (w : was ≡ conflict x.cell) where
   pub put_under : was ≤ before + now
   put_under = let put = conflicts_put xs i x c within is up in omega (arith, put, told, n, w)
 
   put_counts : before + now - was ≡ conflicts_in (with_change replacement (map keyed_cell_of xs) i c)
   put_counts = let put = conflicts_put xs i x c within is up in omega (arith, put, told, n, w)
 
-pub written_conflicts : (xs : List Item) (i : ℕ) (x y : Item) (c : Cell Payload) (within : i < length xs) (is : x ≡ get_or xs i x) (lent : y ≡ get_or xs i y) (up : rank x.cell < rank c) (number before now was : ℕ) → before ≡ conflicts_in (map keyed_cell_of xs) → now ≡ conflict c → was ≡ conflict x.cell → before + now - was ≡ conflicts_in (map keyed_cell_of (slice_set xs i (record { stream = y.stream; attrs = y.attrs; cell = c; number = number; hint = y.hint })))
+pub written_conflicts : (xs : List PartItem) (i : ℕ) (x y : PartItem) (c : Cell Payload) (within : i < length xs) (is : x ≡ get_or xs i x) (lent : y ≡ get_or xs i y) (up : rank x.cell < rank c) (number before now was : ℕ) → before ≡ conflicts_in (map keyed_cell_of xs) → now ≡ conflict c → was ≡ conflict x.cell → before + now - was ≡ conflicts_in (map keyed_cell_of (slice_set xs i (record { stream = y.stream; attrs = y.attrs; cell = c; number = number; hint = y.hint })))
 written_conflicts xs i x y c within is lent up number before now was told n w = put_counts xs i x c within is up before now was told n w ∙ ap (λ (es : List KeyedCell). conflicts_in es) (sym (written xs i x y c within is lent up number))
 
 -- one more entry
@@ -65,11 +65,11 @@ conflicts_more es e = sum_by-append (λ (d : KeyedCell). conflict d.1) es (e ∷
     alone : (n : ℕ) → 0 + n ≡ n
     alone n = omega arith
 
-pub conflicts_insert : (items : List Item) (item : Item) (place : ℕ) → conflicts_in (map keyed_cell_of (insert items place item)) ≡ conflicts_in (map keyed_cell_of items) + conflict item.cell
-conflicts_insert items item place = of_items (insert items place item) ∙ sum_by-insert (λ (i : Item). conflict i.cell) items place item ∙ ap (λ (n : ℕ). n + conflict item.cell) (sym (of_items items))
+pub conflicts_insert : (items : List PartItem) (item : PartItem) (place : ℕ) → conflicts_in (map keyed_cell_of (insert items place item)) ≡ conflicts_in (map keyed_cell_of items) + conflict item.cell
+conflicts_insert items item place = of_items (insert items place item) ∙ sum_by-insert (λ (i : PartItem). conflict i.cell) items place item ∙ ap (λ (n : ℕ). n + conflict item.cell) (sym (of_items items))
   where
-    of_items : (xs : List Item) → conflicts_in (map keyed_cell_of xs) ≡ sum_by (λ (i : Item). conflict i.cell) xs
-    of_items xs = count_map (λ (d : KeyedCell). has_conflict d.1) (λ (i : Item). has_conflict i.cell) keyed_cell_of (λ i. refl) xs
+    of_items : (xs : List PartItem) → conflicts_in (map keyed_cell_of xs) ≡ sum_by (λ (i : PartItem). conflict i.cell) xs
+    of_items xs = count_map (λ (d : KeyedCell). has_conflict d.1) (λ (i : PartItem). has_conflict i.cell) keyed_cell_of (λ i. refl) xs
 
 -- the conflicts of all incarnations are those of all points
 abbrev points_of : IncarnationState → List (Key × Cell Payload)
@@ -145,7 +145,7 @@ module _ (olds news : List IncarnationState) (before after total : ℕ) (was : t
       omega (arith, few, long, short, is)
 
 -- the conflicts of an incarnation as its items show them
-pub shown : (p : IncarnationState) (writer : WriterId) (start : ℕ) (items : List Item) (n : ℕ) → is_sorted item_cmp (map keyed_cell_of items) ≡ true → shows writer start items ≡ p → n ≡ conflicts_in (map keyed_cell_of items) → n ≡ incarnation_conflicts p
+pub shown : (p : IncarnationState) (writer : WriterId) (start : ℕ) (items : List PartItem) (n : ℕ) → is_sorted item_cmp (map keyed_cell_of items) ≡ true → shows writer start items ≡ p → n ≡ conflicts_in (map keyed_cell_of items) → n ≡ incarnation_conflicts p
 shown p writer start items n sorted is told = told ∙ ap (λ (es : List KeyedCell). conflicts_in es) (sym (cells_of p writer start items sorted is))
 
 pub whole_few : (incarnations : List IncarnationState) (len : ℕ) → IsWhole incarnations len → conflicts_of incarnations ≤ 2 ^ 62

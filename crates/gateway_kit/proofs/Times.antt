@@ -15,7 +15,7 @@ use Rattle.gateway_kit.specs.Incarnations.{has_some}
 use Rattle.gateway_kit.specs.Queries.{has_conflict}
 use Rattle.gateway_kit.specs.Tallies.{conflict, rank}
 use Rattle.gateway_kit.specs.Times.{greatest, latest}
-use Rattle.gateway_kit.specs.declared.item.Item.{Item}
+use Rattle.gateway_kit.specs.declared.part_item.PartItem.{PartItem}
 use Rattle.gateway_kit.proofs.Moved.{set_with_change, same_at}
 
 turned : (a b : ℕ) → nat_lt a b ≡ true → nat_lt b a ≡ false
@@ -75,10 +75,10 @@ joined_stays v w =
     tied t Conflict k = same_or (nat_lt (t + t + 1) (t + t + 1)) (record { time = t; held = Conflict })
 
 -- a later cell put at a place
-pub latest_put : (xs : List Item) (i : ℕ) (x : Item) (c : Cell Payload) → i < length xs → x ≡ get_or xs i x → rank x.cell < rank c → latest (with_change replacement (map keyed_cell_of xs) i c) ≡ max (latest (map keyed_cell_of xs)) c.time
+pub latest_put : (xs : List PartItem) (i : ℕ) (x : PartItem) (c : Cell Payload) → i < length xs → x ≡ get_or xs i x → rank x.cell < rank c → latest (with_change replacement (map keyed_cell_of xs) i c) ≡ max (latest (map keyed_cell_of xs)) c.time
 latest_put [] i x c h is up = absurd (omega arith)
 latest_put (z ∷ xs) zero x c h is up =
-    let up : rank z.cell < rank c = subst (λ (y : Item). rank y.cell < rank c) is up in
+    let up : rank z.cell < rank c = subst (λ (y : PartItem). rank y.cell < rank c) is up in
     let late = further_time z.cell c up in
     ap (λ b. max (cond b c z.cell).time (latest (map keyed_cell_of xs))) (below (rank z.cell) (rank c) up) ∙ omega (arith, late)
 latest_put (z ∷ xs) (suc i) x c h is up =
@@ -98,11 +98,11 @@ some_latest [] h = cc
 some_latest (e ∷ es) h = refl
 
 -- a cell that is not earlier, written at a place
-module _ (xs : List Item) (i : ℕ) (x y : Item) (c : Cell Payload) (within : i < length xs) (read : x ≡ get_or xs i x) (lent : y ≡ get_or xs i y) (up : rank x.cell < rank c) (number : ℕ) where
+module _ (xs : List PartItem) (i : ℕ) (x y : PartItem) (c : Cell Payload) (within : i < length xs) (read : x ≡ get_or xs i x) (lent : y ≡ get_or xs i y) (up : rank x.cell < rank c) (number : ℕ) where
   pub written : map keyed_cell_of (slice_set xs i (record { stream = y.stream; attrs = y.attrs; cell = c; number = number; hint = y.hint })) ≡ with_change replacement (map keyed_cell_of xs) i c
   written =
       let held : x ≡ y = same_at xs i x y within read lent in
-      let above : rank y.cell < rank c = subst (λ (z : Item). rank z.cell < rank c) held up in
+      let above : rank y.cell < rank c = subst (λ (z : PartItem). rank z.cell < rank c) held up in
       let comes : c ≡ replacement y.cell c = ap (λ b. cond b c y.cell) (sym (below (rank y.cell) (rank c) above)) in
       set_with_change keyed_cell_of replacement xs i y (record { stream = y.stream; attrs = y.attrs; cell = c; number = number; hint = y.hint }) c within lent (λ j. ((y.stream, y.attrs), comes j))
 

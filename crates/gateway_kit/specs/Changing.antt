@@ -19,7 +19,7 @@ use Rattle.gateway_kit.specs.Tallies.{rank}
 use Rattle.gateway_kit.specs.Weave.{weave}
 use Rattle.gateway_kit.specs.declared.changes.Changes.{Changes}
 use Rattle.gateway_kit.specs.declared.draft.Draft.{Draft}
-use Rattle.gateway_kit.specs.declared.item.Item.{Item}
+use Rattle.gateway_kit.specs.declared.part_item.PartItem.{PartItem}
 
 abbrev pub KeyedCell : Type 0
 KeyedCell = ItemKey × Cell Payload
@@ -50,14 +50,14 @@ after_growth es c =
     (with_changes replacement es c.updates.items)
 
 -- items with new ones woven in, where there is room for so many
-abbrev pub woven_items : List Item → List Item → ℕ → List KeyedCell
+abbrev pub woven_items : List PartItem → List PartItem → ℕ → List KeyedCell
 woven_items items fresh room =
     cond (nat_le (length items + length fresh) room)
     (weave (λ x y. item_cmp x.0 y.0) (map keyed_cell_of items) (map keyed_cell_of fresh))
     (map keyed_cell_of items)
 
 -- what came in so far, as updates and new items
-pub record Drafts (es came : List KeyedCell) (updates : List (ℕ × Cell Payload)) (fresh : List Item) : Type 0 where
+pub record Drafts (es came : List KeyedCell) (updates : List (ℕ × Cell Payload)) (fresh : List PartItem) : Type 0 where
   pub brings : Brings item_cmp (join_cells payload_eq) replacement es came updates (map keyed_cell_of fresh)
   pub changed : count_by (is_change item_cmp (join_cells payload_eq) cell_eq es) came ≡ length updates + length fresh
   pub new : count_by (is_new item_cmp es) came ≡ length fresh
@@ -69,13 +69,13 @@ pub record Prepares (es came : List KeyedCell) (c : Changes) : Type 0 where
   pub new : count_by (is_new item_cmp es) came ≡ length c.fresh.items
 
 -- a draft brings in what came before and then what is told of one key more
-abbrev pub TakesIn : List Item → ItemKey → ℕ → Option Payload → Draft → Draft → Type 0
+abbrev pub TakesIn : List PartItem → ItemKey → ℕ → Option Payload → Draft → Draft → Type 0
 TakesIn items key time payload old new =
     (came : List KeyedCell) → find item_cmp key came ≡ None → Drafts (map keyed_cell_of items) came old.updates.items old.fresh.items
     → Drafts (map keyed_cell_of items) (came ++ (key, record { time = time; held = held_as payload }) ∷ []) new.updates.items new.fresh.items
 
 -- the changes bring in what a draft does
-abbrev pub Finishes : List Item → Draft → Changes → Type 0
+abbrev pub Finishes : List PartItem → Draft → Changes → Type 0
 Finishes items draft c =
     (came : List KeyedCell) → IsTrue (is_sorted item_cmp (map keyed_cell_of items))
     → Drafts (map keyed_cell_of items) came draft.updates.items draft.fresh.items → Prepares (map keyed_cell_of items) came c

@@ -11,7 +11,7 @@ use Rattle.point_kit.specs.declared.key.Key.{Key}
 use Rattle.point_kit.specs.declared.payload.Payload.{Payload}
 use Rattle.point_kit.specs.declared.stream.Stream.{Stream}
 use Rattle.point_kit.specs.declared.writer_id.WriterId.{WriterId}
-use Rattle.gateway_kit.specs.declared.item.Item.{Item}
+use Rattle.gateway_kit.specs.declared.part_item.PartItem.{PartItem}
 
 -- an incarnation of a writer: who it is, and since when it runs
 abbrev pub IncarnationKey : Type 0
@@ -34,9 +34,9 @@ abbrev pub whole_key : IncarnationKey → ItemKey → Key
 whole_key a b = record { writer = a.0; start = a.1; stream = b.0; attrs = b.1 }
 
 -- an item's key within its incarnation, with its number
-abbrev pub key_and_number : Item → ItemKey × ℕ
+abbrev pub key_and_number : PartItem → ItemKey × ℕ
 key_and_number item = ((item.stream, item.attrs), item.number)
 
 -- and with its cell
-abbrev pub keyed_cell_of : Item → ItemKey × Cell Payload
+abbrev pub keyed_cell_of : PartItem → ItemKey × Cell Payload
 keyed_cell_of item = ((item.stream, item.attrs), item.cell)

@@ -11,7 +11,7 @@ use Rattle.gateway_kit.specs.Keys.{IncarnationKey, ItemKey, incarnation_cmp, ite
 use Rattle.gateway_kit.specs.IncarnationState.{IncarnationState}
 use Rattle.gateway_kit.specs.Incarnations.{entries_at, keyed_numbers}
 use Rattle.gateway_kit.specs.Tallies.{rank}
-use Rattle.gateway_kit.specs.declared.item.Item.{Item}
+use Rattle.gateway_kit.specs.declared.part_item.PartItem.{PartItem}
 
 -- how far a cell has come, none the least
 abbrev pub rank_of : Option (Cell Payload) → ℕ
@@ -31,7 +31,7 @@ abbrev pub Moves : ℕ → Option (Cell Payload) → Option (Cell Payload) → �
 Moves number a b n m = ((b ≡ a) × (m ≡ n)) ⊎ ((rank_of a < rank_of b) × (m ≡ number_after number n))
 
 -- all keys of items
-abbrev pub ItemsMove : ℕ → List Item → List Item → Type 0
+abbrev pub ItemsMove : ℕ → List PartItem → List PartItem → Type 0
 ItemsMove number olds news = (q : ItemKey) → Moves number (find item_cmp q (map keyed_cell_of olds)) (find item_cmp q (map keyed_cell_of news)) (number_in item_cmp (map key_and_number olds) q) (number_in item_cmp (map key_and_number news) q)
 
 -- all keys of an incarnation

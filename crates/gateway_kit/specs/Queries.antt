@@ -9,8 +9,9 @@ use Rattle.point_kit.specs.declared.cell.Held.TheVariants.{One, Conflict}
 use Rattle.point_kit.specs.declared.key.Key.{Key}
 use Rattle.point_kit.specs.declared.payload.Payload.{Payload}
 use Rattle.point_kit.specs.declared.writer_id.WriterId.{WriterId}
-use Rattle.gateway_kit.specs.Keys.{incarnation_cmp}
+use Rattle.gateway_kit.specs.Keys.{incarnation_cmp, keyed_cell_of, whole_key}
 use Rattle.gateway_kit.specs.Times.{greatest}
+use Rattle.gateway_kit.specs.declared.part_item.PartItem.{PartItem}
 
 -- whether different payloads came
 abbrev pub is_several : Held Payload → Bool
@@ -28,6 +29,10 @@ is_of_incarnation writer start key = eq_by_cmp incarnation_cmp (writer, start) (
 -- the points of an incarnation, in the order of their keys
 abbrev pub incarnation_points : WriterId → ℕ → Points → List (Key × Cell Payload)
 incarnation_points writer start points = filter (λ e. is_of_incarnation writer start e.0) (entries points)
+
+-- items of an incarnation, as points under their whole keys
+abbrev pub part_points : WriterId → ℕ → List PartItem → List (Key × Cell Payload)
+part_points writer start items = map (λ i. (whole_key (writer, start) (keyed_cell_of i).0, i.cell)) items
 
 -- the greatest time held of an incarnation
 abbrev pub newest_time : WriterId → ℕ → Points → Option ℕ

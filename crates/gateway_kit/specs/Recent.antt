@@ -5,11 +5,11 @@ use Rattle.gateway_kit.specs.Keys.{item_cmp}
 use Rattle.gateway_kit.specs.Numbers.{number_in}
 use Rattle.gateway_kit.specs.IncarnationState.{IncarnationState, Cells}
 use Rattle.gateway_kit.specs.Incarnations.{has_cells}
-use Rattle.gateway_kit.specs.declared.item.Item.{Item}
+use Rattle.gateway_kit.specs.declared.part_item.PartItem.{PartItem}
 
 -- the items that are
-abbrev pub newer : ℕ → List Item → List Item
-newer number items = filter (λ (i : Item). nat_lt number i.number) items
+abbrev pub newer : ℕ → List PartItem → List PartItem
+newer number items = filter (λ (i : PartItem). nat_lt number i.number) items
 
 -- the cells of the keys that are
 abbrev pub recent_cells : ℕ → IncarnationState → Cells

@@ -11,7 +11,7 @@ use Rattle.gateway_kit.specs.IncarnationState.{IncarnationState}
 use Rattle.gateway_kit.specs.Queries.{has_conflict}
 use Rattle.gateway_kit.specs.Times.{latest}
 use Rattle.gateway_kit.specs.declared.bounds.Bounds.{Bounds}
-use Rattle.gateway_kit.specs.declared.item.Item.{Item}
+use Rattle.gateway_kit.specs.declared.part_item.PartItem.{PartItem}
 use Rattle.gateway_kit.specs.declared.tally.Tally.{Tally}
 
 -- 1 of a conflict, else 0
@@ -32,11 +32,11 @@ pub record IsTally (es : List (ItemKey × Cell Payload)) (tally : Tally) : Type 
   pub conflicts : tally.conflicts ≡ conflicts_in es
 
 -- whether no item has a greater number
-abbrev pub are_up_to : ℕ → List Item → Bool
+abbrev pub are_up_to : ℕ → List PartItem → Bool
 are_up_to number items = list_all (λ i. nat_le i.number number) items
 
 -- items in the order of their keys, their tally, a number that none exceeds, and bounds by their places
-pub record IsKept (items : List Item) (tally : Tally) (number : ℕ) (bounds : Bounds) : Type 0 where
+pub record IsKept (items : List PartItem) (tally : Tally) (number : ℕ) (bounds : Bounds) : Type 0 where
   pub sorted : IsTrue (is_sorted item_cmp (map keyed_cell_of items))
   pub tallied : IsTally (map keyed_cell_of items) tally
   pub up_to : IsTrue (are_up_to number items)

@@ -1,15 +1,15 @@
 -- The points of a gateway as they are lent one after the other.
-use Rattle.std.specs.Prelude.{ℕ, Bool, true, nat_eq, List, [], ◌++◌, map, filter, Option, Some, None}
+use Rattle.std.specs.Prelude.{ℕ, Bool, true, nat_eq, List, [], ◌++◌, filter, Option, Some, None}
 use Rattle.std.specs.Borrow.{Bor}
 use Rattle.std.specs.Cmp.Lexicographic.{pointwise}
 use Rattle.point_kit.specs.declared.cell.Cell.{Cell}
 use Rattle.point_kit.specs.declared.key.Key.{Key}
 use Rattle.point_kit.specs.declared.payload.Payload.{Payload}
 use Rattle.point_kit.specs.declared.writer_id.WriterId.{WriterId}
-use Rattle.gateway_kit.specs.declared.item.Item.{Item}
+use Rattle.gateway_kit.specs.declared.part_item.PartItem.{PartItem}
 use Rattle.gateway_kit.specs.declared.points.PointRef.{PointRef}
 use Rattle.gateway_kit.specs.declared.points.Points.{Points}
-use Rattle.gateway_kit.specs.Keys.{whole_key, keyed_cell_of}
+use Rattle.gateway_kit.specs.Queries.{part_points}
 use Rattle.gateway_kit.specs.IncarnationState.{IncarnationState}
 use Rattle.gateway_kit.specs.Incarnations.{all_points}
 
@@ -27,9 +27,9 @@ is_asked None writer = true
 is_asked (Some service) writer = is_of service.now writer
 
 -- the items that are left of an incarnation, under their whole keys
-abbrev pub items_left : Option (Bor IncarnationState × Bor (List Item)) → List (Key × Cell Payload)
+abbrev pub items_left : Option (Bor IncarnationState × Bor (List PartItem)) → List (Key × Cell Payload)
 items_left None = []
-items_left (Some here) = map (λ i. (whole_key (here.0.now.writer, here.0.now.start) (keyed_cell_of i).0, i.cell)) here.1.now
+items_left (Some here) = part_points here.0.now.writer here.0.now.start here.1.now
 
 -- what is left to be lent, in the order of the keys
 abbrev pub points_left : Points → List (Key × Cell Payload)

@@ -1,9 +1,9 @@
 //! Bounds of the numbers of items, by blocks of places.
 ghost use Rattle.std.specs.Prelude.{◌≡◌, ◌<◌, ◌≤◌, ◌+◌, ℕ, List, IsTrue, length, slice_index, vec_len};
 ghost use Rattle.gateway_kit.specs.Bounding.{AreBounds, Covers};
-ghost use Rattle.gateway_kit.specs.declared.item.Item.{Item};
+ghost use Rattle.gateway_kit.specs.declared.part_item.PartItem.{PartItem};
 
-use crate::item::Item;
+use crate::part_item::PartItem;
 use attr_kit::NoMemory;
 use std::alloc::{AllocError, Global};
 
@@ -57,7 +57,7 @@ fn reset(bounds: &mut Vec<u64>, count: usize) {
 impl Bounds {
     /// No bounds. Takes no memory.
     pub(crate) fn none(alloc: Global) -> Bounds
-        ensures { (items : List Item) → AreBounds result items }
+        ensures { (items : List PartItem) → AreBounds result items }
     {
         Bounds {
             blocks: Vec::new(alloc),
@@ -67,7 +67,7 @@ impl Bounds {
 
     /// Forgets all bounds. Takes no memory.
     pub(crate) fn clear(&mut self)
-        ensures { (items : List Item) → AreBounds self.new items }
+        ensures { (items : List PartItem) → AreBounds self.new items }
     {
         self.blocks.clear();
         self.spans.clear();
@@ -75,7 +75,7 @@ impl Bounds {
 
     /// Makes room for the bounds of so many items, and changes none.
     pub(crate) fn reserve(&mut self, len: usize) -> Result<(), NoMemory>
-        ensures { (items : List Item) → AreBounds self.old items → AreBounds self.new items }
+        ensures { (items : List PartItem) → AreBounds self.old items → AreBounds self.new items }
     {
         reserve_all(&mut self.blocks, len / BLOCK + 1)?;
         reserve_all(&mut self.spans, len / SPAN + 1)
@@ -96,7 +96,7 @@ impl Bounds {
     }
 
     /// After a change of a number, makes the bounds of the items anew where some have none: one walk then, else O(1).
-    pub(crate) fn complete(&mut self, number: u64, items: &[Item])
+    pub(crate) fn complete(&mut self, number: u64, items: &[PartItem])
         ensures { AreBounds self.old items.now → AreBounds self.new items.now }
     {
         if number > 0 && self.lack(items.len()) {
@@ -105,7 +105,7 @@ impl Bounds {
     }
 
     // Makes the bounds of items anew: one walk. Where there is no room for them and memory is refused there are none.
-    fn lay(&mut self, items: &[Item])
+    fn lay(&mut self, items: &[PartItem])
         ensures { AreBounds self.new items.now }
     {
         reset(&mut self.blocks, items.len() / BLOCK + 1);

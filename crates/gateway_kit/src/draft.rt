@@ -10,8 +10,8 @@ ghost use Rattle.gateway_kit.specs.Places.{IsPlace};
 use crate::cells::{copy_held, update_of};
 use crate::changes::Changes;
 use crate::hint::Hint;
-use crate::item::Item;
 use crate::ordered::in_order;
+use crate::part_item::PartItem;
 use attr_kit::{AttrSet, NoMemory, TryCopy};
 use point_kit::{Cell, Payload, SharedStream};
 use std::alloc::Global;
@@ -20,7 +20,7 @@ use std::alloc::Global;
 #[derive(Drop)]
 pub(crate) struct Draft {
     updates: Vec<(usize, Cell)>,
-    fresh: Vec<Item>,
+    fresh: Vec<PartItem>,
 }
 
 impl Draft {
@@ -44,7 +44,7 @@ impl Draft {
     /// Brings in what is told of a key, whose place among the items is known. Copies the key only where it is new.
     pub(crate) fn bring(
         &mut self,
-        items: &[Item],
+        items: &[PartItem],
         place: Result<usize, usize>,
         stream: &SharedStream,
         attrs: &AttrSet,
@@ -63,7 +63,7 @@ impl Draft {
             }
             Err(gap) => {
                 let here = self.place_in(items.len(), place);
-                let item = Item {
+                let item = PartItem {
                     stream: stream.try_copy()?,
                     attrs: attrs.try_copy()?,
                     cell: Cell {
@@ -80,7 +80,7 @@ impl Draft {
     }
 
     /// Makes room beside the n items that are there.
-    pub(crate) fn finish(self, alloc: Global, items: &[Item]) -> Result<Changes, NoMemory>
+    pub(crate) fn finish(self, alloc: Global, items: &[PartItem]) -> Result<Changes, NoMemory>
         requires { IsDistinct (eq_by_cmp item_cmp) (map (λ i. (keyed_cell_of i).0) self.fresh.items) }
         ensures { IfOk result (λ c. Finishes items.now self c) }
     {

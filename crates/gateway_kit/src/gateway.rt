@@ -4,7 +4,7 @@ ghost use Rattle.std.specs.FinMap as finite;
 ghost use Rattle.point_kit.specs.Exports.{state, join_points, changed_points};
 ghost use Rattle.gateway_kit.specs.Numbering.{IsNumberedBy, GatewayMoves, number_of};
 ghost use Rattle.std.specs.FinMap.{entries, retain_keys};
-ghost use Rattle.gateway_kit.specs.Queries.{has_conflict, newest_time};
+ghost use Rattle.gateway_kit.specs.Queries.{has_conflict, incarnation_points, newest_time, part_points};
 ghost use Rattle.gateway_kit.specs.Walks.{is_of, points_left};
 ghost use Rattle.gateway_kit.specs.Incarnations.{all_points};
 
@@ -12,6 +12,7 @@ use crate::incarnation::Incarnation;
 use crate::incarnations::{all_conflicts, all_len, all_since, incarnation_place, join_in, take_in};
 use crate::merging::merge_in;
 use crate::ordered::{all_same, renumber_all};
+use crate::part_item::PartItem;
 use crate::points::Points;
 use attr_kit::{NoMemory, copy_all};
 use point_kit::{Cell, Export, Key, WriterId};
@@ -111,6 +112,17 @@ impl Gateway {
             here: None,
             ahead: self.incarnations.as_slice(),
             service: Some(service),
+        }
+    }
+
+    /// The points of one incarnation of a writer, in the order of their keys; none where it is not held. Takes no memory;
+    /// O(log m) of m incarnations.
+    pub fn part(&self, writer: &WriterId, start: u64) -> &[PartItem]
+        ensures value { part_points writer.now start result.now ≡ incarnation_points writer.now start self.now.points }
+    {
+        match incarnation_place(self.incarnations.as_slice(), writer, start) {
+            Ok(place) => self.incarnations[place].items(),
+            Err(_) => &[],
         }
     }
 

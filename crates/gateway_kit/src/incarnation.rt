@@ -12,7 +12,7 @@ ghost use Rattle.gateway_kit.specs.Places.{IsGap};
 ghost use Rattle.gateway_kit.specs.Tallies.{incarnation_conflicts};
 ghost use Rattle.gateway_kit.specs.Times.{latest};
 ghost use Rattle.std.specs.declared.cmp.Ordering.{Ordering};
-ghost use Rattle.gateway_kit.specs.declared.item.Item.{Item};
+ghost use Rattle.gateway_kit.specs.declared.part_item.PartItem.{PartItem};
 ghost use Rattle.gateway_kit.specs.Recent.{recent_incarnation};
 
 use crate::bounds::Bounds;
@@ -21,11 +21,11 @@ use crate::changes::Changes;
 use crate::draft::Draft;
 use crate::growth::{Growth, MOST_POINTS};
 use crate::hint::Hint;
-use crate::item::Item;
 use crate::items::{
     newer_items, place_behind, place_of, put_cell, put_cells, put_items, stream_at, tally_of,
 };
 use crate::ordered::{Keyed, after, all_same, place_from, renumber_all};
+use crate::part_item::PartItem;
 use crate::tally::Tally;
 use crate::trail::draft_changes;
 use attr_kit::{AttrSet, NoMemory, TryCopy, copy_all};
@@ -39,7 +39,7 @@ use std::marker::Model;
 pub(crate) struct Incarnation {
     pub(crate) writer: WriterId,
     pub(crate) start: u64,
-    pub(crate) items: Vec<Item>,
+    pub(crate) items: Vec<PartItem>,
     pub(crate) tally: Tally,
     /// No key has a greater number.
     pub(crate) number: u64,
@@ -88,7 +88,7 @@ impl Incarnation {
         self.writer.cmp(writer).then(self.start.cmp(&start))
     }
 
-    pub(crate) fn items(&self) -> &[Item]
+    pub(crate) fn items(&self) -> &[PartItem]
         ensures entries { map keyed_cell_of result.now ≡ entries self.now.cells }
         ensures sorted { IsTrue (is_sorted item_cmp (map keyed_cell_of result.now)) }
     {
@@ -266,7 +266,7 @@ impl Incarnation {
     }
 
     // Puts a new item in where it belongs. Places move, so their bounds are gone.
-    fn join_new(&mut self, place: usize, item: Item) -> Result<(), NoMemory>
+    fn join_new(&mut self, place: usize, item: PartItem) -> Result<(), NoMemory>
         requires gap { IsGap item_cmp (entries self.old.cells) (item.stream, item.attrs) place }
         requires no_number { item.number ≡ 0 }
         ensures joins { OnOk result (Joins (entries self.old.cells) (entries self.new.cells) (keyed_cell_of item ∷ []) 1 1) }
@@ -308,7 +308,7 @@ impl Incarnation {
                 }
                 let alloc = *self.items.allocator();
                 let stream = stream_at(self.items(), place, alloc, stream)?;
-                let item = Item {
+                let item = PartItem {
                     stream,
                     attrs,
                     cell,

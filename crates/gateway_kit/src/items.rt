@@ -8,13 +8,13 @@ ghost use Rattle.gateway_kit.specs.Keys.{keyed_cell_of, item_cmp};
 ghost use Rattle.gateway_kit.specs.Places.{IsPlace};
 ghost use Rattle.gateway_kit.specs.Numbers.{ItemsMove};
 ghost use Rattle.gateway_kit.specs.Tallies.{IsTally, are_up_to};
-ghost use Rattle.gateway_kit.specs.declared.item.Item.{Item};
+ghost use Rattle.gateway_kit.specs.declared.part_item.PartItem.{PartItem};
 ghost use Rattle.gateway_kit.specs.Recent.{newer};
 
 use crate::bounds::Bounds;
 use crate::cells::{conflict_of, is_further};
-use crate::item::Item;
 use crate::ordered::renumber_all;
+use crate::part_item::PartItem;
 use crate::tally::Tally;
 use crate::trail::places_after;
 use crate::weave::weave;
@@ -25,7 +25,7 @@ use std::cmp::Ordering;
 use std::mem;
 
 /// The place of a key among items, or where it belongs: O(log n).
-pub(crate) fn place_of(items: &[Item], stream: &Stream, attrs: &AttrSet) -> Result<usize, usize>
+pub(crate) fn place_of(items: &[PartItem], stream: &Stream, attrs: &AttrSet) -> Result<usize, usize>
     requires { IsTrue (is_sorted item_cmp (map keyed_cell_of items.now)) }
     ensures { IsPlace item_cmp (map keyed_cell_of items.now) (stream.now, attrs.now) result }
 {
@@ -34,7 +34,11 @@ pub(crate) fn place_of(items: &[Item], stream: &Stream, attrs: &AttrSet) -> Resu
 
 /// The place of a key among items, or where it belongs. The last item is asked first, and where it is below the key that is
 /// all: else O(log n). So of keys that come in order each takes one comparison.
-pub(crate) fn place_behind(items: &[Item], stream: &Stream, attrs: &AttrSet) -> Result<usize, usize>
+pub(crate) fn place_behind(
+    items: &[PartItem],
+    stream: &Stream,
+    attrs: &AttrSet,
+) -> Result<usize, usize>
     requires { IsTrue (is_sorted item_cmp (map keyed_cell_of items.now)) }
     ensures { IsPlace item_cmp (map keyed_cell_of items.now) (stream.now, attrs.now) result }
 {
@@ -51,7 +55,7 @@ pub(crate) fn place_behind(items: &[Item], stream: &Stream, attrs: &AttrSet) -> 
 /// The place of a key among items, or where it belongs. The item at the guess is asked first, and where it has the key that
 /// is all: else O(log n). Any number may be the guess.
 pub(crate) fn place_near(
-    items: &[Item],
+    items: &[PartItem],
     guess: usize,
     stream: &Stream,
     attrs: &AttrSet,
@@ -67,7 +71,7 @@ pub(crate) fn place_near(
 
 /// The stream of a new item: that of the item before its place, where they are equal, so that a run of items holds it once.
 pub(crate) fn stream_at(
-    items: &[Item],
+    items: &[PartItem],
     place: usize,
     alloc: Global,
     stream: Stream,
@@ -84,7 +88,7 @@ pub(crate) fn stream_at(
 }
 
 // Keeps a copy of an item where it is numbered above a number.
-fn keep_newer(kept: &mut Vec<Item>, item: &Item, number: u64) -> Result<(), NoMemory>
+fn keep_newer(kept: &mut Vec<PartItem>, item: &PartItem, number: u64) -> Result<(), NoMemory>
     ensures { OnOk result (kept.new.items ≡ kept.old.items ++ newer number (item.now ∷ [])) }
 {
     if number < item.number {
@@ -96,10 +100,10 @@ fn keep_newer(kept: &mut Vec<Item>, item: &Item, number: u64) -> Result<(), NoMe
 /// Copies of the items numbered above a number. Spans and blocks of places whose bound is not above it are passed over.
 pub(crate) fn newer_items(
     alloc: Global,
-    items: &[Item],
+    items: &[PartItem],
     bounds: &Bounds,
     number: u64,
-) -> Result<Vec<Item>, NoMemory>
+) -> Result<Vec<PartItem>, NoMemory>
     requires { AreBounds bounds.now items.now }
     ensures { IfOk result (λ kept. kept.items ≡ newer number items.now) }
 {
@@ -118,7 +122,7 @@ pub(crate) fn newer_items(
 }
 
 /// The tally of items: one walk.
-pub(crate) fn tally_of(items: &[Item]) -> Tally
+pub(crate) fn tally_of(items: &[PartItem]) -> Tally
     ensures { IsTally (map keyed_cell_of items.now) result }
 {
     let mut tally = Tally::NONE;
@@ -131,7 +135,7 @@ pub(crate) fn tally_of(items: &[Item]) -> Tally
 /// Puts a new cell at a place, where it is further than the one that stands there; past the end nothing. Its key gets the
 /// number, and the bounds of its place rise to it. Of the tally before it makes the one after.
 pub(crate) fn put_cell(
-    items: &mut Vec<Item>,
+    items: &mut Vec<PartItem>,
     bounds: &mut Bounds,
     tally: Tally,
     number: u64,
@@ -163,7 +167,7 @@ pub(crate) fn put_cell(
 
 /// Puts the new cells at their places, and numbers their keys. Of the tally before it makes the one after.
 pub(crate) fn put_cells(
-    items: &mut Vec<Item>,
+    items: &mut Vec<PartItem>,
     bounds: &mut Bounds,
     tally: Tally,
     number: u64,
@@ -184,7 +188,7 @@ pub(crate) fn put_cells(
 }
 
 // Sets the guesses of an item right, where there is one.
-fn follow(items: &mut Vec<Item>, place: usize, places: &[u32])
+fn follow(items: &mut Vec<PartItem>, place: usize, places: &[u32])
     ensures { items.new.items ≡ items.old.items }
 {
     if place < items.len() {
@@ -193,7 +197,7 @@ fn follow(items: &mut Vec<Item>, place: usize, places: &[u32])
 }
 
 // Sets the guesses right after new items came in between, by where each item has moved to, and makes the tally: one walk.
-fn settle(items: &mut Vec<Item>, places: &[u32]) -> Tally
+fn settle(items: &mut Vec<PartItem>, places: &[u32]) -> Tally
     ensures same { items.new.items ≡ items.old.items }
     ensures tally { IsTally (map keyed_cell_of items.old.items) result }
 {
@@ -208,12 +212,12 @@ fn settle(items: &mut Vec<Item>, places: &[u32]) -> Tally
 /// Weaves new items in where there is room for them, all under one number. Places move then, so their bounds are gone. Of the
 /// tally before it makes the one after.
 pub(crate) fn put_items(
-    items: &mut Vec<Item>,
+    items: &mut Vec<PartItem>,
     bounds: &mut Bounds,
     tally: Tally,
     number: u64,
-    mut fresh: Vec<Item>,
-    room: Vec<Item>,
+    mut fresh: Vec<PartItem>,
+    room: Vec<PartItem>,
 ) -> Tally
     requires empty { room.items ≡ [] }
     requires tallied { IsTally (map keyed_cell_of items.old.items) tally }

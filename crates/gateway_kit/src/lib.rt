@@ -1,8 +1,9 @@
 //! Gateways: the newest point of every key, of all writers (OpenTelemetry Metrics Data Model, "Single-Writer", "Overlap").
 //!
 //! - A [`Gateway`] takes exports (`take`), merges with others (`merge`), and is asked what it holds: `find`, `points`,
-//!   `points_of`, `newest`, `conflicts`. What it holds is the join of all that it took, so order and repeats do not matter.
-//! - [`Points`] walks over what is held in key order, each point a [`PointRef`].
+//!   `points_of`, `part`, `newest`, `conflicts`. What it holds is the join of all that it took, so order and repeats do not matter.
+//! - [`Points`] walks over what is held in key order, each point a [`PointRef`]. The points of one incarnation are lent as a
+//!   slice, each a [`PartItem`].
 //! - [`states_join`] has the laws of that join as its contract: it is the least state above both.
 //! - `take_numbered`, `merge_numbered` and `since` number each key by its last change, for those who tell others what is new.
 //! - A [`SharedGateway`] is one that threads take exports into, each by a seat of its own, with one history. Contracts speak of
@@ -29,12 +30,12 @@ mod growth;
 mod hint;
 mod incarnation;
 mod incarnations;
-mod item;
 mod items;
 mod laws;
 mod merge_draft;
 mod merging;
 mod ordered;
+mod part_item;
 mod points;
 mod shared;
 mod tally;
@@ -45,5 +46,6 @@ mod weave;
 
 pub use gateway::Gateway;
 pub use laws::states_join;
+pub use part_item::PartItem;
 pub use points::{PointRef, Points};
 pub use shared::{GatewayChange, SeatsOut, SharedGateway};

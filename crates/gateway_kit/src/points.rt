@@ -4,7 +4,7 @@ ghost use Rattle.std.specs.Iterator.{YieldsFirstBy, item_count};
 ghost use Rattle.gateway_kit.specs.Walks.{keyed_cell_of_ref, is_asked, items_left, points_left};
 
 use crate::incarnation::Incarnation;
-use crate::item::Item;
+use crate::part_item::PartItem;
 use attr_kit::AttrSet;
 use point_kit::{Cell, Stream, WriterId};
 
@@ -22,7 +22,7 @@ pub struct PointRef<'a> {
 #[derive(Clone, Copy, Debug)]
 pub struct Points<'a> {
     /// The incarnation whose items are lent, and those that are left of them.
-    pub(crate) here: Option<(&'a Incarnation, &'a [Item])>,
+    pub(crate) here: Option<(&'a Incarnation, &'a [PartItem])>,
     pub(crate) ahead: &'a [Incarnation],
     pub(crate) service: Option<&'a str>,
 }

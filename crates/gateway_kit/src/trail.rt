@@ -7,14 +7,14 @@ ghost use Rattle.gateway_kit.specs.Keys.{keyed_cell_of, item_cmp};
 use crate::changes::Changes;
 use crate::draft::Draft;
 use crate::hint::shift;
-use crate::item::Item;
 use crate::items::place_near;
+use crate::part_item::PartItem;
 use attr_kit::NoMemory;
 use point_kit::Export;
 use std::alloc::{AllocError, Global};
 
 // Notes behind an item, where there is one, where the next point's stands.
-fn note_next(items: &mut Vec<Item>, place: usize, next: usize)
+fn note_next(items: &mut Vec<PartItem>, place: usize, next: usize)
     ensures { items.new.items ≡ items.old.items }
 {
     if place < items.len() {
@@ -23,7 +23,7 @@ fn note_next(items: &mut Vec<Item>, place: usize, next: usize)
 }
 
 // The next guess: behind an item that was found what came behind it last time, and behind a new one the same as before it.
-fn guess_after(items: &[Item], place: Result<usize, usize>, guess: usize) -> usize {
+fn guess_after(items: &[PartItem], place: Result<usize, usize>, guess: usize) -> usize {
     match place {
         Ok(place) => {
             if place < items.len() {
@@ -39,7 +39,7 @@ fn guess_after(items: &[Item], place: Result<usize, usize>, guess: usize) -> usi
 /// What the points of an export change among items. Points that come in the order of the last export are each found by one
 /// comparison; of others one is searched for, and found by one the next time.
 pub(crate) fn draft_changes(
-    items: &mut Vec<Item>,
+    items: &mut Vec<PartItem>,
     alloc: Global,
     export: &Export,
 ) -> Result<Changes, NoMemory>
@@ -70,7 +70,7 @@ pub(crate) fn draft_changes(
 
 /// Where the items that there are, and the new ones behind them, come to stand once the new ones are woven in: guesses. None
 /// where there is no memory for them; then the guesses of all stay, and most fail once.
-pub(crate) fn places_after(alloc: Global, len: usize, fresh: &[Item]) -> Vec<u32> {
+pub(crate) fn places_after(alloc: Global, len: usize, fresh: &[PartItem]) -> Vec<u32> {
     let Ok(mut places) = vec![in alloc; 0u32; len.saturating_add(fresh.len())] else {
         return Vec::new(alloc);
     };

@@ -166,8 +166,8 @@ impl Node {
     /// raises what a peer acknowledged, and nothing lowers it.
     ///
     /// Refused where the message goes to another id, and where memory is refused; then nothing has changed. An Ack takes
-    /// memory only where its sender acknowledged nothing before, which no clause says. The cost of cells is that of
-    /// `merge`, that of an Ack is constant.
+    /// memory only where its sender acknowledged nothing before, and a message without cells that is no Ack takes none. The
+    /// cost of cells is that of `merge`, that of an Ack is constant.
     #[tactic(auto, unfolding(crate::specs::Gossip::hand_fault))]
     pub fn hand(&mut self, message: &Message) -> Result<Option<Message>, HandFault>
         ensures id { self.new.gateway.id ≡ self.old.gateway.id }
@@ -178,6 +178,10 @@ impl Node {
         ensures answer { IfOk result (λ answer. answer ≡ answer_of self.old message.now) }
         ensures err { IfErr result (λ fault. fault ≢ HandFault.NoMemory → hand_fault self.old message.now ≡ Some fault) }
         ensures no_memory { IfErr result (λ fault. fault ≡ HandFault.NoMemory → hand_fault self.old message.now ≡ None) }
+        ensures known { IsSome message.now.ack → IsSome (finite.get self.old.acked message.now.from)
+            → IfErr result (λ fault. fault ≢ HandFault.NoMemory) }
+        ensures no_points { message.now.ack ≡ None → message.now.points ≡ finite.empty
+            → IfErr result (λ fault. fault ≢ HandFault.NoMemory) }
         ensures unchanged { OnErr result (self.new ≡ self.old) }
     {
         if message.to() != self.gateway.id() {

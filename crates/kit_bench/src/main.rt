@@ -2,14 +2,13 @@
 //!
 //! - `kit_bench` runs small sizes of all parts, so that all of it is tried.
 //! - `kit_bench full` runs the sizes that docs tell of, and `kit_bench full rollups` those of one part: `turns`, `recordings`,
-//!   `bound`, `threads`, `fleets`, `gateways`, `gossip`, `bytes`, `rounds` or `rollups`.
+//!   `held-points`, `threads`, `fleets`, `gateways`, `gossip`, `bytes`, `rounds` or `rollups`.
 //! - `kit_bench hold-gateway 1000000` holds so many points and ends, so that its memory can be measured from outside;
 //!   `hold-tree` and `hold-map` hold the same points in maps of `std`.
 //!
 //! Timings go to standard error, and nothing to standard output.
 #![tactic(auto)]
 
-mod bound_points;
 mod bytes;
 mod changes;
 mod clock;
@@ -18,6 +17,7 @@ mod fleets;
 mod gateways;
 mod gossip;
 mod held;
+mod held_points;
 mod lanes;
 mod measures;
 mod mutexes;
@@ -61,8 +61,8 @@ fn alone(rt: &HostRuntime, words: &Words) -> anyhow::Result<()> {
     if words.has(Part::Recordings) {
         measures::run(rt, words.size(2_000_000, 20), words.size(2_000, 5))?;
     }
-    if words.has(Part::Bound) {
-        bound_points::run(rt, words.size(2_000_000, 20))?;
+    if words.has(Part::HeldPoints) {
+        held_points::run(rt, words.size(2_000_000, 20))?;
     }
     if words.has(Part::Gateways) {
         let sizes = words.sizes(&[1_000, 100_000, 1_000_000], &[10, 40]);

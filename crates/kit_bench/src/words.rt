@@ -7,7 +7,7 @@ use std::env;
 pub enum Part {
     Turns,
     Recordings,
-    Bound,
+    HeldPoints,
     Threads,
     Fleets,
     Gateways,
@@ -41,7 +41,7 @@ pub struct Words {
 const PARTS: [(&str, Part); 10] = [
     ("turns", Part::Turns),
     ("recordings", Part::Recordings),
-    ("bound", Part::Bound),
+    ("held-points", Part::HeldPoints),
     ("threads", Part::Threads),
     ("fleets", Part::Fleets),
     ("gateways", Part::Gateways),

@@ -1,7 +1,7 @@
 -- Which refusals have the code of want of memory.
 use Rattle.std.proofs.Common.{◌≡◌, refl}
-use Rattle.agg_kit.specs.declared.fault.RecordFault.{RecordFault}
-use Rattle.agg_kit.specs.declared.fault.RecordFault.TheVariants as records
+use Rattle.recorder_kit.specs.declared.fault.RecordFault.{RecordFault}
+use Rattle.recorder_kit.specs.declared.fault.RecordFault.TheVariants as records
 use Rattle.agg_kit.specs.declared.fault.TallyFault.TheVariants as tallies
 use Rattle.writer_kit.specs.declared.fault.CollectFault.{CollectFault}
 use Rattle.writer_kit.specs.declared.fault.CollectFault.TheVariants as collections
@@ -13,6 +13,7 @@ use Rattle.kit_c.specs.Codes.{collection_code, no_memory, record_code, recording
 
 pub memory_of_recording : (f : MeasureFault) → recording_code f ≡ no_memory → f ≡ recordings.Refused tallies.NoMemory
 memory_of_recording recordings.Closed e = cc
+memory_of_recording (recordings.Refused tallies.NoHeld) e = cc
 memory_of_recording (recordings.Refused tallies.NoInstrument) e = cc
 memory_of_recording (recordings.Refused tallies.Negative) e = cc
 memory_of_recording (recordings.Refused (tallies.Overflow stream)) e = cc
@@ -28,7 +29,5 @@ memory_of_restart (restarts.StartNotAfter start) e = cc
 memory_of_restart restarts.NoMemory e = refl
 
 pub memory_of_record : (f : RecordFault) → record_code f ≡ no_memory → f ≡ records.NoMemory
-memory_of_record records.NoInstrument e = cc
-memory_of_record records.Negative e = cc
 memory_of_record records.Full e = cc
 memory_of_record records.NoMemory e = refl

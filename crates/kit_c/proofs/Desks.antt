@@ -1,14 +1,11 @@
 -- How calls of seats are refused, from what the calls of things say.
-use Rattle.std.proofs.Common.{◌≡◌, ℕ, Option, None, Some}
+use Rattle.std.proofs.Common.{◌≡◌, ℕ, Option, Some}
 use Rattle.std.specs.Prelude.{ℤ}
 use Rattle.std.specs.Option.{unwrap_or}
 use Rattle.kit_c.specs.Codes.{code_of}
-use Rattle.attr_kit.specs.declared.attr_set.AttrSet.{AttrSet}
-use Rattle.kit_c.specs.Desks.{OneRefused, PlainRefused, TwoRefused, WhyNotAt}
+use Rattle.kit_c.specs.Desks.{OneRefused, PlainRefused, PlainTwoRefused, TwoRefused}
 use Rattle.kit_c.specs.Places.{place_of}
-use Rattle.kit_c.specs.declared.desk.Desk as desks
 use Rattle.kit_c.specs.declared.fault.Fault.{Fault}
-use Rattle.kit_c.specs.declared.fault.Fault.TheVariants as faults
 use Rattle.kit_c.specs.declared.content.Content.{Content}
 
 pub one_refused : (why : Content → Content → Fault → Type 0) (m n : Option Content) (h k : Content) (before told : ℕ) (code : ℤ) (f : Fault)
@@ -24,6 +21,6 @@ pub two_refused : (why : Content → Content → Content → Fault → Type 0) (
     → TwoRefused why m o n before told code
 two_refused why m o n h other k before told code f em eo en c t w = rw (em, eo, en) (f, c, t, w)
 
--- a recording at a number that no set has
-pub why_no_set : (i : ℕ) (x : ℤ) (o : Option AttrSet) (d e : desks.Desk) (f : Fault) → o ≡ None → e.seat ≡ d.seat → f ≡ faults.NoSet → WhyNotAt i x o d e f
-why_no_set i x o d e f none same is = rw none (same, is)
+pub plain_two_refused : (why : Content → Content → Content → Fault → Type 0) (m o n : Option Content) (h other k : Content) (code : ℤ) (f : Fault)
+    → m ≡ Some h → o ≡ Some other → n ≡ Some k → code ≡ code_of f → why h other k f → PlainTwoRefused why m o n code
+plain_two_refused why m o n h other k code f em eo en c w = rw (em, eo, en) (f, c, w)

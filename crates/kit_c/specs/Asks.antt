@@ -5,6 +5,7 @@ use Rattle.attr_kit.specs.declared.attr_value.AttrValue.{AttrValue}
 use Rattle.attr_kit.specs.declared.keep.Keep.TheVariants as keeps
 use Rattle.point_kit.specs.declared.shape.Shape.TheVariants as shapes
 use Rattle.point_kit.specs.declared.stream.Stream.{Stream}
+use Rattle.plan_kit.specs.Names.{lower}
 use Rattle.rollup_kit.specs.Rollups.{rollup_rows}
 use Rattle.rollup_kit.specs.TableText.{table_text}
 use Rattle.rollup_kit.specs.declared.ask.Ask as asks
@@ -19,14 +20,15 @@ use Rattle.kit_c.specs.declared.content.Content.TheVariants.{Ask, Gateway, Rows}
 abbrev pub stream_fault : List ℕ → List ℕ → List ℕ → Option Fault
 stream_fault scope name unit = first (text_fault scope ∷ text_fault name ∷ text_fault unit ∷ [])
 
+-- streams, whose names plans lower
 abbrev pub sum_stream : List ℕ → List ℕ → List ℕ → Bool → Stream
-sum_stream scope name unit monotonic = record { scope = scope; name = name; unit = unit; shape = shapes.Sum monotonic }
+sum_stream scope name unit monotonic = record { scope = scope; name = lower name; unit = unit; shape = shapes.Sum monotonic }
 
 abbrev pub gauge_stream : List ℕ → List ℕ → List ℕ → Stream
-gauge_stream scope name unit = record { scope = scope; name = name; unit = unit; shape = shapes.Gauge }
+gauge_stream scope name unit = record { scope = scope; name = lower name; unit = unit; shape = shapes.Gauge }
 
 abbrev pub histogram_stream : List ℕ → List ℕ → List ℕ → List ℤ → Stream
-histogram_stream scope name unit bounds = record { scope = scope; name = name; unit = unit; shape = shapes.Histogram bounds }
+histogram_stream scope name unit bounds = record { scope = scope; name = lower name; unit = unit; shape = shapes.Histogram bounds }
 
 -- an ask of all points of a stream, each set of attributes apart
 abbrev pub all_of : Stream → asks.Ask

@@ -1,7 +1,5 @@
 -- The code of each refusal.
 use Rattle.std.specs.Prelude.{ℤ, pos}
-use Rattle.agg_kit.specs.declared.fault.RecordFault.{RecordFault}
-use Rattle.agg_kit.specs.declared.fault.RecordFault.TheVariants as records
 use Rattle.agg_kit.specs.declared.fault.TallyFault.TheVariants as tallies
 use Rattle.attr_kit.specs.declared.error.AttrFault.{AttrFault}
 use Rattle.attr_kit.specs.declared.error.AttrFault.TheVariants as sets
@@ -11,8 +9,8 @@ use Rattle.bytes_kit.specs.declared.fault.DecodeFault.{DecodeFault}
 use Rattle.bytes_kit.specs.declared.fault.DecodeFault.TheVariants as decodings
 use Rattle.gossip_kit.specs.declared.fault.HandFault.{HandFault}
 use Rattle.gossip_kit.specs.declared.fault.HandFault.TheVariants as hands
-use Rattle.writer_kit.specs.declared.fault.AbsorbFault.{AbsorbFault}
-use Rattle.writer_kit.specs.declared.fault.AbsorbFault.TheVariants as absorbs
+use Rattle.recorder_kit.specs.declared.fault.RecordFault.{RecordFault}
+use Rattle.recorder_kit.specs.declared.fault.RecordFault.TheVariants as records
 use Rattle.writer_kit.specs.declared.fault.CollectFault.{CollectFault}
 use Rattle.writer_kit.specs.declared.fault.CollectFault.TheVariants as collections
 use Rattle.writer_kit.specs.declared.fault.MeasureFault.{MeasureFault}
@@ -26,29 +24,21 @@ use Rattle.kit_c.specs.declared.fault.Fault.TheVariants as faults
 abbrev pub no_memory : ℤ
 no_memory = pos 1
 
--- a recorder that may not hold a recording by itself
+-- a recorder that has as many recordings as it may
 abbrev pub recorder_full : ℤ
 recorder_full = pos 70
 
 abbrev pub recording_code : MeasureFault → ℤ
 recording_code recordings.Closed = pos 10
+recording_code (recordings.Refused tallies.NoHeld) = pos 7
 recording_code (recordings.Refused tallies.NoInstrument) = pos 11
 recording_code (recordings.Refused tallies.Negative) = pos 12
 recording_code (recordings.Refused (tallies.Overflow stream)) = pos 13
 recording_code (recordings.Refused tallies.NoMemory) = no_memory
 
 abbrev pub record_code : RecordFault → ℤ
-record_code records.NoInstrument = pos 11
-record_code records.Negative = pos 12
 record_code records.Full = recorder_full
 record_code records.NoMemory = no_memory
-
-abbrev pub absorbing_code : AbsorbFault → ℤ
-absorbing_code absorbs.Closed = pos 10
-absorbing_code (absorbs.Refused tallies.NoInstrument) = pos 11
-absorbing_code (absorbs.Refused tallies.Negative) = pos 12
-absorbing_code (absorbs.Refused (tallies.Overflow stream)) = pos 13
-absorbing_code (absorbs.Refused tallies.NoMemory) = no_memory
 
 abbrev pub collection_code : CollectFault → ℤ
 collection_code collections.Closed = pos 10
@@ -88,7 +78,7 @@ decoding_code (decodings.BadChecksum at) = pos 64
 decoding_code (decodings.BadExport fault) = pos 65
 decoding_code decodings.NoMemory = no_memory
 
--- the first ten are refusals of the boundary
+-- those that carry none are refusals of the boundary
 abbrev pub code_of : Fault → ℤ
 code_of faults.NoMemory = no_memory
 code_of faults.Nothing = pos 2
@@ -96,7 +86,6 @@ code_of faults.WrongKind = pos 3
 code_of faults.Full = pos 4
 code_of faults.NotText = pos 5
 code_of faults.BadNumber = pos 6
-code_of faults.NoSet = pos 7
 code_of faults.NoRow = pos 8
 code_of faults.NoPoint = pos 9
 code_of faults.TooWide = pos 40
@@ -104,7 +93,6 @@ code_of faults.NoBucket = pos 41
 code_of faults.Busy = pos 16
 code_of faults.Exhausted = pos 17
 code_of faults.SeatsFull = pos 18
-code_of faults.OtherPlan = pos 71
 code_of (faults.Measure f) = recording_code f
 code_of (faults.Collect f) = collection_code f
 code_of (faults.Restart f) = restart_code f
@@ -113,4 +101,3 @@ code_of (faults.Plan f) = plan_code f
 code_of (faults.Hand f) = handing_code f
 code_of (faults.Decode f) = decoding_code f
 code_of (faults.Record f) = record_code f
-code_of (faults.Absorb f) = absorbing_code f

@@ -5,6 +5,7 @@ use Rattle.std.specs.Str.{is_utf8}
 use Rattle.agg_kit.specs.Entries.{entry_of}
 use Rattle.attr_kit.specs.Putting.{pairs_fault}
 use Rattle.attr_kit.specs.Refusing.{first, when}
+use Rattle.recorder_kit.specs.Log.{ByName}
 use Rattle.writer_kit.specs.Refusals.{collect_fault, early_fault, fault_now, restart_fault}
 use Rattle.kit_c.specs.Handles.{pairs_of}
 use Rattle.kit_c.specs.declared.fault.Fault.{Fault}
@@ -27,12 +28,12 @@ text_fault bytes = when (not (is_utf8 bytes)) faults.NotText
 
 -- a recording, of the things
 abbrev pub recording_fault : ℕ → ℤ → Content → Content → Option Fault
-recording_fault i x (Writer h) (Attributes a) = option_map (λ f. faults.Measure f) (fault_now h.writer (entry_of i a x))
+recording_fault i x (Writer w) (Attributes a) = option_map (λ f. faults.Measure f) (fault_now w (ByName (entry_of i a x)))
 recording_fault i x it other = Some faults.WrongKind
 
 -- what is looked for before a recording takes memory
 abbrev pub early_recording_fault : ℕ → ℤ → Content → Content → Option Fault
-early_recording_fault i x (Writer h) (Attributes a) = option_map (λ f. faults.Measure f) (early_fault h.writer (entry_of i a x))
+early_recording_fault i x (Writer w) (Attributes a) = option_map (λ f. faults.Measure f) (early_fault w (ByName (entry_of i a x)))
 early_recording_fault i x it other = Some faults.WrongKind
 
 -- a handle that is to be filled has something
@@ -57,7 +58,7 @@ starting_fault h = Some faults.WrongKind
 
 -- a collection at a time
 abbrev pub collection_fault : ℕ → Content → Option Fault
-collection_fault time (Writer h) = option_map (λ f. faults.Collect f) (collect_fault h.writer time)
+collection_fault time (Writer w) = option_map (λ f. faults.Collect f) (collect_fault w time)
 collection_fault time it = Some faults.WrongKind
 
 -- the same of handles, of which the second is to be filled
@@ -66,7 +67,7 @@ collecting_fault time writer export = first (full_fault export ∷ of_one writer
 
 -- a restart under a start
 abbrev pub restarting_fault : ℕ → Content → Option Fault
-restarting_fault start (Writer h) = option_map (λ f. faults.Restart f) (restart_fault h.writer start)
+restarting_fault start (Writer w) = option_map (λ f. faults.Restart f) (restart_fault w start)
 restarting_fault start it = Some faults.WrongKind
 
 -- a thing is no text

@@ -1,55 +1,49 @@
--- Sets that writers hold by number, and recordings by them.
-use Rattle.std.specs.Prelude.{ℕ, ℤ, [], ◌∷◌, ◌++◌, length, slice_get, Option, Some, None}
+-- Pairs of an instrument and a set that writers hold, behind handles, and recordings by their numbers.
+use Rattle.std.specs.Prelude.{◌≡◌, ◌≢◌, ℕ, ℤ, Option, Some, None}
 use Rattle.std.specs.Option.{option_map}
-use Rattle.agg_kit.specs.Entries.{entry_of}
-use Rattle.agg_kit.specs.Feeds.{IsHeld}
-use Rattle.attr_kit.specs.declared.attr_set.AttrSet.{AttrSet}
+use Rattle.recorder_kit.specs.Log.{ByNumber, TakesNoMemory}
 use Rattle.writer_kit.specs.Recording.{after_record}
-use Rattle.writer_kit.specs.Refusals.{fault_now}
-use Rattle.writer_kit.specs.Written.{Written}
+use Rattle.writer_kit.specs.Refusals.{early_fault, fault_now}
+use Rattle.kit_c.specs.Holding as writers
 use Rattle.kit_c.specs.declared.fault.Fault.{Fault}
 use Rattle.kit_c.specs.declared.fault.Fault.TheVariants as faults
 use Rattle.kit_c.specs.declared.content.Content.{Content}
 use Rattle.kit_c.specs.declared.content.Content.TheVariants.{Attributes, Writer}
 
--- the first can't hold the second: writers hold sets
-abbrev pub holding_fault : Content → Content → Option Fault
-holding_fault (Writer w) (Attributes a) = None
-holding_fault h other = Some faults.WrongKind
+-- the first does not hold an instrument with the second: writers hold sets
+abbrev pub holding_fault : ℕ → Content → Content → Option Fault
+holding_fault i (Writer w) (Attributes a) = option_map (λ f. faults.Measure f) (writers.holding_fault w i a)
+holding_fault i h other = Some faults.WrongKind
 
--- a writer that holds one set more
-abbrev pub after_holding : Content → Content → Content
-after_holding (Writer h) (Attributes a) = Writer (record h { sets = h.sets ++ a ∷ [] })
-after_holding it other = it
+abbrev pub after_holding : ℕ → Content → Content → Content
+after_holding i (Writer w) (Attributes a) = Writer (writers.after_holding w i a)
+after_holding i it other = it
 
--- how many sets a writer holds
-abbrev pub sets_len : Content → ℕ
-sets_len (Writer h) = length h.sets
-sets_len it = 0
+-- the number is that of the pair
+abbrev pub IsNumberOf : ℕ → ℕ → Option Content → Option Content → Type 0
+IsNumberOf n i (Some (Writer w)) (Some (Attributes a)) = n ≡ writers.number_after w i a
+IsNumberOf n i m other = ⊥
 
--- a recording at a set that there may not be
-abbrev pub set_fault : ℕ → ℤ → Written → Option AttrSet → Option Fault
-set_fault i x w (Some a) = option_map (λ f. faults.Measure f) (fault_now w (entry_of i a x))
-set_fault i x w None = Some faults.NoSet
+-- the pair is held already
+abbrev pub IsPairHeld : ℕ → Option Content → Option Content → Type 0
+IsPairHeld i (Some (Writer w)) (Some (Attributes a)) = writers.number_at w i a ≢ None
+IsPairHeld i m other = ⊥
 
-abbrev pub recorded_at : ℕ → ℤ → Written → Option AttrSet → Written
-recorded_at i x w (Some a) = after_record w (entry_of i a x)
-recorded_at i x w None = w
+-- a recording at the pair of a number
+abbrev pub numbered_fault : ℕ → ℤ → Content → Option Fault
+numbered_fault n x (Writer w) = option_map (λ f. faults.Measure f) (fault_now w (ByNumber n x))
+numbered_fault n x it = Some faults.WrongKind
 
--- the points of such a recording are there, so that it takes no memory
-abbrev pub HasPointsAt : ℕ → ℤ → Written → Option AttrSet → Type 0
-HasPointsAt i x w (Some a) = IsHeld w.tally (entry_of i a x)
-HasPointsAt i x w None = ⊥
+-- what is looked for before it takes memory
+abbrev pub early_numbered_fault : ℕ → ℤ → Content → Option Fault
+early_numbered_fault n x (Writer w) = option_map (λ f. faults.Measure f) (early_fault w (ByNumber n x))
+early_numbered_fault n x it = Some faults.WrongKind
 
--- a recording at the set of a number
-abbrev pub numbered_fault : ℕ → ℕ → ℤ → Content → Option Fault
-numbered_fault i n x (Writer h) = set_fault i x h.writer (slice_get h.sets n)
-numbered_fault i n x it = Some faults.WrongKind
+abbrev pub after_numbered : ℕ → ℤ → Content → Content
+after_numbered n x (Writer w) = Writer (after_record w (ByNumber n x))
+after_numbered n x it = it
 
-abbrev pub after_numbered : ℕ → ℕ → ℤ → Content → Content
-after_numbered i n x (Writer h) = Writer (record h { writer = recorded_at i x h.writer (slice_get h.sets n) })
-after_numbered i n x it = it
-
-abbrev pub HasNumberedPoints : ℕ → ℕ → ℤ → Option Content → Type 0
-HasNumberedPoints i n x (Some (Writer h)) = HasPointsAt i x h.writer (slice_get h.sets n)
-HasNumberedPoints i n x m = ⊥
+-- its points are there, so that it takes no memory
+abbrev pub HasNumberedPoints : ℕ → ℤ → Option Content → Type 0
+HasNumberedPoints n x (Some (Writer w)) = TakesNoMemory w.tally (ByNumber n x)
+HasNumberedPoints n x m = ⊥

@@ -7,7 +7,6 @@ use Rattle.bytes_kit.specs.declared.fault.DecodeFault.{DecodeFault}
 use Rattle.bytes_kit.specs.declared.fault.DecodeFault.TheVariants as decodings
 use Rattle.plan_kit.specs.declared.fault.PlanFault.{PlanFault}
 use Rattle.plan_kit.specs.declared.fault.PlanFault.TheVariants as plans
-use Rattle.writer_kit.specs.declared.fault.AbsorbFault.TheVariants as absorbs
 use Rattle.writer_kit.specs.declared.fault.CollectFault.TheVariants as collections
 use Rattle.writer_kit.specs.declared.fault.MeasureFault.TheVariants as recordings
 use Rattle.writer_kit.specs.declared.fault.RestartFault.TheVariants as restarts
@@ -36,7 +35,6 @@ decoding_place other = None
 -- the place of a refusal, or the first where it has two
 abbrev pub place_of : Fault → Option ℕ
 place_of (faults.Measure (recordings.Refused (tallies.Overflow stream))) = Some stream
-place_of (faults.Absorb (absorbs.Refused (tallies.Overflow stream))) = Some stream
 place_of (faults.Collect (collections.TimeNotAfter last)) = Some last
 place_of (faults.Restart (restarts.StartNotAfter start)) = Some start
 place_of (faults.Attributes (sets.EmptyKey pair)) = Some pair

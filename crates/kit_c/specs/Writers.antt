@@ -14,10 +14,10 @@ abbrev pub instance_of : ℕ → ℕ → List ℕ
 instance_of high low = to_be_bytes w128 (high * 2 ^ 64 + low)
 
 -- a handle has the writer of an identity, which counts from a start on under the plan that another has, has recorded
--- nothing and holds no set
+-- nothing and holds nothing
 abbrev pub HasStarted : WriterId → ℕ → Option Content → Option Content → Type 0
-HasStarted id start (Some (things.Plan p)) (Some (things.Writer h)) =
-    (h.sets ≡ []) × (h.writer.id ≡ id) × (h.writer.tally.plan ≡ p) × Follows start [] h.writer
+HasStarted id start (Some (things.Plan p)) (Some (things.Writer w)) =
+    (w.tally.held ≡ []) × (w.id ≡ id) × (w.tally.plan ≡ p) × Follows start [] w
 HasStarted id start m n = ⊥
 
 -- an export is of a writer's points at a time
@@ -34,5 +34,5 @@ HasExport w time n = ⊥
 
 -- the same where the first handle has the writer
 abbrev pub IsCollection : ℕ → Option Content → Option Content → Type 0
-IsCollection time (Some (things.Writer h)) n = HasExport h.writer time n
+IsCollection time (Some (things.Writer w)) n = HasExport w time n
 IsCollection time m n = ⊥

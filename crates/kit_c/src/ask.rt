@@ -9,6 +9,7 @@ ghost use Rattle.kit_c.specs.Faults.{full_fault, no_pairs, of_one, of_two, text_
 ghost use Rattle.kit_c.specs.Handles.{in_one, pairs_of};
 ghost use Rattle.kit_c.specs.Keys.{keys_of, no_keys};
 ghost use Rattle.kit_c.specs.declared.content.Content.TheVariants as things;
+ghost use Rattle.plan_kit.specs.Names.{lower};
 
 use crate::attributes::copy_of_pairs;
 use crate::content::Content;
@@ -21,6 +22,7 @@ use point_kit::{Shape, Stream};
 use rollup_kit::{Ask, Row, rollup, table};
 use std::alloc::Global;
 
+// A plan lowers the names of its streams, so this does.
 fn stream_of(
     alloc: Global,
     scope: &[u8],
@@ -29,12 +31,12 @@ fn stream_of(
     shape: Shape,
 ) -> Result<Stream, Fault>
     ensures ok { OnOk result (stream_fault scope.now name.now unit.now ≡ None) }
-    ensures value { IfOk result (λ s. s ≡ record { scope = scope.now; name = name.now; unit = unit.now; shape = shape }) }
+    ensures value { IfOk result (λ s. s ≡ record { scope = scope.now; name = lower name.now; unit = unit.now; shape = shape }) }
     ensures err { IfErr result (λ f. code_of f ≢ no_memory → stream_fault scope.now name.now unit.now ≡ Some f) }
 {
     Ok(Stream {
         scope: text_of(alloc, scope)?,
-        name: text_of(alloc, name)?,
+        name: text_of(alloc, name)?.into_ascii_lowercase(),
         unit: text_of(alloc, unit)?,
         shape,
     })
@@ -52,7 +54,8 @@ fn all(alloc: Global, stream: Stream) -> Ask
     }
 }
 
-/// Asks for the points of a sum: of all services, with a row for each attribute set.
+/// Asks for the points of a sum: of all services, with a row for each attribute set. The name is taken without regard to case, as plans
+/// take it; scope and unit stand as they are.
 ///
 /// Refused, in this order: `FULL`; `NOT_TEXT` where the scope, the name or the unit is no UTF-8; `NO_MEMORY`.
 #[unsafe(no_mangle)]

@@ -1,12 +1,12 @@
 //! What a handle can have.
 use crate::desk::Desk;
 use crate::holding::HoldingWriter;
-use crate::recorder::HoldingRecorder;
 use attr_kit::{AttrSet, AttrValue, Seq, Txt};
 use gateway_kit::Gateway;
 use gossip_kit::{Message, Node};
 use plan_kit::{Instrument, Plan, View};
 use point_kit::Export;
+use recorder_kit::Recorder;
 use rollup_kit::{Ask, Row};
 
 /// What a handle can have.
@@ -22,10 +22,10 @@ pub enum Content {
     /// Keys that are written down.
     Keys(Seq<Txt>),
     Plan(Plan),
-    /// A writer, with the sets that it holds by number.
+    /// A writer, which holds each pair of an instrument and a set once.
     Writer(HoldingWriter),
-    /// A thread's own recorder, with the sets that it holds by number.
-    Recorder(HoldingRecorder),
+    /// A thread's own log of recordings.
+    Recorder(Recorder),
     Export(Export),
     Gateway(Gateway),
     /// A gateway that sends messages and takes them in.

@@ -1,16 +1,17 @@
 //! Why calls are refused, and the codes that say so.
 ghost use Rattle.std.specs.Prelude.{◌≡◌, ◌≢◌, pos, None, OnOk, OnErr, IfErr, IfOk};
 ghost use Rattle.std.specs.Option.{unwrap_or};
-ghost use Rattle.kit_c.specs.Codes.{code_of, recording_code, record_code, absorbing_code, collection_code, restart_code, attributes_code, plan_code, handing_code, decoding_code, no_memory};
+ghost use Rattle.kit_c.specs.Codes.{code_of, recording_code, record_code, collection_code, restart_code, attributes_code, plan_code, handing_code, decoding_code, no_memory};
 ghost use Rattle.kit_c.specs.Places.{decoding_place, place_of, plan_place, second_of};
 
-use agg_kit::{RecordFault, TallyFault};
+use agg_kit::TallyFault;
 use attr_kit::{AttrFault, NoMemory};
 use bytes_kit::DecodeFault;
 use gossip_kit::HandFault;
 use plan_kit::PlanFault;
+use recorder_kit::RecordFault;
 use std::alloc::{AllocError, AllocFailed};
-use writer_kit::{AbsorbFault, CollectFault, MeasureFault, RestartFault};
+use writer_kit::{CollectFault, MeasureFault, RestartFault};
 
 /// The call did what it says.
 pub(crate) const OK: i32 = 0;
@@ -39,8 +40,6 @@ pub enum Fault {
     NotText,
     /// A number stands for nothing here.
     BadNumber,
-    /// The writer holds no set of this number.
-    NoSet,
     /// There is no row of this number.
     NoRow,
     /// There is no point of what is asked for.
@@ -55,8 +54,6 @@ pub enum Fault {
     Exhausted,
     /// A writer that threads share has given all the places that it may.
     SeatsFull,
-    /// A recorder is of another plan than the writer that is to take it in.
-    OtherPlan,
     Measure(MeasureFault),
     Collect(CollectFault),
     Restart(RestartFault),
@@ -65,7 +62,6 @@ pub enum Fault {
     Hand(HandFault),
     Decode(DecodeFault),
     Record(RecordFault),
-    Absorb(AbsorbFault),
 }
 
 impl From<NoMemory> for Fault {
@@ -124,6 +120,7 @@ fn of_recording(fault: &MeasureFault) -> i32
 {
     match fault {
         MeasureFault::Closed => 10,
+        MeasureFault::Refused(TallyFault::NoHeld) => 7,
         MeasureFault::Refused(TallyFault::NoInstrument) => 11,
         MeasureFault::Refused(TallyFault::Negative) => 12,
         MeasureFault::Refused(TallyFault::Overflow(_)) => 13,
@@ -136,23 +133,8 @@ fn of_record(fault: &RecordFault) -> i32
     ensures refused { result ≢ pos 0 }
 {
     match fault {
-        RecordFault::NoInstrument => 11,
-        RecordFault::Negative => 12,
         RecordFault::Full => 70,
         RecordFault::NoMemory => 1,
-    }
-}
-
-fn of_absorbing(fault: &AbsorbFault) -> i32
-    ensures code { result ≡ absorbing_code fault.now }
-    ensures refused { result ≢ pos 0 }
-{
-    match fault {
-        AbsorbFault::Closed => 10,
-        AbsorbFault::Refused(TallyFault::NoInstrument) => 11,
-        AbsorbFault::Refused(TallyFault::Negative) => 12,
-        AbsorbFault::Refused(TallyFault::Overflow(_)) => 13,
-        AbsorbFault::Refused(TallyFault::NoMemory) => 1,
     }
 }
 
@@ -243,7 +225,6 @@ impl Fault {
             Fault::Full => 4,
             Fault::NotText => 5,
             Fault::BadNumber => 6,
-            Fault::NoSet => 7,
             Fault::NoRow => 8,
             Fault::NoPoint => 9,
             Fault::TooWide => 40,
@@ -251,7 +232,6 @@ impl Fault {
             Fault::Busy => 16,
             Fault::Exhausted => 17,
             Fault::SeatsFull => 18,
-            Fault::OtherPlan => 71,
             Fault::Measure(fault) => of_recording(fault),
             Fault::Collect(fault) => of_collection(fault),
             Fault::Restart(fault) => of_restart(fault),
@@ -260,12 +240,11 @@ impl Fault {
             Fault::Hand(fault) => of_handing(fault),
             Fault::Decode(fault) => of_decoding(fault),
             Fault::Record(fault) => of_record(fault),
-            Fault::Absorb(fault) => of_absorbing(fault),
         }
     }
 
     /// The place or the time that a refusal carries.
-    fn place(&self) -> Option<u64>
+    pub(crate) fn place(&self) -> Option<u64>
         ensures value { result ≡ place_of self.now }
         ensures no_memory { code_of self.now ≡ no_memory → result ≡ None }
     {
@@ -273,7 +252,6 @@ impl Fault {
             Fault::Measure(MeasureFault::Refused(TallyFault::Overflow(stream))) => Some(
                 *stream as u64,
             ),
-            Fault::Absorb(AbsorbFault::Refused(TallyFault::Overflow(first))) => Some(*first as u64),
             Fault::Collect(CollectFault::TimeNotAfter(last)) => Some(*last),
             Fault::Restart(RestartFault::StartNotAfter(start)) => Some(*start),
             Fault::Attributes(AttrFault::EmptyKey(pair)) => Some(*pair as u64),

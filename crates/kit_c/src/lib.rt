@@ -7,8 +7,8 @@
 //! - `kit_instruments_add`, `kit_views_add` and `kit_plan_build` make a plan, `kit_writer_start` a writer, `kit_attributes_make` a set.
 //! - `kit_writer_measure` records, `kit_writer_collect` makes an export, and `kit_gateway_take` takes it in.
 //! - `kit_ask_sum`, `kit_gateway_rows` and `kit_rows_table` make a text of what a gateway holds.
-//! - `kit_recorder_measure` and its like are of a thread's own recorder, `kit_seat_measure` and its like of a writer that threads
-//!   share, `kit_node_send` and its like of gateways that gossip, and `kit_export_encode` and its like of bytes.
+//! - `kit_recorder_measure` and its like are of a thread's own log, which `kit_writer_take_in` takes in; `kit_seat_measure` and its like
+//!   of a writer that threads share, `kit_node_send` and its like of gateways that gossip, `kit_export_encode` and its like of bytes.
 //!
 //! A caller, from `embed/c/first.c`:
 //!
@@ -41,11 +41,11 @@ mod list;
 mod loose;
 mod messages;
 mod nodes;
-mod recorder;
+mod pairs;
 mod recorders;
 mod rows;
-mod same_plan;
 mod seats;
+mod taken;
 mod text;
 mod views;
 mod writer;

@@ -1,73 +1,51 @@
-//! Recorders of hosts' threads: each thread records with its own, and a writer takes them in.
-ghost use Rattle.std.specs.Prelude.{◌≡◌, ◌≢◌, ◌∷◌, [], pos, None, Some, OnOk, OnErr, IfErr, IfOk};
+//! Recorders: threads' own logs of recordings, which writers take in.
+ghost use Rattle.std.specs.Prelude.{◌≡◌, ◌≢◌, pos, None, Some, OnOk, OnErr, IfErr, IfOk};
 ghost use Rattle.std.specs.Option.{option_map};
-ghost use Rattle.attr_kit.specs.Refusing.{first};
 ghost use Rattle.kit_c.specs.Codes.{code_of, no_memory};
-ghost use Rattle.kit_c.specs.Desks.{TwoRefused};
 ghost use Rattle.kit_c.specs.Faults.{full_fault, of_one, of_two};
 ghost use Rattle.kit_c.specs.Handles.{in_first, in_one};
-ghost use Rattle.kit_c.specs.Recorders.{AbsorbRefused, HasAbsorbed, HasOwnNumberedPoints, HasOwnPoints, IsRecorderOf, TellsEmpty, after_number, after_record, number_fault, opening_fault, record_fault, recorder_fault};
+ghost use Rattle.kit_c.specs.Recorders.{after_noting, after_noting_number, cleared, empty_log, noting_fault, number_noting_fault, recorder_fault, recordings_in};
+ghost use Rattle.kit_c.specs.Takings.{HasTakenIn, taking_fault};
+ghost use Rattle.kit_c.specs.declared.content.Content.TheVariants as things;
 
 use crate::content::Content;
-use crate::fault::{FULL, Fault, NOTHING, OK, code_with_place};
+use crate::fault::{FULL, Fault, NO_MEMORY, NOTHING, OK};
 use crate::handle::KitHandle;
-use crate::recorder::HoldingRecorder;
+use crate::taken::KitTaken;
+use recorder_kit::{RecordFault, Recorder};
 use std::alloc::Global;
+use writer_kit::MeasureFault;
 
-fn open_recorder(alloc: Global, content: &Content) -> Result<HoldingRecorder, Fault>
-    ensures ok { OnOk result (opening_fault content.now ≡ None) }
-    ensures value { IfOk result (λ r. IsRecorderOf (Some content.now) (Some (Content.Recorder r))) }
-    ensures err { IfErr result (λ f. code_of f ≢ no_memory → opening_fault content.now ≡ Some f) }
-{
-    let Content::Writer(holder) = content else {
-        return Err(Fault::WrongKind);
-    };
-    Ok(HoldingRecorder::open(alloc, holder)?)
-}
-
-/// Opens a recorder of the writer's plan, for one thread: it has recorded nothing, and holds the sets that the writer holds, by the
-/// same numbers. It is a thing of its own: any number may be open, and it needs the writer no more until that takes it in.
+/// Makes a log of no recordings, which may have as many as its capacity says: 16 bytes for each are taken now. It needs no writer, and
+/// any may take it in.
 ///
-/// Refused, in this order: `FULL` of the recorder; `NOTHING`; `WRONG_KIND`; `NO_MEMORY`. O(size of the plan and the sets).
+/// Refused, in this order: `FULL`; `NO_MEMORY`.
 #[unsafe(no_mangle)]
-pub extern "C" fn kit_recorder_open(
-    alloc: Global,
-    recorder: &mut KitHandle,
-    writer: &mut KitHandle,
-) -> i32
-    ensures ok { result ≡ pos 0
-        → first (full_fault recorder.old.inner.value ∷ of_one writer.old.inner.value opening_fault ∷ []) ≡ None }
-    ensures value { result ≡ pos 0 → IsRecorderOf writer.old.inner.value recorder.new.inner.value }
-    ensures err { result ≢ pos 0 → result ≢ no_memory → option_map code_of (first
-        (full_fault recorder.old.inner.value ∷ of_one writer.old.inner.value opening_fault ∷ [])) ≡ Some result }
+pub extern "C" fn kit_recorder_new(alloc: Global, recorder: &mut KitHandle, capacity: usize) -> i32
+    ensures ok { result ≡ pos 0 → full_fault recorder.old.inner.value ≡ None }
+    ensures value { result ≡ pos 0 → recorder.new.inner.value ≡ Some (things.Recorder (empty_log capacity)) }
+    ensures err { result ≢ pos 0 → result ≢ no_memory → option_map code_of (full_fault recorder.old.inner.value) ≡ Some result }
     ensures unchanged { result ≢ pos 0 → recorder.new.inner.value ≡ recorder.old.inner.value }
-    ensures kept { writer.new.inner.value ≡ writer.old.inner.value }
 {
     if recorder.full {
         return FULL;
     }
-    let Some(content) = writer.take(alloc) else {
-        return NOTHING;
-    };
-    let made = open_recorder(alloc, &content);
-    writer.put(content);
-    match made {
+    match Recorder::new(alloc, capacity) {
         Ok(made) => recorder.fill(alloc, Content::Recorder(made)),
-        Err(fault) => fault.code(),
+        Err(_) => NO_MEMORY,
     }
 }
 
-#[tactic(auto, using(crate::proofs::Codes::memory_of_record))]
+#[tactic(auto, using(crate::proofs::Codes::memory_of_record, crate::proofs::Logs::is_full, crate::proofs::Logs::has_room))]
 fn measure_at_recorder(
     content: &mut Content,
     instrument: usize,
     set: &Content,
     value: i64,
 ) -> Result<(), Fault>
-    ensures ok { OnOk result (record_fault instrument value content.old set.now ≡ None) }
-    ensures value { OnOk result (content.new ≡ after_record instrument value content.old set.now) }
-    ensures err { IfErr result (λ f. code_of f ≢ no_memory → record_fault instrument value content.old set.now ≡ Some f) }
-    ensures held { HasOwnPoints instrument value (Some content.old) (Some set.now) → IfErr result (λ f. code_of f ≢ no_memory) }
+    ensures ok { OnOk result (noting_fault content.old set.now ≡ None) }
+    ensures value { OnOk result (content.new ≡ after_noting instrument value content.old set.now) }
+    ensures err { IfErr result (λ f. code_of f ≢ no_memory → noting_fault content.old set.now ≡ Some f) }
     ensures unchanged { OnErr result (content.new ≡ content.old) }
 {
     let Content::Recorder(recorder) = content else {
@@ -82,14 +60,11 @@ fn measure_at_recorder(
     }
 }
 
-/// Records a value of an instrument at an attribute set, in the stream of every feed of the instrument or in none. No other thread
-/// is met.
+/// Notes a recording of a value, by an instrument at an attribute set. No writer is looked at: what no instrument takes is refused once a
+/// writer takes it in. A set is kept once for all its recordings.
 ///
-/// Refused, in this order: `NOTHING` of the recorder, then of the attributes; `WRONG_KIND`; `RECORDER_FULL` where a stream of the
-/// instrument has points for as many sets as the limit says; `NO_INSTRUMENT`; `NEGATIVE`; `RECORDER_FULL` where a sum would leave its
-/// range; `NO_MEMORY`. A full recorder is taken in by a writer (`kit_writer_absorb`), and records again; what an
-/// empty one refuses so is recorded by the writer itself. O(feeds of the instrument); no memory where every feed keeps all keys, its
-/// stream has the point, and is neither a gauge nor a sum that may fall.
+/// Refused, in this order: `NOTHING` of the recorder, then of the attributes; `WRONG_KIND`; `RECORDER_FULL` where it has as many
+/// recordings as its capacity says; `NO_MEMORY`. O(size of the attributes).
 #[unsafe(no_mangle)]
 pub extern "C" fn kit_recorder_measure(
     alloc: Global,
@@ -98,12 +73,11 @@ pub extern "C" fn kit_recorder_measure(
     attributes: &mut KitHandle,
     value: i64,
 ) -> i32
-    ensures ok { result ≡ pos 0 → of_two recorder.old.inner.value attributes.old.inner.value (record_fault instrument value) ≡ None }
+    ensures ok { result ≡ pos 0 → of_two recorder.old.inner.value attributes.old.inner.value noting_fault ≡ None }
     ensures value { result ≡ pos 0 → recorder.new.inner.value
-        ≡ in_first (after_record instrument value) recorder.old.inner.value attributes.old.inner.value }
+        ≡ in_first (after_noting instrument value) recorder.old.inner.value attributes.old.inner.value }
     ensures err { result ≢ pos 0 → result ≢ no_memory
-        → option_map code_of (of_two recorder.old.inner.value attributes.old.inner.value (record_fault instrument value)) ≡ Some result }
-    ensures held { HasOwnPoints instrument value recorder.old.inner.value attributes.old.inner.value → result ≢ no_memory }
+        → option_map code_of (of_two recorder.old.inner.value attributes.old.inner.value noting_fault) ≡ Some result }
     ensures unchanged { result ≢ pos 0 → recorder.new.inner.value ≡ recorder.old.inner.value }
     ensures kept { attributes.new.inner.value ≡ attributes.old.inner.value }
 {
@@ -123,48 +97,45 @@ pub extern "C" fn kit_recorder_measure(
     }
 }
 
-fn measure_held_at_recorder(
-    content: &mut Content,
-    instrument: usize,
-    number: usize,
-    value: i64,
-) -> Result<(), Fault>
-    ensures ok { OnOk result (number_fault instrument number value content.old ≡ None) }
-    ensures value { OnOk result (content.new ≡ after_number instrument number value content.old) }
-    ensures err { IfErr result (λ f. code_of f ≢ no_memory → number_fault instrument number value content.old ≡ Some f) }
-    ensures held { HasOwnNumberedPoints instrument number value (Some content.old) → IfErr result (λ f. code_of f ≢ no_memory) }
+#[tactic(auto, using(crate::proofs::Codes::memory_of_record, crate::proofs::Logs::is_full_for, crate::proofs::Logs::has_room_for))]
+fn measure_held_at_recorder(content: &mut Content, number: usize, value: i64) -> Result<(), Fault>
+    ensures ok { OnOk result (number_noting_fault number content.old ≡ None) }
+    ensures value { OnOk result (content.new ≡ after_noting_number number value content.old) }
+    ensures err { IfErr result (λ f. number_noting_fault number content.old ≡ Some f) }
     ensures unchanged { OnErr result (content.new ≡ content.old) }
 {
     let Content::Recorder(recorder) = content else {
         return Err(Fault::WrongKind);
     };
-    recorder.measure_held(instrument, number, value)
+    if number > u32::MAX as usize {
+        return Err(Fault::Record(RecordFault::Full));
+    }
+    match recorder.measure_held(number, value) {
+        Ok(()) => Ok(()),
+        Err(fault) => Err(Fault::Record(fault)),
+    }
 }
 
-/// Records a value of an instrument at the attribute set of a number: the sets are those that the writer held when the recorder
-/// was opened. It is the shortest way for threads.
+/// Notes a recording of a value at the pair of a number, which the writer told that will take the log in.
 ///
-/// Refused, in this order: `NOTHING`; `WRONG_KIND`; `NO_SET`; then as `kit_recorder_measure` is.
+/// Refused, in this order: `NOTHING`; `WRONG_KIND`; `RECORDER_FULL` where it has as many recordings as its capacity says, or where the
+/// number is 2^32 or more. O(1), takes no memory.
 #[unsafe(no_mangle)]
 pub extern "C" fn kit_recorder_measure_held(
     alloc: Global,
     recorder: &mut KitHandle,
-    instrument: usize,
     number: usize,
     value: i64,
 ) -> i32
-    ensures ok { result ≡ pos 0 → of_one recorder.old.inner.value (number_fault instrument number value) ≡ None }
-    ensures value { result ≡ pos 0 → recorder.new.inner.value
-        ≡ in_one (after_number instrument number value) recorder.old.inner.value }
-    ensures err { result ≢ pos 0 → result ≢ no_memory
-        → option_map code_of (of_one recorder.old.inner.value (number_fault instrument number value)) ≡ Some result }
-    ensures held { HasOwnNumberedPoints instrument number value recorder.old.inner.value → result ≢ no_memory }
+    ensures ok { result ≡ pos 0 → of_one recorder.old.inner.value (number_noting_fault number) ≡ None }
+    ensures value { result ≡ pos 0 → recorder.new.inner.value ≡ in_one (after_noting_number number value) recorder.old.inner.value }
+    ensures err { result ≢ pos 0 → option_map code_of (of_one recorder.old.inner.value (number_noting_fault number)) ≡ Some result }
     ensures unchanged { result ≢ pos 0 → recorder.new.inner.value ≡ recorder.old.inner.value }
 {
     let Some(mut content) = recorder.take(alloc) else {
         return NOTHING;
     };
-    let outcome = measure_held_at_recorder(&mut content, instrument, number, value);
+    let outcome = measure_held_at_recorder(&mut content, number, value);
     recorder.put(content);
     match outcome {
         Ok(()) => OK,
@@ -172,80 +143,123 @@ pub extern "C" fn kit_recorder_measure_held(
     }
 }
 
-fn emptiness(content: &Content) -> Result<bool, Fault>
+fn length_of(content: &Content) -> Result<usize, Fault>
     ensures ok { OnOk result (recorder_fault content.now ≡ None) }
-    ensures value { IfOk result (λ b. TellsEmpty b content.now) }
+    ensures value { IfOk result (λ n. n ≡ recordings_in content.now) }
     ensures err { IfErr result (λ f. recorder_fault content.now ≡ Some f) }
 {
     let Content::Recorder(recorder) = content else {
         return Err(Fault::WrongKind);
     };
-    Ok(recorder.is_empty())
+    Ok(recorder.len())
 }
 
-/// Tells whether a recorder holds no recordings: a writer that takes it in would stay as it is.
+/// Tells how many recordings a log has.
 ///
-/// Refused, in this order: `NOTHING`; `WRONG_KIND`. Takes no memory.
+/// Refused, in this order: `NOTHING`; `WRONG_KIND`. O(1), takes no memory.
 #[unsafe(no_mangle)]
-pub extern "C" fn kit_recorder_is_empty(
+pub extern "C" fn kit_recorder_len(
     alloc: Global,
     recorder: &mut KitHandle,
-    empty: &mut bool,
+    count: &mut usize,
 ) -> i32
     ensures ok { result ≡ pos 0 → of_one recorder.old.inner.value recorder_fault ≡ None }
-    ensures value { result ≡ pos 0 → (h : _) → recorder.old.inner.value ≡ Some h → TellsEmpty empty.new h }
+    ensures value { result ≡ pos 0 → (h : _) → recorder.old.inner.value ≡ Some h → count.new ≡ recordings_in h }
     ensures err { result ≢ pos 0 → option_map code_of (of_one recorder.old.inner.value recorder_fault) ≡ Some result }
-    ensures unchanged { result ≢ pos 0 → empty.new ≡ empty.old }
+    ensures unchanged { result ≢ pos 0 → count.new ≡ count.old }
     ensures kept { recorder.new.inner.value ≡ recorder.old.inner.value }
 {
     let Some(content) = recorder.take(alloc) else {
         return NOTHING;
     };
-    let outcome = emptiness(&content);
+    let outcome = length_of(&content);
     recorder.put(content);
     match outcome {
         Ok(told) => {
-            *empty = told;
+            *count = told;
             OK
         }
         Err(fault) => fault.code(),
     }
 }
 
-fn absorb_recorder(content: &mut Content, other: &mut Content) -> Result<(), Fault>
-    ensures value { OnOk result (HasAbsorbed (Some content.old) (Some other.old) (Some content.new) (Some other.new)) }
-    ensures err { IfErr result (λ f. AbsorbRefused content.old other.old content.new f) }
+fn clear_recorder(content: &mut Content) -> Result<(), Fault>
+    ensures ok { OnOk result (recorder_fault content.old ≡ None) }
+    ensures value { OnOk result (content.new ≡ cleared content.old) }
+    ensures err { IfErr result (λ f. recorder_fault content.old ≡ Some f) }
+    ensures unchanged { OnErr result (content.new ≡ content.old) }
+{
+    let Content::Recorder(recorder) = content else {
+        return Err(Fault::WrongKind);
+    };
+    recorder.clear();
+    Ok(())
+}
+
+/// Forgets all recordings of a log, which keeps its capacity.
+///
+/// Refused, in this order: `NOTHING`; `WRONG_KIND`. Takes no memory.
+#[unsafe(no_mangle)]
+pub extern "C" fn kit_recorder_clear(alloc: Global, recorder: &mut KitHandle) -> i32
+    ensures ok { result ≡ pos 0 → of_one recorder.old.inner.value recorder_fault ≡ None }
+    ensures value { result ≡ pos 0 → recorder.new.inner.value ≡ in_one cleared recorder.old.inner.value }
+    ensures err { result ≢ pos 0 → option_map code_of (of_one recorder.old.inner.value recorder_fault) ≡ Some result }
+    ensures unchanged { result ≢ pos 0 → recorder.new.inner.value ≡ recorder.old.inner.value }
+{
+    let Some(mut content) = recorder.take(alloc) else {
+        return NOTHING;
+    };
+    let outcome = clear_recorder(&mut content);
+    recorder.put(content);
+    match outcome {
+        Ok(()) => OK,
+        Err(fault) => fault.code(),
+    }
+}
+
+fn take_in_at_writer(
+    content: &mut Content,
+    other: &mut Content,
+    most: usize,
+) -> Result<KitTaken, Fault>
+    ensures ok { OnOk result (taking_fault content.old other.old ≡ None) }
+    ensures value { IfOk result (λ told. HasTakenIn most (Some content.old) (Some other.old) (Some content.new) (Some other.new) told) }
+    ensures err { IfErr result (λ f. taking_fault content.old other.old ≡ Some f) }
     ensures unchanged { OnErr result (content.new ≡ content.old) }
     ensures kept { OnErr result (other.new ≡ other.old) }
 {
-    let Content::Writer(holder) = content else {
+    let Content::Writer(writer) = content else {
         return Err(Fault::WrongKind);
     };
     let Content::Recorder(recorder) = other else {
         return Err(Fault::WrongKind);
     };
-    holder.absorb(recorder)
+    match writer.take_in(recorder, most) {
+        Ok(taken) => Ok(KitTaken::of(taken)),
+        Err(_) => Err(Fault::Measure(MeasureFault::Closed)),
+    }
 }
 
-/// Takes in what a recorder of the writer's plan holds, as if each of its recordings had been measured here, one after the other. The
-/// recorder holds nothing then, keeps its sets, and goes on recording. It may be one that another writer of an equal plan opened.
+/// Takes in at most so many recordings of a log, from its front: each is measured as if it had been so then, one after the other, and
+/// forgotten. What is refused is refused by itself, and told: how many were recorded and refused, and why the first of these. Where memory
+/// is wanting it stops, and that recording and those behind it stay. What was noted before a restart counts in the incarnation that takes
+/// it in.
 ///
-/// Refused, in this order: `NOTHING` of the writer, then of the recorder; `WRONG_KIND`; `OTHER_PLAN`; `CLOSED`; `OVERFLOW` with the
-/// first stream of which a point would leave its range, a sum that may fall on its way too; `NO_MEMORY`. Writer and recorder then stay as they were. O(size of the plan,
-/// points of the recorder and its sets).
-#[tactic(auto, using(crate::proofs::Desks::two_refused))]
+/// Refused, in this order: `NOTHING` of the writer, then of the recorder; `WRONG_KIND`; `CLOSED`. O(what each recording takes).
 #[unsafe(no_mangle)]
-pub extern "C" fn kit_writer_absorb(
+pub extern "C" fn kit_writer_take_in(
     alloc: Global,
     writer: &mut KitHandle,
     recorder: &mut KitHandle,
-    place: &mut u64,
+    most: usize,
+    taken: &mut KitTaken,
 ) -> i32
-    ensures value { result ≡ pos 0 → HasAbsorbed writer.old.inner.value recorder.old.inner.value
-        writer.new.inner.value recorder.new.inner.value }
-    ensures told { result ≡ pos 0 → place.new ≡ place.old }
-    ensures err { result ≢ pos 0 → TwoRefused AbsorbRefused writer.old.inner.value recorder.old.inner.value
-        writer.new.inner.value place.old place.new result }
+    ensures ok { result ≡ pos 0 → of_two writer.old.inner.value recorder.old.inner.value taking_fault ≡ None }
+    ensures value { result ≡ pos 0 → HasTakenIn most writer.old.inner.value recorder.old.inner.value
+        writer.new.inner.value recorder.new.inner.value taken.new }
+    ensures err { result ≢ pos 0
+        → option_map code_of (of_two writer.old.inner.value recorder.old.inner.value taking_fault) ≡ Some result }
+    ensures told { result ≢ pos 0 → taken.new ≡ taken.old }
     ensures unchanged { result ≢ pos 0 → writer.new.inner.value ≡ writer.old.inner.value }
     ensures kept { result ≢ pos 0 → recorder.new.inner.value ≡ recorder.old.inner.value }
 {
@@ -256,11 +270,14 @@ pub extern "C" fn kit_writer_absorb(
         writer.put(content);
         return NOTHING;
     };
-    let outcome = absorb_recorder(&mut content, &mut other);
+    let outcome = take_in_at_writer(&mut content, &mut other, most);
     writer.put(content);
     recorder.put(other);
     match outcome {
-        Ok(()) => OK,
-        Err(fault) => code_with_place(fault, place),
+        Ok(told) => {
+            *taken = told;
+            OK
+        }
+        Err(fault) => fault.code(),
     }
 }

@@ -1,25 +1,27 @@
 //! Writers that threads share: each thread has a handle of its own, with its place at the writer.
 ghost use Rattle.std.specs.Option.{option_map};
-ghost use Rattle.std.specs.Prelude.{◌≡◌, ◌≢◌, [], pos, slice_get, None, Some, OnOk, OnErr, IfErr, IfOk};
+ghost use Rattle.std.specs.Prelude.{◌≡◌, ◌≢◌, pos, None, Some, OnOk, OnErr, IfErr, IfOk};
+ghost use Rattle.std.specs.Arc.{arc_value};
 ghost use Rattle.kit_c.specs.Codes.{code_of, no_memory};
-ghost use Rattle.kit_c.specs.Desks.{CollectRefused, HasCollected, HasMeasured, HasMeasuredAt, HasShared, HasSplit, MeasureRefused, NumberRefused, OneRefused, PlainRefused, SplitRefused, TwoRefused, sharing_fault};
+ghost use Rattle.kit_c.specs.Desks.{CollectRefused, HasCollected, HasHeld, HasMeasured, HasMeasuredAt, HasShared, HasSplit, HasTakenInAt, HoldRefused, IsHeldBy, MeasureRefused, NumberRefused, OneRefused, PlainRefused, PlainTwoRefused, SplitRefused, Stays, TakeInRefused, TwoRefused, WhyNotHeld, sharing_fault};
 ghost use Rattle.kit_c.specs.Faults.{full_fault, of_one};
 ghost use Rattle.kit_c.specs.Writers.{HasExport};
-ghost use Rattle.kit_c.specs.declared.fault.Fault.TheVariants as faults;
-ghost use Rattle.kit_c.specs.declared.content.Content.TheVariants as things;
-ghost use Rattle.writer_kit.specs.Shared.{MayRefuseRound};
+ghost use Rattle.kit_c.specs.Pairs.{number_in};
+ghost use Rattle.writer_kit.specs.Shared.{MayRefuseRound, StandsForSet};
 ghost use Rattle.writer_kit.specs.declared.shared.change.WriterChange.TheVariants.{Collected};
 
 use crate::content::Content;
 use crate::desk::Desk;
 use crate::fault::{FULL, Fault, NOTHING, OK, code_with_place};
 use crate::handle::KitHandle;
-use attr_kit::{AttrSet, Seq, TryCopy};
+use crate::pairs::{Pair, copy_numbers};
+use crate::taken::KitTaken;
+use attr_kit::Seq;
 use bumpalo::Bump;
 use std::alloc::Global;
 use std::sync::Arc;
 use turn_kit::{ChangeFault, SplitFault, Step};
-use writer_kit::{CollectFault, SharedWriter, Writer};
+use writer_kit::{CollectFault, MeasureFault, SharedWriter, Writer};
 
 /// The most changes that a shared writer accepts.
 const MOST_CHANGES: u64 = 1 << 62;
@@ -33,17 +35,24 @@ fn share_writer(alloc: Global, content: &Content) -> Result<Box<Content>, Fault>
     let Content::Writer(holder) = content else {
         return Err(Fault::WrongKind);
     };
-    let sets = holder.copy_sets()?;
+    let numbers = holder.numbers()?;
     let writer = holder.writer().try_copy()?;
     let Ok((writer, seat)) = SharedWriter::new(alloc, writer, MOST_CHANGES) else {
         return Err(Fault::NoMemory);
     };
     let writer = Arc::new(alloc, writer.into_quiet())?;
-    Ok(Box::new(alloc, Content::Desk(Desk { writer, seat, sets }))?)
+    Ok(Box::new(
+        alloc,
+        Content::Desk(Desk {
+            writer,
+            seat,
+            numbers,
+        }),
+    )?)
 }
 
 /// Shares a writer: from now on its handle has the first place at it, which `kit_seat_split` makes others of, one for each thread.
-/// The places hold the sets that the writer held, by the same numbers.
+/// What the writer held stays held, under the same numbers.
 ///
 /// Refused, in this order: `NOTHING`; `WRONG_KIND`; `NO_MEMORY`. O(size of the plan and the points).
 #[unsafe(no_mangle)]
@@ -133,39 +142,14 @@ pub extern "C" fn kit_seat_measure(
     }
 }
 
-// The set of a number.
-fn set_at(sets: &Seq<AttrSet>, number: usize) -> Result<&AttrSet, Fault>
-    ensures value { IfOk result (λ a. slice_get sets.now number ≡ Some a.now) }
-    ensures err { IfErr result (λ f. f ≡ faults.NoSet) }
-    ensures none { OnErr result (slice_get sets.now number ≡ None) }
-{
-    match sets.get(number) {
-        Some(set) => Ok(set),
-        None => Err(Fault::NoSet),
-    }
-}
-
-#[tactic(auto, using(crate::proofs::Desks::why_no_set))]
-fn measure_held_at_seat(
-    content: &mut Content,
-    instrument: usize,
-    number: usize,
-    value: i64,
-) -> Result<(), Fault>
-    ensures value { OnOk result (HasMeasuredAt instrument number value (Some content.old) (Some content.new)) }
-    ensures err { IfErr result (λ f. NumberRefused instrument number value content.old content.new f) }
+fn measure_held_at_seat(content: &mut Content, number: usize, value: i64) -> Result<(), Fault>
+    ensures value { OnOk result (HasMeasuredAt number value (Some content.old) (Some content.new)) }
+    ensures err { IfErr result (λ f. NumberRefused number value content.old content.new f) }
 {
     let Content::Desk(desk) = content else {
         return Err(Fault::WrongKind);
     };
-    let set = match set_at(&desk.sets, number) {
-        Ok(set) => set,
-        Err(fault) => return Err(fault),
-    };
-    match desk
-        .writer
-        .try_measure(&mut desk.seat, instrument, set, value)
-    {
+    match desk.writer.try_measure_held(&mut desk.seat, number, value) {
         Ok(()) => Ok(()),
         Err(ChangeFault::Busy) => Err(Fault::Busy),
         Err(ChangeFault::Exhausted) => Err(Fault::Exhausted),
@@ -173,33 +157,186 @@ fn measure_held_at_seat(
     }
 }
 
-/// Records a value by a seat at the attribute set of a number: the sets are those that the writer held when it was shared.
+/// Records a value by a seat at the pair of a number, whichever seat's call told it.
 ///
-/// Refused, in this order: `NOTHING`; `WRONG_KIND`; `NO_SET`; then as `kit_seat_measure` is.
+/// Refused, in this order: `NOTHING`; `WRONG_KIND`; `BUSY` where another thread's call has the writer; `EXHAUSTED` where it accepted 2^62
+/// changes; then as `kit_writer_measure_held` is.
 #[tactic(auto, using(crate::proofs::Desks::one_refused))]
 #[unsafe(no_mangle)]
 pub extern "C" fn kit_seat_measure_held(
     alloc: Global,
     seat: &mut KitHandle,
-    instrument: usize,
     number: usize,
     value: i64,
     place: &mut u64,
 ) -> i32
-    ensures value { result ≡ pos 0
-        → HasMeasuredAt instrument number value seat.old.inner.value seat.new.inner.value }
+    ensures value { result ≡ pos 0 → HasMeasuredAt number value seat.old.inner.value seat.new.inner.value }
     ensures told { result ≡ pos 0 → place.new ≡ place.old }
-    ensures err { result ≢ pos 0 → OneRefused (NumberRefused instrument number value) seat.old.inner.value
+    ensures err { result ≢ pos 0 → OneRefused (NumberRefused number value) seat.old.inner.value
         seat.new.inner.value place.old place.new result }
 {
     let Some(mut content) = seat.take(alloc) else {
         return NOTHING;
     };
-    let outcome = measure_held_at_seat(&mut content, instrument, number, value);
+    let outcome = measure_held_at_seat(&mut content, number, value);
     seat.put(content);
     match outcome {
         Ok(()) => OK,
         Err(fault) => code_with_place(fault, place),
+    }
+}
+
+// Holds a pair at a place. Memory is taken first, since nothing can be refused once the pair is held.
+fn hold_pair(desk: &mut Desk, pair: &Pair) -> Result<usize, Fault>
+    ensures stands { IfOk result (λ n. StandsForSet (arc_value desk.new.writer) n pair.now.instrument pair.now.attrs desk.new.seat) }
+    ensures value { IfOk result (λ n. IsHeldBy (number_in desk.old.numbers.entries pair.now.instrument pair.now.attrs)
+        pair.now.instrument n pair.now.attrs desk.old desk.new) }
+    ensures stays { OnErr result (Stays desk.old desk.new) }
+    ensures unknown { OnErr result (number_in desk.old.numbers.entries pair.now.instrument pair.now.attrs ≡ None) }
+    ensures err { IfErr result (λ f. WhyNotHeld pair.now.instrument desk.old desk.new f) }
+{
+    if let Some(number) = desk.numbers.get(pair) {
+        return Ok(*number);
+    }
+    let copy = pair.try_copy()?;
+    desk.numbers.reserve(1)?;
+    match desk
+        .writer
+        .try_hold(&mut desk.seat, pair.instrument, &pair.attrs)
+    {
+        Ok(number) => {
+            desk.numbers.insert(copy, number).unwrap();
+            Ok(number)
+        }
+        Err(ChangeFault::Busy) => Err(Fault::Busy),
+        Err(ChangeFault::Exhausted) => Err(Fault::Exhausted),
+        Err(ChangeFault::Refused(fault)) => Err(Fault::Measure(fault)),
+    }
+}
+
+fn hold_at_seat(
+    alloc: Global,
+    content: &mut Content,
+    instrument: usize,
+    set: &mut Content,
+) -> Result<usize, Fault>
+    ensures value { IfOk result (λ n. HasHeld instrument n (Some content.old) (Some set.old) (Some content.new)) }
+    ensures err { IfErr result (λ f. HoldRefused instrument content.old set.old content.new f) }
+    ensures kept { set.new ≡ set.old }
+{
+    let Content::Desk(desk) = content else {
+        return Err(Fault::WrongKind);
+    };
+    let Content::Attributes(attributes) = set else {
+        return Err(Fault::WrongKind);
+    };
+    let pair = Pair::lend(alloc, instrument, attributes);
+    let outcome = hold_pair(desk, &pair);
+    *attributes = pair.give_back();
+    outcome
+}
+
+/// Holds a pair of an instrument and an attribute set by a seat, and tells its number, which any seat of the writer may use. A seat knows
+/// the numbers of the pairs that were held when the writer was shared, of those that it held itself, and those that the seat knew that it
+/// was split from. Of such a pair nothing changes, no memory is taken and the writer is not asked for.
+///
+/// Refused, in this order: `NOTHING` of the seat, then of the attributes; `WRONG_KIND`; of a pair that the seat does not know `NO_MEMORY`;
+/// `BUSY` where another thread's call has the writer; `EXHAUSTED` where it accepted 2^62 changes; `NO_INSTRUMENT`; `NO_MEMORY`.
+#[tactic(auto, using(crate::proofs::Desks::plain_two_refused))]
+#[unsafe(no_mangle)]
+pub extern "C" fn kit_seat_hold(
+    alloc: Global,
+    seat: &mut KitHandle,
+    instrument: usize,
+    attributes: &mut KitHandle,
+    number: &mut usize,
+) -> i32
+    ensures value { result ≡ pos 0
+        → HasHeld instrument number.new seat.old.inner.value attributes.old.inner.value seat.new.inner.value }
+    ensures told { result ≢ pos 0 → number.new ≡ number.old }
+    ensures err { result ≢ pos 0 → PlainTwoRefused (HoldRefused instrument) seat.old.inner.value attributes.old.inner.value
+        seat.new.inner.value result }
+    ensures kept { attributes.new.inner.value ≡ attributes.old.inner.value }
+{
+    let Some(mut content) = seat.take(alloc) else {
+        return NOTHING;
+    };
+    let Some(mut set) = attributes.take(alloc) else {
+        seat.put(content);
+        return NOTHING;
+    };
+    let outcome = hold_at_seat(alloc, &mut content, instrument, &mut set);
+    seat.put(content);
+    attributes.put(set);
+    match outcome {
+        Ok(told) => {
+            *number = told;
+            OK
+        }
+        Err(fault) => fault.code(),
+    }
+}
+
+fn take_in_at_seat(
+    content: &mut Content,
+    other: &mut Content,
+    most: usize,
+) -> Result<KitTaken, Fault>
+    ensures value { IfOk result (λ told. HasTakenInAt most (Some content.old) (Some other.old) (Some content.new) (Some other.new) told) }
+    ensures err { IfErr result (λ f. TakeInRefused content.old other.old content.new f) }
+    ensures kept { OnErr result (other.new ≡ other.old) }
+{
+    let Content::Desk(desk) = content else {
+        return Err(Fault::WrongKind);
+    };
+    let Content::Recorder(recorder) = other else {
+        return Err(Fault::WrongKind);
+    };
+    match desk.writer.try_take_in(&mut desk.seat, recorder, most) {
+        Ok(taken) => Ok(KitTaken::of(taken)),
+        Err(ChangeFault::Busy) => Err(Fault::Busy),
+        Err(ChangeFault::Exhausted) => Err(Fault::Exhausted),
+        Err(ChangeFault::Refused(_)) => Err(Fault::Measure(MeasureFault::Closed)),
+    }
+}
+
+/// Takes in at most so many recordings of a log by a seat, from its front, as `kit_writer_take_in` does: by one change, so that others see
+/// all of them or none. By pieces other seats get in between.
+///
+/// Refused, in this order: `NOTHING` of the seat, then of the recorder; `WRONG_KIND`; `BUSY` where another thread's call has the writer;
+/// `EXHAUSTED` where it accepted 2^62 changes; `CLOSED`. The log stays as it is then.
+#[tactic(auto, using(crate::proofs::Desks::plain_two_refused))]
+#[unsafe(no_mangle)]
+pub extern "C" fn kit_seat_take_in(
+    alloc: Global,
+    seat: &mut KitHandle,
+    recorder: &mut KitHandle,
+    most: usize,
+    taken: &mut KitTaken,
+) -> i32
+    ensures value { result ≡ pos 0 → HasTakenInAt most seat.old.inner.value recorder.old.inner.value
+        seat.new.inner.value recorder.new.inner.value taken.new }
+    ensures told { result ≢ pos 0 → taken.new ≡ taken.old }
+    ensures err { result ≢ pos 0 → PlainTwoRefused TakeInRefused seat.old.inner.value recorder.old.inner.value
+        seat.new.inner.value result }
+    ensures kept { result ≢ pos 0 → recorder.new.inner.value ≡ recorder.old.inner.value }
+{
+    let Some(mut content) = seat.take(alloc) else {
+        return NOTHING;
+    };
+    let Some(mut other) = recorder.take(alloc) else {
+        seat.put(content);
+        return NOTHING;
+    };
+    let outcome = take_in_at_seat(&mut content, &mut other, most);
+    seat.put(content);
+    recorder.put(other);
+    match outcome {
+        Ok(told) => {
+            *taken = told;
+            OK
+        }
+        Err(fault) => fault.code(),
     }
 }
 
@@ -211,7 +348,7 @@ fn split(alloc: Global, content: &mut Content) -> Result<Box<Content>, Fault>
     let Content::Desk(desk) = content else {
         return Err(Fault::WrongKind);
     };
-    let Ok(sets) = desk.sets.try_copy() else {
+    let Ok(numbers) = copy_numbers(&desk.numbers) else {
         return Err(Fault::NoMemory);
     };
     let Ok(writer) = Arc::try_clone(&desk.writer) else {
@@ -222,7 +359,11 @@ fn split(alloc: Global, content: &mut Content) -> Result<Box<Content>, Fault>
     };
     match desk.writer.try_split(&mut desk.seat) {
         Ok(seat) => {
-            *room = Content::Desk(Desk { writer, seat, sets });
+            *room = Content::Desk(Desk {
+                writer,
+                seat,
+                numbers,
+            });
             Ok(room)
         }
         Err(SplitFault::Busy) => Err(Fault::Busy),
@@ -230,7 +371,7 @@ fn split(alloc: Global, content: &mut Content) -> Result<Box<Content>, Fault>
     }
 }
 
-/// Makes another seat at the writer, for another thread: it holds the same sets by the same numbers.
+/// Makes another seat at the writer, for another thread, which knows the numbers that this one knows.
 ///
 /// Refused, in this order: `FULL` of the new one; `NOTHING`; `WRONG_KIND`; `NO_MEMORY`; `BUSY` where another thread's call has the
 /// writer; `SEATS_FULL` where 4,096 seats were made.

@@ -7,13 +7,14 @@ ghost use Rattle.kit_c.specs.Faults.{collecting_fault, collection_fault, early_r
 ghost use Rattle.kit_c.specs.Handles.{HasPoints, after_collection, after_recording, after_restarting, in_first, in_one};
 ghost use Rattle.kit_c.specs.Places.{place_after};
 ghost use Rattle.kit_c.specs.declared.content.Content.TheVariants as things;
-ghost use Rattle.kit_c.specs.Numbers.{HasNumberedPoints, after_holding, after_numbered, holding_fault, numbered_fault, sets_len};
+ghost use Rattle.kit_c.specs.Numbers.{HasNumberedPoints, IsNumberOf, IsPairHeld, after_holding, after_numbered, early_numbered_fault, holding_fault, numbered_fault};
 ghost use Rattle.kit_c.specs.Writers.{HasStarted, IsCollection, instance_of};
 
 use crate::content::Content;
 use crate::fault::{FULL, Fault, NOTHING, OK, code_with_place};
 use crate::handle::KitHandle;
 use crate::holding::HoldingWriter;
+use crate::pairs::Pair;
 use crate::text::text_of;
 use bumpalo::Bump;
 use point_kit::WriterId;
@@ -154,12 +155,19 @@ pub extern "C" fn kit_writer_measure(
     }
 }
 
-fn hold_at_writer(content: &mut Content, set: &Content) -> Result<usize, Fault>
-    ensures ok { OnOk result (holding_fault content.old set.now ≡ None) }
-    ensures value { OnOk result (content.new ≡ after_holding content.old set.now) }
-    ensures number { IfOk result (λ n. n ≡ sets_len content.old) }
-    ensures err { IfErr result (λ f. code_of f ≢ no_memory → holding_fault content.old set.now ≡ Some f) }
+fn hold_at_writer(
+    alloc: Global,
+    content: &mut Content,
+    instrument: usize,
+    set: &mut Content,
+) -> Result<usize, Fault>
+    ensures ok { OnOk result (holding_fault instrument content.old set.old ≡ None) }
+    ensures value { OnOk result (content.new ≡ after_holding instrument content.old set.old) }
+    ensures number { IfOk result (λ n. IsNumberOf n instrument (Some content.old) (Some set.old)) }
+    ensures err { IfErr result (λ f. code_of f ≢ no_memory → holding_fault instrument content.old set.old ≡ Some f) }
+    ensures held { IsPairHeld instrument (Some content.old) (Some set.old) → OnErr result ⊥ }
     ensures unchanged { OnErr result (content.new ≡ content.old) }
+    ensures kept { set.new ≡ set.old }
 {
     let Content::Writer(writer) = content else {
         return Err(Fault::WrongKind);
@@ -167,38 +175,45 @@ fn hold_at_writer(content: &mut Content, set: &Content) -> Result<usize, Fault>
     let Content::Attributes(attributes) = set else {
         return Err(Fault::WrongKind);
     };
-    Ok(writer.hold(attributes.try_copy()?)?)
+    let pair = Pair::lend(alloc, instrument, attributes);
+    let outcome = writer.hold(&pair);
+    *attributes = pair.give_back();
+    outcome
 }
 
-/// Holds a copy of an attribute set beside the writer, and tells its number: sets are numbered from 0, and held as long as the
-/// writer is. To record by number is the shortest way.
+/// Holds a pair of an instrument and an attribute set beside the writer, and tells its number, for `kit_writer_measure_held`. Numbers
+/// count from 0, and stay as long as the writer does, over restarts too. A pair that is held already has the number that it has: nothing
+/// changes and no memory is taken, so this may be called at each recording.
 ///
-/// Refused, in this order: `NOTHING` of the writer, then of the attributes; `WRONG_KIND`; `NO_MEMORY`.
+/// Refused, in this order: `NOTHING` of the writer, then of the attributes; `WRONG_KIND`; of a pair that is not held already `CLOSED`;
+/// `NO_INSTRUMENT`; `NO_MEMORY`. O(size of the attributes).
 #[unsafe(no_mangle)]
 pub extern "C" fn kit_writer_hold(
     alloc: Global,
     writer: &mut KitHandle,
+    instrument: usize,
     attributes: &mut KitHandle,
     number: &mut usize,
 ) -> i32
-    ensures ok { result ≡ pos 0 → of_two writer.old.inner.value attributes.old.inner.value holding_fault ≡ None }
+    ensures ok { result ≡ pos 0 → of_two writer.old.inner.value attributes.old.inner.value (holding_fault instrument) ≡ None }
     ensures value { result ≡ pos 0 → writer.new.inner.value
-        ≡ in_first after_holding writer.old.inner.value attributes.old.inner.value }
-    ensures number { result ≡ pos 0 → (h : _) → writer.old.inner.value ≡ Some h → number.new ≡ sets_len h }
+        ≡ in_first (after_holding instrument) writer.old.inner.value attributes.old.inner.value }
+    ensures number { result ≡ pos 0 → IsNumberOf number.new instrument writer.old.inner.value attributes.old.inner.value }
     ensures told { result ≢ pos 0 → number.new ≡ number.old }
     ensures err { result ≢ pos 0 → result ≢ no_memory
-        → option_map code_of (of_two writer.old.inner.value attributes.old.inner.value holding_fault) ≡ Some result }
+        → option_map code_of (of_two writer.old.inner.value attributes.old.inner.value (holding_fault instrument)) ≡ Some result }
+    ensures held { IsPairHeld instrument writer.old.inner.value attributes.old.inner.value → result ≡ pos 0 }
     ensures unchanged { result ≢ pos 0 → writer.new.inner.value ≡ writer.old.inner.value }
     ensures kept { attributes.new.inner.value ≡ attributes.old.inner.value }
 {
     let Some(mut content) = writer.take(alloc) else {
         return NOTHING;
     };
-    let Some(set) = attributes.take(alloc) else {
+    let Some(mut set) = attributes.take(alloc) else {
         writer.put(content);
         return NOTHING;
     };
-    let outcome = hold_at_writer(&mut content, &set);
+    let outcome = hold_at_writer(alloc, &mut content, instrument, &mut set);
     writer.put(content);
     attributes.put(set);
     match outcome {
@@ -210,51 +225,51 @@ pub extern "C" fn kit_writer_hold(
     }
 }
 
-fn measure_held_at_writer(
-    content: &mut Content,
-    instrument: usize,
-    number: usize,
-    value: i64,
-) -> Result<(), Fault>
-    ensures ok { OnOk result (numbered_fault instrument number value content.old ≡ None) }
-    ensures value { OnOk result (content.new ≡ after_numbered instrument number value content.old) }
-    ensures err { IfErr result (λ f. code_of f ≢ no_memory → numbered_fault instrument number value content.old ≡ Some f) }
-    ensures held { HasNumberedPoints instrument number value (Some content.old) → IfErr result (λ f. code_of f ≢ no_memory) }
+#[tactic(auto, using(crate::proofs::Codes::memory_of_recording))]
+fn measure_held_at_writer(content: &mut Content, number: usize, value: i64) -> Result<(), Fault>
+    ensures ok { OnOk result (numbered_fault number value content.old ≡ None) }
+    ensures value { OnOk result (content.new ≡ after_numbered number value content.old) }
+    ensures err { IfErr result (λ f. code_of f ≢ no_memory → numbered_fault number value content.old ≡ Some f) }
+    ensures short { IfErr result (λ f. code_of f ≡ no_memory → early_numbered_fault number value content.old ≡ None) }
+    ensures held { HasNumberedPoints number value (Some content.old) → IfErr result (λ f. code_of f ≢ no_memory) }
     ensures unchanged { OnErr result (content.new ≡ content.old) }
 {
     let Content::Writer(writer) = content else {
         return Err(Fault::WrongKind);
     };
-    writer.measure_held(instrument, number, value)
+    match writer.measure_held(number, value) {
+        Ok(()) => Ok(()),
+        Err(fault) => Err(Fault::Measure(fault)),
+    }
 }
 
-/// Records a value of an instrument at the attribute set of a number, which `kit_writer_hold` told.
+/// Records a value at the pair of a number, which `kit_writer_hold` told, as `kit_writer_measure` does.
 ///
-/// Refused, in this order: `NOTHING`; `WRONG_KIND`; `NO_SET`; then as `kit_writer_measure` is.
+/// Refused, in this order: `NOTHING`; `WRONG_KIND`; `CLOSED`; `NO_HELD` where nothing is held under the number; `NEGATIVE`; `OVERFLOW`
+/// with the stream; `NO_MEMORY` as of `kit_writer_measure`. O(feeds of the instrument), and from the first value on no set is looked up.
 #[unsafe(no_mangle)]
 pub extern "C" fn kit_writer_measure_held(
     alloc: Global,
     writer: &mut KitHandle,
-    instrument: usize,
     number: usize,
     value: i64,
     place: &mut u64,
 ) -> i32
-    ensures ok { result ≡ pos 0 → of_one writer.old.inner.value (numbered_fault instrument number value) ≡ None }
-    ensures value { result ≡ pos 0 → writer.new.inner.value
-        ≡ in_one (after_numbered instrument number value) writer.old.inner.value }
+    ensures ok { result ≡ pos 0 → of_one writer.old.inner.value (numbered_fault number value) ≡ None }
+    ensures value { result ≡ pos 0 → writer.new.inner.value ≡ in_one (after_numbered number value) writer.old.inner.value }
     ensures err { result ≢ pos 0 → result ≢ no_memory
-        → option_map code_of (of_one writer.old.inner.value (numbered_fault instrument number value)) ≡ Some result }
-    ensures held { HasNumberedPoints instrument number value writer.old.inner.value → result ≢ no_memory }
+        → option_map code_of (of_one writer.old.inner.value (numbered_fault number value)) ≡ Some result }
+    ensures short { result ≡ no_memory → of_one writer.old.inner.value (early_numbered_fault number value) ≡ None }
+    ensures held { HasNumberedPoints number value writer.old.inner.value → result ≢ no_memory }
     ensures place { result ≢ no_memory
-        → place.new ≡ place_after (of_one writer.old.inner.value (numbered_fault instrument number value)) place.old }
+        → place.new ≡ place_after (of_one writer.old.inner.value (numbered_fault number value)) place.old }
     ensures no_memory { result ≡ no_memory → place.new ≡ place.old }
     ensures unchanged { result ≢ pos 0 → writer.new.inner.value ≡ writer.old.inner.value }
 {
     let Some(mut content) = writer.take(alloc) else {
         return NOTHING;
     };
-    let outcome = measure_held_at_writer(&mut content, instrument, number, value);
+    let outcome = measure_held_at_writer(&mut content, number, value);
     writer.put(content);
     match outcome {
         Ok(()) => OK,

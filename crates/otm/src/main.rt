@@ -1,6 +1,8 @@
 //! `otm run` does the script of the standard input and writes what its lines say to the standard output. `otm fleet` runs a
 //! fleet of threads and writes the total of each gateway.
 //!
+//! The standard error gets notes on likely mistakes of a script, which change nothing else.
+//!
 //! Exit statuses: 0 where all of it was done; 1 for a bad line, of which `line N` is printed, and on the standard error what is
 //! wrong with it; 1 too for a script that is too long (`too long`), or a fleet without an answer (`missing gateway G writer W`, or
 //! `fleet failed`); 2 for words that are refused, whose text goes to the standard error; 3 for want of memory (`no memory`); 4 where
@@ -11,8 +13,8 @@ ghost use Rattle.std.specs.Prelude.{IfOk};
 ghost use Rattle.otm_kit.specs.Asked.{IsRanged};
 
 use otm_kit::command_line::asked;
-use otm_kit::{Asked, Ended, FleetEnd, LineFault, fleet_report, run_script_told};
-use script_kit::ScriptFault;
+use otm_kit::{Asked, Ended, FleetEnd, LineFault, fleet_report, notes_on, run_script_told};
+use script_kit::{ScriptFault, read_script};
 use std::alloc::Global;
 use std::io::ErrorKind;
 use std::process::ExitCode;
@@ -76,13 +78,31 @@ fn unread(alloc: Global, error: &io::Error) -> LineFault {
 fn run(rt: &(impl Input + Print + Eprint + AllocGlobal)) -> ExitCode {
     let mut reader = rt.reader();
     let mut writer = io::writer(rt);
-    match run_script_told(rt.alloc(), &mut reader, &mut writer) {
-        Ok(()) => ExitCode::SUCCESS,
+    let script = match read_script(rt.alloc(), &mut reader) {
+        Ok(script) => script,
+        Err(fault) => return report(rt, fault),
+    };
+    let mut lines = script.as_slice();
+    match run_script_told(rt.alloc(), &mut lines, &mut writer) {
+        Ok(()) => {
+            tell(rt, script.as_slice(), None);
+            ExitCode::SUCCESS
+        }
         Err(end) => {
             let status = report(rt, end.fault);
+            if let ScriptFault::BadLine(number) = end.fault {
+                tell(rt, script.as_slice(), Some(number));
+            }
             explain(rt, &end);
             status
         }
+    }
+}
+
+// Prints the notes on a script up to its bad line, where there was memory for them.
+fn tell(rt: &(impl Eprint + AllocGlobal), script: &[u8], bad_line: Option<u64>) {
+    if let Ok(notes) = notes_on(rt.alloc(), script, bad_line) {
+        let _ = eprint!(rt; "{notes}");
     }
 }
 

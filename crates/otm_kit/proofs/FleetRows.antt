@@ -29,7 +29,7 @@ use Rattle.rollup_kit.specs.Rollups.{recorded_rows, row_of}
 use Rattle.rollup_kit.specs.Writers.{Writers, entries_fed, rounding, rows_of}
 use Rattle.schedule_kit.specs.Rows as rows
 use Rattle.schedule_kit.specs.Taken.{incarnations_from}
-use Rattle.otm_kit.specs.FleetSetups.{IsFleetSetup, fleet_ask, fleet_plan, fleet_task, fleet_tasks, one, plans}
+use Rattle.otm_kit.specs.FleetSetups.{IsFleetSetup, fleet_ask, fleet_plan, fleet_task, fleet_tasks, fleet_writer, fleet_writers, one}
 use Rattle.otm_kit.specs.FleetTexts.{sum_in, total_line}
 use Rattle.gateway_kit.specs.GatewayState.{GatewayState}
 use Rattle.std.proofs.lemmas.Bool.{cases_lt, ne_eqb}
@@ -309,6 +309,20 @@ jobs_of (suc n) r each w lt =
           ∙ ap (λ v. entries_of (replicate r (fleet_task each v)) w) same ∙ own_jobs r each w
     ]
 
+-- the plan and the start of each writer
+abbrev plans : List (WriterId × Planned × ℕ) → List (Planned × ℕ)
+plans ws = map (λ w. (w.1, w.2)) ws
+
+plans_both : (vs ws : List (WriterId × Planned × ℕ)) → plans (vs ++ ws) ≡ plans vs ++ plans ws
+plans_both [] ws = refl
+plans_both (v ∷ vs) ws = ap (λ l. (v.1, v.2) ∷ l) (plans_both vs ws)
+
+plans_alike : (n : ℕ) → plans (fleet_writers n) ≡ replicate n (fleet_plan, 1)
+plans_alike zero = refl
+plans_alike (suc n) =
+    plans_both (fleet_writers n) (fleet_writer n ∷ []) ∙ ap (λ l. l ++ (fleet_plan, 1) ∷ []) (plans_alike n)
+    ∙ copies (fleet_plan, 1) n 1 ∙ ap (λ k. replicate k (fleet_plan, 1)) (let next : n + 1 ≡ suc n = omega arith in next)
+
 plan_at : (ws : List (WriterId × Planned × ℕ)) (n w : ℕ) → plans ws ≡ replicate n (fleet_plan, 1) → w < n → (slice_index_or ws w no_writer).1 ≡ fleet_plan
 plan_at [] zero w e lt = absurd (omega arith)
 plan_at [] (suc n) w e lt = cc
@@ -320,11 +334,12 @@ plan_at (x ∷ ws) (suc n) (suc w) e lt = plan_at ws n w (ap (drop 1) e) (omega 
 pub total_is : (writers recorders each gateways : ℕ) (s : FleetSetup) → IsFleetSetup writers recorders each gateways s → sum_in (rows_of (writers_of s) (entries_recorded s) fleet_ask) ≡ pos (writers * recorders * each)
 unfolding rows_of
 total_is writers recorders each gateways s setup =
+    let alike_plans : plans s.writers.items ≡ replicate writers (fleet_plan, 1) = ap plans setup.writers ∙ plans_alike writers in
     let starts = (writers_of s).starts in
     let long : length starts ≡ writers =
-    length_mapped (λ (w : WriterId × Planned × ℕ). w.2) s.writers.items ∙ sym (length_mapped (λ (w : WriterId × Planned × ℕ). (w.1, w.2)) s.writers.items) ∙ ap length setup.writers ∙ length_copies (fleet_plan, 1) writers in
+    length_mapped (λ (w : WriterId × Planned × ℕ). w.2) s.writers.items ∙ sym (length_mapped (λ (w : WriterId × Planned × ℕ). (w.1, w.2)) s.writers.items) ∙ ap length alike_plans ∙ length_copies (fleet_plan, 1) writers in
     let alike = alike_from (writers_of s) (entries_recorded s) (recorders * each) 0 starts (λ w lt.
-    (plan_at s.writers.items writers w setup.writers (omega arith), ap (λ ts. entries_of ts w) setup.jobs ∙ jobs_of writers recorders each w (omega arith))) in
+    (plan_at s.writers.items writers w alike_plans (omega arith), ap (λ ts. entries_of ts w) setup.jobs ∙ jobs_of writers recorders each w (omega arith))) in
     total_of (writers_of s) (entries_recorded s) (recorders * each) (incarnations_from 0 starts) alike
     ∙ ap (λ n. pos (n * (recorders * each))) (count_from 0 starts ∙ long) ∙ ap pos (sym (mul_assoc writers recorders each))
 

@@ -2,6 +2,7 @@ pub mod AskedLemmas
 pub mod Beginning
 pub mod Effecting
 pub mod Finding
+pub mod FleetEnds
 pub mod FleetRows
 pub mod Lines
 pub mod OptionLemmas

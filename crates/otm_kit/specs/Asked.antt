@@ -1,7 +1,7 @@
 -- The commands of the program, and what a command line asks for.
-use Rattle.std.specs.Prelude.{◌≡◌, ◌≤◌, ℕ, List, [], ◌∷◌, Option, Some, codes, pos, true, Bool}
+use Rattle.std.specs.Prelude.{◌≡◌, ◌⊎◌, ◌≤◌, ℕ, List, [], ◌∷◌, Option, Some, codes, pos, true, Bool}
 use Rattle.std.specs.Str.Parse.{digits_value, without_leading_plus}
-use Rattle.clap.specs.Words.{App, Kinds, Row, Rule, Text, fault_of, new_app, new_rule, one_of, subcommand_of, takes, with_rule, with_subcommand}
+use Rattle.clap.specs.Words.{App, IsUnsignedIn, Kinds, Row, Rule, Text, fault_of, new_app, new_rule, one_of, subcommand_of, takes, with_rule, with_subcommand}
 use Rattle.clap.specs.declared.builder.value_parser.ValueParser.TheVariants.{Signed, Unsigned}
 use Rattle.otm_kit.specs.declared.words.Asked.{Asked}
 use Rattle.otm_kit.specs.declared.words.Asked.TheVariants as asked
@@ -41,6 +41,18 @@ faults_of words = fault_of otm words
 -- the first value of an option, given or its default, is this number in decimal digits, with a plus sign or none
 abbrev pub IsGiven : List Row → Text → ℕ → Type 0
 IsGiven rows option number = (text : Text) × (one_of option rows ≡ Some text) × (number ≡ digits_value 10 (without_leading_plus text))
+
+-- the option has no value, or one that is no number from the least to the most
+abbrev pub GivesNone : List Row → Text → ℕ → ℕ → Type 0
+GivesNone rows option least most = (text : Text) → one_of option rows ≡ Some text → IsUnsignedIn least most text → ⊥
+
+-- an option of a fleet gives no number of its range
+abbrev pub LacksNumber : List Row → Type 0
+LacksNumber rows = GivesNone rows (codes "writers") 1 8 ⊎ GivesNone rows (codes "recorders") 1 8 ⊎ GivesNone rows (codes "each") 0 1000000 ⊎ GivesNone rows (codes "gateways") 1 8
+
+-- the command is neither `run` nor a fleet whose options have their numbers
+abbrev pub AsksNothing : Option (Text × List Row) → Type 0
+AsksNothing found = (rows : List Row) → (found ≡ Some (codes "run", rows) → ⊥) × (found ≡ Some (codes "fleet", rows) → LacksNumber rows)
 
 -- the command and its options are what was asked
 abbrev pub Says : Option (Text × List Row) → Asked → Type 0

@@ -1,8 +1,13 @@
 -- The setup of the program's fleet, and what is asked of its gateways.
-use Rattle.std.specs.Prelude.{◌≡◌, ℕ, zero, suc, pos, List, [], ◌∷◌, ◌++◌, codes, map, replicate, None, true}
+use Rattle.std.specs.Prelude.{◌≡◌, ◌≢◌, ◌⊎◌, ◌+◌, ℕ, Bool, zero, suc, pos, List, [], ◌∷◌, ◌++◌, codes, replicate, None, Some, true}
+use Rattle.std.specs.Int.{to_be_bytes, w128}
 use Rattle.agg_kit.specs.Entries.{Entry, entry_of}
 use Rattle.attr_kit.specs.declared.keep.Keep.TheVariants.{Only}
+use Rattle.fleet_kit.specs.Checks.{setup_fault}
+use Rattle.fleet_kit.specs.Faults.{IsLate}
 use Rattle.fleet_kit.specs.Setups.{tasks_of}
+use Rattle.fleet_kit.specs.declared.fault.FleetFault.{FleetFault}
+use Rattle.fleet_kit.specs.declared.fault.FleetFault.TheVariants.{NoMemory}
 use Rattle.fleet_kit.specs.declared.setup.FleetSetup.{FleetSetup}
 use Rattle.plan_kit.specs.Feeds.{plan_of}
 use Rattle.plan_kit.specs.Plans.{Planned}
@@ -34,15 +39,36 @@ abbrev pub fleet_tasks : ℕ → ℕ → ℕ → List Task
 fleet_tasks zero recorders each = []
 fleet_tasks (suc n) recorders each = fleet_tasks n recorders each ++ replicate recorders (fleet_task each n)
 
--- the plan and the start of each writer
-abbrev pub plans : List (WriterId × Planned × ℕ) → List (Planned × ℕ)
-plans ws = map (λ w. (w.1, w.2)) ws
+-- the writer at a place: its service is `fleet`, its instance the place and 1, and it starts at 1
+abbrev pub fleet_writer : ℕ → WriterId × Planned × ℕ
+fleet_writer place = (record { service = codes "fleet"; instance = to_be_bytes w128 (place + 1) }, fleet_plan, 1)
 
--- writers of the plan that start at 1, so many recorders with so many recordings each for every writer, and gateways of the first ids
+-- the first writers, so many
+abbrev pub fleet_writers : ℕ → List (WriterId × Planned × ℕ)
+fleet_writers zero = []
+fleet_writers (suc n) = fleet_writers n ++ fleet_writer n ∷ []
+
+-- the first writers, so many recorders with so many recordings each for every writer, and gateways of the first ids; it ends at 2
 pub record IsFleetSetup (writer_count recorders each gateway_count : ℕ) (s : FleetSetup) : Type 0 where
-  pub writers : plans s.writers.items ≡ replicate writer_count (fleet_plan, 1)
+  pub writers : s.writers.items ≡ fleet_writers writer_count
   pub jobs : tasks_of s ≡ fleet_tasks writer_count recorders each
   pub gateways : s.gateways.items ≡ fleet_ids gateway_count
+  pub ends : s.end ≡ 2
+
+-- what a gate answers that is never shut
+abbrev pub LetsPass : ℕ → ℕ → Bool → Type 0
+LetsPass job entry answer = answer ≡ true
+
+-- a fleet of this setup, whose gate is never shut, may end with this fault
+abbrev pub EndsBy : FleetSetup → FleetFault → Type 0
+EndsBy s f = (setup_fault s ≡ Some f) ⊎ ((setup_fault s ≡ None) × IsLate LetsPass s f)
+
+-- a fault of the program's fleet that is told: one of its setup, or one that came later, and not want of memory
+pub record IsToldFault (writer_count recorders each gateway_count : ℕ) (f : FleetFault) : Type 0 where
+  pub s : FleetSetup
+  pub setup : IsFleetSetup writer_count recorders each gateway_count s
+  pub ends : EndsBy s f
+  pub other : f ≢ NoMemory
 
 -- the counter's stream, of any service, in one row
 abbrev pub fleet_ask : Ask

@@ -1,8 +1,8 @@
 //! What the words of a command line ask for.
 ghost use Rattle.clap.specs.Words.{app_of, found_of, rows_of, rule_of, subcommand_rows_of, is_broken, kind_of};
 ghost use Rattle.clap.specs.declared.builder.command.Command.TheViews.{out-Command};
-ghost use Rattle.otm_kit.specs.Asked.{otm, run, fleet, count_rule, each_rule, Says, IsGiven, IsCount, IsRanged, faults_of, named_by, is_taken};
-ghost use Rattle.std.specs.Prelude.{◌≡◌, ◌≤◌, [], Some, codes, false, true, IfOk, IfSome, IsErrOf, OnOk, map};
+ghost use Rattle.otm_kit.specs.Asked.{otm, run, fleet, count_rule, each_rule, Says, IsGiven, IsCount, IsRanged, GivesNone, LacksNumber, AsksNothing, faults_of, named_by, is_taken};
+ghost use Rattle.std.specs.Prelude.{◌≡◌, ◌≤◌, [], None, Some, codes, false, true, IfOk, IfSome, IsErrOf, OnOk, map};
 
 use crate::{Asked, LineFault};
 use clap::error::ErrorKind;
@@ -96,6 +96,7 @@ fn refusal(alloc: Global, error: &clap::Error) -> LineFault
 fn count_given(options: &ArgMatches<'_>, id: &str) -> Option<u8>
     ensures given { IfSome result (IsGiven (rows_of (found_of options.now)) id.now) }
     ensures counts { IfSome result IsCount }
+    ensures none { result ≡ None → GivesNone (rows_of (found_of options.now)) id.now 1 8 }
 {
     let number = options.get_one::<u8>(id)?;
     if number >= 1 && number <= 8 {
@@ -109,6 +110,7 @@ fn count_given(options: &ArgMatches<'_>, id: &str) -> Option<u8>
 fn each_given(options: &ArgMatches<'_>) -> Option<u64>
     ensures given { IfSome result (IsGiven (rows_of (found_of options.now)) (codes "each")) }
     ensures few { IfSome result (λ n. n ≤ 1000000) }
+    ensures none { result ≡ None → GivesNone (rows_of (found_of options.now)) (codes "each") 0 1000000 }
 {
     let number = options.get_one::<u64>("each")?;
     if number <= 1_000_000 {
@@ -122,6 +124,7 @@ fn each_given(options: &ArgMatches<'_>) -> Option<u64>
 fn read_fleet(options: &ArgMatches<'_>) -> Option<Asked>
     ensures says { IfSome result (Says (Some (codes "fleet", rows_of (found_of options.now)))) }
     ensures ranged { IfSome result IsRanged }
+    ensures none { result ≡ None → LacksNumber (rows_of (found_of options.now)) }
 {
     Some(Asked::Fleet {
         writers: count_given(options, "writers")?,
@@ -135,6 +138,7 @@ fn read_fleet(options: &ArgMatches<'_>) -> Option<Asked>
 fn read(matches: &ArgMatches<'_>) -> Option<Asked>
     ensures says { IfSome result (Says (subcommand_rows_of matches.now)) }
     ensures ranged { IfSome result IsRanged }
+    ensures none { result ≡ None → AsksNothing (subcommand_rows_of matches.now) }
 {
     let (name, options) = matches.subcommand()?;
     if name == "run" {

@@ -1,10 +1,12 @@
 //! The totals of a fleet.
 ghost use Rattle.std.specs.Prelude.{◌≡◌, ◌≤◌, IfOk, IsErrOf, OnErr, OnOk, string_bytes};
-ghost use Rattle.std.specs.Io.KnownBytes.{Appends};
+ghost use Rattle.std.specs.Io.KnownBytes.{Appends, Keeps};
 ghost use Rattle.std.specs.List.{flat_map};
+ghost use Rattle.fleet_kit.specs.declared.fault.FleetFault.{FleetFault};
 ghost use Rattle.rollup_kit.specs.Rollups.{rollup_rows};
 ghost use Rattle.script_kit.specs.Bytes.{AppendsFront};
 ghost use Rattle.otm_kit.specs.Asked.{IsCount};
+ghost use Rattle.otm_kit.specs.FleetSetups.{IsToldFault};
 ghost use Rattle.otm_kit.specs.FleetTexts.{answer_line, report, sum_in, total_line};
 
 use crate::FleetEnd;
@@ -62,6 +64,7 @@ fn totals_of_run<R: Threads + Wait + Sync>(
     gateways: u8,
 ) -> Result<String, FleetEnd>
     ensures value { IfOk result (λ text. string_bytes text ≡ report writers recorders each gateways) }
+    ensures fault { (f : FleetFault) → IsErrOf result (FleetEnd.Fleet f) → IsToldFault writers recorders each gateways f }
     ensures unwritten { IsErrOf result FleetEnd.WriteFault → ⊥ }
 {
     let setup = setup(alloc, writers, recorders, each, gateways)?;
@@ -76,8 +79,9 @@ fn totals_of_run<R: Threads + Wait + Sync>(
 ///
 /// Where all is done, each total is the number of all recordings. At `WriteFault` a front of that text was written.
 ///
-/// Refuses, by the first thing that failed: [`FleetEnd::Fleet`], and [`FleetEnd::NoMemory`], before anything is written; then
-/// [`FleetEnd::WriteFault`], also where a write takes no byte.
+/// Refuses, by the first thing that failed: [`FleetEnd::Fleet`] with a fault of its setup, or one that came later, other than
+/// want of memory, and [`FleetEnd::NoMemory`], both before anything is written; then [`FleetEnd::WriteFault`], also where a write
+/// takes no byte.
 pub fn fleet_report<R: Threads + Wait + Sync, W: Write>(
     rt: &R,
     alloc: Global,
@@ -93,6 +97,9 @@ pub fn fleet_report<R: Threads + Wait + Sync, W: Write>(
     requires gateways { IsCount gateways }
     ensures ok { OnOk result (Appends (W.contents writer.old) (W.contents writer.new) (report writers recorders each gateways)) }
     ensures front { OnErr result (AppendsFront (W.contents writer.old) (W.contents writer.new) (report writers recorders each gateways)) }
+    ensures fault { (f : FleetFault) → IsErrOf result (FleetEnd.Fleet f) → IsToldFault writers recorders each gateways f }
+    ensures unwritten { (f : FleetFault) → IsErrOf result (FleetEnd.Fleet f) → Keeps (W.contents writer.old) (W.contents writer.new) }
+    ensures no_memory { IsErrOf result FleetEnd.NoMemory → Keeps (W.contents writer.old) (W.contents writer.new) }
 {
     let text = totals_of_run(rt, alloc, writers, recorders, each, gateways)?;
     match write_text(writer, text.as_bytes()) {

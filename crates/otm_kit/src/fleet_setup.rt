@@ -1,7 +1,7 @@
 //! The setup of the program's fleet.
 ghost use Rattle.std.specs.Prelude.{◌≡◌, ◌++◌, IfOk, OnOk, map, replicate};
 ghost use Rattle.fleet_kit.specs.Jobs.{task_of};
-ghost use Rattle.otm_kit.specs.FleetSetups.{IsFleetSetup, fleet_ask, fleet_plan, fleet_task, fleet_tasks, plans};
+ghost use Rattle.otm_kit.specs.FleetSetups.{IsFleetSetup, fleet_ask, fleet_plan, fleet_task, fleet_tasks, fleet_writer, fleet_writers};
 ghost use Rattle.otm_kit.specs.FleetTexts.{fleet_ids};
 
 use attr_kit::{AllowList, AttrSet, Keep, NoMemory, Seq, Txt};
@@ -30,17 +30,23 @@ fn plan(alloc: Global) -> Result<Plan, NoMemory>
     }
 }
 
-// So many writers, each of the service and the instance of its place and 1.
+// The writer at a place, of the service and the instance of its place and 1.
+fn writer(alloc: Global, place: u8) -> Result<(WriterId, Plan, u64), NoMemory>
+    ensures { IfOk result (λ w. w ≡ fleet_writer place) }
+{
+    let id = WriterId {
+        service: Txt::from_str(alloc, "fleet")?,
+        instance: Uuid::from_u128(u128::from(place) + 1),
+    };
+    Ok((id, plan(alloc)?, 1))
+}
+
 fn writers(alloc: Global, count: u8) -> Result<Vec<(WriterId, Plan, u64)>, NoMemory>
-    ensures { IfOk result (λ ws. plans ws.items ≡ replicate count (fleet_plan, 1)) }
+    ensures { IfOk result (λ ws. ws.items ≡ fleet_writers count) }
 {
     let mut writers = Vec::new(alloc);
     for place in 0..count {
-        let id = WriterId {
-            service: Txt::from_str(alloc, "fleet")?,
-            instance: Uuid::from_u128(u128::from(place) + 1),
-        };
-        writers.push((id, plan(alloc)?, 1))?;
+        writers.push(writer(alloc, place)?)?;
     }
     Ok(writers)
 }

@@ -2,7 +2,7 @@
 //!
 //! - [`command_line::asked`] reads the words of a command line: what is [`Asked`], or a [`LineFault`].
 //! - [`run_script`] reads a script and writes what its lines say. [`run_script_told`] tells besides, in an [`Ended`], why a bad
-//!   line is bad.
+//!   line is bad. [`notes_on`] tells likely mistakes that are no bad lines, and which line a refused `begin` is about.
 //! - [`fleet_report`] runs a fleet of threads and writes the total of each gateway, which is the number of all recordings. A
 //!   [`FleetEnd`] says why it wrote none.
 //!
@@ -31,13 +31,20 @@ mod fleet_end;
 mod fleet_setup;
 mod gateway_ids;
 mod labels;
+mod listed;
+mod misplans;
+mod notes;
 mod refusals;
 mod running;
 mod script;
+mod short_word;
+mod streams;
+mod unmatched;
 mod words;
 
 pub use ended::Ended;
 pub use fleet::fleet_report;
 pub use fleet_end::FleetEnd;
+pub use notes::notes_on;
 pub use script::{run_script, run_script_told};
 pub use words::{Asked, LineFault};

@@ -6,7 +6,8 @@
 //! - A [`MemoryExporter`] keeps a copy of each export.
 //! - A [`ChannelExporter`] sends a copy of each export, and may wait; so may a periodic reader over it, and nothing else here.
 //! - A [`Periodic`] owns a writer and an exporter. `Periodic::tick` collects where a [`writer_kit::Pace`] says that it is
-//!   due, hands the exporter the round and answers a [`Tick`] or a [`TickFault`]; `Periodic::flush` does so at once.
+//!   due, hands the exporter the round and answers a [`Tick`] or a [`TickFault`]; `Periodic::flush` does so at once. It records
+//!   in each of a writer's ways: `Periodic::measure`, `hold` and `measure_held`, and `take_in` of a recorder's log.
 //!
 //! A caller with an exporter of its own, from `crates/uses/src/pushing.rt`:
 //!

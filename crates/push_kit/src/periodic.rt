@@ -1,19 +1,21 @@
 //! A reader that pushes what it collects.
-ghost use Rattle.std.specs.Prelude.{◌≡◌, ◌≢◌, ◌+◌, ◌<◌, ◌↔◌, ℕ, IfOk, IfErr, OnOk, OnErr, Ok, Some, None, false, length};
+ghost use Rattle.std.specs.Prelude.{◌≡◌, ◌≢◌, ◌+◌, ◌<◌, ◌↔◌, ℕ, IfOk, IfErr, OnOk, OnErr, Ok, Some, None, false, true, length};
 ghost use Rattle.agg_kit.specs.Entries.{entry_of};
-ghost use Rattle.agg_kit.specs.Feeds.{IsHeld};
 ghost use Rattle.push_kit.specs.Faults.{push_fault};
 ghost use Rattle.push_kit.specs.Pushing.{IsCollection, Hands, OnPush, OnFlush, OnRefused, OnRest};
+ghost use Rattle.recorder_kit.specs.Log.{ByName, ByNumber, TakesNoMemory};
 ghost use Rattle.writer_kit.specs.Pacing.{pace_after};
-ghost use Rattle.writer_kit.specs.Recording.{after_collect, after_record, round_now};
-ghost use Rattle.writer_kit.specs.Refusals.{collect_fault, early_fault, fault_now, no_memory};
+ghost use Rattle.writer_kit.specs.Recording.{after_collect, after_hold, after_record, after_take_in, round_now};
+ghost use Rattle.writer_kit.specs.Refusals.{collect_fault, early_fault, fault_now, hold_fault, no_memory};
+ghost use Rattle.writer_kit.specs.Taking.{IsTaken, gone};
 
 use crate::{ExportRefused, Exporter, TickFault};
 use attr_kit::AttrSet;
 use bumpalo::Bump;
 use point_kit::Export;
+use recorder_kit::{Recorder, Taken};
 use std::alloc::Global;
-use writer_kit::{MeasureFault, Pace, Writer};
+use writer_kit::{Closed, MeasureFault, Pace, Writer};
 
 /// What a tick did.
 #[derive(Clone, Copy, Debug, PartialEq, Eq)]
@@ -78,15 +80,59 @@ impl<E: Exporter> Periodic<E> {
         attrs: &AttrSet,
         value: i64,
     ) -> Result<(), MeasureFault>
-        ensures ok { OnOk result (fault_now self.old.writer (entry_of instrument attrs.now value) ≡ None) }
+        ensures ok { OnOk result (fault_now self.old.writer (ByName (entry_of instrument attrs.now value)) ≡ None) }
         ensures value { OnOk result
-            (self.new ≡ record self.old { writer = after_record self.old.writer (entry_of instrument attrs.now value) }) }
-        ensures err { IfErr result (λ f. f ≢ no_memory → fault_now self.old.writer (entry_of instrument attrs.now value) ≡ Some f) }
-        ensures no_memory { IfErr result (λ f. f ≡ no_memory → early_fault self.old.writer (entry_of instrument attrs.now value) ≡ None) }
-        ensures held { IsHeld self.old.writer.tally (entry_of instrument attrs.now value) → IfErr result (λ f. f ≢ no_memory) }
+            (self.new ≡ record self.old { writer = after_record self.old.writer (ByName (entry_of instrument attrs.now value)) }) }
+        ensures err { IfErr result (λ f. f ≢ no_memory → fault_now self.old.writer (ByName (entry_of instrument attrs.now value)) ≡ Some f) }
+        ensures no_memory { IfErr result (λ f. f ≡ no_memory → early_fault self.old.writer (ByName (entry_of instrument attrs.now value)) ≡ None) }
+        ensures held { TakesNoMemory self.old.writer.tally (ByName (entry_of instrument attrs.now value)) → IfErr result (λ f. f ≢ no_memory) }
         ensures unchanged { OnErr result (self.new ≡ self.old) }
     {
         self.writer.measure(instrument, attrs, value)
+    }
+
+    /// Holds an instrument and a set, as `Writer::hold` does and with its refusals: the number that it answers is for
+    /// `measure_held`, here and in a recorder that is taken in here. It stays so after a push. A refusal changes nothing.
+    /// O(size of the attributes).
+    pub fn hold(&mut self, instrument: usize, attrs: &AttrSet) -> Result<usize, MeasureFault>
+        ensures ok { OnOk result (hold_fault self.old.writer instrument ≡ None) }
+        ensures number { IfOk result (λ n. n ≡ length self.old.writer.tally.held) }
+        ensures value { OnOk result (self.new ≡ record self.old { writer = after_hold self.old.writer instrument attrs.now }) }
+        ensures err { IfErr result (λ f. f ≢ no_memory → hold_fault self.old.writer instrument ≡ Some f) }
+        ensures no_memory { IfErr result (λ f. f ≡ no_memory → hold_fault self.old.writer instrument ≡ None) }
+        ensures unchanged { OnErr result (self.new ≡ self.old) }
+    {
+        self.writer.hold(instrument, attrs)
+    }
+
+    /// Records a value by the number that `hold` gave, as `Writer::measure_held` does and with its refusals. A refusal changes
+    /// nothing. O(feeds of the instrument), and no set is looked up from the first value on.
+    #[inline]
+    pub fn measure_held(&mut self, number: usize, value: i64) -> Result<(), MeasureFault>
+        ensures ok { OnOk result (fault_now self.old.writer (ByNumber number value) ≡ None) }
+        ensures value { OnOk result (self.new ≡ record self.old { writer = after_record self.old.writer (ByNumber number value) }) }
+        ensures err { IfErr result (λ f. f ≢ no_memory → fault_now self.old.writer (ByNumber number value) ≡ Some f) }
+        ensures no_memory { IfErr result (λ f. f ≡ no_memory → early_fault self.old.writer (ByNumber number value) ≡ None) }
+        ensures held { TakesNoMemory self.old.writer.tally (ByNumber number value) → IfErr result (λ f. f ≢ no_memory) }
+        ensures unchanged { OnErr result (self.new ≡ self.old) }
+    {
+        self.writer.measure_held(number, value)
+    }
+
+    /// Takes in at most so many recordings from the front of a recorder's log, as `Writer::take_in` does: those that are taken
+    /// in before a push are in it, and those that are left are not. With `usize::MAX` it takes all.
+    ///
+    /// Refuses where the writer is closed: both stay as they were then. O(what each recording takes).
+    pub fn take_in(&mut self, recorder: &mut Recorder, most: usize) -> Result<Taken, Closed>
+        ensures ok { OnOk result (self.old.writer.closed ≡ false) }
+        ensures value { OnOk result
+            (self.new ≡ record self.old { writer = after_take_in self.old.writer (gone recorder.old recorder.new) }) }
+        ensures taken { IfOk result (λ told. IsTaken self.old.writer recorder.old recorder.new most told) }
+        ensures err { OnErr result (self.old.writer.closed ≡ true) }
+        ensures unchanged { OnErr result (self.new ≡ self.old) }
+        ensures kept { OnErr result (recorder.new ≡ recorder.old) }
+    {
+        self.writer.take_in(recorder, most)
     }
 
     /// Collects and exports where a collection is due: the time is at least that of the pace. Otherwise it is `NotDue`,

@@ -1,5 +1,5 @@
 //! Worked pushes of one writer: into memory, and into a channel. One over an exporter that fails as told is in test_kit.
-ghost use Rattle.std.specs.Prelude.{◌≡◌, ◌<◌, IfOk};
+ghost use Rattle.std.specs.Prelude.{◌≡◌, ◌+◌, ◌<◌, ◌≤◌, IfOk, OnOk};
 
 use super::*;
 use attr_kit::{AttrSet, NoMemory, Seq, Txt};
@@ -7,6 +7,7 @@ use bumpalo::Bump;
 use crossbeam_channel::Receiver;
 use plan_kit::{DEFAULT_LIMIT, Instrument, Kind, Plan};
 use point_kit::{Export, Payload, WriterId};
+use recorder_kit::Recorder;
 use std::alloc::Global;
 use std::sync::Wait;
 use std::test::Fail;
@@ -147,6 +148,105 @@ fn a_channel_without_a_receiver_fails(rt: HostRuntime) -> Result<(), Fail> {
     let failures = periodic.exporter().failures();
     let times = (periodic.writer().last(), periodic.pace().next);
     assert!(rt; is_refused && failures == 1 && times == (2 * MINUTE, 3 * MINUTE));
+    Ok(())
+}
+
+// Whether one export comes over a channel, without points.
+fn is_without_points<R: Wait>(rt: &R, from: &Receiver<Export>) -> bool {
+    match from.recv(rt) {
+        Ok(export) => export.points().is_empty() && from.try_recv(rt).is_err(),
+        Err(_) => false,
+    }
+}
+
+#[test]
+fn a_channel_passes_on_an_export_without_points(rt: HostRuntime) -> Result<(), Fail> {
+    let (to, from) = crossbeam_channel::unbounded(rt.alloc())?;
+    let mut periodic = reading(rt.alloc(), ChannelExporter::new(&rt, to))?;
+    let answer = periodic.tick(&Bump::new(rt.alloc()), MINUTE);
+    assert!(rt; answer == Ok(Tick::Exported(0)) && is_without_points(&rt, &from));
+    Ok(())
+}
+
+// The answer of a tick after 1 was recorded.
+fn next_tick<E: Exporter>(
+    periodic: &mut Periodic<E>,
+    alloc: Global,
+    now: u64,
+) -> Result<Result<Tick, TickFault>, Fail>
+    requires { E.refusals periodic.old.exporter < 18446744073709551615 }
+    ensures { OnOk result (E.refusals periodic.new.exporter ≤ E.refusals periodic.old.exporter + 1) }
+{
+    adds(periodic, alloc, 1)?;
+    Ok(periodic.tick(&Bump::new(alloc), now))
+}
+
+#[test]
+fn a_channel_fails_once_its_receivers_are_gone(rt: HostRuntime) -> Result<(), Fail> {
+    let alloc = rt.alloc();
+    let (to, from) = crossbeam_channel::unbounded(alloc)?;
+    let mut periodic = reading(alloc, ChannelExporter::new(&rt, to))?;
+    let first = next_tick(&mut periodic, alloc, MINUTE)?;
+    let second = next_tick(&mut periodic, alloc, 2 * MINUTE)?;
+    drop(from);
+    let third = next_tick(&mut periodic, alloc, 3 * MINUTE)?;
+    let is_sent = (first, second) == (Ok(Tick::Exported(1)), Ok(Tick::Exported(1)));
+    assert!(rt; is_sent && third == Err(TickFault::ExportRefused));
+    assert_eq!(rt; periodic.exporter().failures(), 1);
+    Ok(())
+}
+
+// Whether an exporter into memory takes an export so often, and keeps as many copies.
+fn keeps_each(exporter: &mut MemoryExporter, export: &Export, times: usize) -> bool
+    requires { exporter.old.failures ≡ 0 }
+{
+    for _ in 0..times {
+        if exporter.export(export).is_err() {
+            return false;
+        }
+    }
+    exporter.copies().len() == times
+}
+
+// What a writer of one counter exports at 5, which recorded nothing.
+fn export_of_nothing(alloc: Global) -> Result<Export, Fail> {
+    let writer = counting(alloc)?;
+    let arena = Bump::new(alloc);
+    let round = writer.look_round(&arena, 5)?;
+    Ok(round.copy_out(alloc, writer.id())?)
+}
+
+#[test]
+fn memory_keeps_many_exports(rt: HostRuntime) -> Result<(), Fail> {
+    let export = export_of_nothing(rt.alloc())?;
+    let mut exporter = MemoryExporter::new(rt.alloc());
+    assert!(rt; keeps_each(&mut exporter, &export, 1_000));
+    Ok(())
+}
+
+// Whether what is held, measured, and noted in a log comes to one total, 10: a number of a reader is for its logs too.
+fn adds_in_each_way(periodic: &mut Periodic<MemoryExporter>, alloc: Global) -> Result<bool, Fail>
+    requires { periodic.old.exporter.failures ≡ 0 }
+{
+    let none = AttrSet::empty(alloc);
+    let number = periodic.hold(0, &none)?;
+    let mut log = Recorder::new(alloc, 2)?;
+    log.measure(0, &none, 1)?;
+    log.measure_held(number, 2)?;
+    adds(periodic, alloc, 3)?;
+    periodic.measure_held(number, 4)?;
+    let taken = periodic.take_in(&mut log, usize::MAX)?;
+    let ticked = periodic.tick(&Bump::new(alloc), 10);
+    let total = periodic.exporter().copies().last().and_then(total);
+    Ok(taken.recorded == 2 && ticked == Ok(Tick::Exported(1)) && total == Some(10))
+}
+
+#[test]
+fn a_reader_records_in_each_way(rt: HostRuntime) -> Result<(), Fail> {
+    let exporter = MemoryExporter::new(rt.alloc());
+    let writer = counting(rt.alloc())?;
+    let mut periodic = Periodic::new(rt.alloc(), writer, exporter, Pace::new(10, 10));
+    assert!(rt; adds_in_each_way(&mut periodic, rt.alloc())?);
     Ok(())
 }
 

@@ -1,126 +1,105 @@
-//! Calls of recorders, and of bound points.
-ghost use Rattle.std.specs.Prelude.{◌≡◌, IfOk};
-
-use crate::same::{are_same_tallies, are_same_writers};
-use crate::start::{plan, set, writer};
+//! Calls at held points, and of recorders.
+use crate::same::are_same_tallies;
+use crate::start::{plan, set};
 use crate::tallies::holding;
 use crate::telling::{call_begins, call_ends, state, tell_made, tell_twice};
-use agg_kit::{Recorder, Tally};
-use attr_kit::AttrSet;
-use plan_kit::Plan;
+use agg_kit::Tally;
+use recorder_kit::Recorder;
 use std::alloc::Global;
 
-// What a recorder holds, as the tally that takes it in has it. Leaves it empty.
-fn taken_out(alloc: Global, recorder: &mut Recorder) -> anyhow::Result<Tally>
-    ensures { recorder.new.plan ≡ recorder.old.plan }
-{
-    let mut tally = Tally::new(alloc, recorder.plan().try_copy()?)?;
-    tally.absorb(recorder)?;
-    Ok(tally)
-}
-
-// A recorder that holds the first set in each stream, as a tally does.
-fn recording(alloc: Global, plan: &Plan) -> anyhow::Result<Recorder>
-    ensures { IfOk result (λ recorder. recorder.plan ≡ plan.now) }
-{
-    let mut recorder = Recorder::new(alloc, plan)?;
-    let attrs = set(alloc, 1)?;
-    recorder.measure(0, &attrs, 3)?;
-    recorder.measure(1, &attrs, 7)?;
+// A recorder that has noted a size under the first set, and has room for more.
+fn noting(alloc: Global) -> anyhow::Result<Recorder> {
+    let mut recorder = Recorder::new(alloc, 9)?;
+    recorder.measure(1, &set(alloc, 1)?, 7)?;
     Ok(recorder)
 }
 
-fn bind(rt: &HostRuntime) -> anyhow::Result<()> {
-    let tally = holding(rt.alloc())?;
-    let attrs = set(rt.alloc(), 1)?;
-    call_begins(rt);
-    let answer = tally.bind(1, &attrs);
-    call_ends(rt);
-    tell_made(rt, answer)
-}
-
-// A recording at a bound point of a set.
-fn measure_bound(rt: &HostRuntime, shard: i64) -> anyhow::Result<()> {
+fn hold(rt: &HostRuntime) -> anyhow::Result<()> {
     let mut tally = holding(rt.alloc())?;
     let before = tally.try_copy()?;
-    let mut point = tally.bind(1, &set(rt.alloc(), shard)?)?;
+    let attrs = set(rt.alloc(), 1)?;
     call_begins(rt);
-    let answer = tally.measure_bound(&mut point, 5);
+    let answer = tally.hold(1, &attrs);
     call_ends(rt);
     let left = state(are_same_tallies(&tally, &before));
-    let again = tally.measure_bound(&mut point, 5);
+    let again = tally.hold(1, &attrs);
+    tell_twice(rt, &answer, left, &again)
+}
+
+// A recording at a held point of an instrument and a set.
+fn measure_held(rt: &HostRuntime, instrument: usize, shard: i64) -> anyhow::Result<()> {
+    let mut tally = holding(rt.alloc())?;
+    let number = tally.hold(instrument, &set(rt.alloc(), shard)?)?;
+    let before = tally.try_copy()?;
+    call_begins(rt);
+    let answer = tally.measure_held(number, 5);
+    call_ends(rt);
+    let left = state(are_same_tallies(&tally, &before));
+    let again = tally.measure_held(number, 5);
     tell_twice(rt, &answer, left, &again)
 }
 
 fn new(rt: &HostRuntime) -> anyhow::Result<()> {
-    let plan = plan(rt.alloc())?;
     call_begins(rt);
-    let answer = Recorder::new(rt.alloc(), &plan);
+    let answer = Recorder::new(rt.alloc(), 9);
     call_ends(rt);
     tell_made(rt, answer)
 }
 
-// A recording by an instrument under a set. Where the point was there, all that it holds is in the tally before.
-fn measure(rt: &HostRuntime, instrument: usize, shard: i64) -> anyhow::Result<()> {
-    let before = holding(rt.alloc())?;
-    let mut recorder = recording(rt.alloc(), before.plan())?;
+// A recording under a set.
+fn measure(rt: &HostRuntime, shard: i64) -> anyhow::Result<()> {
+    let mut recorder = noting(rt.alloc())?;
+    let before = recorder.len();
     let attrs = set(rt.alloc(), shard)?;
     call_begins(rt);
-    let answer = recorder.measure(instrument, &attrs, 5);
+    let answer = recorder.measure(1, &attrs, 5);
     call_ends(rt);
-    let held = taken_out(rt.alloc(), &mut recorder)?;
-    let left = state(are_same_tallies(&held, &before));
-    let again = recorder.measure(instrument, &attrs, 5);
+    let left = state(recorder.len() == before);
+    let again = recorder.measure(1, &attrs, 5);
     tell_twice(rt, &answer, left, &again)
 }
 
-// A recorder of one set is taken in by a tally of another: each set of the recorder is copied.
-fn absorb(rt: &HostRuntime) -> anyhow::Result<()> {
+fn measure_by_number(rt: &HostRuntime) -> anyhow::Result<()> {
+    let mut recorder = noting(rt.alloc())?;
+    call_begins(rt);
+    let answer = recorder.measure_held(3, 5);
+    call_ends(rt);
+    let left = state(recorder.len() == 1);
+    let again = recorder.measure_held(3, 5);
+    tell_twice(rt, &answer, left, &again)
+}
+
+// A log of three sets is given to a tally that has none: where it stops, what was not looked at stays in the log. Tells whether the log
+// is empty then, and whether each recording is in the tally or in the log.
+fn give_to(rt: &HostRuntime) -> anyhow::Result<()> {
     let mut tally = Tally::new(rt.alloc(), plan(rt.alloc())?)?;
-    let before = tally.try_copy()?;
-    let mut recorder = recording(rt.alloc(), tally.plan())?;
+    let mut recorder = noting(rt.alloc())?;
+    for shard in [2, 3] {
+        recorder.measure(1, &set(rt.alloc(), shard)?, 7)?;
+    }
     call_begins(rt);
-    let answer = tally.absorb(&mut recorder);
+    let told = recorder.give_to(&mut tally, usize::MAX);
     call_ends(rt);
-    let is_kept = are_same_tallies(
-        &taken_out(rt.alloc(), &mut recorder)?,
-        &holding(rt.alloc())?,
-    );
-    let left = state(is_kept && are_same_tallies(&tally, &before));
-    let again = tally.absorb(&mut recorder);
-    tell_twice(rt, &answer, left, &again)
+    let is_whole = tally.series_len(2) == Some(told.recorded)
+        && told.recorded.saturating_add(recorder.len()) == 3;
+    let left = if is_whole { "whole" } else { "not whole" };
+    let answer = recorder.is_empty();
+    let _ = recorder.give_to(&mut tally, usize::MAX);
+    tell_twice(rt, &answer, left, &recorder.is_empty())
 }
 
-// A recording by a recorder that has room for it.
-fn record(rt: &HostRuntime, attrs: &AttrSet) -> anyhow::Result<()> {
-    let mut writer = writer(rt.alloc(), 1)?;
-    let before = writer.try_copy()?;
-    let mut recorder = recording(rt.alloc(), writer.tally().plan())?;
-    call_begins(rt);
-    let answer = writer.record(&mut recorder, 1, attrs, 5);
-    call_ends(rt);
-    let is_kept = are_same_tallies(
-        &taken_out(rt.alloc(), &mut recorder)?,
-        &holding(rt.alloc())?,
-    );
-    let left = state(is_kept && are_same_writers(&writer, &before));
-    let again = writer.record(&mut recorder, 1, attrs, 5);
-    tell_twice(rt, &answer, left, &again)
-}
-
-/// Makes a call of a recorder or at a bound point, if this is the name of one.
+/// Makes a call at a held point or of a recorder, if this is the name of one.
 pub fn make_call(rt: &HostRuntime, call: &str) -> anyhow::Result<bool> {
     match call {
-        "Tally::bind" => bind(rt)?,
-        "Tally::measure_bound, a new set" => measure_bound(rt, 2)?,
-        "Tally::measure_bound, a held set" => measure_bound(rt, 1)?,
-        "Tally::absorb" => absorb(rt)?,
+        "Tally::hold" => hold(rt)?,
+        "Tally::measure_held, two feeds" => measure_held(rt, 0, 2)?,
+        "Tally::measure_held, one feed" => measure_held(rt, 1, 2)?,
+        "Tally::measure_held, a held set" => measure_held(rt, 1, 1)?,
         "Recorder::new" => new(rt)?,
-        "Recorder::measure, two feeds" => measure(rt, 0, 2)?,
-        "Recorder::measure, one feed" => measure(rt, 1, 2)?,
-        "Recorder::measure, a held set" => measure(rt, 1, 1)?,
-        "Writer::record, a new set" => record(rt, &set(rt.alloc(), 2)?)?,
-        "Writer::record, a held set" => record(rt, &set(rt.alloc(), 1)?)?,
+        "Recorder::measure, a new set" => measure(rt, 2)?,
+        "Recorder::measure, a noted set" => measure(rt, 1)?,
+        "Recorder::measure_held" => measure_by_number(rt)?,
+        "Recorder::give_to" => give_to(rt)?,
         _ => return Ok(false),
     }
     Ok(true)

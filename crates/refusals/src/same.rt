@@ -21,10 +21,11 @@ fn are_same_series(one: &Tally, other: &Tally, stream: usize) -> bool {
         ))
 }
 
-/// Whether both have the same points in the same order, in each stream.
+/// Whether both have the same points in the same order, in each stream, and as many held points.
 pub fn are_same_tallies(one: &Tally, other: &Tally) -> bool {
     let streams = one.plan().streams_len();
     streams == other.plan().streams_len()
+        && one.held_len() == other.held_len()
         && (0..streams).all(|stream| are_same_series(one, other, stream))
 }
 

@@ -14,11 +14,17 @@ pub(crate) fn text(alloc: Global, word: &str) -> Result<Txt, NoMemory>
     Ok(Txt::from_string(word.to_string(alloc)?))
 }
 
+/// A lower-case letter, or a digit.
+pub(crate) fn is_label_byte(byte: u8) -> bool
+    ensures { result ≡ is_label_byte byte }
+{
+    byte.is_ascii_lowercase() || byte.is_ascii_digit()
+}
+
 fn are_label_bytes(word: &str) -> bool
     ensures { result ≡ list_all is_label_byte word.now }
 {
-    word.bytes()
-        .all(|b| b.is_ascii_lowercase() || b.is_ascii_digit())
+    word.bytes().all(is_label_byte)
 }
 
 fn is_label(word: &str) -> bool

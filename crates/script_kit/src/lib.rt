@@ -42,5 +42,6 @@ pub use line::{Command, Declaration, Line, Query, Report};
 pub use parse::parse_line;
 pub use reason::{Form, Noun, Reason};
 pub use sentence::explain;
+pub use shapes::DEFAULT_BOUNDS;
 pub use stop::Stop;
 pub use words::first_line;

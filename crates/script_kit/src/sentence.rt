@@ -1,11 +1,12 @@
 //! What is said of a bad line.
 ghost use Rattle.std.specs.Prelude.{◌≡◌, ◌++◌, IfOk, Ok, map, string_bytes};
-ghost use Rattle.script_kit.specs.Reasons.{sentence_of, short_word, word_in};
+ghost use Rattle.script_kit.specs.Reasons.{odd_byte, sentence_of, short_word, word_in};
 
+use crate::forms::is_label_byte;
 use crate::reading::word_if_any;
 use crate::reason::Reason;
 use crate::stop::Stop;
-use crate::words::{text_of, words};
+use crate::words::{is_line_byte, text_of, words};
 use attr_kit::NoMemory;
 use std::alloc::Global;
 use std::fmt;
@@ -17,11 +18,24 @@ struct ShortWord<'a> {
     rest: &'a str,
 }
 
-/// A reason, and the word that it is about. It prints as what is said of them.
+// The first byte that stands in a line though no line has it, told by its name.
+#[derive(Clone, Copy)]
+struct OddByte {
+    byte: Option<u8>,
+}
+
+// The first character that stands in a word though no label has it.
+#[derive(Clone, Copy)]
+struct OddCharacter {
+    byte: Option<u8>,
+}
+
+/// A reason, the word that it is about, and what stands there that may not. It prints as what is said of them.
 #[derive(Clone, Copy)]
 pub(crate) struct Sentence<'a> {
     reason: Reason,
     word: ShortWord<'a>,
+    odd: Option<u8>,
 }
 
 impl fmt::Display for ShortWord<'_> {
@@ -35,24 +49,70 @@ impl fmt::Display for ShortWord<'_> {
     }
 }
 
+impl fmt::Display for OddByte {
+    ghost use Rattle.std.specs.Prelude.{Some};
+    ghost use Rattle.script_kit.specs.Reasons.{byte_text};
+
+    ghost output = { λ it. Some (byte_text it.byte) };
+
+    fn fmt<W: fmt::Write>(&self, f: &mut fmt::Formatter<W>) -> fmt::Result {
+        match self.byte {
+            None => Ok(()),
+            Some(b'\r') => write!(f, ", and no carriage return"),
+            Some(b'\t') => write!(f, ", and no tab"),
+            Some(byte) => write!(f, ", and no byte {byte}"),
+        }
+    }
+}
+
+impl fmt::Display for OddCharacter {
+    ghost use Rattle.std.specs.Prelude.{Some};
+    ghost use Rattle.script_kit.specs.Reasons.{character_text};
+
+    ghost output = { λ it. Some (character_text it.byte) };
+
+    fn fmt<W: fmt::Write>(&self, f: &mut fmt::Formatter<W>) -> fmt::Result {
+        match self.byte {
+            None => Ok(()),
+            Some(byte) => {
+                let character = char::from(byte);
+                write!(f, ", and no '{character}'")
+            }
+        }
+    }
+}
+
 impl fmt::Display for Sentence<'_> {
     ghost use Rattle.std.specs.Prelude.{◌++◌, Some};
     ghost use Rattle.script_kit.specs.Reasons.{reason_text};
 
-    ghost output = { λ it. Some (reason_text it.reason (it.word.front.now ++ it.word.rest.now)) };
+    ghost output = { λ it. Some (reason_text it.reason (it.word.front.now ++ it.word.rest.now) it.odd) };
 
     fn fmt<W: fmt::Write>(&self, f: &mut fmt::Formatter<W>) -> fmt::Result {
         let word = self.word;
+        let byte = self.odd;
         match self.reason {
             Reason::Cut => write!(f, "a line ends with a line feed"),
-            Reason::Bytes => write!(f, "a line has only spaces and visible ASCII characters"),
+            Reason::Bytes => {
+                let odd = OddByte { byte };
+                write!(
+                    f,
+                    "a line has only spaces and visible ASCII characters{odd}"
+                )
+            }
             Reason::Spaces => write!(
                 f,
                 "a line has one space between two words, and none at its ends"
             ),
             Reason::Unknown => write!(f, "no line begins with '{word}'"),
             Reason::Count(form) => write!(f, "'{word}' wants {form}"),
-            Reason::Label(_) => write!(f, "a label has at most 16 of a to z and 0 to 9"),
+            Reason::Label(_) => {
+                let odd = OddCharacter { byte };
+                write!(
+                    f,
+                    "'{word}' is no label: a label has at most 16 of a to z and 0 to 9{odd}"
+                )
+            }
             Reason::Kind(_) => write!(
                 f,
                 "no kind is called '{word}': a kind is counter, updown, gauge or histogram"
@@ -104,14 +164,21 @@ impl fmt::Display for Sentence<'_> {
 impl<'a> Sentence<'a> {
     ghost use Rattle.std.specs.Prelude.{◌≡◌};
 
-    pub(crate) fn new(reason: Reason, front: &'a str, rest: &'a str) -> Sentence<'a>
+    pub(crate) fn new(
+        reason: Reason,
+        front: &'a str,
+        rest: &'a str,
+        odd: Option<u8>,
+    ) -> Sentence<'a>
         ensures reason { result.reason ≡ reason }
         ensures front { result.word.front.now ≡ front.now }
         ensures rest { result.word.rest.now ≡ rest.now }
+        ensures odd { result.odd ≡ odd }
     {
         Sentence {
             reason,
             word: ShortWord { front, rest },
+            odd,
         }
     }
 }
@@ -127,8 +194,9 @@ pub fn explain(alloc: Global, line: &[u8], reason: Reason) -> Result<String, NoM
         Err(Stop::Bad(_)) => Vec::new(alloc),
         Err(Stop::NoMemory) => return Err(NoMemory),
     };
-    let (front, rest) = shorten(word_in(&words, reason.place()));
-    let sentence = Sentence::new(reason, front, rest);
+    let word = word_in(&words, reason.place());
+    let (front, rest) = shorten(word);
+    let sentence = Sentence::new(reason, front, rest, odd_byte(line, word, reason));
     Ok(format!(in alloc; "{sentence}")?)
 }
 
@@ -139,6 +207,17 @@ fn word_in<'a>(words: &[&'a str], place: Option<usize>) -> &'a str
     match place {
         Some(place) => word_if_any(words, place),
         None => "",
+    }
+}
+
+// The first byte that a line has and may not have, or its label.
+fn odd_byte(line: &[u8], label: &str, reason: Reason) -> Option<u8>
+    ensures { result ≡ odd_byte line.now label.now reason }
+{
+    match reason {
+        Reason::Bytes => line.iter().copied().find(|byte| !is_line_byte(*byte)),
+        Reason::Label(_) => label.bytes().find(|byte| !is_label_byte(*byte)),
+        _ => None,
     }
 }
 

@@ -13,6 +13,11 @@ use plan_kit::{Aggregation, Kind, NameRule};
 use point_kit::Shape;
 use std::alloc::Global;
 
+/// The bounds of the shape `hist`.
+pub const DEFAULT_BOUNDS: [i64; 15] = [
+    0, 5, 10, 25, 50, 75, 100, 250, 500, 750, 1000, 2500, 5000, 7500, 10000,
+];
+
 #[tactic(auto, unfolding(crate::specs::Shapes::kind_of))]
 pub(crate) fn kind(word: &str) -> Option<Kind>
     ensures { result ≡ kind_of word.now }
@@ -130,10 +135,7 @@ fn histogram(alloc: Global, name: &str, rest: &str) -> Result<Option<Shape>, NoM
 fn default_bounds(alloc: Global) -> Result<Seq<i64>, NoMemory>
     ensures { IfOk result (λ bounds. bounds ≡ default_bounds) }
 {
-    let bounds = [
-        0, 5, 10, 25, 50, 75, 100, 250, 500, 750, 1000, 2500, 5000, 7500, 10000,
-    ];
-    Ok(Seq::from_vec(Vec::from_slice(alloc, &bounds)?))
+    Ok(Seq::from_vec(Vec::from_slice(alloc, &DEFAULT_BOUNDS)?))
 }
 
 #[tactic(auto, unfolding(crate::specs::Shapes::plain_shape))]

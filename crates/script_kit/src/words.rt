@@ -32,10 +32,17 @@ pub fn first_line(script: &[u8]) -> Option<(&[u8], &[u8])>
     }
 }
 
+/// A space, or a visible ASCII character.
+pub(crate) fn is_line_byte(byte: u8) -> bool
+    ensures { result ≡ is_line_byte byte }
+{
+    32 <= byte && byte <= 126
+}
+
 fn is_line(line: &[u8]) -> bool
     ensures { result ≡ list_all is_line_byte line.now }
 {
-    line.iter().all(|b| 32 <= *b && *b <= 126)
+    line.iter().all(|byte| is_line_byte(*byte))
 }
 
 pub(crate) fn text_of(line: &[u8]) -> Option<&str>

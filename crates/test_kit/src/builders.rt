@@ -87,8 +87,8 @@ fn alone(alloc: Global, instrument: Instrument) -> Result<Seq<Instrument>, NoMem
     Ok(Seq::from_vec(instruments))
 }
 
-/// An open writer of one instrument without views, which has recorded nothing since its start, in nanoseconds since the Unix
-/// epoch. The instance is the number of its UUID.
+/// An open writer of one instrument without views, which holds nothing and has recorded nothing since its start, in
+/// nanoseconds since the Unix epoch. The instance is the number of its UUID.
 ///
 /// Refuses, in this order: what the plan refuses of the instrument, and `NoMemory`. O(size of the names).
 pub fn writer(
@@ -103,6 +103,7 @@ pub fn writer(
     ensures service { IfOk result (λ w. w.id.service ≡ service.now) }
     ensures instance { IfOk result (λ w. w.id.instance ≡ to_be_bytes w128 instance) }
     ensures empty { IfOk result (λ w. StandsFor w.tally []) }
+    ensures held { IfOk result (λ w. w.tally.held ≡ []) }
     ensures start { IfOk result (λ w. w.start ≡ start) }
     ensures last { IfOk result (λ w. w.last ≡ start) }
     ensures open { IfOk result (λ w. w.closed ≡ false) }

@@ -66,7 +66,7 @@ pub(crate) fn change_held<G: GiveBack, M: Machine, T: Step<M>>(
     let before = Snapshot::of(&step);
     match step_in_place(top, table_seat, step) {
         Ok(reply) => {
-            commit::<M, T, Brand>(top, table_seat, &before);
+            commit::<M, Snapshot<T>, Brand>(top, table_seat, &before);
             give::<G, _>(top, table_seat);
             Ok(reply)
         }

@@ -1,6 +1,6 @@
 //! Changes that are made with a value which the caller keeps.
 ghost use Rattle.std.specs.Prelude.{◌≡◌, [], ◌∷◌, true, Some, IfOk, IfErr, OnOk, OnErr};
-ghost use Rattle.turn_kit.specs.TableSeats.{AllMeet, IsAnswer, Grows, HasRoom, HasTurn, IsAt, IsIdle, IsSameTableSeat, Owns, StepsTo};
+ghost use Rattle.turn_kit.specs.TableSeats.{IsAnswer, Grows, HasRoom, HasTurn, IsAt, IsIdle, IsSameTableSeat, Owns, StepsTo};
 ghost use Rattle.turn_kit.specs.Public.{IsOf, IsLeft, Enters, Exhausts, Refuses, opening, limit_of};
 ghost use Rattle.turn_kit.specs.Public.{AtBusy, AtExhausted, AtRefused};
 
@@ -18,17 +18,15 @@ use std::sync::Wait;
 
 /// One change that is made with a value which its caller keeps, while the turn is held.
 ///
-/// `Ok` is one accepted entry, and says what the value is then. `Err` leaves the state and the value as they were.
+/// `Ok` is one accepted entry, which the value before the change and the value after it tell together: so a step that takes as much as
+/// it can of the value enters what it took. `Err` leaves the state and the value as they were.
 pub trait StepMut<M: Machine> {
     type Reply;
 
     type Refusal;
 
-    // What it relies on where it finds the machine so.
-    ghost needs: { Self → M → Type 0 };
-
-    // The entry that the step adds to the history where it is accepted.
-    ghost entry: { Self → M.Entry };
+    // The entry that the step adds to the history where it is accepted, by the value before and after.
+    ghost entry: { Self → Self → M.Entry };
 
     // What it may reply, with the value that it leaves, and how it may refuse, where it found the machine so.
     ghost replies: { Self → M → Self.Reply → Self → Type 0 };
@@ -36,8 +34,7 @@ pub trait StepMut<M: Machine> {
     ghost refuses: { Self → M → Self.Refusal → Type 0 };
 
     fn step_mut(&mut self, machine: &mut M) -> Result<Self::Reply, Self::Refusal>
-        requires { needs self.old machine.old }
-        ensures accepted { OnOk result (M.after (M.state machine.old) (entry self.old) ≡ Some (M.state machine.new)) }
+        ensures accepted { OnOk result (M.after (M.state machine.old) (entry self.old self.new) ≡ Some (M.state machine.new)) }
         ensures ok { IfOk result (λ r. replies self.old machine.old r self.new) }
         ensures unchanged { OnErr result (M.state machine.new ≡ M.state machine.old) }
         ensures kept { OnErr result (self.new ≡ self.old) }
@@ -51,9 +48,9 @@ fn step_in_place_mut<M: Machine, T: StepMut<M>>(
     step: &mut T,
 ) -> Result<T::Reply, T::Refusal>
     requires table_seat { table_seat.old.table_id ≡ top.now.table_id }
-    requires hand { (x : M) × (table_seat.old.me.1 ≡ (0, x) ∷ []) × T.needs step.old x }
+    requires hand { (x : M) × (table_seat.old.me.1 ≡ (0, x) ∷ []) }
     ensures table_seat { IsSameTableSeat table_seat.old table_seat.new }
-    ensures did { StepsTo M.state M.after (T.entry step.old) (λ m r. T.replies step.old m r step.new) (T.refuses step.old)
+    ensures did { StepsTo M.state M.after (T.entry step.old step.new) (λ m r. T.replies step.old m r step.new) (T.refuses step.old)
         table_seat.old.me table_seat.new.me result }
     ensures kept { OnErr result (step.new ≡ step.old) }
 {
@@ -70,11 +67,10 @@ fn change_held_mut<G: GiveBack, M: Machine, T: StepMut<M>>(
     requires table_seat { IsAt top.now.table_id table_seat.old }
     requires limit { limit ≡ table_seat.old.me.0.limit }
     requires turn { HasTurn M.state M.after table_seat.old.me }
-    requires met { (start : M) → table_seat.old.me.0.start ≡ Some start → AllMeet M.state M.after start (T.needs step.old) }
     ensures table_seat { IsSameTableSeat table_seat.old table_seat.new × IsIdle table_seat.new }
     ensures own { Owns table_seat.new.me.0 }
     ensures answer { IsAnswer M.state M.after ⊥ table_seat.old.me.0 table_seat.new.me.0
-        (T.entry step.old) (λ m r. T.replies step.old m r step.new) (T.refuses step.old) result }
+        (T.entry step.old step.new) (λ m r. T.replies step.old m r step.new) (T.refuses step.old) result }
     ensures kept { OnErr result (step.new ≡ step.old) }
 {
     if count(top, table_seat) >= limit {
@@ -84,7 +80,8 @@ fn change_held_mut<G: GiveBack, M: Machine, T: StepMut<M>>(
     let before = Snapshot::of(&*step);
     match step_in_place_mut(top, table_seat, step) {
         Ok(reply) => {
-            commit::<M, T, Brand>(top, table_seat, &before);
+            let by = (before, Snapshot::of(&*step));
+            commit::<M, (Snapshot<T>, Snapshot<T>), Brand>(top, table_seat, &by);
             give::<G, _>(top, table_seat);
             Ok(reply)
         }
@@ -96,8 +93,7 @@ fn change_held_mut<G: GiveBack, M: Machine, T: StepMut<M>>(
 }
 
 impl<M: Machine, G: GiveBack> Turn<M, G> {
-    /// Asks for the turn once, and makes the step with a value that the caller keeps where it is had, as `try_change` does. Each
-    /// machine that the turn may have then meets what the step needs.
+    /// Asks for the turn once, and makes the step with a value that the caller keeps where it is had, as `try_change` does.
     ///
     /// Refused as `try_change` is. The value is as it was then.
     pub fn try_change_mut<T: StepMut<M>>(
@@ -105,11 +101,10 @@ impl<M: Machine, G: GiveBack> Turn<M, G> {
         seat: &mut Seat<M>,
         step: &mut T,
     ) -> Result<T::Reply, ChangeFault<T::Refusal>>
-        requires seat { IsOf self.now seat.old }
-        requires met { AllMeet M.state M.after (opening self.now) (T.needs step.old) }
+        requires { IsOf self.now seat.old }
         ensures seat { IsOf self.now seat.new }
         ensures ok { IfOk result (λ r. Enters M.state M.after (opening self.now) (limit_of self.now)
-            (T.entry step.old) (λ m. T.replies step.old m r step.new) seat.old seat.new) }
+            (T.entry step.old step.new) (λ m. T.replies step.old m r step.new) seat.old seat.new) }
         ensures kept { OnErr result (step.new ≡ step.old) }
         ensures busy { IfErr result (AtBusy (IsLeft seat.old seat.new)) }
         ensures exhausted { IfErr result (AtExhausted (Exhausts M.state M.after (opening self.now)
@@ -126,8 +121,7 @@ impl<M: Machine, G: GiveBack> Turn<M, G> {
 }
 
 impl<M: Machine> Turn<M> {
-    /// Asks for the turn until it is had, and then makes the step with a value that the caller keeps, once. Each machine that the
-    /// turn may have then meets what the step needs.
+    /// Asks for the turn until it is had, and then makes the step with a value that the caller keeps, once.
     ///
     /// Refused as `change` is. The value is as it was then.
     pub fn change_mut<T: StepMut<M>, R: Wait>(
@@ -136,11 +130,10 @@ impl<M: Machine> Turn<M> {
         seat: &mut Seat<M>,
         step: &mut T,
     ) -> Result<T::Reply, ChangeFault<T::Refusal>>
-        requires seat { IsOf self.now seat.old }
-        requires met { AllMeet M.state M.after (opening self.now) (T.needs step.old) }
+        requires { IsOf self.now seat.old }
         ensures seat { IsOf self.now seat.new }
         ensures ok { IfOk result (λ r. Enters M.state M.after (opening self.now) (limit_of self.now)
-            (T.entry step.old) (λ m. T.replies step.old m r step.new) seat.old seat.new) }
+            (T.entry step.old step.new) (λ m. T.replies step.old m r step.new) seat.old seat.new) }
         ensures kept { OnErr result (step.new ≡ step.old) }
         ensures busy { IfErr result (AtBusy ⊥) }
         ensures exhausted { IfErr result (AtExhausted (Exhausts M.state M.after (opening self.now)

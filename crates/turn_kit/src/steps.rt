@@ -8,7 +8,6 @@ use crate::board::{CHANGES, MADE, OUT, TURN, TableSeat, Top};
 use crate::giving::GiveBack;
 use crate::machine::Machine;
 use crate::plays::{Ask, ChangeEntry, Commit, Count, CountOut, Draw, Give, LookMade};
-use std::snapshot::Snapshot;
 
 /// Nobody holds the turn.
 const FREE: u64 = 0;
@@ -49,11 +48,11 @@ pub(crate) fn count<M: Machine>(top: &Top<M>, table_seat: &mut TableSeat<M>) -> 
     top.load::<Count>(table_seat, CHANGES)
 }
 
-/// Adds the entry of a change to the history. What was changed by gives it, as it was before the change.
-pub(crate) fn commit<M: Machine, T, J: ChangeEntry<M::Entry>>(
+/// Adds the entry of a change to the history. Snapshots of what it was changed by give the entry.
+pub(crate) fn commit<M: Machine, B, J: ChangeEntry<M::Entry>>(
     top: &Top<M>,
     table_seat: &mut TableSeat<M>,
-    by: &Snapshot<T>,
+    by: &B,
 )
     requires entry { (e : M.Entry) × (J.entry ≡ Some e) }
     requires table_seat { IsAt top.now.table_id table_seat.old }

@@ -1,5 +1,6 @@
-pub mod Absorbed
 pub mod Covered
 pub mod Gossiped
 pub mod Limited
+pub mod Logs
+pub mod Parted
 pub mod Weighed

@@ -1,5 +1,6 @@
 pub mod Commanding
 pub mod Exporting
+pub mod Logs
 pub mod Plans
 pub mod Pushing
 pub mod Serving

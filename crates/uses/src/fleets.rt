@@ -19,6 +19,10 @@ pub struct FirstEntries {
 }
 
 impl Gate for FirstEntries {
+    ghost use Rattle.std.specs.Prelude.{◌≡◌, nat_lt};
+
+    ghost passes = { λ gate _ entry answer. answer ≡ nat_lt entry gate.most };
+
     fn pass<R: Wait>(&self, _rt: &R, _job: usize, entry: usize) -> bool {
         entry < self.most
     }

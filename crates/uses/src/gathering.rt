@@ -1,5 +1,5 @@
 //! Gateways that take exports and merge, and what they are asked.
-ghost use Rattle.std.specs.Prelude.{◌≡◌, true, Some, IfOk, IfSome, codes};
+ghost use Rattle.std.specs.Prelude.{◌≡◌, true, Some, IfOk, IfSome, codes, length};
 ghost use Rattle.std.specs.FinMap as finite;
 ghost use Rattle.point_kit.specs.Exports.{join_points};
 ghost use Rattle.point_kit.specs.declared.cell.Held.TheVariants.{One};
@@ -10,7 +10,7 @@ ghost use Rattle.rollup_kit.specs.TableText.{table_text};
 ghost use Rattle.test_kit.specs.Defaults.{ask_of};
 
 use attr_kit::Txt;
-use gateway_kit::Gateway;
+use gateway_kit::{Gateway, PartItem};
 use point_kit::{Cell, Export, Held, Key, Payload, Shape};
 use rollup_kit::{Ask, rollup, table};
 use std::alloc::Global;
@@ -63,4 +63,30 @@ pub fn sum_under(gateway: &Gateway, key: &Key) -> Option<(u64, i64)>
         } => Some((*time, *sum)),
         _ => None,
     }
+}
+
+/// How many points a gateway holds of the incarnations of a writer that began at 100, 400 and 50, where it took one of each of the
+/// first two.
+pub fn points_of_each(
+    alloc: Global,
+    early: &Export,
+    late: &Export,
+) -> anyhow::Result<(usize, usize, usize)>
+    requires points { (length early.now.points ≡ 1) × (length late.now.points ≡ 1) }
+    requires writer { late.now.writer ≡ early.now.writer }
+    requires starts { (early.now.start ≡ 100) × (late.now.start ≡ 400) }
+    ensures at_100 { IfOk result (λ counts. counts.0 ≡ 1) }
+    ensures at_400 { IfOk result (λ counts. counts.1 ≡ 1) }
+    ensures at_50 { IfOk result (λ counts. counts.2 ≡ 0) }
+{
+    let mut gateway = Gateway::new(alloc, 1);
+    gateway.take(early)?;
+    gateway.take(late)?;
+    let writer = early.writer();
+    let first: &[PartItem] = gateway.part(writer, 100);
+    Ok((
+        first.len(),
+        gateway.part(writer, 400).len(),
+        gateway.part(writer, 50).len(),
+    ))
 }

@@ -4,6 +4,7 @@ ghost use Rattle.agg_kit.specs.Entries.{entry_of};
 ghost use Rattle.gossip_kit.specs.Gossip.{hand_fault};
 ghost use Rattle.gossip_kit.specs.declared.fault.HandFault.TheVariants as hands;
 ghost use Rattle.plan_kit.specs.PlanFaults.{plan_fault};
+ghost use Rattle.recorder_kit.specs.Log.{ByName};
 ghost use Rattle.writer_kit.specs.Recording.{after_record, round_now};
 
 use attr_kit::{AttrSet, NoMemory, Seq};
@@ -38,7 +39,7 @@ pub fn record_if_allowed(
     value: i64,
 ) -> Result<bool, MeasureFault>
     ensures value { IfOk result (λ done. MatchBool done
-        (writer.new ≡ after_record writer.old (entry_of instrument attrs.now value)) (writer.new ≡ writer.old)) }
+        (writer.new ≡ after_record writer.old (ByName (entry_of instrument attrs.now value))) (writer.new ≡ writer.old)) }
     ensures unchanged { OnErr result (writer.new ≡ writer.old) }
 {
     match writer.measure(instrument, attrs, value) {

@@ -1,13 +1,15 @@
-//! Two threads that record with one writer.
-ghost use Rattle.std.specs.Prelude.{◌≡◌, ◌++◌, [], ℕ, IfSome};
+//! Two threads that record with one writer, one by one or by a log.
+ghost use Rattle.std.specs.Prelude.{◌≡◌, ◌∷◌, ◌++◌, [], ℕ, IfOk, IfSome, map};
 ghost use Rattle.turn_kit.specs.History.{weigh, weigh_all};
 ghost use Rattle.turn_kit.specs.Public.{family, mine, joined};
 ghost use Rattle.writer_kit.specs.Shared.{IsAt};
 ghost use Rattle.writer_kit.specs.declared.shared.change.WriterChange.{WriterChange};
-ghost use Rattle.uses.specs.Sharing.{HasRecorded, changes};
+ghost use Rattle.writer_kit.specs.declared.shared.change.WriterChange.TheVariants.{TakenIn};
+ghost use Rattle.uses.specs.Sharing.{HasRecorded, change, changes, log_of};
 ghost use denote.Param.Send.{IsSync};
 
 use attr_kit::AttrSet;
+use recorder_kit::{RecordFault, Recorder};
 use std::alloc::Global;
 use std::sync::Wait;
 use std::thread::{Threads, join};
@@ -17,16 +19,26 @@ use writer_kit::{SeatsOut, SharedWriter, Writer};
 /// More changes than a run makes.
 const MOST_CHANGES: u64 = 1 << 62;
 
+/// How a thread records.
+#[derive(Clone, Copy, Debug, PartialEq, Eq, Drop)]
+pub enum Way {
+    /// Each value by a change of the writer.
+    OneByOne,
+    /// All values in a log, which the writer takes in by one change.
+    ByLog,
+}
+
 /// What a thread records: values of one instrument, under these attributes.
 #[derive(Drop)]
 pub struct Work {
     pub instrument: usize,
     pub attrs: AttrSet,
     pub values: Vec<i64>,
+    pub way: Way,
 }
 
-// Records all values by a seat, and gives it back; none where one is refused.
-fn record_all<R: Wait>(
+// Records each value by a seat, and gives it back; none where one is refused.
+fn record_each<R: Wait>(
     rt: &R,
     shared: &SharedWriter,
     seat: Seat<Writer>,
@@ -35,7 +47,7 @@ fn record_all<R: Wait>(
     requires at { IsAt shared.now seat }
     requires fresh { (mine seat ≡ []) × (joined seat ≡ []) }
     ensures at { IfSome result (λ s. IsAt shared.now s × (joined s ≡ [])) }
-    ensures all { IfSome result (λ s. mine s ≡ changes work.now) }
+    ensures all { IfSome result (λ s. mine s ≡ map (change work.now) work.now.values.items) }
 {
     let mut seat = seat;
     for value in &work.values {
@@ -49,10 +61,66 @@ fn record_all<R: Wait>(
     Some(seat)
 }
 
+// A log of all values.
+fn note_all(alloc: Global, work: &Work) -> Result<Recorder, RecordFault>
+    ensures { IfOk result (λ recorder. recorder.log ≡ log_of work.now) }
+{
+    let mut recorder = Recorder::new(alloc, work.values.len())?;
+    for value in &work.values {
+        recorder.measure(work.instrument, &work.attrs, *value)?;
+    }
+    Ok(recorder)
+}
+
+// Has a log of all values taken in by a seat, and gives it back; none where one is refused.
+#[tactic(auto, using(crate::proofs::Logs::all_gone))]
+fn record_log<R: Wait>(
+    rt: &R,
+    alloc: Global,
+    shared: &SharedWriter,
+    seat: Seat<Writer>,
+    work: &Work,
+) -> Option<Seat<Writer>>
+    requires at { IsAt shared.now seat }
+    requires fresh { (mine seat ≡ []) × (joined seat ≡ []) }
+    ensures at { IfSome result (λ s. IsAt shared.now s × (joined s ≡ [])) }
+    ensures all { IfSome result (λ s. mine s ≡ TakenIn (log_of work.now) ∷ []) }
+{
+    let mut seat = seat;
+    let mut recorder = note_all(alloc, work).ok()?;
+    let Ok(told) = shared.take_in(rt, &mut seat, &mut recorder, usize::MAX) else {
+        return None;
+    };
+    if told.refused > 0 || !recorder.is_empty() {
+        return None;
+    }
+    Some(seat)
+}
+
+// Records all of a work in its way.
+fn record_all<R: Wait>(
+    rt: &R,
+    alloc: Global,
+    shared: &SharedWriter,
+    seat: Seat<Writer>,
+    work: &Work,
+) -> Option<Seat<Writer>>
+    requires at { IsAt shared.now seat }
+    requires fresh { (mine seat ≡ []) × (joined seat ≡ []) }
+    ensures at { IfSome result (λ s. IsAt shared.now s × (joined s ≡ [])) }
+    ensures all { IfSome result (λ s. mine s ≡ changes work.now) }
+{
+    match work.way {
+        Way::OneByOne => record_each(rt, shared, seat, work),
+        Way::ByLog => record_log(rt, alloc, shared, seat, work),
+    }
+}
+
 // Both works, each by a seat in a thread of its own. One seat remains, which has taken in the other.
 #[tactic(auto, using(crate::proofs::Weighed::both_weigh))]
 fn record_both<R: Threads + Wait + Sync>(
     rt: &R,
+    alloc: Global,
     shared: &SharedWriter,
     first: Seat<Writer>,
     second: Seat<Writer>,
@@ -69,11 +137,11 @@ fn record_both<R: Threads + Wait + Sync>(
         || -> Option<Seat<Writer>>
             requires { IsSync R.row × IsAt shared.now first × (mine first ≡ []) × (joined first ≡ []) }
             ensures { IfSome result (λ s. IsAt shared.entry.now s × (joined s ≡ []) × (mine s ≡ changes here.entry.now)) }
-        { record_all(rt, shared, first, here) },
+        { record_all(rt, alloc, shared, first, here) },
         || -> Option<Seat<Writer>>
             requires { IsSync R.row × IsAt shared.now second × (mine second ≡ []) × (joined second ≡ []) }
             ensures { IfSome result (λ s. IsAt shared.entry.now s × (joined s ≡ []) × (mine s ≡ changes there.entry.now)) }
-        { record_all(rt, shared, second, there) },
+        { record_all(rt, alloc, shared, second, there) },
     );
     let mut seat = first?;
     shared.join(&mut seat, second?);
@@ -81,7 +149,7 @@ fn record_both<R: Threads + Wait + Sync>(
 }
 
 /// Shares a writer between two threads, of which each records its work, and closes it again: it has recorded all of both, each
-/// recording once, whatever the threads did at once. None where a recording, a seat or memory is refused.
+/// change once, whatever the threads did at once. None where a recording, a seat or memory is refused.
 pub fn record_in_two_threads<R: Threads + Wait + Sync>(
     rt: &R,
     alloc: Global,
@@ -97,7 +165,7 @@ pub fn record_in_two_threads<R: Threads + Wait + Sync>(
     let Ok(second) = shared.split(rt, &mut first) else {
         return None;
     };
-    let seat = record_both(rt, &shared, first, second, here, there)?;
+    let seat = record_both(rt, alloc, &shared, first, second, here, there)?;
     match shared.close(seat) {
         Ok(writer) => Some(writer),
         Err(SeatsOut { .. }) => None,

@@ -76,9 +76,7 @@ impl StepMut<Mark> for Lift {
 
     type Refusal = NotHigher;
 
-    ghost needs = { λ _ _. Unit {0} };
-
-    ghost entry = { λ l. l.to };
+    ghost entry = { λ l _. l.to };
 
     ghost replies = { λ old height _ new. (new.from ≡ height) × (new.to ≡ old.to) };
 

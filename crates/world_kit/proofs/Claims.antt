@@ -1,9 +1,8 @@
 -- What mails and books claim stays true as gateways grow, and what is sent and answered is as it claims.
-use Rattle.std.proofs.Common.{◌≡◌, ◌≢◌, ℕ, zero, suc, ◌+◌, ◌<◌, ◌≤◌, max, min, Bool, true, false, cond, if◌then◌else◌, ◌==◌, ◌⊎◌, inl, inr, List, [], ◌∷◌, ◌++◌, length, slice_get, slice_index, Option, Some, None, is_some, refl, sym, ap, subst, ◌∙◌, arith, true≢false}
+use Rattle.std.proofs.Common.{◌≡◌, ◌≢◌, ℕ, zero, suc, ◌+◌, ◌<◌, ◌≤◌, max, min, Bool, true, false, cond, if◌then◌else◌, ◌⊎◌, inl, inr, List, [], ◌∷◌, ◌++◌, length, slice_get, slice_index, Option, Some, None, is_some, refl, sym, ap, subst, ◌∙◌, arith, true≢false}
 use Rattle.std.specs.Prelude.{nat_lt, nat_le}
 use Rattle.std.proofs.lemmas.Bool.{lt-ltb, le-ltb, ltb-true, ltb-false, eq-eqb, ne_eqb}
 use Rattle.std.proofs.lemmas.Bool.Decides.{leb_tells}
-use Rattle.std.proofs.lemmas.List.{length_push}
 use Rattle.std.proofs.lemmas.Option.{slice_get_within}
 use Rattle.std.proofs.Math.ListN.{set}
 use Rattle.std.proofs.lemmas.Bool.{cases_lt}
@@ -13,9 +12,9 @@ use Rattle.std.specs.List.{filter_map, flat_map}
 use Rattle.std.specs.Ordering.{eq_by_cmp, nat_cmp}
 use Rattle.std.specs.Option.{option_map_or, unwrap_or}
 use Rattle.agg_kit.specs.Entries.{Entry}
-use Rattle.gossip_kit.specs.Gossip.{Brings, CarriesHeld, Renumbers, acked_after, acknowledged, delta_to, raised_to, last_number, next_number, number_of, numbered_to}
+use Rattle.gossip_kit.specs.Gossip.{Renumbers, acked_after, acknowledged, delta_to, raised_to, last_number, next_number, number_of, numbered_to}
 use Rattle.gossip_kit.specs.Views.{MessageModel, NodeModel}
-use Rattle.gossip_kit.proofs.Carrying.{brings_held, carried_below, nothing_below}
+use Rattle.gossip_kit.proofs.Carrying.{carried_below, nothing_below}
 use Rattle.gossip_kit.proofs.Changes.{renumbers_nothing}
 use Rattle.gossip_kit.proofs.Sending.{retained, chosen as chosen_cell}
 use Rattle.gateway_kit.proofs.Entries.{not_None, same_Some}

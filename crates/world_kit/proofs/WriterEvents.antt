@@ -21,10 +21,11 @@ use Rattle.plan_kit.specs.Plans.{Planned, feeds_of, kind_of}
 use Rattle.attr_kit.specs.declared.attr_set.AttrSet.{AttrSet}
 use Rattle.attr_kit.specs.Refusing.{first, when}
 use Rattle.point_kit.specs.declared.export.Export.{Export}
+use Rattle.recorder_kit.specs.Log.{ByName}
 use Rattle.round_kit.specs.Rounds.{points_of}
 use Rattle.schedule_kit.specs.Deeds.{Deed, acts_of}
 use Rattle.schedule_kit.specs.Deeds.Deed.{Wrote}
-use Rattle.schedule_kit.specs.Deeds.Holder.{AtGateway, InMail}
+use Rattle.schedule_kit.specs.Deeds.Holder.{AtGateway}
 use Rattle.schedule_kit.proofs.History.{acts_accepted, none_yet}
 use Rattle.schedule_kit.specs.Schedule.{Act, AreAccepted, start_of, last_of, is_open, running}
 use Rattle.schedule_kit.specs.Schedule.Act.{Measured, Collected, Restarted}
@@ -197,7 +198,7 @@ module _ (w : WorldState) (v : ℕ) (x : Written) (at_v : slice_get w.writers v 
   its s ds st = st.writers.each v x at_v
 
   -- a writer refuses a recording
-  pub measure_refused : (i : ℕ) (a : AttrSet) (val : ℤ) (f : MeasureFault) (r : Refusal) → fault_now x (record { instrument = i; attrs = a; value = val }) ≡ Some f → measure_refusal f ≡ Some r
+  pub measure_refused : (i : ℕ) (a : AttrSet) (val : ℤ) (f : MeasureFault) (r : Refusal) → fault_now x (ByName (record { instrument = i; attrs = a; value = val })) ≡ Some f → measure_refusal f ≡ Some r
       → Acts (event.Measure v i a val) w (reply.Refused r) w
   unfolding measure_fault
   measure_refused i a val f r refuses told = refused_acts _ w r (λ s ds st.
@@ -213,7 +214,7 @@ module _ (w : WorldState) (v : ℕ) (x : Written) (at_v : slice_get w.writers v 
       ∙ measure_some x.closed (first_refusal x.tally.plan h e) f r (Ok (Wrote v (Measured e))) (sym (now_is x h e stands.tally) ∙ refuses) told)
 
   -- a recording wants memory where the writer is open, and nothing is refused that is found without memory
-  pub measure_wants : (i : ℕ) (a : AttrSet) (val : ℤ) → early_fault x (record { instrument = i; attrs = a; value = val }) ≡ None → Wants (event.Measure v i a val) w
+  pub measure_wants : (i : ℕ) (a : AttrSet) (val : ℤ) → early_fault x (ByName (record { instrument = i; attrs = a; value = val })) ≡ None → Wants (event.Measure v i a val) w
   unfolding early_fault measure_fault
   measure_wants i a val early = record {
     accepted = λ s ds st.
@@ -241,7 +242,7 @@ module _ (w : WorldState) (v : ℕ) (x : Written) (at_v : slice_get w.writers v 
 
   -- a writer takes a recording
   pub measures : (y : Written) (i : ℕ) (a : AttrSet) (val : ℤ)
-      → fault_now x (record { instrument = i; attrs = a; value = val }) ≡ None → y ≡ after_record x (record { instrument = i; attrs = a; value = val })
+      → fault_now x (ByName (record { instrument = i; attrs = a; value = val })) ≡ None → y ≡ after_record x (ByName (record { instrument = i; attrs = a; value = val }))
       → Acts (event.Measure v i a val) w reply.Done (with_writers w (set w.writers v y))
   unfolding measure_fault
   measures y i a val accepts same = accepted_acts _ w (with_writers w (set w.writers v y)) _ (Wrote v (Measured (record { instrument = i; attrs = a; value = val }))) (λ s ds st.
@@ -367,10 +368,10 @@ module _ (w : WorldState) (v : ℕ) (x : Written) (at_v : slice_get w.writers v 
       closes false o e = sym (ap not e)
 
       tally_is : (s : Setup) (v : ℕ) (x : Written) (f : ℕ) (acts : List (Act Entry)) → slice_index (starts_of s) v ≡ f → x.tally.plan ≡ (writer_at s v).plan → StandsFor x.tally (running f acts)
-          → x.tally ≡ record { plan = (writer_at s v).plan; home = x.tally.home; series = round (writer_at s v).plan (running (slice_index (starts_of s) v) acts) }
+          → x.tally ≡ record { plan = (writer_at s v).plan; series = round (writer_at s v).plan (running (slice_index (starts_of s) v) acts); held = x.tally.held }
       tally_is s v x f acts starts plan stands n = record {
         plan = plan n;
-        home = x.tally.home;
+        held = x.tally.held;
         series = (stands ∙ ap (λ (p : Planned). round p (running f acts)) plan ∙ ap (λ k. round (writer_at s v).plan (running k acts)) (sym starts)) n;
       }
 

@@ -39,8 +39,9 @@ unless (Some r) x = Err r
 abbrev pub is_within : ℕ → ℕ → Bool
 is_within k n = nat_lt 0 k && nat_lt k (n + 1)
 
--- a tally's refusal, as a world's
+-- a tally's refusal, as a world's: an event names its instrument, so that no number is looked up
 abbrev pub refusal_of : TallyFault → Option Refusal
+refusal_of faults.NoHeld = Some NoInstrument
 refusal_of faults.NoInstrument = Some NoInstrument
 refusal_of faults.Negative = Some Negative
 refusal_of (faults.Overflow s) = Some (Overflow s)

@@ -1,9 +1,10 @@
 //! What gateways do.
-ghost use Rattle.std.specs.Prelude.{◌≡◌, ◌≢◌, ◌<◌, ◌++◌, ◌∷◌, [], length, vec_len, vec_capacity, OnErr, IfOk};
+ghost use Rattle.std.specs.Prelude.{◌≡◌, ◌≢◌, ◌<◌, ◌++◌, ◌∷◌, [], length, slice_get, vec_len, vec_capacity, IsOk, OnErr, IfOk};
 ghost use Rattle.world_kit.specs.declared.event.Event.TheVariants as event;
 ghost use Rattle.world_kit.specs.Merging.{Merges};
 ghost use Rattle.world_kit.specs.Stands.{Acts};
-ghost use Rattle.world_kit.specs.Wanting.{OnRefused, Wants};
+ghost use Rattle.world_kit.specs.Wanting.{IsEmpty, IsWithoutPoints, OnRefused, Wants};
+ghost use Rattle.world_kit.specs.WorldState.{export_at};
 
 use crate::world::export_in;
 use crate::{Refusal, Reply, World};
@@ -16,6 +17,7 @@ impl World {
         ensures ok { IfOk result (λ reply. Acts (event.Deliver export gateway) self.old reply self.new) }
         ensures refused { IfOk result (λ reply. OnRefused reply (self.new ≡ self.old)) }
         ensures no_memory { OnErr result (Wants (event.Deliver export gateway) self.old) }
+        ensures no_points { IsWithoutPoints (export_at self.old.exports export) → IsOk result }
         ensures unchanged { OnErr result (self.new ≡ self.old) }
     {
         if gateway >= self.nodes.len() {
@@ -33,6 +35,8 @@ impl World {
         ensures ok { IfOk result (λ reply. Acts (event.Merge into from) self.old reply self.new) }
         ensures refused { IfOk result (λ reply. OnRefused reply (self.new ≡ self.old)) }
         ensures no_memory { OnErr result (Wants (event.Merge into from) self.old) }
+        ensures itself { into ≡ from → IsOk result }
+        ensures empty { IsEmpty (slice_get self.old.nodes from) → IsOk result }
         ensures unchanged { OnErr result (self.new ≡ self.old) }
     {
         if into >= self.nodes.len() {
@@ -115,6 +119,7 @@ fn merge_two(nodes: &mut [Node], into: usize, from: usize) -> Result<u64, NoMemo
     requires from_in { from < length nodes.old }
     requires two { into ≢ from }
     ensures ok { IfOk result (λ changed. Merges nodes.old into from changed nodes.new) }
+    ensures empty { IsEmpty (slice_get nodes.old from) → IsOk result }
     ensures unchanged { OnErr result (nodes.new ≡ nodes.old) }
 {
     if into < from {

@@ -1,10 +1,11 @@
 //! What writers do.
-ghost use Rattle.std.specs.Prelude.{◌≡◌, ◌≢◌, ◌<◌, false, true, length, OnErr, IfOk, Some, None};
+ghost use Rattle.std.specs.Prelude.{◌≡◌, ◌≢◌, ◌<◌, false, true, length, slice_get, IsOk, OnErr, IfOk, Some, None};
+ghost use Rattle.agg_kit.specs.Entries.{entry_of};
 ghost use Rattle.world_kit.specs.declared.event.Event.TheVariants as event;
 ghost use Rattle.world_kit.specs.Copying.{IsCopy};
 ghost use Rattle.world_kit.specs.Stands.{Acts};
 ghost use Rattle.world_kit.specs.Told.{measure_refusal, restart_refusal, collect_event};
-ghost use Rattle.world_kit.specs.Wanting.{OnRefused, Wants};
+ghost use Rattle.world_kit.specs.Wanting.{HasPoints, OnRefused, Wants};
 ghost use Rattle.writer_kit.specs.Refusals.{collect_fault};
 
 use crate::{Refusal, Reply, World};
@@ -27,6 +28,7 @@ impl World {
         ensures ok { IfOk result (λ reply. Acts (event.Measure writer instrument attrs.now value) self.old reply self.new) }
         ensures refused { IfOk result (λ reply. OnRefused reply (self.new ≡ self.old)) }
         ensures no_memory { OnErr result (Wants (event.Measure writer instrument attrs.now value) self.old) }
+        ensures held { HasPoints (entry_of instrument attrs.now value) (slice_get self.old.writers writer) → IsOk result }
         ensures unchanged { OnErr result (self.new ≡ self.old) }
     {
         if writer >= self.writers.len() {
@@ -86,7 +88,10 @@ fn told_measure(fault: MeasureFault) -> Result<Refusal, NoMemory>
 {
     match fault {
         MeasureFault::Closed => Ok(Refusal::Closed),
-        MeasureFault::Refused(TallyFault::NoInstrument) => Ok(Refusal::NoInstrument),
+        // An event names its instrument, so that no number is looked up.
+        MeasureFault::Refused(TallyFault::NoInstrument | TallyFault::NoHeld) => {
+            Ok(Refusal::NoInstrument)
+        }
         MeasureFault::Refused(TallyFault::Negative) => Ok(Refusal::Negative),
         MeasureFault::Refused(TallyFault::Overflow(stream)) => Ok(Refusal::Overflow(stream)),
         MeasureFault::Refused(TallyFault::NoMemory) => Err(NoMemory),

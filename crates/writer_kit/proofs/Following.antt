@@ -4,7 +4,6 @@ use Rattle.std.proofs.lemmas.Bool.{eq-eqb}
 use Rattle.agg_kit.proofs.Refusals.{first_refusal-is}
 use Rattle.agg_kit.proofs.Rounds.{stands-push}
 use Rattle.agg_kit.specs.Entries.{Entry}
-use Rattle.agg_kit.specs.Homes.{unnamed_home}
 use Rattle.agg_kit.specs.Measuring.{empty_tally}
 use Rattle.agg_kit.specs.Refusals.{first_refusal}
 use Rattle.agg_kit.specs.Tallies.{Tallied}
@@ -18,8 +17,10 @@ use Rattle.schedule_kit.specs.Schedule.Act.{Measured, Collected, Restarted}
 use Rattle.point_kit.specs.declared.writer_id.WriterId.{WriterId}
 use Rattle.writer_kit.proofs.Refusals.{now_open, collect_open, collect_later, restart_later}
 use Rattle.writer_kit.specs.Following.{Follows, fits, round_of}
-use Rattle.writer_kit.specs.Recording.{new_writer, after_record, after_collect, after_restart, round_now}
+use Rattle.attr_kit.specs.declared.attr_set.AttrSet.{AttrSet}
+use Rattle.writer_kit.specs.Recording.{new_writer, after_hold, after_record, after_collect, after_restart, round_now}
 use Rattle.writer_kit.specs.Refusals.{fault_now, collect_fault, restart_fault}
+use Rattle.recorder_kit.specs.Log.{ByName}
 use Rattle.writer_kit.specs.Written.{Written}
 
 pub is_still_open : (acts : List (Act Entry)) (closed : Bool) → closed ≡ false → not closed ≡ is_open acts → is_open acts ≡ true
@@ -32,9 +33,6 @@ runs first acts e = rw (eq-eqb (start_of first acts) (start_of first acts) refl)
 -- a tally without points
 pub plan_of_empty : (t : Tallied) (p : Planned) → t ≡ empty_tally p → t.plan ≡ p
 plan_of_empty t p is = ap (λ (t : Tallied). t.plan) is
-
-pub home_of_empty : (t : Tallied) (p : Planned) → t ≡ empty_tally p → t.home ≡ unnamed_home
-home_of_empty t p is = ap (λ (t : Tallied). t.home) is
 
 pub empty_stands : (t : Tallied) (p : Planned) → t ≡ empty_tally p → StandsFor t []
 empty_stands t p is = subst (λ (t : Tallied). StandsFor t []) (sym is) refl
@@ -100,10 +98,10 @@ collects first acts time w r s t p f =
 pub starts : (id : WriterId) (plan : Planned) (start : ℕ) → Follows start [] (new_writer id plan start)
 starts id plan start = started start (new_writer id plan start) refl refl refl refl
 
-pub measures : (first : ℕ) (acts : List (Act Entry)) (w : Written) (e : Entry) → Follows first acts w → fault_now w e ≡ None → Follows first (Measured e ∷ acts) (after_record w e)
+pub measures : (first : ℕ) (acts : List (Act Entry)) (w : Written) (e : Entry) → Follows first acts w → fault_now w (ByName e) ≡ None → Follows first (Measured e ∷ acts) (after_record w (ByName e))
 measures first acts w e f none =
-    let fits = now_open w e none in
-    measured first acts e w (after_record w e) fits.0 (λ h s. sym (first_refusal-is w.tally h e s) ∙ fits.1) (λ h s. stands-push w.tally h e s) refl refl f
+    let fits = now_open w (ByName e) none in
+    measured first acts e w (after_record w (ByName e)) fits.0 (λ h s. sym (first_refusal-is w.tally h e s) ∙ fits.1) (λ h s. stands-push w.tally h e s) refl refl f
 
 pub marks : (first : ℕ) (acts : List (Act Entry)) (w : Written) (time : ℕ) (closing : Bool) → Follows first acts w → collect_fault w time ≡ None → Follows first (Collected time closing ∷ acts) (after_collect w time closing)
 marks first acts w time closing f none = marked first acts time closing w (after_collect w time closing) (collect_open w time none) (collect_later w time none) refl f
@@ -116,3 +114,7 @@ rounds_of first acts w time f = collects first acts time w (round_now w time) re
 
 pub is_round : (w : Written) (time : ℕ) (r : rounds.Collected) → r.start ≡ w.start → r.time ≡ time → r.points ≡ points_of w.tally.plan.streams w.tally.series → r ≡ round_now w time
 is_round w time r s t p = λ i. record { start = s i; time = t i; points = p i }
+
+-- holding is no event
+pub holds : (first : ℕ) (acts : List (Act Entry)) (w : Written) (i : ℕ) (a : AttrSet) → Follows first acts w → Follows first acts (after_hold w i a)
+holds first acts w i a f = record { accepted = f.accepted; start = f.start; last = f.last; opened = f.opened; points = f.points }

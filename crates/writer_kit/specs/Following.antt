@@ -1,5 +1,5 @@
 -- What a writer is after events that it accepted.
-use Rattle.std.specs.Prelude.{◌≡◌, ℕ, Bool, not, is_none, List}
+use Rattle.std.specs.Prelude.{◌≡◌, ℕ, Bool, not, is_none, List, [], ◌∷◌}
 use Rattle.agg_kit.specs.Entries.{Entry}
 use Rattle.agg_kit.specs.Refusals.{first_refusal}
 use Rattle.agg_kit.specs.Rounds.{StandsFor, round}
@@ -13,7 +13,8 @@ use Rattle.writer_kit.specs.Written.{Written}
 abbrev pub fits : Planned → List Entry → Entry → Bool
 fits plan h e = is_none (first_refusal plan h e)
 
--- a writer that began at `first` has accepted these events, the newest first: its times and whether it is open are read off them, and its points are the round of what was recorded since its start
+-- A writer that began at `first` has accepted these events, the newest first. Its times and whether it is open are read off them, and its points are the
+-- round of what was recorded since its start.
 pub record Follows (first : ℕ) (acts : List (Act Entry)) (w : Written) : Type 0 where
   pub accepted : AreAccepted (fits w.tally.plan) first acts
   pub start : w.start ≡ start_of first acts
@@ -24,3 +25,8 @@ pub record Follows (first : ℕ) (acts : List (Act Entry)) (w : Written) : Type 
 -- the round of a collection under a plan
 abbrev pub round_of : Planned → Collection Entry → rounds.Collected
 round_of plan c = record { start = c.start; time = c.time; points = points_of plan.streams (round plan c.entries) }
+
+-- recordings as events behind earlier ones, the newest first
+abbrev pub measured_after : List (Act Entry) → List Entry → List (Act Entry)
+measured_after acts [] = acts
+measured_after acts (e ∷ es) = measured_after (Act.Measured e ∷ acts) es

@@ -1,11 +1,12 @@
 -- Why a writer refuses, memory aside.
-use Rattle.std.specs.Prelude.{ℕ, List, [], ◌∷◌, nat_le, Option}
+use Rattle.std.specs.Prelude.{ℕ, List, [], ◌∷◌, nat_le, Option, is_none}
 use Rattle.std.specs.Option.{option_map}
 use Rattle.attr_kit.specs.Refusing.{first, when}
 use Rattle.agg_kit.specs.Entries.{Entry}
-use Rattle.agg_kit.specs.Measuring.{fault_of, early_fault_of}
 use Rattle.agg_kit.specs.Refusals.{first_refusal}
 use Rattle.agg_kit.specs.declared.fault.TallyFault.TheVariants as tallies
+use Rattle.plan_kit.specs.Plans.{kind_of}
+use Rattle.recorder_kit.specs.Log.{Recording, early_fault_at, fault_at}
 use Rattle.writer_kit.specs.Written.{Written}
 use Rattle.writer_kit.specs.declared.fault.CollectFault.{CollectFault}
 use Rattle.writer_kit.specs.declared.fault.CollectFault.TheVariants as collect
@@ -22,13 +23,17 @@ no_memory = measure.Refused tallies.NoMemory
 unfoldable pub measure_fault : Written → List Entry → Entry → Option MeasureFault
 measure_fault w h e = first (when w.closed measure.Closed ∷ option_map (λ f. measure.Refused f) (first_refusal w.tally.plan h e) ∷ [])
 
--- the same by the points of the writer
-unfoldable pub fault_now : Written → Entry → Option MeasureFault
-fault_now w e = first (when w.closed measure.Closed ∷ option_map (λ f. measure.Refused f) (fault_of w.tally e) ∷ [])
+-- the same by the points of the writer, at a held point too
+unfoldable pub fault_now : Written → Recording → Option MeasureFault
+fault_now w r = first (when w.closed measure.Closed ∷ option_map (λ f. measure.Refused f) (fault_at w.tally r) ∷ [])
 
 -- the same of the feeds before the first that keeps a list of keys: what is looked for before memory is wanted
-unfoldable pub early_fault : Written → Entry → Option MeasureFault
-early_fault w e = first (when w.closed measure.Closed ∷ option_map (λ f. measure.Refused f) (early_fault_of w.tally e) ∷ [])
+unfoldable pub early_fault : Written → Recording → Option MeasureFault
+early_fault w r = first (when w.closed measure.Closed ∷ option_map (λ f. measure.Refused f) (early_fault_at w.tally r) ∷ [])
+
+-- why an instrument and a set are not held: the writer is closed, or else there is no such instrument
+unfoldable pub hold_fault : Written → ℕ → Option MeasureFault
+hold_fault w i = first (when w.closed measure.Closed ∷ when (is_none (kind_of w.tally.plan i)) (measure.Refused tallies.NoInstrument) ∷ [])
 
 -- why a collection is refused: the writer is closed, or else the time is not after the last
 unfoldable pub collect_fault : Written → ℕ → Option CollectFault

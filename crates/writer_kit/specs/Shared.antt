@@ -1,31 +1,27 @@
 -- The history of a shared writer, and what it makes of the writer.
-use Rattle.std.specs.Prelude.{◌≡◌, ◌≢◌, ℕ, ℤ, false, cond, is_none, List, [], ◌∷◌, ◌++◌, map, Option, Some, None}
+use Rattle.std.specs.Prelude.{◌≡◌, ◌≢◌, ℕ, false, cond, is_none, List, [], ◌∷◌, ◌++◌, Option, Some, None, slice_get}
 use Rattle.agg_kit.specs.Entries.{Entry, entry_of}
-use Rattle.agg_kit.specs.Feeds.{AllHeld}
+use Rattle.agg_kit.specs.Measuring.{after_held, after_measure}
 use Rattle.agg_kit.specs.Rounds.{StandsFor}
-use Rattle.agg_kit.specs.Taken.{HasRecorded}
-use Rattle.agg_kit.specs.Recorders.{Recorded}
+use Rattle.agg_kit.specs.Tallies.{Tallied}
 use Rattle.attr_kit.specs.declared.attr_set.AttrSet.{AttrSet}
-use Rattle.plan_kit.specs.Plans.{Planned, feeds_of}
+use Rattle.recorder_kit.specs.Log.{Recording, ByName, ByNumber, TakesNoMemory, taken_in}
 use Rattle.round_kit.specs.Rounds.{points_of}
 use Rattle.round_kit.specs.Rounds as rounds
 use Rattle.turn_kit.specs.declared.seat.Seat.{Seat}
 use Rattle.turn_kit.specs.Public.{IsOf, IsSameTurn, Enters, Looks, Exhausts, Refuses, opening, limit_of, seen, number}
 use Rattle.schedule_kit.specs.Schedule.{Act, Collection, collections}
-use Rattle.writer_kit.specs.Absorbing.{absorb_fault, no_memory_for, with_recordings}
-use Rattle.writer_kit.specs.Following.{Follows, round_of}
-use Rattle.writer_kit.specs.Recording.{after_record}
-use Rattle.writer_kit.specs.Refusals.{fault_now, early_fault, collect_fault}
+use Rattle.writer_kit.specs.Following.{Follows, measured_after, round_of}
+use Rattle.writer_kit.specs.Recorded.{entries_at, recorded_of}
+use Rattle.writer_kit.specs.Recording.{after_hold, after_record, after_take_in, with_held}
+use Rattle.writer_kit.specs.Refusals.{collect_fault, early_fault, fault_now, hold_fault, no_memory}
 use Rattle.writer_kit.specs.Written.{Written}
-use Rattle.writer_kit.specs.declared.fault.AbsorbFault.{AbsorbFault}
 use Rattle.writer_kit.specs.declared.fault.CollectFault.{CollectFault}
 use Rattle.writer_kit.specs.declared.fault.CollectFault.TheVariants as collect
 use Rattle.writer_kit.specs.declared.fault.MeasureFault.{MeasureFault}
-use Rattle.writer_kit.specs.declared.fault.MeasureFault.TheVariants as measure
-use Rattle.agg_kit.specs.declared.fault.TallyFault.TheVariants as tallies
 use Rattle.writer_kit.specs.declared.shared.writer.SharedWriter.{SharedWriter}
 use Rattle.writer_kit.specs.declared.shared.change.WriterChange.{WriterChange}
-use Rattle.writer_kit.specs.declared.shared.change.WriterChange.TheVariants.{Measured, Collected, Absorbed}
+use Rattle.writer_kit.specs.declared.shared.change.WriterChange.TheVariants.{Measured, MeasuredHeld, Held, Collected, TakenIn}
 
 -- accepted changes, each with the number of the seat that made it, in their order
 abbrev pub History : Type 0
@@ -33,62 +29,68 @@ History = List (ℕ × WriterChange)
 
 -- a writer after a change, as one thread makes it; none where the change is not accepted
 abbrev pub after_writer_change : Written → WriterChange → Option Written
-after_writer_change w (Measured i a v) = cond (is_none (fault_now w (entry_of i a v))) (Some (after_record w (entry_of i a v))) None
+after_writer_change w (Measured i a v) = cond (is_none (fault_now w (ByName (entry_of i a v)))) (Some (after_record w (ByName (entry_of i a v)))) None
+after_writer_change w (MeasuredHeld n v) = cond (is_none (fault_now w (ByNumber n v))) (Some (after_record w (ByNumber n v))) None
+after_writer_change w (Held i a) = cond (is_none (hold_fault w i)) (Some (after_hold w i a)) None
 after_writer_change w (Collected time) = cond (is_none (collect_fault w time)) (Some (record w { last = time })) None
-after_writer_change w (Absorbed r) = cond (is_none (absorb_fault w r)) (Some (with_recordings w r)) None
+after_writer_change w (TakenIn rs) = cond w.closed None (Some (after_take_in w rs))
 
--- the measured entries of a history, in its order; what recorders brought is told by another history
-abbrev pub also_measured : WriterChange → List Entry → List Entry
-also_measured (Measured i a v) es = entry_of i a v ∷ es
-also_measured (Collected time) es = es
-also_measured (Absorbed r) es = es
+-- what a change recorded of a writer with this tally: of a log those of its recordings that were not refused
+abbrev pub recorded_by : Tallied → WriterChange → List Entry
+recorded_by t (Measured i a v) = entry_of i a v ∷ []
+recorded_by t (MeasuredHeld n v) = entries_at t (ByNumber n v)
+recorded_by t (Held i a) = []
+recorded_by t (Collected time) = []
+recorded_by t (TakenIn rs) = recorded_of t rs
 
-abbrev pub entries_of : History → List Entry
-entries_of [] = []
-entries_of (x ∷ xs) = also_measured x.1 (entries_of xs)
+-- and its tally after the change
+abbrev pub tally_after : Tallied → WriterChange → Tallied
+tally_after t (Measured i a v) = after_measure t (entry_of i a v)
+tally_after t (MeasuredHeld n v) = after_held t n v
+tally_after t (Held i a) = with_held t i a
+tally_after t (Collected time) = t
+tally_after t (TakenIn rs) = (taken_in t rs).tally
 
--- a change as an event of a writer's schedule, behind earlier ones, the newest first
-abbrev pub then_act : List (Act Entry) → WriterChange → List (Act Entry)
-then_act earlier (Measured i a v) = Act.Measured (entry_of i a v) ∷ earlier
-then_act earlier (Collected time) = Act.Collected time false ∷ earlier
-then_act earlier (Absorbed r) = earlier
+-- what a history recorded, in its order, where it began with this tally
+abbrev pub entries_of : Tallied → History → List Entry
+entries_of t [] = []
+entries_of t (x ∷ xs) = recorded_by t x.1 ++ entries_of (tally_after t x.1) xs
+
+-- what it held
+abbrev pub held_by : WriterChange → List (ℕ × AttrSet)
+held_by (Measured i a v) = []
+held_by (MeasuredHeld n v) = []
+held_by (Held i a) = (i, a) ∷ []
+held_by (Collected time) = []
+held_by (TakenIn rs) = []
+
+abbrev pub held_in : History → List (ℕ × AttrSet)
+held_in [] = []
+held_in (x ∷ xs) = held_by x.1 ++ held_in xs
+
+-- a change as events of a writer's schedule, behind earlier ones, the newest first
+abbrev pub then_acts : Tallied → List (Act Entry) → WriterChange → List (Act Entry)
+then_acts t earlier (Measured i a v) = Act.Measured (entry_of i a v) ∷ earlier
+then_acts t earlier (MeasuredHeld n v) = measured_after earlier (entries_at t (ByNumber n v))
+then_acts t earlier (Held i a) = earlier
+then_acts t earlier (Collected time) = Act.Collected time false ∷ earlier
+then_acts t earlier (TakenIn rs) = measured_after earlier (recorded_of t rs)
 
 -- the events of a history behind earlier ones, the newest first
-abbrev pub acts_after : List (Act Entry) → History → List (Act Entry)
-acts_after earlier [] = earlier
-acts_after earlier (x ∷ xs) = acts_after (then_act earlier x.1) xs
+abbrev pub acts_after : Tallied → List (Act Entry) → History → List (Act Entry)
+acts_after t earlier [] = earlier
+acts_after t earlier (x ∷ xs) = acts_after (tally_after t x.1) (then_acts t earlier x.1) xs
 
--- recordings as changes of the seat of a number, one for each
-abbrev pub changes_of : ℕ → List Entry → History
-changes_of n es = map (λ e. (n, Measured e.instrument e.attrs e.value)) es
-
--- A change tells itself. A recorder that was taken in is told by recordings which a recorder of the plan that has these points accepted since it was empty.
-abbrev pub IsToldBy : Planned → ℕ → WriterChange → History → Type 0
-IsToldBy p n (Measured i a v) told = told ≡ (n, Measured i a v) ∷ []
-IsToldBy p n (Collected time) told = told ≡ (n, Collected time) ∷ []
-IsToldBy p n (Absorbed r) told = (k : List Entry) × HasRecorded (record r { plan = p }) k × (told ≡ changes_of n k)
-
--- A history is told by one of recordings and collections alone, change by change: each recorder that it took in by recordings which the recorder had accepted,
--- one after the other. There is one such history where no recorder was taken in, itself.
-abbrev pub AreToldBy : Planned → History → History → Type 0
-AreToldBy p [] told = told ≡ []
-AreToldBy p (x ∷ xs) told = (some rest : History) × IsToldBy p x.0 x.1 some × AreToldBy p xs rest × (told ≡ some ++ rest)
-
--- recorders that were taken in, counted
-abbrev pub absorbs : WriterChange → ℕ
-absorbs (Measured i a v) = 0
-absorbs (Collected time) = 0
-absorbs (Absorbed r) = 1
-
--- What a history makes of the first writer: one of the same identity, plan and start. However the history is told, the writer stands for what that one stood
--- for, followed by the measured entries, and the changes are accepted events of one writer's schedule.
+-- What a history makes of the first writer: one of the same identity, plan and start. It holds what that one held, followed by what was held, so each
+-- number stands for what it stood for. It stands for what that one stood for, followed by the recorded entries. These and the collections are accepted
+-- events of one writer's schedule.
 pub record Serves (first : Written) (h : History) (w : Written) : Type 0 where
   pub same_id : w.id ≡ first.id
   pub same_plan : w.tally.plan ≡ first.tally.plan
   pub same_start : w.start ≡ first.start
-  pub stands : (told : History) → AreToldBy first.tally.plan h told → (es : List Entry) → StandsFor first.tally es → StandsFor w.tally (es ++ entries_of told)
-  pub follows : (told : History) → AreToldBy first.tally.plan h told
-      → (start : ℕ) (earlier : List (Act Entry)) → Follows start earlier first → Follows start (acts_after earlier told) w
+  pub held : w.tally.held ≡ first.tally.held ++ held_in h
+  pub stands : (es : List Entry) → StandsFor first.tally es → StandsFor w.tally (es ++ entries_of first.tally h)
+  pub follows : (start : ℕ) (earlier : List (Act Entry)) → Follows start earlier first → Follows start (acts_after first.tally earlier h) w
 
 -- the seat is at this shared writer
 abbrev pub IsAt : {G : Type 0} {g : _} → SharedWriter G → Seat Written WriterChange g → Type 0
@@ -114,29 +116,22 @@ pub record IsRound (w : Written) (time : ℕ) (r : rounds.Collected) : Type 0 wh
 
 -- A writer may refuse a recording with this: for the first cause that fits, or for want of memory where none fits that is looked for before memory is
 -- wanted. Points that are there take no memory where every feed keeps all keys.
-pub record MayRefuse (w : Written) (e : Entry) (f : MeasureFault) : Type 0 where
-  pub told : f ≢ measure.Refused tallies.NoMemory → fault_now w e ≡ Some f
-  pub short : f ≡ measure.Refused tallies.NoMemory → early_fault w e ≡ None
-  pub held : AllHeld w.tally.plan (feeds_of w.tally.plan e.instrument) e.attrs w.tally.series → f ≢ measure.Refused tallies.NoMemory
+pub record MayRefuse (w : Written) (r : Recording) (f : MeasureFault) : Type 0 where
+  pub told : f ≢ no_memory → fault_now w r ≡ Some f
+  pub short : f ≡ no_memory → early_fault w r ≡ None
+  pub held : TakesNoMemory w.tally r → f ≢ no_memory
 
-abbrev pub Declines : ℕ → AttrSet → ℤ → MeasureFault → Written → Type 0
-Declines i a v f w = MayRefuse w (entry_of i a v) f
+-- A writer may refuse to hold with this: for the first cause that fits, or for want of memory where none does.
+pub record MayRefuseHold (w : Written) (i : ℕ) (f : MeasureFault) : Type 0 where
+  pub told : f ≢ no_memory → hold_fault w i ≡ Some f
+  pub short : f ≡ no_memory → hold_fault w i ≡ None
 
 -- A writer may refuse a collection with this: for the first cause that fits, or for want of memory where none does.
 pub record MayRefuseRound (w : Written) (time : ℕ) (f : CollectFault) : Type 0 where
   pub told : f ≢ collect.NoMemory → collect_fault w time ≡ Some f
   pub no_memory : f ≡ collect.NoMemory → collect_fault w time ≡ None
 
--- A writer may refuse a recorder with this: for the first cause that fits, or for want of memory where it is open.
-pub record MayRefuseRecorder (w : Written) (r : Recorded) (f : AbsorbFault) : Type 0 where
-  pub told : f ≢ no_memory_for → absorb_fault w r ≡ Some f
-  pub no_memory : f ≡ no_memory_for → w.closed ≡ false
-
 module _ {G : Type 0} {g : _} (shared : SharedWriter G) where
-  -- what is now seen, told by a history of recordings and collections alone
-  abbrev pub AreTold : Seat Written WriterChange g → History → Type 0
-  AreTold t told = AreToldBy (first_of shared).tally.plan (seen t) told
-
   -- the seat's change was accepted, with this reply
   abbrev pub Accepts : WriterChange → (Written → Type 0) → Seat Written WriterChange g → Seat Written WriterChange g → Type 0
   Accepts c replied s t = Enters (λ w. w) after_writer_change (first_of shared) (most_of shared) c replied s t
@@ -150,16 +145,20 @@ module _ {G : Type 0} {g : _} (shared : SharedWriter G) where
     pub served : Serves (first_of shared) before old
     pub serves : Serves (first_of shared) (seen t) new
 
-  -- The round is that of what the first writer stood for, followed by the measured entries that are now seen, however they are told.
+  -- The round is that of what the first writer stood for, followed by the recorded entries that are now seen.
   abbrev pub HasAllMeasured : ℕ → rounds.Collected → Seat Written WriterChange g → Type 0
-  HasAllMeasured time r t = (told : History) → AreTold t told → (es : List Entry) → StandsFor (first_of shared).tally es
-      → r ≡ round_of (first_of shared).tally.plan (record { start = (first_of shared).start; time = time; entries = es ++ entries_of told })
+  HasAllMeasured time r t = (es : List Entry) → StandsFor (first_of shared).tally es
+      → r ≡ round_of (first_of shared).tally.plan (record { start = (first_of shared).start; time = time; entries = es ++ entries_of (first_of shared).tally (seen t) })
 
   -- The round is the newest of the collections of one writer's schedule: of a first writer that was just started the k-th collection of the history is the
   -- k-th of the schedule.
   abbrev pub IsNewest : rounds.Collected → Seat Written WriterChange g → Type 0
-  IsNewest r t = (told : History) → AreTold t told → (start : ℕ) (earlier : List (Act Entry)) → Follows start earlier (first_of shared)
-      → (c : Collection Entry) × (before : List (Collection Entry)) × (collections start (acts_after earlier told) ≡ c ∷ before) × (r ≡ round_of (first_of shared).tally.plan c)
+  IsNewest r t = (start : ℕ) (earlier : List (Act Entry)) → Follows start earlier (first_of shared)
+      → (c : Collection Entry) × (before : List (Collection Entry)) × (collections start (acts_after (first_of shared).tally earlier (seen t)) ≡ c ∷ before) × (r ≡ round_of (first_of shared).tally.plan c)
+
+  -- the number stands for the instrument and the set, by what the first writer held and what is now seen
+  abbrev pub StandsForSet : ℕ → ℕ → AttrSet → Seat Written WriterChange g → Type 0
+  StandsForSet n i a t = slice_get ((first_of shared).tally.held ++ held_in (seen t)) n ≡ Some (i, a)
 
   abbrev pub LooksAt : (Written → Type 0) → Seat Written WriterChange g → Seat Written WriterChange g → Type 0
   LooksAt answered s t = Looks (λ w. w) after_writer_change (first_of shared) answered s t

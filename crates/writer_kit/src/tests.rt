@@ -1,11 +1,10 @@
-//! Paces at the end of time, the text of a fault, and whose bound points are.
-ghost use Rattle.std.specs.Prelude.{◌≡◌, ◌≢◌};
-
+//! Paces at the end of time, the text of a fault, numbers and logs.
 use super::*;
-use agg_kit::{HomeFault, RecordFault, Recorder, TallyFault, homes_differ};
+use agg_kit::TallyFault;
 use attr_kit::{AttrSet, NoMemory, Seq, Txt};
 use plan_kit::{DEFAULT_LIMIT, Instrument, Kind, Plan};
 use point_kit::{Payload, WriterId};
+use recorder_kit::{RecordFault, Recorder, Taken};
 use std::alloc::Global;
 use std::test::Fail;
 use uuid::Uuid;
@@ -70,66 +69,37 @@ fn faults_are_told(rt: HostRuntime) -> Result<(), Fail> {
     Ok(())
 }
 
-// Whether a point that one recorder bound is stale at another.
-fn is_stale_elsewhere(
-    recorder: &Recorder,
-    other: &mut Recorder,
-    set: &AttrSet,
-) -> Result<bool, RecordFault>
-    requires { recorder.now.home ≢ other.old.home }
-{
-    let mut point = recorder.bind(0, set)?;
-    let answer = other.measure_bound(&mut point, 4);
-    Ok(answer == Err(HomeFault::Stale) && other.is_empty())
-}
-
-// Whether a point is stale at the recorder that bound it once a writer took that in.
-fn is_stale_once_taken_in(
-    writer: &mut Writer,
-    recorder: &mut Recorder,
-    set: &AttrSet,
-) -> Result<bool, HomeFault<RecordFault>>
-    requires { recorder.old.plan ≡ writer.old.tally.plan }
-{
-    homes_differ();
-    let mut point = recorder.bind(0, set).map_err(HomeFault::Refused)?;
-    recorder.measure_bound(&mut point, 3)?;
-    let is_taken_in = writer.absorb(recorder).is_ok();
-    let answer = recorder.measure_bound(&mut point, 5);
-    Ok(is_taken_in && answer == Err(HomeFault::Stale) && held(writer) == Some(3))
-}
-
 #[test]
-fn a_bound_point_is_of_its_recorder(rt: HostRuntime) -> Result<(), Fail> {
+fn numbers_stay_after_a_restart(rt: HostRuntime) -> Result<(), Fail> {
     let alloc = rt.alloc();
-    let set = AttrSet::empty(alloc);
     let mut writer = counting_from(alloc, 100)?;
-    let mut first = writer.recorder(alloc)?.named(1);
-    let mut second = writer.recorder(alloc)?.named(2);
-    let is_apart = is_stale_elsewhere(&first, &mut second, &set)?;
-    assert!(rt; is_apart && is_stale_once_taken_in(&mut writer, &mut first, &set)?);
+    let number = writer.hold(0, &AttrSet::empty(alloc));
+    assert!(rt; number == Ok(0));
+    assert!(rt; writer.measure_held(0, 3) == Ok(()) && held(&writer) == Some(3));
+    assert!(rt; writer.restart(200) == Ok(()) && held(&writer).is_none());
+    assert!(rt; writer.measure_held(0, 4) == Ok(()) && held(&writer) == Some(4));
+    let none = MeasureFault::Refused(TallyFault::NoHeld);
+    assert!(rt; writer.measure_held(1, 4) == Err(none));
     Ok(())
 }
 
-// Whether a point that a writer bound is stale at another of its instance and start.
-fn is_stale_at_another(
-    writer: &Writer,
-    other: &mut Writer,
-    set: &AttrSet,
-) -> Result<bool, TallyFault>
-    requires { writer.now.tally.home ≢ other.old.tally.home }
-{
-    let mut point = writer.bind(0, set)?;
-    let answer = other.measure_bound(&mut point, 5);
-    Ok(answer == Err(BoundFault::Stale) && held(other).is_none())
-}
-
 #[test]
-fn a_bound_point_is_not_of_a_copy_with_a_name(rt: HostRuntime) -> Result<(), Fail> {
+fn a_log_is_taken_in(rt: HostRuntime) -> Result<(), Fail> {
     let alloc = rt.alloc();
-    let writer = counting_from(alloc, 100)?.named(1);
-    let mut copy = writer.try_copy()?.named(2);
-    let is_apart = is_stale_at_another(&writer, &mut copy, &AttrSet::empty(alloc))?;
-    assert!(rt; is_apart);
+    let none = AttrSet::empty(alloc);
+    let mut writer = counting_from(alloc, 100)?;
+    assert!(rt; writer.hold(0, &none) == Ok(0));
+    let mut log = Recorder::new(alloc, 3)?;
+    assert!(rt; log.measure(0, &none, 3) == Ok(()));
+    assert!(rt; log.measure_held(0, -1) == Ok(()));
+    assert!(rt; log.measure_held(0, 4) == Ok(()));
+    assert!(rt; log.measure_held(0, 5) == Err(RecordFault::Full));
+    let told = Taken {
+        recorded: 2,
+        refused: 1,
+        first: Some((1, TallyFault::Negative)),
+    };
+    assert!(rt; writer.take_in(&mut log, usize::MAX) == Ok(told));
+    assert!(rt; held(&writer) == Some(7) && log.is_empty());
     Ok(())
 }

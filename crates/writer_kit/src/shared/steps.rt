@@ -1,14 +1,15 @@
 //! The changes of a shared writer, each made while the turn is held.
-ghost use Rattle.std.specs.Prelude.{◌≡◌};
+ghost use Rattle.std.specs.Prelude.{◌≡◌, length, true};
 ghost use Rattle.agg_kit.specs.Entries.{entry_of};
-ghost use Rattle.agg_kit.specs.Recorders.{after_absorb};
-ghost use Rattle.writer_kit.specs.Shared.{IsRound, MayRefuse, MayRefuseRound, MayRefuseRecorder};
-ghost use Rattle.writer_kit.specs.declared.shared.change.WriterChange.TheVariants.{Measured, Collected, Absorbed};
+ghost use Rattle.recorder_kit.specs.Log.{ByName, ByNumber};
+ghost use Rattle.writer_kit.specs.Shared.{IsRound, MayRefuse, MayRefuseHold, MayRefuseRound};
+ghost use Rattle.writer_kit.specs.Taking.{IsTaken, gone};
+ghost use Rattle.writer_kit.specs.declared.shared.change.WriterChange.TheVariants.{Measured, MeasuredHeld, Held, Collected, TakenIn};
 
-use crate::{AbsorbFault, CollectFault, MeasureFault, Writer};
-use agg_kit::Recorder;
+use crate::{Closed, CollectFault, MeasureFault, Writer};
 use attr_kit::AttrSet;
 use bumpalo::Bump;
+use recorder_kit::{Recorder, Taken};
 use round_kit::Round;
 use turn_kit::{Step, StepMut};
 
@@ -29,11 +30,59 @@ impl<'a> Step<Writer> for Measure<'a> {
 
     ghost replies = { λ m w r. Unit {0} };
 
-    ghost refuses = { λ m w f. MayRefuse w (entry_of m.instrument m.attrs.now m.value) f };
+    ghost refuses = { λ m w f. MayRefuse w (ByName (entry_of m.instrument m.attrs.now m.value)) f };
 
     #[tactic(auto, using(crate::proofs::Sharing::after_writer_change_measured, crate::proofs::Sharing::may_refuse))]
     fn step(self, machine: &mut Writer) -> Result<(), MeasureFault> {
         machine.measure(self.instrument, self.attrs, self.value)
+    }
+}
+
+/// Records a value at a held point.
+#[derive(Drop)]
+pub(crate) struct MeasureHeld {
+    pub number: usize,
+    pub value: i64,
+}
+
+impl Step<Writer> for MeasureHeld {
+    type Reply = ();
+
+    type Refusal = MeasureFault;
+
+    ghost entry = { λ m. MeasuredHeld m.number m.value };
+
+    ghost replies = { λ m w r. Unit {0} };
+
+    ghost refuses = { λ m w f. MayRefuse w (ByNumber m.number m.value) f };
+
+    #[tactic(auto, using(crate::proofs::Sharing::after_writer_change_measured_held, crate::proofs::Sharing::may_refuse))]
+    fn step(self, machine: &mut Writer) -> Result<(), MeasureFault> {
+        machine.measure_held(self.number, self.value)
+    }
+}
+
+/// Holds an instrument and a set.
+#[derive(Drop)]
+pub(crate) struct Hold<'a> {
+    pub instrument: usize,
+    pub attrs: &'a AttrSet,
+}
+
+impl<'a> Step<Writer> for Hold<'a> {
+    type Reply = usize;
+
+    type Refusal = MeasureFault;
+
+    ghost entry = { λ h. Held h.instrument h.attrs.now };
+
+    ghost replies = { λ h w n. n ≡ length w.tally.held };
+
+    ghost refuses = { λ h w f. MayRefuseHold w h.instrument f };
+
+    #[tactic(auto, using(crate::proofs::Sharing::after_writer_change_held, crate::proofs::Sharing::may_refuse_hold))]
+    fn step(self, machine: &mut Writer) -> Result<usize, MeasureFault> {
+        machine.hold(self.instrument, self.attrs)
     }
 }
 
@@ -61,22 +110,26 @@ impl<'b> Step<Writer> for Collect<'b> {
     }
 }
 
-/// A recorder is taken in.
-impl StepMut<Writer> for Recorder {
-    type Reply = ();
+/// Takes in recordings from the front of a log, at most so many. The entry is what is gone from the log then.
+#[derive(Drop)]
+pub(crate) struct TakeIn<'a> {
+    pub recorder: &'a mut Recorder,
+    pub most: usize,
+}
 
-    type Refusal = AbsorbFault;
+impl<'a> StepMut<Writer> for TakeIn<'a> {
+    type Reply = Taken;
 
-    ghost needs = { λ r w. r.plan ≡ w.tally.plan };
+    type Refusal = Closed;
 
-    ghost entry = { λ r. Absorbed r };
+    ghost entry = { λ t u. TakenIn (gone t.recorder.now u.recorder.now) };
 
-    ghost replies = { λ r w u s. s ≡ after_absorb r };
+    ghost replies = { λ t w k u. (u.recorder.ghost_name ≡ t.recorder.ghost_name) × IsTaken w t.recorder.now u.recorder.now t.most k };
 
-    ghost refuses = { λ r w f. MayRefuseRecorder w r f };
+    ghost refuses = { λ t w f. w.closed ≡ true };
 
-    #[tactic(auto, using(crate::proofs::Sharing::after_writer_change_absorbed, crate::proofs::Sharing::may_refuse_recorder))]
-    fn step_mut(&mut self, machine: &mut Writer) -> Result<(), AbsorbFault> {
-        machine.absorb(self)
+    #[tactic(auto, using(crate::proofs::Sharing::after_writer_change_taken_in))]
+    fn step_mut(&mut self, machine: &mut Writer) -> Result<Taken, Closed> {
+        machine.take_in(self.recorder, self.most)
     }
 }

@@ -4,10 +4,10 @@ ghost use Rattle.writer_kit.specs.Shared.{IsAt};
 
 use super::*;
 use crate::tests::{counting_from, held};
-use crate::{AbsorbFault, CollectFault, MeasureFault, RecordingFault, Room};
-use agg_kit::TallyFault;
+use crate::{CollectFault, MeasureFault};
 use attr_kit::AttrSet;
 use bumpalo::Bump;
+use recorder_kit::{Recorder, Taken};
 use round_kit::{Round, RoundPayload};
 use std::test::Fail;
 use turn_kit::{Busy, ChangeFault, Look, SplitFault};
@@ -195,20 +195,24 @@ fn a_new_seat_and_a_look_that_wait(rt: HostRuntime) -> Result<(), Fail> {
 }
 
 #[test]
-fn a_full_recorder_is_taken_in(rt: HostRuntime) -> Result<(), Fail> {
+fn a_collection_comes_between_pieces_of_a_log(rt: HostRuntime) -> Result<(), Fail> {
     let alloc = rt.alloc();
     let none = AttrSet::empty(alloc);
-    let mut writer = counting_from(alloc, 100)?;
-    let mut recorder = writer.recorder(alloc)?;
-    assert!(rt; writer.record(&mut recorder, 0, &none, 1) == Ok(Room::Had));
-    let Ok((shared, mut seat)) = SharedWriter::new(alloc, writer, 8) else {
-        return Err("not shared".into());
+    let Served { shared, mut seat } = open(alloc, 100, 5)?;
+    assert!(rt; shared.try_hold(&mut seat, 0, &none) == Ok(0));
+    assert!(rt; shared.hold(&rt, &mut seat, 0, &none) == Ok(1));
+    assert!(rt; shared.measure_held(&rt, &mut seat, 1, 2) == Ok(()));
+    let mut log = Recorder::new(alloc, 2)?;
+    assert!(rt; log.measure_held(0, 1).is_ok() && log.measure(0, &none, 1).is_ok());
+    let told = Taken {
+        recorded: 1,
+        refused: 0,
+        first: None,
     };
-    let made = shared.try_record(&mut seat, &mut recorder, 0, &none, i64::MAX);
-    assert!(rt; made == Ok(Room::Made));
-    assert!(rt; collects(alloc, &shared, &mut seat, 200) == Ok(Some(1)));
-    let refused = shared.record(&rt, &mut seat, &mut recorder, 0, &none, 1);
-    let past = AbsorbFault::Refused(TallyFault::Overflow(0));
-    assert!(rt; refused == Err(RecordingFault::Absorb(ChangeFault::Refused(past))));
+    assert!(rt; shared.try_take_in(&mut seat, &mut log, 1) == Ok(told));
+    assert!(rt; collects(alloc, &shared, &mut seat, 200) == Ok(Some(3)));
+    let exhausted = shared.take_in(&rt, &mut seat, &mut log, 1);
+    assert!(rt; exhausted == Err(ChangeFault::Exhausted) && log.len() == 1);
+    assert!(rt; shared.try_measure_held(&mut seat, 0, 1) == Err(ChangeFault::Exhausted));
     Ok(())
 }

@@ -1,33 +1,28 @@
 //! The calls that ask for the turn until they have it.
-ghost use Rattle.std.specs.Prelude.{◌≡◌, ◌≢◌, false, None, Some, OnOk, OnErr, IfOk, IfErr};
-ghost use Rattle.plan_kit.specs.Plans.{feeds_of};
+ghost use Rattle.std.specs.Prelude.{◌≡◌, length, true, OnErr, IfOk, IfErr};
 ghost use Rattle.agg_kit.specs.Entries.{entry_of};
-ghost use Rattle.agg_kit.specs.Feeds.{IsHeld};
-ghost use Rattle.agg_kit.specs.Recorders.{after_absorb, record_fault_of, recorder_after, tally_in};
-ghost use Rattle.agg_kit.specs.Stamps.{has_noted};
-ghost use Rattle.agg_kit.specs.Taken.{RecordsAlso};
+ghost use Rattle.recorder_kit.specs.Log.{ByName, ByNumber};
 ghost use Rattle.turn_kit.specs.Public.{AtBusy, AtExhausted, AtRefused};
-ghost use Rattle.writer_kit.specs.Room.{recorder_at, recorder_left, RefusesApart, OnApart, OnTaken, AtApart, AtAbsorb, OnFull};
-ghost use Rattle.writer_kit.specs.Shared.{IsAt, IsRound, Accepts, Adds, HasAllMeasured, IsNewest, LooksAt, Sees, IsExhausted, IsRefused, MayRefuseRound, MayRefuseRecorder, Declines, first_of};
-ghost use Rattle.writer_kit.specs.declared.shared.change.WriterChange.TheVariants.{Measured, Collected, Absorbed};
+ghost use Rattle.writer_kit.specs.Shared.{IsAt, IsRound, Accepts, Adds, HasAllMeasured, IsNewest, LooksAt, Sees, StandsForSet};
+ghost use Rattle.writer_kit.specs.Shared.{IsExhausted, IsRefused, MayRefuse, MayRefuseHold, MayRefuseRound};
+ghost use Rattle.writer_kit.specs.Taking.{IsTaken, gone};
+ghost use Rattle.writer_kit.specs.declared.shared.change.WriterChange.TheVariants.{Measured, MeasuredHeld, Held, Collected, TakenIn};
 
 use super::SharedWriter;
-use super::steps::{Collect, Measure};
-use crate::room::{record_apart, record_first};
-use crate::{AbsorbFault, CollectFault, MeasureFault, RecordingFault, Room, Writer};
-use agg_kit::{RecordFault, Recorder};
+use super::steps::{Collect, Hold, Measure, MeasureHeld, TakeIn};
+use crate::{Closed, CollectFault, MeasureFault, Writer};
 use attr_kit::AttrSet;
 use bumpalo::Bump;
+use recorder_kit::{Recorder, Taken};
 use round_kit::Round;
 use std::sync::Wait;
 use turn_kit::{ChangeFault, Look, Seat};
 
 impl SharedWriter {
-    /// Asks for the turn until it is had, and then records a value, as `Writer::measure` does.
+    /// Waits for the turn, and records a value, as `Writer::measure` does. The turn is held for one recording.
     ///
-    /// Refused: `Exhausted`
-    /// where as many changes were accepted as the limit allows; `Refused` with what the writer refuses. Nothing is recorded
-    /// then. It never answers `Busy`. The turn is held for one recording.
+    /// Refuses, in this order: `Exhausted`; `Refused` with what `Writer::measure` refuses. Nothing is recorded then. It
+    /// never answers `Busy`.
     pub fn measure<R: Wait>(
         &self,
         rt: &R,
@@ -42,7 +37,8 @@ impl SharedWriter {
         ensures serves { IfOk result (λ r. Adds self.now (Measured instrument attrs.now value) seat.old seat.new) }
         ensures busy { IfErr result (AtBusy ⊥) }
         ensures exhausted { IfErr result (AtExhausted (IsExhausted self.now seat.old seat.new)) }
-        ensures refused { IfErr result (AtRefused (λ f. IsRefused self.now (Declines instrument attrs.now value f) seat.old seat.new)) }
+        ensures refused { IfErr result (AtRefused (λ f. IsRefused self.now
+            (λ w. MayRefuse w (ByName (entry_of instrument attrs.now value)) f) seat.old seat.new)) }
     {
         self.turn.change(
             rt,
@@ -55,91 +51,85 @@ impl SharedWriter {
         )
     }
 
-    /// Asks for the turn until it is had, and then takes in what a recorder of the writer's plan holds, as `Writer::absorb` does: the
-    /// history has one change more, which is told by the recordings that the recorder had accepted since it was empty. The
-    /// recorder is empty then.
+    /// Waits for the turn, and holds an instrument and a set, as `Writer::hold` does. Each seat may record by the number.
+    /// It is one change, which the limit counts.
     ///
-    /// Refused: `Exhausted` where as many changes were accepted as the limit allows; `Refused` with what the writer refuses.
-    /// Writer and recorder are as they were then. It never answers `Busy`. The turn is held while the recorder's points come in.
-    pub fn absorb<R: Wait>(
+    /// Refuses, in this order: `Exhausted`; `Refused` with what `Writer::hold` refuses. Nothing is held then. It never
+    /// answers `Busy`.
+    pub fn hold<R: Wait>(
+        &self,
+        rt: &R,
+        seat: &mut Seat<Writer>,
+        instrument: usize,
+        attrs: &AttrSet,
+    ) -> Result<usize, ChangeFault<MeasureFault>>
+        requires { IsAt self.now seat.old }
+        ensures seat { IsAt self.now seat.new }
+        ensures ok { IfOk result (λ r. Accepts self.now (Held instrument attrs.now) (λ w. r ≡ length w.tally.held) seat.old seat.new) }
+        ensures serves { IfOk result (λ r. Adds self.now (Held instrument attrs.now) seat.old seat.new) }
+        ensures stands { IfOk result (λ n. StandsForSet self.now n instrument attrs.now seat.new) }
+        ensures busy { IfErr result (AtBusy ⊥) }
+        ensures exhausted { IfErr result (AtExhausted (IsExhausted self.now seat.old seat.new)) }
+        ensures refused { IfErr result (AtRefused (λ f. IsRefused self.now (λ w. MayRefuseHold w instrument f) seat.old seat.new)) }
+    {
+        self.turn.change(rt, seat, Hold { instrument, attrs })
+    }
+
+    /// Waits for the turn, and records a value by a number, as `Writer::measure_held` does. The turn is held for one recording.
+    ///
+    /// Refuses, in this order: `Exhausted`; `Refused` with what `Writer::measure_held` refuses. Nothing is recorded
+    /// then. It never answers `Busy`.
+    pub fn measure_held<R: Wait>(
+        &self,
+        rt: &R,
+        seat: &mut Seat<Writer>,
+        number: usize,
+        value: i64,
+    ) -> Result<(), ChangeFault<MeasureFault>>
+        requires { IsAt self.now seat.old }
+        ensures seat { IsAt self.now seat.new }
+        ensures ok { IfOk result (λ r. Accepts self.now (MeasuredHeld number value) (λ w. Unit {0}) seat.old seat.new) }
+        ensures serves { IfOk result (λ r. Adds self.now (MeasuredHeld number value) seat.old seat.new) }
+        ensures busy { IfErr result (AtBusy ⊥) }
+        ensures exhausted { IfErr result (AtExhausted (IsExhausted self.now seat.old seat.new)) }
+        ensures refused { IfErr result (AtRefused (λ f. IsRefused self.now
+            (λ w. MayRefuse w (ByNumber number value) f) seat.old seat.new)) }
+    {
+        self.turn.change(rt, seat, MeasureHeld { number, value })
+    }
+
+    /// Waits for the turn, and takes in at most `most` recordings of a log, as `Writer::take_in` does. That is one
+    /// change of the history, which has the recordings that are gone from the log. The turn is held while they are
+    /// measured.
+    ///
+    /// Refuses, in this order: `Exhausted`; `Refused` with `Closed`. Writer and log stay as they were then. It never
+    /// answers `Busy`.
+    pub fn take_in<R: Wait>(
         &self,
         rt: &R,
         seat: &mut Seat<Writer>,
         recorder: &mut Recorder,
-    ) -> Result<(), ChangeFault<AbsorbFault>>
-        requires seat { IsAt self.now seat.old }
-        requires plan { recorder.old.plan ≡ (first_of self.now).tally.plan }
+        most: usize,
+    ) -> Result<Taken, ChangeFault<Closed>>
+        requires { IsAt self.now seat.old }
         ensures seat { IsAt self.now seat.new }
-        ensures ok { IfOk result (λ r. Accepts self.now (Absorbed recorder.old) (λ w. Unit {0}) seat.old seat.new) }
-        ensures serves { IfOk result (λ r. Adds self.now (Absorbed recorder.old) seat.old seat.new) }
-        ensures emptied { OnOk result (recorder.new ≡ after_absorb recorder.old) }
+        ensures ok { IfOk result (λ r. Accepts self.now (TakenIn (gone recorder.old recorder.new))
+            (λ w. IsTaken w recorder.old recorder.new most r) seat.old seat.new) }
+        ensures serves { IfOk result (λ r. Adds self.now (TakenIn (gone recorder.old recorder.new)) seat.old seat.new) }
         ensures kept { OnErr result (recorder.new ≡ recorder.old) }
         ensures busy { IfErr result (AtBusy ⊥) }
         ensures exhausted { IfErr result (AtExhausted (IsExhausted self.now seat.old seat.new)) }
-        ensures refused { IfErr result (AtRefused (λ f. IsRefused self.now (λ w. MayRefuseRecorder w recorder.old f) seat.old seat.new)) }
+        ensures refused { IfErr result (AtRefused (λ f. IsRefused self.now (λ w. w.closed ≡ true) seat.old seat.new)) }
     {
-        self.turn.change_mut(rt, seat, recorder)
+        let mut step = TakeIn { recorder, most };
+        self.turn.change_mut(rt, seat, &mut step)
     }
 
-    /// Records a value by a recorder of the writer's plan. Where the recorder is full, asks for the turn until it is had, takes
-    /// in what the recorder holds, as `absorb` does, and records the value by the recorder, which holds nothing else then.
-    /// Answers whether there was room. Rounds have the value once the recorder is taken in again.
+    /// Waits for the turn, and collects, as `Writer::collect` does. The round is placed in the arena while the turn is
+    /// held. To copy it out needs no turn.
     ///
-    /// Refused, in this order: `Recorder` with what `Recorder::measure` refuses, but that it is full; `Absorb` with what `absorb`
-    /// refuses; `Emptied` where the recorder was taken in and refuses the value even so, for want of memory or for a cause that
-    /// is looked for after whether it is full. It is never full then. The value is recorded nowhere, and but for `Emptied`
-    /// nothing is changed. It never answers `Busy`. The turn is held while the recorder's points come in, and not asked for
-    /// where there is room.
-    pub fn record<R: Wait>(
-        &self,
-        rt: &R,
-        seat: &mut Seat<Writer>,
-        recorder: &mut Recorder,
-        instrument: usize,
-        attrs: &AttrSet,
-        value: i64,
-    ) -> Result<Room, RecordingFault<ChangeFault<AbsorbFault>>>
-        requires seat { IsAt self.now seat.old }
-        requires plan { recorder.old.plan ≡ (first_of self.now).tally.plan }
-        ensures seat { IsAt self.now seat.new }
-        ensures plan { recorder.new.plan ≡ (first_of self.now).tally.plan }
-        // By the recorder as it was, or by one that holds nothing.
-        ensures ok { IfOk result (λ room. record_fault_of (recorder_at room recorder.old) (entry_of instrument attrs.now value) ≡ None) }
-        ensures value { IfOk result (λ room.
-            recorder.new ≡ recorder_after (recorder_at room recorder.old) (entry_of instrument attrs.now value)) }
-        ensures recorded { IfOk result (λ room.
-            RecordsAlso (recorder_at room recorder.old) (entry_of instrument attrs.now value) recorder.new) }
-        ensures full { OnFull result (record_fault_of recorder.old (entry_of instrument attrs.now value) ≡ Some RecordFault.Full) }
-        // Where the recorder has room, and where it refuses by itself, the turn is not asked for.
-        ensures apart { OnApart result (seat.new ≡ seat.old) }
-        ensures taken { OnTaken result (Accepts self.now (Absorbed recorder.old) (λ w. Unit {0}) seat.old seat.new) }
-        ensures serves { OnTaken result (Adds self.now (Absorbed recorder.old) seat.old seat.new) }
-        ensures err { IfErr result (RefusesApart recorder.old (entry_of instrument attrs.now value)) }
-        // Points that are there take no memory where every feed keeps all keys and none leads to a gauge or a sum that may fall.
-        ensures held { IsHeld (tally_in recorder.old) (entry_of instrument attrs.now value)
-            → has_noted recorder.old.plan (feeds_of recorder.old.plan instrument) ≡ false
-            → IfErr result (AtApart (λ f. f ≢ RecordFault.NoMemory)) }
-        ensures kept { IfErr result (λ f. recorder.new ≡ recorder_left f recorder.old) }
-        ensures busy { IfErr result (AtAbsorb (AtBusy ⊥)) }
-        ensures exhausted { IfErr result (AtAbsorb (AtExhausted (IsExhausted self.now seat.old seat.new))) }
-        ensures refused { IfErr result (AtAbsorb (AtRefused (λ f.
-            IsRefused self.now (λ w. MayRefuseRecorder w recorder.old f) seat.old seat.new))) }
-    {
-        if record_apart(recorder, instrument, attrs, value).map_err(RecordingFault::Recorder)? {
-            return Ok(Room::Had);
-        }
-        self.absorb(rt, seat, recorder)
-            .map_err(RecordingFault::Absorb)?;
-        record_first(recorder, instrument, attrs, value).map_err(RecordingFault::Emptied)?;
-        Ok(Room::Made)
-    }
-
-    /// Asks for the turn until it is had, and then collects, as `Writer::collect` does: the round is placed in the arena
-    /// while the turn is held. To copy it out needs no turn.
-    ///
-    /// Refused: `Exhausted`
-    /// where as many changes were accepted as the limit allows; `Refused` with what the writer refuses. Nothing is collected
-    /// then. It never answers `Busy`.
+    /// Refuses, in this order: `Exhausted`; `Refused` with what `Writer::collect` refuses. Nothing is collected then.
+    /// It never answers `Busy`.
     pub fn collect<'b, R: Wait>(
         &self,
         rt: &R,
@@ -160,7 +150,7 @@ impl SharedWriter {
         self.turn.change(rt, seat, Collect { arena, time })
     }
 
-    /// Asks for the turn until it is had, and then looks at the writer.
+    /// Waits for the turn, and looks at the writer. A look is no change: the limit does not count it.
     pub fn look<T: Look<Writer>, R: Wait>(
         &self,
         rt: &R,

@@ -24,6 +24,17 @@ impl Handle {
     }
 }
 
+/// What is told of recordings that were taken in from the front of a log. Of none refused `code` is `OK`, and what follows is 0.
+#[repr(C)]
+#[derive(Default)]
+pub struct Taken {
+    pub recorded: usize,
+    pub refused: usize,
+    pub code: i32,
+    pub first: usize,
+    pub place: u64,
+}
+
 pub const OK: i32 = 0;
 pub const NO_MEMORY: i32 = 1;
 pub const NOTHING: i32 = 2;
@@ -31,7 +42,7 @@ pub const WRONG_KIND: i32 = 3;
 pub const FULL: i32 = 4;
 pub const NOT_TEXT: i32 = 5;
 pub const BAD_NUMBER: i32 = 6;
-pub const NO_SET: i32 = 7;
+pub const NO_HELD: i32 = 7;
 pub const NO_ROW: i32 = 8;
 pub const NO_POINT: i32 = 9;
 pub const CLOSED: i32 = 10;
@@ -62,7 +73,6 @@ pub const NOT_CANONICAL: i32 = 63;
 pub const BAD_CHECKSUM: i32 = 64;
 pub const BAD_EXPORT: i32 = 65;
 pub const RECORDER_FULL: i32 = 70;
-pub const OTHER_PLAN: i32 = 71;
 
 unsafe extern "C" {
     pub fn kit_ask_sum(
@@ -182,11 +192,14 @@ unsafe extern "C" {
         value: i64,
         place: *mut u64,
     ) -> i32;
-    pub fn kit_writer_hold(writer: *mut Handle, attributes: *mut Handle, number: *mut usize)
-    -> i32;
-    pub fn kit_writer_measure_held(
+    pub fn kit_writer_hold(
         writer: *mut Handle,
         instrument: usize,
+        attributes: *mut Handle,
+        number: *mut usize,
+    ) -> i32;
+    pub fn kit_writer_measure_held(
+        writer: *mut Handle,
         number: usize,
         value: i64,
         place: *mut u64,
@@ -265,9 +278,14 @@ unsafe extern "C" {
         value: i64,
         place: *mut u64,
     ) -> i32;
-    pub fn kit_seat_measure_held(
+    pub fn kit_seat_hold(
         seat: *mut Handle,
         instrument: usize,
+        attributes: *mut Handle,
+        number: *mut usize,
+    ) -> i32;
+    pub fn kit_seat_measure_held(
+        seat: *mut Handle,
         number: usize,
         value: i64,
         place: *mut u64,
@@ -278,21 +296,28 @@ unsafe extern "C" {
         export: *mut Handle,
         place: *mut u64,
     ) -> i32;
-    pub fn kit_recorder_open(recorder: *mut Handle, writer: *mut Handle) -> i32;
+    pub fn kit_seat_take_in(
+        seat: *mut Handle,
+        recorder: *mut Handle,
+        most: usize,
+        taken: *mut Taken,
+    ) -> i32;
+    pub fn kit_recorder_new(recorder: *mut Handle, capacity: usize) -> i32;
     pub fn kit_recorder_measure(
         recorder: *mut Handle,
         instrument: usize,
         attributes: *mut Handle,
         value: i64,
     ) -> i32;
-    pub fn kit_recorder_measure_held(
+    pub fn kit_recorder_measure_held(recorder: *mut Handle, number: usize, value: i64) -> i32;
+    pub fn kit_recorder_len(recorder: *mut Handle, count: *mut usize) -> i32;
+    pub fn kit_recorder_clear(recorder: *mut Handle) -> i32;
+    pub fn kit_writer_take_in(
+        writer: *mut Handle,
         recorder: *mut Handle,
-        instrument: usize,
-        number: usize,
-        value: i64,
+        most: usize,
+        taken: *mut Taken,
     ) -> i32;
-    pub fn kit_recorder_is_empty(recorder: *mut Handle, empty: *mut bool) -> i32;
-    pub fn kit_writer_absorb(writer: *mut Handle, recorder: *mut Handle, place: *mut u64) -> i32;
     pub fn kit_export_encode(export: *mut Handle, bytes: *mut Handle) -> i32;
     pub fn kit_export_decode(
         export: *mut Handle,

@@ -8,14 +8,16 @@ use std::fmt;
 pub enum Error {
     /// Memory was refused.
     NoMemory,
-    /// The writer holds no set of this number.
-    NoSet,
+    /// The writer holds nothing under this number.
+    NoHeld,
     /// There is no row of this number.
     NoRow,
     /// There is no point of what is asked for.
     NoPoint,
     /// A total is wider than the number that it is to be told in.
     TooWide,
+    /// The value is above 2^63 - 1, the greatest that the kit records.
+    ValueTooWide { value: u64 },
     /// There is no bucket of this number.
     NoBucket,
     /// The message goes to another id.
@@ -38,10 +40,8 @@ pub enum Error {
     Exhausted,
     /// The writer that is shared gave 4,096 seats.
     SeatsFull,
-    /// The recorder may not hold this by itself: a writer takes in what it holds first, or the recording itself.
+    /// The recorder has as many recordings as it may: a writer takes them in first. Or the number is 2^32 or more.
     RecorderFull,
-    /// The recorder is of another plan than the writer.
-    OtherPlan,
     /// The key of this pair is empty.
     EmptyKey { pair: u64 },
     /// The name of this instrument breaks the rule of names.
@@ -74,16 +74,18 @@ pub enum Error {
     BadChecksum { at: u64 },
     /// The values of the bytes make no export, or a point of a message is none that an export brings.
     BadExport,
+    /// The instrument's meter has not started, or its start was refused.
+    NotStarted,
     /// A code that these types make impossible: `NOTHING`, `WRONG_KIND`, `FULL`, `BAD_NUMBER`, or none of the kit's.
     Unexpected(i32),
 }
 
 /// The refusal of a code, with the places that it carries.
 #[cold]
-fn refusal(code: i32, place: u64, second: u64) -> Error {
+pub(crate) fn refusal(code: i32, place: u64, second: u64) -> Error {
     match code {
         sys::NO_MEMORY => Error::NoMemory,
-        sys::NO_SET => Error::NoSet,
+        sys::NO_HELD => Error::NoHeld,
         sys::NO_ROW => Error::NoRow,
         sys::NO_POINT => Error::NoPoint,
         sys::TOO_WIDE => Error::TooWide,
@@ -99,7 +101,6 @@ fn refusal(code: i32, place: u64, second: u64) -> Error {
         sys::EXHAUSTED => Error::Exhausted,
         sys::SEATS_FULL => Error::SeatsFull,
         sys::RECORDER_FULL => Error::RecorderFull,
-        sys::OTHER_PLAN => Error::OtherPlan,
         sys::EMPTY_KEY => Error::EmptyKey { pair: place },
         sys::BAD_NAME => Error::BadName { instrument: place },
         sys::BAD_UNIT => Error::BadUnit { instrument: place },
@@ -152,10 +153,14 @@ impl fmt::Display for Error {
     fn fmt(&self, f: &mut fmt::Formatter<'_>) -> fmt::Result {
         match self {
             Error::NoMemory => write!(f, "no memory"),
-            Error::NoSet => write!(f, "the writer holds no set of this number"),
+            Error::NoHeld => write!(f, "the writer holds nothing under this number"),
             Error::NoRow => write!(f, "there is no row of this number"),
             Error::NoPoint => write!(f, "there is no point of what is asked for"),
             Error::TooWide => write!(f, "the total is wider than the number that tells it"),
+            Error::ValueTooWide { value } => write!(
+                f,
+                "the value {value} is above 2^63 - 1, the greatest that is recorded"
+            ),
             Error::NoBucket => write!(f, "there is no bucket of this number"),
             Error::NotAddressed => write!(f, "the message goes to another id"),
             Error::Closed => write!(f, "the writer is closed"),
@@ -175,7 +180,6 @@ impl fmt::Display for Error {
             Error::Exhausted => write!(f, "the writer accepted as many changes as it may"),
             Error::SeatsFull => write!(f, "the writer gave as many seats as it may"),
             Error::RecorderFull => write!(f, "the recorder is full"),
-            Error::OtherPlan => write!(f, "the recorder is of another plan than the writer"),
             Error::EmptyKey { pair } => write!(f, "the key of pair {pair} is empty"),
             Error::BadName { instrument } => write!(
                 f,
@@ -215,6 +219,7 @@ impl fmt::Display for Error {
                 )
             }
             Error::BadExport => write!(f, "the values make no export"),
+            Error::NotStarted => write!(f, "the meter has not started, or was refused"),
             Error::Unexpected(code) => write!(f, "unexpected code {code}"),
         }
     }

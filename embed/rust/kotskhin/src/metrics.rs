@@ -3,7 +3,9 @@
 //! Three things are other than there. Instruments are declared in one place, before the first recording, since a plan is fixed
 //! when its writer starts. `add` and `record` answer a `Result`: nothing is dropped or wrapped in silence. Values are whole
 //! numbers. Attributes are made once and held: to make them anew for each recording costs several times as much.
-use crate::{Attributes, DEFAULT_LIMIT, Error, Export, Instruments, Kind, Plan, SetNumber, Writer};
+use crate::{
+    Attributes, DEFAULT_LIMIT, Error, Export, HeldNumber, Instruments, Kind, Plan, Writer,
+};
 use std::sync::{Arc, Mutex, MutexGuard, OnceLock, PoisonError};
 
 mod reader;
@@ -13,13 +15,11 @@ pub use reader::{DEFAULT_INTERVAL, ExportError, PeriodicReader, PushExporter, Re
 struct Shared(OnceLock<Mutex<Writer>>);
 
 impl Shared {
-    // No panic can leave the writer half changed, so a lock that one has poisoned is as good as before.
-    fn writer(&self) -> MutexGuard<'_, Writer> {
-        let writer = self
-            .0
-            .get()
-            .expect("`Meter::start` hands out no instrument before the writer");
-        writer.lock().unwrap_or_else(PoisonError::into_inner)
+    // An instrument has none yet while it is declared, and none ever where its meter was refused. No panic can leave the writer half
+    // changed, so a lock that one has poisoned is as good as before.
+    fn writer(&self) -> Result<MutexGuard<'_, Writer>, Error> {
+        let writer = self.0.get().ok_or(Error::NotStarted)?;
+        Ok(writer.lock().unwrap_or_else(PoisonError::into_inner))
     }
 }
 
@@ -64,21 +64,23 @@ struct Instrument {
 
 impl Instrument {
     fn measure(&self, value: i64, attributes: &Attributes) -> Result<(), Error> {
-        self.shared.writer().measure(self.number, attributes, value)
+        self.shared
+            .writer()?
+            .measure(self.number, attributes, value)
     }
 
-    fn measure_held(&self, value: i64, set: SetNumber) -> Result<(), Error> {
-        self.shared.writer().measure_held(self.number, set, value)
+    fn measure_held(&self, value: i64, number: HeldNumber) -> Result<(), Error> {
+        self.shared.writer()?.measure_held(number, value)
     }
 
-    fn hold(&self, attributes: &Attributes) -> Result<SetNumber, Error> {
-        self.shared.writer().hold(attributes)
+    fn hold(&self, attributes: &Attributes) -> Result<HeldNumber, Error> {
+        self.shared.writer()?.hold(self.number, attributes)
     }
 }
 
-/// A value that the kit's whole numbers have no room for is refused as one that would leave the total's range.
+/// A value as the kit's whole numbers have it.
 fn whole(value: u64) -> Result<i64, Error> {
-    i64::try_from(value).map_err(|_| Error::TooWide)
+    i64::try_from(value).map_err(|_| Error::ValueTooWide { value })
 }
 
 /// Increments of at least 0.
@@ -86,19 +88,20 @@ fn whole(value: u64) -> Result<i64, Error> {
 pub struct Counter(Instrument);
 
 impl Counter {
+    /// Refused: `ValueTooWide`, `NotStarted`, and as [`Writer::measure`] is.
     pub fn add(&self, value: u64, attributes: &Attributes) -> Result<(), Error> {
         self.0.measure(whole(value)?, attributes)
     }
 
-    /// The counter at one set, for any thread and for as long as the meter.
+    /// The counter at one set, for any thread and for as long as the meter. The same set again is the same counter: nothing grows.
     pub fn with(&self, attributes: &Attributes) -> Result<BoundCounter, Error> {
         Ok(BoundCounter(self.0.clone(), self.0.hold(attributes)?))
     }
 }
 
-/// A counter at one set of attributes: from the second value on, recording hashes and compares no set.
+/// A counter at one set of attributes: recording looks no set up.
 #[derive(Clone)]
-pub struct BoundCounter(Instrument, SetNumber);
+pub struct BoundCounter(Instrument, HeldNumber);
 
 impl BoundCounter {
     pub fn add(&self, value: u64) -> Result<(), Error> {
@@ -123,7 +126,7 @@ impl UpDownCounter {
 
 /// An up-down counter at one set of attributes.
 #[derive(Clone)]
-pub struct BoundUpDownCounter(Instrument, SetNumber);
+pub struct BoundUpDownCounter(Instrument, HeldNumber);
 
 impl BoundUpDownCounter {
     pub fn add(&self, value: i64) -> Result<(), Error> {
@@ -148,7 +151,7 @@ impl Gauge {
 
 /// A gauge at one set of attributes.
 #[derive(Clone)]
-pub struct BoundGauge(Instrument, SetNumber);
+pub struct BoundGauge(Instrument, HeldNumber);
 
 impl BoundGauge {
     pub fn record(&self, value: i64) -> Result<(), Error> {
@@ -161,6 +164,7 @@ impl BoundGauge {
 pub struct Histogram(Instrument);
 
 impl Histogram {
+    /// Refused as `Counter::add` is.
     pub fn record(&self, value: u64, attributes: &Attributes) -> Result<(), Error> {
         self.0.measure(whole(value)?, attributes)
     }
@@ -173,7 +177,7 @@ impl Histogram {
 
 /// A histogram at one set of attributes.
 #[derive(Clone)]
-pub struct BoundHistogram(Instrument, SetNumber);
+pub struct BoundHistogram(Instrument, HeldNumber);
 
 impl BoundHistogram {
     pub fn record(&self, value: u64) -> Result<(), Error> {
@@ -188,7 +192,9 @@ pub struct Meter {
 }
 
 impl Meter {
-    /// A meter of a service's instance, and the instruments that `declare` makes. Refused as `Plan::build` is.
+    /// A meter of a service's instance, and the instruments that `declare` makes: they record from then on, and answer `NotStarted`
+    /// before. Of two meters that share service, instance and start a gateway keeps one alone: without an instance of your own take
+    /// [`unique_instance`](crate::unique_instance). Refused as `Plan::build` is.
     pub fn start<T>(
         service: &str,
         instance: u128,
@@ -211,11 +217,11 @@ impl Meter {
 
     /// All that was recorded so far: for a host that brings exports by itself. A [`PeriodicReader`] does both on a thread of its own.
     pub fn collect(&self, time: u64) -> Result<Export, Error> {
-        self.shared.writer().collect(time)
+        self.shared.writer()?.collect(time)
     }
 
     /// The same for the last time: from now on recordings are refused as `Closed`.
     pub fn shutdown(&self, time: u64) -> Result<Export, Error> {
-        self.shared.writer().shutdown(time)
+        self.shared.writer()?.shutdown(time)
     }
 }

@@ -1,22 +1,55 @@
-//! Recorders: threads record each by itself, and a writer takes them in.
+//! Recorders: threads note recordings each by itself, and a writer takes them in.
 use crate::attributes::Attributes;
-use crate::error::{Error, checked};
+use crate::error::{Error, checked, refusal};
 use crate::handle::Handle;
-use crate::writer::SetNumber;
-use kotskhin_sys::{kit_recorder_is_empty, kit_recorder_measure, kit_recorder_measure_held};
+use crate::writer::HeldNumber;
+use kotskhin_sys::{
+    self as sys, kit_recorder_clear, kit_recorder_len, kit_recorder_measure,
+    kit_recorder_measure_held, kit_recorder_new,
+};
 
-/// A thread's own recorder of a writer's plan: it meets no other thread, and [`Writer::absorb`] takes in
-/// what it holds, as if each of its recordings had been made there.
+/// What became of recordings that a writer took in from the front of a recorder. Where memory is wanting it stops: that recording and
+/// those behind it stay in the recorder.
+#[derive(Clone, Copy, Debug, PartialEq, Eq)]
+pub struct Taken {
+    /// How many were recorded.
+    pub recorded: usize,
+    /// How many were refused, each by itself.
+    pub refused: usize,
+    /// Of these the first: its place among those that were taken in, from 0, and why it was refused.
+    pub first: Option<(usize, Error)>,
+}
+
+impl From<sys::Taken> for Taken {
+    fn from(told: sys::Taken) -> Taken {
+        let is_refused = told.code != sys::OK;
+        Taken {
+            recorded: told.recorded,
+            refused: told.refused,
+            first: is_refused.then(|| (told.first, refusal(told.code, told.place, 0))),
+        }
+    }
+}
+
+/// A thread's own log of recordings, up to a capacity: it meets no other thread, and [`Writer::take_in`] or [`Seat::take_in`] records
+/// what it has. It is of no plan: an instrument that is not there, or a value below 0 of a counter, is refused once it is taken in.
 ///
-/// It refuses by `RecorderFull` what it may not hold by itself: have a writer absorb it, and record again. What it refuses so while it is
-/// empty is for [`Writer::measure`]. One that is dropped loses what it holds.
+/// One that is dropped loses what it has.
 ///
-/// [`Writer::absorb`]: crate::Writer::absorb
-/// [`Writer::measure`]: crate::Writer::measure
+/// [`Writer::take_in`]: crate::Writer::take_in
+/// [`Seat::take_in`]: crate::Seat::take_in
 pub struct Recorder(pub(crate) Handle);
 
 impl Recorder {
-    /// Records a value. Refused: `RecorderFull`, `NoInstrument`, `Negative`, `NoMemory`.
+    /// An empty log for so many recordings, 16 bytes each. Refused: `NoMemory`.
+    pub fn new(capacity: usize) -> Result<Recorder, Error> {
+        let mut recorder = Handle::empty();
+        // SAFETY: the recorder is ours alone.
+        checked(unsafe { kit_recorder_new(recorder.change(), capacity) })?;
+        Ok(Recorder(recorder))
+    }
+
+    /// Notes a value. Refused: `RecorderFull`, `NoMemory`.
     #[inline]
     pub fn measure(
         &mut self,
@@ -30,24 +63,29 @@ impl Recorder {
         })
     }
 
-    /// Records a value at a set that the writer held when the recorder was opened: the shortest way for threads. Refused: `NoSet`, and
-    /// as `measure` is.
+    /// Notes a value at what the writer that will take it in holds under a number: the shortest way for threads. Refused: `RecorderFull`.
     #[inline]
-    pub fn measure_held(
-        &mut self,
-        instrument: usize,
-        set: SetNumber,
-        value: i64,
-    ) -> Result<(), Error> {
+    pub fn measure_held(&mut self, number: HeldNumber, value: i64) -> Result<(), Error> {
         // SAFETY: the recorder is ours alone.
-        checked(unsafe { kit_recorder_measure_held(self.0.change(), instrument, set.0, value) })
+        checked(unsafe { kit_recorder_measure_held(self.0.change(), number.0, value) })
     }
 
-    /// Whether it holds no recordings.
-    pub fn is_empty(&self) -> Result<bool, Error> {
-        let mut empty = false;
+    /// How many recordings it has.
+    pub fn len(&self) -> Result<usize, Error> {
+        let mut count = 0;
         // SAFETY: the recorder stays on this thread.
-        checked(unsafe { kit_recorder_is_empty(self.0.read(), &mut empty) })?;
-        Ok(empty)
+        checked(unsafe { kit_recorder_len(self.0.read(), &mut count) })?;
+        Ok(count)
+    }
+
+    /// Whether it has none.
+    pub fn is_empty(&self) -> Result<bool, Error> {
+        Ok(self.len()? == 0)
+    }
+
+    /// Forgets what it has.
+    pub fn clear(&mut self) -> Result<(), Error> {
+        // SAFETY: the recorder is ours alone.
+        checked(unsafe { kit_recorder_clear(self.0.change()) })
     }
 }

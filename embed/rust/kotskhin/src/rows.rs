@@ -85,7 +85,10 @@ impl Rows {
             })?;
             if len <= bytes.len() {
                 bytes.truncate(len);
-                return Ok(String::from_utf8(bytes).expect("the library's texts are UTF-8"));
+                // (the library's texts are UTF-8)
+                return String::from_utf8(bytes).map_err(|fault| Error::NotText {
+                    at: fault.utf8_error().valid_up_to() as u64,
+                });
             }
             bytes.resize(len, 0);
         }

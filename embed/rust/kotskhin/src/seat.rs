@@ -3,8 +3,12 @@ use crate::attributes::Attributes;
 use crate::error::{Error, checked, checked_at};
 use crate::export::Export;
 use crate::handle::Handle;
-use crate::writer::SetNumber;
-use kotskhin_sys::{kit_seat_collect, kit_seat_measure, kit_seat_measure_held, kit_seat_split};
+use crate::recorder::{Recorder, Taken};
+use crate::writer::HeldNumber;
+use kotskhin_sys::{
+    kit_seat_collect, kit_seat_hold, kit_seat_measure, kit_seat_measure_held, kit_seat_split,
+    kit_seat_take_in,
+};
 
 /// A place at a writer that threads share: each thread has its own, and it can't be used at another writer.
 ///
@@ -43,19 +47,45 @@ impl Seat {
         checked_at(code, place)
     }
 
-    /// Records a value at a set that the writer held when it was shared. Refused: `NoSet`, and as `measure` is.
-    #[inline]
-    pub fn measure_held(
+    /// Holds an instrument and a set, and answers their number, which any seat of the writer may use. A pair that this seat knows is
+    /// found without the writer; another is held anew, where no other seat holds it. Refused: `NoMemory`, `Busy`, `Exhausted`, `Closed`,
+    /// `NoInstrument`.
+    pub fn hold(
         &mut self,
         instrument: usize,
-        set: SetNumber,
-        value: i64,
-    ) -> Result<(), Error> {
+        attributes: &Attributes,
+    ) -> Result<HeldNumber, Error> {
+        let mut number = 0;
+        // SAFETY: as above.
+        checked(unsafe {
+            kit_seat_hold(
+                self.0.change(),
+                instrument,
+                attributes.0.read(),
+                &mut number,
+            )
+        })?;
+        Ok(HeldNumber(number))
+    }
+
+    /// Records a value at what the writer holds under a number. Refused: `Busy`, `Exhausted`, and as `Writer::measure_held` is.
+    #[inline]
+    pub fn measure_held(&mut self, number: HeldNumber, value: i64) -> Result<(), Error> {
         let mut place = 0;
         // SAFETY: the seat is ours alone.
-        let code =
-            unsafe { kit_seat_measure_held(self.0.change(), instrument, set.0, value, &mut place) };
+        let code = unsafe { kit_seat_measure_held(self.0.change(), number.0, value, &mut place) };
         checked_at(code, place)
+    }
+
+    /// Takes in a recorder, as `Writer::take_in` does: by pieces others get in between. Refused, and both stay as they were: `Busy`,
+    /// `Exhausted`, `Closed`.
+    pub fn take_in(&mut self, recorder: &mut Recorder, most: usize) -> Result<Taken, Error> {
+        let mut taken = kotskhin_sys::Taken::default();
+        // SAFETY: both handles are ours alone, and they are two.
+        checked(unsafe {
+            kit_seat_take_in(self.0.change(), recorder.0.change(), most, &mut taken)
+        })?;
+        Ok(Taken::from(taken))
     }
 
     /// The points since the start: all that any seat recorded before. Refused: `Busy`, `Exhausted`, `TimeNotAfter`, `NoMemory`.

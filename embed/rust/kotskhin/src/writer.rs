@@ -4,24 +4,34 @@ use crate::error::{Error, checked, checked_at};
 use crate::export::Export;
 use crate::handle::Handle;
 use crate::plan::Plan;
-use crate::recorder::Recorder;
+use crate::recorder::{Recorder, Taken};
 use crate::seat::Seat;
 use kotskhin_sys::{
-    kit_recorder_open, kit_writer_absorb, kit_writer_collect, kit_writer_hold, kit_writer_measure,
-    kit_writer_measure_held, kit_writer_restart, kit_writer_share, kit_writer_shutdown,
-    kit_writer_start,
+    kit_writer_collect, kit_writer_hold, kit_writer_measure, kit_writer_measure_held,
+    kit_writer_restart, kit_writer_share, kit_writer_shutdown, kit_writer_start,
+    kit_writer_take_in,
 };
+use std::fs::File;
+use std::io::{self, Read};
 
-/// The number of a set that a writer holds. At another writer it is that of another set, or of none.
-#[derive(Clone, Copy, Debug, PartialEq, Eq)]
-pub struct SetNumber(pub(crate) usize);
+/// The number of an instrument and a set that a writer holds. At another writer it is that of another pair, or of none.
+#[derive(Clone, Copy, Debug, PartialEq, Eq, Hash)]
+pub struct HeldNumber(pub(crate) usize);
 
-/// The points of a plan's instruments since a start. One thread at a time has it: give threads recorders that it absorbs, share it by
+/// An instance that is drawn anew at each call, so that no two processes share it. Refused as reading `/dev/urandom` is.
+pub fn unique_instance() -> io::Result<u128> {
+    let mut drawn = [0; 16];
+    File::open("/dev/urandom")?.read_exact(&mut drawn)?;
+    Ok(u128::from_ne_bytes(drawn))
+}
+
+/// The points of a plan's instruments since a start. One thread at a time has it: give threads recorders that it takes in, share it by
 /// seats or by a `Mutex`, or give each thread a writer of its own, under another instance.
 pub struct Writer(Handle);
 
 impl Writer {
-    /// A writer of a service's instance, which counts from `start` on. Refused: `NoMemory`.
+    /// A writer of a service's instance, which counts from `start` on. Of two writers that share service, instance and start a gateway
+    /// keeps one alone: without an instance of your own take [`unique_instance`]. Refused: `NoMemory`.
     pub fn start(plan: &Plan, service: &str, instance: u128, start: u64) -> Result<Writer, Error> {
         let mut writer = Handle::empty();
         // SAFETY: the writer is ours alone, and the plan stays on this thread; they are two.
@@ -61,49 +71,49 @@ impl Writer {
         checked_at(code, place)
     }
 
-    /// Holds a copy of a set as long as the writer is, and answers its number. Refused: `NoMemory`.
-    pub fn hold(&mut self, attributes: &Attributes) -> Result<SetNumber, Error> {
-        let mut number = 0;
-        // SAFETY: as above.
-        checked(unsafe { kit_writer_hold(self.0.change(), attributes.0.read(), &mut number) })?;
-        Ok(SetNumber(number))
-    }
-
-    /// Records a value at a set that the writer holds: the shortest way. Refused: `NoSet`, and as `measure` is.
-    #[inline]
-    pub fn measure_held(
+    /// Holds an instrument and a set as long as the writer is, and answers their number, which restarts keep. Of a pair that is held
+    /// already it is the number that it has: nothing grows. Refused: `Closed`, `NoInstrument`, `NoMemory`.
+    pub fn hold(
         &mut self,
         instrument: usize,
-        set: SetNumber,
-        value: i64,
-    ) -> Result<(), Error> {
+        attributes: &Attributes,
+    ) -> Result<HeldNumber, Error> {
+        let mut number = 0;
+        // SAFETY: as above.
+        checked(unsafe {
+            kit_writer_hold(
+                self.0.change(),
+                instrument,
+                attributes.0.read(),
+                &mut number,
+            )
+        })?;
+        Ok(HeldNumber(number))
+    }
+
+    /// Records a value at what the writer holds under a number: the shortest way. Refused: `Closed`, `NoHeld`, `Negative`, `Overflow`,
+    /// `NoMemory`.
+    #[inline]
+    pub fn measure_held(&mut self, number: HeldNumber, value: i64) -> Result<(), Error> {
         let mut place = 0;
         // SAFETY: the writer is ours alone.
-        let code = unsafe {
-            kit_writer_measure_held(self.0.change(), instrument, set.0, value, &mut place)
-        };
+        let code = unsafe { kit_writer_measure_held(self.0.change(), number.0, value, &mut place) };
         checked_at(code, place)
     }
 
-    /// A recorder of the writer's plan, for one thread, with the sets that the writer holds: it has recorded nothing. Refused: `NoMemory`.
-    pub fn recorder(&self) -> Result<Recorder, Error> {
-        let mut recorder = Handle::empty();
-        // SAFETY: the recorder is ours alone, and the writer stays on this thread; they are two.
-        checked(unsafe { kit_recorder_open(recorder.change(), self.0.read()) })?;
-        Ok(Recorder(recorder))
-    }
-
-    /// Takes in what a recorder holds, as if each of its recordings had been made here. The recorder holds nothing then, and goes on.
-    /// Refused, and both stay as they were: `OtherPlan`, `Closed`, `Overflow`, `NoMemory`.
-    pub fn absorb(&mut self, recorder: &mut Recorder) -> Result<(), Error> {
-        let mut place = 0;
+    /// Takes in at most `most` recordings from the front of a recorder, one after the other, as if each was made now; `usize::MAX` takes
+    /// all. Refused, and both stay as they were: `Closed`.
+    pub fn take_in(&mut self, recorder: &mut Recorder, most: usize) -> Result<Taken, Error> {
+        let mut taken = kotskhin_sys::Taken::default();
         // SAFETY: both handles are ours alone, and they are two.
-        let code = unsafe { kit_writer_absorb(self.0.change(), recorder.0.change(), &mut place) };
-        checked_at(code, place)
+        checked(unsafe {
+            kit_writer_take_in(self.0.change(), recorder.0.change(), most, &mut taken)
+        })?;
+        Ok(Taken::from(taken))
     }
 
-    /// Shares the writer: the first seat at it. The seats hold the sets that it held, by the same numbers. Refused, with the writer
-    /// handed back: `NoMemory`.
+    /// Shares the writer: the first seat at it. What it held the seats hold, under the same numbers. Refused, with the writer handed
+    /// back: `NoMemory`.
     pub fn share(mut self) -> Result<Seat, (Writer, Error)> {
         // SAFETY: the writer is ours alone.
         match checked(unsafe { kit_writer_share(self.0.change()) }) {

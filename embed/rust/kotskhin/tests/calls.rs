@@ -3,7 +3,7 @@
 use kotskhin::metrics::{Counter, Meter};
 use kotskhin::{
     Aggregation, Ask, AttributeValue, Attributes, DEFAULT_LIMIT, Envelope, Error, Export, Gateway,
-    Instruments, Kind, Message, Node, Plan, Recorder, Seat, View, Views, Writer,
+    Instruments, Kind, Message, Node, Plan, Recorder, Seat, Taken, View, Views, Writer,
 };
 use std::sync::Mutex;
 use std::thread;
@@ -110,9 +110,10 @@ fn attributes_are_sets_and_writers_hold_them() -> Result<(), Error> {
         ("status", AttributeValue::Whole(200)),
         ("route", AttributeValue::Text("/")),
     ])?;
-    let held = writer.hold(&same)?;
+    let held = writer.hold(0, &same)?;
+    assert_eq!(writer.hold(0, &one), Ok(held));
     writer.measure(0, &one, 3)?;
-    writer.measure_held(0, held, 4)?;
+    writer.measure_held(held, 4)?;
     let mut gateway = Gateway::open(1)?;
     gateway.take(&writer.collect(200)?)?;
     let table = gateway.table(&requests()?)?;
@@ -330,7 +331,7 @@ fn until_free<T>(
 #[test]
 fn threads_have_seats_at_one_writer() -> Result<(), Error> {
     let mut held = writer(1)?;
-    let set = held.hold(&Attributes::none()?)?;
+    let set = held.hold(0, &Attributes::none()?)?;
     let mut first = held.share().map_err(|(_, error)| error)?;
     let seats = (0..4)
         .map(|_| first.split())
@@ -340,7 +341,7 @@ fn threads_have_seats_at_one_writer() -> Result<(), Error> {
         .map(|mut seat| {
             thread::spawn(move || -> Result<(), Error> {
                 for _ in 0..1000 {
-                    until_free(&mut seat, |it| it.measure_held(0, set, 1))?;
+                    until_free(&mut seat, |it| it.measure_held(set, 1))?;
                 }
                 until_free(&mut seat, |it| it.measure(0, &Attributes::none()?, 1))
             })
@@ -349,9 +350,23 @@ fn threads_have_seats_at_one_writer() -> Result<(), Error> {
     for hand in hands {
         hand.join().expect("it ends")?;
     }
+    assert_eq!(first.hold(0, &Attributes::none()?), Ok(set));
+    let later = first.hold(0, &Attributes::new([("key", "value")])?)?;
+    assert_ne!(later, set);
+    let (mut second, mut recorder) = (first.split()?, Recorder::new(2)?);
+    second.measure_held(later, 1)?;
+    recorder.measure_held(later, 1)?;
+    recorder.measure_held(later, -1)?;
+    let taken = Taken {
+        recorded: 1,
+        refused: 1,
+        first: Some((1, Error::Negative)),
+    };
+    assert_eq!(second.take_in(&mut recorder, usize::MAX), Ok(taken));
     let mut gateway = Gateway::open(1)?;
     gateway.take(&first.collect(200)?)?;
-    assert_eq!(gateway.rows(&requests()?)?.sum(0), Ok(4004));
+    let rows = gateway.rows(&requests()?)?;
+    assert_eq!((rows.sum(0), rows.sum(1)), (Ok(4004), Ok(2)));
     assert_eq!(
         first.measure(1, &Attributes::none()?, 1),
         Err(Error::NoInstrument)
@@ -363,23 +378,22 @@ fn threads_have_seats_at_one_writer() -> Result<(), Error> {
     Ok(())
 }
 
-// Records by a recorder, which the writer takes in where it is full; what an empty one has no room for the writer records.
+// Notes in a recorder, which the writer takes in where it is full.
 fn record(
     writer: &Mutex<Writer>,
     recorder: &mut Recorder,
     set: &Attributes,
     value: i64,
 ) -> Result<(), Error> {
-    match recorder.measure(0, set, value) {
-        Err(Error::RecorderFull) => {}
-        told => return told,
+    if let Err(Error::RecorderFull) = recorder.measure(0, set, value) {
+        let taken = writer
+            .lock()
+            .expect("no call panics")
+            .take_in(recorder, usize::MAX)?;
+        assert_eq!((taken.refused, taken.first), (0, None));
+        return recorder.measure(0, set, value);
     }
-    let mut writer = writer.lock().expect("no call panics");
-    writer.absorb(recorder)?;
-    match recorder.measure(0, set, value) {
-        Err(Error::RecorderFull) => writer.measure(0, set, value),
-        told => told,
-    }
+    Ok(())
 }
 
 #[test]
@@ -391,18 +405,16 @@ fn threads_have_recorders_of_one_writer() -> Result<(), Error> {
     thread::scope(|scope| -> Result<(), Error> {
         let mut hands = Vec::new();
         for _ in 0..4 {
-            let mut recorder = writer.lock().expect("no call panics").recorder()?;
-            let writer = &writer;
+            let (writer, mut recorder) = (&writer, Recorder::new(64)?);
             hands.push(scope.spawn(move || -> Result<(), Error> {
                 for number in 0..1000_i64 {
                     let set = Attributes::new([("number", number % 3)])?;
                     record(writer, &mut recorder, &set, 1)?;
                 }
-                writer
-                    .lock()
-                    .expect("no call panics")
-                    .absorb(&mut recorder)?;
-                assert_eq!(recorder.is_empty(), Ok(true));
+                let mut writer = writer.lock().expect("no call panics");
+                while !recorder.is_empty()? {
+                    writer.take_in(&mut recorder, 10)?;
+                }
                 Ok(())
             }));
         }
@@ -421,44 +433,66 @@ fn threads_have_recorders_of_one_writer() -> Result<(), Error> {
 }
 
 #[test]
-fn recorders_are_refused_and_change_nothing() -> Result<(), Error> {
+fn what_a_recorder_has_is_taken_in_one_by_one() -> Result<(), Error> {
     let (mut writer, none) = (writer(1)?, Attributes::none()?);
-    let set = writer.hold(&none)?;
-    let mut recorder = writer.recorder()?;
-    let later = writer.hold(&Attributes::new([("key", "value")])?)?;
-    assert_eq!(recorder.is_empty(), Ok(true));
-    recorder.measure_held(0, set, 3)?;
+    let (number, mut recorder) = (writer.hold(0, &none)?, Recorder::new(5)?);
+    recorder.measure_held(number, 3)?;
+    recorder.measure(0, &none, -1)?;
+    recorder.measure(1, &none, 1)?;
+    recorder.measure_held(number, i64::MAX)?;
     recorder.measure(0, &none, 4)?;
-    assert_eq!(recorder.measure(0, &none, -1), Err(Error::Negative));
-    assert_eq!(recorder.measure(1, &none, 1), Err(Error::NoInstrument));
-    assert_eq!(recorder.measure_held(0, later, 1), Err(Error::NoSet));
+    assert_eq!(recorder.measure_held(number, 1), Err(Error::RecorderFull));
+    assert_eq!(recorder.measure(0, &none, 1), Err(Error::RecorderFull));
+    let taken = |recorded, refused, first| {
+        Ok(Taken {
+            recorded,
+            refused,
+            first,
+        })
+    };
+    assert_eq!(writer.take_in(&mut recorder, 1), taken(1, 0, None));
+    assert_eq!(recorder.len(), Ok(4));
+    let first = Some((0, Error::Negative));
+    assert_eq!(writer.take_in(&mut recorder, 2), taken(0, 2, first));
+    let first = Some((0, Error::Overflow { stream: 0 }));
     assert_eq!(
-        recorder.measure(0, &none, i64::MAX),
-        Err(Error::RecorderFull)
+        writer.take_in(&mut recorder, usize::MAX),
+        taken(1, 1, first)
     );
-    let mut instruments = Instruments::new();
-    instruments.add("app", "requests", "1", Kind::UpDown)?;
-    let falling = Plan::build(&instruments, DEFAULT_LIMIT)?;
-    let mut other = Writer::start(&falling, "shop", 2, 100)?;
-    assert_eq!(other.absorb(&mut recorder), Err(Error::OtherPlan));
-    let mut falling = other.recorder()?;
-    falling.measure(0, &none, -1)?;
-    other.absorb(&mut falling)?;
-    assert_eq!(
-        other.measure(0, &none, i64::MIN),
-        Err(Error::Overflow { stream: 0 })
-    );
-    writer.absorb(&mut recorder)?;
-    recorder.measure(0, &none, i64::MAX)?;
-    assert_eq!(
-        writer.absorb(&mut recorder),
-        Err(Error::Overflow { stream: 0 })
-    );
+    assert_eq!(recorder.is_empty(), Ok(true));
+    recorder.measure(0, &none, 1)?;
     let mut gateway = Gateway::open(1)?;
     gateway.take(&writer.shutdown(200)?)?;
     assert_eq!(gateway.table(&requests()?)?, TOTAL_OF_7);
-    assert_eq!(writer.absorb(&mut recorder), Err(Error::Closed));
-    assert_eq!(recorder.is_empty(), Ok(false));
+    assert_eq!(
+        writer.take_in(&mut recorder, usize::MAX),
+        Err(Error::Closed)
+    );
+    assert_eq!(recorder.len(), Ok(1));
+    recorder.clear()?;
+    assert_eq!(recorder.len(), Ok(0));
+    Ok(())
+}
+
+#[test]
+fn what_is_held_has_one_number() -> Result<(), Error> {
+    let (mut writer, none) = (writer(1)?, Attributes::none()?);
+    let other = Attributes::new([("key", "value")])?;
+    let numbers = [writer.hold(0, &none)?, writer.hold(0, &other)?];
+    assert_ne!(numbers[0], numbers[1]);
+    for _ in 0..3 {
+        assert_eq!([writer.hold(0, &none)?, writer.hold(0, &other)?], numbers);
+    }
+    assert_eq!(writer.hold(1, &none), Err(Error::NoInstrument));
+    writer.shutdown(200)?;
+    assert_eq!(writer.hold(0, &other), Ok(numbers[1]));
+    writer.restart(300)?;
+    writer.measure_held(numbers[1], 7)?;
+    let mut more = self::writer(2)?;
+    assert_eq!(more.measure_held(numbers[0], 1), Err(Error::NoHeld));
+    let mut gateway = Gateway::open(1)?;
+    gateway.take(&writer.collect(400)?)?;
+    assert_eq!(gateway.rows(&requests()?)?.sum(0), Ok(7));
     Ok(())
 }
 

@@ -9,7 +9,7 @@ use Rattle.agg_kit.specs.Payloads.{is_out_of_range}
 use Rattle.agg_kit.specs.Sound.{AreSound}
 use Rattle.agg_kit.specs.Steps.{Stored}
 use Rattle.agg_kit.specs.Tallies.{Points}
-use Rattle.agg_kit.proofs.BoundPoints.{here-within, here-added, here-out, here-first, still-there}
+use Rattle.agg_kit.proofs.HeldPoints.{here-within, here-added, here-out, here-first, still-there}
 use Rattle.agg_kit.proofs.Records.{set-other, entries-read, read-there, stored-length, sound-shape, recorded-here}
 use Rattle.agg_kit.proofs.recording.+record_at.Goals as goal
 

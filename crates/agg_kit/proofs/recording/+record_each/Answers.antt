@@ -10,7 +10,7 @@ use Rattle.agg_kit.specs.Sound.{AreSound}
 use Rattle.agg_kit.specs.Steps.{Stored, fed_set}
 use Rattle.agg_kit.specs.Tallies.{Points}
 use Rattle.agg_kit.specs.declared.fault.TallyFault.TheVariants as faults
-use Rattle.agg_kit.proofs.Here.{fits, rest-fits, rest-sound, absent-first, absent-whole, absent-held, there-within, there-added, there-out, there-first, there-whole, stays, still}
+use Rattle.agg_kit.proofs.OneFeed.{fits, rest-fits, rest-sound, absent-first, absent-whole, absent-held, there-within, there-added, there-out, there-first, there-whole, stays, still}
 use Rattle.agg_kit.proofs.Records.{set-other, same_entries, entries-read, stored-length, sound-shape, recorded-here, whole-listed, if_err_so, on_err, on_err_map, step-along, if_err}
 use Rattle.agg_kit.proofs.Steps.{absent}
 use Rattle.agg_kit.proofs.recording.+record_each.Goals as goal
@@ -141,7 +141,7 @@ returns-in_default-find-clause-value t c =
     c.insert.new.self (with_fresh c.in-Ok.fresh) there c.fresh.ensures.entries c.index_mut.ensures.value
     ((simp (to_z-of_z, c.ranges.value) at c.in_ok-record_each.ensures.value) ∙ ap (after_feeds c.args.plan.now c.in-Some.rest.now c.args.attrs.now c.args.value)
     (same_entries c.args.series.now.items c.in-Some.feed.now.stream c.fresh.new.self c.index_mut-points.result.now c.index_mut-points.ensures.value c.fresh.ensures.entries))
-    steps c.insert.ensures.value
+    steps c.insert.ensures
     ∙ ap (λ (fs : List Feed). after_feeds c.args.plan.now fs c.args.attrs.now c.args.value (entries_of c.args.series.now.items)) (sym c.in-Some.ensures.cases.0)
 
 pub returns-in_default-find-clause-ok : goal.returns-in_default-find-clause-ok

@@ -1,14 +1,11 @@
-use Rattle.std.proofs.Common.{rules, arith, ◌≡◌, ◌<◌, ◌∙◌, length, map, slice_index, slice_index_or, ap, subst, sym}
+use Rattle.std.proofs.Common.{rules, arith, ◌≡◌, ◌∙◌, length, map, slice_get, slice_index, slice_index_or, ap, subst, sym, Some}
 use Rattle.std.specs.Prelude.{Ok, IfOk}
-use Rattle.crossbeam_channel.specs.Claims.{view}
 use Rattle.std.proofs.lemmas.List.{length-map}
 use Rattle.fleet_kit.proofs.Exported.{ok_then}
 use Rattle.fleet_kit.proofs.Exports.{answers_each}
 use Rattle.fleet_kit.proofs.Served.{all_whole, id_at}
 use Rattle.fleet_kit.proofs.Stops.{err_then, gathered_stops, lacking_stops}
-use Rattle.fleet_kit.specs.Halts.{IsLacking, StopsServing}
-use Rattle.fleet_kit.specs.Posting.{IsPosted}
-use Rattle.fleet_kit.specs.Serving.{AreWhole, IsWhole}
+use Rattle.fleet_kit.specs.Serving.{AreWhole, IsWhole, StopsGateway, StopsServing}
 use Rattle.fleet_kit.proofs.gateways.gateways_of.Goals as goal
 
 pub returns : goal.returns
@@ -29,11 +26,10 @@ returns g c =
           let id = id_at (λ p. p.id) posts i k.job (omega (arith, l, count)) (k.job_is k.job) ∙ ap (λ l. slice_index l i) same in
           subst (λ n. IfOk (slice_index_or c.in_ok-results.results.items i d) (λ v. IsWhole c.args.exports.now n v)) id k.call.met.0)))
           c.gather.ensures.ok;
-      err = err_then c.gather.result _ (StopsServing c.args.exports.now (length c.args.ids.now))
-          (λ h is. gathered_stops (StopsServing c.args.exports.now (length c.args.ids.now)) rs
+      err = err_then c.gather.result _ (StopsServing c.args.exports.now c.args.ids.now)
+          (λ h is. gathered_stops (StopsServing c.args.exports.now c.args.ids.now) rs
           (λ i d l. let k = (c.in_ok-results.ensures.each i d (omega (arith, l, count, long))).1 in
-          let less = subst (λ p. p.gateway < length c.args.ids.now) (k.job_is k.job) (c.in_ok-posts.ensures.gateways i k.job (omega (arith, l, count, long))) in
-          let posted = subst (λ p. IsPosted c.args.exports.now (view p.pass) p.unsent) (k.job_is k.job) (c.in_ok-posts.ensures.told i k.job (omega (arith, l, count, long))) in
-          err_then (slice_index_or c.in_ok-results.results.items i d) (IsLacking k.job.gateway k.job.unsent) (StopsServing c.args.exports.now (length c.args.ids.now))
-          (λ e lacks. lacking_stops exports (length ids) k.job.gateway (view k.job.pass).sent k.job.unsent e less posted.1 lacks) k.call.met.1) tt h is) c.gather.ensures.err;
+          let at = subst (λ p. slice_get c.args.ids.now p.gateway ≡ Some p.id) (k.job_is k.job) (c.in_ok-posts.ensures.gateways i k.job (omega (arith, l, count, long))) in
+          err_then (slice_index_or c.in_ok-results.results.items i d) (StopsGateway c.args.exports.now k.job.gateway k.job.id k.job.unsent) (StopsServing c.args.exports.now c.args.ids.now)
+          (λ e lacks. lacking_stops exports ids k.job.gateway k.job.id k.job.unsent e at lacks) k.call.met.1) tt h is) c.gather.ensures.err;
     }

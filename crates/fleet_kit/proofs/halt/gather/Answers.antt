@@ -1,4 +1,4 @@
-use Rattle.std.proofs.Common.{rules, arith, refl, sym, subst, ◌∙◌, ◌++◌, ◌∷◌, []}
+use Rattle.std.proofs.Common.{refl, sym, subst, ◌∙◌, ◌++◌, ◌∷◌, []}
 use Rattle.fleet_kit.proofs.Halts.{answers_more, not_none, pushed, told_err, told_full, told_ok, IsToldOf}
 use Rattle.fleet_kit.specs.declared.halt.Halt.TheVariants.{NoMemory}
 use Rattle.fleet_kit.proofs.halt.gather.Goals as goal

@@ -1,45 +1,61 @@
-use Rattle.std.proofs.Common.{rules, arith, ◌≡◌, ◌+◌, length, ◌∙◌, ◌∷◌, ap, map, subst, sym, Some}
-use Rattle.writer_kit.specs.Shared.{IsAt}
-use Rattle.turn_kit.specs.Public.{joined, mine, number}
-use Rattle.turn_kit.specs.History.{weigh_all}
+use Rattle.std.proofs.Common.{rules, ◌≡◌, ◌∙◌, ◌∷◌, [], List, Some, length, map, ap, refl, sym, subst}
+use Rattle.std.specs.Prelude.{IfNone, IfSome}
+use mathlib.Core.List.{map-append}
+use Rattle.std.proofs.lemmas.Iterator.Adapters.{YieldsList-from_vec}
+use Rattle.std.proofs.lemmas.Iterator.Consumers.{YieldsList-end, YieldsList-turn}
 use Rattle.schedule_kit.specs.Members.{In}
-use Rattle.fleet_kit.specs.Halts.{IsFirst}
-use Rattle.fleet_kit.specs.Jobs.{work_of}
+use Rattle.turn_kit.specs.History.{flat}
+use Rattle.turn_kit.specs.Public.{joined, seen}
+use Rattle.writer_kit.specs.Shared.{first_of}
 use Rattle.fleet_kit.proofs.Halts.{first_joined}
-use Rattle.fleet_kit.proofs.Stops.{faults_all, faults_more}
-use Rattle.fleet_kit.proofs.Lists.{all_front, join_more, none_then, work_done}
+use Rattle.fleet_kit.proofs.Lists.{none_then}
+use Rattle.fleet_kit.proofs.Noting.{joined_tells}
+use Rattle.fleet_kit.proofs.Recorded.{join_more}
+use Rattle.fleet_kit.specs.Halts.{IsFirst}
+use Rattle.fleet_kit.specs.Jobs.{entries}
+use Rattle.fleet_kit.specs.Noting.{recorded_by_seat, IsSingle, TellsRoom}
+use Rattle.fleet_kit.specs.Recorded.{Brings, HaveBrought}
+use Rattle.fleet_kit.specs.declared.recorders.Done.{Done}
 use Rattle.fleet_kit.proofs.recorders.join_all.Goals as goal
-use Rattle.fleet_kit.proofs.recorders.join_all.Goals.{in-Some, in_default}
 
-pub loop-preserved : goal.loop-preserved
-loop-preserved c = let kept = c.loop.invariant in elim c.match-pop.branch [
-  | in-Some w ↦ let d = w.in-Some.done in let now = c.pop.new.self.items in let is = w.in-Some.ensures.items in (
-    search rules,
-    search rules,
-    all_front (λ d. IsAt c.args.shared.now d.seat) c.loop.dones.items now d is kept.2,
-    search rules,
-    join_more (λ d. d.job.now) c.match-pop.told w.first-told.result c.loop.told d.fault now c.loop.dones.items d (joined c.loop.main) (joined c.match-pop.main) (number d.seat) (mine d.seat) (joined d.seat)
-        (λ f. weigh_all f (joined c.args.main.now) + work_of f (map (λ d. d.job.now) c.args.dones.items))
-        w.told-is w.first-told.ensures.none is (ap joined w.main-is ∙ w.join.ensures.value.gains) d.alone d.all kept.4,
-    d.fault ∷ kept.5,
-    faults_more (λ d. d.fault) (map (λ d. d.fault) c.args.dones.items) kept.5 c.loop.dones.items now d is kept.6,
-    subst (IsFirst (λ h. In (Some h) (d.fault ∷ kept.5))) (sym w.told-is) (first_joined d.fault c.loop.told w.first-told.result kept.5 w.first-told.ensures.first kept.7),
-  )
-  | in_default w ↦ let z : length c.loop.dones.items ≡ 0 = search rules in let a : length c.args.dones.items ≡ c.len-end.result = search rules in let less = c.loop-test.true in let long = kept.3 in absurd (omega (arith, z, a, less, long))
-]
+same : {A : Type 0} (xs : List A) → xs ≡ map (λ x. x) xs
+same [] = refl
+same (x ∷ xs) = ap (λ l. x ∷ l) (same xs)
 
-pub returns-clause-all : goal.returns-clause-all
-returns-clause-all c =
-    let kept = c.loop.invariant in
-    let a : length c.args.dones.items ≡ c.len-end.result = search rules in
-    let less = c.loop-test.false in
-    let long = kept.3 in
-    none_then c.loop.told _ _ (λ each f. work_done f (λ d. d.job.now) c.loop.dones.items (joined c.loop.main) _ (omega (arith, a, less, long)) (each f)) kept.4
+pub loop-done-preserved : goal.loop-done-preserved
+loop-done-preserved c =
+    let kept = c.loop-done.invariant in
+    let d = c.in-Some.done in
+    let ds = c.loop-done.yielded in
+    let gives = c.into_iter-done-iterator.ensures.into_iter_gives in
+    let turn = YieldsList-turn (YieldsList-from_vec {s = c.into_iter-done-iterator.result} c.args.dones.items gives.0 (gives.1 ∙ c.args.dones.ok.0)) c.loop-done.yielded c.loop-done.done-iterator c.loop-done.yielded_by c.next.result c.next.new.self c.in-Some.done c.in-Some.is
+    c.next.ensures.steps in
+    let single = subst (λ (x : Done). IsSingle c.args.shared.now x.seat) (sym turn.1) (c.requires.dones (length c.loop-done.yielded) c.in-Some.done turn.0) in
+    let did = subst (λ (x : Done). IfNone x.fault (recorded_by_seat c.args.shared.now x.seat ≡ entries x.job.now)) (sym turn.1) (c.requires.all (length c.loop-done.yielded) c.in-Some.done turn.0) in
+    let tells = subst (λ (x : Done). IfSome x.fault (TellsRoom c.args.shared.now x.seat)) (sym turn.1) (c.requires.full (length c.loop-done.yielded) c.in-Some.done turn.0) in
+    let old = map (λ (x : Done). entries x.job.now) c.loop-done.yielded in (
+      search rules,
+      c.join.ensures.value.kept.1 ∙ kept.1,
+      subst (λ l. IsFirst (λ h. In (Some h) l) c.first-told.result) (sym (map-append (λ (x : Done). x.fault) c.loop-done.yielded (c.in-Some.done ∷ [])))
+          (first_joined d.fault c.loop-done.told c.first-told.result (map (λ (x : Done). x.fault) ds) c.first-told.ensures.first kept.2),
+      subst (λ l. IfNone c.first-told.result (HaveBrought (first_of c.args.shared.now).tally (seen c.join.new.seat) (joined c.join.new.seat) l)) (sym (map-append (λ (x : Done). entries x.job.now) c.loop-done.yielded (c.in-Some.done ∷ [])))
+          (join_more (first_of c.args.shared.now).tally c.loop-done.main c.join.new.seat d.seat c.loop-done.told d.fault c.first-told.result old (entries d.job.now) c.first-told.ensures.none c.join.ensures.value single.2 single.1 did kept.3),
+      joined_tells c.args.shared.now c.loop-done.main c.join.new.seat d.seat c.loop-done.told d.fault c.first-told.result c.first-told.ensures.first c.join.ensures.value kept.4 tells,
+    )
 
 pub returns-clause-first : goal.returns-clause-first
 returns-clause-first c =
-    let kept = c.loop.invariant in
-    let a : length c.args.dones.items ≡ c.len-end.result = search rules in
-    let less = c.loop-test.false in
-    let long = kept.3 in
-    subst (λ l. IsFirst (λ h. In (Some h) l) c.loop.told) (sym (faults_all (λ d. d.fault) (map (λ d. d.fault) c.args.dones.items) kept.5 c.loop.dones.items (omega (arith, a, less, long)) kept.6)) kept.7
+    let gives = c.into_iter-done-iterator.ensures.into_iter_gives in
+    let end = YieldsList-end (YieldsList-from_vec {s = c.into_iter-done-iterator.result} c.args.dones.items gives.0 (gives.1 ∙ c.args.dones.ok.0)) c.loop-done.yielded c.loop-done.done-iterator c.loop-done.yielded_by c.next.result c.next.new.self c.in-None.is c.next.ensures.steps in
+    let all : c.loop-done.yielded ≡ c.args.dones.items = same c.loop-done.yielded ∙ end.0 in
+    subst (λ (l : List Done). IsFirst (λ h. In (Some h) (map (λ (x : Done). x.fault) l)) c.loop-done.told) all c.loop-done.invariant.2
+
+pub returns-clause-all : goal.returns-clause-all
+returns-clause-all c =
+    let gives = c.into_iter-done-iterator.ensures.into_iter_gives in
+    let end = YieldsList-end (YieldsList-from_vec {s = c.into_iter-done-iterator.result} c.args.dones.items gives.0 (gives.1 ∙ c.args.dones.ok.0)) c.loop-done.yielded c.loop-done.done-iterator c.loop-done.yielded_by c.next.result c.next.new.self c.in-None.is c.next.ensures.steps in
+    let all : c.loop-done.yielded ≡ c.args.dones.items = same c.loop-done.yielded ∙ end.0 in
+    let kept = c.loop-done.invariant in
+    none_then c.loop-done.told (HaveBrought (first_of c.args.shared.now).tally (seen c.loop-done.main) (joined c.loop-done.main) (map (λ (x : Done). entries x.job.now) c.loop-done.yielded))
+    (Brings (first_of c.args.shared.now).tally c.loop-done.main (flat (map (λ (x : Done). entries x.job.now) c.args.dones.items)))
+    (λ b. record { idle = kept.1; each = map (λ (x : Done). entries x.job.now) c.loop-done.yielded; brought = b; all = ap (λ (l : List Done). flat (map (λ (x : Done). entries x.job.now) l)) all }) kept.3

@@ -1,16 +1,15 @@
-use Rattle.std.proofs.Common.{◌≡◌, ℕ, ◌+◌, All, List, ◌++◌, map, length, Option, Some}
-use Rattle.std.specs.Prelude.{IfNone}
-use Rattle.turn_kit.specs.Public.{mine, joined}
-use Rattle.turn_kit.specs.History.{weigh_all}
-use Rattle.writer_kit.specs.Shared.{IsAt}
-use Rattle.writer_kit.specs.declared.shared.change.WriterChange.{WriterChange}
+use Rattle.std.proofs.Common.{◌≡◌, [], map, Some}
+use Rattle.std.specs.Prelude.{IfNone, IfSome}
 use Rattle.schedule_kit.specs.Members.{In}
+use Rattle.turn_kit.specs.Public.{mine, joined, seen}
+use Rattle.writer_kit.specs.Shared.{IsAt, first_of}
 use Rattle.fleet_kit.specs.Halts.{IsFirst}
-use Rattle.fleet_kit.specs.Jobs.{work_of}
-use Rattle.fleet_kit.specs.declared.halt.Halt.{Halt}
+use Rattle.fleet_kit.specs.Jobs.{entries}
+use Rattle.fleet_kit.specs.Noting.{TellsRoom}
+use Rattle.fleet_kit.specs.Recorded.{HaveBrought}
 use Rattle.fleet_kit.proofs.recorders.join_all.Given as goal
 
-abbrev pub invariant-loop : goal.invariant-loop
-invariant-loop l = IsAt l.shared l.main × (mine l.main ≡ mine l.initial.main) × All (λ d. IsAt l.shared d.seat) l.dones.items × (length l.dones.items + l.counter ≡ length l.initial.dones.items)
-    × IfNone l.told ((f : WriterChange → ℕ) → weigh_all f (joined l.main) + work_of f (map (λ d. d.job.now) l.dones.items) ≡ weigh_all f (joined l.initial.main) + work_of f (map (λ d. d.job.now) l.initial.dones.items))
-    × (rest : List (Option Halt)) × (map (λ d. d.fault) l.initial.dones.items ≡ map (λ d. d.fault) l.dones.items ++ rest) × IsFirst (λ h. In (Some h) rest) l.told
+-- the seats so far brought their jobs' entries, where no fault is told
+abbrev pub invariant-loop-done : goal.invariant-loop-done
+invariant-loop-done l = IsAt l.shared l.main × (mine l.main ≡ []) × IsFirst (λ h. In (Some h) (map (λ d. d.fault) l.yielded)) l.told
+    × IfNone l.told (HaveBrought (first_of l.shared).tally (seen l.main) (joined l.main) (map (λ d. entries d.job.now) l.yielded)) × IfSome l.told (TellsRoom l.shared l.main)

@@ -1,8 +1,14 @@
-use Rattle.std.proofs.Common.{◌≡◌, [], take, map}
-use Rattle.turn_kit.specs.Public.{mine, joined}
-use Rattle.writer_kit.specs.Shared.{IsAt}
-use Rattle.fleet_kit.specs.Jobs.{change}
+use Rattle.std.proofs.Common.{◌≡◌, ◌≤◌, ◌-◌, [], length, take}
+use Rattle.writer_kit.specs.Shared.{first_of}
+use Rattle.fleet_kit.specs.Ends.{HasRecorded, LetPass}
+use Rattle.fleet_kit.specs.Jobs.{entries}
+use Rattle.fleet_kit.specs.Noting.{recorded_by_seat, IsSingle}
 use Rattle.fleet_kit.proofs.recorders.record_all.Given as goal
 
-abbrev pub invariant-loop-i : goal.invariant-loop-i
-invariant-loop-i g l = IsAt l.shared l.seat × (joined l.seat ≡ []) × (mine l.seat ≡ map change (take l.i l.job.entries.items))
+-- the entries so far passed the gate and are recorded, and none is noted
+abbrev pub invariant-loop-done : goal.invariant-loop-done
+invariant-loop-done g l = IsSingle l.shared l.seat × (l.log.log ≡ []) × (recorded_by_seat l.shared l.seat ≡ take l.done (entries l.job)) × HasRecorded (first_of l.shared).tally.plan (first_of l.shared).start (take l.done (entries l.job))
+    × LetPass (g.G.Gate.passes l.gate) l.number l.done × (l.done ≤ length l.job.entries.items)
+
+abbrev pub decreases-loop-done : goal.decreases-loop-done
+decreases-loop-done g l = length l.job.entries.items - l.done

@@ -8,7 +8,7 @@ use Rattle.gateway_kit.proofs.Tallies.{put_under, written_conflicts}
 use Rattle.gateway_kit.specs.Numbers.{number_after}
 use Rattle.gateway_kit.specs.Tallies.{conflicts_in, rank}
 use Rattle.gateway_kit.specs.Times.{latest}
-use Rattle.gateway_kit.specs.declared.item.Item.{Item}
+use Rattle.gateway_kit.specs.declared.part_item.PartItem.{PartItem}
 use Rattle.gateway_kit.proofs.ItemMoves.{items_stay, put_moves, put_up_to}
 use Rattle.gateway_kit.proofs.Times.{less_of, written, written_latest}
 use Rattle.gateway_kit.proofs.items.put_cell.Goals as goal
@@ -42,7 +42,7 @@ returns-clause-put c =
     let yes : c.is_further.result ≡ true = search rules in
     let up : rank c.index.result.now.cell < rank c.args.cell = less_of _ _ (sym c.is_further.ensures ∙ yes) in
     let y = c.index_mut.result.now in
-    ap (λ (p : Item). map keyed_cell_of (slice_set items c.args.place p)) c.put.ensures ∙ written items c.args.place c.index.result.now y c.args.cell within c.index.ensures c.index_mut.ensures.value up (number_after c.args.number y.number)
+    ap (λ (p : PartItem). map keyed_cell_of (slice_set items c.args.place p)) c.put.ensures ∙ written items c.args.place c.index.result.now y c.args.cell within c.index.ensures c.index_mut.ensures.value up (number_after c.args.number y.number)
 
 pub returns-clause-tally : goal.returns-clause-tally
 returns-clause-tally c =
@@ -53,9 +53,9 @@ returns-clause-tally c =
     let y = c.index_mut.result.now in
     record {
       newest = written_latest items c.args.place c.index.result.now y c.args.cell within c.index.ensures c.index_mut.ensures.value up (number_after c.args.number y.number) c.args.tally.newest c.max.result c.max.ensures c.requires.newest
-          ∙ ap (λ (p : Item). latest (map keyed_cell_of (slice_set items c.args.place p))) (sym c.put.ensures);
+          ∙ ap (λ (p : PartItem). latest (map keyed_cell_of (slice_set items c.args.place p))) (sym c.put.ensures);
       conflicts = written_conflicts items c.args.place c.index.result.now y c.args.cell within c.index.ensures c.index_mut.ensures.value up (number_after c.args.number y.number) c.args.tally.conflicts c.conflict_of.result c.conflict_of-2.result c.requires.conflicts c.conflict_of.ensures c.conflict_of-2.ensures
-          ∙ ap (λ (p : Item). conflicts_in (map keyed_cell_of (slice_set items c.args.place p))) (sym c.put.ensures);
+          ∙ ap (λ (p : PartItem). conflicts_in (map keyed_cell_of (slice_set items c.args.place p))) (sym c.put.ensures);
     }
 
 pub returns-clause-moves : goal.returns-clause-moves
@@ -74,5 +74,5 @@ returns-clause-up_to c =
 pub returns-clause-bounded : goal.returns-clause-bounded
 returns-clause-bounded c =
     let within : c.args.place < length c.args.items.now.items = search rules in
-    let told = ap (λ (i : Item). i.number) c.put.ensures in
+    let told = ap (λ (i : PartItem). i.number) c.put.ensures in
     put_bounded c.args.bounds.now c.raise.new.self c.args.items.now.items c.args.place c.args.number c.index_mut.result.now c.put.new.self within c.index_mut.ensures.value told c.raise.ensures.kept c.raise.ensures.here

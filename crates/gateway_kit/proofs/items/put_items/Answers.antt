@@ -9,7 +9,7 @@ use Rattle.std.proofs.lemmas.Bool.Decides.{nat_tests}
 use Rattle.std.specs.FinMap.Entries.{is_sorted}
 use Rattle.gateway_kit.specs.Numbers.{ItemsMove}
 use Rattle.gateway_kit.specs.Tallies.{are_up_to}
-use Rattle.gateway_kit.specs.declared.item.Item.{Item}
+use Rattle.gateway_kit.specs.declared.part_item.PartItem.{PartItem}
 use Rattle.gateway_kit.proofs.ItemMoves.{all_up_to, items_stay, woven_move}
 use Rattle.gateway_kit.proofs.MergeDrafts.{all_weave}
 use Rattle.gateway_kit.proofs.items.put_items.Goals as goal
@@ -24,13 +24,13 @@ returns-then-len-saturating_sub-clause-woven c =
 
 pub returns-then-len-saturating_sub-clause-moves : goal.returns-then-len-saturating_sub-clause-moves
 returns-then-len-saturating_sub-clause-moves c =
-    subst (λ (l : List Item). ItemsMove c.args.number c.args.items.now.items l) (sym (c.settle.ensures.same ∙ c.weave.ensures ∙ (λ i. weave (λ x y. on_keys item_cmp (keyed_cell_of x) (keyed_cell_of y)) (c.replace-mine.ensures.value i).items c.renumber_all.new.values.items)))
+    subst (λ (l : List PartItem). ItemsMove c.args.number c.args.items.now.items l) (sym (c.settle.ensures.same ∙ c.weave.ensures ∙ (λ i. weave (λ x y. on_keys item_cmp (keyed_cell_of x) (keyed_cell_of y)) (c.replace-mine.ensures.value i).items c.renumber_all.new.values.items)))
     (woven_move c.args.number c.args.items.now.items c.renumber_all.new.values.items c.requires.sorted (ap (is_sorted item_cmp) c.renumber_all.ensures.same ∙ c.requires.fresh_sorted) c.renumber_all.ensures.numbers)
 
 pub returns-then-len-saturating_sub-clause-up_to : goal.returns-then-len-saturating_sub-clause-up_to
 returns-then-len-saturating_sub-clause-up_to c = λ n g h.
-    ap (λ (l : List Item). are_up_to n l) (c.settle.ensures.same ∙ c.weave.ensures ∙ (λ i. weave (λ x y. on_keys item_cmp (keyed_cell_of x) (keyed_cell_of y)) (c.replace-mine.ensures.value i).items c.renumber_all.new.values.items))
-    ∙ all_weave (λ x y. on_keys item_cmp (keyed_cell_of x) (keyed_cell_of y)) (λ (i : Item). nat_le i.number n) c.args.items.now.items c.renumber_all.new.values.items h (all_up_to c.args.number c.renumber_all.new.values.items c.renumber_all.ensures.numbers n g)
+    ap (λ (l : List PartItem). are_up_to n l) (c.settle.ensures.same ∙ c.weave.ensures ∙ (λ i. weave (λ x y. on_keys item_cmp (keyed_cell_of x) (keyed_cell_of y)) (c.replace-mine.ensures.value i).items c.renumber_all.new.values.items))
+    ∙ all_weave (λ x y. on_keys item_cmp (keyed_cell_of x) (keyed_cell_of y)) (λ (i : PartItem). nat_le i.number n) c.args.items.now.items c.renumber_all.new.values.items h (all_up_to c.args.number c.renumber_all.new.values.items c.renumber_all.ensures.numbers n g)
 
 pub returns-else-not-is_empty-clause-moves : goal.returns-else-not-is_empty-clause-moves
 returns-else-not-is_empty-clause-moves c = items_stay c.args.number c.args.items.now.items

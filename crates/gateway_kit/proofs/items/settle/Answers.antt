@@ -4,7 +4,7 @@ use Rattle.std.proofs.lemmas.List.{length-take}
 use Rattle.gateway_kit.specs.Changing.{KeyedCell}
 use Rattle.gateway_kit.specs.Keys.{keyed_cell_of}
 use Rattle.gateway_kit.specs.Tallies.{IsTally, conflict}
-use Rattle.gateway_kit.specs.declared.item.Item.{Item}
+use Rattle.gateway_kit.specs.declared.part_item.PartItem.{PartItem}
 use Rattle.gateway_kit.proofs.ExportEntries.{mapped_more}
 use Rattle.gateway_kit.proofs.Tallies.{conflicts_few, conflicts_more}
 use Rattle.gateway_kit.proofs.Times.{latest_more}
@@ -15,7 +15,7 @@ loop-place-preserved c =
     let xs = c.args.items.now.items in
     let i = c.loop-place.place in
     let x = c.index.result.now in
-    let at : c.index.result.now ≡ get_or c.args.items.now.items c.loop-place.place c.index.result.now = c.index.ensures ∙ ap (λ (l : List Item). get_or l c.loop-place.place c.index.result.now) c.loop-place.invariant.same in
+    let at : c.index.result.now ≡ get_or c.args.items.now.items c.loop-place.place c.index.result.now = c.index.ensures ∙ ap (λ (l : List PartItem). get_or l c.loop-place.place c.index.result.now) c.loop-place.invariant.same in
     let within : c.loop-place.place < length c.args.items.now.items = grind (arith, common_steps) in
     let es = take i (map keyed_cell_of xs) in
     record {

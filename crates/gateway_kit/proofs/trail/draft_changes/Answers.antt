@@ -7,7 +7,7 @@ use Rattle.std.specs.Ordering.{eq_by_cmp}
 use Rattle.gateway_kit.specs.Changing.{Drafts, Prepares, keyed_cells_of}
 use Rattle.gateway_kit.specs.Keys.{ItemKey, keyed_cell_of, item_cmp}
 use Rattle.gateway_kit.specs.declared.changes.Changes.{Changes}
-use Rattle.gateway_kit.specs.declared.item.Item.{Item}
+use Rattle.gateway_kit.specs.declared.part_item.PartItem.{PartItem}
 use Rattle.gateway_kit.proofs.ExportEntries.{first_point, more_points, keys_of_items}
 use Rattle.gateway_kit.proofs.trail.draft_changes.Goals as goal
 
@@ -24,7 +24,7 @@ loop-point-preserved c =
     let at : x ≡ get_or e.points i x = c.point-item.is ∙ ap (λ l. get_or l i x) listed in
     let same : c.note_next.new.items.items ≡ c.args.items.now.items = c.note_next.ensures ∙ c.loop-point.invariant.same in
     let now : c.as_slice-in-loop-point-2.result.now ≡ c.args.items.now.items = c.as_slice-in-loop-point-2.ensures.value ∙ same in
-    let so_far : Drafts (map keyed_cell_of c.as_slice-in-loop-point-2.result.now) (take i (keyed_cells_of e)) c.loop-point.draft.updates.items c.loop-point.draft.fresh.items = subst (λ (is : List Item). Drafts (map keyed_cell_of is) (take i (keyed_cells_of e)) c.loop-point.draft.updates.items c.loop-point.draft.fresh.items) (sym now) c.loop-point.invariant.drafts in
+    let so_far : Drafts (map keyed_cell_of c.as_slice-in-loop-point-2.result.now) (take i (keyed_cells_of e)) c.loop-point.draft.updates.items c.loop-point.draft.fresh.items = subst (λ (is : List PartItem). Drafts (map keyed_cell_of is) (take i (keyed_cells_of e)) c.loop-point.draft.updates.items c.loop-point.draft.fresh.items) (sym now) c.loop-point.invariant.drafts in
     let stepped = c.in_ok-bring.ensures (take i (keyed_cells_of e)) (first_point e i x within at) so_far in
     record { same = same; drafts = rw (more_points e i x within at, ← now) (rw c.time.ensures.value at stepped) }
 

@@ -1,9 +1,13 @@
-use Rattle.std.proofs.Common.{◌≡◌, ◌∙◌, ◌*◌, ℕ, ℤ, pos, ap, List, inr, refl, slice_get, Some, flat_map}
+use Rattle.std.proofs.Common.{◌≡◌, ◌∙◌, ◌*◌, ℕ, ℤ, pos, ap, List, inr, refl, slice_get, subst, sym, Some, Err, flat_map}
+use Rattle.std.proofs.lemmas.Result.{err_from_is_err_and}
+use Rattle.std.specs.Prelude.{IsErrOf}
 use Rattle.gateway_kit.specs.GatewayState.{GatewayState}
 use Rattle.rollup_kit.specs.Rollups.{rollup_rows}
 use Rattle.rollup_kit.specs.declared.ask.Ask.{Ask}
-use Rattle.otm_kit.specs.FleetSetups.{fleet_ask}
+use Rattle.otm_kit.specs.FleetSetups.{EndsBy, fleet_ask}
 use Rattle.otm_kit.specs.FleetTexts.{answer_line, fleet_text, sum_in, total_line}
+use Rattle.otm_kit.specs.declared.fleet_end.FleetEnd.TheVariants as ends
+use Rattle.otm_kit.proofs.FleetEnds.{told_is}
 use Rattle.otm_kit.proofs.FleetRows.{lines_are, total_is}
 use Rattle.otm_kit.proofs.fleet.totals_of_run.Goals as goal
 
@@ -21,3 +25,16 @@ returns-clause-value g c =
     ∙ ap (λ (ask : Ask). flat_map (answer_line ask) gateways) c.in_ok-ask.ensures
     ∙ lines_are sum total gateways all
     ∙ ap (flat_map (λ id. total_line id (pos total))) (c.in_ok-gateways.ensures.ids ∙ setup.gateways)
+
+pub returns-in_err-gateways-clause-fault : goal.returns-in_err-gateways-clause-fault
+returns-in_err-gateways-clause-fault g c f is =
+    let p = err_from_is_err_and c.from_residual-in_err-gateways.result c.from_residual-in_err-gateways.ensures.1 in
+    let same : Err p.0 ≡ Err (ends.Fleet f) = subst (λ r. IsErrOf r (ends.Fleet f)) p.1 is in
+    let at : p.0 ≡ ends.Fleet f = cc in
+    let told = told_is c.in_err-gateways.field-0.0 f (sym p.2 ∙ at) in
+    record {
+      s = c.in_ok-setup.setup;
+      setup = c.in_ok-setup.ensures;
+      ends = subst (EndsBy c.in_ok-setup.setup) told.0 c.in_err-gateways.ensures.err;
+      other = told.1;
+    }

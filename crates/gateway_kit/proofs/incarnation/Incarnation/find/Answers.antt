@@ -1,5 +1,5 @@
 use Rattle.std.proofs.Common.{Some, sym, ap, ◌∙◌}
-use Rattle.gateway_kit.specs.declared.item.Item.{Item}
+use Rattle.gateway_kit.specs.declared.part_item.PartItem.{PartItem}
 use Rattle.std.specs.FinMap.{get-entries}
 use Rattle.std.specs.FinMap.Entries.{find}
 use Rattle.gateway_kit.specs.Keys.{keyed_cell_of, item_cmp}
@@ -10,7 +10,7 @@ use Rattle.gateway_kit.proofs.incarnation.Incarnation.find.Goals as goal
 
 pub returns-in-Ok : goal.returns-in-Ok
 returns-in-Ok c =
-    ap (λ (x : Item). Some x.cell) (sym c.index-items-place.is)
+    ap (λ (x : PartItem). Some x.cell) (sym c.index-items-place.is)
     ∙ sym (get-entries c.args.self.now.cells (c.args.stream.now, c.args.attrs.now) ∙ ap (find item_cmp (c.args.stream.now, c.args.attrs.now)) (sym c.items-items.ensures.entries)
     ∙ found_place keyed_cell_of item_total c.items-items.result.now c.in-Ok.place c.index-items-place.result (c.args.stream.now, c.args.attrs.now) (as_T c.items-items.ensures.sorted) c.in-Ok.ensures c.index-items-place.is)
 

@@ -2,7 +2,7 @@ use Rattle.std.proofs.Common.{◌≡◌, ◌≤◌, List, map, refl, ap, sym, su
 use Rattle.std.specs.FinMap.{entries, from_sorted, entries-from_sorted}
 use Rattle.std.specs.FinMap.Entries.{is_sorted}
 use Rattle.gateway_kit.specs.Bounding.{AreBounds}
-use Rattle.gateway_kit.specs.declared.item.Item.{Item}
+use Rattle.gateway_kit.specs.declared.part_item.PartItem.{PartItem}
 use Rattle.gateway_kit.specs.Changing.{KeyedCell, after_growth, replacement}
 use Rattle.gateway_kit.specs.Keys.{IncarnationKey, item_cmp, keyed_cell_of}
 use Rattle.gateway_kit.specs.IncarnationState.{IncarnationState}
@@ -25,8 +25,8 @@ invariant_of-self c =
     record {
       sorted = subst (λ (es : List KeyedCell). is_sorted item_cmp es ≡ true) (sym told) (sorted_grown (map keyed_cell_of c.self.inside.items.items) c.args.changes c.self.invariant.sorted);
       tallied = c.put_items-self-inside.ensures.tally;
-      bounded = subst (λ (l : List Item). AreBounds c.complete.new.self l) c.as_slice.ensures.value
-          (c.complete.ensures (subst (λ (l : List Item). AreBounds c.put_items-self-inside.new.bounds l) (sym c.as_slice.ensures.value) (c.put_items-self-inside.ensures.bounded (c.put_cells-tally.ensures.bounded c.self.invariant.bounded))));
+      bounded = subst (λ (l : List PartItem). AreBounds c.complete.new.self l) c.as_slice.ensures.value
+          (c.complete.ensures (subst (λ (l : List PartItem). AreBounds c.put_items-self-inside.new.bounds l) (sym c.as_slice.ensures.value) (c.put_items-self-inside.ensures.bounded (c.put_cells-tally.ensures.bounded c.self.invariant.bounded))));
       up_to = c.put_items-self-inside.ensures.up_to c.max-self-inside.result within (c.put_cells-tally.ensures.up_to c.max-self-inside.result within (up_to_more c.self.inside.items.items c.self.inside.number c.max-self-inside.result up c.self.invariant.up_to));
     }
 

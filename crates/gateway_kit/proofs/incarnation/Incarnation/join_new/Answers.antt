@@ -9,7 +9,7 @@ use Rattle.gateway_kit.specs.Keys.{keyed_cell_of, item_cmp}
 use Rattle.gateway_kit.specs.Places.{IsGap}
 use Rattle.gateway_kit.specs.Tallies.{conflict, conflicts_in}
 use Rattle.gateway_kit.specs.Times.{latest}
-use Rattle.gateway_kit.specs.declared.item.Item.{Item}
+use Rattle.gateway_kit.specs.declared.part_item.PartItem.{PartItem}
 use Rattle.gateway_kit.proofs.Entries.{as_T}
 use Rattle.gateway_kit.specs.Numbers.{ItemsMove}
 use Rattle.gateway_kit.specs.IncarnationState.{IncarnationState}
@@ -46,13 +46,13 @@ invariant_of-self-2 c =
     let long : length (map keyed_cell_of items) ≡ length items = length-map items keyed_cell_of in
     let within : c.args.place ≤ length items = omega (arith, gap.within) in
     record {
-      sorted = ap (λ (l : List Item). is_sorted item_cmp (map keyed_cell_of l)) c.in_ok-insert.ensures.items ∙ sorted_at items item c.args.place c.self.invariant.sorted gap;
+      sorted = ap (λ (l : List PartItem). is_sorted item_cmp (map keyed_cell_of l)) c.in_ok-insert.ensures.items ∙ sorted_at items item c.args.place c.self.invariant.sorted gap;
       tallied = record {
-        newest = c.and-tally.ensures.newest ∙ ap (λ (n : ℕ). max n item.cell.time) c.self.invariant.tallied.newest ∙ sym (latest_insert items item c.args.place within) ∙ ap (λ (l : List Item). latest (map keyed_cell_of l)) (sym c.in_ok-insert.ensures.items);
-        conflicts = c.and-tally.ensures.conflicts ∙ ap (λ (n : ℕ). n + conflict item.cell) c.self.invariant.tallied.conflicts ∙ sym (conflicts_insert items item c.args.place) ∙ ap (λ (l : List Item). conflicts_in (map keyed_cell_of l)) (sym c.in_ok-insert.ensures.items);
+        newest = c.and-tally.ensures.newest ∙ ap (λ (n : ℕ). max n item.cell.time) c.self.invariant.tallied.newest ∙ sym (latest_insert items item c.args.place within) ∙ ap (λ (l : List PartItem). latest (map keyed_cell_of l)) (sym c.in_ok-insert.ensures.items);
+        conflicts = c.and-tally.ensures.conflicts ∙ ap (λ (n : ℕ). n + conflict item.cell) c.self.invariant.tallied.conflicts ∙ sym (conflicts_insert items item c.args.place) ∙ ap (λ (l : List PartItem). conflicts_in (map keyed_cell_of l)) (sym c.in_ok-insert.ensures.items);
       };
       bounded = c.clear.ensures c.insert.new.self.items;
-      up_to = ap (λ (l : List Item). are_up_to c.self.inside.number l) c.in_ok-insert.ensures.items ∙ all_insert (λ (i : Item). nat_le i.number c.self.inside.number) items c.args.place item c.self.invariant.up_to (ap (λ (n : ℕ). nat_le n c.self.inside.number) c.requires.no_number ∙ le_to 0 c.self.inside.number (omega arith));
+      up_to = ap (λ (l : List PartItem). are_up_to c.self.inside.number l) c.in_ok-insert.ensures.items ∙ all_insert (λ (i : PartItem). nat_le i.number c.self.inside.number) items c.args.place item c.self.invariant.up_to (ap (λ (n : ℕ). nat_le n c.self.inside.number) c.requires.no_number ∙ le_to 0 c.self.inside.number (omega arith));
     }
 
 pub returns-clause-joins : goal.returns-clause-joins
@@ -62,7 +62,7 @@ returns-clause-joins c =
     let news = c.insert.new.self.items in
     let listed = cells_of c.args.self.now c.self.inside.writer c.self.inside.start items c.self.invariant.sorted c.self.view_is in
     let gap : IsGap item_cmp (map keyed_cell_of items) (keyed_cell_of item).0 c.args.place = subst (λ (es : List KeyedCell). IsGap item_cmp es (keyed_cell_of item).0 c.args.place) listed c.requires.gap in
-    let sorted = ap (λ (l : List Item). is_sorted item_cmp (map keyed_cell_of l)) c.in_ok-insert.ensures.items ∙ sorted_at items item c.args.place c.self.invariant.sorted gap in
+    let sorted = ap (λ (l : List PartItem). is_sorted item_cmp (map keyed_cell_of l)) c.in_ok-insert.ensures.items ∙ sorted_at items item c.args.place c.self.invariant.sorted gap in
     joins_alike (map keyed_cell_of items) (entries c.args.self.now.cells) (map keyed_cell_of (insert items c.args.place item)) (entries (from_sorted {R = item_cmp} (map keyed_cell_of news))) (keyed_cell_of item) 1 1 (sym listed)
     (ap (map keyed_cell_of) (sym c.in_ok-insert.ensures.items) ∙ sym (entries-from_sorted item_cmp (map keyed_cell_of news) (as_T sorted)))
     (new_at items item c.args.place gap)
@@ -77,6 +77,6 @@ returns-clause-moves c =
     let listed = cells_of c.args.self.now c.self.inside.writer c.self.inside.start items c.self.invariant.sorted c.self.view_is in
     let gap = subst (λ (es : List KeyedCell). IsGap item_cmp es (keyed_cell_of item).0 c.args.place) listed c.requires.gap in
     let news = c.insert.new.self.items in
-    let sorted = ap (λ (l : List Item). is_sorted item_cmp (map keyed_cell_of l)) c.in_ok-insert.ensures.items ∙ sorted_at items item c.args.place c.self.invariant.sorted gap in
+    let sorted = ap (λ (l : List PartItem). is_sorted item_cmp (map keyed_cell_of l)) c.in_ok-insert.ensures.items ∙ sorted_at items item c.args.place c.self.invariant.sorted gap in
     incarnation_moves 0 c.args.self.now _ c.self.inside.writer c.self.inside.writer c.self.inside.start c.self.inside.start items news c.self.invariant.sorted sorted c.self.view_is refl
-    (subst (λ (l : List Item). ItemsMove 0 items l) (sym c.in_ok-insert.ensures.items) (insert_moves items item c.args.place c.requires.no_number gap.none))
+    (subst (λ (l : List PartItem). ItemsMove 0 items l) (sym c.in_ok-insert.ensures.items) (insert_moves items item c.args.place c.requires.no_number gap.none))

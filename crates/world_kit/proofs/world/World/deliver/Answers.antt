@@ -1,11 +1,12 @@
-use Rattle.std.proofs.Common.{◌≡◌, ◌∙◌, ◌-◌, ◌<◌, ◌≤◌, inl, inr, List, length, ap, arith}
+use Rattle.std.proofs.Common.{◌≡◌, ◌∙◌, ◌-◌, ◌<◌, ◌≤◌, inl, inr, List, Some, length, sym, ap, subst, arith}
 use Rattle.std.proofs.lemmas.Grind.{common_steps}
 use Rattle.std.proofs.lemmas.Option.{slice_get_within}
 use Rattle.point_kit.specs.declared.export.Export.{Export}
 use Rattle.world_kit.proofs.Places.{export_missing, export_there, stands_at}
 use Rattle.world_kit.proofs.GatewayEvents.{deliver_nowhere, deliver_wants, deliver_zero, deliver_past, delivers}
 use Rattle.world_kit.proofs.Replies.{left_as, seen_as, wants_as}
-use Rattle.world_kit.specs.WorldState.{export_at}
+use Rattle.world_kit.specs.Wanting.{IsWithoutPoints}
+use Rattle.world_kit.specs.WorldState.{WorldState, export_at}
 use Rattle.world_kit.proofs.world.World.deliver.Goals as goal
 
 pub returns-then-gateway-len-clause-ok : goal.returns-then-gateway-len-clause-ok
@@ -36,3 +37,11 @@ returns-in_err-changed-clause-no_memory c =
     let high = slice_get_within c.self.inside.exports.items (c.args.export - 1) c.in-Some.brought.now its.1 in
     let within : c.args.export ≤ length c.self.inside.exports.items = omega arith in
     wants_as _ _ _ _ c.self.view_is (deliver_wants _ c.args.export c.args.gateway there its.0 within)
+
+pub returns-in_err-changed-clause-no_points : goal.returns-in_err-changed-clause-no_points
+returns-in_err-changed-clause-no_points c = λ none.
+    let at_x : export_at c.args.self.now.exports c.args.export ≡ Some c.in-Some.brought.now =
+    ap (λ (w : WorldState). export_at w.exports c.args.export) (sym c.self.view_is)
+    ∙ sym (c.in-Some.ensures.value ∙ ap (λ (es : List Export). export_at es c.args.export) c.as_slice.ensures.value) in
+    let taken = c.in_err-changed.ensures.no_points (subst IsWithoutPoints at_x none) in
+    cc taken

@@ -1,4 +1,4 @@
-use Rattle.std.proofs.Common.{◌≡◌, Some, None, refl, sym, ap, ◌∙◌, arith, rules}
+use Rattle.std.proofs.Common.{◌≡◌, slice_get, subst, Some, None, refl, sym, ap, ◌∙◌, arith, rules}
 use Rattle.std.proofs.Math.ListN.{set}
 use Rattle.std.proofs.lemmas.Grind.{common_steps}
 use Rattle.std.proofs.lemmas.Int.{to_z-of_z}
@@ -9,9 +9,12 @@ use Rattle.world_kit.proofs.Places.{stands_at}
 use Rattle.world_kit.proofs.Replies.{left_as, seen_as, same_as, wants_as}
 use Rattle.world_kit.proofs.WriterEvents.{measure_nowhere, measure_refused, measure_wants, measures, with_writers}
 use Rattle.world_kit.specs.contracts.world.World as world
-use Rattle.agg_kit.specs.declared.fault.TallyFault.TheVariants.{NoInstrument, Negative, Overflow, NoMemory}
+use Rattle.agg_kit.specs.declared.fault.TallyFault.TheVariants.{NoHeld, NoInstrument, Negative, Overflow, NoMemory}
 use Rattle.world_kit.specs.declared.event.Refusal.{Refusal}
+use Rattle.agg_kit.specs.Entries.{entry_of}
 use Rattle.world_kit.specs.Told.{measure_refusal}
+use Rattle.world_kit.specs.Wanting.{HasPoints}
+use Rattle.world_kit.specs.WorldState.{WorldState}
 use Rattle.writer_kit.specs.declared.fault.MeasureFault.{MeasureFault}
 use Rattle.writer_kit.specs.declared.fault.MeasureFault.TheVariants.{Closed, Refused}
 use Rattle.world_kit.proofs.world.World.measure.Goals as goal
@@ -51,6 +54,7 @@ returns-clause-ok c =
 -- what is no refusal is want of memory
 memory_of : (f : MeasureFault) → measure_refusal f ≡ None → f ≡ Refused NoMemory
 memory_of Closed none = cc
+memory_of (Refused NoHeld) none = cc
 memory_of (Refused NoInstrument) none = cc
 memory_of (Refused Negative) none = cc
 memory_of (Refused (Overflow s)) none = cc
@@ -65,3 +69,10 @@ returns-in_err-told_measure-clause-no_memory c =
     let fits : FitsSigned w64 c.args.value = search rules in
     let early = simp to_z-of_z at (its.no_memory memory) in
     wants_as _ _ _ _ c.self.view_is (measure_wants (world.the_view c.self.inside) c.args.writer x at_v c.args.instrument c.args.attrs.now c.args.value early)
+
+pub returns-in_err-told_measure-clause-held : goal.returns-in_err-told_measure-clause-held
+returns-in_err-told_measure-clause-held c = λ held.
+    let x = c.index_mut.result.now in
+    let at_v = stands_at c.self.inside.writers.items c.args.writer x (grind (arith, common_steps)) c.index_mut.ensures.value in
+    let at_w : slice_get c.args.self.now.writers c.args.writer ≡ Some x = ap (λ (w : WorldState). slice_get w.writers c.args.writer) (sym c.self.view_is) ∙ at_v in
+    absurd (c.in-Err.ensures.held (subst (HasPoints (entry_of c.args.instrument c.args.attrs.now c.args.value)) at_w held) (memory_of c.in-Err.fault c.in_err-told_measure.ensures.no_memory))

@@ -1,4 +1,4 @@
-use Rattle.std.proofs.Common.{◌≡◌, ℕ, ◌<◌, length, length-set, List, ◌++◌, take, drop, get_or, subst, sym, ap, ◌∙◌, arith}
+use Rattle.std.proofs.Common.{◌≡◌, ℕ, ◌<◌, length, length-set, List, slice_get, ◌++◌, take, drop, get_or, subst, sym, ap, ◌∙◌, arith}
 use Rattle.std.proofs.lemmas.Grind.{common_steps}
 use Rattle.std.proofs.lemmas.Option.{slice_get-get_or}
 use Rattle.world_kit.proofs.GatewayEvents.{merge_nowhere, merge_none, merge_wants, merges_itself, merges, with_nodes}
@@ -8,6 +8,8 @@ use Rattle.world_kit.specs.contracts.world.World as world
 use Rattle.world_kit.specs.declared.event.Event.TheVariants as event
 use Rattle.world_kit.specs.declared.event.Reply.TheVariants as reply
 use Rattle.world_kit.specs.Stands.{Acts}
+use Rattle.world_kit.specs.Wanting.{IsEmpty}
+use Rattle.world_kit.specs.WorldState.{WorldState}
 use Rattle.world_kit.proofs.world.World.merge.Goals as goal
 
 pub returns-then-into-len-clause-ok : goal.returns-then-into-len-clause-ok
@@ -43,3 +45,13 @@ returns-clause-ok c =
 
 pub returns-in_err-changed-clause-no_memory : goal.returns-in_err-changed-clause-no_memory
 returns-in_err-changed-clause-no_memory c = wants_as _ _ _ _ c.self.view_is (merge_wants _ c.args.into c.args.from (grind (arith, common_steps)) (grind (arith, common_steps)))
+
+pub returns-in_err-changed-clause-itself : goal.returns-in_err-changed-clause-itself
+returns-in_err-changed-clause-itself c = λ same. absurd (c.if-into-from.false same)
+
+pub returns-in_err-changed-clause-empty : goal.returns-in_err-changed-clause-empty
+returns-in_err-changed-clause-empty c = λ none.
+    let seen : slice_get c.args.self.now.nodes c.args.from ≡ slice_get c.deref_mut.result.now c.args.from =
+    ap (λ (w : WorldState). slice_get w.nodes c.args.from) (sym c.self.view_is) ∙ ap (λ ns. slice_get ns c.args.from) (sym c.deref_mut.ensures.value) in
+    let done = c.in_err-changed.ensures.empty (subst IsEmpty seen none) in
+    cc done

@@ -1,5 +1,0 @@
-use Rattle.std.proofs.Common.{length}
-use Rattle.agg_kit.proofs.bound.+are_at.Given as goal
-
-abbrev pub decreases-are_at : goal.decreases-are_at
-decreases-are_at l = length l.feeds.now

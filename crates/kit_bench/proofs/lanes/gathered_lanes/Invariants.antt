@@ -1,5 +1,0 @@
-use Rattle.writer_kit.specs.Shared.{IsAt}
-use Rattle.kit_bench.proofs.lanes.gathered_lanes.Given as goal
-
-abbrev pub invariant-loop : goal.invariant-loop
-invariant-loop g l = IsAt l.shared l.first

@@ -1,0 +1,5 @@
+pub mod Doubled
+pub mod Fronts
+pub mod Refused
+pub mod Rising
+pub mod Written

@@ -1,0 +1,5 @@
+pub mod Doubles
+pub mod Refusals
+pub mod Request
+pub mod Runs
+pub mod Wire

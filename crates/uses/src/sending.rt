@@ -1,0 +1,16 @@
+//! Exports for systems that speak OpenTelemetry's protocol.
+ghost use Rattle.std.specs.Prelude.{◌≡◌, None, IfOk, OnOk};
+ghost use Rattle.otlp_kit.specs.Refusals.{otlp_fault};
+ghost use Rattle.otlp_kit.specs.Request.{request};
+
+use otlp_kit::{OtlpFault, encode_otlp};
+use point_kit::Export;
+use std::alloc::Global;
+
+/// The body of a POST to a Collector's `/v1/metrics`, which brings an export.
+pub fn body_for_collector(alloc: Global, export: &Export) -> Result<Vec<u8>, OtlpFault>
+    ensures value { IfOk result (λ bytes. bytes.items ≡ request export.now) }
+    ensures ok { OnOk result (otlp_fault export.now ≡ None) }
+{
+    encode_otlp(alloc, export)
+}
