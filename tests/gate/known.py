@@ -1,17 +1,40 @@
+#!/usr/bin/env python3
 """Which edits are known to be refused: a ledger that runs write, and that is committed.
+
+    tests/gate/known.py                what the ledger says of each edit, by crates
+    tests/gate/known.py merge FILE..   takes from ledgers of other clones the lines that hold of this tree
+    tests/gate/known.py leave          has the ledger say `untried` of each edit that it does not know
 
 An edit's result is known where nothing that it stands on changed since a run saw it refused: the edit, its crate, the contracts of the crates below, and
 the toolchain. All of that is one digest, and a line of the ledger is an edit's name with it. A wrong body is refused by the contracts of what it calls, so the
-bodies and the proofs of crates below take no part."""
+bodies and the proofs of crates below take no part. A line that ends in `untried` says of an edit that no run has tried it at just this text.
+
+An edit that has no line, or one with another digest, is of the change at hand: a gate that leaves it untried fails. So `leave` excuses edits. The ledger's head
+says how many lines may be `untried`, and that number only falls.
+
+A program of LATER has a line too, under its crate's name: with all that it runs, its digest has the bodies of the crates below."""
+import collections
 import hashlib
 import os
 import pathlib
+import sys
 
 import edits
-from kit import version
+from kit import edits_of, rtlib, version
 
-LEDGER = pathlib.Path(__file__).resolve().parent / "known.txt"
+TOP = pathlib.Path(__file__).resolve().parents[2]
+LEDGER = TOP / "tests" / "gate" / "known.txt"
 OWN, BELOW = ("src", "specs", "proofs"), ("src", "specs")
+# Programs that promise nothing, and come after the edits: the folders of tests/ that run each, and the programs that these run too.
+LATER = {"kit_bench": ((), ()), "refusals": (("refusals", "faults"), ("otm",))}
+GIVEN = ("args", "stdin", "stdout", "status")
+# What the ledger says of an edit: a run saw it refused; it was left at just this text; or it is of the change at hand.
+KNOWN, BEFORE, CHANGED = "known", "left before", "of this change"
+HEAD = """\
+# Edits that a run saw refused, each with the digest of what it stands on, and those that were left (`untried`). Written by tests/gate (known.py).
+# toolchain: {toolchain}
+# untried, at most: {most}
+"""
 
 
 def texts(folder, parts):
@@ -55,41 +78,151 @@ def contracts_of(crate):
     return digest_of([crate.name, *(it for pair in found for it in pair)])
 
 
-def ground_of(crate):
+def sources_of(crate):
+    """The digest of what a crate does when it runs."""
+    return digest_of([crate.name, *(it for pair in texts(crate.folder, ("src",)) for it in pair)])
+
+
+def ground_of(crate, toolchain):
     """The digest of what the edits of a crate stand on, but for their own texts."""
     own = [it for pair in texts(crate.folder, OWN) for it in pair]
-    return digest_of([version(), *own, *(contracts_of(it) for it in crate.below())])
+    return digest_of([toolchain, *own, *(contracts_of(it) for it in crate.below())])
+
+
+def ground_of_program(crate, toolchain, crates):
+    """The digest of what a program of LATER, and whoever runs it, stands on."""
+    folders, beside = LATER[crate.name]
+    files = [pathlib.Path(crate.folder, it) for it in GIVEN] + [it for of in folders for it in sorted((TOP / "tests" / of).rglob("*.[pc]*"))]
+    given = [f"{it.name}:{it.read_text(encoding='utf-8', errors='replace')}" for it in files if it.is_file() and "__pycache__" not in it.parts]
+    others = [it for it in crates if it.name in beside]
+    run = {it.name: it for of in [crate, *others] for it in of.below()} | {it.name: it for it in others}
+    return digest_of([ground_of(crate, toolchain), *given, *(sources_of(run[name]) for name in sorted(run))])
 
 
 class Known:
     """The ledger, and which of the edits that are asked for it knows."""
 
-    def __init__(self, file=LEDGER):
-        self.file, self.grounds = file, {}
-        lines = file.read_text(encoding="utf-8").splitlines() if file.is_file() else []
-        self.lines = dict(it.rsplit(" ", 1) for it in lines if it and not it.startswith("#"))
+    def __init__(self, file=LEDGER, toolchain=None):
+        self.file, self.toolchain, self.grounds = pathlib.Path(file), toolchain or version(), {}
+        self.of, self.most, self.lines = self.toolchain, float("inf"), {}
+        for line in self.file.read_text(encoding="utf-8").splitlines() if self.file.is_file() else []:
+            if line.startswith("# toolchain: "):
+                self.of = line.removeprefix("# toolchain: ")
+            elif line.startswith("# untried, at most: "):
+                self.most = int(line.removeprefix("# untried, at most: "))
+            elif line and not line.startswith("#"):
+                name, digest, *untried = line.split(" ")
+                self.lines[name] = digest, not untried
 
-    def digest(self, crate, path):
-        if crate.name not in self.grounds:
-            self.grounds[crate.name] = ground_of(crate)
-        return digest_of([self.grounds[crate.name], pathlib.Path(path).read_text(encoding="utf-8")])
+    def ground(self, crate, toolchain):
+        if (crate.name, toolchain) not in self.grounds:
+            self.grounds[crate.name, toolchain] = ground_of(crate, toolchain)
+        return self.grounds[crate.name, toolchain]
 
-    def has(self, crate, path):
-        return self.lines.get(name_of(crate, path)) == self.digest(crate, path)
+    def digest(self, crate, path, toolchain=None):
+        return digest_of([self.ground(crate, toolchain or self.toolchain), pathlib.Path(path).read_text(encoding="utf-8")])
+
+    def kind(self, crate, path):
+        """What the ledger says of an edit. Under another toolchain than the ledger's nothing is known, and what it tells of was left."""
+        digest, was_refused = self.lines.get(name_of(crate, path), ("", False))
+        if digest != self.digest(crate, path, self.of):
+            return CHANGED
+        return KNOWN if was_refused and self.of == self.toolchain else BEFORE
+
+    def has_program(self, crate, crates):
+        """Whether a run saw this program proved, and run well, as it is."""
+        digest, was_proved = self.lines.get(crate.name, ("", False))
+        return was_proved and digest == ground_of_program(crate, self.toolchain, crates)
 
     def note(self, crate, path, is_refused):
         """Notes what came of an edit."""
         if is_refused:
-            self.lines[name_of(crate, path)] = self.digest(crate, path)
+            self.lines[name_of(crate, path)] = self.digest(crate, path), True
         else:
             self.lines.pop(name_of(crate, path), None)
 
-    def write(self, names):
-        """Writes the ledger, with those edits alone that there are."""
-        self.lines = {name: digest for name, digest in self.lines.items() if name in names}
-        head = "# Edits that a run saw refused, each with the digest of what it stands on (known.py). Written by tests/gate/run.py.\n"
-        self.file.write_text(head + "".join(f"{name} {digest}\n" for name, digest in sorted(self.lines.items())), encoding="utf-8")
+    def note_program(self, crate, crates):
+        self.lines[crate.name] = ground_of_program(crate, self.toolchain, crates), True
+
+    def untried(self):
+        return sum(not was_refused for _, was_refused in self.lines.values())
+
+    def leave(self, crate, path):
+        """Says of an edit that it is left as it is."""
+        self.lines[name_of(crate, path)] = self.digest(crate, path), False
+
+    def renew(self, found):
+        """Begins the ledger anew under another toolchain: what no run has seen refused under this one is left."""
+        fresh = {name_of(*it): self.lines.get(name_of(*it)) == (self.digest(*it), True) for it in found}
+        waiting = [it for it in found if not fresh[name_of(*it)] and self.kind(*it) != CHANGED]
+        self.lines = {name: line for name, line in self.lines.items() if fresh.get(name)}
+        for it in waiting:
+            self.leave(*it)
+        self.of, self.most = self.toolchain, self.untried()
+
+    def write(self, found):
+        """Writes the ledger, with those edits alone that there are, each given as its crate and its file."""
+        if self.of != self.toolchain:
+            self.renew(found)
+        names = {name_of(*it) for it in found} | set(LATER)
+        self.lines = {name: line for name, line in self.lines.items() if name in names}
+        self.most = min(self.most, self.untried())
+        lines = [f"{name} {digest}{'' if was_refused else ' untried'}\n" for name, (digest, was_refused) in sorted(self.lines.items())]
+        self.file.write_text(HEAD.format(toolchain=self.toolchain, most=self.most) + "".join(lines), encoding="utf-8")
 
 
 def name_of(crate, path):
     return f"{crate.name}/{os.path.basename(path)}"
+
+
+def edits_in(crates):
+    """Each edit of these crates, with its crate."""
+    return [(crate, path) for crate in crates for path in edits_of(crate)[0]]
+
+
+def merge(book, found, files):
+    """Takes the lines of other ledgers that hold of this tree; gives how many were not known before."""
+    new = 0
+    for file in files:
+        other = Known(file, book.toolchain)
+        for crate, path in found:
+            if book.kind(crate, path) != KNOWN and other.kind(crate, path) == KNOWN:
+                book.note(crate, path, True)
+                new += 1
+    return new
+
+
+def leave(book, found):
+    """Leaves each edit that is not known; gives how many may not be left, and then leaves none."""
+    waiting = [it for it in found if book.kind(*it) != KNOWN]
+    if len(waiting) > book.most:
+        return len(waiting) - book.most
+    for it in waiting:
+        book.leave(*it)
+    return 0
+
+
+def main(words):
+    crates = rtlib.crates_below(str(TOP))
+    book, found = Known(), edits_in(crates)
+    if words[:1] == ["merge"] and words[1:]:
+        print(f"{merge(book, found, words[1:])} edits more are known")
+        book.write(found)
+    elif words == ["leave"]:
+        over = leave(book, found)
+        if over:
+            print(f"{over} edits more than may be left ({book.most}) are not known: python3 tests/gate/run.py edits NAME.. tries them")
+            return 1
+        book.write(found)
+    elif words:
+        print(__doc__)
+        return 2
+    kinds = collections.Counter((crate.name, book.kind(crate, path)) for crate, path in found)
+    for name in dict.fromkeys(crate.name for crate, _ in found):
+        print(f"{name}: " + ", ".join(f"{kinds[name, kind]} {kind}" for kind in (KNOWN, BEFORE, CHANGED) if kinds[name, kind]))
+    print(f"{len(found)} edits: " + ", ".join(f"{sum(n for (_, it), n in kinds.items() if it == kind)} {kind}" for kind in (KNOWN, BEFORE, CHANGED)))
+    return 0
+
+
+if __name__ == "__main__":
+    sys.exit(main(sys.argv[1:]))
