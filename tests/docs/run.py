@@ -82,7 +82,7 @@ def long_sentences(text):
     """The line, the number of words and the beginning of each sentence that is too long."""
     for number, passage in passages(text):
         passage = re.sub(r"\]\([^)]*\)", "]", re.sub(SPAN, "X", passage))
-        for sentence in re.split(r"(?<=[.!?])\)?\s+(?=[A-Z\[0-9(*\"])", passage):
+        for sentence in re.split(r"(?<=[.!?])[)*]*\s+(?=[A-Z\[0-9(*\"])", passage):
             count = len(re.findall(r"[A-Za-z0-9][\w'.@/-]*", sentence))
             if count > MOST_WORDS:
                 yield number, count, sentence[:60]
