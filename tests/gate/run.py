@@ -44,7 +44,8 @@ COUNT = re.compile(r"^(\d+) passed, (\d+) failed$")
 class Crate(rt.Crate):
     """A crate whose proof is kept in a folder of this run, so that its tests and its edits stand on it."""
 
-    proved, functions = {}, {}
+    # (late are those that the end of the time stopped)
+    proved, functions, late = {}, {}, set()
 
     def prove(self, *commands):
         out = self.out
@@ -67,6 +68,8 @@ class Crate(rt.Crate):
         is_linked = (self.is_program or self.is_static) and not tests
         status = self.ci_of_linked(flags) if is_linked else super().ci(flags, tests)
         Crate.proved[self.name, tests] = not status
+        if status and trials.is_over():
+            Crate.late.add(self.name)
         return status
 
     def ci_of_linked(self, flags):
@@ -232,7 +235,7 @@ class Gate:
             asked = {it.name for it in self.later if it not in self.spared}
             if later and all(given.values()) and not trials.is_over():
                 given |= in_lanes(over_given({key: task for key, task in tasks.items() if key[0] in asked & later}, given))
-            self.left = sorted(it for it in asked & later if not given.get((it, "proof")) and (trials.is_over() or (it, "proof") not in given))
+            self.left = sorted(it for it in asked & later if (it, "proof") not in given or it in Crate.late)
             for crate in [it for it in self.listed or [] if it.name in self.left or it.name in later - asked]:
                 self.listed.remove(crate)
             self.stage("programs that promise nothing")
