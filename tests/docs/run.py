@@ -30,7 +30,7 @@ import re
 import sys
 
 TOP = pathlib.Path(sys.argv[1] if sys.argv[1:] else pathlib.Path(__file__).resolve().parents[2]).resolve()
-PAGES = ["README.md", "CONTRIBUTING.md", *(f"docs/{it}.md" for it in ("ARCHITECTURE", "DECISIONS", "DEFINITIONS", "GOSSIP", "GUIDE", "HISTORIES", "PERFORMANCE", "PROMISES", "SCRIPTS"))]
+PAGES = ["README.md", "CONTRIBUTING.md", *(f"docs/{it}.md" for it in ("ARCHITECTURE", "BYTES", "DECISIONS", "DEFINITIONS", "GATE", "GOSSIP", "GUIDE", "HISTORIES", "PERFORMANCE", "PROMISES", "SCRIPTS"))]
 MOST_WORDS, MOST_WIDE, MOST_IN_CELL = 29, 140, 200
 # Pages that are not held to these numbers yet.
 UNBOUND = {"docs/EMBEDDING.md", "docs/INTEROP.md", "docs/PERFORMANCE.md"}
