@@ -5,9 +5,10 @@
     tests/gate/known.py merge FILE..   takes from ledgers of other clones the lines that hold of this tree
     tests/gate/known.py leave          has the ledger say `untried` of each edit that it does not know
 
-An edit's result is known where nothing that it stands on changed since a run saw it refused: the edit, its crate, the contracts of the crates below, and
-the toolchain. All of that is one digest, and a line of the ledger is an edit's name with it. A wrong body is refused by the contracts of what it calls, so the
-bodies and the proofs of crates below take no part. A line that ends in `untried` says of an edit that no run has tried it at just this text.
+An edit's result is known where nothing that it stands on changed since a run saw it refused. That is the edit, the text and the proof of the functions that it
+changes, the contracts, types, definitions and lemmas of its crate, the contracts and definitions of the crates below, and the toolchain. All of that is one
+digest, and a line of the ledger is an edit's name with it. A function is proved from the contracts of what it calls, so other bodies and their proofs take no
+part. Where an edit lies in no function, all of its crate takes part. A line that ends in `untried` says of an edit that no run has tried it at just this text.
 
 An edit that has no line, or one with another digest, is of the change at hand: a gate that leaves it untried fails. So `leave` excuses edits. The ledger's head
 says how many lines may be `untried`, and that number only falls.
@@ -25,6 +26,8 @@ from kit import edits_of, rtlib, version
 TOP = pathlib.Path(__file__).resolve().parents[2]
 LEDGER = TOP / "tests" / "gate" / "known.txt"
 OWN, BELOW = ("src", "specs", "proofs"), ("src", "specs")
+# The files of proofs/ that are of one function, whose folder has its name, or that with a plus before it.
+OF_FUNCTIONS = ("Answers.antt", "Invariants.antt", "Proof.antt")
 # Programs that promise nothing, and come after the edits: the folders of tests/ that run each, and the programs that these run too.
 LATER = {"kit_bench": ((), ()), "refusals": (("refusals", "faults"), ("otm",))}
 GIVEN = ("args", "stdin", "stdout", "status")
@@ -44,8 +47,11 @@ def texts(folder, parts):
 
 
 def told(file):
-    begins = "//" if file.suffix == ".rt" else "--"
-    return "\n".join(it for it in file.read_text(encoding="utf-8").split("\n") if not it.lstrip().startswith(begins))
+    return without_comments(file.read_text(encoding="utf-8"), "//" if file.suffix == ".rt" else "--")
+
+
+def without_comments(text, begins):
+    return "\n".join(it for it in text.split("\n") if not it.lstrip().startswith(begins))
 
 
 def without_bodies(text):
@@ -72,10 +78,14 @@ def digest_of(pieces):
     return sum_.hexdigest()
 
 
-def contracts_of(crate):
-    """The digest of what crates above see of a crate."""
-    found = [(name, without_bodies(text) if name.endswith(".rt") else text) for name, text in texts(crate.folder, BELOW)]
+def contracts_of(crate, parts=BELOW):
+    """The digest of what functions see of others of a crate."""
+    found = [(name, without_bodies(text) if name.endswith(".rt") else text) for name, text in texts(crate.folder, parts) if not is_of_function(name)]
     return digest_of([crate.name, *(it for pair in found for it in pair)])
+
+
+def is_of_function(name):
+    return name.startswith("proofs/") and name.endswith(OF_FUNCTIONS)
 
 
 def sources_of(crate):
@@ -87,6 +97,39 @@ def ground_of(crate, toolchain):
     """The digest of what the edits of a crate stand on, but for their own texts."""
     own = [it for pair in texts(crate.folder, OWN) for it in pair]
     return digest_of([toolchain, *own, *(contracts_of(it) for it in crate.below())])
+
+
+def ground_of_functions(crate, toolchain):
+    """The digest of what each edit of a crate stands on, but for the functions that it changes and its own text."""
+    return digest_of([toolchain, contracts_of(crate, OWN), *(contracts_of(it) for it in crate.below())])
+
+
+def functions_of(crate, path, proofs):
+    """The texts and the proofs of the functions that an edit changes, of these proofs by functions; none where it changes anything else."""
+
+    def source(file):
+        return pathlib.Path(crate.folder, file).read_text(encoding="utf-8")
+
+    try:
+        made = edits.applied({}, edits.read(path), source)
+    except OSError:
+        return []
+    found = []
+    for file, folder, owner in made[1] if made else ():
+        lines = source(file).split("\n")
+        spans = [it for it in edits.spans_of(file, source(file)) if (it.folder, it.owner) == (folder, owner)]
+        found += [file, *(without_comments("\n".join(lines[it.first - 1 : it.last]), "//") for it in spans)]
+        found += proofs.get(folder.rpartition("/")[2], [])
+    return found
+
+
+def proofs_of(crate):
+    """The texts of the proofs of functions, by the functions' names: of two that share one both."""
+    found = collections.defaultdict(list)
+    for name, text in texts(crate.folder, ("proofs",)):
+        if is_of_function(name):
+            found[pathlib.Path(name).parent.name.removeprefix("+")] += [name, text]
+    return found
 
 
 def ground_of_program(crate, toolchain, crates):
@@ -103,7 +146,7 @@ class Known:
     """The ledger, and which of the edits that are asked for it knows."""
 
     def __init__(self, file=LEDGER, toolchain=None):
-        self.file, self.toolchain, self.grounds = pathlib.Path(file), toolchain or version(), {}
+        self.file, self.toolchain, self.grounds, self.found = pathlib.Path(file), toolchain or version(), {}, {}
         self.of, self.most, self.lines = self.toolchain, float("inf"), {}
         for line in self.file.read_text(encoding="utf-8").splitlines() if self.file.is_file() else []:
             if line.startswith("# toolchain: "):
@@ -114,18 +157,27 @@ class Known:
                 name, digest, *untried = line.split(" ")
                 self.lines[name] = digest, not untried
 
-    def ground(self, crate, toolchain):
-        if (crate.name, toolchain) not in self.grounds:
-            self.grounds[crate.name, toolchain] = ground_of(crate, toolchain)
-        return self.grounds[crate.name, toolchain]
+    def ground(self, of, crate, *toolchain):
+        if (of, crate.name, *toolchain) not in self.grounds:
+            self.grounds[of, crate.name, *toolchain] = of(crate, *toolchain)
+        return self.grounds[of, crate.name, *toolchain]
 
-    def digest(self, crate, path, toolchain=None):
-        return digest_of([self.ground(crate, toolchain or self.toolchain), pathlib.Path(path).read_text(encoding="utf-8")])
+    def digests(self, crate, path, toolchain):
+        """The digest of an edit's text and all that it stands on; and one in which all of its crate takes part, which a line may have too."""
+        if (path, toolchain) not in self.found:
+            text, functions = pathlib.Path(path).read_text(encoding="utf-8"), functions_of(crate, path, self.ground(proofs_of, crate))
+            whole = digest_of([self.ground(ground_of, crate, toolchain), text])
+            own = digest_of([self.ground(ground_of_functions, crate, toolchain), text, *functions]) if functions else whole
+            self.found[path, toolchain] = own, whole
+        return self.found[path, toolchain]
+
+    def digest(self, crate, path):
+        return self.digests(crate, path, self.toolchain)[0]
 
     def kind(self, crate, path):
         """What the ledger says of an edit. Under another toolchain than the ledger's nothing is known, and what it tells of was left."""
         digest, was_refused = self.lines.get(name_of(crate, path), ("", False))
-        if digest != self.digest(crate, path, self.of):
+        if digest not in self.digests(crate, path, self.of):
             return CHANGED
         return KNOWN if was_refused and self.of == self.toolchain else BEFORE
 
@@ -164,6 +216,10 @@ class Known:
         """Writes the ledger, with those edits alone that there are, each given as its crate and its file."""
         if self.of != self.toolchain:
             self.renew(found)
+        for it in found:
+            digest, was_refused = self.lines.get(name_of(*it), ("", False))
+            if digest in self.digests(*it, self.toolchain):
+                self.lines[name_of(*it)] = self.digest(*it), was_refused
         names = {name_of(*it) for it in found} | set(LATER)
         self.lines = {name: line for name, line in self.lines.items() if name in names}
         self.most = min(self.most, self.untried())

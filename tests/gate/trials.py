@@ -14,6 +14,8 @@ from kit import BAD, ONE_JOB, REFUSED, linked, listing, must_fail, patiently, rt
 
 # More edits in one check than this would be lost at once where time is over.
 MOST_TOGETHER = 40
+# What a check over kept work takes of the memory that the toolchain reckons for one from nothing: of kit_c 1.4 GB were seen where it reckons 8.
+SHARE = 0.5
 FUNCTION = re.compile(r"^fn (\w+)::(\S+?): ", re.M)
 ENDED = re.compile(r"^checked (\w+)::(\S+), \d+ of \d+$")
 COUNTS = re.compile(r"^only=\d+ proved=\d+$")
@@ -172,10 +174,10 @@ def all_edits(trials):
     Gives how many were refused, the names of those that were not, and the seconds that each took."""
     refused, failed, took = 0, [], {}
     rounds = [(trial, texts, members) for trial in trials for texts, members in trial.rounds]
-    side_by_side([(rt.need(it.crate), round_of(it, texts, members)) for it, texts, members in sorted(rounds, key=lambda it: -len(it[2]))])
+    side_by_side([(SHARE * rt.need(it.crate), round_of(it, texts, members)) for it, texts, members in sorted(rounds, key=lambda it: -len(it[2]))])
     for trial in trials:
         rt.say(f"{trial.crate.name}: {len(trial.told)} of {len(trial.edits)} edits told by {len(trial.rounds)} rounds")
-    side_by_side([(rt.need(it.crate), alone(it, edit)) for it in trials for edit in it.untold()])
+    side_by_side([(SHARE * rt.need(it.crate), alone(it, edit)) for it in trials for edit in it.untold()])
     for trial in trials:
         good, bad = trial.end()
         refused, failed = refused + good, failed + bad

@@ -19,6 +19,12 @@ pub fn next(n: u32) -> u32
 {
     n + 1
 }
+
+pub fn last(n: u32) -> u32
+    ensures value { result ≤ n }
+{
+    n
+}
 """
 EDIT = "file: src/lib.rt\nold:     n + 1\nnew:     n\n"
 
@@ -84,14 +90,20 @@ class Trial:
         self.says("what a run saw refused is known", self.kinds() == [KNOWN] * 3 and self.has_program())
         for what, path, text, kinds, is_kept in (
             ("a comment changes nothing", "src/lib.rt", "// Why.\n" + SOURCE, [KNOWN] * 3, True),
-            ("a body changes its crate, and what runs it", "src/lib.rt", SOURCE.replace("    n + 1\n}", "    1 + n\n}"), [CHANGED, KNOWN, KNOWN], False),
+            ("a body changes its own edits, and what runs it", "src/lib.rt", SOURCE.replace("    n + 1\n}", "    let _ = n;\n    n + 1\n}"), [CHANGED, KNOWN, KNOWN], False),
+            ("another body changes what runs it alone", "src/lib.rt", SOURCE.replace("    n\n}", "    n / 1\n}"), [KNOWN] * 3, False),
             ("a contract changes the crates above too", "src/lib.rt", SOURCE.replace("result ≡", "result ≥"), [CHANGED] * 3, False),
+            ("another contract does so", "src/lib.rt", SOURCE.replace("result ≤", "result ≡"), [CHANGED] * 3, False),
             ("a definition does so", "specs/Words.antt", "word", [CHANGED] * 3, False),
-            ("a proof changes its crate alone", "proofs/Steps.antt", "step", [CHANGED, KNOWN, KNOWN], True),
+            ("and one in a file named as a proof's", "specs/Answers.antt", "word", [CHANGED] * 3, False),
+            ("a lemma changes its crate alone", "proofs/Steps.antt", "step", [CHANGED, KNOWN, KNOWN], True),
+            ("a function's proof changes its own edits", "proofs/next/Answers.antt", "step", [CHANGED, KNOWN, KNOWN], True),
+            ("a loop's proof does so", "proofs/+next/Invariants.antt", "step", [CHANGED, KNOWN, KNOWN], True),
+            ("another function's proof changes none", "proofs/last/Answers.antt", "step", [KNOWN] * 3, True),
             ("an edit changes itself alone", "must-fail/it_is_the_same.edit", EDIT + "\n", [CHANGED, KNOWN, KNOWN], True),
         ):
             file = pathlib.Path(self.low.folder, path)
-            file.parent.mkdir(exist_ok=True)
+            file.parent.mkdir(exist_ok=True, parents=True)
             was = file.read_text(encoding="utf-8") if file.is_file() else None
             self.low.write(path, text)
             self.says(what, self.kinds() == kinds and self.has_program() == is_kept)
