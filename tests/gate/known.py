@@ -3,15 +3,15 @@
 
     tests/gate/known.py                what the ledger says of each edit, by crates
     tests/gate/known.py merge FILE..   takes from ledgers of other clones the lines that hold of this tree
-    tests/gate/known.py leave          has the ledger say `untried` of each edit that it does not know
+    tests/gate/known.py leave          leaves edits of this change that no run ever saw refused, where they were left before
 
 An edit's result is known where nothing that it stands on changed since a run saw it refused. That is the edit, the text and the proof of the functions that it
 changes, the contracts, types, definitions and lemmas of its crate, the contracts and definitions of the crates below, and the toolchain. All of that is one
 digest, and a line of the ledger is an edit's name with it. A function is proved from the contracts of what it calls, so other bodies and their proofs take no
 part. Where an edit lies in no function, all of its crate takes part. A line that ends in `untried` says of an edit that no run has tried it at just this text.
 
-An edit that has no line, or one with another digest, is of the change at hand: a gate that leaves it untried fails. So `leave` excuses edits. The ledger's head
-says how many lines may be `untried`, and that number only falls.
+An edit that has no line, or one with another digest, is of the change at hand: a gate that leaves it untried fails. `leave` excuses those of them whose line
+says `untried` already. A new edit, and one that a run saw refused once, can't be left; so lines `untried` only grow fewer.
 
 A program of LATER has a line too, under its crate's name: with all that it runs, its digest has the bodies of the crates below."""
 import collections
@@ -36,7 +36,6 @@ KNOWN, BEFORE, CHANGED = "known", "left before", "of this change"
 HEAD = """\
 # Edits that a run saw refused, each with the digest of what it stands on, and those that were left (`untried`). Written by tests/gate (known.py).
 # toolchain: {toolchain}
-# untried, at most: {most}
 """
 
 
@@ -147,12 +146,10 @@ class Known:
 
     def __init__(self, file=LEDGER, toolchain=None):
         self.file, self.toolchain, self.grounds, self.found = pathlib.Path(file), toolchain or version(), {}, {}
-        self.of, self.most, self.lines = self.toolchain, float("inf"), {}
+        self.of, self.lines = self.toolchain, {}
         for line in self.file.read_text(encoding="utf-8").splitlines() if self.file.is_file() else []:
             if line.startswith("# toolchain: "):
                 self.of = line.removeprefix("# toolchain: ")
-            elif line.startswith("# untried, at most: "):
-                self.most = int(line.removeprefix("# untried, at most: "))
             elif line and not line.startswith("#"):
                 name, digest, *untried = line.split(" ")
                 self.lines[name] = digest, not untried
@@ -210,7 +207,7 @@ class Known:
         self.lines = {name: line for name, line in self.lines.items() if fresh.get(name)}
         for it in waiting:
             self.leave(*it)
-        self.of, self.most = self.toolchain, self.untried()
+        self.of = self.toolchain
 
     def write(self, found):
         """Writes the ledger, with those edits alone that there are, each given as its crate and its file."""
@@ -222,9 +219,8 @@ class Known:
                 self.lines[name_of(*it)] = self.digest(*it), was_refused
         names = {name_of(*it) for it in found} | set(LATER)
         self.lines = {name: line for name, line in self.lines.items() if name in names}
-        self.most = min(self.most, self.untried())
         lines = [f"{name} {digest}{'' if was_refused else ' untried'}\n" for name, (digest, was_refused) in sorted(self.lines.items())]
-        self.file.write_text(HEAD.format(toolchain=self.toolchain, most=self.most) + "".join(lines), encoding="utf-8")
+        self.file.write_text(HEAD.format(toolchain=self.toolchain) + "".join(lines), encoding="utf-8")
 
 
 def name_of(crate, path):
@@ -249,13 +245,12 @@ def merge(book, found, files):
 
 
 def leave(book, found):
-    """Leaves each edit that is not known; gives how many may not be left, and then leaves none."""
-    waiting = [it for it in found if book.kind(*it) != KNOWN]
-    if len(waiting) > book.most:
-        return len(waiting) - book.most
-    for it in waiting:
+    """Leaves what is of this change and was left before, or all where the ledger is without lines; gives what can't be left."""
+    is_new, changed = not book.lines, [it for it in found if book.kind(*it) == CHANGED]
+    may = [it for it in changed if is_new or not book.lines.get(name_of(*it), ("", True))[1]]
+    for it in may:
         book.leave(*it)
-    return 0
+    return [it for it in changed if it not in may]
 
 
 def main(words):
@@ -265,10 +260,8 @@ def main(words):
         print(f"{merge(book, found, words[1:])} edits more are known")
         book.write(found)
     elif words == ["leave"]:
-        over = leave(book, found)
-        if over:
-            print(f"{over} edits more than may be left ({book.most}) are not known: python3 tests/gate/run.py edits NAME.. tries them")
-            return 1
+        for it in leave(book, found):
+            print(f"{name_of(*it)} is new, or a run saw it refused: it is to be tried")
         book.write(found)
     elif words:
         print(__doc__)

@@ -1,8 +1,6 @@
 #!/usr/bin/env python3
 """The gate's ledger, held to what docs/GATE.md says of it, on a small tree made for it: nothing is proved here.
 
-And of the ledger that is committed: it has no more lines `untried` than its head allows.
-
 This ends with a status other than 0 where one of these does not hold."""
 import pathlib
 import sys
@@ -111,23 +109,24 @@ class Trial:
         self.says("what is as it was is known again", self.kinds() == [KNOWN] * 3 and self.has_program())
 
     def leaving(self):
-        """What may be left, and what becomes of that number."""
+        """What may be left, and what may not."""
         book = self.book()
-        self.says("the head allows none where none is left", book.most == 0)
         self.low.write("src/lib.rt", SOURCE.replace("result ≡", "result ≥"))
-        self.says("more than the head allows may not be left", known.leave(book, self.found()) == 3 and not book.untried())
-        book.most = 3
-        self.says("as many as it allows may", known.leave(book, self.found()) == 0)
+        self.says("what a run saw refused can't be left", len(known.leave(book, self.found())) == 3 and not book.untried())
+        book.lines = {}
+        self.says("a ledger without lines begins with all left", not known.leave(book, self.found()))
         book.write(self.found())
-        self.says("what is left is told as left", self.kinds() == [BEFORE] * 3 and self.book().most == 3)
+        self.says("what is left is told as left", self.kinds() == [BEFORE] * 3)
         book = self.book()
         book.note(*self.high.edit(), True)
         book.write(self.found())
-        self.says("what is tried is left no more, and the number falls", self.kinds() == [BEFORE, KNOWN, BEFORE] and self.book().most == 2)
-        self.high.write("src/lib.rt", SOURCE + "\n" + SOURCE.replace("next", "later"))
-        self.says("what was left and then changed is of the change", self.kinds() == [BEFORE, CHANGED, CHANGED])
-        self.high.write("src/lib.rt", SOURCE)
+        self.says("what is tried is left no more", self.kinds() == [BEFORE, KNOWN, BEFORE] and self.book().untried() == 2)
         self.low.write("src/lib.rt", SOURCE)
+        self.says("what was left and then changed is of the change", self.kinds() == [CHANGED] * 3)
+        book = self.book()
+        self.says("it may be left again, and nothing else", known.leave(book, self.found()) == [self.high.edit()])
+        book.write(self.found())
+        self.says("and is then told so", self.kinds() == [BEFORE, CHANGED, BEFORE])
         self.all_refused()
 
     def toolchains(self):
@@ -135,7 +134,7 @@ class Trial:
         book = self.book("two")
         book.note(*self.high.edit(), True)
         book.write(self.found())
-        self.says("it begins a ledger of its own", self.kinds("two") == [BEFORE, KNOWN, BEFORE] and self.book("two").most == 2)
+        self.says("it begins a ledger of its own", self.kinds("two") == [BEFORE, KNOWN, BEFORE] and self.book("two").untried() == 2)
 
     def merging(self, other):
         pathlib.Path(self.file).unlink()
@@ -160,7 +159,6 @@ def main():
         trial.toolchains()
         trial.merging(f"{top}/other.txt")
     book = known.Known()
-    trial.says(f"the ledger has {book.untried()} lines untried, and its head allows {book.most}", book.untried() <= book.most)
     for fault in trial.faults:
         print(f"NOT SO: {fault}")
     print(f"ledger: {trial.looked} rules looked at, {len(trial.faults)} not so; {len(book.lines)} lines, {book.untried()} untried")
