@@ -20,6 +20,7 @@ import os
 import pathlib
 import sys
 
+sys.dont_write_bytecode = True
 import edits
 from kit import edits_of, rtlib, version
 

@@ -24,6 +24,7 @@ import threading
 import time
 import types
 
+sys.dont_write_bytecode = True
 import costs
 import known
 import trials
