@@ -288,7 +288,7 @@ class Gate:
         self.tier("crates, their tests and programs", passed, ["rt ci"] * max(lost, status != 0))
         self.tiers.insert(0, self.tiers.pop())
         self.stage("runs of tests and programs")
-        if trials.is_over():
+        if self.failed and trials.is_over():
             rt.say(f"NO TIME: {MINUTES + MORE_MINUTES:.0f} minutes were over before all was proved")
         misplaced = [os.path.relpath(path, TOP) for it in self.every for path in edits_of(it)[1]]
         self.tier("files of must-fail/ that are no edit", 0, misplaced)
