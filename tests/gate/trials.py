@@ -14,7 +14,7 @@ from kit import BAD, ONE_JOB, REFUSED, linked, listing, must_fail, patiently, rt
 
 # More edits in one check than this would be lost at once where time is over.
 MOST_TOGETHER = 40
-# What a check over kept work takes of the memory that the toolchain reckons for one from nothing: of kit_c 1.4 GB were seen where it reckons 8.
+# What a check over kept work takes of the memory that the toolchain reckons for one from nothing: 40 edits of attr_kit took 1.2 GB of 2.4.
 SHARE = 0.5
 FUNCTION = re.compile(r"^fn (\w+)::(\S+?): ", re.M)
 ENDED = re.compile(r"^checked (\w+)::(\S+), \d+ of \d+$")
