@@ -116,7 +116,8 @@ impl Recorder {
         attrs: &AttrSet,
         value: i64,
     ) -> Result<(), RecordFault>
-        ensures value { OnOk result (self.new ≡ record self.old { log = self.old.log ++ ByName (entry_of instrument attrs.now value) ∷ [] }) }
+        ensures value { OnOk result
+            (self.new ≡ record self.old { log = self.old.log ++ ByName (entry_of instrument attrs.now value) ∷ [] }) }
         ensures ok { OnOk result (length self.old.log < self.old.capacity) }
         ensures full { IfErr result (λ f. f ≡ faults.Full → self.old.capacity ≤ length self.old.log) }
         ensures no_memory { IfErr result (λ f. f ≡ faults.NoMemory → length self.old.log < self.old.capacity) }
@@ -125,7 +126,13 @@ impl Recorder {
         if self.log.len() - self.given >= self.capacity {
             return Err(RecordFault::Full);
         }
-        let place = place_of(&mut self.named, &mut self.sets, self.last, instrument, attrs)?;
+        let place = place_of(
+            &mut self.named,
+            &mut self.sets,
+            self.last,
+            instrument,
+            attrs,
+        )?;
         if place > u32::MAX as usize {
             return Err(RecordFault::NoMemory);
         }
