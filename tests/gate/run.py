@@ -211,9 +211,7 @@ class Gate:
         until(MINUTES)
         order = sorted(dict.fromkeys(crate for crate, _ in pairs), key=lambda it: -changed(it))
         tried = [trials.Trial(it, [path for of, path in pairs if of is it], Crate.functions[it.name]) for it in order]
-        refused, failed, took = trials.all_edits(tried)
-        note(self.book, tried)
-        self.book.write(known.edits_in(self.every))
+        refused, failed, took = trials.all_edits(tried, lambda trials: note(self.book, trials, self.every))
         self.took.update(took)
         return refused, failed, [known.name_of(it.crate, path) for it in tried for path in it.left()]
 
@@ -315,12 +313,13 @@ class Gate:
             rt.say(f"left for want of time: {' '.join(self.skipped)}")
 
 
-def note(book, tried):
+def note(book, tried, every):
     """Writes what came of these trials to the ledger."""
     for trial in tried:
-        for path, (is_refused, _) in trial.told.items():
+        for path, (is_refused, _) in trial.told.items() if trial.is_untouched() else ():
             if is_refused is not None:
                 book.note(trial.crate, path, is_refused)
+    book.write(known.edits_in(every))
 
 
 def ended(passed, failed, left):
@@ -352,9 +351,7 @@ def edits_alone(names, is_anew):
         if not begun[-1].is_proved():
             rt.say(f"{crate.name}: it is not proved over what was kept: rt check tells why")
             return ended(0, [crate.name], 0)
-    refused, failed, took = trials.all_edits(begun)
-    note(book, begun)
-    book.write(known.edits_in(every))
+    refused, failed, took = trials.all_edits(begun, lambda trials: note(book, trials, every))
     for name, seconds in sorted(took.items(), key=lambda it: -it[1]):
         print(f"{seconds:6.1f} {name}")
     if spared:

@@ -168,16 +168,18 @@ def side_by_side(tasks):
                 it.result()
 
 
-def all_edits(trials):
-    """Tries the edits of these trials: rounds first, those of the most edits before the others, and then what is tried alone.
+def all_edits(trials, keep):
+    """Tries the edits of these trials: rounds first, those of the most edits before the others, and then what is tried alone. After each of the two `keep` is called.
 
     Gives how many were refused, the names of those that were not, and the seconds that each took."""
     refused, failed, took = 0, [], {}
     rounds = [(trial, texts, members) for trial in trials for texts, members in trial.rounds]
     side_by_side([(SHARE * rt.need(it.crate), round_of(it, texts, members)) for it, texts, members in sorted(rounds, key=lambda it: -len(it[2]))])
+    keep(trials)
     for trial in trials:
         rt.say(f"{trial.crate.name}: {len(trial.told)} of {len(trial.edits)} edits told by {len(trial.rounds)} rounds")
     side_by_side([(SHARE * rt.need(it.crate), alone(it, edit)) for it in trials for edit in it.untold()])
+    keep(trials)
     for trial in trials:
         good, bad = trial.end()
         refused, failed = refused + good, failed + bad
