@@ -24,4 +24,5 @@ pub mod Takings
 pub mod Texts
 pub mod Typed
 pub mod Views
+pub mod Wide
 pub mod Writers

@@ -64,3 +64,11 @@ answer_in m other = None
 -- a message is from one id to another, and carries so many points
 abbrev pub IsFromTo : ℕ → ℕ → ℕ → MessageModel → Type 0
 IsFromTo from to points m = (from ≡ m.from) × (to ≡ m.to) × (points ≡ finite.len m.points)
+
+-- a gateway of the sender's id that merged what a message carries
+abbrev pub carried_by : MessageModel → GatewayState
+carried_by m = record { id = m.from; points = join_points finite.empty m.points; numbers = finite.empty }
+
+-- the message of all that a gateway holds, from it to itself
+abbrev pub whole_of : GatewayState → MessageModel
+whole_of g = record { from = g.id; to = g.id; points = g.points; delta = None; ack = None }

@@ -1,4 +1,4 @@
-//! Messages as bytes, for other processes.
+//! Messages as bytes, for other processes, and gateways as messages of all that they hold.
 ghost use Rattle.std.specs.Option.{option_map, unwrap_or};
 ghost use Rattle.std.specs.Prelude.{◌≡◌, ◌≢◌, ◌∷◌, [], pos, true, None, Some, IfErr, IfOk};
 ghost use Rattle.attr_kit.specs.Refusing.{first};
@@ -8,17 +8,20 @@ ghost use Rattle.gossip_kit.specs.Views.{MessageModel};
 ghost use Rattle.kit_c.specs.Bytes.{HasMessageForm, IsMessageFault, IsMessageOf};
 ghost use Rattle.kit_c.specs.Calls.{code_for, full_fault, if_any, of_one};
 ghost use Rattle.kit_c.specs.Codes.{code_of, no_memory};
-ghost use Rattle.kit_c.specs.Held.{bytes_of, message_of};
+ghost use Rattle.kit_c.specs.Held.{bytes_of, gateway_of, message_of};
+ghost use Rattle.kit_c.specs.Nodes.{carried_by, whole_of};
 ghost use Rattle.kit_c.specs.Places.{place_of};
 ghost use Rattle.kit_c.specs.Typed.{is_message, message_in};
 ghost use Rattle.kit_c.specs.declared.fault.Fault.{Fault};
 
 use crate::content::Content;
 use crate::fault::{FULL, Fault, NO_MEMORY, NOTHING, OK, WRONG_KIND, code_with_place};
-use crate::typed::{KitBytes, KitMessage};
+use crate::typed::{KitBytes, KitGateway, KitMessage};
 use crate::with::with;
-use attr_kit::Seq;
+use attr_kit::{NoMemory, Seq};
 use bytes_kit::{decode_message, encode_message};
+use gateway_kit::Gateway;
+use gossip_kit::{Body, Message};
 use std::alloc::Global;
 
 /// The bytes of a message, which stays: they may go to a node in another process. Each message has one form.
@@ -94,5 +97,81 @@ pub extern "C" fn kit_message_decode(
             OK
         }
         Err(fault) => code_with_place(fault, place),
+    }
+}
+
+// A gateway of the sender's id that merged what a message carries.
+fn carried(alloc: Global, message: &Message) -> Result<Gateway, NoMemory>
+    ensures { IfOk result (λ g. g ≡ carried_by message.now) }
+{
+    let mut gateway = Gateway::new(alloc, message.from());
+    match message.body() {
+        Body::Whole(points) => gateway.merge(points)?,
+        Body::Delta { cells, .. } => gateway.merge(cells)?,
+        Body::Ack(_) => gateway.merge(&Gateway::new(alloc, 0))?,
+    };
+    Ok(gateway)
+}
+
+/// What a message carries, as a gateway of its sender's id: to see whose points they are before a node is handed it, and the way back from
+/// `kit_gateway_encode`. The message stays.
+///
+/// Refused, in this order: `FULL`; `NOTHING`; `NO_MEMORY`. O(size of the points).
+#[unsafe(no_mangle)]
+pub extern "C" fn kit_message_gateway(
+    alloc: Global,
+    message: &mut KitMessage,
+    gateway: &mut KitGateway,
+) -> i32
+    ensures code { result ≢ no_memory
+        → result ≡ code_for (first (full_fault (gateway_of gateway.old) ∷ of_one (message_of message.old) if_any ∷ [])) }
+    ensures value { result ≡ pos 0 → gateway_of gateway.new ≡ option_map (λ m. carried_by m) (message_of message.old) }
+    ensures unchanged { result ≢ pos 0 → gateway_of gateway.new ≡ gateway_of gateway.old }
+    ensures kept { message_of message.new ≡ message_of message.old }
+{
+    if gateway.handle.full {
+        return FULL;
+    }
+    match with!(alloc, message => Message(held), carried(alloc, held)) {
+        Ok(made) => gateway.handle.fill(alloc, Content::Gateway(made)),
+        Err(_) => NO_MEMORY,
+    }
+}
+
+fn encode_whole(alloc: Global, gateway: &Gateway) -> Result<Vec<u8>, NoMemory>
+    ensures { IfOk result (λ made. made.items ≡ bytes_of_message (whole_of gateway.now)) }
+{
+    let id = gateway.id();
+    encode_message(
+        alloc,
+        &Message::new(id, id, Body::Whole(gateway.try_copy()?)),
+    )
+}
+
+/// A gateway's id and points as bytes, to be kept and brought back: those of a message of all that it holds, from it to itself.
+/// `kit_message_decode` reads them, and `kit_message_gateway` makes the gateway of that. The gateway stays; it is copied once.
+///
+/// Refused, in this order: `FULL`; `NOTHING`; `NO_MEMORY`. O(size of the points).
+#[unsafe(no_mangle)]
+pub extern "C" fn kit_gateway_encode(
+    alloc: Global,
+    gateway: &mut KitGateway,
+    bytes: &mut KitBytes,
+) -> i32
+    ensures code { result ≢ no_memory
+        → result ≡ code_for (first (full_fault (bytes_of bytes.old) ∷ of_one (gateway_of gateway.old) if_any ∷ [])) }
+    ensures value { result ≡ pos 0
+        → bytes_of bytes.new ≡ option_map (λ g. bytes_of_message (whole_of g)) (gateway_of gateway.old) }
+    ensures unchanged { result ≢ pos 0 → bytes_of bytes.new ≡ bytes_of bytes.old }
+    ensures kept { gateway_of gateway.new ≡ gateway_of gateway.old }
+{
+    if bytes.handle.full {
+        return FULL;
+    }
+    match with!(alloc, gateway => Gateway(held), encode_whole(alloc, held)) {
+        Ok(made) => bytes
+            .handle
+            .fill(alloc, Content::Bytes(Seq::from_vec(made))),
+        Err(_) => NO_MEMORY,
     }
 }

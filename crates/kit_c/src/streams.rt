@@ -1,21 +1,25 @@
-//! Streams of plans, read by their numbers.
+//! Streams of plans and of gateways, read by their numbers.
 ghost use Rattle.std.specs.Prelude.{◌≡◌, ◌≢◌, ◌++◌, ◌∷◌, [], pos, length, slice_get, None, Some, IfSome, OnOk, OnErr, IfErr, IfOk};
 ghost use Rattle.std.specs.Option.{option_map};
+ghost use Rattle.indexmap.specs.IndexSet.{insert_key};
 ghost use Rattle.attr_kit.specs.Refusing.{first};
+ghost use Rattle.plan_kit.specs.Bounds.{default_bounds};
 ghost use Rattle.kit_c.specs.Asks.{all_of};
 ghost use Rattle.kit_c.specs.Calls.{code_for, filled, full_fault, if_any, of_one};
 ghost use Rattle.kit_c.specs.Codes.{code_of, no_memory};
-ghost use Rattle.kit_c.specs.Held.{ask_of, plan_of, streams_of};
+ghost use Rattle.kit_c.specs.Held.{ask_of, gateway_of, plan_of, streams_of};
 ghost use Rattle.kit_c.specs.Items.{item_fault};
-ghost use Rattle.kit_c.specs.Streams.{bounds_of, part_fault, shape_number, text_part};
+ghost use Rattle.kit_c.specs.Streams.{bounds_of, part_fault, shape_number, stream_eq, streams_held, text_part};
 
 use crate::ask::all;
 use crate::content::Content;
 use crate::fault::{FULL, Fault, NO_MEMORY, NOTHING, OK, WRONG_KIND};
 use crate::text::copy_front;
-use crate::typed::{KitAsk, KitPlan, KitStreams};
+use crate::typed::{KitAsk, KitGateway, KitPlan, KitStreams};
 use crate::with::with;
 use attr_kit::{NoMemory, Seq};
+use gateway_kit::Gateway;
+use indexmap::IndexSet;
 use plan_kit::Plan;
 use point_kit::{Shape, Stream};
 use std::alloc::Global;
@@ -59,6 +63,69 @@ pub extern "C" fn kit_plan_streams(
         return FULL;
     }
     match with!(alloc, plan => Plan(held), self::streams(alloc, held)) {
+        Ok(made) => streams.handle.fill(alloc, Content::Streams(made)),
+        Err(_) => NO_MEMORY,
+    }
+}
+
+// Notes a stream, once.
+fn note(seen: &mut IndexSet<Stream>, stream: &Stream) -> Result<(), NoMemory>
+    ensures { OnOk result (seen.new.keys ≡ insert_key stream_eq seen.old.keys stream.now) }
+{
+    if !seen.contains(stream) {
+        seen.insert(stream.try_copy()?)?;
+    }
+    Ok(())
+}
+
+// The streams of a gateway's points, each once.
+fn seen_in(alloc: Global, gateway: &Gateway) -> Result<IndexSet<Stream>, NoMemory>
+    ensures { IfOk result (λ seen. seen.keys ≡ streams_held gateway.now.points) }
+{
+    let mut seen = IndexSet::new(alloc);
+    for point in gateway.points() {
+        note(&mut seen, point.stream)?;
+    }
+    Ok(seen)
+}
+
+fn copies_of(alloc: Global, seen: &IndexSet<Stream>) -> Result<Seq<Stream>, NoMemory>
+    ensures { IfOk result (λ copies. copies ≡ seen.now.keys) }
+{
+    let mut copies = Vec::with_capacity(alloc, seen.len())?;
+    for place in 0..seen.len() {
+        if let Some(stream) = seen.get_index(place) {
+            push_copy(&mut copies, stream)?;
+        }
+    }
+    Ok(Seq::from_vec(copies))
+}
+
+fn held_streams(alloc: Global, gateway: &Gateway) -> Result<Seq<Stream>, NoMemory>
+    ensures { IfOk result (λ copies. copies ≡ streams_held gateway.now.points) }
+{
+    copies_of(alloc, &seen_in(alloc, gateway)?)
+}
+
+/// The streams of which a gateway, which stays, holds points: each once, in the order in which the points' keys name them first.
+///
+/// Refused, in this order: `FULL`; `NOTHING`; `NO_MEMORY`. O(points), and memory for the streams alone.
+#[unsafe(no_mangle)]
+pub extern "C" fn kit_gateway_streams(
+    alloc: Global,
+    gateway: &mut KitGateway,
+    streams: &mut KitStreams,
+) -> i32
+    ensures code { result ≢ no_memory
+        → result ≡ code_for (first (full_fault (streams_of streams.old) ∷ of_one (gateway_of gateway.old) if_any ∷ [])) }
+    ensures value { result ≡ pos 0 → streams_of streams.new ≡ option_map (λ g. streams_held g.points) (gateway_of gateway.old) }
+    ensures unchanged { result ≢ pos 0 → streams_of streams.new ≡ streams_of streams.old }
+    ensures kept { gateway_of gateway.new ≡ gateway_of gateway.old }
+{
+    if streams.handle.full {
+        return FULL;
+    }
+    match with!(alloc, gateway => Gateway(held), held_streams(alloc, held)) {
         Ok(made) => streams.handle.fill(alloc, Content::Streams(made)),
         Err(_) => NO_MEMORY,
     }
@@ -263,4 +330,19 @@ pub extern "C" fn kit_ask_stream(
         Ok(stream) => ask.handle.fill(alloc, Content::Ask(all(alloc, stream))),
         Err(fault) => fault.code(),
     }
+}
+
+// The bounds of OpenTelemetry's default explicit-bucket histogram.
+const DEFAULT_BOUNDS: [i64; 15] = [
+    0, 5, 10, 25, 50, 75, 100, 250, 500, 750, 1000, 2500, 5000, 7500, 10000,
+];
+
+/// Copies the front of the bounds that has room of a histogram for which no view says others, and answers how many there are: 15
+/// (OpenTelemetry Metrics SDK, "Explicit Bucket Histogram Aggregation").
+#[unsafe(no_mangle)]
+pub extern "C" fn kit_default_bounds(into: &mut [i64]) -> usize
+    ensures value { into.new ≡ filled default_bounds into.old }
+    ensures len { result ≡ 15 }
+{
+    copy_front(&DEFAULT_BOUNDS, into)
 }
