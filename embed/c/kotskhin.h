@@ -521,38 +521,48 @@ KIT_CHECKED int32_t kit_seat_take_in(kit_seat *seat, kit_recorder *recorder, siz
  * KIT_SEATS_FULL where 4,096 seats were made. */
 KIT_CHECKED int32_t kit_seat_split(kit_seat *seat, kit_seat *made);
 
+/* Collects the points of the writer by a seat, as an export: all that any seat recorded before it.
+ *
+ * Refused, in this order: KIT_FULL of the export; KIT_NOTHING; KIT_BUSY where another thread's call has the writer; KIT_EXHAUSTED where it
+ * accepted 2^62 changes; then as kit_writer_collect is.
+ *
+ * In all: KIT_FULL, KIT_NOTHING, KIT_BUSY, KIT_EXHAUSTED, KIT_CLOSED, KIT_TIME_NOT_AFTER, KIT_NO_MEMORY. */
+KIT_CHECKED int32_t kit_seat_collect(kit_seat *seat, uint64_t time, kit_export *export_, uint64_t *place);
+
 /* Gateways take exports, in any order and however often each comes, and merge with other gateways. */
 
-/* Opens a gateway without points, under an id. Refused: KIT_FULL, KIT_NO_MEMORY. */
+/* Opens a gateway without points, under an id.
+ *
+ * Refused, in this order: KIT_FULL; KIT_NO_MEMORY. */
 KIT_CHECKED int32_t kit_gateway_open(kit_gateway *gateway, uint32_t id);
 
 /* Joins the points of an export, which stays, and tells the number of keys whose points changed. An export that comes again changes nothing
  * (OpenTelemetry Metrics Data Model, "Single-Writer").
  *
- * Refused, in this order: KIT_NOTHING of the gateway, then of the export; KIT_WRONG_KIND; KIT_NO_MEMORY. */
+ * Refused, in this order: KIT_NOTHING of the gateway, then of the export; KIT_NO_MEMORY. */
 KIT_CHECKED int32_t kit_gateway_take(kit_gateway *gateway, KIT_READS kit_export *export_, uint64_t *changed);
 
 /* Joins what another gateway holds, which stays, and tells the number of keys whose points changed. What comes again changes nothing, in
  * whatever order.
  *
- * Refused, in this order: KIT_NOTHING of this gateway, then of the other; KIT_WRONG_KIND; KIT_NO_MEMORY. */
+ * Refused, in this order: KIT_NOTHING of this gateway, then of the other; KIT_NO_MEMORY. */
 KIT_CHECKED int32_t kit_gateway_merge(kit_gateway *gateway, KIT_READS kit_gateway *other, uint64_t *changed);
 
 /* Tells the number of keys at whose time different values came: two writers recorded under one identity. O(1).
  *
- * Refused, in this order: KIT_NOTHING; KIT_WRONG_KIND. Takes no memory. */
+ * Refused: KIT_NOTHING. Takes no memory. */
 KIT_CHECKED int32_t kit_gateway_conflicts(KIT_READS kit_gateway *gateway, uint64_t *count);
 
 /* Tells whether two gateways hold equal points; their ids are not compared.
  *
- * Refused, in this order: KIT_NOTHING of this gateway, then of the other; KIT_WRONG_KIND. Takes no memory. */
+ * Refused, in this order: KIT_NOTHING of this gateway, then of the other. Takes no memory. */
 KIT_CHECKED int32_t kit_gateway_same(KIT_READS kit_gateway *gateway, KIT_READS kit_gateway *other, bool *same);
 
 /* Tells the greatest time that a gateway holds of one incarnation of a service's instance: all that was collected up to then has come. The
  * instance is a UUID as two numbers. O(log n of what is held).
  *
- * Refused, in this order: KIT_NOT_TEXT where the service is no UTF-8; KIT_NOTHING; KIT_WRONG_KIND; KIT_NO_POINT where nothing of that
- * incarnation is held; KIT_NO_MEMORY. */
+ * Refused, in this order: KIT_NOT_TEXT where the service is no UTF-8; KIT_NOTHING; KIT_NO_POINT where nothing of that incarnation is held;
+ * KIT_NO_MEMORY. */
 KIT_CHECKED int32_t kit_gateway_newest(KIT_READS kit_gateway *gateway, const uint8_t *service, size_t service_len, uint64_t instance_high,
                                        uint64_t instance_low, uint64_t start, uint64_t *time);
 
@@ -560,39 +570,39 @@ KIT_CHECKED int32_t kit_gateway_newest(KIT_READS kit_gateway *gateway, const uin
 
 /* Opens a node with the points and the id of a gateway, which stays. The ids of nodes that exchange messages are distinct.
  *
- * Refused, in this order: KIT_FULL; KIT_NOTHING; KIT_WRONG_KIND; KIT_NO_MEMORY. O(size of the points). */
+ * Refused, in this order: KIT_FULL; KIT_NOTHING; KIT_NO_MEMORY. O(size of the points). */
 KIT_CHECKED int32_t kit_node_open(kit_node *node, KIT_READS kit_gateway *gateway);
 
 /* A copy of the gateway that a node has, to be asked. The node stays.
  *
- * Refused, in this order: KIT_FULL; KIT_NOTHING; KIT_WRONG_KIND; KIT_NO_MEMORY. O(size of the points). */
+ * Refused, in this order: KIT_FULL; KIT_NOTHING; KIT_NO_MEMORY. O(size of the points). */
 KIT_CHECKED int32_t kit_node_gateway(KIT_READS kit_node *node, kit_gateway *gateway);
 
 /* Joins the points of an export, which stays, and tells the number of keys whose points changed: later messages carry them.
  *
- * Refused, in this order: KIT_NOTHING of the node, then of the export; KIT_WRONG_KIND; KIT_NO_MEMORY. */
+ * Refused, in this order: KIT_NOTHING of the node, then of the export; KIT_NO_MEMORY. */
 KIT_CHECKED int32_t kit_node_take(kit_node *node, KIT_READS kit_export *export_, uint64_t *changed);
 
 /* Joins what a gateway holds, which stays, and tells the number of keys whose points changed: later messages carry them.
  *
- * Refused, in this order: KIT_NOTHING of the node, then of the gateway; KIT_WRONG_KIND; KIT_NO_MEMORY. */
+ * Refused, in this order: KIT_NOTHING of the node, then of the gateway; KIT_NO_MEMORY. */
 KIT_CHECKED int32_t kit_node_merge(kit_node *node, KIT_READS kit_gateway *gateway, uint64_t *changed);
 
 /* A message to the node of an id. It carries what changed since the last message of which that node's answer was handed here, so a message
  * may be lost, come late or come twice.
  *
- * Refused, in this order: KIT_FULL; KIT_NOTHING; KIT_WRONG_KIND; KIT_NO_MEMORY. */
+ * Refused, in this order: KIT_FULL; KIT_NOTHING; KIT_NO_MEMORY. */
 KIT_CHECKED int32_t kit_node_send(KIT_READS kit_node *node, uint32_t to, kit_message *message);
 
 /* Hands a node a message, which stays, and tells whether it is to be answered: then answer has the message to its sender.
  *
- * Refused, in this order: KIT_FULL of the answer; KIT_NOTHING of the node, then of the message; KIT_WRONG_KIND; KIT_NOT_ADDRESSED where the
- * message goes to another id; KIT_NO_MEMORY. */
+ * Refused, in this order: KIT_FULL of the answer; KIT_NOTHING of the node, then of the message; KIT_NOT_ADDRESSED where the message goes to
+ * another id; KIT_NO_MEMORY. */
 KIT_CHECKED int32_t kit_node_hand(kit_node *node, KIT_READS kit_message *message, kit_message *answer, bool *answered);
 
 /* Tells from which id and to which a message goes, and how many points it carries: an answer carries none.
  *
- * Refused, in this order: KIT_NOTHING; KIT_WRONG_KIND. Takes no memory. */
+ * Refused: KIT_NOTHING. Takes no memory. */
 KIT_CHECKED int32_t kit_message_read(KIT_READS kit_message *message, uint32_t *from, uint32_t *to, size_t *points);
 
 /* Exports and messages as bytes, for other processes: each has one form, and no other bytes are read. */

@@ -33,8 +33,8 @@ enum kind {
     ASK, TOLD_TEXT, BYTES, SUM_ROWS, GAUGE_ROWS, HISTOGRAM_ROWS, KINDS, ROWS /* of any shape */
 };
 
-/* How a call has a handle: something must be there, or may be, or it is empty and is filled. */
-enum part { THERE = 1, OPENS, FILLED };
+/* How a call has a handle: something must be there and is changed, or may be; it is empty and is filled; or what is there is only read. */
+enum part { THERE = 1, OPENS, FILLED, READ, MAY_READ };
 
 struct hand {
     enum part part;
@@ -63,87 +63,87 @@ static kit_taken taken;
 
 /* A thing of a kind in an empty handle: of the scope app the counter requests, at no attributes 7, from shop since 100 at 200. */
 static void make(enum kind kind, kit_handle *it) {
-    kit_handle one = KIT_EMPTY, two = KIT_EMPTY, three = KIT_EMPTY;
+    kit_handle one = {0}, two = {0}, three = {0};
     switch (kind) {
-    case PAIRS: MUST(kit_pairs_add_whole(it, TEXT("status"), 200)); break;
-    case ATTRIBUTES: MUST(kit_attributes_make(it, &one, &place)); break;
+    case PAIRS: MUST(kit_pairs_add_whole((void *)it, TEXT("status"), 200)); break;
+    case ATTRIBUTES: MUST(kit_attributes_make((void *)it, (void *)&one, &place)); break;
     case INSTRUMENTS:
-        MUST(kit_instruments_add(it, TEXT("app"), TEXT("requests"), TEXT("1"), KIT_COUNTER));
-        MUST(kit_instruments_add(it, TEXT("app"), TEXT("depth"), TEXT("1"), KIT_GAUGE));
-        MUST(kit_instruments_add(it, TEXT("app"), TEXT("size"), TEXT("By"), KIT_HISTOGRAM));
+        MUST(kit_instruments_add((void *)it, TEXT("app"), TEXT("requests"), TEXT("1"), KIT_COUNTER));
+        MUST(kit_instruments_add((void *)it, TEXT("app"), TEXT("depth"), TEXT("1"), KIT_GAUGE));
+        MUST(kit_instruments_add((void *)it, TEXT("app"), TEXT("size"), TEXT("By"), KIT_HISTOGRAM));
         break;
     case VIEW:
-        MUST(kit_view_of_name(it, TEXT("size")));
-        MUST(kit_view_buckets(it, bounds, 2));
+        MUST(kit_view_of_name((void *)it, TEXT("size")));
+        MUST(kit_view_buckets((void *)it, bounds, 2));
         break;
     case VIEWS:
         make(VIEW, &one);
-        MUST(kit_views_add(it, &one));
+        MUST(kit_views_add((void *)it, (void *)&one));
         break;
-    case KEYS: MUST(kit_keys_add(it, TEXT("status"))); break;
+    case KEYS: MUST(kit_keys_add((void *)it, TEXT("status"))); break;
     case PLAN:
         make(INSTRUMENTS, &one), make(VIEWS, &two);
-        MUST(kit_plan_build(it, &one, &two, KIT_DEFAULT_LIMIT, &place, &second));
+        MUST(kit_plan_build((void *)it, (void *)&one, (void *)&two, KIT_DEFAULT_LIMIT, &place, &second));
         break;
     case WRITER:
         make(PLAN, &one), make(ATTRIBUTES, &two);
-        MUST(kit_writer_start(it, &one, TEXT("shop"), 0, 1, 100));
-        MUST(kit_writer_hold(it, 0, &two, &size));
-        for (size_t instrument = 0; instrument < 3; instrument++) MUST(kit_writer_measure(it, instrument, &two, 7, &place));
+        MUST(kit_writer_start((void *)it, (void *)&one, TEXT("shop"), 0, 1, 100));
+        MUST(kit_writer_hold((void *)it, 0, (void *)&two, &size));
+        for (size_t instrument = 0; instrument < 3; instrument++) MUST(kit_writer_measure((void *)it, instrument, (void *)&two, 7, &place));
         break;
     case EXPORT:
         make(WRITER, &one);
-        MUST(kit_writer_collect(&one, 200, it, &place));
+        MUST(kit_writer_collect((void *)&one, 200, (void *)it, &place));
         break;
     case GATEWAY:
         make(EXPORT, &one);
-        MUST(kit_gateway_open(it, 1));
-        MUST(kit_gateway_take(it, &one, &place));
+        MUST(kit_gateway_open((void *)it, 1));
+        MUST(kit_gateway_take((void *)it, (void *)&one, &place));
         break;
     case NODE:
         make(GATEWAY, &one);
-        MUST(kit_node_open(it, &one));
+        MUST(kit_node_open((void *)it, (void *)&one));
         break;
     case MESSAGE:
         make(EXPORT, &one);
-        MUST(kit_gateway_open(&two, 2));
-        MUST(kit_node_open(&three, &two));
-        MUST(kit_node_take(&three, &one, &place));
-        MUST(kit_node_send(&three, 1, it));
+        MUST(kit_gateway_open((void *)&two, 2));
+        MUST(kit_node_open((void *)&three, (void *)&two));
+        MUST(kit_node_take((void *)&three, (void *)&one, &place));
+        MUST(kit_node_send((void *)&three, 1, (void *)it));
         break;
     case SEAT:
-        make(WRITER, it);
-        MUST(kit_writer_share(it));
+        make(WRITER, &one);
+        MUST(kit_writer_share((void *)&one, (void *)it));
         break;
     case RECORDER:
         make(ATTRIBUTES, &one);
-        MUST(kit_recorder_new(it, 8));
-        MUST(kit_recorder_measure(it, 2, &one, 7));
-        MUST(kit_recorder_measure_held(it, 0, 7));
+        MUST(kit_recorder_new((void *)it, 8));
+        MUST(kit_recorder_measure((void *)it, 2, (void *)&one, 7));
+        MUST(kit_recorder_measure_held((void *)it, 0, 7));
         break;
-    case ASK: MUST(kit_ask_sum(it, TEXT("app"), TEXT("requests"), TEXT("1"), true)); break;
+    case ASK: MUST(kit_ask_sum((void *)it, TEXT("app"), TEXT("requests"), TEXT("1"), true)); break;
     case TOLD_TEXT:
         make(ROWS, &one);
-        MUST(kit_rows_table(&one, it));
+        MUST(kit_rows_table((void *)&one, (void *)it));
         break;
     case BYTES:
         make(EXPORT, &one);
-        MUST(kit_export_encode(&one, it));
+        MUST(kit_export_encode((void *)&one, (void *)it));
         break;
     case GAUGE_ROWS:
         make(GATEWAY, &one);
-        MUST(kit_ask_gauge(&two, TEXT("app"), TEXT("depth"), TEXT("1")));
-        MUST(kit_gateway_rows(&one, &two, it));
+        MUST(kit_ask_gauge((void *)&two, TEXT("app"), TEXT("depth"), TEXT("1")));
+        MUST(kit_gateway_rows((void *)&one, (void *)&two, (void *)it));
         break;
     case HISTOGRAM_ROWS:
         make(GATEWAY, &one);
-        MUST(kit_ask_histogram(&two, TEXT("app"), TEXT("size"), TEXT("By"), bounds, 2));
-        MUST(kit_gateway_rows(&one, &two, it));
+        MUST(kit_ask_histogram((void *)&two, TEXT("app"), TEXT("size"), TEXT("By"), bounds, 2));
+        MUST(kit_gateway_rows((void *)&one, (void *)&two, (void *)it));
         break;
     case SUM_ROWS:
     case ROWS:
         make(GATEWAY, &one), make(ASK, &two);
-        MUST(kit_gateway_rows(&one, &two, it));
+        MUST(kit_gateway_rows((void *)&one, (void *)&two, (void *)it));
         break;
     case NOTHING:
     case KINDS: break;
@@ -151,116 +151,121 @@ static void make(enum kind kind, kit_handle *it) {
     kit_free(&one), kit_free(&two), kit_free(&three);
 }
 
-/* Each call, with its handles by h and all else as it should be. */
+/* Each call, with its handles by h and all else as it should be: a cast forces each handle to be of the kind that is wanted. */
+#define AS(kind, place) (kit_##kind *)h[place]
 #define CALL(name, ...) \
     static int32_t name(kit_handle **h) { return kit_##name(__VA_ARGS__); }
-CALL(instruments_add, h[0], TEXT("app"), TEXT("more"), TEXT("1"), KIT_COUNTER)
-CALL(keys_add, h[0], TEXT("route"))
-CALL(view_of_name, h[0], TEXT("a name of more than thirty bytes of text"))
-CALL(view_of_every, h[0])
-CALL(view_kind, h[0], KIT_COUNTER)
-CALL(view_scope, h[0], TEXT("a scope of more than thirty bytes"))
-CALL(view_rename, h[0], TEXT("a_new_name_of_more_than_thirty_bytes"))
-CALL(view_keep, h[0], h[1])
-CALL(view_aggregation, h[0], KIT_DROP)
-CALL(view_buckets, h[0], bounds, 2)
-CALL(views_add, h[0], h[1])
-CALL(plan_build, h[0], h[1], h[2], KIT_DEFAULT_LIMIT, &place, &second)
-CALL(pairs_add_text, h[0], TEXT("route"), TEXT("/cart"))
-CALL(pairs_add_whole, h[0], TEXT("attempt"), 1)
-CALL(pairs_add_truth, h[0], TEXT("cached"), true)
-CALL(attributes_make, h[0], h[1], &place)
-CALL(writer_start, h[0], h[1], TEXT("a service of more than thirty bytes"), 0, 1, 100)
-CALL(writer_measure, h[0], 0, h[1], 1, &place)
-CALL(writer_hold, h[0], 1, h[1], &size)
-CALL(writer_measure_held, h[0], 0, 1, &place)
-CALL(writer_collect, h[0], 300, h[1], &place)
-CALL(writer_shutdown, h[0], 300, h[1], &place)
-CALL(writer_restart, h[0], 300, &place)
-CALL(writer_share, h[0])
-CALL(seat_split, h[0], h[1])
-CALL(seat_measure, h[0], 0, h[1], 1, &place)
-CALL(seat_hold, h[0], 1, h[1], &size)
-CALL(seat_measure_held, h[0], 0, 1, &place)
-CALL(seat_take_in, h[0], h[1], 1, &taken)
-CALL(seat_collect, h[0], 300, h[1], &place)
-CALL(recorder_new, h[0], 8)
-CALL(recorder_measure, h[0], 0, h[1], 1)
-CALL(recorder_measure_held, h[0], 0, 1)
-CALL(recorder_len, h[0], &size)
-CALL(recorder_clear, h[0])
-CALL(writer_take_in, h[0], h[1], 1, &taken)
-CALL(export_encode, h[0], h[1])
-CALL(export_decode, h[0], encoded, encoded_len, &place)
-CALL(bytes_copy, h[0], room, sizeof room, &size)
-CALL(gateway_open, h[0], 3)
-CALL(gateway_take, h[0], h[1], &place)
-CALL(gateway_merge, h[0], h[1], &place)
-CALL(gateway_conflicts, h[0], &place)
-CALL(gateway_newest, h[0], TEXT("shop"), 0, 1, 100, &place)
-CALL(gateway_same, h[0], h[1], &truth)
-CALL(node_open, h[0], h[1])
-CALL(node_gateway, h[0], h[1])
-CALL(node_take, h[0], h[1], &place)
-CALL(node_merge, h[0], h[1], &place)
-CALL(node_send, h[0], 5, h[1])
-CALL(node_hand, h[0], h[1], h[2], &truth)
-CALL(message_read, h[0], &id, &id, &size)
-CALL(message_encode, h[0], h[1])
-CALL(message_decode, h[0], told, told_len, &place)
-CALL(ask_sum, h[0], TEXT("app"), TEXT("requests"), TEXT("1"), true)
-CALL(ask_gauge, h[0], TEXT("app"), TEXT("depth"), TEXT("1"))
-CALL(ask_histogram, h[0], TEXT("app"), TEXT("size"), TEXT("By"), bounds, 2)
-CALL(ask_service, h[0], TEXT("a service of more than thirty bytes"))
-CALL(ask_only, h[0], h[1])
-CALL(ask_keep, h[0], h[1])
-CALL(gateway_rows, h[0], h[1], h[2])
-CALL(rows_table, h[0], h[1])
-CALL(rows_len, h[0], &size)
-CALL(rows_counts, h[0], 0, &place, &second)
-CALL(rows_sum, h[0], 0, &number)
-CALL(rows_gauge, h[0], 0, &place, &number)
-CALL(rows_histogram, h[0], 0, &place, &number, &size)
-CALL(rows_range, h[0], 0, &number, &number)
-CALL(rows_bucket, h[0], 0, 0, &place)
-CALL(text_copy, h[0], room, sizeof room, &size)
+CALL(instruments_add, AS(instruments, 0), TEXT("app"), TEXT("more"), TEXT("1"), KIT_COUNTER)
+CALL(keys_add, AS(keys, 0), TEXT("route"))
+CALL(view_of_name, AS(view, 0), TEXT("a name of more than thirty bytes of text"))
+CALL(view_of_every, AS(view, 0))
+CALL(view_kind, AS(view, 0), KIT_COUNTER)
+CALL(view_scope, AS(view, 0), TEXT("a scope of more than thirty bytes"))
+CALL(view_rename, AS(view, 0), TEXT("a_new_name_of_more_than_thirty_bytes"))
+CALL(view_keep, AS(view, 0), AS(keys, 1))
+CALL(view_aggregation, AS(view, 0), KIT_DROP)
+CALL(view_buckets, AS(view, 0), bounds, 2)
+CALL(views_add, AS(views, 0), AS(view, 1))
+CALL(plan_build, AS(plan, 0), AS(instruments, 1), AS(views, 2), KIT_DEFAULT_LIMIT, &place, &second)
+CALL(pairs_add_text, AS(pairs, 0), TEXT("route"), TEXT("/cart"))
+CALL(pairs_add_whole, AS(pairs, 0), TEXT("attempt"), 1)
+CALL(pairs_add_truth, AS(pairs, 0), TEXT("cached"), true)
+CALL(attributes_make, AS(attributes, 0), AS(pairs, 1), &place)
+CALL(writer_start, AS(writer, 0), AS(plan, 1), TEXT("a service of more than thirty bytes"), 0, 1, 100)
+CALL(writer_measure, AS(writer, 0), 0, AS(attributes, 1), 1, &place)
+CALL(writer_hold, AS(writer, 0), 1, AS(attributes, 1), &size)
+CALL(writer_measure_held, AS(writer, 0), 0, 1, &place)
+CALL(writer_collect, AS(writer, 0), 300, AS(export, 1), &place)
+CALL(writer_shutdown, AS(writer, 0), 300, AS(export, 1), &place)
+CALL(writer_restart, AS(writer, 0), 300, &place)
+CALL(writer_share, AS(writer, 0), AS(seat, 1))
+CALL(seat_split, AS(seat, 0), AS(seat, 1))
+CALL(seat_measure, AS(seat, 0), 0, AS(attributes, 1), 1, &place)
+CALL(seat_hold, AS(seat, 0), 1, AS(attributes, 1), &size)
+CALL(seat_measure_held, AS(seat, 0), 0, 1, &place)
+CALL(seat_take_in, AS(seat, 0), AS(recorder, 1), 1, &taken)
+CALL(seat_collect, AS(seat, 0), 300, AS(export, 1), &place)
+CALL(recorder_new, AS(recorder, 0), 8)
+CALL(recorder_measure, AS(recorder, 0), 0, AS(attributes, 1), 1)
+CALL(recorder_measure_held, AS(recorder, 0), 0, 1)
+CALL(recorder_len, AS(recorder, 0), &size)
+CALL(recorder_clear, AS(recorder, 0))
+CALL(writer_take_in, AS(writer, 0), AS(recorder, 1), 1, &taken)
+CALL(export_encode, AS(export, 0), AS(bytes, 1))
+CALL(export_decode, AS(export, 0), encoded, encoded_len, &place)
+CALL(bytes_copy, AS(bytes, 0), room, sizeof room, &size)
+CALL(gateway_open, AS(gateway, 0), 3)
+CALL(gateway_take, AS(gateway, 0), AS(export, 1), &place)
+CALL(gateway_merge, AS(gateway, 0), AS(gateway, 1), &place)
+CALL(gateway_conflicts, AS(gateway, 0), &place)
+CALL(gateway_newest, AS(gateway, 0), TEXT("shop"), 0, 1, 100, &place)
+CALL(gateway_same, AS(gateway, 0), AS(gateway, 1), &truth)
+CALL(node_open, AS(node, 0), AS(gateway, 1))
+CALL(node_gateway, AS(node, 0), AS(gateway, 1))
+CALL(node_take, AS(node, 0), AS(export, 1), &place)
+CALL(node_merge, AS(node, 0), AS(gateway, 1), &place)
+CALL(node_send, AS(node, 0), 5, AS(message, 1))
+CALL(node_hand, AS(node, 0), AS(message, 1), AS(message, 2), &truth)
+CALL(message_read, AS(message, 0), &id, &id, &size)
+CALL(message_encode, AS(message, 0), AS(bytes, 1))
+CALL(message_decode, AS(message, 0), told, told_len, &place)
+CALL(ask_sum, AS(ask, 0), TEXT("app"), TEXT("requests"), TEXT("1"), true)
+CALL(ask_gauge, AS(ask, 0), TEXT("app"), TEXT("depth"), TEXT("1"))
+CALL(ask_histogram, AS(ask, 0), TEXT("app"), TEXT("size"), TEXT("By"), bounds, 2)
+CALL(ask_service, AS(ask, 0), TEXT("a service of more than thirty bytes"))
+CALL(ask_only, AS(ask, 0), AS(pairs, 1))
+CALL(ask_keep, AS(ask, 0), AS(keys, 1))
+CALL(gateway_rows, AS(gateway, 0), AS(ask, 1), AS(rows, 2))
+CALL(rows_table, AS(rows, 0), AS(text, 1))
+CALL(rows_len, AS(rows, 0), &size)
+CALL(rows_counts, AS(rows, 0), 0, &place, &second)
+CALL(rows_sum, AS(rows, 0), 0, &number)
+CALL(rows_gauge, AS(rows, 0), 0, &place, &number)
+CALL(rows_histogram, AS(rows, 0), 0, &place, &number, &size)
+CALL(rows_range, AS(rows, 0), 0, &number, &number)
+CALL(rows_bucket, AS(rows, 0), 0, 0, &place)
+CALL(text_copy, AS(text, 0), room, sizeof room, &size)
 
 #define ROW(name, ...) {#name, name, {__VA_ARGS__}}
 static const struct row CALLS[] = {
     ROW(instruments_add, {OPENS, INSTRUMENTS}), ROW(keys_add, {OPENS, KEYS}), ROW(view_of_name, {FILLED, VIEW}),
     ROW(view_of_every, {FILLED, VIEW}), ROW(view_kind, {THERE, VIEW}), ROW(view_scope, {THERE, VIEW}), ROW(view_rename, {THERE, VIEW}),
-    ROW(view_keep, {THERE, VIEW}, {OPENS, KEYS}), ROW(view_aggregation, {THERE, VIEW}), ROW(view_buckets, {THERE, VIEW}),
-    ROW(views_add, {OPENS, VIEWS}, {THERE, VIEW}), ROW(plan_build, {FILLED, PLAN}, {OPENS, INSTRUMENTS}, {OPENS, VIEWS}),
+    ROW(view_keep, {THERE, VIEW}, {MAY_READ, KEYS}), ROW(view_aggregation, {THERE, VIEW}), ROW(view_buckets, {THERE, VIEW}),
+    ROW(views_add, {OPENS, VIEWS}, {READ, VIEW}), ROW(plan_build, {FILLED, PLAN}, {MAY_READ, INSTRUMENTS}, {MAY_READ, VIEWS}),
     ROW(pairs_add_text, {OPENS, PAIRS}), ROW(pairs_add_whole, {OPENS, PAIRS}), ROW(pairs_add_truth, {OPENS, PAIRS}),
-    ROW(attributes_make, {FILLED, ATTRIBUTES}, {OPENS, PAIRS}), ROW(writer_start, {FILLED, WRITER}, {THERE, PLAN}),
-    ROW(writer_measure, {THERE, WRITER}, {THERE, ATTRIBUTES}), ROW(writer_hold, {THERE, WRITER}, {THERE, ATTRIBUTES}),
+    ROW(attributes_make, {FILLED, ATTRIBUTES}, {MAY_READ, PAIRS}), ROW(writer_start, {FILLED, WRITER}, {READ, PLAN}),
+    ROW(writer_measure, {THERE, WRITER}, {READ, ATTRIBUTES}), ROW(writer_hold, {THERE, WRITER}, {READ, ATTRIBUTES}),
     ROW(writer_measure_held, {THERE, WRITER}), ROW(writer_collect, {THERE, WRITER}, {FILLED, EXPORT}),
-    ROW(writer_shutdown, {THERE, WRITER}, {FILLED, EXPORT}), ROW(writer_restart, {THERE, WRITER}), ROW(writer_share, {THERE, WRITER}),
-    ROW(seat_split, {THERE, SEAT}, {FILLED, SEAT}), ROW(seat_measure, {THERE, SEAT}, {THERE, ATTRIBUTES}),
-    ROW(seat_hold, {THERE, SEAT}, {THERE, ATTRIBUTES}), ROW(seat_measure_held, {THERE, SEAT}),
-    ROW(seat_take_in, {THERE, SEAT}, {THERE, RECORDER}), ROW(seat_collect, {THERE, SEAT}, {FILLED, EXPORT}),
-    ROW(recorder_new, {FILLED, RECORDER}), ROW(recorder_measure, {THERE, RECORDER}, {THERE, ATTRIBUTES}),
-    ROW(recorder_measure_held, {THERE, RECORDER}), ROW(recorder_len, {THERE, RECORDER}), ROW(recorder_clear, {THERE, RECORDER}),
-    ROW(writer_take_in, {THERE, WRITER}, {THERE, RECORDER}),
-    ROW(export_encode, {THERE, EXPORT}, {FILLED, BYTES}), ROW(export_decode, {FILLED, EXPORT}), ROW(bytes_copy, {THERE, BYTES}),
-    ROW(gateway_open, {FILLED, GATEWAY}), ROW(gateway_take, {THERE, GATEWAY}, {THERE, EXPORT}),
-    ROW(gateway_merge, {THERE, GATEWAY}, {THERE, GATEWAY}), ROW(gateway_conflicts, {THERE, GATEWAY}), ROW(gateway_newest, {THERE, GATEWAY}),
-    ROW(gateway_same, {THERE, GATEWAY}, {THERE, GATEWAY}), ROW(node_open, {FILLED, NODE}, {THERE, GATEWAY}),
-    ROW(node_gateway, {THERE, NODE}, {FILLED, GATEWAY}), ROW(node_take, {THERE, NODE}, {THERE, EXPORT}),
-    ROW(node_merge, {THERE, NODE}, {THERE, GATEWAY}), ROW(node_send, {THERE, NODE}, {FILLED, MESSAGE}),
-    ROW(node_hand, {THERE, NODE}, {THERE, MESSAGE}, {FILLED, MESSAGE}), ROW(message_read, {THERE, MESSAGE}),
-    ROW(message_encode, {THERE, MESSAGE}, {FILLED, BYTES}), ROW(message_decode, {FILLED, MESSAGE}), ROW(ask_sum, {FILLED, ASK}),
+    ROW(writer_shutdown, {THERE, WRITER}, {FILLED, EXPORT}), ROW(writer_restart, {THERE, WRITER}),
+    ROW(writer_share, {THERE, WRITER}, {FILLED, SEAT}), ROW(seat_split, {THERE, SEAT}, {FILLED, SEAT}),
+    ROW(seat_measure, {THERE, SEAT}, {READ, ATTRIBUTES}), ROW(seat_hold, {THERE, SEAT}, {READ, ATTRIBUTES}),
+    ROW(seat_measure_held, {THERE, SEAT}), ROW(seat_take_in, {THERE, SEAT}, {THERE, RECORDER}),
+    ROW(seat_collect, {THERE, SEAT}, {FILLED, EXPORT}), ROW(recorder_new, {FILLED, RECORDER}),
+    ROW(recorder_measure, {THERE, RECORDER}, {READ, ATTRIBUTES}), ROW(recorder_measure_held, {THERE, RECORDER}),
+    ROW(recorder_len, {READ, RECORDER}), ROW(recorder_clear, {THERE, RECORDER}), ROW(writer_take_in, {THERE, WRITER}, {THERE, RECORDER}),
+    ROW(export_encode, {READ, EXPORT}, {FILLED, BYTES}), ROW(export_decode, {FILLED, EXPORT}), ROW(bytes_copy, {READ, BYTES}),
+    ROW(gateway_open, {FILLED, GATEWAY}), ROW(gateway_take, {THERE, GATEWAY}, {READ, EXPORT}),
+    ROW(gateway_merge, {THERE, GATEWAY}, {READ, GATEWAY}), ROW(gateway_conflicts, {READ, GATEWAY}), ROW(gateway_newest, {READ, GATEWAY}),
+    ROW(gateway_same, {READ, GATEWAY}, {READ, GATEWAY}), ROW(node_open, {FILLED, NODE}, {READ, GATEWAY}),
+    ROW(node_gateway, {READ, NODE}, {FILLED, GATEWAY}), ROW(node_take, {THERE, NODE}, {READ, EXPORT}),
+    ROW(node_merge, {THERE, NODE}, {READ, GATEWAY}), ROW(node_send, {READ, NODE}, {FILLED, MESSAGE}),
+    ROW(node_hand, {THERE, NODE}, {READ, MESSAGE}, {FILLED, MESSAGE}), ROW(message_read, {READ, MESSAGE}),
+    ROW(message_encode, {READ, MESSAGE}, {FILLED, BYTES}), ROW(message_decode, {FILLED, MESSAGE}), ROW(ask_sum, {FILLED, ASK}),
     ROW(ask_gauge, {FILLED, ASK}), ROW(ask_histogram, {FILLED, ASK}), ROW(ask_service, {THERE, ASK}),
-    ROW(ask_only, {THERE, ASK}, {OPENS, PAIRS}), ROW(ask_keep, {THERE, ASK}, {OPENS, KEYS}),
-    ROW(gateway_rows, {THERE, GATEWAY}, {THERE, ASK}, {FILLED, SUM_ROWS}), ROW(rows_table, {THERE, ROWS}, {FILLED, TOLD_TEXT}),
-    ROW(rows_len, {THERE, ROWS}), ROW(rows_counts, {THERE, ROWS}), ROW(rows_sum, {THERE, SUM_ROWS}), ROW(rows_gauge, {THERE, GAUGE_ROWS}),
-    ROW(rows_histogram, {THERE, HISTOGRAM_ROWS}), ROW(rows_range, {THERE, HISTOGRAM_ROWS}), ROW(rows_bucket, {THERE, HISTOGRAM_ROWS}),
-    ROW(text_copy, {THERE, TOLD_TEXT}),
+    ROW(ask_only, {THERE, ASK}, {MAY_READ, PAIRS}), ROW(ask_keep, {THERE, ASK}, {MAY_READ, KEYS}),
+    ROW(gateway_rows, {READ, GATEWAY}, {READ, ASK}, {FILLED, SUM_ROWS}), ROW(rows_table, {READ, ROWS}, {FILLED, TOLD_TEXT}),
+    ROW(rows_len, {READ, ROWS}), ROW(rows_counts, {READ, ROWS}), ROW(rows_sum, {READ, SUM_ROWS}), ROW(rows_gauge, {READ, GAUGE_ROWS}),
+    ROW(rows_histogram, {READ, HISTOGRAM_ROWS}), ROW(rows_range, {READ, HISTOGRAM_ROWS}), ROW(rows_bucket, {READ, HISTOGRAM_ROWS}),
+    ROW(text_copy, {READ, TOLD_TEXT}),
 };
 
-static bool is_of(enum kind wanted, enum kind kind) {
-    return kind == wanted || (wanted == ROWS && SUM_ROWS <= kind && kind <= HISTOGRAM_ROWS);
-}
+static bool is_rows(enum kind kind) { return kind == ROWS || (SUM_ROWS <= kind && kind <= HISTOGRAM_ROWS); }
+
+static bool is_of(enum kind wanted, enum kind kind) { return kind == wanted || (wanted == ROWS && is_rows(kind)); }
+
+static bool must_be_there(struct hand hand) { return hand.part == THERE || hand.part == READ; }
+
+static bool is_read(struct hand hand) { return hand.part == READ || hand.part == MAY_READ; }
 
 static int hands_of(const struct row *row) {
     int count = 0;
@@ -302,6 +307,9 @@ static void expect(const struct row *row, const char *what, int hand, int kind, 
     exit(1);
 }
 
+/* A writer that is shared is left empty: its seat has it. */
+static bool is_given_over(const struct row *row, int hand) { return !strcmp(row->name, "writer_share") && !hand; }
+
 /* Each growth refused in turn, until the call succeeds. */
 static void grows(const struct row *row) {
     lay(row);
@@ -312,7 +320,26 @@ static void grows(const struct row *row) {
         if (code == KIT_OK) break;
         expect(row, "a refused growth is told so and changes nothing", -1, (int)growth, code == KIT_NO_MEMORY && unchanged());
     }
-    for (int i = 0; i < hands_of(row); i++) expect(row, "it is there once the call succeeded", i, -1, own[i].full);
+    for (int i = 0; i < hands_of(row); i++) {
+        bool stays = own[i].full == before[i].full && own[i].at == before[i].at;
+        expect(row, "what is read is there once the call succeeded", i, -1, !is_read(row->hands[i]) || stays);
+        expect(row, "it is there once the call succeeded", i, -1, own[i].full || is_given_over(row, i));
+    }
+    clear();
+}
+
+/* What a call only reads it may have by a handle that is lent, which then has the same. */
+static void lends(const struct row *row) {
+    kit_handle lent[MOST] = {{0}};
+    lay(row);
+    for (int i = 0; i < hands_of(row); i++) {
+        if (is_read(row->hands[i])) lent[i] = own[i], given[i] = &lent[i];
+    }
+    expect(row, "a handle may be lent", -1, -1, called(row) == KIT_OK);
+    for (int i = 0; i < hands_of(row); i++) {
+        bool same = !is_read(row->hands[i]) || (own[i].full == lent[i].full && own[i].at == lent[i].at);
+        expect(row, "what was lent is given back", i, -1, same);
+    }
     clear();
 }
 
@@ -320,7 +347,7 @@ static void emptied(const struct row *row, int hand) {
     lay(row);
     kit_free(&own[hand]);
     int32_t code = called(row);
-    if (row->hands[hand].part == THERE) {
+    if (must_be_there(row->hands[hand])) {
         expect(row, "an empty handle is told so and changes nothing", hand, -1, code == KIT_NOTHING && unchanged());
     } else {
         expect(row, "the handle may be empty", hand, -1, code == KIT_OK);
@@ -329,8 +356,9 @@ static void emptied(const struct row *row, int hand) {
 }
 
 static void of_another_kind(const struct row *row, int hand, enum kind kind) {
-    int32_t wanted = row->hands[hand].part == FILLED ? KIT_FULL : KIT_WRONG_KIND;
-    if (wanted == KIT_WRONG_KIND && is_of(row->hands[hand].kind, kind)) return;
+    bool other_shape = is_rows(kind) && is_rows(row->hands[hand].kind);
+    int32_t wanted = row->hands[hand].part == FILLED ? KIT_FULL : other_shape ? KIT_WRONG_SHAPE : KIT_WRONG_KIND;
+    if (wanted != KIT_FULL && is_of(row->hands[hand].kind, kind)) return;
     lay(row);
     kit_free(&own[hand]);
     make(kind, &own[hand]);
@@ -342,7 +370,7 @@ static void of_another_kind(const struct row *row, int hand, enum kind kind) {
 /* One handle for two of a call, with what the one wants, with what the other wants, and with nothing. */
 static void given_twice(const struct row *row, int hand, int other) {
     const enum kind kinds[] = {row->hands[hand].kind, row->hands[other].kind, NOTHING};
-    bool must = row->hands[hand].part == THERE || row->hands[other].part == THERE;
+    bool must = must_be_there(row->hands[hand]) || must_be_there(row->hands[other]);
     for (int i = 0; i < 3; i++) {
         lay(row);
         kit_free(&own[hand]), kit_free(&own[other]);
@@ -355,15 +383,16 @@ static void given_twice(const struct row *row, int hand, int other) {
 }
 
 int main(void) {
-    kit_handle bytes = KIT_EMPTY, message = KIT_EMPTY;
+    kit_handle bytes = {0}, message = {0};
     make(BYTES, &bytes), make(MESSAGE, &message);
-    MUST(kit_bytes_copy(&bytes, encoded, sizeof encoded, &encoded_len) || encoded_len > sizeof encoded);
+    MUST(kit_bytes_copy((kit_bytes *)&bytes, encoded, sizeof encoded, &encoded_len) || encoded_len > sizeof encoded);
     kit_free(&bytes);
-    MUST(kit_message_encode(&message, &bytes) || kit_bytes_copy(&bytes, told, sizeof told, &told_len) || told_len > sizeof told);
+    MUST(kit_message_encode((kit_message *)&message, (kit_bytes *)&bytes));
+    MUST(kit_bytes_copy((kit_bytes *)&bytes, told, sizeof told, &told_len) || told_len > sizeof told);
     kit_free(&bytes), kit_free(&message);
     for (size_t i = 0; i < sizeof CALLS / sizeof *CALLS; i++) {
         const struct row *row = &CALLS[i];
-        grows(row);
+        grows(row), lends(row);
         for (int hand = 0; hand < hands_of(row); hand++) {
             emptied(row, hand);
             for (enum kind kind = PAIRS; kind < KINDS; kind++) of_another_kind(row, hand, kind);

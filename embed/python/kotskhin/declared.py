@@ -106,6 +106,7 @@ CALLS = {
     "kit_seat_hold": ("int32_t", ("kit_seat *seat", "size_t instrument", "KIT_READS kit_attributes *attributes", "size_t *number",)),
     "kit_seat_take_in": ("int32_t", ("kit_seat *seat", "kit_recorder *recorder", "size_t most", "kit_taken *taken",)),
     "kit_seat_split": ("int32_t", ("kit_seat *seat", "kit_seat *made",)),
+    "kit_seat_collect": ("int32_t", ("kit_seat *seat", "uint64_t time", "kit_export *export_", "uint64_t *place",)),
     "kit_text_copy": ("int32_t", ("KIT_READS kit_text *text", "uint8_t *into", "size_t room", "size_t *len",)),
     "kit_view_of_name": ("int32_t", ("kit_view *view", "const uint8_t *name", "size_t name_len",)),
     "kit_view_of_every": ("int32_t", ("kit_view *view",)),

@@ -481,6 +481,12 @@ unsafe extern "C" {
         seat: *mut Seat,
         made: *mut Seat,
     ) -> i32;
+    pub fn kit_seat_collect(
+        seat: *mut Seat,
+        time: u64,
+        export_: *mut Export,
+        place: *mut u64,
+    ) -> i32;
     pub fn kit_text_copy(
         text: *mut Text,
         into: *mut u8,
