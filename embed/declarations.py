@@ -156,7 +156,7 @@ def header():
 
 def in_rust():
     """The declarations for Rust."""
-    lines = [f"//! {MADE}", "use crate::{Handle, kind};", ""]
+    lines = [f"//! {MADE}", "use crate::Handle;", ""]
     lines += [f"pub const VERSION: u32 = {exports.version()};", ""]
     lines += [f"/// {it.says[:1].upper() + it.says[1:]}.\npub const {it.name}: i32 = {it.number};" for it in CODES]
     for it in KINDS:

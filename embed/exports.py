@@ -1,7 +1,7 @@
 """What crates/kit_c exports, as its sources and its proved definitions say: kinds of handles, structs, codes, and calls with their pages.
 
 A call is `pub extern "C" fn` under `#[unsafe(no_mangle)]`; its page is the `///` above it. A handle that a call only reads is one of which a
-clause says, without a condition, that it is as it was. A kind is a struct whose first field is a handle. The codes are those of
+clause says, without a condition, that it is as it was, but for those of APART. A kind is a struct whose first field is a handle. The codes are those of
 specs/Codes.antt, what each says is what `kit_code_text` tells, and how many places it tells is what specs/Places.antt gives it."""
 import dataclasses
 import pathlib
@@ -23,6 +23,8 @@ CONSTANT = re.compile(r"^pub\(crate\) const ([A-Z_]+): i32 = (\d+);$", re.M)
 PLACE = re.compile(r"^(?:\w*place\w*|(second_of)) .*?\.(\w+)(?: [a-z]\w*)+\)+ = Some (\w+)$", re.M)
 PLACES = {"i": "instrument", "j": "instrument", "v": "view", "at": "byte", "last": "time"}
 KEPT = re.compile(r"(?:(\w+_(?:of|in)) )?\(?(\w+)\.new([\w.]*)\)? ≡ (?:\1 )?\(?\2\.old\3\)?$")
+# A handle that stays as it is though the call takes what it has apart meanwhile. tests/embed/reads.c finds each by races.
+APART = {("kit_writer_hold", "attributes"), ("kit_seat_hold", "attributes")}
 SAID = re.compile(r'^ +(\d+)(?: \| \d+)* => "([^"\n]+)",$', re.M)
 VERSION = re.compile(r"^(?:pub(?:\(crate\))? )?const VERSION: u32 = ([\d_x +*<|()]+);", re.M)
 
@@ -96,7 +98,7 @@ def exports():
     for module, text in sources():
         for page, name, given, result, contract in EXPORT.findall(text):
             words = [it.split(":", 1) for it in re.split(r",\s*", given.strip().rstrip(",")) if it]
-            stays = set(kept(contract))
+            stays = set(kept(contract)) - {word for call, word in APART if call == name}
             given = tuple(Parameter(word.strip(), kind.strip(), word.strip() in stays) for word, kind in words)
             yield Call(name, module, tuple(it for it in given if it.kind != "Global"), result, page_of(page))
 

@@ -406,7 +406,7 @@ KIT_CHECKED int32_t kit_writer_measure(kit_writer *writer, size_t instrument, KI
  *
  * Refused, in this order: KIT_NOTHING of the writer, then of the attributes; of a pair that is not held already KIT_CLOSED;
  * KIT_NO_INSTRUMENT; KIT_NO_MEMORY. O(size of the attributes). */
-KIT_CHECKED int32_t kit_writer_hold(kit_writer *writer, size_t instrument, KIT_READS kit_attributes *attributes, size_t *number);
+KIT_CHECKED int32_t kit_writer_hold(kit_writer *writer, size_t instrument, kit_attributes *attributes, size_t *number);
 
 /* Records a value at the pair of a number, which kit_writer_hold told, as kit_writer_measure does.
  *
@@ -506,7 +506,7 @@ KIT_CHECKED int32_t kit_seat_measure_held(kit_seat *seat, size_t number, int64_t
  *
  * Refused, in this order: KIT_NOTHING of the seat, then of the attributes; of a pair that the seat does not know KIT_NO_MEMORY; KIT_BUSY
  * where another thread's call has the writer; KIT_EXHAUSTED where it accepted 2^62 changes; KIT_NO_INSTRUMENT; KIT_NO_MEMORY. */
-KIT_CHECKED int32_t kit_seat_hold(kit_seat *seat, size_t instrument, KIT_READS kit_attributes *attributes, size_t *number);
+KIT_CHECKED int32_t kit_seat_hold(kit_seat *seat, size_t instrument, kit_attributes *attributes, size_t *number);
 
 /* Takes in at most so many recordings of a log by a seat, from its front, as kit_writer_take_in does: by one change, so that others see all
  * of them or none. By pieces other seats get in between.
@@ -662,73 +662,73 @@ KIT_CHECKED int32_t kit_ask_gauge(kit_ask *ask, const uint8_t *scope, size_t sco
 KIT_CHECKED int32_t kit_ask_histogram(kit_ask *ask, const uint8_t *scope, size_t scope_len, const uint8_t *name, size_t name_len,
                                       const uint8_t *unit, size_t unit_len, const int64_t *bounds, size_t bounds_len);
 
-/* The rows that a gateway answers an ask with. Both stay.
- *
- * Refused, in this order: KIT_FULL; KIT_NOTHING of the gateway, then of the ask; KIT_WRONG_KIND; KIT_NO_MEMORY. Of n points and r rows O(n
- * log r) comparisons of sets. */
-KIT_CHECKED int32_t kit_gateway_rows(KIT_READS kit_gateway *gateway, KIT_READS kit_ask *ask, kit_rows *rows);
-
-/* The table of rows, as a text. The rows stay.
- *
- * Refused, in this order: KIT_FULL; KIT_NOTHING; KIT_WRONG_KIND; KIT_NO_MEMORY. */
-KIT_CHECKED int32_t kit_rows_table(KIT_READS kit_rows *rows, kit_text *text);
-
 /* From now on an ask is of the points of one service's writers.
  *
- * Refused, in this order: KIT_NOT_TEXT; KIT_NOTHING; KIT_WRONG_KIND; KIT_NO_MEMORY. */
+ * Refused, in this order: KIT_NOT_TEXT; KIT_NOTHING; KIT_NO_MEMORY. */
 KIT_CHECKED int32_t kit_ask_service(kit_ask *ask, const uint8_t *service, size_t service_len);
 
 /* From now on an ask is of the points whose attributes have each of these pairs, which stay.
  *
- * Refused, in this order: KIT_WRONG_KIND of the pairs; KIT_NOTHING and KIT_WRONG_KIND of the ask; KIT_NO_MEMORY. */
+ * Refused, in this order: KIT_NOTHING of the ask; KIT_NO_MEMORY. */
 KIT_CHECKED int32_t kit_ask_only(kit_ask *ask, KIT_READS kit_pairs *pairs);
 
 /* From now on an ask's rows are told apart by these keys alone, which stay; by none where their handle has nothing.
  *
- * Refused, in this order: KIT_WRONG_KIND of the keys; KIT_NOTHING and KIT_WRONG_KIND of the ask; KIT_NO_MEMORY. */
+ * Refused, in this order: KIT_NOTHING of the ask; KIT_NO_MEMORY. */
 KIT_CHECKED int32_t kit_ask_keep(kit_ask *ask, KIT_READS kit_keys *keys);
+
+/* The rows that a gateway answers an ask with. Both stay.
+ *
+ * Refused, in this order: KIT_FULL; KIT_NOTHING of the gateway, then of the ask; KIT_NO_MEMORY. Of n points and r rows O(n log r)
+ * comparisons of sets. */
+KIT_CHECKED int32_t kit_gateway_rows(KIT_READS kit_gateway *gateway, KIT_READS kit_ask *ask, kit_rows *rows);
+
+/* The table of rows, as a text. The rows stay.
+ *
+ * Refused, in this order: KIT_FULL; KIT_NOTHING; KIT_NO_MEMORY. */
+KIT_CHECKED int32_t kit_rows_table(KIT_READS kit_rows *rows, kit_text *text);
 
 /* Rows as numbers. */
 
 /* Tells how many rows there are: they are numbered from 0, in the order of their attribute sets.
  *
- * Refused, in this order: KIT_NOTHING; KIT_WRONG_KIND. Takes no memory. */
+ * Refused: KIT_NOTHING. Takes no memory. */
 KIT_CHECKED int32_t kit_rows_len(KIT_READS kit_rows *rows, size_t *count);
 
 /* Tells how many points the total of a row is of, and how many conflicts it leaves out.
  *
- * Refused, in this order: KIT_NOTHING; KIT_WRONG_KIND; KIT_NO_ROW. Takes no memory. */
+ * Refused, in this order: KIT_NOTHING; KIT_NO_ROW. Takes no memory. */
 KIT_CHECKED int32_t kit_rows_counts(KIT_READS kit_rows *rows, size_t number, uint64_t *points, uint64_t *conflicts);
 
 /* Tells the total of a row of a sum.
  *
- * Refused, in this order: KIT_NOTHING; KIT_WRONG_KIND of the handle; KIT_NO_ROW; KIT_WRONG_KIND of a row of another shape; KIT_TOO_WIDE
- * where the total, which has 128 bits, leaves 64: its table tells it all the same. Takes no memory. */
+ * Refused, in this order: KIT_NOTHING; KIT_NO_ROW; KIT_WRONG_SHAPE of a row of another shape; KIT_TOO_WIDE where the total, which has 128
+ * bits, leaves 64: its table tells it all the same. Takes no memory. */
 KIT_CHECKED int32_t kit_rows_sum(KIT_READS kit_rows *rows, size_t number, int64_t *total);
 
 /* Tells the time and the value of the newest point of a row of a gauge.
  *
- * Refused, in this order: KIT_NOTHING; KIT_WRONG_KIND of the handle; KIT_NO_ROW; KIT_WRONG_KIND of a row of another shape; KIT_NO_POINT
- * where the row has conflicts alone. Takes no memory. */
+ * Refused, in this order: KIT_NOTHING; KIT_NO_ROW; KIT_WRONG_SHAPE of a row of another shape; KIT_NO_POINT where the row has conflicts
+ * alone. Takes no memory. */
 KIT_CHECKED int32_t kit_rows_gauge(KIT_READS kit_rows *rows, size_t number, uint64_t *time, int64_t *value);
 
 /* Tells how many values a row of a histogram is of, their sum, and how many buckets there are: one more than bounds.
  *
- * Refused, in this order: KIT_NOTHING; KIT_WRONG_KIND of the handle; KIT_NO_ROW; KIT_WRONG_KIND of a row of another shape; KIT_TOO_WIDE
- * where the count or the sum, which have 128 bits, leaves 64: the table tells them all the same. Takes no memory. */
+ * Refused, in this order: KIT_NOTHING; KIT_NO_ROW; KIT_WRONG_SHAPE of a row of another shape; KIT_TOO_WIDE where the count or the sum,
+ * which have 128 bits, leaves 64: the table tells them all the same. Takes no memory. */
 KIT_CHECKED int32_t kit_rows_histogram(KIT_READS kit_rows *rows, size_t number, uint64_t *count, int64_t *sum, size_t *buckets);
 
 /* Tells the least and the greatest value that a row of a histogram is of.
  *
- * Refused, in this order: KIT_NOTHING; KIT_WRONG_KIND of the handle; KIT_NO_ROW; KIT_WRONG_KIND of a row of another shape; KIT_NO_POINT
- * where the row has no value. Takes no memory. */
+ * Refused, in this order: KIT_NOTHING; KIT_NO_ROW; KIT_WRONG_SHAPE of a row of another shape; KIT_NO_POINT where the row has no value.
+ * Takes no memory. */
 KIT_CHECKED int32_t kit_rows_range(KIT_READS kit_rows *rows, size_t number, int64_t *least, int64_t *greatest);
 
 /* Tells how many values a bucket of a row of a histogram has. Buckets are numbered from 0: that of a number has the values up to the bound
  * of this number and above the one before it, and the last one those above all bounds.
  *
- * Refused, in this order: KIT_NOTHING; KIT_WRONG_KIND of the handle; KIT_NO_ROW; KIT_WRONG_KIND of a row of another shape; KIT_NO_BUCKET;
- * KIT_TOO_WIDE where the count, which has 128 bits, leaves 64. Takes no memory. */
+ * Refused, in this order: KIT_NOTHING; KIT_NO_ROW; KIT_WRONG_SHAPE of a row of another shape; KIT_NO_BUCKET; KIT_TOO_WIDE where the count,
+ * which has 128 bits, leaves 64. Takes no memory. */
 KIT_CHECKED int32_t kit_rows_bucket(KIT_READS kit_rows *rows, size_t number, size_t bucket_number, uint64_t *count);
 
 /* Texts. */

@@ -1,5 +1,5 @@
 //! Made by embed/declarations.py of what crates/kit_c exports.
-use crate::{Handle, kind};
+use crate::Handle;
 
 pub const VERSION: u32 = 256;
 
@@ -215,15 +215,6 @@ unsafe extern "C" {
         bounds: *const i64,
         bounds_len: usize,
     ) -> i32;
-    pub fn kit_gateway_rows(
-        gateway: *mut Gateway,
-        ask: *mut Ask,
-        rows: *mut Rows,
-    ) -> i32;
-    pub fn kit_rows_table(
-        rows: *mut Rows,
-        text: *mut Text,
-    ) -> i32;
     pub fn kit_ask_service(
         ask: *mut Ask,
         service: *const u8,
@@ -236,6 +227,15 @@ unsafe extern "C" {
     pub fn kit_ask_keep(
         ask: *mut Ask,
         keys: *mut Keys,
+    ) -> i32;
+    pub fn kit_gateway_rows(
+        gateway: *mut Gateway,
+        ask: *mut Ask,
+        rows: *mut Rows,
+    ) -> i32;
+    pub fn kit_rows_table(
+        rows: *mut Rows,
+        text: *mut Text,
     ) -> i32;
     pub fn kit_pairs_add_text(
         pairs: *mut Pairs,

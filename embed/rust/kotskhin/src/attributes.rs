@@ -2,7 +2,7 @@
 use crate::error::{Error, checked, checked_at};
 use crate::handle::Handle;
 use kotskhin_sys::{
-    kit_attributes_make, kit_pairs_add_text, kit_pairs_add_truth, kit_pairs_add_whole,
+    self as sys, kit_attributes_make, kit_pairs_add_text, kit_pairs_add_truth, kit_pairs_add_whole,
 };
 
 /// The value of an attribute.
@@ -34,7 +34,7 @@ impl From<bool> for AttributeValue<'_> {
 /// Pairs, in the order in which they come.
 pub(crate) fn pairs_of<'a, V: Into<AttributeValue<'a>>>(
     pairs: impl IntoIterator<Item = (&'a str, V)>,
-) -> Result<Handle, Error> {
+) -> Result<Handle<sys::Pairs>, Error> {
     let mut handle = Handle::empty();
     for (key, value) in pairs {
         let at = handle.change();
@@ -57,7 +57,7 @@ pub(crate) fn pairs_of<'a, V: Into<AttributeValue<'a>>>(
 }
 
 /// A set of attributes: of a key that is given twice the later value stays. Make it once, and record with it often.
-pub struct Attributes(pub(crate) Handle);
+pub struct Attributes(pub(crate) Handle<sys::Attributes>);
 
 impl Attributes {
     /// Refused: `EmptyKey`, `NoMemory`.

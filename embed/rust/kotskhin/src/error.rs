@@ -20,6 +20,8 @@ pub enum Error {
     ValueTooWide { value: u64 },
     /// There is no bucket of this number.
     NoBucket,
+    /// The total of the row is of another shape.
+    WrongShape,
     /// The message goes to another id.
     NotAddressed,
     /// The writer was shut down, and not restarted since.
@@ -90,6 +92,7 @@ pub(crate) fn refusal(code: i32, place: u64, second: u64) -> Error {
         sys::NO_POINT => Error::NoPoint,
         sys::TOO_WIDE => Error::TooWide,
         sys::NO_BUCKET => Error::NoBucket,
+        sys::WRONG_SHAPE => Error::WrongShape,
         sys::NOT_ADDRESSED => Error::NotAddressed,
         sys::CLOSED => Error::Closed,
         sys::NO_INSTRUMENT => Error::NoInstrument,
@@ -162,6 +165,7 @@ impl fmt::Display for Error {
                 "the value {value} is above 2^63 - 1, the greatest that is recorded"
             ),
             Error::NoBucket => write!(f, "there is no bucket of this number"),
+            Error::WrongShape => write!(f, "the total of the row is of another shape"),
             Error::NotAddressed => write!(f, "the message goes to another id"),
             Error::Closed => write!(f, "the writer is closed"),
             Error::NoInstrument => write!(f, "there is no such instrument"),

@@ -1,16 +1,16 @@
 //! What writers export.
 use crate::error::{Error, checked, checked_at};
 use crate::handle::Handle;
-use kotskhin_sys::{kit_bytes_copy, kit_export_decode, kit_export_encode};
+use kotskhin_sys::{self as sys, kit_bytes_copy, kit_export_decode, kit_export_encode};
 
 /// The bytes that a handle has.
-pub(crate) fn copied(made: &mut Handle) -> Result<Vec<u8>, Error> {
+pub(crate) fn copied(made: &Handle<sys::Bytes>) -> Result<Vec<u8>, Error> {
     let mut bytes = vec![0; 1024];
     loop {
         let mut len = 0;
-        // SAFETY: the handle is ours alone, and the room is the vector's.
+        // SAFETY: the bytes are lent, and the room is the vector's.
         checked(unsafe {
-            kit_bytes_copy(made.change(), bytes.as_mut_ptr(), bytes.len(), &mut len)
+            kit_bytes_copy(made.read().at(), bytes.as_mut_ptr(), bytes.len(), &mut len)
         })?;
         let is_whole = len <= bytes.len();
         bytes.resize(len, 0);
@@ -21,15 +21,15 @@ pub(crate) fn copied(made: &mut Handle) -> Result<Vec<u8>, Error> {
 }
 
 /// The points of one collection: all that the writer recorded since its start. A gateway may take it, and so may others.
-pub struct Export(pub(crate) Handle);
+pub struct Export(pub(crate) Handle<sys::Export>);
 
 impl Export {
     /// Its bytes, for another process: each export has one form. Refused: `NoMemory`.
     pub fn encode(&self) -> Result<Vec<u8>, Error> {
         let mut made = Handle::empty();
-        // SAFETY: the export stays on this thread, and the bytes are ours alone; they are two.
-        checked(unsafe { kit_export_encode(self.0.read(), made.change()) })?;
-        copied(&mut made)
+        // SAFETY: the export is lent, and the bytes are ours alone; they are two.
+        checked(unsafe { kit_export_encode(self.0.read().at(), made.change()) })?;
+        copied(&made)
     }
 
     /// The export of bytes that `encode` made. Refused, for the first thing that is wrong: `Truncated`, `BadMagic`, `BadVersion`,

@@ -4,8 +4,8 @@
 //! records under a [`Plan`] and gives an [`Export`], a [`Gateway`] takes exports and merges with others, and answers an [`Ask`]
 //! with a table. A [`Node`] is a gateway that tells others what changed, by [`Message`]s. Times are nanoseconds since the Unix epoch.
 //!
-//! A call that is refused says why, and changes nothing ([`Error`]). Every type may go to another thread, and none may be read by
-//! two at once: the library's calls need their handles for themselves, those that only read, too.
+//! A call that is refused says why, and changes nothing ([`Error`]). Every type may go to another thread, and may be read by many at once:
+//! a set of attributes, a plan, an export, and a gateway that no thread changes. What changes takes a `&mut`.
 #![deny(unsafe_op_in_unsafe_fn)]
 
 mod ask;

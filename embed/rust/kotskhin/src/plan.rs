@@ -2,7 +2,7 @@
 use crate::error::{Error, checked, checked_twice};
 use crate::handle::Handle;
 use crate::view::Views;
-use kotskhin_sys::{kit_instruments_add, kit_plan_build};
+use kotskhin_sys::{self as sys, kit_instruments_add, kit_plan_build};
 
 /// How many attribute sets a stream has points of their own for, where nothing else is asked.
 pub const DEFAULT_LIMIT: u64 = 2000;
@@ -23,7 +23,7 @@ pub enum Kind {
 
 /// Instruments, numbered from 0 in the order in which they are added.
 pub struct Instruments {
-    handle: Handle,
+    handle: Handle<sys::Instruments>,
     len: usize,
 }
 
@@ -63,7 +63,7 @@ impl Instruments {
 }
 
 /// Which instruments feed which streams. Many writers may start under one plan.
-pub struct Plan(pub(crate) Handle);
+pub struct Plan(pub(crate) Handle<sys::Plan>);
 
 impl Plan {
     /// Refused: `BadName`, `BadUnit`, `SameStream`, `BadLimit`, `NoMemory`.
@@ -78,12 +78,12 @@ impl Plan {
     pub fn with_views(instruments: &Instruments, views: &Views, limit: u64) -> Result<Plan, Error> {
         let mut plan = Handle::empty();
         let (mut place, mut second) = (0, 0);
-        // SAFETY: the plan is ours alone, the instruments and the views stay on this thread; they are three.
+        // SAFETY: the plan is ours alone, the instruments and the views are lent; they are three.
         let code = unsafe {
             kit_plan_build(
                 plan.change(),
-                instruments.handle.read(),
-                views.0.read(),
+                instruments.handle.read().at(),
+                views.0.read().at(),
                 limit,
                 &mut place,
                 &mut second,

@@ -43,7 +43,7 @@ fn one_export_is_for_many_gateways() -> Result<(), Error> {
         (Ok(1), Ok((1, 0)), Ok(7))
     );
     assert_eq!(rows.sum(1), Err(Error::NoRow));
-    assert_eq!(rows.gauge(0), Err(Error::Unexpected(3)));
+    assert_eq!(rows.gauge(0), Err(Error::WrongShape));
     assert_eq!(one.same(&other), Ok(true));
     assert_eq!(one.same(&one), Ok(true));
     assert_eq!(one.conflicts(), Ok(0));
@@ -311,7 +311,7 @@ fn histograms_have_buckets() -> Result<(), Error> {
     let buckets: Vec<_> = (0..4).map(|it| rows.bucket(0, it)).collect();
     assert_eq!(buckets, [Ok(2), Ok(1), Ok(1), Err(Error::NoBucket)]);
     assert_eq!(rows.histogram(1), Err(Error::NoRow));
-    assert_eq!(rows.sum(0), Err(Error::Unexpected(3)));
+    assert_eq!(rows.sum(0), Err(Error::WrongShape));
     Ok(())
 }
 
