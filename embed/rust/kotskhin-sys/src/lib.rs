@@ -19,6 +19,9 @@ pub struct Handle {
 /// It is a [`Handle`] and nothing beside, and `EMPTY` has nothing.
 pub unsafe trait Kind {
     const EMPTY: Self;
+
+    /// Whether it has something.
+    fn is_full(&self) -> bool;
 }
 
 macro_rules! kind {
@@ -37,6 +40,10 @@ macro_rules! kind {
                     at: core::ptr::null_mut(),
                 },
             };
+
+            fn is_full(&self) -> bool {
+                self.handle.full
+            }
         }
 
         const _: () = assert!(size_of::<$kind>() == 16);

@@ -1,9 +1,10 @@
 //! Attribute sets.
 use crate::error::{Error, checked, checked_at};
-use crate::handle::Handle;
+use crate::handle::{Handle, Lent};
 use kotskhin_sys::{
     self as sys, kit_attributes_make, kit_pairs_add_text, kit_pairs_add_truth, kit_pairs_add_whole,
 };
+use std::sync::{Mutex, MutexGuard, PoisonError};
 
 /// The value of an attribute.
 #[derive(Clone, Copy, Debug, PartialEq, Eq)]
@@ -56,25 +57,52 @@ pub(crate) fn pairs_of<'a, V: Into<AttributeValue<'a>>>(
     Ok(handle)
 }
 
-/// A set of attributes: of a key that is given twice the later value stays. Make it once, and record with it often.
-pub struct Attributes(pub(crate) Handle<sys::Attributes>);
+fn set_of(pairs: &Handle<sys::Pairs>) -> Result<Handle<sys::Attributes>, Error> {
+    let (mut set, mut place) = (Handle::empty(), 0);
+    // SAFETY: the set is ours alone, and the pairs are lent.
+    let code = unsafe { kit_attributes_make(set.change(), pairs.read().at(), &mut place) };
+    checked_at(code, place)?;
+    Ok(set)
+}
+
+/// A set of attributes: of a key that is given twice the later value stays. Make it once, and record with it often, from any thread.
+pub struct Attributes {
+    set: Handle<sys::Attributes>,
+    pairs: Handle<sys::Pairs>,
+    /// An equal set for calls that have theirs for themselves, once there was one.
+    apart: Mutex<Handle<sys::Attributes>>,
+}
 
 impl Attributes {
     /// Refused: `EmptyKey`, `NoMemory`.
     pub fn new<'a, V: Into<AttributeValue<'a>>>(
         pairs: impl IntoIterator<Item = (&'a str, V)>,
     ) -> Result<Attributes, Error> {
-        let mut pairs = pairs_of(pairs)?;
-        let mut set = Handle::empty();
-        let mut place = 0;
-        // SAFETY: both handles are ours alone, and they are two.
-        let code = unsafe { kit_attributes_make(set.change(), pairs.change(), &mut place) };
-        checked_at(code, place)?;
-        Ok(Attributes(set))
+        let pairs = pairs_of(pairs)?;
+        Ok(Attributes {
+            set: set_of(&pairs)?,
+            pairs,
+            apart: Mutex::new(Handle::empty()),
+        })
     }
 
     /// The set without attributes.
     pub fn none() -> Result<Attributes, Error> {
         Attributes::new::<&str>([])
+    }
+
+    /// For a call that only reads the set.
+    #[inline]
+    pub(crate) fn read(&self) -> Lent<'_, sys::Attributes> {
+        self.set.read()
+    }
+
+    /// For a call that has its set for itself: to hold it is one.
+    pub(crate) fn apart(&self) -> Result<MutexGuard<'_, Handle<sys::Attributes>>, Error> {
+        let mut apart = self.apart.lock().unwrap_or_else(PoisonError::into_inner);
+        if apart.is_empty() {
+            *apart = set_of(&self.pairs)?;
+        }
+        Ok(apart)
     }
 }

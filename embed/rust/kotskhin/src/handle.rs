@@ -21,6 +21,11 @@ impl<K: Kind> Handle<K> {
         Handle(K::EMPTY)
     }
 
+    /// Whether it has nothing.
+    pub fn is_empty(&self) -> bool {
+        !self.0.is_full()
+    }
+
     /// For a call that may change what the handle has.
     #[inline]
     pub fn change(&mut self) -> *mut K {

@@ -59,7 +59,7 @@ impl Recorder {
     ) -> Result<(), Error> {
         // SAFETY: the recorder is ours alone; the attributes are lent.
         checked(unsafe {
-            kit_recorder_measure(self.0.change(), instrument, attributes.0.read().at(), value)
+            kit_recorder_measure(self.0.change(), instrument, attributes.read().at(), value)
         })
     }
 

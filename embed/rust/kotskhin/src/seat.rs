@@ -39,7 +39,7 @@ impl Seat {
             kit_seat_measure(
                 self.0.change(),
                 instrument,
-                attributes.0.read().at(),
+                attributes.read().at(),
                 value,
                 &mut place,
             )
@@ -56,15 +56,9 @@ impl Seat {
         attributes: &Attributes,
     ) -> Result<HeldNumber, Error> {
         let mut number = 0;
-        // SAFETY: as above.
-        checked(unsafe {
-            kit_seat_hold(
-                self.0.change(),
-                instrument,
-                attributes.0.read().at(),
-                &mut number,
-            )
-        })?;
+        let mut set = attributes.apart()?;
+        // SAFETY: both handles are ours alone, and they are two.
+        checked(unsafe { kit_seat_hold(self.0.change(), instrument, set.change(), &mut number) })?;
         Ok(HeldNumber(number))
     }
 

@@ -63,7 +63,7 @@ impl Writer {
             kit_writer_measure(
                 self.0.change(),
                 instrument,
-                attributes.0.read().at(),
+                attributes.read().at(),
                 value,
                 &mut place,
             )
@@ -79,14 +79,10 @@ impl Writer {
         attributes: &Attributes,
     ) -> Result<HeldNumber, Error> {
         let mut number = 0;
-        // SAFETY: as above.
+        let mut set = attributes.apart()?;
+        // SAFETY: both handles are ours alone, and they are two.
         checked(unsafe {
-            kit_writer_hold(
-                self.0.change(),
-                instrument,
-                attributes.0.read().at(),
-                &mut number,
-            )
+            kit_writer_hold(self.0.change(), instrument, set.change(), &mut number)
         })?;
         Ok(HeldNumber(number))
     }
