@@ -128,13 +128,18 @@ def names_in_c():
     return "\n".join(f'    case KIT_{it.name}: return "KIT_{it.name}";' for it in CODES)
 
 
+def whole_version():
+    """The version as kit_version tells it."""
+    major, minor, patch = exports.version()
+    return major << 16 | minor << 8 | patch
+
+
+def dotted():
+    return ".".join(map(str, exports.version()))
+
+
 def version_in_c():
-    whole = exports.version()
-    return f'#define KIT_VERSION {whole} /* {dotted(whole)}: the major number * 65536 + the minor one * 256 + that of the patch */'
-
-
-def dotted(whole):
-    return f"{whole >> 16}.{whole >> 8 & 255}.{whole & 255}"
+    return f"#define KIT_VERSION {whole_version()} /* {dotted()}: the first number * 65536 + the second * 256 + the third */"
 
 
 def header():
@@ -157,7 +162,7 @@ def header():
 def in_rust():
     """The declarations for Rust."""
     lines = [f"//! {MADE}", "use crate::Handle;", ""]
-    lines += [f"pub const VERSION: u32 = {exports.version()};", ""]
+    lines += [f"pub const VERSION: u32 = {whole_version()};", ""]
     lines += [f"/// {it.says[:1].upper() + it.says[1:]}.\npub const {it.name}: i32 = {it.number};" for it in CODES]
     for it in KINDS:
         lines += ["", f"kind!(\n    /// {it.page[0]}\n    {it.name.removeprefix('Kit')}\n);"]
@@ -194,7 +199,7 @@ def quoted(text):
 
 def in_python():
     """The codes and the calls for Python."""
-    lines = [f'"""{MADE}"""', "", f"VERSION = {exports.version()}", "", "# Each code: its name, its number, what it says, and the words for the places that it tells."]
+    lines = [f'"""{MADE}"""', "", f"VERSION = {whole_version()}", "", "# Each code: its name, its number, what it says, and the words for the places that it tells."]
     lines.append("CODES = (")
     lines += [f"    ({quoted(it.name)}, {it.number}, {quoted(it.says)}, {it.places!r})," for it in CODES]
     lines += [")", "", "# Each struct that is told, by its name in C: its fields.", "STRUCTS = {"]
@@ -227,8 +232,8 @@ def versions():
     """Where another version stands than kit_version tells."""
     for file in ("rust/kotskhin-sys/Cargo.toml", "rust/kotskhin/Cargo.toml"):
         told = re.search(r'^version = "([^"]*)"', (EMBED / file).read_text(encoding="utf-8"), re.M)[1]
-        if told != dotted(exports.version()):
-            yield f"{file}: {told} is not the version {dotted(exports.version())}"
+        if told != dotted():
+            yield f"{file}: {told} is not the version {dotted()}"
 
 
 def read():

@@ -26,7 +26,7 @@ KEPT = re.compile(r"(?:(\w+_(?:of|in)) )?\(?(\w+)\.new([\w.]*)\)? ≡ (?:\1 )?\(
 # A handle that stays as it is though the call takes what it has apart meanwhile. tests/embed/reads.c finds each by races.
 APART = {("kit_writer_hold", "attributes"), ("kit_seat_hold", "attributes")}
 SAID = re.compile(r'^ +(\d+)(?: \| \d+)* => "([^"\n]+)",$', re.M)
-VERSION = re.compile(r"^(?:pub(?:\(crate\))? )?const VERSION: u32 = ([\d_x +*<|()]+);", re.M)
+VERSION = re.compile(r"^const (MAJOR|MINOR|PATCH): u32 = (\d+);$", re.M)
 
 
 @dataclasses.dataclass(frozen=True)
@@ -151,11 +151,12 @@ def codes():
 
 
 def version():
-    """The number that kit_version answers."""
+    """The three numbers of the version that kit_version tells."""
     for _, text in sources():
-        if found := VERSION.search(text):
-            return eval(found[1], {"__builtins__": {}})  # (an expression of numbers alone)
-    return 0
+        if "fn kit_version" in text:
+            told = dict(VERSION.findall(text))
+            return tuple(int(told[it]) for it in ("MAJOR", "MINOR", "PATCH"))
+    return (0, 0, 0)
 
 
 def answers():

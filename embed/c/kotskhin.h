@@ -27,7 +27,7 @@
 extern "C" {
 #endif
 
-#define KIT_VERSION 256 /* 0.1.0: the major number * 65536 + the minor one * 256 + that of the patch */
+#define KIT_VERSION 256 /* 0.1.0: the first number * 65536 + the second * 256 + the third */
 
 /* KIT_CALL stands before each call, KIT_CHECKED also before each that may be refused: its answer is to be looked at. */
 #if defined(__GNUC__) || defined(__clang__)
@@ -149,6 +149,11 @@ typedef struct kit_rows { kit_handle handle; } kit_rows;
 KIT_SIZE(kit_rows, 16);
 static inline KIT_CALL void kit_rows_free(kit_rows *it) { kit_free(&it->handle); }
 
+/* Streams, or nothing. */
+typedef struct kit_streams { kit_handle handle; } kit_streams;
+KIT_SIZE(kit_streams, 16);
+static inline KIT_CALL void kit_streams_free(kit_streams *it) { kit_free(&it->handle); }
+
 /* A text, or nothing. */
 typedef struct kit_text { kit_handle handle; } kit_text;
 KIT_SIZE(kit_text, 16);
@@ -171,52 +176,53 @@ typedef struct kit_taken {
 
 /* What calls answer. With a * the place that is told is said behind it, and behind ** the second. */
 enum {
-    KIT_OK = 0,               /* the call did what it says */
-    KIT_NO_MEMORY = 1,        /*  */
+    KIT_OK = 0,               /* done */
+    KIT_NO_MEMORY = 1,        /* memory was refused */
     KIT_NOTHING = 2,          /* a handle that is read has nothing */
-    KIT_WRONG_KIND = 3,       /* a handle has something else */
+    KIT_WRONG_KIND = 3,       /* a handle has a thing of another kind */
     KIT_FULL = 4,             /* the handle that is to be filled has something */
-    KIT_NOT_TEXT = 5,         /* a text is not UTF-8: of bytes: * the byte */
+    KIT_NOT_TEXT = 5,         /* a text is not UTF-8: * the byte */
     KIT_BAD_NUMBER = 6,       /* a number stands for nothing here */
-    KIT_NO_HELD = 7,          /* the writer holds nothing under this number */
+    KIT_NO_HELD = 7,          /* nothing is held under this number */
     KIT_NO_ROW = 8,           /* there is no row of this number */
     KIT_NO_POINT = 9,         /* there is no point of what is asked for */
 
-    KIT_CLOSED = 10,          /* the writer was shut down, and not restarted since */
-    KIT_NO_INSTRUMENT = 11,   /* the plan has no instrument of this number */
-    KIT_NEGATIVE = 12,        /* a counter or a histogram takes no value below 0 */
-    KIT_OVERFLOW = 13,        /* a total would leave its range: * the stream */
-    KIT_TIME_NOT_AFTER = 14,  /* the time is not after the last collection or the start: * the time */
-    KIT_START_NOT_AFTER = 15, /* the new start is not after the start so far: * the start */
-    KIT_BUSY = 16,            /* another call has the writer that threads share: try again */
-    KIT_EXHAUSTED = 17,       /* a writer that threads share accepted 2^62 changes */
-    KIT_SEATS_FULL = 18,      /* a writer that threads share gave 4,096 seats */
+    KIT_CLOSED = 10,          /* the writer was shut down */
+    KIT_NO_INSTRUMENT = 11,   /* there is no instrument of this number */
+    KIT_NEGATIVE = 12,        /* the instrument takes no value below 0 */
+    KIT_OVERFLOW = 13,        /* a total would leave 64 bits: * the stream */
+    KIT_TIME_NOT_AFTER = 14,  /* the time is not after that of the last collection: * the time */
+    KIT_START_NOT_AFTER = 15, /* the start is not after the start so far: * the start */
+    KIT_BUSY = 16,            /* a call of another thread has the writer */
+    KIT_EXHAUSTED = 17,       /* the writer accepted as many changes as it may */
+    KIT_SEATS_FULL = 18,      /* the writer has as many seats as it may */
+    KIT_NO_ITEM = 19,         /* there is no item of this number */
 
-    KIT_EMPTY_KEY = 20,       /* the key of a pair is empty: * the pair */
+    KIT_EMPTY_KEY = 20,       /* a key is empty: * the pair */
 
     KIT_BAD_NAME = 30,        /* a name breaks the rule of names: * the instrument */
     KIT_BAD_UNIT = 31,        /* a unit breaks the rule of units: * the instrument */
     KIT_BAD_BOUNDS = 32,      /* bounds do not strictly rise, or are too many: * the view */
     KIT_BAD_RENAME = 33,      /* a new name breaks the rule of names: * the view */
     KIT_WILDCARD_RENAME = 34, /* a view of every name gives a new one: * the view */
-    KIT_BAD_AGGREGATION = 35, /* an aggregation does not fit: * the instrument and ** the view */
+    KIT_BAD_AGGREGATION = 35, /* an aggregation does not fit its instrument: * the instrument and ** the view */
     KIT_SAME_STREAM = 36,     /* two instruments feed one stream: * the instrument and ** the instrument */
     KIT_BAD_LIMIT = 37,       /* the limit is 0 */
 
     KIT_TOO_WIDE = 40,        /* a total is wider than the number that it is to be told in */
     KIT_NO_BUCKET = 41,       /* there is no bucket of this number */
-    KIT_WRONG_SHAPE = 42,     /* a row's total is of another shape */
+    KIT_WRONG_SHAPE = 42,     /* a row or a value is of another shape */
 
     KIT_NOT_ADDRESSED = 50,   /* the message goes to another id */
 
     KIT_TRUNCATED = 60,       /* bytes end within what they begin: * the byte */
-    KIT_BAD_MAGIC = 61,       /* bytes do not begin as an export, or a message, does: * the byte */
-    KIT_BAD_VERSION = 62,     /* the version is not one that is known: * the byte */
+    KIT_BAD_MAGIC = 61,       /* bytes do not begin as an export or a message does: * the byte */
+    KIT_BAD_VERSION = 62,     /* the version is none that is known: * the byte */
     KIT_NOT_CANONICAL = 63,   /* a value is not in its one form: * the byte */
     KIT_BAD_CHECKSUM = 64,    /* the checksum is not that of the bytes before it: * the byte */
-    KIT_BAD_EXPORT = 65,      /* the values make no export, or a message has a point that no export brings */
+    KIT_BAD_EXPORT = 65,      /* the values are none that an export can have */
 
-    KIT_RECORDER_FULL = 70,   /* a log has as many recordings as it may, or a number is too great to be noted (2^32) */
+    KIT_RECORDER_FULL = 70,   /* a log has as many recordings as it may */
 };
 
 /* Kinds of instruments. */
@@ -260,6 +266,7 @@ static inline const char *kit_code_name(int32_t code) {
     case KIT_BUSY: return "KIT_BUSY";
     case KIT_EXHAUSTED: return "KIT_EXHAUSTED";
     case KIT_SEATS_FULL: return "KIT_SEATS_FULL";
+    case KIT_NO_ITEM: return "KIT_NO_ITEM";
     case KIT_EMPTY_KEY: return "KIT_EMPTY_KEY";
     case KIT_BAD_NAME: return "KIT_BAD_NAME";
     case KIT_BAD_UNIT: return "KIT_BAD_UNIT";
@@ -284,11 +291,12 @@ static inline const char *kit_code_name(int32_t code) {
     }
 }
 
-/* The version of the library: major * 65536 + minor * 256 + patch. */
+/* Tells the version of the library as one number: 65,536 for each of its first, 256 for each of its second, and its third number. A caller
+ * compares it with that of the header. */
 KIT_CALL uint32_t kit_version(void);
 
-/* Copies the front of what a code says that has room, in UTF-8 and with no 0 at its end, and answers how long the whole is: 0 of a number
- * that is no code. */
+/* Copies the front of the text of a code that has room, and answers how many bytes the whole text has, in UTF-8 and with no 0 at its end:
+ * none where the number is no code. It is a clause that begins small and has no full stop. */
 KIT_CALL size_t kit_code_text(int32_t code, uint8_t *into, size_t room);
 
 /* Plans: instruments and views, numbered from 0 in the order in which they are added, and what streams they come to. */
@@ -359,7 +367,7 @@ KIT_CHECKED int32_t kit_view_buckets(kit_view *view, const int64_t *bounds, size
  * Refused, in this order: KIT_NOTHING of the view; KIT_NO_MEMORY. */
 KIT_CHECKED int32_t kit_views_add(kit_views *views, KIT_READS kit_view *view);
 
-/* Attributes. */
+/* Attributes: pairs are written down, and made a set, which can be read pair by pair. */
 
 /* Adds a pair whose value is a text. A handle that has nothing begins with it.
  *
@@ -381,6 +389,30 @@ KIT_CHECKED int32_t kit_pairs_add_truth(kit_pairs *pairs, const uint8_t *key, si
  * Refused, in this order: KIT_FULL; KIT_EMPTY_KEY with the least place of an empty key; KIT_NO_MEMORY. O(n log n) comparisons of keys, O(n)
  * where they rise already. */
 KIT_CHECKED int32_t kit_attributes_make(kit_attributes *attributes, KIT_READS kit_pairs *pairs, uint64_t *place);
+
+/* Tells how many pairs a set has: they are numbered from 0, in the order of their keys.
+ *
+ * Refused: KIT_NOTHING. O(1), takes no memory. */
+KIT_CHECKED int32_t kit_attributes_len(KIT_READS kit_attributes *attributes, size_t *count);
+
+/* Copies the front of the key of a pair that has room, and tells in len how many bytes the whole key has, in UTF-8 and with no 0 at its
+ * end.
+ *
+ * Refused, in this order: KIT_NOTHING; KIT_NO_ITEM where there is no pair of this number. Takes no memory. */
+KIT_CHECKED int32_t kit_attributes_key(KIT_READS kit_attributes *attributes, size_t number, uint8_t *into, size_t room, size_t *len);
+
+/* Tells the value of a pair: its kind, 0 a text, 1 a whole number, 2 a truth; and it as a number, where a truth is 1 or 0 and a text its
+ * length, and kit_attributes_text copies it.
+ *
+ * Refused, in this order: KIT_NOTHING; KIT_NO_ITEM where there is no pair of this number. O(1), takes no memory. */
+KIT_CHECKED int32_t kit_attributes_value(KIT_READS kit_attributes *attributes, size_t number, uint8_t *kind, int64_t *whole);
+
+/* Copies the front of the text that the value of a pair is, and tells in len how many bytes the whole text has, in UTF-8 and with no 0 at
+ * its end.
+ *
+ * Refused, in this order: KIT_NOTHING; KIT_NO_ITEM where there is no pair of this number; KIT_WRONG_SHAPE where its value is no text. Takes
+ * no memory. */
+KIT_CHECKED int32_t kit_attributes_text(KIT_READS kit_attributes *attributes, size_t number, uint8_t *into, size_t room, size_t *len);
 
 /* Writers count from a start on. */
 
@@ -536,6 +568,11 @@ KIT_CHECKED int32_t kit_seat_collect(kit_seat *seat, uint64_t time, kit_export *
  * Refused, in this order: KIT_FULL; KIT_NO_MEMORY. */
 KIT_CHECKED int32_t kit_gateway_open(kit_gateway *gateway, uint32_t id);
 
+/* Tells the id of a gateway, and how many points it holds.
+ *
+ * Refused: KIT_NOTHING. O(1), takes no memory. */
+KIT_CHECKED int32_t kit_gateway_read(KIT_READS kit_gateway *gateway, uint32_t *id, size_t *points);
+
 /* Joins the points of an export, which stays, and tells the number of keys whose points changed. An export that comes again changes nothing
  * (OpenTelemetry Metrics Data Model, "Single-Writer").
  *
@@ -565,6 +602,21 @@ KIT_CHECKED int32_t kit_gateway_same(KIT_READS kit_gateway *gateway, KIT_READS k
  * KIT_NO_MEMORY. */
 KIT_CHECKED int32_t kit_gateway_newest(KIT_READS kit_gateway *gateway, const uint8_t *service, size_t service_len, uint64_t instance_high,
                                        uint64_t instance_low, uint64_t start, uint64_t *time);
+
+/* What an export tells beside its points. */
+
+/* Tells who made an export, its instance as two numbers, and of when and how many points it is: so that who takes it in from another
+ * process can compare it with what is known of that one. kit_export_service tells the service.
+ *
+ * Refused: KIT_NOTHING. O(1), takes no memory. */
+KIT_CHECKED int32_t kit_export_read(KIT_READS kit_export *export_, uint64_t *instance_high, uint64_t *instance_low, uint64_t *start,
+                                    uint64_t *time, size_t *points);
+
+/* Copies the front of the service of an export's writer that has room, and tells in len how many bytes it has, in UTF-8 and with no 0 at
+ * its end.
+ *
+ * Refused: KIT_NOTHING. Takes no memory. */
+KIT_CHECKED int32_t kit_export_service(KIT_READS kit_export *export_, uint8_t *into, size_t room, size_t *len);
 
 /* Nodes are gateways that tell each other what changed, by messages. */
 
@@ -688,12 +740,52 @@ KIT_CHECKED int32_t kit_gateway_rows(KIT_READS kit_gateway *gateway, KIT_READS k
  * Refused, in this order: KIT_FULL; KIT_NOTHING; KIT_NO_MEMORY. */
 KIT_CHECKED int32_t kit_rows_table(KIT_READS kit_rows *rows, kit_text *text);
 
+/* Streams: what can be asked for. */
+
+/* The streams of a plan, which stays, under the numbers that KIT_OVERFLOW tells.
+ *
+ * Refused, in this order: KIT_FULL; KIT_NOTHING; KIT_NO_MEMORY. O(streams). */
+KIT_CHECKED int32_t kit_plan_streams(KIT_READS kit_plan *plan, kit_streams *streams);
+
+/* Tells how many streams there are: they are numbered from 0.
+ *
+ * Refused: KIT_NOTHING. O(1), takes no memory. */
+KIT_CHECKED int32_t kit_streams_len(KIT_READS kit_streams *streams, size_t *count);
+
+/* Copies the front of a text of a stream that has room, and tells in len how many bytes the whole text has, in UTF-8 and with no 0 at its
+ * end. The text is 0 the scope, 1 the name, 2 the unit.
+ *
+ * Refused, in this order: KIT_NOTHING; KIT_NO_ITEM where there is no stream of this number; KIT_BAD_NUMBER where the text is none of these.
+ * Takes no memory. */
+KIT_CHECKED int32_t kit_streams_text(KIT_READS kit_streams *streams, size_t number, uint8_t part, uint8_t *into, size_t room, size_t *len);
+
+/* Tells the shape of a stream, 0 a sum that only rises, 1 a sum, 2 a gauge, 3 a histogram, and how many bounds it has: only a histogram has
+ * some.
+ *
+ * Refused, in this order: KIT_NOTHING; KIT_NO_ITEM where there is no stream of this number. O(1), takes no memory. */
+KIT_CHECKED int32_t kit_streams_shape(KIT_READS kit_streams *streams, size_t number, uint8_t *shape, size_t *bounds);
+
+/* Copies the front of the bounds of a stream that has room, and tells in len how many there are: only a histogram has some.
+ *
+ * Refused, in this order: KIT_NOTHING; KIT_NO_ITEM where there is no stream of this number. Takes no memory. */
+KIT_CHECKED int32_t kit_streams_bounds(KIT_READS kit_streams *streams, size_t number, int64_t *into, size_t room, size_t *len);
+
+/* Asks for the points of a stream: of all services, with a row for each attribute set. The streams stay.
+ *
+ * Refused, in this order: KIT_FULL; KIT_NOTHING of the streams; KIT_NO_ITEM where there is no stream of this number; KIT_NO_MEMORY. */
+KIT_CHECKED int32_t kit_ask_stream(kit_ask *ask, KIT_READS kit_streams *streams, size_t number);
+
 /* Rows as numbers. */
 
 /* Tells how many rows there are: they are numbered from 0, in the order of their attribute sets.
  *
  * Refused: KIT_NOTHING. Takes no memory. */
 KIT_CHECKED int32_t kit_rows_len(KIT_READS kit_rows *rows, size_t *count);
+
+/* The attributes that a row is of, as a set of their own: its labels. The rows stay.
+ *
+ * Refused, in this order: KIT_FULL; KIT_NOTHING; KIT_NO_ROW; KIT_NO_MEMORY. O(size of the attributes). */
+KIT_CHECKED int32_t kit_rows_attributes(KIT_READS kit_rows *rows, size_t number, kit_attributes *attributes);
 
 /* Tells how many points the total of a row is of, and how many conflicts it leaves out.
  *

@@ -236,14 +236,15 @@ func TestRefusalsSayWhy(t *testing.T) {
 	none := must[Attributes](t)(NewAttributes())
 	_, twice := NewPlan(Instrument{Name: "requests", Unit: "1"}, Instrument{Name: "1", Unit: "1"})
 	_, key := NewAttributes("a", "1", "", "2")
+	said := func(code Code) string { return code.Error() + ": " + codes[code].says }
 	for says, err := range map[string]error{
-		"kotskhin: NEGATIVE: a counter or a histogram takes no value below 0":         w.Measure(0, none, -1),
-		"kotskhin: START_NOT_AFTER: the new start is not after 100, the start so far": w.Restart(100),
-		"kotskhin: BAD_NAME: the name of instrument 1 breaks the rule of names":       twice,
-		"kotskhin: EMPTY_KEY: the key of pair 1 is empty":                             key,
-		"kotskhin: SAME_STREAM: instruments 2 and 3 feed one stream":                  Refused{ErrSameStream, 2, 3},
-		"kotskhin: code 99": Refused{Code: 99},
-		"kotskhin: CLOSED":  ErrClosed,
+		said(ErrNegative):                                     w.Measure(0, none, -1),
+		said(ErrStartNotAfter) + " (start 100)":               w.Restart(100),
+		said(ErrBadName) + " (instrument 1)":                  twice,
+		said(ErrEmptyKey) + " (pair 1)":                       key,
+		said(ErrSameStream) + " (instrument 2, instrument 3)": Refused{ErrSameStream, 2, 3},
+		"kotskhin: code 99":                                   Refused{Code: 99},
+		"kotskhin: CLOSED":                                    ErrClosed,
 	} {
 		if err == nil || err.Error() != says {
 			t.Errorf("%v, not %s", err, says)

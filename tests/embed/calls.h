@@ -18,7 +18,7 @@
 
 /* What a handle can have. */
 enum kind {
-    NOTHING, PAIRS, ATTRIBUTES, INSTRUMENTS, VIEW, VIEWS, KEYS, PLAN, WRITER, EXPORT, GATEWAY, NODE, MESSAGE, SEAT, RECORDER,
+    NOTHING, PAIRS, ATTRIBUTES, STREAMS, INSTRUMENTS, VIEW, VIEWS, KEYS, PLAN, WRITER, EXPORT, GATEWAY, NODE, MESSAGE, SEAT, RECORDER,
     ASK, TOLD_TEXT, BYTES, SUM_ROWS, GAUGE_ROWS, HISTOGRAM_ROWS, KINDS, ROWS /* of any shape */
 };
 
@@ -40,11 +40,12 @@ struct row {
 
 static const int64_t bounds[] = {10, 20};
 /* (each thread has its own) */
-static _Thread_local uint64_t place, second;
+static _Thread_local uint64_t place, second, third, fourth;
 static _Thread_local size_t size;
-static _Thread_local int64_t number;
+static _Thread_local int64_t number, whole, some_bounds[4];
+static _Thread_local uint8_t shape;
 static _Thread_local bool truth;
-static _Thread_local uint32_t id;
+static _Thread_local uint32_t id, other_id;
 static _Thread_local uint8_t room[256];
 /* The bytes of an export, and of a message. */
 static uint8_t encoded[1024], told[1024];
@@ -56,7 +57,14 @@ static void make(enum kind kind, kit_handle *it) {
     kit_handle one = {0}, two = {0}, three = {0};
     switch (kind) {
     case PAIRS: MUST(kit_pairs_add_whole((void *)it, TEXT("status"), 200)); break;
-    case ATTRIBUTES: MUST(kit_attributes_make((void *)it, (void *)&one, &place)); break;
+    case ATTRIBUTES:
+        MUST(kit_pairs_add_text((void *)&one, TEXT("route"), TEXT("/cart")));
+        MUST(kit_attributes_make((void *)it, (void *)&one, &place));
+        break;
+    case STREAMS:
+        make(PLAN, &one);
+        MUST(kit_plan_streams((void *)&one, (void *)it));
+        break;
     case INSTRUMENTS:
         MUST(kit_instruments_add((void *)it, TEXT("app"), TEXT("requests"), TEXT("1"), KIT_COUNTER));
         MUST(kit_instruments_add((void *)it, TEXT("app"), TEXT("depth"), TEXT("1"), KIT_GAUGE));
@@ -196,7 +204,7 @@ CALL(node_take, AS(node, 0), AS(export, 1), &place)
 CALL(node_merge, AS(node, 0), AS(gateway, 1), &place)
 CALL(node_send, AS(node, 0), 5, AS(message, 1))
 CALL(node_hand, AS(node, 0), AS(message, 1), AS(message, 2), &truth)
-CALL(message_read, AS(message, 0), &id, &id, &size)
+CALL(message_read, AS(message, 0), &id, &other_id, &size)
 CALL(message_encode, AS(message, 0), AS(bytes, 1))
 CALL(message_decode, AS(message, 0), told, told_len, &place)
 CALL(ask_sum, AS(ask, 0), TEXT("app"), TEXT("requests"), TEXT("1"), true)
@@ -212,9 +220,23 @@ CALL(rows_counts, AS(rows, 0), 0, &place, &second)
 CALL(rows_sum, AS(rows, 0), 0, &number)
 CALL(rows_gauge, AS(rows, 0), 0, &place, &number)
 CALL(rows_histogram, AS(rows, 0), 0, &place, &number, &size)
-CALL(rows_range, AS(rows, 0), 0, &number, &number)
+CALL(rows_range, AS(rows, 0), 0, &number, &whole)
 CALL(rows_bucket, AS(rows, 0), 0, 0, &place)
 CALL(text_copy, AS(text, 0), room, sizeof room, &size)
+CALL(gateway_read, AS(gateway, 0), &id, &size)
+CALL(export_read, AS(export, 0), &place, &second, &third, &fourth, &size)
+CALL(export_service, AS(export, 0), room, sizeof room, &size)
+CALL(rows_attributes, AS(rows, 0), 0, AS(attributes, 1))
+CALL(attributes_len, AS(attributes, 0), &size)
+CALL(attributes_key, AS(attributes, 0), 0, room, sizeof room, &size)
+CALL(attributes_value, AS(attributes, 0), 0, &shape, &whole)
+CALL(attributes_text, AS(attributes, 0), 0, room, sizeof room, &size)
+CALL(plan_streams, AS(plan, 0), AS(streams, 1))
+CALL(streams_len, AS(streams, 0), &size)
+CALL(streams_text, AS(streams, 0), 0, 1, room, sizeof room, &size)
+CALL(streams_shape, AS(streams, 0), 2, &shape, &size)
+CALL(streams_bounds, AS(streams, 0), 2, some_bounds, 4, &size)
+CALL(ask_stream, AS(ask, 0), AS(streams, 1), 0)
 
 #define ROW(name, ...) {#name, name, {__VA_ARGS__}}
 static const struct row CALLS[] = {
@@ -246,7 +268,12 @@ static const struct row CALLS[] = {
     ROW(gateway_rows, {READ, GATEWAY}, {READ, ASK}, {FILLED, SUM_ROWS}), ROW(rows_table, {READ, ROWS}, {FILLED, TOLD_TEXT}),
     ROW(rows_len, {READ, ROWS}), ROW(rows_counts, {READ, ROWS}), ROW(rows_sum, {READ, SUM_ROWS}), ROW(rows_gauge, {READ, GAUGE_ROWS}),
     ROW(rows_histogram, {READ, HISTOGRAM_ROWS}), ROW(rows_range, {READ, HISTOGRAM_ROWS}), ROW(rows_bucket, {READ, HISTOGRAM_ROWS}),
-    ROW(text_copy, {READ, TOLD_TEXT}),
+    ROW(text_copy, {READ, TOLD_TEXT}), ROW(gateway_read, {READ, GATEWAY}), ROW(export_read, {READ, EXPORT}),
+    ROW(export_service, {READ, EXPORT}), ROW(rows_attributes, {READ, ROWS}, {FILLED, ATTRIBUTES}),
+    ROW(attributes_len, {READ, ATTRIBUTES}), ROW(attributes_key, {READ, ATTRIBUTES}), ROW(attributes_value, {READ, ATTRIBUTES}),
+    ROW(attributes_text, {READ, ATTRIBUTES}), ROW(plan_streams, {READ, PLAN}, {FILLED, STREAMS}), ROW(streams_len, {READ, STREAMS}),
+    ROW(streams_text, {READ, STREAMS}), ROW(streams_shape, {READ, STREAMS}), ROW(streams_bounds, {READ, STREAMS}),
+    ROW(ask_stream, {FILLED, ASK}, {READ, STREAMS}),
 };
 
 static bool is_read(struct hand hand) { return hand.part == READ || hand.part == MAY_READ; }

@@ -749,6 +749,94 @@ static void told(kit_plan *plan, kit_attributes *none) {
     }
 }
 
+/* Each code says something of its own, of which the front is copied that has room; what is no code says nothing. */
+static void texts(void) {
+    char said[128][128] = {{0}}, few[4];
+    for (int32_t code = 0; code < 128; code++) {
+        size_t len = kit_code_text(code, (uint8_t *)said[code], 127);
+        CHECK(len < 127 && !len == !strcmp(kit_code_name(code), "no code") && strlen(said[code]) == len);
+        CHECK(kit_code_text(code, (uint8_t *)few, sizeof few) == len && !memcmp(few, said[code], len < sizeof few ? len : sizeof few));
+        for (int32_t other = 0; len && other < code; other++) CHECK(strcmp(said[code], said[other]));
+    }
+    CHECK(kit_version() == KIT_VERSION && !kit_code_text(-1, (uint8_t *)few, sizeof few) && !kit_code_text(INT32_MIN, (uint8_t *)few, 0));
+}
+
+static bool is(const uint8_t *text, size_t len, const char *wanted) { return len == strlen(wanted) && !memcmp(text, wanted, len); }
+
+/* A set of four pairs, which is read pair by pair in the order of keys. */
+static void sets(kit_attributes *four) {
+    kit_attributes nothing = KIT_EMPTY;
+    uint8_t text[64], kind = 77;
+    size_t len = 77;
+    int64_t whole = 77;
+    CHECK(kit_attributes_len(&nothing, &len) == KIT_NOTHING && len == 77 && !kit_attributes_len(four, &len) && len == 4);
+    CHECK(!kit_attributes_key(four, 0, text, sizeof text, &len) && is(text, len, "attempt"));
+    CHECK(!kit_attributes_key(four, 3, text, 2, &len) && len == 6 && !memcmp(text, "st", 2));
+    CHECK(!kit_attributes_value(four, 0, &kind, &whole) && kind == 1 && whole == 1);
+    CHECK(!kit_attributes_value(four, 1, &kind, &whole) && kind == 2 && whole == 1);
+    CHECK(!kit_attributes_value(four, 3, &kind, &whole) && kind == 1 && whole == 200);
+    CHECK(!kit_attributes_value(four, 2, &kind, &whole) && kind == 0 && whole == 41);
+    CHECK(!kit_attributes_text(four, 2, text, sizeof text, &len) && is(text, len, "a value of more than thirty bytes of text"));
+    len = 77, kind = 77, whole = 77;
+    CHECK(kit_attributes_key(four, 4, text, sizeof text, &len) == KIT_NO_ITEM && kit_attributes_text(four, 4, text, 1, &len) == KIT_NO_ITEM);
+    CHECK(kit_attributes_value(four, 4, &kind, &whole) == KIT_NO_ITEM && kind == 77 && whole == 77);
+    CHECK(kit_attributes_text(four, 0, text, sizeof text, &len) == KIT_WRONG_SHAPE && len == 77);
+    CHECK(kit_attributes_key(&nothing, 0, text, sizeof text, &len) == KIT_NOTHING && kit_attributes_text(&nothing, 0, text, 1, &len) == KIT_NOTHING);
+    CHECK(kit_attributes_value(&nothing, 0, &kind, &whole) == KIT_NOTHING && len == 77);
+}
+
+/* The streams of a plan, whose numbers are those that an overflow tells, and what is asked of them. */
+static void streams(kit_plan *plan, kit_attributes *four) {
+    kit_streams list = KIT_EMPTY, nothing = KIT_EMPTY;
+    kit_plan no_plan = KIT_EMPTY;
+    kit_writer writer = KIT_EMPTY;
+    kit_export made = KIT_EMPTY;
+    kit_gateway gateway = KIT_EMPTY;
+    kit_ask ask = KIT_EMPTY;
+    kit_rows rows = KIT_EMPTY;
+    kit_attributes set = KIT_EMPTY;
+    uint8_t text[64], shape = 77;
+    size_t len = 77, many = 77;
+    int64_t bounds[20], total = 77;
+    CHECK(kit_plan_streams(&no_plan, &list) == KIT_NOTHING && !list.handle.full);
+    EACH_GROWTH(kit_plan_streams(plan, &list), !list.handle.full);
+    CHECK(kit_plan_streams(plan, &list) == KIT_FULL && !kit_streams_len(&list, &len) && len == 2 && kit_streams_len(&nothing, &len) == KIT_NOTHING);
+    CHECK(!kit_streams_text(&list, 0, 0, text, sizeof text, &len) && is(text, len, "app"));
+    CHECK(!kit_streams_text(&list, 1, 1, text, sizeof text, &len) && is(text, len, "size"));
+    CHECK(!kit_streams_text(&list, 1, 2, text, sizeof text, &len) && is(text, len, "By"));
+    CHECK(kit_streams_text(&list, 1, 3, text, sizeof text, &len) == KIT_BAD_NUMBER && len == 2);
+    CHECK(kit_streams_text(&list, 2, 1, text, sizeof text, &len) == KIT_NO_ITEM && kit_streams_text(&nothing, 0, 0, text, 1, &len) == KIT_NOTHING);
+    CHECK(!kit_streams_shape(&list, 0, &shape, &many) && shape == 0 && many == 0 && !kit_streams_shape(&list, 1, &shape, &many));
+    CHECK(shape == 3 && many == 15 && kit_streams_shape(&list, 2, &shape, &many) == KIT_NO_ITEM);
+    CHECK(kit_streams_shape(&nothing, 0, &shape, &many) == KIT_NOTHING && shape == 3 && many == 15);
+    CHECK(!kit_streams_bounds(&list, 1, bounds, 20, &len) && len == 15 && bounds[0] == 0 && bounds[1] == 5 && bounds[14] == 10000);
+    CHECK(kit_streams_bounds(&list, 2, bounds, 20, &len) == KIT_NO_ITEM && kit_streams_bounds(&nothing, 0, bounds, 20, &len) == KIT_NOTHING);
+    CHECK(kit_ask_stream(&ask, &nothing, 0) == KIT_NOTHING && kit_ask_stream(&ask, &list, 2) == KIT_NO_ITEM && !ask.handle.full);
+    EACH_GROWTH(kit_ask_stream(&ask, &list, 0), !ask.handle.full);
+    CHECK(kit_ask_stream(&ask, &list, 0) == KIT_FULL);
+
+    CHECK(!kit_writer_start(&writer, plan, TEXT("shop"), 8, 9, 100) && !kit_writer_measure(&writer, 0, four, 7, &place));
+    CHECK(kit_writer_measure(&writer, 0, four, INT64_MAX, &place) == KIT_OVERFLOW);
+    CHECK(!kit_streams_text(&list, place, 1, text, sizeof text, &len) && is(text, len, "requests"));
+    CHECK(!kit_writer_collect(&writer, 200, &made, &place) && !kit_gateway_open(&gateway, 5) && !kit_gateway_take(&gateway, &made, &changed));
+    CHECK(!kit_gateway_rows(&gateway, &ask, &rows) && !kit_rows_sum(&rows, 0, &total) && total == 7);
+    EACH_GROWTH(kit_rows_attributes(&rows, 0, &set), !set.handle.full);
+    CHECK(kit_rows_attributes(&rows, 0, &set) == KIT_FULL);
+    sets(&set);
+    kit_attributes_free(&set);
+    CHECK(kit_rows_attributes(&rows, 1, &set) == KIT_NO_ROW && !set.handle.full);
+
+    uint32_t id = 77;
+    uint64_t high = 77, low = 77, start = 77, time = 77;
+    CHECK(!kit_gateway_read(&gateway, &id, &len) && id == 5 && len == 1);
+    CHECK(!kit_export_read(&made, &high, &low, &start, &time, &len) && high == 8 && low == 9 && start == 100 && time == 200 && len == 1);
+    CHECK(!kit_export_service(&made, text, sizeof text, &len) && is(text, len, "shop"));
+    kit_handle *all[] = {&list.handle, &writer.handle, &made.handle, &gateway.handle, &ask.handle, &rows.handle};
+    for (size_t i = 0; i < sizeof all / sizeof *all; i++) kit_free(all[i]);
+    CHECK(kit_gateway_read(&gateway, &id, &len) == KIT_NOTHING && kit_export_service(&made, text, sizeof text, &len) == KIT_NOTHING);
+    CHECK(kit_export_read(&made, &high, &low, &start, &time, &len) == KIT_NOTHING && kit_rows_attributes(&rows, 0, &set) == KIT_NOTHING);
+}
+
 int main(void) {
     kit_plan plan = KIT_EMPTY;
     kit_attributes none = KIT_EMPTY, four = KIT_EMPTY;
@@ -766,6 +854,9 @@ int main(void) {
     logs_in(&none, &four);
     encodings(&plan, &none);
     told(&plan, &none);
+    texts();
+    sets(&four);
+    streams(&plan, &four);
     kit_plan_free(&plan), kit_attributes_free(&none), kit_attributes_free(&four);
     return 0;
 }

@@ -14,7 +14,7 @@ import time
 import typing
 from ctypes import POINTER, byref, c_bool, c_char_p, c_int32, c_int64, c_size_t, c_uint8, c_uint32, c_uint64
 
-from kotskhin.declared import CALLS, CODES, STRUCTS
+from kotskhin.declared import CALLS, CODES, STRUCTS, VERSION
 
 COUNTER, UP_DOWN, GAUGE, HISTOGRAM = range(4)
 

@@ -3,45 +3,47 @@ use crate::Handle;
 
 pub const VERSION: u32 = 256;
 
-/// The call did what it says.
+/// Done.
 pub const OK: i32 = 0;
-/// .
+/// Memory was refused.
 pub const NO_MEMORY: i32 = 1;
 /// A handle that is read has nothing.
 pub const NOTHING: i32 = 2;
-/// A handle has something else.
+/// A handle has a thing of another kind.
 pub const WRONG_KIND: i32 = 3;
 /// The handle that is to be filled has something.
 pub const FULL: i32 = 4;
-/// A text is not UTF-8: of bytes.
+/// A text is not UTF-8.
 pub const NOT_TEXT: i32 = 5;
 /// A number stands for nothing here.
 pub const BAD_NUMBER: i32 = 6;
-/// The writer holds nothing under this number.
+/// Nothing is held under this number.
 pub const NO_HELD: i32 = 7;
 /// There is no row of this number.
 pub const NO_ROW: i32 = 8;
 /// There is no point of what is asked for.
 pub const NO_POINT: i32 = 9;
-/// The writer was shut down, and not restarted since.
+/// The writer was shut down.
 pub const CLOSED: i32 = 10;
-/// The plan has no instrument of this number.
+/// There is no instrument of this number.
 pub const NO_INSTRUMENT: i32 = 11;
-/// A counter or a histogram takes no value below 0.
+/// The instrument takes no value below 0.
 pub const NEGATIVE: i32 = 12;
-/// A total would leave its range.
+/// A total would leave 64 bits.
 pub const OVERFLOW: i32 = 13;
-/// The time is not after the last collection or the start.
+/// The time is not after that of the last collection.
 pub const TIME_NOT_AFTER: i32 = 14;
-/// The new start is not after the start so far.
+/// The start is not after the start so far.
 pub const START_NOT_AFTER: i32 = 15;
-/// Another call has the writer that threads share: try again.
+/// A call of another thread has the writer.
 pub const BUSY: i32 = 16;
-/// A writer that threads share accepted 2^62 changes.
+/// The writer accepted as many changes as it may.
 pub const EXHAUSTED: i32 = 17;
-/// A writer that threads share gave 4,096 seats.
+/// The writer has as many seats as it may.
 pub const SEATS_FULL: i32 = 18;
-/// The key of a pair is empty.
+/// There is no item of this number.
+pub const NO_ITEM: i32 = 19;
+/// A key is empty.
 pub const EMPTY_KEY: i32 = 20;
 /// A name breaks the rule of names.
 pub const BAD_NAME: i32 = 30;
@@ -53,7 +55,7 @@ pub const BAD_BOUNDS: i32 = 32;
 pub const BAD_RENAME: i32 = 33;
 /// A view of every name gives a new one.
 pub const WILDCARD_RENAME: i32 = 34;
-/// An aggregation does not fit.
+/// An aggregation does not fit its instrument.
 pub const BAD_AGGREGATION: i32 = 35;
 /// Two instruments feed one stream.
 pub const SAME_STREAM: i32 = 36;
@@ -63,23 +65,23 @@ pub const BAD_LIMIT: i32 = 37;
 pub const TOO_WIDE: i32 = 40;
 /// There is no bucket of this number.
 pub const NO_BUCKET: i32 = 41;
-/// A row's total is of another shape.
+/// A row or a value is of another shape.
 pub const WRONG_SHAPE: i32 = 42;
 /// The message goes to another id.
 pub const NOT_ADDRESSED: i32 = 50;
 /// Bytes end within what they begin.
 pub const TRUNCATED: i32 = 60;
-/// Bytes do not begin as an export, or a message, does.
+/// Bytes do not begin as an export or a message does.
 pub const BAD_MAGIC: i32 = 61;
-/// The version is not one that is known.
+/// The version is none that is known.
 pub const BAD_VERSION: i32 = 62;
 /// A value is not in its one form.
 pub const NOT_CANONICAL: i32 = 63;
 /// The checksum is not that of the bytes before it.
 pub const BAD_CHECKSUM: i32 = 64;
-/// The values make no export, or a message has a point that no export brings.
+/// The values are none that an export can have.
 pub const BAD_EXPORT: i32 = 65;
-/// A log has as many recordings as it may, or a number is too great to be noted (2^32).
+/// A log has as many recordings as it may.
 pub const RECORDER_FULL: i32 = 70;
 
 kind!(
@@ -160,6 +162,11 @@ kind!(
 kind!(
     /// Rows that a gateway answered, or nothing.
     Rows
+);
+
+kind!(
+    /// Streams, or nothing.
+    Streams
 );
 
 kind!(
@@ -277,15 +284,33 @@ unsafe extern "C" {
         bytes_len: usize,
         place: *mut u64,
     ) -> i32;
-    pub fn kit_version() -> u32;
     pub fn kit_code_text(
         code: i32,
         into: *mut u8,
         room: usize,
     ) -> usize;
+    pub fn kit_export_read(
+        export_: *mut Export,
+        instance_high: *mut u64,
+        instance_low: *mut u64,
+        start: *mut u64,
+        time: *mut u64,
+        points: *mut usize,
+    ) -> i32;
+    pub fn kit_export_service(
+        export_: *mut Export,
+        into: *mut u8,
+        room: usize,
+        len: *mut usize,
+    ) -> i32;
     pub fn kit_gateway_open(
         gateway: *mut Gateway,
         id: u32,
+    ) -> i32;
+    pub fn kit_gateway_read(
+        gateway: *mut Gateway,
+        id: *mut u32,
+        points: *mut usize,
     ) -> i32;
     pub fn kit_gateway_take(
         gateway: *mut Gateway,
@@ -431,6 +456,11 @@ unsafe extern "C" {
         rows: *mut Rows,
         count: *mut usize,
     ) -> i32;
+    pub fn kit_rows_attributes(
+        rows: *mut Rows,
+        number: usize,
+        attributes: *mut Attributes,
+    ) -> i32;
     pub fn kit_rows_counts(
         rows: *mut Rows,
         number: usize,
@@ -487,12 +517,71 @@ unsafe extern "C" {
         export_: *mut Export,
         place: *mut u64,
     ) -> i32;
+    pub fn kit_attributes_len(
+        attributes: *mut Attributes,
+        count: *mut usize,
+    ) -> i32;
+    pub fn kit_attributes_key(
+        attributes: *mut Attributes,
+        number: usize,
+        into: *mut u8,
+        room: usize,
+        len: *mut usize,
+    ) -> i32;
+    pub fn kit_attributes_value(
+        attributes: *mut Attributes,
+        number: usize,
+        kind: *mut u8,
+        whole: *mut i64,
+    ) -> i32;
+    pub fn kit_attributes_text(
+        attributes: *mut Attributes,
+        number: usize,
+        into: *mut u8,
+        room: usize,
+        len: *mut usize,
+    ) -> i32;
+    pub fn kit_plan_streams(
+        plan: *mut Plan,
+        streams: *mut Streams,
+    ) -> i32;
+    pub fn kit_streams_len(
+        streams: *mut Streams,
+        count: *mut usize,
+    ) -> i32;
+    pub fn kit_streams_text(
+        streams: *mut Streams,
+        number: usize,
+        part: u8,
+        into: *mut u8,
+        room: usize,
+        len: *mut usize,
+    ) -> i32;
+    pub fn kit_streams_shape(
+        streams: *mut Streams,
+        number: usize,
+        shape: *mut u8,
+        bounds: *mut usize,
+    ) -> i32;
+    pub fn kit_streams_bounds(
+        streams: *mut Streams,
+        number: usize,
+        into: *mut i64,
+        room: usize,
+        len: *mut usize,
+    ) -> i32;
+    pub fn kit_ask_stream(
+        ask: *mut Ask,
+        streams: *mut Streams,
+        number: usize,
+    ) -> i32;
     pub fn kit_text_copy(
         text: *mut Text,
         into: *mut u8,
         room: usize,
         len: *mut usize,
     ) -> i32;
+    pub fn kit_version() -> u32;
     pub fn kit_view_of_name(
         view: *mut View,
         name: *const u8,
