@@ -304,3 +304,54 @@ func TestInstancesAreDrawnAnew(t *testing.T) {
 		t.Fatal(drawn)
 	}
 }
+
+// Goroutines read one set, one plan and one gateway, which nobody changes meanwhile.
+func TestGoroutinesReadAtOnce(t *testing.T) {
+	plan := must[Plan](t)(NewPlan(Instrument{Scope: "app", Name: "requests", Unit: "1", Kind: Counter}))
+	route := must[Attributes](t)(NewAttributes("route", "/"))
+	first := must[Writer](t)(StartWriter(plan, "shop", 0, 1, 100))
+	if err := first.Measure(0, route, 7); err != nil {
+		t.Fatal(err)
+	}
+	gateway, export := must[Gateway](t)(OpenGateway(1)), must[Export](t)(first.Collect(200))
+	must[uint64](t)(gateway.Take(export))
+	table := must[string](t)(gateway.Sum("app", "requests", "1", true))
+	var group sync.WaitGroup
+	for i := 0; i < 4; i++ {
+		group.Add(1)
+		go func(instance uint64) {
+			defer group.Done()
+			writer, err := StartWriter(plan, "shop", 0, instance, 100)
+			number, held := writer.Hold(0, route)
+			for i := 0; i < 1000 && err == nil && held == nil; i++ {
+				if err = writer.Measure(0, route, 1); err == nil {
+					err = writer.MeasureHeld(number, 1)
+				}
+			}
+			told, asked := gateway.Sum("app", "requests", "1", true)
+			if err != nil || held != nil || asked != nil || told != table {
+				t.Error(err, held, asked, told)
+			}
+			own, _ := OpenGateway(2)
+			if made, err := writer.Collect(300); err == nil {
+				own.Take(made)
+			}
+			own.Take(export)
+			if told, _ := own.Sum("app", "requests", "1", true); !strings.HasSuffix(told, "  2007\n") {
+				t.Error(told)
+			}
+		}(uint64(i) + 2)
+	}
+	group.Wait()
+}
+
+// A writer that was shared has nothing: its seat has it.
+func TestASharedWriterIsLeftEmpty(t *testing.T) {
+	w := newWriter(t, 1)
+	seat := must[Seat](t)(w.Share())
+	none := must[Attributes](t)(NewAttributes())
+	refused(t, w.Measure(0, none, 1), ErrNothing, 0)
+	if err := seat.Measure(0, none, 1); err != nil {
+		t.Fatal(err)
+	}
+}

@@ -7,11 +7,14 @@ The archive is crates/kit_c/out/libkit_c.a, which `rt lib` builds in crates/kit_
 proved here. The declarations are held to the exports (embed/build). Then the first script, in C and C++ under each
 compiler that is there, in Rust, Go and Python: each must print examples/first.out.
 
-In C every refusal is raised once, each growth of each call is refused in turn, threads record, logs that are taken in come to what one
-writer records one by one, and exports go as bytes, which are then changed, cut and made up, or of texts and sets that were picked to be
-slow, each plainly and under sanitizers with its leak check. In Rust, Go and Python the tests run, and callers in C and Rust that
-misuse the library must not compile. Then exports between processes: examples/pipe, a writer in C and a gateway in Rust, and
-examples/broker, where there is a redis-server.
+In C every refusal is raised once, with what it says, each growth of each call is refused in turn, threads record and threads read, logs that
+are taken in come to what one writer records one by one, and exports go as bytes, which are then changed, cut and made up, or of texts and
+sets that were picked to be slow, each plainly and under AddressSanitizer and UBSan with the leak check. A generic exporter prints all that a
+gateway holds. Under valgrind, where it is, refusals are raised, and helgrind looks for races of calls that only read.
+
+A handle of each kind in the place of each other is refused by each compiler of C and C++ (kinds.py). In Rust, Go and Python the tests run,
+and callers in C and Rust that misuse the library must not compile. The shared library has its name, and gives the calls of the header alone.
+Then exports between processes: examples/pipe, a writer in C and a gateway in Rust, and examples/broker, where there is a redis-server.
 
 The lines that docs/EMBEDDING.md has one type are run twice over one folder, and its table of what wrappers lack is compared with them
 (lacks.py). What the machine has not is told and passed over.
@@ -31,6 +34,7 @@ EMBED = TOP / "embed"
 HERE = TOP / "tests" / "embed"
 ARCHIVE = TOP / "crates" / "kit_c" / "out" / "libkit_c.a"
 WANTED = (TOP / "examples" / "first.out").read_bytes()
+EXPORTED = (HERE / "exporter.out").read_bytes()
 PIPE, BROKER = TOP / "examples" / "pipe", TOP / "examples" / "broker"
 C = ["-std=c11", "-Wall", "-Wextra", "-Werror"]
 CPP = ["-std=c++17", "-Wall", "-Wextra", "-Werror"]
@@ -106,6 +110,7 @@ class Run:
             self.run(f"C, {compiler}: a kind in the place of another", sys.executable, "-B", HERE / "kinds.py", self.kit / "include", compiler)
             for how, flags in (("", ["-O2"]), (" under sanitizers", ASAN)):
                 self.compiled(f"C, {compiler}{how}: the first script", compiler, EMBED / "c" / "first.c", C + flags, WANTED)
+                self.compiled(f"C, {compiler}{how}: an exporter", compiler, EMBED / "c" / "exporter.c", C + flags, EXPORTED)
                 self.compiled(f"C, {compiler}{how}: refusals", compiler, HERE / "refusals.c", C + flags + WRAPPED)
                 self.compiled(f"C, {compiler}{how}: handles", compiler, HERE / "handles.c", C + flags + WRAPPED)
                 self.compiled(f"C, {compiler}{how}: threads", compiler, HERE / "threads.c", C + flags)

@@ -107,6 +107,8 @@ def _opened():
     try:
         library = ctypes.CDLL(path)
         calls = {name: _declared(getattr(library, name), *words) for name, words in CALLS.items()}
+        if library.kit_version() != VERSION:
+            raise AttributeError(f"{path} is of the version {library.kit_version()}, not {VERSION}")
     except (OSError, AttributeError) as fault:
         raise ImportError(f"set KOTSKHIN_SO to the path of libkotskhin.so.0, which embed/build makes in FOLDER/shared: {fault}") from None
     return library, calls

@@ -270,6 +270,52 @@ fn threads_have_writers() -> Result<(), Error> {
     Ok(())
 }
 
+fn shared<T: Send + Sync>() {}
+
+#[test]
+fn threads_read_one_set_one_plan_and_one_gateway() -> Result<(), Error> {
+    shared::<(Ask, Attributes, Export, Gateway, Message, Node, Plan)>();
+    let (plan, route, mut gateway) = (
+        plan()?,
+        Attributes::new([("route", "/")])?,
+        Gateway::open(1)?,
+    );
+    let mut first = Writer::start(&plan, "shop", 1, 100)?;
+    first.measure(0, &route, 7)?;
+    let export = first.collect(200)?;
+    gateway.take(&export)?;
+    let (ask, table) = (requests()?, gateway.table(&requests()?)?);
+    let work = &|instance| -> Result<Gateway, Error> {
+        let mut writer = Writer::start(&plan, "shop", instance, 100)?;
+        let number = writer.hold(0, &route)?;
+        for _ in 0..1000 {
+            writer.measure(0, &route, 1)?;
+            writer.measure_held(number, 1)?;
+        }
+        let mut own = Gateway::open(2)?;
+        own.take(&writer.collect(300)?)?;
+        own.merge(&gateway)?;
+        own.take(&export)?;
+        assert_eq!(gateway.table(&ask)?, table);
+        Ok(own)
+    };
+    let made = thread::scope(|scope| {
+        let threads: Vec<_> = (2..6)
+            .map(|instance| scope.spawn(move || work(instance)))
+            .collect();
+        threads
+            .into_iter()
+            .map(|it| it.join().unwrap())
+            .collect::<Result<Vec<_>, _>>()
+    })?;
+    for own in made {
+        gateway.merge(&own)?;
+    }
+    let rows = gateway.rows(&ask)?;
+    assert_eq!((rows.counts(0), rows.sum(0)), (Ok((5, 0)), Ok(8007)));
+    Ok(())
+}
+
 #[test]
 fn nodes_tell_each_other_what_changed() -> Result<(), Error> {
     let (mut writer, none) = (writer(1)?, Attributes::none()?);
