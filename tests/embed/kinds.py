@@ -56,7 +56,6 @@ def caller():
 
 def main():
     folder, compilers = sys.argv[1], sys.argv[2:]
-    declarations.read()
     lines, right = caller()
     wrong = [number for number, is_right in enumerate(right, 1) if not is_right]
     fault = False
