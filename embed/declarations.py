@@ -202,18 +202,23 @@ def quoted(text):
     return '"' + text.replace("\\", "\\\\").replace('"', '\\"') + '"'
 
 
+def listed(words):
+    """A tuple of texts, as Python writes it."""
+    return "(" + ", ".join(map(quoted, words)) + "," * (len(words) == 1) + ")"
+
+
 def in_python():
     """The codes and the calls for Python."""
     lines = [f'"""{MADE}"""', "", f"VERSION = {whole_version()}", "", "# Each code: its name, its number, what it says, and the words for the places that it tells."]
     lines.append("CODES = (")
-    lines += [f"    ({quoted(it.name)}, {it.number}, {quoted(it.says)}, {it.places!r})," for it in CODES]
+    lines += [f"    ({quoted(it.name)}, {it.number}, {quoted(it.says)}, {listed(it.places)})," for it in CODES]
     lines += [")", "", "# Each struct that is told, by its name in C: its fields.", "STRUCTS = {"]
     for it in TOLD:
         lines.append(f"    {quoted(snake(it.name))}: ({', '.join(quoted(f'{C_TYPES[kind]} {field}') for field, kind, _ in it.fields)}),")
     lines += ["}", "", "# Each call: what it answers, and its parameters, as C declares them.", "CALLS = {"]
     for call in CALLS:
         result, given = prototype(call)
-        lines.append(f"    {quoted(call.name)}: ({quoted(result)}, ({''.join(quoted(it) + ', ' for it in given).rstrip()})),")
+        lines.append(f"    {quoted(call.name)}: ({quoted(result)}, {listed(given)}),")
     return "\n".join([*lines, "}"]) + "\n"
 
 

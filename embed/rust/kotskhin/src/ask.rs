@@ -2,9 +2,10 @@
 use crate::attributes::{AttributeValue, pairs_of};
 use crate::error::{Error, checked};
 use crate::handle::Handle;
+use crate::streams::Streams;
 use kotskhin_sys::{
     self as sys, kit_ask_gauge, kit_ask_histogram, kit_ask_keep, kit_ask_only, kit_ask_service,
-    kit_ask_sum, kit_keys_add,
+    kit_ask_stream, kit_ask_sum, kit_keys_add,
 };
 
 /// What is asked of a gateway: a stream, and which of its points. Without more, all of them, a row for each attribute set.
@@ -65,6 +66,14 @@ impl Ask {
                 bounds.len(),
             )
         })?;
+        Ok(Ask(ask))
+    }
+
+    /// Of a stream by its number, as it stands. Refused: `NoItem`, `NoMemory`.
+    pub fn stream(streams: &Streams, number: usize) -> Result<Ask, Error> {
+        let mut ask = Handle::empty();
+        // SAFETY: the ask is ours alone, and the streams are lent.
+        checked(unsafe { kit_ask_stream(ask.change(), streams.0.read().at(), number) })?;
         Ok(Ask(ask))
     }
 

@@ -1,8 +1,10 @@
 //! Attribute sets.
 use crate::error::{Error, checked, checked_at};
+use crate::export::copied_by;
 use crate::handle::{Handle, Lent};
 use kotskhin_sys::{
-    self as sys, kit_attributes_make, kit_pairs_add_text, kit_pairs_add_truth, kit_pairs_add_whole,
+    self as sys, kit_attributes_key, kit_attributes_len, kit_attributes_make, kit_attributes_text,
+    kit_attributes_value, kit_pairs_add_text, kit_pairs_add_truth, kit_pairs_add_whole,
 };
 use std::sync::{Mutex, MutexGuard, PoisonError};
 
@@ -30,6 +32,52 @@ impl From<bool> for AttributeValue<'_> {
     fn from(truth: bool) -> Self {
         AttributeValue::Truth(truth)
     }
+}
+
+/// The value of an attribute that is read.
+#[derive(Clone, Debug, PartialEq, Eq)]
+pub enum OwnedValue {
+    Text(String),
+    Whole(i64),
+    Truth(bool),
+}
+
+impl<'a> From<&'a OwnedValue> for AttributeValue<'a> {
+    fn from(value: &'a OwnedValue) -> Self {
+        match value {
+            OwnedValue::Text(text) => AttributeValue::Text(text),
+            OwnedValue::Whole(number) => AttributeValue::Whole(*number),
+            OwnedValue::Truth(truth) => AttributeValue::Truth(*truth),
+        }
+    }
+}
+
+/// The pairs of a set, in the order of their keys.
+pub(crate) fn pairs_in(set: &Handle<sys::Attributes>) -> Result<Vec<(String, OwnedValue)>, Error> {
+    let mut count = 0;
+    // SAFETY: the set is lent.
+    checked(unsafe { kit_attributes_len(set.read().at(), &mut count) })?;
+    (0..count).map(|number| pair_in(set, number)).collect()
+}
+
+fn pair_in(set: &Handle<sys::Attributes>, number: usize) -> Result<(String, OwnedValue), Error> {
+    // SAFETY: the set is lent, here and below, and the room is a slice's.
+    let key = copied_by(|room, len| unsafe {
+        kit_attributes_key(set.read().at(), number, room.as_mut_ptr(), room.len(), len)
+    })?;
+    let (mut kind, mut whole) = (0, 0);
+    checked(unsafe { kit_attributes_value(set.read().at(), number, &mut kind, &mut whole) })?;
+    let value = match kind {
+        1 => OwnedValue::Whole(whole),
+        2 => OwnedValue::Truth(whole == 1),
+        _ => {
+            let text = copied_by(|room, len| unsafe {
+                kit_attributes_text(set.read().at(), number, room.as_mut_ptr(), room.len(), len)
+            })?;
+            OwnedValue::Text(String::from_utf8_lossy(&text).into_owned())
+        }
+    };
+    Ok((String::from_utf8_lossy(&key).into_owned(), value))
 }
 
 /// Pairs, in the order in which they come.

@@ -14,6 +14,8 @@ pub enum Error {
     NoRow,
     /// There is no point of what is asked for.
     NoPoint,
+    /// There is no item of this number.
+    NoItem,
     /// A total is wider than the number that it is to be told in.
     TooWide,
     /// The value is above 2^63 - 1, the greatest that the kit records.
@@ -90,6 +92,7 @@ pub(crate) fn refusal(code: i32, place: u64, second: u64) -> Error {
         sys::NO_HELD => Error::NoHeld,
         sys::NO_ROW => Error::NoRow,
         sys::NO_POINT => Error::NoPoint,
+        sys::NO_ITEM => Error::NoItem,
         sys::TOO_WIDE => Error::TooWide,
         sys::NO_BUCKET => Error::NoBucket,
         sys::WRONG_SHAPE => Error::WrongShape,
@@ -159,6 +162,7 @@ impl fmt::Display for Error {
             Error::NoHeld => write!(f, "the writer holds nothing under this number"),
             Error::NoRow => write!(f, "there is no row of this number"),
             Error::NoPoint => write!(f, "there is no point of what is asked for"),
+            Error::NoItem => write!(f, "there is no item of this number"),
             Error::TooWide => write!(f, "the total is wider than the number that tells it"),
             Error::ValueTooWide { value } => write!(
                 f,

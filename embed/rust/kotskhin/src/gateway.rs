@@ -6,7 +6,7 @@ use crate::handle::Handle;
 use crate::rows::Rows;
 use kotskhin_sys::{
     self as sys, kit_gateway_conflicts, kit_gateway_merge, kit_gateway_newest, kit_gateway_open,
-    kit_gateway_rows, kit_gateway_same, kit_gateway_take,
+    kit_gateway_read, kit_gateway_rows, kit_gateway_same, kit_gateway_take,
 };
 use std::ptr;
 
@@ -36,6 +36,14 @@ impl Gateway {
         // SAFETY: this one is ours alone, and the other is lent; a `&mut` and a `&` are of two.
         checked(unsafe { kit_gateway_merge(self.0.change(), other.0.read().at(), &mut changed) })?;
         Ok(changed)
+    }
+
+    /// Its id, and how many points it holds.
+    pub fn head(&self) -> Result<(u32, usize), Error> {
+        let (mut id, mut points) = (0, 0);
+        // SAFETY: the gateway is lent.
+        checked(unsafe { kit_gateway_read(self.0.read().at(), &mut id, &mut points) })?;
+        Ok((id, points))
     }
 
     /// The number of keys at whose time different values came: two writers recorded under one identity.

@@ -1,8 +1,9 @@
 //! Instruments, and the plans that they make.
 use crate::error::{Error, checked, checked_twice};
 use crate::handle::Handle;
+use crate::streams::Streams;
 use crate::view::Views;
-use kotskhin_sys::{self as sys, kit_instruments_add, kit_plan_build};
+use kotskhin_sys::{self as sys, kit_instruments_add, kit_plan_build, kit_plan_streams};
 
 /// How many attribute sets a stream has points of their own for, where nothing else is asked.
 pub const DEFAULT_LIMIT: u64 = 2000;
@@ -69,6 +70,14 @@ impl Plan {
     /// Refused: `BadName`, `BadUnit`, `SameStream`, `BadLimit`, `NoMemory`.
     pub fn build(instruments: &Instruments, limit: u64) -> Result<Plan, Error> {
         Plan::with_views(instruments, &Views::new(), limit)
+    }
+
+    /// Its streams, whose numbers are those that `Overflow` tells. Refused: `NoMemory`.
+    pub fn streams(&self) -> Result<Streams, Error> {
+        let mut streams = Handle::empty();
+        // SAFETY: the plan is lent, and the streams are ours alone.
+        checked(unsafe { kit_plan_streams(self.0.read().at(), streams.change()) })?;
+        Ok(Streams(streams))
     }
 
     /// The plan of instruments and of views: each view that matches an instrument gives it a stream, and where none does the

@@ -1,9 +1,11 @@
 //! Rows of gateways' answers.
+use crate::attributes::{OwnedValue, pairs_in};
 use crate::error::{Error, checked};
+use crate::export::copied_by;
 use crate::handle::Handle;
 use kotskhin_sys::{
-    self as sys, kit_rows_bucket, kit_rows_counts, kit_rows_gauge, kit_rows_histogram,
-    kit_rows_len, kit_rows_range, kit_rows_sum, kit_rows_table, kit_text_copy,
+    self as sys, kit_rows_attributes, kit_rows_bucket, kit_rows_counts, kit_rows_gauge,
+    kit_rows_histogram, kit_rows_len, kit_rows_range, kit_rows_sum, kit_rows_table, kit_text_copy,
 };
 
 /// The rows that answer an ask, numbered from 0 in the order of their attribute sets.
@@ -16,6 +18,14 @@ impl Rows {
         // SAFETY: the rows are lent.
         checked(unsafe { kit_rows_len(self.0.read().at(), &mut count) })?;
         Ok(count)
+    }
+
+    /// The attribute set that a row is of, pair by pair in the order of keys. Refused: `NoRow`, `NoMemory`.
+    pub fn attributes(&self, row: usize) -> Result<Vec<(String, OwnedValue)>, Error> {
+        let mut set = Handle::empty();
+        // SAFETY: the rows are lent, and the set is ours alone.
+        checked(unsafe { kit_rows_attributes(self.0.read().at(), row, set.change()) })?;
+        pairs_in(&set)
     }
 
     /// How many points the total of a row is of, and how many conflicts it leaves out. Refused: `NoRow`.
@@ -75,21 +85,13 @@ impl Rows {
         let mut table = Handle::empty();
         // SAFETY: the table is ours alone, and the rows are lent; they are two.
         checked(unsafe { kit_rows_table(self.0.read().at(), table.change()) })?;
-        let mut bytes = vec![0; 1024];
-        loop {
-            let mut len = 0;
-            // SAFETY: the text is lent, and the room is the vector's.
-            checked(unsafe {
-                kit_text_copy(table.read().at(), bytes.as_mut_ptr(), bytes.len(), &mut len)
-            })?;
-            if len <= bytes.len() {
-                bytes.truncate(len);
-                // (the library's texts are UTF-8)
-                return String::from_utf8(bytes).map_err(|fault| Error::NotText {
-                    at: fault.utf8_error().valid_up_to() as u64,
-                });
-            }
-            bytes.resize(len, 0);
-        }
+        // SAFETY: the text is lent, and the room is a slice's.
+        let bytes = copied_by(|room, len| unsafe {
+            kit_text_copy(table.read().at(), room.as_mut_ptr(), room.len(), len)
+        })?;
+        // (the library's texts are UTF-8)
+        String::from_utf8(bytes).map_err(|fault| Error::NotText {
+            at: fault.utf8_error().valid_up_to() as u64,
+        })
     }
 }

@@ -2,8 +2,9 @@
 #![forbid(unsafe_code)]
 use kotskhin::metrics::{Counter, Meter};
 use kotskhin::{
-    Aggregation, Ask, AttributeValue, Attributes, DEFAULT_LIMIT, Envelope, Error, Export, Gateway,
-    Instruments, Kind, Message, Node, Plan, Recorder, Seat, Taken, View, Views, Writer,
+    Aggregation, Ask, AttributeValue, Attributes, DEFAULT_LIMIT, Envelope, Error, Export,
+    ExportHead, Gateway, Instruments, Kind, Message, Node, OwnedValue, Plan, Recorder, Seat, Shape,
+    Stream, Taken, View, Views, Writer,
 };
 use std::sync::Mutex;
 use std::thread;
@@ -313,6 +314,65 @@ fn threads_read_one_set_one_plan_and_one_gateway() -> Result<(), Error> {
     }
     let rows = gateway.rows(&ask)?;
     assert_eq!((rows.counts(0), rows.sum(0)), (Ok((5, 0)), Ok(8007)));
+    Ok(())
+}
+
+#[test]
+fn streams_rows_and_exports_are_read_out() -> Result<(), Error> {
+    let mut instruments = Instruments::new();
+    instruments.add("app", "requests", "1", Kind::Counter)?;
+    instruments.add("app", "size", "By", Kind::Histogram)?;
+    let (mut view, mut views) = (View::of_name("size")?, Views::new());
+    view.aggregate(Aggregation::Buckets(&[10, 20]))?;
+    views.add(&view)?;
+    let plan = Plan::with_views(&instruments, &views, DEFAULT_LIMIT)?;
+    let pairs = [
+        ("cached", AttributeValue::Truth(true)),
+        ("route", AttributeValue::Text("/")),
+        ("status", AttributeValue::Whole(200)),
+    ];
+    let set = Attributes::new(pairs)?;
+    let mut writer = Writer::start(&plan, "shop", (8 << 64) | 9, 100)?;
+    writer.measure(0, &set, 7)?;
+    let export = writer.collect(200)?;
+    let head = ExportHead {
+        service: "shop".into(),
+        instance: (8 << 64) | 9,
+        start: 100,
+        time: 200,
+        points: 1,
+    };
+    assert_eq!(export.head(), Ok(head));
+    let mut gateway = Gateway::open(5)?;
+    gateway.take(&export)?;
+    assert_eq!(gateway.head(), Ok((5, 1)));
+
+    let streams = plan.streams()?;
+    assert_eq!(streams.count(), Ok(2));
+    let size = Stream {
+        scope: "app".into(),
+        name: "size".into(),
+        unit: "By".into(),
+        shape: Shape::Histogram {
+            bounds: vec![10, 20],
+        },
+    };
+    assert_eq!(streams.stream(1), Ok(size));
+    assert_eq!(streams.stream(0)?.shape, Shape::Sum { monotonic: true });
+    assert_eq!(streams.stream(2), Err(Error::NoItem));
+    assert_eq!(Ask::stream(&streams, 2).err(), Some(Error::NoItem));
+    let rows = gateway.rows(&Ask::stream(&streams, 0)?)?;
+    assert_eq!((rows.count(), rows.sum(0)), (Ok(1), Ok(7)));
+    let told = rows.attributes(0)?;
+    let wanted = [
+        ("cached", OwnedValue::Truth(true)),
+        ("route", OwnedValue::Text("/".into())),
+        ("status", OwnedValue::Whole(200)),
+    ];
+    assert_eq!(told, wanted.map(|(key, value)| (key.to_string(), value)));
+    assert_eq!(rows.attributes(1), Err(Error::NoRow));
+    let again = Attributes::new(told.iter().map(|(key, value)| (key.as_str(), value)))?;
+    assert_eq!(writer.hold(0, &again), writer.hold(0, &set));
     Ok(())
 }
 
