@@ -689,6 +689,18 @@ KIT_CHECKED int32_t kit_message_encode(KIT_READS kit_message *message, kit_bytes
  * such a message's. */
 KIT_CHECKED int32_t kit_message_decode(kit_message *message, const uint8_t *bytes, size_t bytes_len, uint64_t *place);
 
+/* What a message carries, as a gateway of its sender's id: to see whose points they are before a node is handed it, and the way back from
+ * kit_gateway_encode. The message stays.
+ *
+ * Refused, in this order: KIT_FULL; KIT_NOTHING; KIT_NO_MEMORY. O(size of the points). */
+KIT_CHECKED int32_t kit_message_gateway(KIT_READS kit_message *message, kit_gateway *gateway);
+
+/* A gateway's id and points as bytes, to be kept and brought back: those of a message of all that it holds, from it to itself.
+ * kit_message_decode reads them, and kit_message_gateway makes the gateway of that. The gateway stays; it is copied once.
+ *
+ * Refused, in this order: KIT_FULL; KIT_NOTHING; KIT_NO_MEMORY. O(size of the points). */
+KIT_CHECKED int32_t kit_gateway_encode(KIT_READS kit_gateway *gateway, kit_bytes *bytes);
+
 /* Asks of a gateway, the rows that it answers with, and their table. */
 
 /* Asks for the points of a sum: of all services, with a row for each attribute set. The name is taken without regard to case, as plans take
@@ -775,6 +787,10 @@ KIT_CHECKED int32_t kit_streams_bounds(KIT_READS kit_streams *streams, size_t nu
  * Refused, in this order: KIT_FULL; KIT_NOTHING of the streams; KIT_NO_ITEM where there is no stream of this number; KIT_NO_MEMORY. */
 KIT_CHECKED int32_t kit_ask_stream(kit_ask *ask, KIT_READS kit_streams *streams, size_t number);
 
+/* Copies the front of the bounds that has room of a histogram for which no view says others, and answers how many there are: 15
+ * (OpenTelemetry Metrics SDK, "Explicit Bucket Histogram Aggregation"). */
+KIT_CALL size_t kit_default_bounds(int64_t *into, size_t room);
+
 /* Rows as numbers. */
 
 /* Tells how many rows there are: they are numbered from 0, in the order of their attribute sets.
@@ -803,6 +819,17 @@ KIT_CHECKED int32_t kit_rows_sum(KIT_READS kit_rows *rows, size_t number, int64_
  * Refused, in this order: KIT_NOTHING; KIT_NO_ROW; KIT_WRONG_SHAPE of a row of another shape; KIT_NO_POINT where the row has conflicts
  * alone. Takes no memory. */
 KIT_CHECKED int32_t kit_rows_gauge(KIT_READS kit_rows *rows, size_t number, uint64_t *time, int64_t *value);
+
+/* Tells what the values of a row of a sum or of a histogram come to, as a number of 128 bits in two's complement: its high and its low
+ * half.
+ *
+ * Refused, in this order: KIT_NOTHING; KIT_NO_ROW; KIT_WRONG_SHAPE of a row of a gauge. O(1), takes no memory. */
+KIT_CHECKED int32_t kit_rows_wide_sum(KIT_READS kit_rows *rows, size_t number, uint64_t *high, uint64_t *low);
+
+/* Tells how many values a row of a histogram is of, as a number of 128 bits: its high and its low half.
+ *
+ * Refused, in this order: KIT_NOTHING; KIT_NO_ROW; KIT_WRONG_SHAPE of a row of another shape. O(1), takes no memory. */
+KIT_CHECKED int32_t kit_rows_wide_count(KIT_READS kit_rows *rows, size_t number, uint64_t *high, uint64_t *low);
 
 /* Tells how many values a row of a histogram is of, their sum, and how many buckets there are: one more than bounds.
  *

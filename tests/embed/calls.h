@@ -19,7 +19,7 @@
 /* What a handle can have. */
 enum kind {
     NOTHING, PAIRS, ATTRIBUTES, STREAMS, INSTRUMENTS, VIEW, VIEWS, KEYS, PLAN, WRITER, EXPORT, GATEWAY, NODE, MESSAGE, SEAT, RECORDER,
-    ASK, TOLD_TEXT, BYTES, SUM_ROWS, GAUGE_ROWS, HISTOGRAM_ROWS, KINDS, ROWS /* of any shape */
+    ASK, TOLD_TEXT, BYTES, SUM_ROWS, GAUGE_ROWS, HISTOGRAM_ROWS, KINDS, ROWS /* of any shape */, TOTALS /* of a sum or of a histogram */
 };
 
 /* How a call has a handle: something must be there and is changed, or may be; it is empty and is filled; or what is there is only read. */
@@ -139,6 +139,7 @@ static void make(enum kind kind, kit_handle *it) {
         MUST(kit_gateway_rows((void *)&one, (void *)&two, (void *)it));
         break;
     case SUM_ROWS:
+    case TOTALS:
     case ROWS:
         make(GATEWAY, &one), make(ASK, &two);
         MUST(kit_gateway_rows((void *)&one, (void *)&two, (void *)it));
@@ -237,6 +238,10 @@ CALL(streams_text, AS(streams, 0), 0, 1, room, sizeof room, &size)
 CALL(streams_shape, AS(streams, 0), 2, &shape, &size)
 CALL(streams_bounds, AS(streams, 0), 2, some_bounds, 4, &size)
 CALL(ask_stream, AS(ask, 0), AS(streams, 1), 0)
+CALL(rows_wide_sum, AS(rows, 0), 0, &place, &second)
+CALL(rows_wide_count, AS(rows, 0), 0, &place, &second)
+CALL(gateway_encode, AS(gateway, 0), AS(bytes, 1))
+CALL(message_gateway, AS(message, 0), AS(gateway, 1))
 
 #define ROW(name, ...) {#name, name, {__VA_ARGS__}}
 static const struct row CALLS[] = {
@@ -273,7 +278,8 @@ static const struct row CALLS[] = {
     ROW(attributes_len, {READ, ATTRIBUTES}), ROW(attributes_key, {READ, ATTRIBUTES}), ROW(attributes_value, {READ, ATTRIBUTES}),
     ROW(attributes_text, {READ, ATTRIBUTES}), ROW(plan_streams, {READ, PLAN}, {FILLED, STREAMS}), ROW(streams_len, {READ, STREAMS}),
     ROW(streams_text, {READ, STREAMS}), ROW(streams_shape, {READ, STREAMS}), ROW(streams_bounds, {READ, STREAMS}),
-    ROW(ask_stream, {FILLED, ASK}, {READ, STREAMS}),
+    ROW(ask_stream, {FILLED, ASK}, {READ, STREAMS}), ROW(rows_wide_sum, {READ, TOTALS}), ROW(rows_wide_count, {READ, HISTOGRAM_ROWS}),
+    ROW(gateway_encode, {READ, GATEWAY}, {FILLED, BYTES}), ROW(message_gateway, {READ, MESSAGE}, {FILLED, GATEWAY}),
 };
 
 static bool is_read(struct hand hand) { return hand.part == READ || hand.part == MAY_READ; }

@@ -15,9 +15,11 @@ void *__wrap_malloc(size_t size) { return refuses() ? NULL : __real_malloc(size)
 
 void *__wrap_realloc(void *at, size_t size) { return refuses() ? NULL : __real_realloc(at, size); }
 
-static bool is_rows(enum kind kind) { return kind == ROWS || (SUM_ROWS <= kind && kind <= HISTOGRAM_ROWS); }
+static bool is_rows(enum kind kind) { return kind >= SUM_ROWS && kind != KINDS; }
 
-static bool is_of(enum kind wanted, enum kind kind) { return kind == wanted || (wanted == ROWS && is_rows(kind)); }
+static bool is_of(enum kind wanted, enum kind kind) {
+    return kind == wanted || (wanted == ROWS && is_rows(kind)) || (wanted == TOTALS && is_rows(kind) && kind != GAUGE_ROWS);
+}
 
 static bool must_be_there(struct hand hand) { return hand.part == THERE || hand.part == READ; }
 

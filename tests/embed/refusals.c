@@ -785,6 +785,25 @@ static void sets(kit_attributes *four) {
     CHECK(kit_attributes_value(&nothing, 0, &kind, &whole) == KIT_NOTHING && len == 77);
 }
 
+/* A gateway as bytes, and back. */
+static void kept(kit_gateway *gateway) {
+    kit_bytes bytes = KIT_EMPTY;
+    kit_message message = KIT_EMPTY, nothing = KIT_EMPTY;
+    kit_gateway again = KIT_EMPTY, none = KIT_EMPTY;
+    uint8_t room[1024];
+    uint32_t id = 77;
+    size_t len = 77;
+    bool same = false;
+    CHECK(kit_gateway_encode(&none, &bytes) == KIT_NOTHING && !bytes.handle.full);
+    EACH_GROWTH(kit_gateway_encode(gateway, &bytes), !bytes.handle.full && gateway->handle.full);
+    CHECK(kit_gateway_encode(gateway, &bytes) == KIT_FULL && !kit_bytes_copy(&bytes, room, sizeof room, &len) && len < sizeof room);
+    CHECK(!kit_message_decode(&message, room, len, &place) && kit_message_gateway(&nothing, &again) == KIT_NOTHING && !again.handle.full);
+    EACH_GROWTH(kit_message_gateway(&message, &again), !again.handle.full && message.handle.full);
+    CHECK(kit_message_gateway(&message, &again) == KIT_FULL && !kit_gateway_same(gateway, &again, &same) && same);
+    CHECK(!kit_gateway_read(&again, &id, &len) && id == 5 && len == 1);
+    kit_bytes_free(&bytes), kit_message_free(&message), kit_gateway_free(&again);
+}
+
 /* The streams of a plan, whose numbers are those that an overflow tells, and what is asked of them. */
 static void streams(kit_plan *plan, kit_attributes *four) {
     kit_streams list = KIT_EMPTY, nothing = KIT_EMPTY;
@@ -820,6 +839,8 @@ static void streams(kit_plan *plan, kit_attributes *four) {
     CHECK(!kit_streams_text(&list, place, 1, text, sizeof text, &len) && is(text, len, "requests"));
     CHECK(!kit_writer_collect(&writer, 200, &made, &place) && !kit_gateway_open(&gateway, 5) && !kit_gateway_take(&gateway, &made, &changed));
     CHECK(!kit_gateway_rows(&gateway, &ask, &rows) && !kit_rows_sum(&rows, 0, &total) && total == 7);
+    CHECK(!kit_rows_wide_sum(&rows, 0, &place, &second) && place == 0 && second == 7 && kit_default_bounds(bounds, 20) == 15);
+    CHECK(kit_rows_wide_count(&rows, 0, &place, &second) == KIT_WRONG_SHAPE && kit_rows_wide_sum(&rows, 1, &place, &second) == KIT_NO_ROW);
     EACH_GROWTH(kit_rows_attributes(&rows, 0, &set), !set.handle.full);
     CHECK(kit_rows_attributes(&rows, 0, &set) == KIT_FULL);
     sets(&set);
@@ -829,6 +850,7 @@ static void streams(kit_plan *plan, kit_attributes *four) {
     uint32_t id = 77;
     uint64_t high = 77, low = 77, start = 77, time = 77;
     CHECK(!kit_gateway_read(&gateway, &id, &len) && id == 5 && len == 1);
+    kept(&gateway);
     CHECK(!kit_export_read(&made, &high, &low, &start, &time, &len) && high == 8 && low == 9 && start == 100 && time == 200 && len == 1);
     CHECK(!kit_export_service(&made, text, sizeof text, &len) && is(text, len, "shop"));
     kit_handle *all[] = {&list.handle, &writer.handle, &made.handle, &gateway.handle, &ask.handle, &rows.handle};

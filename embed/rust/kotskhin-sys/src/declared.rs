@@ -395,6 +395,14 @@ unsafe extern "C" {
         bytes_len: usize,
         place: *mut u64,
     ) -> i32;
+    pub fn kit_message_gateway(
+        message: *mut Message,
+        gateway: *mut Gateway,
+    ) -> i32;
+    pub fn kit_gateway_encode(
+        gateway: *mut Gateway,
+        bytes: *mut Bytes,
+    ) -> i32;
     pub fn kit_node_open(
         node: *mut Node,
         gateway: *mut Gateway,
@@ -575,6 +583,10 @@ unsafe extern "C" {
         streams: *mut Streams,
         number: usize,
     ) -> i32;
+    pub fn kit_default_bounds(
+        into: *mut i64,
+        room: usize,
+    ) -> usize;
     pub fn kit_text_copy(
         text: *mut Text,
         into: *mut u8,
@@ -620,6 +632,18 @@ unsafe extern "C" {
     pub fn kit_views_add(
         views: *mut Views,
         view: *mut View,
+    ) -> i32;
+    pub fn kit_rows_wide_sum(
+        rows: *mut Rows,
+        number: usize,
+        high: *mut u64,
+        low: *mut u64,
+    ) -> i32;
+    pub fn kit_rows_wide_count(
+        rows: *mut Rows,
+        number: usize,
+        high: *mut u64,
+        low: *mut u64,
     ) -> i32;
     pub fn kit_writer_start(
         writer: *mut Writer,

@@ -1,12 +1,12 @@
 //! Gateways.
 use crate::ask::Ask;
 use crate::error::{Error, checked};
-use crate::export::Export;
+use crate::export::{Export, copied};
 use crate::handle::Handle;
 use crate::rows::Rows;
 use kotskhin_sys::{
-    self as sys, kit_gateway_conflicts, kit_gateway_merge, kit_gateway_newest, kit_gateway_open,
-    kit_gateway_read, kit_gateway_rows, kit_gateway_same, kit_gateway_take,
+    self as sys, kit_gateway_conflicts, kit_gateway_encode, kit_gateway_merge, kit_gateway_newest,
+    kit_gateway_open, kit_gateway_read, kit_gateway_rows, kit_gateway_same, kit_gateway_take,
 };
 use std::ptr;
 
@@ -44,6 +44,18 @@ impl Gateway {
         // SAFETY: the gateway is lent.
         checked(unsafe { kit_gateway_read(self.0.read().at(), &mut id, &mut points) })?;
         Ok((id, points))
+    }
+
+    /// Its id and points as bytes, to be kept: those of a message of all that it holds, to itself. [`Message::decode`] reads them, and
+    /// [`Message::gateway`] gives the gateway. Refused: `NoMemory`.
+    ///
+    /// [`Message::decode`]: crate::Message::decode
+    /// [`Message::gateway`]: crate::Message::gateway
+    pub fn encode(&self) -> Result<Vec<u8>, Error> {
+        let mut made = Handle::empty();
+        // SAFETY: the gateway is lent, and the bytes are ours alone.
+        checked(unsafe { kit_gateway_encode(self.0.read().at(), made.change()) })?;
+        copied(&made)
     }
 
     /// The number of keys at whose time different values came: two writers recorded under one identity.

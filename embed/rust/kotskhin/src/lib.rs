@@ -30,7 +30,7 @@ pub use error::Error;
 pub use export::{Export, ExportHead};
 pub use gateway::Gateway;
 pub use node::{Envelope, Message, Node};
-pub use plan::{DEFAULT_LIMIT, Instruments, Kind, Plan};
+pub use plan::{DEFAULT_LIMIT, Instruments, Kind, Plan, default_bounds};
 pub use recorder::{Recorder, Taken};
 pub use rows::Rows;
 pub use seat::Seat;

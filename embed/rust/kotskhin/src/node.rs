@@ -4,8 +4,8 @@ use crate::export::{Export, copied};
 use crate::gateway::Gateway;
 use crate::handle::Handle;
 use kotskhin_sys::{
-    self as sys, kit_message_decode, kit_message_encode, kit_message_read, kit_node_gateway,
-    kit_node_hand, kit_node_merge, kit_node_open, kit_node_send, kit_node_take,
+    self as sys, kit_message_decode, kit_message_encode, kit_message_gateway, kit_message_read,
+    kit_node_gateway, kit_node_hand, kit_node_merge, kit_node_open, kit_node_send, kit_node_take,
 };
 
 /// A gateway that sends messages and takes them in. The ids of nodes that exchange messages are distinct.
@@ -98,6 +98,14 @@ impl Message {
         };
         checked_at(code, place)?;
         Ok(Message(message))
+    }
+
+    /// What it carries, as a gateway of its sender's id. Refused: `NoMemory`.
+    pub fn gateway(&self) -> Result<Gateway, Error> {
+        let mut gateway = Handle::empty();
+        // SAFETY: the message is lent, and the gateway is ours alone.
+        checked(unsafe { kit_message_gateway(self.0.read().at(), gateway.change()) })?;
+        Ok(Gateway(gateway))
     }
 
     /// What stands on it.

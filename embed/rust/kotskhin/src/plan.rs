@@ -3,7 +3,9 @@ use crate::error::{Error, checked, checked_twice};
 use crate::handle::Handle;
 use crate::streams::Streams;
 use crate::view::Views;
-use kotskhin_sys::{self as sys, kit_instruments_add, kit_plan_build, kit_plan_streams};
+use kotskhin_sys::{
+    self as sys, kit_default_bounds, kit_instruments_add, kit_plan_build, kit_plan_streams,
+};
 
 /// How many attribute sets a stream has points of their own for, where nothing else is asked.
 pub const DEFAULT_LIMIT: u64 = 2000;
@@ -20,6 +22,16 @@ pub enum Kind {
     Gauge = 2,
     /// Values of at least 0 whose distribution counts.
     Histogram = 3,
+}
+
+/// The bounds of a histogram for which no view says others.
+pub fn default_bounds() -> Vec<i64> {
+    let mut none = [];
+    // SAFETY: the room is a slice's, here and below.
+    let count = unsafe { kit_default_bounds(none.as_mut_ptr(), 0) };
+    let mut bounds = vec![0; count];
+    unsafe { kit_default_bounds(bounds.as_mut_ptr(), bounds.len()) };
+    bounds
 }
 
 /// Instruments, numbered from 0 in the order in which they are added.

@@ -5,7 +5,8 @@ use crate::export::copied_by;
 use crate::handle::Handle;
 use kotskhin_sys::{
     self as sys, kit_rows_attributes, kit_rows_bucket, kit_rows_counts, kit_rows_gauge,
-    kit_rows_histogram, kit_rows_len, kit_rows_range, kit_rows_sum, kit_rows_table, kit_text_copy,
+    kit_rows_histogram, kit_rows_len, kit_rows_range, kit_rows_sum, kit_rows_table,
+    kit_rows_wide_count, kit_rows_wide_sum, kit_text_copy,
 };
 
 /// The rows that answer an ask, numbered from 0 in the order of their attribute sets.
@@ -42,6 +43,22 @@ impl Rows {
         // SAFETY: the rows are lent.
         checked(unsafe { kit_rows_sum(self.0.read().at(), row, &mut total) })?;
         Ok(total)
+    }
+
+    /// What the values of a row of a sum or of a histogram come to. Refused: `NoRow`; `WrongShape` of a gauge.
+    pub fn total(&self, row: usize) -> Result<i128, Error> {
+        let (mut high, mut low) = (0, 0);
+        // SAFETY: the rows are lent.
+        checked(unsafe { kit_rows_wide_sum(self.0.read().at(), row, &mut high, &mut low) })?;
+        Ok((u128::from(high) << 64 | u128::from(low)).cast_signed())
+    }
+
+    /// How many values a row of a histogram is of. Refused: `NoRow`; `WrongShape`.
+    pub fn values(&self, row: usize) -> Result<u128, Error> {
+        let (mut high, mut low) = (0, 0);
+        // SAFETY: the rows are lent.
+        checked(unsafe { kit_rows_wide_count(self.0.read().at(), row, &mut high, &mut low) })?;
+        Ok(u128::from(high) << 64 | u128::from(low))
     }
 
     /// The time and the value of a gauge's row. Refused: `NoRow`; `WrongShape`; `NoPoint` where it has conflicts alone.

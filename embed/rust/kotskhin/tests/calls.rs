@@ -4,7 +4,7 @@ use kotskhin::metrics::{Counter, Meter};
 use kotskhin::{
     Aggregation, Ask, AttributeValue, Attributes, DEFAULT_LIMIT, Envelope, Error, Export,
     ExportHead, Gateway, Instruments, Kind, Message, Node, OwnedValue, Plan, Recorder, Seat, Shape,
-    Stream, Taken, View, Views, Writer,
+    Stream, Taken, View, Views, Writer, default_bounds,
 };
 use std::sync::Mutex;
 use std::thread;
@@ -363,6 +363,19 @@ fn streams_rows_and_exports_are_read_out() -> Result<(), Error> {
     assert_eq!(Ask::stream(&streams, 2).err(), Some(Error::NoItem));
     let rows = gateway.rows(&Ask::stream(&streams, 0)?)?;
     assert_eq!((rows.count(), rows.sum(0)), (Ok(1), Ok(7)));
+    assert_eq!(
+        (rows.total(0), rows.values(0)),
+        (Ok(7), Err(Error::WrongShape))
+    );
+    let (bounds, again) = (
+        default_bounds(),
+        Message::decode(&gateway.encode()?)?.gateway()?,
+    );
+    assert_eq!((bounds.len(), bounds[14]), (15, 10000));
+    assert_eq!(
+        (again.same(&gateway), again.head()),
+        (Ok(true), gateway.head())
+    );
     let told = rows.attributes(0)?;
     let wanted = [
         ("cached", OwnedValue::Truth(true)),
