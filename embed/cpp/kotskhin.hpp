@@ -29,7 +29,8 @@ struct Refused : std::runtime_error {
         : std::runtime_error(said(code)), code(code), place(place), second(second) {}
 };
 
-inline void checked(int32_t code, uint64_t place = 0, uint64_t second = 0) {
+// (by references: a call and what it tells are written down as arguments beside each other)
+inline void checked(int32_t code, const uint64_t &place = 0, const uint64_t &second = 0) {
     if (code != KIT_OK) throw Refused(code, place, second);
 }
 
