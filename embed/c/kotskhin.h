@@ -11,7 +11,7 @@
  * - Times are nanoseconds since the Unix epoch.
  *
  * What a caller keeps, and what happens otherwise (docs/EMBEDDING.md):
- * - No pointer is null, also where its length is 0: else a fault, or what C leaves undefined. Compilers warn of it.
+ * - No pointer is null, also where its length is 0 (KIT_BYTES): else a fault, or what C leaves undefined. Compilers warn of it.
  * - A handle is in one call at a time, and one call has it once: else a call answers KIT_NOTHING, or memory is freed under another. What calls
  *   only read may be read by many threads at once, each by a handle of its own that is lent (KIT_LENT).
  * - No handle that has something is copied, but to be lent, or so that the copy stands for it from then on: else what it has is freed twice.
@@ -68,6 +68,9 @@ KIT_CALL void kit_free(kit_handle *handle);
 
 /* A text that is written down, as its pointer and its length. */
 #define KIT_TEXT(text) (const uint8_t *)("" text), sizeof("" text) - 1
+/* Bytes that are so many: the pointer to none of them may be null here. */
+#define KIT_BYTES(at, len) kit_bytes_at(at), (len)
+static inline const uint8_t *kit_bytes_at(const void *at) { return (const uint8_t *)(at ? at : ""); }
 
 /* Pairs of attributes that are written down, or nothing. */
 typedef struct kit_pairs { kit_handle handle; } kit_pairs;

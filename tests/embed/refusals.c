@@ -180,13 +180,14 @@ static void plans(kit_plan *plan) {
 }
 
 static void attributes(kit_attributes *none, kit_attributes *four) {
-    kit_pairs pairs = KIT_EMPTY;
+    kit_pairs pairs = KIT_EMPTY, emptied = KIT_EMPTY;
     kit_attributes bad = KIT_EMPTY;
     CHECK(!kit_attributes_make(none, &pairs, &place));
     CHECK(kit_attributes_make(none, &pairs, &place) == KIT_FULL && none->handle.full);
     CHECK(kit_pairs_add_text(&pairs, TEXT("k\xff"), TEXT("v")) == KIT_NOT_TEXT && !pairs.handle.full);
     CHECK(kit_pairs_add_text(&pairs, TEXT("k"), TEXT("v\xff")) == KIT_NOT_TEXT && !pairs.handle.full);
     EACH_GROWTH(kit_pairs_add_text(&pairs, TEXT("route"), TEXT("a value of more than thirty bytes of text")), !pairs.handle.full);
+    CHECK(!kit_pairs_add_text(&emptied, KIT_BYTES("k", 1), KIT_BYTES(NULL, 0)));
     CHECK(!kit_pairs_add_whole(&pairs, TEXT("status"), 200));
     CHECK(!kit_pairs_add_truth(&pairs, TEXT("cached"), true));
     CHECK(!kit_pairs_add_whole(&pairs, TEXT("attempt"), 1));
@@ -194,7 +195,7 @@ static void attributes(kit_attributes *none, kit_attributes *four) {
     CHECK(!kit_pairs_add_whole(&pairs, TEXT(""), 1));
     place = 77;
     CHECK(kit_attributes_make(&bad, &pairs, &place) == KIT_EMPTY_KEY && place == 4 && !bad.handle.full && pairs.handle.full);
-    kit_pairs_free(&pairs);
+    kit_pairs_free(&pairs), kit_pairs_free(&emptied);
 }
 
 static void writers(kit_plan *plan, kit_attributes *none, kit_attributes *four) {

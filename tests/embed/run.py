@@ -120,6 +120,7 @@ class Run:
                 self.compiled(f"C, {compiler}{how}: picked texts and sets", compiler, HERE / "chosen.c", C + flags, words=FEW_POINTS if how else ())
             self.installed(compiler)
             self.watched(compiler)
+            self.stopped(compiler)
             for caller in sorted((HERE / "misuse").glob("*.c")):
                 self.warned(compiler, caller)
 
@@ -136,6 +137,14 @@ class Run:
             command = [compiler, *C, "-g", "-O1", *flags, self.linked[0], HERE / source, *libraries, "-o", program]
             if self.run(f"C, {compiler}, valgrind: {what}: compiled", *command):
                 self.run(f"C, {compiler}, valgrind: {what}", "valgrind", "-q", "--error-exitcode=9", *tool, program, FEW_READS)
+
+    def stopped(self, compiler):
+        """UBSan stops at a null pointer."""
+        program, libraries = self.room / "program", [it for it in self.linked if not it.startswith("-I")]
+        if self.run(f"C, {compiler}: a null pointer: compiled", compiler, *C, *ASAN, self.linked[0], HERE / "null.c", *libraries, "-o", program):
+            done = subprocess.run([program], capture_output=True, text=True, check=False)
+            is_told = done.returncode and "null pointer passed as argument 1" in done.stderr
+            self.say(f"C, {compiler}: UBSan stops at a null pointer", None if is_told else f"status {done.returncode}\n{done.stderr}")
 
     def warned(self, compiler, caller):
         """A caller that a compiler must warn of, and the warning that says so."""
