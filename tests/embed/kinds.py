@@ -4,7 +4,7 @@
     kinds.py FOLDER COMPILER..        FOLDER has kotskhin.h
 
 It writes a caller with a line for each, and compiles it with -Werror=incompatible-pointer-types. A line of one that is refused has an error,
-one that is right has none. handles.c forces each by a cast, and holds the library to what it answers then. Ends with a status other than 0
+one that is right has none, nor has a static handle that begins as KIT_EMPTY. handles.c forces each by a cast, and holds the library to what it answers then. Ends with a status other than 0
 where a compiler lets one pass, or refuses what is right."""
 import pathlib
 import re
@@ -38,7 +38,7 @@ def parameters(call):
 def caller():
     """The lines of the caller, and of each whether it is right."""
     kinds = [declarations.snake(it.name) for it in declarations.KINDS]
-    lines, right = [f"static {it} the_{it};" for it in kinds], []
+    lines, right = [f"static {it} the_{it} = KIT_EMPTY;" for it in kinds], []
     lines = HEAD.splitlines() + lines + ["int32_t calls(void) {", "    int32_t code = 0;"]
     right = [True] * len(lines)
     for call in declarations.CALLS:
@@ -65,7 +65,7 @@ def main():
             file = pathlib.Path(room) / ("caller.cpp" if is_cpp else "caller.c")
             file.write_text("\n".join(lines) + "\n", encoding="utf-8")
             many = "-ferror-limit=0" if "clang" in compiler else "-fmax-errors=0"
-            flags = ["-std=c++17"] if is_cpp else ["-std=c11", "-Werror=incompatible-pointer-types"]
+            flags = ["-std=c++17"] if is_cpp else ["-std=c11", "-pedantic-errors", "-Werror=incompatible-pointer-types"]
             done = subprocess.run([compiler, *flags, many, "-fsyntax-only", f"-I{folder}", str(file)], capture_output=True, text=True, check=False)
         refused = {int(it) for it in re.findall(r"caller\.c(?:pp)?:(\d+):\d+: error:", done.stderr)}
         passed, barred = sorted(set(wrong) - refused), sorted(refused - set(wrong))
