@@ -125,7 +125,7 @@ split-at [] i x e = absurd (cc)
 split-at (y ∷ xs) zero x e = let same : y ≡ x = cc in ap (λ z. z ∷ xs) same
 split-at (y ∷ xs) (suc i) x e = ap (λ l. y ∷ l) (split-at xs i x e)
 
-take-push : {X : Type 0} (xs : List X) (i : ℕ) (x : X) → slice_get xs i ≡ Some x → take (suc i) xs ≡ take i xs ++ x ∷ []
+pub take-push : {X : Type 0} (xs : List X) (i : ℕ) (x : X) → slice_get xs i ≡ Some x → take (suc i) xs ≡ take i xs ++ x ∷ []
 take-push [] i x e = absurd (cc)
 take-push (y ∷ xs) zero x e = let same : y ≡ x = cc in ap (λ z. z ∷ []) same
 take-push (y ∷ xs) (suc i) x e = ap (λ l. y ∷ l) (take-push xs i x e)

@@ -82,14 +82,15 @@ decoding_code decodings.NoMemory = no_memory
 abbrev pub code_of : Fault → ℤ
 code_of faults.NoMemory = no_memory
 code_of faults.Nothing = pos 2
-code_of faults.WrongKind = pos 3
 code_of faults.Full = pos 4
 code_of faults.NotText = pos 5
 code_of faults.BadNumber = pos 6
 code_of faults.NoRow = pos 8
+code_of faults.NoItem = pos 19
 code_of faults.NoPoint = pos 9
 code_of faults.TooWide = pos 40
 code_of faults.NoBucket = pos 41
+code_of faults.WrongShape = pos 42
 code_of faults.Busy = pos 16
 code_of faults.Exhausted = pos 17
 code_of faults.SeatsFull = pos 18

@@ -1,25 +1,26 @@
 //! Asks, their rows, and tables.
-ghost use Rattle.std.specs.Prelude.{◌≡◌, ◌≢◌, ◌∷◌, [], pos, None, Some, OnOk, OnErr, IfErr, IfOk};
+ghost use Rattle.std.specs.Prelude.{◌≡◌, ◌≢◌, ◌∷◌, [], pos, None, Some, OnOk, IfErr, IfOk};
 ghost use Rattle.std.specs.Option.{option_map};
 ghost use Rattle.attr_kit.specs.AllowLists.{listed_keys};
 ghost use Rattle.attr_kit.specs.Refusing.{first};
-ghost use Rattle.kit_c.specs.Asks.{all_of, ask_fault, asked_keeping, asked_of_service, asked_only, asking_fault, gauge_stream, histogram_stream, rows_for, rows_text, stream_fault, sum_stream, table_fault};
+ghost use Rattle.attr_kit.specs.declared.keep.Keep.TheVariants as keeps;
+ghost use Rattle.kit_c.specs.Asks.{all_of, asking_fault, stream_fault, stream_of as asked};
+ghost use Rattle.kit_c.specs.Calls.{code_for, from_two, full_fault, if_any, if_both, in_one, of_one, of_two};
 ghost use Rattle.kit_c.specs.Codes.{code_of, no_memory};
-ghost use Rattle.kit_c.specs.Faults.{full_fault, no_pairs, of_one, of_two, text_fault};
-ghost use Rattle.kit_c.specs.Handles.{in_one, pairs_of};
-ghost use Rattle.kit_c.specs.Keys.{keys_of, no_keys};
-ghost use Rattle.kit_c.specs.declared.content.Content.TheVariants as things;
-ghost use Rattle.plan_kit.specs.Names.{lower};
+ghost use Rattle.kit_c.specs.Faults.{text_fault};
+ghost use Rattle.kit_c.specs.Held.{ask_of, gateway_of, keys_of, pairs_of, rows_of, text_of as text_in};
+ghost use Rattle.point_kit.specs.declared.shape.Shape.TheVariants as shapes;
+ghost use Rattle.rollup_kit.specs.Rollups.{rollup_rows};
+ghost use Rattle.rollup_kit.specs.TableText.{table_text};
 
-use crate::attributes::copy_of_pairs;
 use crate::content::Content;
-use crate::fault::{FULL, Fault, NO_MEMORY, NOTHING, OK};
-use crate::handle::KitHandle;
-use crate::keys::list_of_keys;
-use crate::text::text_of;
-use attr_kit::{AllowList, AttrValue, Keep, Seq, Txt};
+use crate::fault::{FULL, Fault, NO_MEMORY, NOTHING, OK, WRONG_KIND};
+use crate::text::{text, text_of};
+use crate::typed::{KitAsk, KitGateway, KitKeys, KitPairs, KitRows, KitText};
+use crate::with::{copy_of, with, with_two};
+use attr_kit::{AllowList, Keep, Seq, TryCopy};
 use point_kit::{Shape, Stream};
-use rollup_kit::{Ask, Row, rollup, table};
+use rollup_kit::{Ask, rollup, table};
 use std::alloc::Global;
 
 // A plan lowers the names of its streams, so this does.
@@ -31,7 +32,7 @@ fn stream_of(
     shape: Shape,
 ) -> Result<Stream, Fault>
     ensures ok { OnOk result (stream_fault scope.now name.now unit.now ≡ None) }
-    ensures value { IfOk result (λ s. s ≡ record { scope = scope.now; name = lower name.now; unit = unit.now; shape = shape }) }
+    ensures value { IfOk result (λ s. s ≡ asked scope.now name.now unit.now shape) }
     ensures err { IfErr result (λ f. code_of f ≢ no_memory → stream_fault scope.now name.now unit.now ≡ Some f) }
 {
     Ok(Stream {
@@ -42,8 +43,8 @@ fn stream_of(
     })
 }
 
-// An ask of all points of a stream, each set of attributes apart.
-fn all(alloc: Global, stream: Stream) -> Ask
+/// An ask of all points of a stream, each set of attributes apart.
+pub(crate) fn all(alloc: Global, stream: Stream) -> Ask
     ensures { result ≡ all_of stream }
 {
     Ask {
@@ -61,24 +62,21 @@ fn all(alloc: Global, stream: Stream) -> Ask
 #[unsafe(no_mangle)]
 pub extern "C" fn kit_ask_sum(
     alloc: Global,
-    ask: &mut KitHandle,
+    ask: &mut KitAsk,
     scope: &[u8],
     name: &[u8],
     unit: &[u8],
     monotonic: bool,
 ) -> i32
-    ensures ok { result ≡ pos 0 → first (full_fault ask.old.inner.value ∷ stream_fault scope.now name.now unit.now ∷ []) ≡ None }
-    ensures value { result ≡ pos 0
-        → ask.new.inner.value ≡ Some (things.Ask (all_of (sum_stream scope.now name.now unit.now monotonic))) }
-    ensures err { result ≢ pos 0 → result ≢ no_memory → option_map code_of
-        (first (full_fault ask.old.inner.value ∷ stream_fault scope.now name.now unit.now ∷ [])) ≡ Some result }
-    ensures unchanged { result ≢ pos 0 → ask.new.inner.value ≡ ask.old.inner.value }
+    ensures code { result ≢ no_memory → result ≡ code_for (asking_fault (ask_of ask.old) scope.now name.now unit.now) }
+    ensures value { result ≡ pos 0 → ask_of ask.new ≡ Some (all_of (asked scope.now name.now unit.now (shapes.Sum monotonic))) }
+    ensures unchanged { result ≢ pos 0 → ask_of ask.new ≡ ask_of ask.old }
 {
-    if ask.full {
+    if ask.handle.full {
         return FULL;
     }
     match stream_of(alloc, scope, name, unit, Shape::Sum { monotonic }) {
-        Ok(stream) => ask.fill(alloc, Content::Ask(all(alloc, stream))),
+        Ok(stream) => ask.handle.fill(alloc, Content::Ask(all(alloc, stream))),
         Err(fault) => fault.code(),
     }
 }
@@ -89,23 +87,20 @@ pub extern "C" fn kit_ask_sum(
 #[unsafe(no_mangle)]
 pub extern "C" fn kit_ask_gauge(
     alloc: Global,
-    ask: &mut KitHandle,
+    ask: &mut KitAsk,
     scope: &[u8],
     name: &[u8],
     unit: &[u8],
 ) -> i32
-    ensures ok { result ≡ pos 0 → first (full_fault ask.old.inner.value ∷ stream_fault scope.now name.now unit.now ∷ []) ≡ None }
-    ensures value { result ≡ pos 0
-        → ask.new.inner.value ≡ Some (things.Ask (all_of (gauge_stream scope.now name.now unit.now))) }
-    ensures err { result ≢ pos 0 → result ≢ no_memory → option_map code_of
-        (first (full_fault ask.old.inner.value ∷ stream_fault scope.now name.now unit.now ∷ [])) ≡ Some result }
-    ensures unchanged { result ≢ pos 0 → ask.new.inner.value ≡ ask.old.inner.value }
+    ensures code { result ≢ no_memory → result ≡ code_for (asking_fault (ask_of ask.old) scope.now name.now unit.now) }
+    ensures value { result ≡ pos 0 → ask_of ask.new ≡ Some (all_of (asked scope.now name.now unit.now shapes.Gauge)) }
+    ensures unchanged { result ≢ pos 0 → ask_of ask.new ≡ ask_of ask.old }
 {
-    if ask.full {
+    if ask.handle.full {
         return FULL;
     }
     match stream_of(alloc, scope, name, unit, Shape::Gauge) {
-        Ok(stream) => ask.fill(alloc, Content::Ask(all(alloc, stream))),
+        Ok(stream) => ask.handle.fill(alloc, Content::Ask(all(alloc, stream))),
         Err(fault) => fault.code(),
     }
 }
@@ -116,20 +111,18 @@ pub extern "C" fn kit_ask_gauge(
 #[unsafe(no_mangle)]
 pub extern "C" fn kit_ask_histogram(
     alloc: Global,
-    ask: &mut KitHandle,
+    ask: &mut KitAsk,
     scope: &[u8],
     name: &[u8],
     unit: &[u8],
     bounds: &[i64],
 ) -> i32
-    ensures ok { result ≡ pos 0 → first (full_fault ask.old.inner.value ∷ stream_fault scope.now name.now unit.now ∷ []) ≡ None }
+    ensures code { result ≢ no_memory → result ≡ code_for (asking_fault (ask_of ask.old) scope.now name.now unit.now) }
     ensures value { result ≡ pos 0
-        → ask.new.inner.value ≡ Some (things.Ask (all_of (histogram_stream scope.now name.now unit.now bounds.now))) }
-    ensures err { result ≢ pos 0 → result ≢ no_memory → option_map code_of
-        (first (full_fault ask.old.inner.value ∷ stream_fault scope.now name.now unit.now ∷ [])) ≡ Some result }
-    ensures unchanged { result ≢ pos 0 → ask.new.inner.value ≡ ask.old.inner.value }
+        → ask_of ask.new ≡ Some (all_of (asked scope.now name.now unit.now (shapes.Histogram bounds.now))) }
+    ensures unchanged { result ≢ pos 0 → ask_of ask.new ≡ ask_of ask.old }
 {
-    if ask.full {
+    if ask.handle.full {
         return FULL;
     }
     let bounds = match Vec::from_slice(alloc, bounds) {
@@ -137,221 +130,103 @@ pub extern "C" fn kit_ask_histogram(
         Err(_) => return NO_MEMORY,
     };
     match stream_of(alloc, scope, name, unit, Shape::Histogram { bounds }) {
-        Ok(stream) => ask.fill(alloc, Content::Ask(all(alloc, stream))),
+        Ok(stream) => ask.handle.fill(alloc, Content::Ask(all(alloc, stream))),
         Err(fault) => fault.code(),
     }
-}
-
-fn answer_ask(alloc: Global, gateway: &Content, ask: &Content) -> Result<Seq<Row>, Fault>
-    ensures ok { OnOk result (asking_fault gateway.now ask.now ≡ None) }
-    ensures value { IfOk result (λ rows. rows ≡ rows_for gateway.now ask.now) }
-    ensures err { IfErr result (λ f. code_of f ≢ no_memory → asking_fault gateway.now ask.now ≡ Some f) }
-{
-    let Content::Gateway(gateway) = gateway else {
-        return Err(Fault::WrongKind);
-    };
-    let Content::Ask(ask) = ask else {
-        return Err(Fault::WrongKind);
-    };
-    Ok(rollup(alloc, gateway, ask)?)
-}
-
-/// The rows that a gateway answers an ask with. Both stay.
-///
-/// Refused, in this order: `FULL`; `NOTHING` of the gateway, then of the ask; `WRONG_KIND`; `NO_MEMORY`. Of n points and r rows
-/// O(n log r) comparisons of sets.
-#[unsafe(no_mangle)]
-pub extern "C" fn kit_gateway_rows(
-    alloc: Global,
-    gateway: &mut KitHandle,
-    ask: &mut KitHandle,
-    rows: &mut KitHandle,
-) -> i32
-    ensures ok { result ≡ pos 0 → first
-        (full_fault rows.old.inner.value ∷ of_two gateway.old.inner.value ask.old.inner.value asking_fault ∷ []) ≡ None }
-    ensures value { result ≡ pos 0 → (g a : _) → gateway.old.inner.value ≡ Some g → ask.old.inner.value ≡ Some a
-        → rows.new.inner.value ≡ Some (things.Rows (rows_for g a)) }
-    ensures err { result ≢ pos 0 → result ≢ no_memory → option_map code_of (first
-        (full_fault rows.old.inner.value ∷ of_two gateway.old.inner.value ask.old.inner.value asking_fault ∷ [])) ≡ Some result }
-    ensures unchanged { result ≢ pos 0 → rows.new.inner.value ≡ rows.old.inner.value }
-    ensures gateway { gateway.new.inner.value ≡ gateway.old.inner.value }
-    ensures ask { ask.new.inner.value ≡ ask.old.inner.value }
-{
-    if rows.full {
-        return FULL;
-    }
-    let Some(content) = gateway.take(alloc) else {
-        return NOTHING;
-    };
-    let Some(asked) = ask.take(alloc) else {
-        gateway.put(content);
-        return NOTHING;
-    };
-    let outcome = answer_ask(alloc, &content, &asked);
-    gateway.put(content);
-    ask.put(asked);
-    match outcome {
-        Ok(answer) => rows.fill(alloc, Content::Rows(answer)),
-        Err(fault) => fault.code(),
-    }
-}
-
-fn table_text(alloc: Global, rows: &Content) -> Result<Txt, Fault>
-    ensures ok { OnOk result (table_fault rows.now ≡ None) }
-    ensures value { IfOk result (λ text. text ≡ rows_text rows.now) }
-    ensures err { IfErr result (λ f. code_of f ≢ no_memory → table_fault rows.now ≡ Some f) }
-{
-    let Content::Rows(rows) = rows else {
-        return Err(Fault::WrongKind);
-    };
-    Ok(table(alloc, rows.as_slice())?)
-}
-
-/// The table of rows, as a text. The rows stay.
-///
-/// Refused, in this order: `FULL`; `NOTHING`; `WRONG_KIND`; `NO_MEMORY`.
-#[unsafe(no_mangle)]
-pub extern "C" fn kit_rows_table(alloc: Global, rows: &mut KitHandle, text: &mut KitHandle) -> i32
-    ensures ok { result ≡ pos 0
-        → first (full_fault text.old.inner.value ∷ of_one rows.old.inner.value table_fault ∷ []) ≡ None }
-    ensures value { result ≡ pos 0 → (r : _) → rows.old.inner.value ≡ Some r
-        → text.new.inner.value ≡ Some (things.Text (rows_text r)) }
-    ensures err { result ≢ pos 0 → result ≢ no_memory
-        → option_map code_of (first (full_fault text.old.inner.value ∷ of_one rows.old.inner.value table_fault ∷ [])) ≡ Some result }
-    ensures unchanged { result ≢ pos 0 → text.new.inner.value ≡ text.old.inner.value }
-    ensures kept { rows.new.inner.value ≡ rows.old.inner.value }
-{
-    if text.full {
-        return FULL;
-    }
-    let Some(content) = rows.take(alloc) else {
-        return NOTHING;
-    };
-    let outcome = table_text(alloc, &content);
-    rows.put(content);
-    match outcome {
-        Ok(table) => text.fill(alloc, Content::Text(table)),
-        Err(fault) => fault.code(),
-    }
-}
-
-fn set_service(content: &mut Content, service: Txt) -> Result<(), Fault>
-    ensures ok { OnOk result (ask_fault content.old ≡ None) }
-    ensures value { OnOk result (content.new ≡ asked_of_service service content.old) }
-    ensures err { IfErr result (λ f. ask_fault content.old ≡ Some f) }
-    ensures unchanged { OnErr result (content.new ≡ content.old) }
-{
-    let Content::Ask(ask) = content else {
-        return Err(Fault::WrongKind);
-    };
-    ask.service = Some(service);
-    Ok(())
 }
 
 /// From now on an ask is of the points of one service's writers.
 ///
-/// Refused, in this order: `NOT_TEXT`; `NOTHING`; `WRONG_KIND`; `NO_MEMORY`.
+/// Refused, in this order: `NOT_TEXT`; `NOTHING`; `NO_MEMORY`.
 #[unsafe(no_mangle)]
-pub extern "C" fn kit_ask_service(alloc: Global, ask: &mut KitHandle, service: &[u8]) -> i32
-    ensures ok { result ≡ pos 0 → first (text_fault service.now ∷ of_one ask.old.inner.value ask_fault ∷ []) ≡ None }
-    ensures value { result ≡ pos 0 → ask.new.inner.value ≡ in_one (asked_of_service service.now) ask.old.inner.value }
-    ensures err { result ≢ pos 0 → result ≢ no_memory
-        → option_map code_of (first (text_fault service.now ∷ of_one ask.old.inner.value ask_fault ∷ [])) ≡ Some result }
-    ensures unchanged { result ≢ pos 0 → ask.new.inner.value ≡ ask.old.inner.value }
+pub extern "C" fn kit_ask_service(alloc: Global, ask: &mut KitAsk, service: &[u8]) -> i32
+    ensures code { result ≢ no_memory → result ≡ code_for (first (text_fault service.now ∷ of_one (ask_of ask.old) if_any ∷ [])) }
+    ensures value { result ≡ pos 0 → ask_of ask.new ≡ in_one (λ a. record a { service = Some service.now }) (ask_of ask.old) }
+    ensures unchanged { result ≢ pos 0 → ask_of ask.new ≡ ask_of ask.old }
 {
-    let service = match text_of(alloc, service) {
-        Ok(service) => service,
-        Err(fault) => return fault.code(),
-    };
-    let Some(mut content) = ask.take(alloc) else {
-        return NOTHING;
-    };
-    let outcome = set_service(&mut content, service);
-    ask.put(content);
-    match outcome {
-        Ok(()) => OK,
-        Err(fault) => fault.code(),
-    }
-}
-
-fn set_pairs(content: &mut Content, pairs: Seq<(Txt, AttrValue)>) -> Result<(), Fault>
-    ensures ok { OnOk result (ask_fault content.old ≡ None) }
-    ensures value { OnOk result (content.new ≡ asked_only pairs content.old) }
-    ensures err { IfErr result (λ f. ask_fault content.old ≡ Some f) }
-    ensures unchanged { OnErr result (content.new ≡ content.old) }
-{
-    let Content::Ask(ask) = content else {
-        return Err(Fault::WrongKind);
-    };
-    ask.only = pairs;
-    Ok(())
+    let service = text!(alloc, service);
+    with!(alloc, ask => Ask(held), held.service = Some(service));
+    OK
 }
 
 /// From now on an ask is of the points whose attributes have each of these pairs, which stay.
 ///
-/// Refused, in this order: `WRONG_KIND` of the pairs; `NOTHING` and `WRONG_KIND` of the ask; `NO_MEMORY`.
+/// Refused, in this order: `NOTHING` of the ask; `NO_MEMORY`.
 #[unsafe(no_mangle)]
-pub extern "C" fn kit_ask_only(alloc: Global, ask: &mut KitHandle, pairs: &mut KitHandle) -> i32
-    ensures ok { result ≡ pos 0 → first (no_pairs pairs.old.inner.value ∷ of_one ask.old.inner.value ask_fault ∷ []) ≡ None }
-    ensures value { result ≡ pos 0
-        → ask.new.inner.value ≡ in_one (asked_only (pairs_of pairs.old.inner.value)) ask.old.inner.value }
-    ensures err { result ≢ pos 0 → result ≢ no_memory → option_map code_of
-        (first (no_pairs pairs.old.inner.value ∷ of_one ask.old.inner.value ask_fault ∷ [])) ≡ Some result }
-    ensures unchanged { result ≢ pos 0 → ask.new.inner.value ≡ ask.old.inner.value }
-    ensures kept { pairs.new.inner.value ≡ pairs.old.inner.value }
+pub extern "C" fn kit_ask_only(alloc: Global, ask: &mut KitAsk, pairs: &mut KitPairs) -> i32
+    ensures code { result ≢ no_memory → result ≡ code_for (of_one (ask_of ask.old) if_any) }
+    ensures value { result ≡ pos 0 → ask_of ask.new ≡ in_one (λ a. record a { only = pairs_of pairs.old }) (ask_of ask.old) }
+    ensures unchanged { result ≢ pos 0 → ask_of ask.new ≡ ask_of ask.old }
+    ensures kept { pairs_of pairs.new ≡ pairs_of pairs.old }
 {
-    let copy = match copy_of_pairs(alloc, pairs) {
-        Ok(copy) => copy,
-        Err(fault) => return fault.code(),
-    };
-    let Some(mut content) = ask.take(alloc) else {
-        return NOTHING;
-    };
-    let outcome = set_pairs(&mut content, copy);
-    ask.put(content);
-    match outcome {
-        Ok(()) => OK,
-        Err(fault) => fault.code(),
-    }
-}
-
-fn set_keys(content: &mut Content, list: AllowList) -> Result<(), Fault>
-    ensures ok { OnOk result (ask_fault content.old ≡ None) }
-    ensures value { OnOk result (content.new ≡ asked_keeping list content.old) }
-    ensures err { IfErr result (λ f. ask_fault content.old ≡ Some f) }
-    ensures unchanged { OnErr result (content.new ≡ content.old) }
-{
-    let Content::Ask(ask) = content else {
-        return Err(Fault::WrongKind);
-    };
-    ask.keep = Keep::Only(list);
-    Ok(())
+    let copy = copy_of!(alloc, pairs => Pairs);
+    with!(alloc, ask => Ask(held), held.only = copy);
+    OK
 }
 
 /// From now on an ask's rows are told apart by these keys alone, which stay; by none where their handle has nothing.
 ///
-/// Refused, in this order: `WRONG_KIND` of the keys; `NOTHING` and `WRONG_KIND` of the ask; `NO_MEMORY`.
+/// Refused, in this order: `NOTHING` of the ask; `NO_MEMORY`.
 #[unsafe(no_mangle)]
-pub extern "C" fn kit_ask_keep(alloc: Global, ask: &mut KitHandle, keys: &mut KitHandle) -> i32
-    ensures ok { result ≡ pos 0 → first (no_keys keys.old.inner.value ∷ of_one ask.old.inner.value ask_fault ∷ []) ≡ None }
-    ensures value { result ≡ pos 0
-        → ask.new.inner.value ≡ in_one (asked_keeping (listed_keys (keys_of keys.old.inner.value))) ask.old.inner.value }
-    ensures err { result ≢ pos 0 → result ≢ no_memory → option_map code_of
-        (first (no_keys keys.old.inner.value ∷ of_one ask.old.inner.value ask_fault ∷ [])) ≡ Some result }
-    ensures unchanged { result ≢ pos 0 → ask.new.inner.value ≡ ask.old.inner.value }
-    ensures kept { keys.new.inner.value ≡ keys.old.inner.value }
+pub extern "C" fn kit_ask_keep(alloc: Global, ask: &mut KitAsk, keys: &mut KitKeys) -> i32
+    ensures code { result ≢ no_memory → result ≡ code_for (of_one (ask_of ask.old) if_any) }
+    ensures value { result ≡ pos 0 → ask_of ask.new
+        ≡ in_one (λ a. record a { keep = keeps.Only (listed_keys (keys_of keys.old)) }) (ask_of ask.old) }
+    ensures unchanged { result ≢ pos 0 → ask_of ask.new ≡ ask_of ask.old }
+    ensures kept { keys_of keys.new ≡ keys_of keys.old }
 {
-    let list = match list_of_keys(alloc, keys) {
-        Ok(list) => list,
-        Err(fault) => return fault.code(),
+    let copy = copy_of!(alloc, keys => Keys);
+    let Ok(list) = AllowList::from_keys(copy.into_vec()) else {
+        return NO_MEMORY;
     };
-    let Some(mut content) = ask.take(alloc) else {
-        return NOTHING;
-    };
-    let outcome = set_keys(&mut content, list);
-    ask.put(content);
-    match outcome {
-        Ok(()) => OK,
-        Err(fault) => fault.code(),
+    with!(alloc, ask => Ask(held), held.keep = Keep::Only(list));
+    OK
+}
+
+/// The rows that a gateway answers an ask with. Both stay.
+///
+/// Refused, in this order: `FULL`; `NOTHING` of the gateway, then of the ask; `NO_MEMORY`. Of n points and r rows
+/// O(n log r) comparisons of sets.
+#[unsafe(no_mangle)]
+pub extern "C" fn kit_gateway_rows(
+    alloc: Global,
+    gateway: &mut KitGateway,
+    ask: &mut KitAsk,
+    rows: &mut KitRows,
+) -> i32
+    ensures code { result ≢ no_memory → result ≡ code_for
+        (first (full_fault (rows_of rows.old) ∷ of_two (gateway_of gateway.old) (ask_of ask.old) if_both ∷ [])) }
+    ensures value { result ≡ pos 0
+        → rows_of rows.new ≡ from_two (λ g a. rollup_rows a g.points) (gateway_of gateway.old) (ask_of ask.old) }
+    ensures unchanged { result ≢ pos 0 → rows_of rows.new ≡ rows_of rows.old }
+    ensures gateway { gateway_of gateway.new ≡ gateway_of gateway.old }
+    ensures ask { ask_of ask.new ≡ ask_of ask.old }
+{
+    if rows.handle.full {
+        return FULL;
+    }
+    match with_two!(alloc, gateway => Gateway(held), ask => Ask(asked), rollup(alloc, held, asked)) {
+        Ok(answer) => rows.handle.fill(alloc, Content::Rows(answer)),
+        Err(_) => NO_MEMORY,
+    }
+}
+
+/// The table of rows, as a text. The rows stay.
+///
+/// Refused, in this order: `FULL`; `NOTHING`; `NO_MEMORY`.
+#[unsafe(no_mangle)]
+pub extern "C" fn kit_rows_table(alloc: Global, rows: &mut KitRows, text: &mut KitText) -> i32
+    ensures code { result ≢ no_memory
+        → result ≡ code_for (first (full_fault (text_in text.old) ∷ of_one (rows_of rows.old) if_any ∷ [])) }
+    ensures value { result ≡ pos 0 → text_in text.new ≡ option_map (λ rs. table_text rs) (rows_of rows.old) }
+    ensures unchanged { result ≢ pos 0 → text_in text.new ≡ text_in text.old }
+    ensures kept { rows_of rows.new ≡ rows_of rows.old }
+{
+    if text.handle.full {
+        return FULL;
+    }
+    match with!(alloc, rows => Rows(held), table(alloc, held.as_slice())) {
+        Ok(made) => text.handle.fill(alloc, Content::Text(made)),
+        Err(_) => NO_MEMORY,
     }
 }

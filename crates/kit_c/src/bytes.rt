@@ -1,122 +1,77 @@
 //! Exports as bytes, for other processes.
 ghost use Rattle.std.specs.Option.{option_map, unwrap_or};
-ghost use Rattle.std.specs.Prelude.{◌≡◌, ◌≢◌, ◌++◌, ◌∷◌, [], pos, length, take, drop, None, Some, OnOk, OnErr, IfErr, IfOk};
+ghost use Rattle.std.specs.Prelude.{◌≡◌, ◌≢◌, ◌∷◌, [], pos, length, true, None, Some, IfSome, IfErr, IfOk};
 ghost use Rattle.attr_kit.specs.Refusing.{first};
 ghost use Rattle.bytes_kit.specs.Fits.{IsExport};
 ghost use Rattle.bytes_kit.specs.Format.{bytes_of};
-ghost use Rattle.kit_c.specs.Bytes.{HasForm, IsDecodeFault, IsReadFrom, bytes_fault, bytes_in, export_bytes, export_fault};
+ghost use Rattle.kit_c.specs.Bytes.{HasExportForm, IsDecodeFault, IsReadFrom};
+ghost use Rattle.kit_c.specs.Calls.{code_for, filled, full_fault, if_any, of_one};
 ghost use Rattle.kit_c.specs.Codes.{code_of, no_memory};
-ghost use Rattle.kit_c.specs.Faults.{full_fault, of_one};
+ghost use Rattle.kit_c.specs.Held.{bytes_of as bytes_in, export_of};
 ghost use Rattle.kit_c.specs.Places.{place_of};
+ghost use Rattle.kit_c.specs.Typed.{export_in, is_export};
 ghost use Rattle.kit_c.specs.declared.fault.Fault.{Fault};
-ghost use Rattle.kit_c.specs.declared.content.Content.TheVariants as things;
 ghost use Rattle.point_kit.specs.declared.export.Export.{Export};
 
 use crate::content::Content;
-use crate::fault::{FULL, Fault, NOTHING, OK, code_with_place};
-use crate::handle::KitHandle;
+use crate::fault::{FULL, Fault, NO_MEMORY, NOTHING, OK, WRONG_KIND, code_with_place};
+use crate::text::copy_front;
+use crate::typed::{KitBytes, KitExport};
+use crate::with::with;
 use attr_kit::Seq;
 use bytes_kit::{decode_export, encode_export};
 use std::alloc::Global;
 
-fn encode(alloc: Global, content: &Content) -> Result<Seq<u8>, Fault>
-    ensures ok { OnOk result (export_fault content.now ≡ None) }
-    ensures value { IfOk result (λ b. b ≡ export_bytes content.now) }
-    ensures form { OnOk result (HasForm (Some content.now)) }
-    ensures err { IfErr result (λ f. code_of f ≢ no_memory → export_fault content.now ≡ Some f) }
-{
-    let Content::Export(export) = content else {
-        return Err(Fault::WrongKind);
-    };
-    Ok(Seq::from_vec(encode_export(alloc, export)?))
-}
-
 /// The bytes of an export, which stays: they may go to another process. Each export has one form.
 ///
-/// Refused, in this order: `FULL`; `NOTHING`; `WRONG_KIND`; `NO_MEMORY`.
+/// Refused, in this order: `FULL`; `NOTHING`; `NO_MEMORY`.
 #[unsafe(no_mangle)]
 pub extern "C" fn kit_export_encode(
     alloc: Global,
-    export: &mut KitHandle,
-    bytes: &mut KitHandle,
+    export: &mut KitExport,
+    bytes: &mut KitBytes,
 ) -> i32
-    ensures ok { result ≡ pos 0
-        → first (full_fault bytes.old.inner.value ∷ of_one export.old.inner.value export_fault ∷ []) ≡ None }
-    ensures value { result ≡ pos 0 → (e : _) → export.old.inner.value ≡ Some e
-        → bytes.new.inner.value ≡ Some (things.Bytes (export_bytes e)) }
-    ensures form { result ≡ pos 0 → HasForm export.old.inner.value }
-    ensures err { result ≢ pos 0 → result ≢ no_memory → option_map code_of
-        (first (full_fault bytes.old.inner.value ∷ of_one export.old.inner.value export_fault ∷ [])) ≡ Some result }
-    ensures unchanged { result ≢ pos 0 → bytes.new.inner.value ≡ bytes.old.inner.value }
-    ensures kept { export.new.inner.value ≡ export.old.inner.value }
+    ensures code { result ≢ no_memory
+        → result ≡ code_for (first (full_fault (bytes_in bytes.old) ∷ of_one (export_of export.old) if_any ∷ [])) }
+    ensures value { result ≡ pos 0 → bytes_in bytes.new ≡ option_map (λ e. bytes_of e) (export_of export.old) }
+    ensures form { result ≡ pos 0 → HasExportForm (export_of export.old) }
+    ensures unchanged { result ≢ pos 0 → bytes_in bytes.new ≡ bytes_in bytes.old }
+    ensures kept { export_of export.new ≡ export_of export.old }
 {
-    if bytes.full {
+    if bytes.handle.full {
         return FULL;
     }
-    let Some(content) = export.take(alloc) else {
-        return NOTHING;
-    };
-    let made = encode(alloc, &content);
-    export.put(content);
-    match made {
-        Ok(made) => bytes.fill(alloc, Content::Bytes(made)),
-        Err(fault) => fault.code(),
+    match with!(alloc, export => Export(held), encode_export(alloc, held)) {
+        Ok(made) => bytes
+            .handle
+            .fill(alloc, Content::Bytes(Seq::from_vec(made))),
+        Err(_) => NO_MEMORY,
     }
-}
-
-// Copies the front of bytes that has room, and answers how many there are.
-fn copy_front(content: &Content, into: &mut [u8]) -> Result<usize, Fault>
-    ensures ok { OnOk result (bytes_fault content.now ≡ None) }
-    ensures value { OnOk result (into.new
-        ≡ take (length into.old) (bytes_in content.now) ++ drop (length (bytes_in content.now)) into.old) }
-    ensures len { IfOk result (λ n. n ≡ length (bytes_in content.now)) }
-    ensures err { IfErr result (λ f. bytes_fault content.now ≡ Some f) }
-    ensures unchanged { OnErr result (into.new ≡ into.old) }
-{
-    let Content::Bytes(bytes) = content else {
-        return Err(Fault::WrongKind);
-    };
-    let bytes = bytes.as_slice();
-    let n = bytes.len().min(into.len());
-    into[..n].copy_from_slice(&bytes[..n]);
-    Ok(bytes.len())
 }
 
 /// Copies the front of bytes that has room, and tells in `len` how many there are. They stay.
 ///
-/// Refused, in this order: `NOTHING`; `WRONG_KIND`. Takes no memory.
+/// Refused: `NOTHING`. Takes no memory.
 #[unsafe(no_mangle)]
 pub extern "C" fn kit_bytes_copy(
     alloc: Global,
-    bytes: &mut KitHandle,
+    bytes: &mut KitBytes,
     into: &mut [u8],
     len: &mut usize,
 ) -> i32
-    ensures ok { result ≡ pos 0 → of_one bytes.old.inner.value bytes_fault ≡ None }
-    ensures value { result ≡ pos 0 → (b : _) → bytes.old.inner.value ≡ Some b
-        → into.new ≡ take (length into.old) (bytes_in b) ++ drop (length (bytes_in b)) into.old }
-    ensures len { result ≡ pos 0 → (b : _) → bytes.old.inner.value ≡ Some b → len.new ≡ length (bytes_in b) }
-    ensures err { result ≢ pos 0 → option_map code_of (of_one bytes.old.inner.value bytes_fault) ≡ Some result }
-    ensures unchanged { result ≢ pos 0 → into.new ≡ into.old }
-    ensures told { result ≢ pos 0 → len.new ≡ len.old }
-    ensures kept { bytes.new.inner.value ≡ bytes.old.inner.value }
+    ensures code { result ≡ code_for (of_one (bytes_in bytes.old) if_any) }
+    ensures value { result ≡ pos 0 → IfSome (bytes_in bytes.old) (λ b. into.new ≡ filled b into.old) }
+    ensures len { result ≡ pos 0 → IfSome (bytes_in bytes.old) (λ b. len.new ≡ length b) }
+    ensures told { result ≢ pos 0 → (into.new ≡ into.old) × (len.new ≡ len.old) }
+    ensures kept { bytes_in bytes.new ≡ bytes_in bytes.old }
 {
-    let Some(content) = bytes.take(alloc) else {
-        return NOTHING;
-    };
-    let outcome = copy_front(&content, into);
-    bytes.put(content);
-    match outcome {
-        Ok(whole) => {
-            *len = whole;
-            OK
-        }
-        Err(fault) => fault.code(),
-    }
+    *len = with!(alloc, bytes => Bytes(held), copy_front(held.as_slice(), into));
+    OK
 }
 
 fn decode(alloc: Global, bytes: &[u8]) -> Result<Box<Content>, Fault>
-    ensures value { IfOk result (λ made. IsReadFrom bytes.now (Some made.value)) }
+    ensures kind { IfOk result (λ made. is_export (Some made.value) ≡ true) }
+    ensures value { IfOk result (λ made. IsReadFrom bytes.now (export_in (Some made.value))) }
     ensures err { IfErr result (λ f. code_of f ≢ no_memory → IsDecodeFault bytes.now f) }
     ensures found { (e : Export) → IsExport e → bytes.now ≡ bytes_of e → IfErr result (λ f. code_of f ≡ no_memory) }
 {
@@ -134,27 +89,27 @@ fn decode(alloc: Global, bytes: &[u8]) -> Result<Box<Content>, Fault>
 #[unsafe(no_mangle)]
 pub extern "C" fn kit_export_decode(
     alloc: Global,
-    export: &mut KitHandle,
+    export: &mut KitExport,
     bytes: &[u8],
     place: &mut u64,
 ) -> i32
-    ensures ok { result ≡ pos 0 → full_fault export.old.inner.value ≡ None }
-    ensures value { result ≡ pos 0 → IsReadFrom bytes.now export.new.inner.value }
+    ensures ok { result ≡ pos 0 → full_fault (export_of export.old) ≡ None }
+    ensures value { result ≡ pos 0 → IsReadFrom bytes.now (export_of export.new) }
     ensures told { result ≡ pos 0 → place.new ≡ place.old }
-    ensures full { export.old.inner.value ≢ None → (result ≡ pos 4) × (place.new ≡ place.old) }
-    ensures err { result ≢ pos 0 → result ≢ no_memory → export.old.inner.value ≡ None
+    ensures full { export_of export.old ≢ None → (result ≡ pos 4) × (place.new ≡ place.old) }
+    ensures err { result ≢ pos 0 → result ≢ no_memory → export_of export.old ≡ None
         → (f : Fault) × (result ≡ code_of f) × (place.new ≡ unwrap_or (place_of f) place.old) × IsDecodeFault bytes.now f }
-    ensures found { (e : Export) → IsExport e → bytes.now ≡ bytes_of e → export.old.inner.value ≡ None → result ≢ pos 0
+    ensures found { (e : Export) → IsExport e → bytes.now ≡ bytes_of e → export_of export.old ≡ None → result ≢ pos 0
         → result ≡ no_memory }
     ensures no_memory { result ≡ no_memory → place.new ≡ place.old }
-    ensures unchanged { result ≢ pos 0 → export.new.inner.value ≡ export.old.inner.value }
+    ensures unchanged { result ≢ pos 0 → export_of export.new ≡ export_of export.old }
 {
-    if export.full {
+    if export.handle.full {
         return FULL;
     }
     match decode(alloc, bytes) {
         Ok(made) => {
-            export.put(made);
+            export.handle.put(made);
             OK
         }
         Err(fault) => code_with_place(fault, place),

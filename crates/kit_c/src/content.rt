@@ -5,7 +5,7 @@ use attr_kit::{AttrSet, AttrValue, Seq, Txt};
 use gateway_kit::Gateway;
 use gossip_kit::{Message, Node};
 use plan_kit::{Instrument, Plan, View};
-use point_kit::Export;
+use point_kit::{Export, Stream};
 use recorder_kit::Recorder;
 use rollup_kit::{Ask, Row};
 
@@ -35,6 +35,7 @@ pub enum Content {
     Desk(Desk),
     Ask(Ask),
     Rows(Seq<Row>),
+    Streams(Seq<Stream>),
     Text(Txt),
     /// An export or a message as bytes.
     Bytes(Seq<u8>),

@@ -22,8 +22,14 @@ pub(crate) const NO_MEMORY: i32 = 1;
 /// A handle that is read has nothing.
 pub(crate) const NOTHING: i32 = 2;
 
+/// A handle has something else: none that the library left does.
+pub(crate) const WRONG_KIND: i32 = 3;
+
 /// The handle that is to be filled has something.
 pub(crate) const FULL: i32 = 4;
+
+/// There is no point of what is asked for.
+pub(crate) const NO_POINT: i32 = 9;
 
 /// Why a call is refused.
 #[derive(Drop)]
@@ -32,8 +38,6 @@ pub enum Fault {
     NoMemory,
     /// A handle that is read has nothing.
     Nothing,
-    /// A handle has something else than is asked for.
-    WrongKind,
     /// The handle that is to be filled has something.
     Full,
     /// A text is not UTF-8.
@@ -42,12 +46,16 @@ pub enum Fault {
     BadNumber,
     /// There is no row of this number.
     NoRow,
+    /// There is no item of this number.
+    NoItem,
     /// There is no point of what is asked for.
     NoPoint,
     /// A total is wider than the number that it is to be told in.
     TooWide,
     /// There is no bucket of this number.
     NoBucket,
+    /// A row's total is of another shape.
+    WrongShape,
     /// The writer that threads share is in another call.
     Busy,
     /// As many changes were accepted as a writer that threads share may.
@@ -221,14 +229,15 @@ impl Fault {
         match self {
             Fault::NoMemory => 1,
             Fault::Nothing => 2,
-            Fault::WrongKind => 3,
             Fault::Full => 4,
             Fault::NotText => 5,
             Fault::BadNumber => 6,
             Fault::NoRow => 8,
+            Fault::NoItem => 19,
             Fault::NoPoint => 9,
             Fault::TooWide => 40,
             Fault::NoBucket => 41,
+            Fault::WrongShape => 42,
             Fault::Busy => 16,
             Fault::Exhausted => 17,
             Fault::SeatsFull => 18,

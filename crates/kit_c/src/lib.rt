@@ -3,10 +3,12 @@
 //! Nothing of it is called from Rattle: each export is a C function whose name begins with `kit_`, declared in
 //! `embed/c/kotskhin.h`. In the order of use:
 //!
-//! - A `Handle` has one thing of the kit, or nothing. Who calls owns its 16 bytes, and `kit_free` gives up what it has.
+//! - A handle has one thing of the kit, or nothing. There is a type of handle for each kind of thing. Who calls owns its 16 bytes, and
+//!   `kit_free` gives up what it has.
 //! - `kit_instruments_add`, `kit_views_add` and `kit_plan_build` make a plan, `kit_writer_start` a writer, `kit_attributes_make` a set.
 //! - `kit_writer_measure` records, `kit_writer_collect` makes an export, and `kit_gateway_take` takes it in.
-//! - `kit_ask_sum`, `kit_gateway_rows` and `kit_rows_table` make a text of what a gateway holds.
+//! - `kit_ask_sum`, `kit_gateway_rows` and `kit_rows_table` make a text of what a gateway holds; `kit_rows_sum` and its like tell it as
+//!   numbers, and `kit_rows_attributes` of which labels.
 //! - `kit_recorder_measure` and its like are of a thread's own log, which `kit_writer_take_in` takes in; `kit_seat_measure` and its like
 //!   of a writer that threads share, `kit_node_send` and its like of gateways that gossip, `kit_export_encode` and its like of bytes.
 //!
@@ -21,14 +23,20 @@
 //!
 //! A call answers 0, or the code of the first refusal that fits; then each handle is as it was. Which refusal of the kit a code stands for
 //! is a definition (specs `Codes`), which each export's contract cites. `NO_MEMORY` stands last in each list of refusals; it may come
-//! earlier, wherever memory is refused, but where a clause `short` says that nothing else fits then.
+//! earlier, wherever memory is refused, but where a clause `short` says that nothing else fits then. A handle of another kind, which C can
+//! force by a cast, is told by `WRONG_KIND` where one that has nothing would be by `NOTHING`.
+//!
+//! A call that only reads a handle leaves it as it was, yet takes out what it has for the length of the call: so no two threads may be in
+//! calls with one handle at once.
 #![tactic(auto)]
 
 mod ask;
 mod attributes;
 mod bytes;
+mod code_text;
 mod content;
 mod desk;
+mod exports;
 mod fault;
 mod gateway;
 mod handle;
@@ -45,7 +53,13 @@ mod pairs;
 mod recorders;
 mod rows;
 mod seats;
+mod sets;
+mod streams;
 mod taken;
 mod text;
+mod typed;
+mod version;
 mod views;
+mod wide;
+mod with;
 mod writer;

@@ -1,72 +1,59 @@
-//! Messages as bytes, for other processes.
+//! Messages as bytes, for other processes, and gateways as messages of all that they hold.
 ghost use Rattle.std.specs.Option.{option_map, unwrap_or};
-ghost use Rattle.std.specs.Prelude.{◌≡◌, ◌≢◌, ◌∷◌, [], pos, None, Some, OnOk, OnErr, IfErr, IfOk};
+ghost use Rattle.std.specs.Prelude.{◌≡◌, ◌≢◌, ◌∷◌, [], pos, true, None, Some, IfErr, IfOk};
 ghost use Rattle.attr_kit.specs.Refusing.{first};
 ghost use Rattle.bytes_kit.specs.MessageFits.{IsMessage, IsSoundPoints};
 ghost use Rattle.bytes_kit.specs.Messages.{bytes_of_message};
 ghost use Rattle.gossip_kit.specs.Views.{MessageModel};
-ghost use Rattle.kit_c.specs.Bytes.{HasForm, IsMessageFault, IsMessageOf, export_bytes_message};
+ghost use Rattle.kit_c.specs.Bytes.{HasMessageForm, IsMessageFault, IsMessageOf};
+ghost use Rattle.kit_c.specs.Calls.{code_for, full_fault, if_any, of_one};
 ghost use Rattle.kit_c.specs.Codes.{code_of, no_memory};
-ghost use Rattle.kit_c.specs.Faults.{full_fault, of_one};
-ghost use Rattle.kit_c.specs.Nodes.{message_fault};
+ghost use Rattle.kit_c.specs.Held.{bytes_of, gateway_of, message_of};
+ghost use Rattle.kit_c.specs.Nodes.{carried_by, whole_of};
 ghost use Rattle.kit_c.specs.Places.{place_of};
+ghost use Rattle.kit_c.specs.Typed.{is_message, message_in};
 ghost use Rattle.kit_c.specs.declared.fault.Fault.{Fault};
-ghost use Rattle.kit_c.specs.declared.content.Content.TheVariants as things;
 
 use crate::content::Content;
-use crate::fault::{FULL, Fault, NOTHING, OK, code_with_place};
-use crate::handle::KitHandle;
-use attr_kit::Seq;
+use crate::fault::{FULL, Fault, NO_MEMORY, NOTHING, OK, WRONG_KIND, code_with_place};
+use crate::typed::{KitBytes, KitGateway, KitMessage};
+use crate::with::with;
+use attr_kit::{NoMemory, Seq};
 use bytes_kit::{decode_message, encode_message};
+use gateway_kit::Gateway;
+use gossip_kit::{Body, Message};
 use std::alloc::Global;
-
-fn encode(alloc: Global, content: &Content) -> Result<Seq<u8>, Fault>
-    ensures ok { OnOk result (message_fault content.now ≡ None) }
-    ensures value { IfOk result (λ b. b ≡ export_bytes_message content.now) }
-    ensures form { OnOk result (HasForm (Some content.now)) }
-    ensures err { IfErr result (λ f. code_of f ≢ no_memory → message_fault content.now ≡ Some f) }
-{
-    let Content::Message(message) = content else {
-        return Err(Fault::WrongKind);
-    };
-    Ok(Seq::from_vec(encode_message(alloc, message)?))
-}
 
 /// The bytes of a message, which stays: they may go to a node in another process. Each message has one form.
 ///
-/// Refused, in this order: `FULL`; `NOTHING`; `WRONG_KIND`; `NO_MEMORY`. O(n) in the bytes.
+/// Refused, in this order: `FULL`; `NOTHING`; `NO_MEMORY`. O(n) in the bytes.
 #[unsafe(no_mangle)]
 pub extern "C" fn kit_message_encode(
     alloc: Global,
-    message: &mut KitHandle,
-    bytes: &mut KitHandle,
+    message: &mut KitMessage,
+    bytes: &mut KitBytes,
 ) -> i32
-    ensures ok { result ≡ pos 0
-        → first (full_fault bytes.old.inner.value ∷ of_one message.old.inner.value message_fault ∷ []) ≡ None }
-    ensures value { result ≡ pos 0 → (m : _) → message.old.inner.value ≡ Some m
-        → bytes.new.inner.value ≡ Some (things.Bytes (export_bytes_message m)) }
-    ensures form { result ≡ pos 0 → HasForm message.old.inner.value }
-    ensures err { result ≢ pos 0 → result ≢ no_memory → option_map code_of
-        (first (full_fault bytes.old.inner.value ∷ of_one message.old.inner.value message_fault ∷ [])) ≡ Some result }
-    ensures unchanged { result ≢ pos 0 → bytes.new.inner.value ≡ bytes.old.inner.value }
-    ensures kept { message.new.inner.value ≡ message.old.inner.value }
+    ensures code { result ≢ no_memory
+        → result ≡ code_for (first (full_fault (bytes_of bytes.old) ∷ of_one (message_of message.old) if_any ∷ [])) }
+    ensures value { result ≡ pos 0 → bytes_of bytes.new ≡ option_map (λ m. bytes_of_message m) (message_of message.old) }
+    ensures form { result ≡ pos 0 → HasMessageForm (message_of message.old) }
+    ensures unchanged { result ≢ pos 0 → bytes_of bytes.new ≡ bytes_of bytes.old }
+    ensures kept { message_of message.new ≡ message_of message.old }
 {
-    if bytes.full {
+    if bytes.handle.full {
         return FULL;
     }
-    let Some(content) = message.take(alloc) else {
-        return NOTHING;
-    };
-    let made = encode(alloc, &content);
-    message.put(content);
-    match made {
-        Ok(made) => bytes.fill(alloc, Content::Bytes(made)),
-        Err(fault) => fault.code(),
+    match with!(alloc, message => Message(held), encode_message(alloc, held)) {
+        Ok(made) => bytes
+            .handle
+            .fill(alloc, Content::Bytes(Seq::from_vec(made))),
+        Err(_) => NO_MEMORY,
     }
 }
 
 fn decode(alloc: Global, bytes: &[u8]) -> Result<Box<Content>, Fault>
-    ensures value { IfOk result (λ made. IsMessageOf bytes.now (Some made.value)) }
+    ensures kind { IfOk result (λ made. is_message (Some made.value) ≡ true) }
+    ensures value { IfOk result (λ made. IsMessageOf bytes.now (message_in (Some made.value))) }
     ensures err { IfErr result (λ f. code_of f ≢ no_memory → IsMessageFault bytes.now f) }
     ensures found { (m : MessageModel) → IsMessage m → IsSoundPoints m.points → bytes.now ≡ bytes_of_message m
         → IfErr result (λ f. code_of f ≡ no_memory) }
@@ -86,29 +73,105 @@ fn decode(alloc: Global, bytes: &[u8]) -> Result<Box<Content>, Fault>
 #[unsafe(no_mangle)]
 pub extern "C" fn kit_message_decode(
     alloc: Global,
-    message: &mut KitHandle,
+    message: &mut KitMessage,
     bytes: &[u8],
     place: &mut u64,
 ) -> i32
-    ensures ok { result ≡ pos 0 → full_fault message.old.inner.value ≡ None }
-    ensures value { result ≡ pos 0 → IsMessageOf bytes.now message.new.inner.value }
+    ensures ok { result ≡ pos 0 → full_fault (message_of message.old) ≡ None }
+    ensures value { result ≡ pos 0 → IsMessageOf bytes.now (message_of message.new) }
     ensures told { result ≡ pos 0 → place.new ≡ place.old }
-    ensures full { message.old.inner.value ≢ None → (result ≡ pos 4) × (place.new ≡ place.old) }
-    ensures err { result ≢ pos 0 → result ≢ no_memory → message.old.inner.value ≡ None
+    ensures full { message_of message.old ≢ None → (result ≡ pos 4) × (place.new ≡ place.old) }
+    ensures err { result ≢ pos 0 → result ≢ no_memory → message_of message.old ≡ None
         → (f : Fault) × (result ≡ code_of f) × (place.new ≡ unwrap_or (place_of f) place.old) × IsMessageFault bytes.now f }
     ensures found { (m : MessageModel) → IsMessage m → IsSoundPoints m.points → bytes.now ≡ bytes_of_message m
-        → message.old.inner.value ≡ None → result ≢ pos 0 → result ≡ no_memory }
+        → message_of message.old ≡ None → result ≢ pos 0 → result ≡ no_memory }
     ensures no_memory { result ≡ no_memory → place.new ≡ place.old }
-    ensures unchanged { result ≢ pos 0 → message.new.inner.value ≡ message.old.inner.value }
+    ensures unchanged { result ≢ pos 0 → message_of message.new ≡ message_of message.old }
 {
-    if message.full {
+    if message.handle.full {
         return FULL;
     }
     match decode(alloc, bytes) {
         Ok(made) => {
-            message.put(made);
+            message.handle.put(made);
             OK
         }
         Err(fault) => code_with_place(fault, place),
+    }
+}
+
+// A gateway of the sender's id that merged what a message carries.
+fn carried(alloc: Global, message: &Message) -> Result<Gateway, NoMemory>
+    ensures { IfOk result (λ g. g ≡ carried_by message.now) }
+{
+    let mut gateway = Gateway::new(alloc, message.from());
+    match message.body() {
+        Body::Whole(points) => gateway.merge(points)?,
+        Body::Delta { cells, .. } => gateway.merge(cells)?,
+        Body::Ack(_) => gateway.merge(&Gateway::new(alloc, 0))?,
+    };
+    Ok(gateway)
+}
+
+/// What a message carries, as a gateway of its sender's id: to see whose points they are before a node is handed it, and the way back from
+/// `kit_gateway_encode`. The message stays.
+///
+/// Refused, in this order: `FULL`; `NOTHING`; `NO_MEMORY`. O(size of the points).
+#[unsafe(no_mangle)]
+pub extern "C" fn kit_message_gateway(
+    alloc: Global,
+    message: &mut KitMessage,
+    gateway: &mut KitGateway,
+) -> i32
+    ensures code { result ≢ no_memory
+        → result ≡ code_for (first (full_fault (gateway_of gateway.old) ∷ of_one (message_of message.old) if_any ∷ [])) }
+    ensures value { result ≡ pos 0 → gateway_of gateway.new ≡ option_map (λ m. carried_by m) (message_of message.old) }
+    ensures unchanged { result ≢ pos 0 → gateway_of gateway.new ≡ gateway_of gateway.old }
+    ensures kept { message_of message.new ≡ message_of message.old }
+{
+    if gateway.handle.full {
+        return FULL;
+    }
+    match with!(alloc, message => Message(held), carried(alloc, held)) {
+        Ok(made) => gateway.handle.fill(alloc, Content::Gateway(made)),
+        Err(_) => NO_MEMORY,
+    }
+}
+
+fn encode_whole(alloc: Global, gateway: &Gateway) -> Result<Vec<u8>, NoMemory>
+    ensures { IfOk result (λ made. made.items ≡ bytes_of_message (whole_of gateway.now)) }
+{
+    let id = gateway.id();
+    encode_message(
+        alloc,
+        &Message::new(id, id, Body::Whole(gateway.try_copy()?)),
+    )
+}
+
+/// A gateway's id and points as bytes, to be kept and brought back: those of a message of all that it holds, from it to itself.
+/// `kit_message_decode` reads them, and `kit_message_gateway` makes the gateway of that. The gateway stays; it is copied once.
+///
+/// Refused, in this order: `FULL`; `NOTHING`; `NO_MEMORY`. O(size of the points).
+#[unsafe(no_mangle)]
+pub extern "C" fn kit_gateway_encode(
+    alloc: Global,
+    gateway: &mut KitGateway,
+    bytes: &mut KitBytes,
+) -> i32
+    ensures code { result ≢ no_memory
+        → result ≡ code_for (first (full_fault (bytes_of bytes.old) ∷ of_one (gateway_of gateway.old) if_any ∷ [])) }
+    ensures value { result ≡ pos 0
+        → bytes_of bytes.new ≡ option_map (λ g. bytes_of_message (whole_of g)) (gateway_of gateway.old) }
+    ensures unchanged { result ≢ pos 0 → bytes_of bytes.new ≡ bytes_of bytes.old }
+    ensures kept { gateway_of gateway.new ≡ gateway_of gateway.old }
+{
+    if bytes.handle.full {
+        return FULL;
+    }
+    match with!(alloc, gateway => Gateway(held), encode_whole(alloc, held)) {
+        Ok(made) => bytes
+            .handle
+            .fill(alloc, Content::Bytes(Seq::from_vec(made))),
+        Err(_) => NO_MEMORY,
     }
 }

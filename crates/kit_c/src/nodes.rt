@@ -1,275 +1,163 @@
 //! Nodes: gateways that tell each other what changed, by messages.
-ghost use Rattle.std.specs.Prelude.{◌≡◌, ◌≢◌, ◌∷◌, [], pos, None, Some, OnOk, OnErr, IfErr, IfOk};
+ghost use Rattle.std.specs.Prelude.{◌≡◌, ◌≢◌, ◌∷◌, [], pos, true, None, Some, IfSome, OnOk, OnErr, IfErr, IfOk};
 ghost use Rattle.std.specs.Option.{is_some, option_map};
 ghost use Rattle.attr_kit.specs.Refusing.{first};
+ghost use Rattle.gossip_kit.specs.Gossip.{answer_of, first_node};
+ghost use Rattle.kit_c.specs.Calls.{code_for, full_fault, if_any, if_both, of_one, of_two};
 ghost use Rattle.kit_c.specs.Codes.{code_of, no_memory};
-ghost use Rattle.kit_c.specs.Faults.{full_fault, of_one, of_two};
-ghost use Rattle.kit_c.specs.Gateways.{gateway_fault};
-ghost use Rattle.kit_c.specs.Nodes.{HasHeard, HasMerged, HasTaken, IsFromTo, IsMessageTo, IsNodeOf, answer_in, gateway_in, handing_fault, message_fault, message_in, node_changes, node_fault, node_merging_fault, node_taking_fault};
+ghost use Rattle.kit_c.specs.Held.{export_of, gateway_of, message_of, node_of};
+ghost use Rattle.kit_c.specs.Nodes.{HasHeard, HasMerged, HasTaken, Hears, IsFromTo, IsMessageTo, answer_in, handing_fault};
 ghost use Rattle.kit_c.specs.Owned.{box_value};
-ghost use Rattle.kit_c.specs.declared.content.Content.TheVariants as things;
+ghost use Rattle.kit_c.specs.Typed.{is_message, message_in};
+ghost use Rattle.point_kit.specs.Exports.{changed_points};
 
 use crate::content::Content;
-use crate::fault::{FULL, Fault, NOTHING, OK};
-use crate::handle::KitHandle;
+use crate::fault::{FULL, Fault, NO_MEMORY, NOTHING, OK, WRONG_KIND};
+use crate::typed::{KitExport, KitGateway, KitMessage, KitNode};
+use crate::with::{with, with_two};
 use attr_kit::Seq;
-use gateway_kit::Gateway;
 use gossip_kit::{Message, Node};
 use std::alloc::Global;
 
-fn open_node(alloc: Global, content: &Content) -> Result<Node, Fault>
-    ensures ok { OnOk result (gateway_fault content.now ≡ None) }
-    ensures value { IfOk result (λ n. IsNodeOf (Some content.now) (Some (things.Node n))) }
-    ensures err { IfErr result (λ f. code_of f ≢ no_memory → gateway_fault content.now ≡ Some f) }
-{
-    let Content::Gateway(gateway) = content else {
-        return Err(Fault::WrongKind);
-    };
-    Ok(Node::new(alloc, gateway.try_copy()?))
-}
-
 /// Opens a node with the points and the id of a gateway, which stays. The ids of nodes that exchange messages are distinct.
 ///
-/// Refused, in this order: `FULL`; `NOTHING`; `WRONG_KIND`; `NO_MEMORY`. O(size of the points).
+/// Refused, in this order: `FULL`; `NOTHING`; `NO_MEMORY`. O(size of the points).
 #[unsafe(no_mangle)]
-pub extern "C" fn kit_node_open(alloc: Global, node: &mut KitHandle, gateway: &mut KitHandle) -> i32
-    ensures ok { result ≡ pos 0
-        → first (full_fault node.old.inner.value ∷ of_one gateway.old.inner.value gateway_fault ∷ []) ≡ None }
-    ensures value { result ≡ pos 0 → IsNodeOf gateway.old.inner.value node.new.inner.value }
-    ensures err { result ≢ pos 0 → result ≢ no_memory → option_map code_of
-        (first (full_fault node.old.inner.value ∷ of_one gateway.old.inner.value gateway_fault ∷ [])) ≡ Some result }
-    ensures unchanged { result ≢ pos 0 → node.new.inner.value ≡ node.old.inner.value }
-    ensures kept { gateway.new.inner.value ≡ gateway.old.inner.value }
+pub extern "C" fn kit_node_open(
+    alloc: Global,
+    node: &mut KitNode,
+    gateway: &mut KitGateway,
+) -> i32
+    ensures code { result ≢ no_memory
+        → result ≡ code_for (first (full_fault (node_of node.old) ∷ of_one (gateway_of gateway.old) if_any ∷ [])) }
+    ensures value { result ≡ pos 0 → node_of node.new ≡ option_map (λ g. first_node g) (gateway_of gateway.old) }
+    ensures unchanged { result ≢ pos 0 → node_of node.new ≡ node_of node.old }
+    ensures kept { gateway_of gateway.new ≡ gateway_of gateway.old }
 {
-    if node.full {
+    if node.handle.full {
         return FULL;
     }
-    let Some(content) = gateway.take(alloc) else {
-        return NOTHING;
-    };
-    let made = open_node(alloc, &content);
-    gateway.put(content);
-    match made {
-        Ok(made) => node.fill(alloc, Content::Node(made)),
-        Err(fault) => fault.code(),
+    match with!(alloc, gateway => Gateway(held), held.try_copy()) {
+        Ok(copy) => node
+            .handle
+            .fill(alloc, Content::Node(Node::new(alloc, copy))),
+        Err(_) => NO_MEMORY,
     }
-}
-
-fn copy_gateway(content: &Content) -> Result<Gateway, Fault>
-    ensures ok { OnOk result (node_fault content.now ≡ None) }
-    ensures value { IfOk result (λ g. gateway_in content.now ≡ Some g) }
-    ensures err { IfErr result (λ f. code_of f ≢ no_memory → node_fault content.now ≡ Some f) }
-{
-    let Content::Node(node) = content else {
-        return Err(Fault::WrongKind);
-    };
-    Ok(node.gateway().try_copy()?)
 }
 
 /// A copy of the gateway that a node has, to be asked. The node stays.
 ///
-/// Refused, in this order: `FULL`; `NOTHING`; `WRONG_KIND`; `NO_MEMORY`. O(size of the points).
+/// Refused, in this order: `FULL`; `NOTHING`; `NO_MEMORY`. O(size of the points).
 #[unsafe(no_mangle)]
 pub extern "C" fn kit_node_gateway(
     alloc: Global,
-    node: &mut KitHandle,
-    gateway: &mut KitHandle,
+    node: &mut KitNode,
+    gateway: &mut KitGateway,
 ) -> i32
-    ensures ok { result ≡ pos 0
-        → first (full_fault gateway.old.inner.value ∷ of_one node.old.inner.value node_fault ∷ []) ≡ None }
-    ensures value { result ≡ pos 0 → (n : _) → node.old.inner.value ≡ Some n
-        → gateway.new.inner.value ≡ option_map (λ g. things.Gateway g) (gateway_in n) }
-    ensures err { result ≢ pos 0 → result ≢ no_memory → option_map code_of
-        (first (full_fault gateway.old.inner.value ∷ of_one node.old.inner.value node_fault ∷ [])) ≡ Some result }
-    ensures unchanged { result ≢ pos 0 → gateway.new.inner.value ≡ gateway.old.inner.value }
-    ensures kept { node.new.inner.value ≡ node.old.inner.value }
+    ensures code { result ≢ no_memory
+        → result ≡ code_for (first (full_fault (gateway_of gateway.old) ∷ of_one (node_of node.old) if_any ∷ [])) }
+    ensures value { result ≡ pos 0 → gateway_of gateway.new ≡ option_map (λ n. n.gateway) (node_of node.old) }
+    ensures unchanged { result ≢ pos 0 → gateway_of gateway.new ≡ gateway_of gateway.old }
+    ensures kept { node_of node.new ≡ node_of node.old }
 {
-    if gateway.full {
+    if gateway.handle.full {
         return FULL;
     }
-    let Some(content) = node.take(alloc) else {
-        return NOTHING;
-    };
-    let made = copy_gateway(&content);
-    node.put(content);
-    match made {
-        Ok(made) => gateway.fill(alloc, Content::Gateway(made)),
-        Err(fault) => fault.code(),
+    match with!(alloc, node => Node(held), held.gateway().try_copy()) {
+        Ok(copy) => gateway.handle.fill(alloc, Content::Gateway(copy)),
+        Err(_) => NO_MEMORY,
     }
-}
-
-fn take_at_node(content: &mut Content, export: &Content) -> Result<u64, Fault>
-    ensures ok { OnOk result (node_taking_fault content.old export.now ≡ None) }
-    ensures value { OnOk result (HasTaken (Some content.old) (Some export.now) (Some content.new)) }
-    ensures changed { IfOk result (λ n. n ≡ node_changes content.old content.new) }
-    ensures err { IfErr result (λ f. code_of f ≢ no_memory → node_taking_fault content.old export.now ≡ Some f) }
-    ensures unchanged { OnErr result (content.new ≡ content.old) }
-{
-    let Content::Node(node) = content else {
-        return Err(Fault::WrongKind);
-    };
-    let Content::Export(export) = export else {
-        return Err(Fault::WrongKind);
-    };
-    Ok(node.take(export)?)
 }
 
 /// Joins the points of an export, which stays, and tells the number of keys whose points changed: later messages carry them.
 ///
-/// Refused, in this order: `NOTHING` of the node, then of the export; `WRONG_KIND`; `NO_MEMORY`.
+/// Refused, in this order: `NOTHING` of the node, then of the export; `NO_MEMORY`.
 #[unsafe(no_mangle)]
 pub extern "C" fn kit_node_take(
     alloc: Global,
-    node: &mut KitHandle,
-    export: &mut KitHandle,
+    node: &mut KitNode,
+    export: &mut KitExport,
     changed: &mut u64,
 ) -> i32
-    ensures ok { result ≡ pos 0 → of_two node.old.inner.value export.old.inner.value node_taking_fault ≡ None }
-    ensures value { result ≡ pos 0 → HasTaken node.old.inner.value export.old.inner.value node.new.inner.value }
-    ensures changed { result ≡ pos 0 → (h k : _) → node.old.inner.value ≡ Some h → node.new.inner.value ≡ Some k
-        → changed.new ≡ node_changes h k }
-    ensures err { result ≢ pos 0 → result ≢ no_memory
-        → option_map code_of (of_two node.old.inner.value export.old.inner.value node_taking_fault) ≡ Some result }
-    ensures unchanged { result ≢ pos 0 → node.new.inner.value ≡ node.old.inner.value }
+    ensures code { result ≢ no_memory → result ≡ code_for (of_two (node_of node.old) (export_of export.old) if_both) }
+    ensures value { result ≡ pos 0 → HasTaken (node_of node.old) (export_of export.old) (node_of node.new) }
+    ensures changed { result ≡ pos 0 → (n m : _) → node_of node.old ≡ Some n → node_of node.new ≡ Some m
+        → changed.new ≡ changed_points n.gateway.points m.gateway.points }
+    ensures unchanged { result ≢ pos 0 → node_of node.new ≡ node_of node.old }
     ensures told { result ≢ pos 0 → changed.new ≡ changed.old }
-    ensures kept { export.new.inner.value ≡ export.old.inner.value }
+    ensures kept { export_of export.new ≡ export_of export.old }
 {
-    let Some(mut content) = node.take(alloc) else {
-        return NOTHING;
-    };
-    let Some(other) = export.take(alloc) else {
-        node.put(content);
-        return NOTHING;
-    };
-    let outcome = take_at_node(&mut content, &other);
-    node.put(content);
-    export.put(other);
-    match outcome {
+    match with_two!(alloc, node => Node(held), export => Export(read), held.take(read)) {
         Ok(keys) => {
             *changed = keys;
             OK
         }
-        Err(fault) => fault.code(),
+        Err(_) => NO_MEMORY,
     }
-}
-
-fn merge_at_node(content: &mut Content, gateway: &Content) -> Result<u64, Fault>
-    ensures ok { OnOk result (node_merging_fault content.old gateway.now ≡ None) }
-    ensures value { OnOk result (HasMerged (Some content.old) (Some gateway.now) (Some content.new)) }
-    ensures changed { IfOk result (λ n. n ≡ node_changes content.old content.new) }
-    ensures err { IfErr result (λ f. code_of f ≢ no_memory → node_merging_fault content.old gateway.now ≡ Some f) }
-    ensures unchanged { OnErr result (content.new ≡ content.old) }
-{
-    let Content::Node(node) = content else {
-        return Err(Fault::WrongKind);
-    };
-    let Content::Gateway(gateway) = gateway else {
-        return Err(Fault::WrongKind);
-    };
-    Ok(node.merge(gateway)?)
 }
 
 /// Joins what a gateway holds, which stays, and tells the number of keys whose points changed: later messages carry them.
 ///
-/// Refused, in this order: `NOTHING` of the node, then of the gateway; `WRONG_KIND`; `NO_MEMORY`.
+/// Refused, in this order: `NOTHING` of the node, then of the gateway; `NO_MEMORY`.
 #[unsafe(no_mangle)]
 pub extern "C" fn kit_node_merge(
     alloc: Global,
-    node: &mut KitHandle,
-    gateway: &mut KitHandle,
+    node: &mut KitNode,
+    gateway: &mut KitGateway,
     changed: &mut u64,
 ) -> i32
-    ensures ok { result ≡ pos 0 → of_two node.old.inner.value gateway.old.inner.value node_merging_fault ≡ None }
-    ensures value { result ≡ pos 0 → HasMerged node.old.inner.value gateway.old.inner.value node.new.inner.value }
-    ensures changed { result ≡ pos 0 → (h k : _) → node.old.inner.value ≡ Some h → node.new.inner.value ≡ Some k
-        → changed.new ≡ node_changes h k }
-    ensures err { result ≢ pos 0 → result ≢ no_memory
-        → option_map code_of (of_two node.old.inner.value gateway.old.inner.value node_merging_fault) ≡ Some result }
-    ensures unchanged { result ≢ pos 0 → node.new.inner.value ≡ node.old.inner.value }
+    ensures code { result ≢ no_memory → result ≡ code_for (of_two (node_of node.old) (gateway_of gateway.old) if_both) }
+    ensures value { result ≡ pos 0 → HasMerged (node_of node.old) (gateway_of gateway.old) (node_of node.new) }
+    ensures changed { result ≡ pos 0 → (n m : _) → node_of node.old ≡ Some n → node_of node.new ≡ Some m
+        → changed.new ≡ changed_points n.gateway.points m.gateway.points }
+    ensures unchanged { result ≢ pos 0 → node_of node.new ≡ node_of node.old }
     ensures told { result ≢ pos 0 → changed.new ≡ changed.old }
-    ensures kept { gateway.new.inner.value ≡ gateway.old.inner.value }
+    ensures kept { gateway_of gateway.new ≡ gateway_of gateway.old }
 {
-    let Some(mut content) = node.take(alloc) else {
-        return NOTHING;
-    };
-    let Some(from) = gateway.take(alloc) else {
-        node.put(content);
-        return NOTHING;
-    };
-    let outcome = merge_at_node(&mut content, &from);
-    node.put(content);
-    gateway.put(from);
-    match outcome {
+    match with_two!(alloc, node => Node(held), gateway => Gateway(read), held.merge(read)) {
         Ok(keys) => {
             *changed = keys;
             OK
         }
-        Err(fault) => fault.code(),
+        Err(_) => NO_MEMORY,
     }
-}
-
-fn send_message(content: &Content, to: u32) -> Result<Message, Fault>
-    ensures ok { OnOk result (node_fault content.now ≡ None) }
-    ensures value { IfOk result (λ m. IsMessageTo to (Some content.now) (Some (things.Message m))) }
-    ensures err { IfErr result (λ f. code_of f ≢ no_memory → node_fault content.now ≡ Some f) }
-{
-    let Content::Node(node) = content else {
-        return Err(Fault::WrongKind);
-    };
-    Ok(node.send(to)?)
 }
 
 /// A message to the node of an id. It carries what changed since the last message of which that node's answer was handed here,
 /// so a message may be lost, come late or come twice.
 ///
-/// Refused, in this order: `FULL`; `NOTHING`; `WRONG_KIND`; `NO_MEMORY`.
+/// Refused, in this order: `FULL`; `NOTHING`; `NO_MEMORY`.
 #[unsafe(no_mangle)]
 pub extern "C" fn kit_node_send(
     alloc: Global,
-    node: &mut KitHandle,
+    node: &mut KitNode,
     to: u32,
-    message: &mut KitHandle,
+    message: &mut KitMessage,
 ) -> i32
-    ensures ok { result ≡ pos 0
-        → first (full_fault message.old.inner.value ∷ of_one node.old.inner.value node_fault ∷ []) ≡ None }
-    ensures value { result ≡ pos 0 → IsMessageTo to node.old.inner.value message.new.inner.value }
-    ensures err { result ≢ pos 0 → result ≢ no_memory → option_map code_of
-        (first (full_fault message.old.inner.value ∷ of_one node.old.inner.value node_fault ∷ [])) ≡ Some result }
-    ensures unchanged { result ≢ pos 0 → message.new.inner.value ≡ message.old.inner.value }
-    ensures kept { node.new.inner.value ≡ node.old.inner.value }
+    ensures code { result ≢ no_memory
+        → result ≡ code_for (first (full_fault (message_of message.old) ∷ of_one (node_of node.old) if_any ∷ [])) }
+    ensures value { result ≡ pos 0 → IsMessageTo to (node_of node.old) (message_of message.new) }
+    ensures unchanged { result ≢ pos 0 → message_of message.new ≡ message_of message.old }
+    ensures kept { node_of node.new ≡ node_of node.old }
 {
-    if message.full {
+    if message.handle.full {
         return FULL;
     }
-    let Some(content) = node.take(alloc) else {
-        return NOTHING;
-    };
-    let made = send_message(&content, to);
-    node.put(content);
-    match made {
-        Ok(made) => message.fill(alloc, Content::Message(made)),
-        Err(fault) => fault.code(),
+    match with!(alloc, node => Node(held), held.send(to)) {
+        Ok(made) => message.handle.fill(alloc, Content::Message(made)),
+        Err(_) => NO_MEMORY,
     }
 }
 
 // Hands a message. The room of the answer is taken first, since nothing can be refused once the node has changed.
-fn hand_message(
-    alloc: Global,
-    content: &mut Content,
-    message: &Content,
-) -> Result<Option<Box<Content>>, Fault>
-    ensures ok { OnOk result (handing_fault content.old message.now ≡ None) }
-    ensures value { OnOk result (HasHeard (Some content.old) (Some message.now) (Some content.new)) }
-    ensures answer { IfOk result (λ a. box_value a ≡ answer_in (Some content.old) (Some message.now)) }
-    ensures err { IfErr result (λ f. code_of f ≢ no_memory → handing_fault content.old message.now ≡ Some f) }
-    ensures unchanged { OnErr result (content.new ≡ content.old) }
+fn hand(alloc: Global, node: &mut Node, message: &Message) -> Result<Option<Box<Content>>, Fault>
+    ensures ok { OnOk result (handing_fault node.old message.now ≡ None) }
+    ensures value { OnOk result (Hears message.now node.old node.new) }
+    ensures kind { IfOk result (λ made. is_message (box_value made) ≡ true) }
+    ensures answer { IfOk result (λ made. message_in (box_value made) ≡ answer_of node.old message.now) }
+    ensures err { IfErr result (λ f. code_of f ≢ no_memory → handing_fault node.old message.now ≡ Some f) }
+    ensures unchanged { OnErr result (node.new ≡ node.old) }
 {
-    let Content::Node(node) = content else {
-        return Err(Fault::WrongKind);
-    };
-    let Content::Message(message) = message else {
-        return Err(Fault::WrongKind);
-    };
     let mut room = Box::new(alloc, Content::Keys(Seq::new(alloc)))?;
     match node.hand(message) {
         Ok(Some(answer)) => {
@@ -283,46 +171,32 @@ fn hand_message(
 
 /// Hands a node a message, which stays, and tells whether it is to be answered: then `answer` has the message to its sender.
 ///
-/// Refused, in this order: `FULL` of the answer; `NOTHING` of the node, then of the message; `WRONG_KIND`; `NOT_ADDRESSED` where the
+/// Refused, in this order: `FULL` of the answer; `NOTHING` of the node, then of the message; `NOT_ADDRESSED` where the
 /// message goes to another id; `NO_MEMORY`.
 #[unsafe(no_mangle)]
 pub extern "C" fn kit_node_hand(
     alloc: Global,
-    node: &mut KitHandle,
-    message: &mut KitHandle,
-    answer: &mut KitHandle,
+    node: &mut KitNode,
+    message: &mut KitMessage,
+    answer: &mut KitMessage,
     answered: &mut bool,
 ) -> i32
-    ensures ok { result ≡ pos 0 → first (full_fault answer.old.inner.value
-        ∷ of_two node.old.inner.value message.old.inner.value handing_fault ∷ []) ≡ None }
-    ensures value { result ≡ pos 0 → HasHeard node.old.inner.value message.old.inner.value node.new.inner.value }
-    ensures answer { result ≡ pos 0
-        → answer.new.inner.value ≡ answer_in node.old.inner.value message.old.inner.value }
-    ensures answered { result ≡ pos 0
-        → answered.new ≡ is_some (answer_in node.old.inner.value message.old.inner.value) }
-    ensures err { result ≢ pos 0 → result ≢ no_memory → option_map code_of (first (full_fault answer.old.inner.value
-        ∷ of_two node.old.inner.value message.old.inner.value handing_fault ∷ [])) ≡ Some result }
-    ensures unchanged { result ≢ pos 0 → node.new.inner.value ≡ node.old.inner.value }
-    ensures answer_kept { result ≢ pos 0 → answer.new.inner.value ≡ answer.old.inner.value }
+    ensures code { result ≢ no_memory → result ≡ code_for (first (full_fault (message_of answer.old)
+        ∷ of_two (node_of node.old) (message_of message.old) handing_fault ∷ [])) }
+    ensures value { result ≡ pos 0 → HasHeard (node_of node.old) (message_of message.old) (node_of node.new) }
+    ensures answer { result ≡ pos 0 → message_of answer.new ≡ answer_in (node_of node.old) (message_of message.old) }
+    ensures answered { result ≡ pos 0 → answered.new ≡ is_some (answer_in (node_of node.old) (message_of message.old)) }
+    ensures unchanged { result ≢ pos 0 → node_of node.new ≡ node_of node.old }
+    ensures answer_kept { result ≢ pos 0 → message_of answer.new ≡ message_of answer.old }
     ensures told { result ≢ pos 0 → answered.new ≡ answered.old }
-    ensures kept { message.new.inner.value ≡ message.old.inner.value }
+    ensures kept { message_of message.new ≡ message_of message.old }
 {
-    if answer.full {
+    if answer.handle.full {
         return FULL;
     }
-    let Some(mut content) = node.take(alloc) else {
-        return NOTHING;
-    };
-    let Some(came) = message.take(alloc) else {
-        node.put(content);
-        return NOTHING;
-    };
-    let outcome = hand_message(alloc, &mut content, &came);
-    node.put(content);
-    message.put(came);
-    match outcome {
+    match with_two!(alloc, node => Node(held), message => Message(read), hand(alloc, held, read)) {
         Ok(Some(made)) => {
-            answer.put(made);
+            answer.handle.put(made);
             *answered = true;
             OK
         }
@@ -334,49 +208,25 @@ pub extern "C" fn kit_node_hand(
     }
 }
 
-fn read(content: &Content) -> Result<(u32, u32, usize), Fault>
-    ensures ok { OnOk result (message_fault content.now ≡ None) }
-    ensures value { IfOk result (λ t. IsFromTo t.0 t.1 t.2 (message_in content.now)) }
-    ensures err { IfErr result (λ f. message_fault content.now ≡ Some f) }
-{
-    let Content::Message(message) = content else {
-        return Err(Fault::WrongKind);
-    };
-    Ok((message.from(), message.to(), message.points_len()))
-}
-
 /// Tells from which id and to which a message goes, and how many points it carries: an answer carries none.
 ///
-/// Refused, in this order: `NOTHING`; `WRONG_KIND`. Takes no memory.
+/// Refused: `NOTHING`. Takes no memory.
 #[unsafe(no_mangle)]
 pub extern "C" fn kit_message_read(
     alloc: Global,
-    message: &mut KitHandle,
+    message: &mut KitMessage,
     from: &mut u32,
     to: &mut u32,
     points: &mut usize,
 ) -> i32
-    ensures ok { result ≡ pos 0 → of_one message.old.inner.value message_fault ≡ None }
-    ensures value { result ≡ pos 0 → (m : _) → message.old.inner.value ≡ Some m
-        → IsFromTo from.new to.new points.new (message_in m) }
-    ensures err { result ≢ pos 0 → option_map code_of (of_one message.old.inner.value message_fault) ≡ Some result }
-    ensures from { result ≢ pos 0 → from.new ≡ from.old }
-    ensures to { result ≢ pos 0 → to.new ≡ to.old }
-    ensures points { result ≢ pos 0 → points.new ≡ points.old }
-    ensures kept { message.new.inner.value ≡ message.old.inner.value }
+    ensures code { result ≡ code_for (of_one (message_of message.old) if_any) }
+    ensures value { result ≡ pos 0 → IfSome (message_of message.old) (IsFromTo from.new to.new points.new) }
+    ensures told { result ≢ pos 0 → (from.new ≡ from.old) × (to.new ≡ to.old) × (points.new ≡ points.old) }
+    ensures kept { message_of message.new ≡ message_of message.old }
 {
-    let Some(content) = message.take(alloc) else {
-        return NOTHING;
-    };
-    let outcome = read(&content);
-    message.put(content);
-    match outcome {
-        Ok((sender, receiver, carried)) => {
-            *from = sender;
-            *to = receiver;
-            *points = carried;
-            OK
-        }
-        Err(fault) => fault.code(),
-    }
+    let (sender, receiver, carried) = with!(alloc, message => Message(held), (held.from(), held.to(), held.points_len()));
+    *from = sender;
+    *to = receiver;
+    *points = carried;
+    OK
 }

@@ -1,101 +1,106 @@
 //! Rows as numbers.
-ghost use Rattle.std.specs.Prelude.{◌≡◌, ◌≢◌, pos, length, None, Some, OnOk, OnErr, IfErr, IfOk};
-ghost use Rattle.std.specs.Option.{option_map};
-ghost use Rattle.kit_c.specs.Asks.{table_fault};
-ghost use Rattle.kit_c.specs.Codes.{code_of};
-ghost use Rattle.kit_c.specs.Faults.{of_one};
-ghost use Rattle.kit_c.specs.Rows.{counts_at, gauge_at, gauge_fault, row_at, row_fault, rows_of, sum_at, sum_fault, wide_count, wide_sum};
+ghost use Rattle.std.specs.Prelude.{◌≡◌, ◌≢◌, ◌∷◌, [], pos, length, slice_get, None, Some, IfSome, OnOk, IfErr, IfOk};
+ghost use Rattle.attr_kit.specs.Refusing.{first};
+ghost use Rattle.kit_c.specs.Calls.{code_for, full_fault, if_any, of_one};
+ghost use Rattle.kit_c.specs.Codes.{code_of, no_memory};
+ghost use Rattle.kit_c.specs.Held.{attributes_of, rows_of};
+ghost use Rattle.kit_c.specs.Rows.{as_gauge, as_sum, no_gauge, no_sum, row_fault, row_part, wide_count, wide_sum};
 
 use crate::content::Content;
-use crate::fault::{Fault, NOTHING, OK};
-use crate::handle::KitHandle;
+use crate::fault::{FULL, Fault, NOTHING, OK, WRONG_KIND};
+use crate::typed::{KitAttributes, KitRows};
+use crate::with::with;
+use attr_kit::{AttrSet, Seq};
 use rollup_kit::{Row, Total};
 use std::alloc::Global;
 
-fn len(content: &Content) -> Result<usize, Fault>
-    ensures ok { OnOk result (table_fault content.now ≡ None) }
-    ensures value { IfOk result (λ n. n ≡ length (rows_of content.now)) }
-    ensures err { IfErr result (λ f. table_fault content.now ≡ Some f) }
-{
-    let Content::Rows(rows) = content else {
-        return Err(Fault::WrongKind);
-    };
-    Ok(rows.len())
-}
-
 /// Tells how many rows there are: they are numbered from 0, in the order of their attribute sets.
 ///
-/// Refused, in this order: `NOTHING`; `WRONG_KIND`. Takes no memory.
+/// Refused: `NOTHING`. Takes no memory.
 #[unsafe(no_mangle)]
-pub extern "C" fn kit_rows_len(alloc: Global, rows: &mut KitHandle, count: &mut usize) -> i32
-    ensures ok { result ≡ pos 0 → of_one rows.old.inner.value table_fault ≡ None }
-    ensures value { result ≡ pos 0 → (h : _) → rows.old.inner.value ≡ Some h → count.new ≡ length (rows_of h) }
-    ensures err { result ≢ pos 0 → option_map code_of (of_one rows.old.inner.value table_fault) ≡ Some result }
-    ensures unchanged { result ≢ pos 0 → count.new ≡ count.old }
-    ensures kept { rows.new.inner.value ≡ rows.old.inner.value }
+pub extern "C" fn kit_rows_len(alloc: Global, rows: &mut KitRows, count: &mut usize) -> i32
+    ensures code { result ≡ code_for (of_one (rows_of rows.old) if_any) }
+    ensures value { result ≡ pos 0 → IfSome (rows_of rows.old) (λ rs. count.new ≡ length rs) }
+    ensures told { result ≢ pos 0 → count.new ≡ count.old }
+    ensures kept { rows_of rows.new ≡ rows_of rows.old }
 {
-    let Some(content) = rows.take(alloc) else {
-        return NOTHING;
-    };
-    let outcome = len(&content);
-    rows.put(content);
-    match outcome {
-        Ok(told) => {
-            *count = told;
-            OK
-        }
-        Err(fault) => fault.code(),
-    }
+    *count = with!(alloc, rows => Rows(held), held.len());
+    OK
 }
 
-pub(crate) fn row(content: &Content, number: usize) -> Result<&Row, Fault>
-    ensures ok { OnOk result (row_fault number content.now ≡ None) }
-    ensures value { IfOk result (λ r. row_at number content.now ≡ Some r.now) }
-    ensures err { IfErr result (λ f. row_fault number content.now ≡ Some f) }
+/// The row of a number.
+pub(crate) fn row(rows: &Seq<Row>, number: usize) -> Result<&Row, Fault>
+    ensures ok { OnOk result (row_fault number (λ r. None) rows.now ≡ None) }
+    ensures value { IfOk result (λ r. slice_get rows.now number ≡ Some r.now) }
+    ensures err { IfErr result (λ f. (slice_get rows.now number ≡ None) × (f ≡ Fault.NoRow)) }
 {
-    let Content::Rows(rows) = content else {
-        return Err(Fault::WrongKind);
-    };
     match rows.get(number) {
         Some(row) => Ok(row),
         None => Err(Fault::NoRow),
     }
 }
 
-fn counts(content: &Content, number: usize) -> Result<(u64, u64), Fault>
-    ensures ok { OnOk result (row_fault number content.now ≡ None) }
-    ensures value { IfOk result (λ n. counts_at number content.now ≡ Some n) }
-    ensures err { IfErr result (λ f. row_fault number content.now ≡ Some f) }
+fn set_of(rows: &Seq<Row>, number: usize) -> Result<AttrSet, Fault>
+    ensures ok { OnOk result (row_fault number (λ r. None) rows.now ≡ None) }
+    ensures value { IfOk result (λ set. row_part number (λ r. Some r.attrs) rows.now ≡ Some set) }
+    ensures err { IfErr result (λ f. code_of f ≢ no_memory → row_fault number (λ r. None) rows.now ≡ Some f) }
 {
-    let row = row(content, number)?;
+    Ok(row(rows, number)?.attrs.try_copy()?)
+}
+
+/// The attributes that a row is of, as a set of their own: its labels. The rows stay.
+///
+/// Refused, in this order: `FULL`; `NOTHING`; `NO_ROW`; `NO_MEMORY`. O(size of the attributes).
+#[unsafe(no_mangle)]
+pub extern "C" fn kit_rows_attributes(
+    alloc: Global,
+    rows: &mut KitRows,
+    number: usize,
+    attributes: &mut KitAttributes,
+) -> i32
+    ensures code { result ≢ no_memory → result ≡ code_for (first (full_fault (attributes_of attributes.old)
+        ∷ of_one (rows_of rows.old) (row_fault number (λ r. None)) ∷ [])) }
+    ensures value { result ≡ pos 0
+        → IfSome (rows_of rows.old) (λ rs. attributes_of attributes.new ≡ row_part number (λ r. Some r.attrs) rs) }
+    ensures unchanged { result ≢ pos 0 → attributes_of attributes.new ≡ attributes_of attributes.old }
+    ensures kept { rows_of rows.new ≡ rows_of rows.old }
+{
+    if attributes.handle.full {
+        return FULL;
+    }
+    match with!(alloc, rows => Rows(held), set_of(held, number)) {
+        Ok(set) => attributes.handle.fill(alloc, Content::Attributes(set)),
+        Err(fault) => fault.code(),
+    }
+}
+
+fn counts(rows: &Seq<Row>, number: usize) -> Result<(u64, u64), Fault>
+    ensures ok { OnOk result (row_fault number (λ r. None) rows.now ≡ None) }
+    ensures value { IfOk result (λ n. row_part number (λ r. Some (r.points, r.conflicts)) rows.now ≡ Some n) }
+    ensures err { IfErr result (λ f. row_fault number (λ r. None) rows.now ≡ Some f) }
+{
+    let row = row(rows, number)?;
     Ok((row.points, row.conflicts))
 }
 
 /// Tells how many points the total of a row is of, and how many conflicts it leaves out.
 ///
-/// Refused, in this order: `NOTHING`; `WRONG_KIND`; `NO_ROW`. Takes no memory.
+/// Refused, in this order: `NOTHING`; `NO_ROW`. Takes no memory.
 #[unsafe(no_mangle)]
 pub extern "C" fn kit_rows_counts(
     alloc: Global,
-    rows: &mut KitHandle,
+    rows: &mut KitRows,
     number: usize,
     points: &mut u64,
     conflicts: &mut u64,
 ) -> i32
-    ensures ok { result ≡ pos 0 → of_one rows.old.inner.value (row_fault number) ≡ None }
-    ensures value { result ≡ pos 0 → (h : _) → rows.old.inner.value ≡ Some h
-        → counts_at number h ≡ Some (points.new, conflicts.new) }
-    ensures err { result ≢ pos 0 → option_map code_of (of_one rows.old.inner.value (row_fault number)) ≡ Some result }
-    ensures points { result ≢ pos 0 → points.new ≡ points.old }
-    ensures conflicts { result ≢ pos 0 → conflicts.new ≡ conflicts.old }
-    ensures kept { rows.new.inner.value ≡ rows.old.inner.value }
+    ensures code { result ≡ code_for (of_one (rows_of rows.old) (row_fault number (λ r. None))) }
+    ensures value { result ≡ pos 0 → IfSome (rows_of rows.old)
+        (λ rs. row_part number (λ r. Some (r.points, r.conflicts)) rs ≡ Some (points.new, conflicts.new)) }
+    ensures told { result ≢ pos 0 → (points.new ≡ points.old) × (conflicts.new ≡ conflicts.old) }
+    ensures kept { rows_of rows.new ≡ rows_of rows.old }
 {
-    let Some(content) = rows.take(alloc) else {
-        return NOTHING;
-    };
-    let outcome = counts(&content, number);
-    rows.put(content);
-    match outcome {
+    match with!(alloc, rows => Rows(held), counts(held, number)) {
         Ok((told, left_out)) => {
             *points = told;
             *conflicts = left_out;
@@ -131,40 +136,34 @@ pub(crate) fn narrow_count(count: u128) -> Result<u64, Fault>
     }
 }
 
-fn sum(content: &Content, number: usize) -> Result<i64, Fault>
-    ensures value { IfOk result (λ n. sum_at number content.now ≡ Some n) }
-    ensures ok { OnOk result (sum_fault number content.now ≡ None) }
-    ensures err { IfErr result (λ f. sum_fault number content.now ≡ Some f) }
+fn sum(rows: &Seq<Row>, number: usize) -> Result<i64, Fault>
+    ensures ok { OnOk result (row_fault number (λ r. no_sum r.total) rows.now ≡ None) }
+    ensures value { IfOk result (λ n. row_part number (λ r. as_sum r.total) rows.now ≡ Some n) }
+    ensures err { IfErr result (λ f. row_fault number (λ r. no_sum r.total) rows.now ≡ Some f) }
 {
-    match &row(content, number)?.total {
+    match &row(rows, number)?.total {
         Total::Sum(total) => narrow_sum(*total),
-        _ => Err(Fault::WrongKind),
+        _ => Err(Fault::WrongShape),
     }
 }
 
 /// Tells the total of a row of a sum.
 ///
-/// Refused, in this order: `NOTHING`; `WRONG_KIND` of the handle; `NO_ROW`; `WRONG_KIND` of a row of another shape; `TOO_WIDE` where
+/// Refused, in this order: `NOTHING`; `NO_ROW`; `WRONG_SHAPE` of a row of another shape; `TOO_WIDE` where
 /// the total, which has 128 bits, leaves 64: its table tells it all the same. Takes no memory.
 #[unsafe(no_mangle)]
 pub extern "C" fn kit_rows_sum(
     alloc: Global,
-    rows: &mut KitHandle,
+    rows: &mut KitRows,
     number: usize,
     total: &mut i64,
 ) -> i32
-    ensures ok { result ≡ pos 0 → of_one rows.old.inner.value (sum_fault number) ≡ None }
-    ensures value { result ≡ pos 0 → (h : _) → rows.old.inner.value ≡ Some h → sum_at number h ≡ Some total.new }
-    ensures err { result ≢ pos 0 → option_map code_of (of_one rows.old.inner.value (sum_fault number)) ≡ Some result }
-    ensures unchanged { result ≢ pos 0 → total.new ≡ total.old }
-    ensures kept { rows.new.inner.value ≡ rows.old.inner.value }
+    ensures code { result ≡ code_for (of_one (rows_of rows.old) (row_fault number (λ r. no_sum r.total))) }
+    ensures value { result ≡ pos 0 → IfSome (rows_of rows.old) (λ rs. row_part number (λ r. as_sum r.total) rs ≡ Some total.new) }
+    ensures told { result ≢ pos 0 → total.new ≡ total.old }
+    ensures kept { rows_of rows.new ≡ rows_of rows.old }
 {
-    let Some(content) = rows.take(alloc) else {
-        return NOTHING;
-    };
-    let outcome = sum(&content, number);
-    rows.put(content);
-    match outcome {
+    match with!(alloc, rows => Rows(held), sum(held, number)) {
         Ok(told) => {
             *total = told;
             OK
@@ -173,44 +172,37 @@ pub extern "C" fn kit_rows_sum(
     }
 }
 
-fn gauge(content: &Content, number: usize) -> Result<(u64, i64), Fault>
-    ensures value { IfOk result (λ p. gauge_at number content.now ≡ Some (Some p)) }
-    ensures ok { OnOk result (gauge_fault number content.now ≡ None) }
-    ensures err { IfErr result (λ f. gauge_fault number content.now ≡ Some f) }
+fn gauge(rows: &Seq<Row>, number: usize) -> Result<(u64, i64), Fault>
+    ensures ok { OnOk result (row_fault number (λ r. no_gauge r.total) rows.now ≡ None) }
+    ensures value { IfOk result (λ p. row_part number (λ r. as_gauge r.total) rows.now ≡ Some p) }
+    ensures err { IfErr result (λ f. row_fault number (λ r. no_gauge r.total) rows.now ≡ Some f) }
 {
-    match &row(content, number)?.total {
+    match &row(rows, number)?.total {
         Total::Gauge(Some(point)) => Ok(*point),
         Total::Gauge(None) => Err(Fault::NoPoint),
-        _ => Err(Fault::WrongKind),
+        _ => Err(Fault::WrongShape),
     }
 }
 
 /// Tells the time and the value of the newest point of a row of a gauge.
 ///
-/// Refused, in this order: `NOTHING`; `WRONG_KIND` of the handle; `NO_ROW`; `WRONG_KIND` of a row of another shape; `NO_POINT` where
+/// Refused, in this order: `NOTHING`; `NO_ROW`; `WRONG_SHAPE` of a row of another shape; `NO_POINT` where
 /// the row has conflicts alone. Takes no memory.
 #[unsafe(no_mangle)]
 pub extern "C" fn kit_rows_gauge(
     alloc: Global,
-    rows: &mut KitHandle,
+    rows: &mut KitRows,
     number: usize,
     time: &mut u64,
     value: &mut i64,
 ) -> i32
-    ensures ok { result ≡ pos 0 → of_one rows.old.inner.value (gauge_fault number) ≡ None }
-    ensures value { result ≡ pos 0 → (h : _) → rows.old.inner.value ≡ Some h
-        → gauge_at number h ≡ Some (Some (time.new, value.new)) }
-    ensures err { result ≢ pos 0 → option_map code_of (of_one rows.old.inner.value (gauge_fault number)) ≡ Some result }
-    ensures time { result ≢ pos 0 → time.new ≡ time.old }
-    ensures unchanged { result ≢ pos 0 → value.new ≡ value.old }
-    ensures kept { rows.new.inner.value ≡ rows.old.inner.value }
+    ensures code { result ≡ code_for (of_one (rows_of rows.old) (row_fault number (λ r. no_gauge r.total))) }
+    ensures value { result ≡ pos 0 → IfSome (rows_of rows.old)
+        (λ rs. row_part number (λ r. as_gauge r.total) rs ≡ Some (time.new, value.new)) }
+    ensures told { result ≢ pos 0 → (time.new ≡ time.old) × (value.new ≡ value.old) }
+    ensures kept { rows_of rows.new ≡ rows_of rows.old }
 {
-    let Some(content) = rows.take(alloc) else {
-        return NOTHING;
-    };
-    let outcome = gauge(&content, number);
-    rows.put(content);
-    match outcome {
+    match with!(alloc, rows => Rows(held), gauge(held, number)) {
         Ok((at, newest)) => {
             *time = at;
             *value = newest;

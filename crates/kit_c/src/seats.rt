@@ -1,23 +1,29 @@
 //! Writers that threads share: each thread has a handle of its own, with its place at the writer.
-ghost use Rattle.std.specs.Option.{option_map};
-ghost use Rattle.std.specs.Prelude.{◌≡◌, ◌≢◌, pos, None, Some, OnOk, OnErr, IfErr, IfOk};
+ghost use Rattle.std.specs.Prelude.{◌≡◌, ◌≢◌, ◌∷◌, [], pos, true, None, Some, OnOk, OnErr, IfErr, IfOk};
 ghost use Rattle.std.specs.Arc.{arc_value};
-ghost use Rattle.kit_c.specs.Codes.{code_of, no_memory};
-ghost use Rattle.kit_c.specs.Desks.{CollectRefused, HasCollected, HasHeld, HasMeasured, HasMeasuredAt, HasShared, HasSplit, HasTakenInAt, HoldRefused, IsHeldBy, MeasureRefused, NumberRefused, OneRefused, PlainRefused, PlainTwoRefused, SplitRefused, Stays, TakeInRefused, TwoRefused, WhyNotHeld, sharing_fault};
-ghost use Rattle.kit_c.specs.Faults.{full_fault, of_one};
-ghost use Rattle.kit_c.specs.Writers.{HasExport};
+ghost use Rattle.attr_kit.specs.Refusing.{first};
+ghost use Rattle.kit_c.specs.Calls.{code_for, full_fault, if_any, of_one};
+ghost use Rattle.kit_c.specs.Codes.{no_memory};
+ghost use Rattle.kit_c.specs.Desks.{CollectRefused, HasCollectedAt, HasHeld, HasMeasured, HasMeasuredAt, HasShared, HasSplit, HasTakenInAt, HoldRefused, IsEntered, IsFirstPlace, IsHeldBy, IsSplit, IsTakenInAt, MeasureRefused, OneRefused, PlainRefused, PlainTwoRefused, RecordingRefused, SplitRefused, Stays, TakeInRefused, TwoRefused, WhyNotHeld};
+ghost use Rattle.kit_c.specs.Held.{attributes_of, export_of, recorder_of, seat_of, writer_of};
 ghost use Rattle.kit_c.specs.Pairs.{number_in};
+ghost use Rattle.kit_c.specs.Typed.{export_in, is_export, is_seat, seat_in};
+ghost use Rattle.kit_c.specs.Writers.{HasExport, by_set};
+ghost use Rattle.recorder_kit.specs.Log.{ByNumber};
 ghost use Rattle.writer_kit.specs.Shared.{MayRefuseRound, StandsForSet};
-ghost use Rattle.writer_kit.specs.declared.shared.change.WriterChange.TheVariants.{Collected};
+ghost use Rattle.writer_kit.specs.declared.shared.change.WriterChange.TheVariants.{Collected, Measured, MeasuredHeld};
 
 use crate::content::Content;
 use crate::desk::Desk;
-use crate::fault::{FULL, Fault, NOTHING, OK, code_with_place};
-use crate::handle::KitHandle;
+use crate::fault::{FULL, Fault, NO_MEMORY, NOTHING, OK, WRONG_KIND, code_with_place};
+use crate::holding::HoldingWriter;
 use crate::pairs::{Pair, copy_numbers};
 use crate::taken::KitTaken;
-use attr_kit::Seq;
+use crate::typed::{KitAttributes, KitExport, KitRecorder, KitSeat, KitWriter};
+use crate::with::{with, with_two};
+use attr_kit::{AttrSet, NoMemory, Seq};
 use bumpalo::Bump;
+use recorder_kit::{Recorder, Taken};
 use std::alloc::Global;
 use std::sync::Arc;
 use turn_kit::{ChangeFault, SplitFault, Step};
@@ -27,18 +33,14 @@ use writer_kit::{CollectFault, MeasureFault, SharedWriter, Writer};
 const MOST_CHANGES: u64 = 1 << 62;
 
 // The first place at a copy of a writer, so that a refusal leaves the writer as it was.
-fn share_writer(alloc: Global, content: &Content) -> Result<Box<Content>, Fault>
-    ensures ok { OnOk result (sharing_fault content.now ≡ None) }
-    ensures value { IfOk result (λ made. HasShared (Some content.now) (Some made.value)) }
-    ensures err { IfErr result (λ f. code_of f ≢ no_memory → sharing_fault content.now ≡ Some f) }
+fn share(alloc: Global, holder: &HoldingWriter) -> Result<Box<Content>, NoMemory>
+    ensures kind { IfOk result (λ made. is_seat (Some made.value) ≡ true) }
+    ensures value { IfOk result (λ made. HasShared (Some holder.now) (seat_in (Some made.value))) }
 {
-    let Content::Writer(holder) = content else {
-        return Err(Fault::WrongKind);
-    };
     let numbers = holder.numbers()?;
     let writer = holder.writer().try_copy()?;
     let Ok((writer, seat)) = SharedWriter::new(alloc, writer, MOST_CHANGES) else {
-        return Err(Fault::NoMemory);
+        return Err(NoMemory);
     };
     let writer = Arc::new(alloc, writer.into_quiet())?;
     Ok(Box::new(
@@ -51,48 +53,45 @@ fn share_writer(alloc: Global, content: &Content) -> Result<Box<Content>, Fault>
     )?)
 }
 
-/// Shares a writer: from now on its handle has the first place at it, which `kit_seat_split` makes others of, one for each thread.
-/// What the writer held stays held, under the same numbers.
+/// Shares a writer: its handle has nothing then, and the seat is the first place at it, which `kit_seat_split` makes others of, one for
+/// each thread. What the writer held stays held, under the same numbers.
 ///
-/// Refused, in this order: `NOTHING`; `WRONG_KIND`; `NO_MEMORY`. O(size of the plan and the points).
+/// Refused, in this order: `FULL` of the seat; `NOTHING` of the writer; `NO_MEMORY`. O(size of the plan and the points).
 #[unsafe(no_mangle)]
-pub extern "C" fn kit_writer_share(alloc: Global, writer: &mut KitHandle) -> i32
-    ensures ok { result ≡ pos 0 → of_one writer.old.inner.value sharing_fault ≡ None }
-    ensures value { result ≡ pos 0 → HasShared writer.old.inner.value writer.new.inner.value }
-    ensures err { result ≢ pos 0 → result ≢ no_memory
-        → option_map code_of (of_one writer.old.inner.value sharing_fault) ≡ Some result }
-    ensures unchanged { result ≢ pos 0 → writer.new.inner.value ≡ writer.old.inner.value }
+pub extern "C" fn kit_writer_share(
+    alloc: Global,
+    writer: &mut KitWriter,
+    seat: &mut KitSeat,
+) -> i32
+    ensures code { result ≢ no_memory
+        → result ≡ code_for (first (full_fault (seat_of seat.old) ∷ of_one (writer_of writer.old) if_any ∷ [])) }
+    ensures value { result ≡ pos 0 → HasShared (writer_of writer.old) (seat_of seat.new) }
+    ensures gone { result ≡ pos 0 → writer_of writer.new ≡ None }
+    ensures unchanged { result ≢ pos 0 → writer_of writer.new ≡ writer_of writer.old }
+    ensures seat_kept { result ≢ pos 0 → seat_of seat.new ≡ seat_of seat.old }
 {
-    let Some(content) = writer.take(alloc) else {
-        return NOTHING;
-    };
-    match share_writer(alloc, &content) {
+    if seat.handle.full {
+        return FULL;
+    }
+    match with!(alloc, writer => Writer(held), share(alloc, held)) {
         Ok(made) => {
-            writer.put(made);
+            drop(writer.handle.take(alloc));
+            seat.handle.put(made);
             OK
         }
-        Err(fault) => {
-            writer.put(content);
-            fault.code()
-        }
+        Err(_) => NO_MEMORY,
     }
 }
 
-fn measure_at_seat(
-    content: &mut Content,
+fn measure_at(
+    desk: &mut Desk,
     instrument: usize,
-    set: &Content,
+    attributes: &AttrSet,
     value: i64,
 ) -> Result<(), Fault>
-    ensures value { OnOk result (HasMeasured instrument value (Some content.old) (Some set.now) (Some content.new)) }
-    ensures err { IfErr result (λ f. MeasureRefused instrument value content.old set.now content.new f) }
+    ensures value { OnOk result (IsEntered (Measured instrument attributes.now value) desk.old desk.new) }
+    ensures err { IfErr result (λ f. RecordingRefused (by_set instrument value attributes.now) desk.old desk.new f) }
 {
-    let Content::Desk(desk) = content else {
-        return Err(Fault::WrongKind);
-    };
-    let Content::Attributes(attributes) = set else {
-        return Err(Fault::WrongKind);
-    };
     match desk
         .writer
         .try_measure(&mut desk.seat, instrument, attributes, value)
@@ -106,49 +105,35 @@ fn measure_at_seat(
 
 /// Records a value at an attribute set by a seat, which is one thread's. It waits for nobody.
 ///
-/// Refused, in this order: `NOTHING` of the seat, then of the attributes; `WRONG_KIND`; `BUSY` where another thread's call has the
+/// Refused, in this order: `NOTHING` of the seat, then of the attributes; `BUSY` where another thread's call has the
 /// writer; `EXHAUSTED` where it accepted 2^62 changes; then as `kit_writer_measure` is. Nothing is recorded then, though the seat may
 /// have seen what others recorded.
 #[tactic(auto, using(crate::proofs::Desks::two_refused))]
 #[unsafe(no_mangle)]
 pub extern "C" fn kit_seat_measure(
     alloc: Global,
-    seat: &mut KitHandle,
+    seat: &mut KitSeat,
     instrument: usize,
-    attributes: &mut KitHandle,
+    attributes: &mut KitAttributes,
     value: i64,
     place: &mut u64,
 ) -> i32
-    ensures value { result ≡ pos 0
-        → HasMeasured instrument value seat.old.inner.value attributes.old.inner.value seat.new.inner.value }
+    ensures value { result ≡ pos 0 → HasMeasured instrument value (seat_of seat.old) (attributes_of attributes.old) (seat_of seat.new) }
     ensures told { result ≡ pos 0 → place.new ≡ place.old }
-    ensures err { result ≢ pos 0 → TwoRefused (MeasureRefused instrument value) seat.old.inner.value attributes.old.inner.value
-        seat.new.inner.value place.old place.new result }
-    ensures kept { attributes.new.inner.value ≡ attributes.old.inner.value }
+    ensures err { result ≢ pos 0 → TwoRefused (MeasureRefused instrument value) (seat_of seat.old) (attributes_of attributes.old)
+        (seat_of seat.new) place.old place.new result }
+    ensures kept { attributes_of attributes.new ≡ attributes_of attributes.old }
 {
-    let Some(mut content) = seat.take(alloc) else {
-        return NOTHING;
-    };
-    let Some(set) = attributes.take(alloc) else {
-        seat.put(content);
-        return NOTHING;
-    };
-    let outcome = measure_at_seat(&mut content, instrument, &set, value);
-    seat.put(content);
-    attributes.put(set);
-    match outcome {
+    match with_two!(alloc, seat => Desk(desk), attributes => Attributes(set), measure_at(desk, instrument, set, value)) {
         Ok(()) => OK,
         Err(fault) => code_with_place(fault, place),
     }
 }
 
-fn measure_held_at_seat(content: &mut Content, number: usize, value: i64) -> Result<(), Fault>
-    ensures value { OnOk result (HasMeasuredAt number value (Some content.old) (Some content.new)) }
-    ensures err { IfErr result (λ f. NumberRefused number value content.old content.new f) }
+fn measure_held_at(desk: &mut Desk, number: usize, value: i64) -> Result<(), Fault>
+    ensures value { OnOk result (IsEntered (MeasuredHeld number value) desk.old desk.new) }
+    ensures err { IfErr result (λ f. RecordingRefused (ByNumber number value) desk.old desk.new f) }
 {
-    let Content::Desk(desk) = content else {
-        return Err(Fault::WrongKind);
-    };
     match desk.writer.try_measure_held(&mut desk.seat, number, value) {
         Ok(()) => Ok(()),
         Err(ChangeFault::Busy) => Err(Fault::Busy),
@@ -159,28 +144,23 @@ fn measure_held_at_seat(content: &mut Content, number: usize, value: i64) -> Res
 
 /// Records a value by a seat at the pair of a number, whichever seat's call told it.
 ///
-/// Refused, in this order: `NOTHING`; `WRONG_KIND`; `BUSY` where another thread's call has the writer; `EXHAUSTED` where it accepted 2^62
+/// Refused, in this order: `NOTHING`; `BUSY` where another thread's call has the writer; `EXHAUSTED` where it accepted 2^62
 /// changes; then as `kit_writer_measure_held` is.
 #[tactic(auto, using(crate::proofs::Desks::one_refused))]
 #[unsafe(no_mangle)]
 pub extern "C" fn kit_seat_measure_held(
     alloc: Global,
-    seat: &mut KitHandle,
+    seat: &mut KitSeat,
     number: usize,
     value: i64,
     place: &mut u64,
 ) -> i32
-    ensures value { result ≡ pos 0 → HasMeasuredAt number value seat.old.inner.value seat.new.inner.value }
+    ensures value { result ≡ pos 0 → HasMeasuredAt number value (seat_of seat.old) (seat_of seat.new) }
     ensures told { result ≡ pos 0 → place.new ≡ place.old }
-    ensures err { result ≢ pos 0 → OneRefused (NumberRefused number value) seat.old.inner.value
-        seat.new.inner.value place.old place.new result }
+    ensures err { result ≢ pos 0
+        → OneRefused (RecordingRefused (ByNumber number value)) (seat_of seat.old) (seat_of seat.new) place.old place.new result }
 {
-    let Some(mut content) = seat.take(alloc) else {
-        return NOTHING;
-    };
-    let outcome = measure_held_at_seat(&mut content, number, value);
-    seat.put(content);
-    match outcome {
+    match with!(alloc, seat => Desk(desk), measure_held_at(desk, number, value)) {
         Ok(()) => OK,
         Err(fault) => code_with_place(fault, place),
     }
@@ -214,22 +194,17 @@ fn hold_pair(desk: &mut Desk, pair: &Pair) -> Result<usize, Fault>
     }
 }
 
-fn hold_at_seat(
+// Holds a pair, whose set is lent to it.
+fn hold_at(
     alloc: Global,
-    content: &mut Content,
+    desk: &mut Desk,
     instrument: usize,
-    set: &mut Content,
+    attributes: &mut AttrSet,
 ) -> Result<usize, Fault>
-    ensures value { IfOk result (λ n. HasHeld instrument n (Some content.old) (Some set.old) (Some content.new)) }
-    ensures err { IfErr result (λ f. HoldRefused instrument content.old set.old content.new f) }
-    ensures kept { set.new ≡ set.old }
+    ensures value { IfOk result (λ n. HasHeld instrument n (Some desk.old) (Some attributes.old) (Some desk.new)) }
+    ensures err { IfErr result (λ f. HoldRefused instrument desk.old attributes.old desk.new f) }
+    ensures kept { attributes.new ≡ attributes.old }
 {
-    let Content::Desk(desk) = content else {
-        return Err(Fault::WrongKind);
-    };
-    let Content::Attributes(attributes) = set else {
-        return Err(Fault::WrongKind);
-    };
     let pair = Pair::lend(alloc, instrument, attributes);
     let outcome = hold_pair(desk, &pair);
     *attributes = pair.give_back();
@@ -240,35 +215,24 @@ fn hold_at_seat(
 /// the numbers of the pairs that were held when the writer was shared, of those that it held itself, and those that the seat knew that it
 /// was split from. Of such a pair nothing changes, no memory is taken and the writer is not asked for.
 ///
-/// Refused, in this order: `NOTHING` of the seat, then of the attributes; `WRONG_KIND`; of a pair that the seat does not know `NO_MEMORY`;
+/// Refused, in this order: `NOTHING` of the seat, then of the attributes; of a pair that the seat does not know `NO_MEMORY`;
 /// `BUSY` where another thread's call has the writer; `EXHAUSTED` where it accepted 2^62 changes; `NO_INSTRUMENT`; `NO_MEMORY`.
 #[tactic(auto, using(crate::proofs::Desks::plain_two_refused))]
 #[unsafe(no_mangle)]
 pub extern "C" fn kit_seat_hold(
     alloc: Global,
-    seat: &mut KitHandle,
+    seat: &mut KitSeat,
     instrument: usize,
-    attributes: &mut KitHandle,
+    attributes: &mut KitAttributes,
     number: &mut usize,
 ) -> i32
-    ensures value { result ≡ pos 0
-        → HasHeld instrument number.new seat.old.inner.value attributes.old.inner.value seat.new.inner.value }
+    ensures value { result ≡ pos 0 → HasHeld instrument number.new (seat_of seat.old) (attributes_of attributes.old) (seat_of seat.new) }
     ensures told { result ≢ pos 0 → number.new ≡ number.old }
-    ensures err { result ≢ pos 0 → PlainTwoRefused (HoldRefused instrument) seat.old.inner.value attributes.old.inner.value
-        seat.new.inner.value result }
-    ensures kept { attributes.new.inner.value ≡ attributes.old.inner.value }
+    ensures err { result ≢ pos 0
+        → PlainTwoRefused (HoldRefused instrument) (seat_of seat.old) (attributes_of attributes.old) (seat_of seat.new) result }
+    ensures kept { attributes_of attributes.new ≡ attributes_of attributes.old }
 {
-    let Some(mut content) = seat.take(alloc) else {
-        return NOTHING;
-    };
-    let Some(mut set) = attributes.take(alloc) else {
-        seat.put(content);
-        return NOTHING;
-    };
-    let outcome = hold_at_seat(alloc, &mut content, instrument, &mut set);
-    seat.put(content);
-    attributes.put(set);
-    match outcome {
+    match with_two!(alloc, seat => Desk(desk), attributes => Attributes(set), hold_at(alloc, desk, instrument, set)) {
         Ok(told) => {
             *number = told;
             OK
@@ -277,23 +241,13 @@ pub extern "C" fn kit_seat_hold(
     }
 }
 
-fn take_in_at_seat(
-    content: &mut Content,
-    other: &mut Content,
-    most: usize,
-) -> Result<KitTaken, Fault>
-    ensures value { IfOk result (λ told. HasTakenInAt most (Some content.old) (Some other.old) (Some content.new) (Some other.new) told) }
-    ensures err { IfErr result (λ f. TakeInRefused content.old other.old content.new f) }
-    ensures kept { OnErr result (other.new ≡ other.old) }
+fn take_in_at(desk: &mut Desk, recorder: &mut Recorder, most: usize) -> Result<Taken, Fault>
+    ensures value { IfOk result (λ k. IsTakenInAt most desk.old recorder.old desk.new recorder.new k) }
+    ensures err { IfErr result (λ f. TakeInRefused desk.old recorder.old desk.new f) }
+    ensures kept { OnErr result (recorder.new ≡ recorder.old) }
 {
-    let Content::Desk(desk) = content else {
-        return Err(Fault::WrongKind);
-    };
-    let Content::Recorder(recorder) = other else {
-        return Err(Fault::WrongKind);
-    };
     match desk.writer.try_take_in(&mut desk.seat, recorder, most) {
-        Ok(taken) => Ok(KitTaken::of(taken)),
+        Ok(taken) => Ok(taken),
         Err(ChangeFault::Busy) => Err(Fault::Busy),
         Err(ChangeFault::Exhausted) => Err(Fault::Exhausted),
         Err(ChangeFault::Refused(_)) => Err(Fault::Measure(MeasureFault::Closed)),
@@ -303,37 +257,26 @@ fn take_in_at_seat(
 /// Takes in at most so many recordings of a log by a seat, from its front, as `kit_writer_take_in` does: by one change, so that others see
 /// all of them or none. By pieces other seats get in between.
 ///
-/// Refused, in this order: `NOTHING` of the seat, then of the recorder; `WRONG_KIND`; `BUSY` where another thread's call has the writer;
+/// Refused, in this order: `NOTHING` of the seat, then of the recorder; `BUSY` where another thread's call has the writer;
 /// `EXHAUSTED` where it accepted 2^62 changes; `CLOSED`. The log stays as it is then.
 #[tactic(auto, using(crate::proofs::Desks::plain_two_refused))]
 #[unsafe(no_mangle)]
 pub extern "C" fn kit_seat_take_in(
     alloc: Global,
-    seat: &mut KitHandle,
-    recorder: &mut KitHandle,
+    seat: &mut KitSeat,
+    recorder: &mut KitRecorder,
     most: usize,
     taken: &mut KitTaken,
 ) -> i32
-    ensures value { result ≡ pos 0 → HasTakenInAt most seat.old.inner.value recorder.old.inner.value
-        seat.new.inner.value recorder.new.inner.value taken.new }
+    ensures value { result ≡ pos 0 → HasTakenInAt most (seat_of seat.old) (recorder_of recorder.old)
+        (seat_of seat.new) (recorder_of recorder.new) taken.new }
     ensures told { result ≢ pos 0 → taken.new ≡ taken.old }
-    ensures err { result ≢ pos 0 → PlainTwoRefused TakeInRefused seat.old.inner.value recorder.old.inner.value
-        seat.new.inner.value result }
-    ensures kept { result ≢ pos 0 → recorder.new.inner.value ≡ recorder.old.inner.value }
+    ensures err { result ≢ pos 0 → PlainTwoRefused TakeInRefused (seat_of seat.old) (recorder_of recorder.old) (seat_of seat.new) result }
+    ensures kept { result ≢ pos 0 → recorder_of recorder.new ≡ recorder_of recorder.old }
 {
-    let Some(mut content) = seat.take(alloc) else {
-        return NOTHING;
-    };
-    let Some(mut other) = recorder.take(alloc) else {
-        seat.put(content);
-        return NOTHING;
-    };
-    let outcome = take_in_at_seat(&mut content, &mut other, most);
-    seat.put(content);
-    recorder.put(other);
-    match outcome {
+    match with_two!(alloc, seat => Desk(desk), recorder => Recorder(log), take_in_at(desk, log, most)) {
         Ok(told) => {
-            *taken = told;
+            *taken = KitTaken::of(told);
             OK
         }
         Err(fault) => fault.code(),
@@ -341,13 +284,11 @@ pub extern "C" fn kit_seat_take_in(
 }
 
 // Splits off another place. All memory is taken first, since nothing can be refused once the seat is split.
-fn split(alloc: Global, content: &mut Content) -> Result<Box<Content>, Fault>
-    ensures value { IfOk result (λ made. HasSplit (Some content.old) (Some content.new) (Some made.value)) }
-    ensures err { IfErr result (λ f. SplitRefused content.old content.new f) }
+fn split(alloc: Global, desk: &mut Desk) -> Result<Box<Content>, Fault>
+    ensures kind { IfOk result (λ made. is_seat (Some made.value) ≡ true) }
+    ensures value { IfOk result (λ made. HasSplit (Some desk.old) (Some desk.new) (seat_in (Some made.value))) }
+    ensures err { IfErr result (λ f. SplitRefused desk.old desk.new f) }
 {
-    let Content::Desk(desk) = content else {
-        return Err(Fault::WrongKind);
-    };
     let Ok(numbers) = copy_numbers(&desk.numbers) else {
         return Err(Fault::NoMemory);
     };
@@ -373,29 +314,23 @@ fn split(alloc: Global, content: &mut Content) -> Result<Box<Content>, Fault>
 
 /// Makes another seat at the writer, for another thread, which knows the numbers that this one knows.
 ///
-/// Refused, in this order: `FULL` of the new one; `NOTHING`; `WRONG_KIND`; `NO_MEMORY`; `BUSY` where another thread's call has the
+/// Refused, in this order: `FULL` of the new one; `NOTHING`; `NO_MEMORY`; `BUSY` where another thread's call has the
 /// writer; `SEATS_FULL` where 4,096 seats were made.
 #[tactic(auto, using(crate::proofs::Desks::plain_refused))]
 #[unsafe(no_mangle)]
-pub extern "C" fn kit_seat_split(alloc: Global, seat: &mut KitHandle, made: &mut KitHandle) -> i32
-    ensures ok { result ≡ pos 0 → full_fault made.old.inner.value ≡ None }
-    ensures value { result ≡ pos 0 → HasSplit seat.old.inner.value seat.new.inner.value made.new.inner.value }
-    ensures full { made.old.inner.value ≢ None → (result ≡ pos 4) × (seat.new.inner.value ≡ seat.old.inner.value) }
-    ensures err { result ≢ pos 0 → made.old.inner.value ≡ None
-        → PlainRefused SplitRefused seat.old.inner.value seat.new.inner.value result }
-    ensures unchanged { result ≢ pos 0 → made.new.inner.value ≡ made.old.inner.value }
+pub extern "C" fn kit_seat_split(alloc: Global, seat: &mut KitSeat, made: &mut KitSeat) -> i32
+    ensures ok { result ≡ pos 0 → full_fault (seat_of made.old) ≡ None }
+    ensures value { result ≡ pos 0 → HasSplit (seat_of seat.old) (seat_of seat.new) (seat_of made.new) }
+    ensures full { seat_of made.old ≢ None → (result ≡ pos 4) × (seat_of seat.new ≡ seat_of seat.old) }
+    ensures err { result ≢ pos 0 → seat_of made.old ≡ None → PlainRefused SplitRefused (seat_of seat.old) (seat_of seat.new) result }
+    ensures unchanged { result ≢ pos 0 → seat_of made.new ≡ seat_of made.old }
 {
-    if made.full {
+    if made.handle.full {
         return FULL;
     }
-    let Some(mut content) = seat.take(alloc) else {
-        return NOTHING;
-    };
-    let outcome = split(alloc, &mut content);
-    seat.put(content);
-    match outcome {
+    match with!(alloc, seat => Desk(desk), split(alloc, desk)) {
         Ok(new) => {
-            made.put(new);
+            made.handle.put(new);
             OK
         }
         Err(fault) => fault.code(),
@@ -416,7 +351,7 @@ impl Step<Writer> for Collect {
 
     ghost entry = { λ c. Collected c.time };
 
-    ghost replies = { λ c w made. HasExport w c.time (Some made.value) };
+    ghost replies = { λ c w made. HasExport w c.time (export_in (Some made.value)) };
 
     ghost refuses = { λ c w f. MayRefuseRound w c.time f };
 
@@ -435,13 +370,11 @@ impl Step<Writer> for Collect {
     }
 }
 
-fn collect_at_seat(alloc: Global, content: &mut Content, time: u64) -> Result<Box<Content>, Fault>
-    ensures value { IfOk result (λ made. HasCollected time (Some content.old) (Some content.new) (Some made.value)) }
-    ensures err { IfErr result (λ f. CollectRefused time content.old content.new f) }
+fn collect_at(alloc: Global, desk: &mut Desk, time: u64) -> Result<Box<Content>, Fault>
+    ensures kind { IfOk result (λ made. is_export (Some made.value) ≡ true) }
+    ensures value { IfOk result (λ made. HasCollectedAt time (Some desk.old) (Some desk.new) (export_in (Some made.value))) }
+    ensures err { IfErr result (λ f. CollectRefused time desk.old desk.new f) }
 {
-    let Content::Desk(desk) = content else {
-        return Err(Fault::WrongKind);
-    };
     match desk
         .writer
         .try_change(&mut desk.seat, Collect { alloc, time })
@@ -453,59 +386,36 @@ fn collect_at_seat(alloc: Global, content: &mut Content, time: u64) -> Result<Bo
     }
 }
 
-// Collects into a handle that has nothing.
+/// Collects the points of the writer by a seat, as an export: all that any seat recorded before it.
+///
+/// Refused, in this order: `FULL` of the export; `NOTHING`; `BUSY` where another thread's call has the writer;
+/// `EXHAUSTED` where it accepted 2^62 changes; then as `kit_writer_collect` is.
 #[tactic(auto, using(crate::proofs::Desks::one_refused))]
-fn collect_into(
+#[unsafe(no_mangle)]
+pub extern "C" fn kit_seat_collect(
     alloc: Global,
-    seat: &mut KitHandle,
+    seat: &mut KitSeat,
     time: u64,
-    export: &mut KitHandle,
+    export: &mut KitExport,
     place: &mut u64,
 ) -> i32
-    requires { export.old.inner.value ≡ None }
-    ensures value { result ≡ pos 0 → HasCollected time seat.old.inner.value seat.new.inner.value export.new.inner.value }
+    ensures ok { result ≡ pos 0 → full_fault (export_of export.old) ≡ None }
+    ensures value { result ≡ pos 0 → HasCollectedAt time (seat_of seat.old) (seat_of seat.new) (export_of export.new) }
     ensures told { result ≡ pos 0 → place.new ≡ place.old }
-    ensures err { result ≢ pos 0
-        → OneRefused (CollectRefused time) seat.old.inner.value seat.new.inner.value place.old place.new result }
-    ensures unchanged { result ≢ pos 0 → export.new.inner.value ≡ None }
+    ensures full { export_of export.old ≢ None
+        → (result ≡ pos 4) × (seat_of seat.new ≡ seat_of seat.old) × (place.new ≡ place.old) }
+    ensures err { result ≢ pos 0 → export_of export.old ≡ None
+        → OneRefused (CollectRefused time) (seat_of seat.old) (seat_of seat.new) place.old place.new result }
+    ensures unchanged { result ≢ pos 0 → export_of export.new ≡ export_of export.old }
 {
-    let Some(mut content) = seat.take(alloc) else {
-        return NOTHING;
-    };
-    let outcome = collect_at_seat(alloc, &mut content, time);
-    seat.put(content);
-    match outcome {
+    if export.handle.full {
+        return FULL;
+    }
+    match with!(alloc, seat => Desk(desk), collect_at(alloc, desk, time)) {
         Ok(made) => {
-            export.put(made);
+            export.handle.put(made);
             OK
         }
         Err(fault) => code_with_place(fault, place),
     }
-}
-
-/// Collects the points of the writer by a seat, as an export: all that any seat recorded before it.
-///
-/// Refused, in this order: `FULL` of the export; `NOTHING`; `WRONG_KIND`; `BUSY` where another thread's call has the writer;
-/// `EXHAUSTED` where it accepted 2^62 changes; then as `kit_writer_collect` is.
-#[unsafe(no_mangle)]
-pub extern "C" fn kit_seat_collect(
-    alloc: Global,
-    seat: &mut KitHandle,
-    time: u64,
-    export: &mut KitHandle,
-    place: &mut u64,
-) -> i32
-    ensures ok { result ≡ pos 0 → full_fault export.old.inner.value ≡ None }
-    ensures value { result ≡ pos 0 → HasCollected time seat.old.inner.value seat.new.inner.value export.new.inner.value }
-    ensures told { result ≡ pos 0 → place.new ≡ place.old }
-    ensures full { export.old.inner.value ≢ None
-        → (result ≡ pos 4) × (seat.new.inner.value ≡ seat.old.inner.value) × (place.new ≡ place.old) }
-    ensures err { result ≢ pos 0 → export.old.inner.value ≡ None
-        → OneRefused (CollectRefused time) seat.old.inner.value seat.new.inner.value place.old place.new result }
-    ensures unchanged { result ≢ pos 0 → export.new.inner.value ≡ export.old.inner.value }
-{
-    if export.full {
-        return FULL;
-    }
-    collect_into(alloc, seat, time, export, place)
 }

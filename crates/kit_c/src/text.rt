@@ -1,13 +1,14 @@
 //! Texts, in and out.
-ghost use Rattle.std.specs.Prelude.{◌≡◌, ◌≢◌, ◌++◌, pos, length, min, take, drop, None, Some, OnOk, OnErr, IfErr, IfOk};
+ghost use Rattle.std.specs.Prelude.{◌≡◌, ◌≢◌, pos, length, None, Some, IfSome, OnOk, IfErr, IfOk};
+ghost use Rattle.kit_c.specs.Calls.{code_for, filled, if_any, of_one};
 ghost use Rattle.kit_c.specs.Codes.{code_of, no_memory};
-ghost use Rattle.std.specs.Option.{option_map};
-ghost use Rattle.kit_c.specs.Faults.{copying_fault, of_one, text_fault};
-ghost use Rattle.kit_c.specs.Handles.{bytes_of};
+ghost use Rattle.kit_c.specs.Faults.{text_fault};
+ghost use Rattle.kit_c.specs.Held.{text_of as text_in};
 
 use crate::content::Content;
-use crate::fault::{Fault, NOTHING, OK};
-use crate::handle::KitHandle;
+use crate::fault::{Fault, NOTHING, OK, WRONG_KIND};
+use crate::typed::KitText;
+use crate::with::with;
 use attr_kit::Txt;
 use std::alloc::Global;
 
@@ -24,54 +25,45 @@ pub(crate) fn text_of(alloc: Global, bytes: &[u8]) -> Result<Txt, Fault>
     Ok(Txt::from_str(alloc, text)?)
 }
 
-// Copies the front of a text that has room, and answers how long the text is.
-fn copy_front(content: &Content, into: &mut [u8]) -> Result<usize, Fault>
-    ensures ok { OnOk result (copying_fault content.now ≡ None) }
-    ensures value { OnOk result (into.new
-        ≡ take (length into.old) (bytes_of content.now) ++ drop (length (bytes_of content.now)) into.old) }
-    ensures len { IfOk result (λ n. n ≡ length (bytes_of content.now)) }
-    ensures err { IfErr result (λ f. copying_fault content.now ≡ Some f) }
-    ensures unchanged { OnErr result (into.new ≡ into.old) }
-{
-    let Content::Text(text) = content else {
-        return Err(Fault::WrongKind);
+/// The text of a parameter, or the code that it is none.
+macro_rules! text {
+    ($alloc:ident, $bytes:ident) => {
+        match text_of($alloc, $bytes) {
+            Ok(text) => text,
+            Err(fault) => return fault.code(),
+        }
     };
-    let bytes = text.as_str().as_bytes();
-    let n = bytes.len().min(into.len());
-    into[..n].copy_from_slice(&bytes[..n]);
-    Ok(bytes.len())
+}
+
+pub(crate) use text;
+
+/// Copies the front of items that has room, and answers how many there are.
+pub(crate) fn copy_front<T: Copy>(items: &[T], into: &mut [T]) -> usize
+    ensures value { into.new ≡ filled items.now into.old }
+    ensures len { result ≡ length items.now }
+{
+    let n = items.len().min(into.len());
+    into[..n].copy_from_slice(&items[..n]);
+    items.len()
 }
 
 /// Copies the front of a text that has room, and tells in `len` how many bytes the whole text has, in UTF-8 and with no 0 at its
 /// end. The text stays.
 ///
-/// Refused, in this order: `NOTHING`; `WRONG_KIND`. Takes no memory.
+/// Refused: `NOTHING`. Takes no memory.
 #[unsafe(no_mangle)]
 pub extern "C" fn kit_text_copy(
     alloc: Global,
-    text: &mut KitHandle,
+    text: &mut KitText,
     into: &mut [u8],
     len: &mut usize,
 ) -> i32
-    ensures ok { result ≡ pos 0 → of_one text.old.inner.value copying_fault ≡ None }
-    ensures value { result ≡ pos 0 → (t : _) → text.old.inner.value ≡ Some t
-        → into.new ≡ take (length into.old) (bytes_of t) ++ drop (length (bytes_of t)) into.old }
-    ensures len { result ≡ pos 0 → (t : _) → text.old.inner.value ≡ Some t → len.new ≡ length (bytes_of t) }
-    ensures err { result ≢ pos 0 → option_map code_of (of_one text.old.inner.value copying_fault) ≡ Some result }
-    ensures unchanged { result ≢ pos 0 → into.new ≡ into.old }
-    ensures told { result ≢ pos 0 → len.new ≡ len.old }
-    ensures kept { text.new.inner.value ≡ text.old.inner.value }
+    ensures code { result ≡ code_for (of_one (text_in text.old) if_any) }
+    ensures value { result ≡ pos 0 → IfSome (text_in text.old) (λ t. into.new ≡ filled t into.old) }
+    ensures len { result ≡ pos 0 → IfSome (text_in text.old) (λ t. len.new ≡ length t) }
+    ensures told { result ≢ pos 0 → (into.new ≡ into.old) × (len.new ≡ len.old) }
+    ensures kept { text_in text.new ≡ text_in text.old }
 {
-    let Some(content) = text.take(alloc) else {
-        return NOTHING;
-    };
-    let outcome = copy_front(&content, into);
-    text.put(content);
-    match outcome {
-        Ok(whole) => {
-            *len = whole;
-            OK
-        }
-        Err(fault) => fault.code(),
-    }
+    *len = with!(alloc, text => Text(held), copy_front(held.as_str().as_bytes(), into));
+    OK
 }

@@ -1,180 +1,124 @@
 //! Writers.
-ghost use Rattle.std.specs.Prelude.{◌≡◌, ◌≢◌, ◌∷◌, [], pos, true, false, None, Some, OnOk, OnErr, IfErr, IfOk};
-ghost use Rattle.std.specs.Option.{option_map};
+ghost use Rattle.std.specs.Prelude.{◌≡◌, ◌≢◌, ◌∷◌, [], pos, true, false, None, Some, IfSome, OnOk, OnErr, IfErr, IfOk};
 ghost use Rattle.attr_kit.specs.Refusing.{first};
+ghost use Rattle.kit_c.specs.Calls.{code_for, full_fault, if_any, in_first, in_one, of_one, of_two};
 ghost use Rattle.kit_c.specs.Codes.{code_of, no_memory};
-ghost use Rattle.kit_c.specs.Faults.{collecting_fault, collection_fault, early_recording_fault, full_fault, of_one, of_two, recording_fault, restarting_fault, starting_fault, text_fault};
-ghost use Rattle.kit_c.specs.Handles.{HasPoints, after_collection, after_recording, after_restarting, in_first, in_one};
+ghost use Rattle.kit_c.specs.Faults.{text_fault};
+ghost use Rattle.kit_c.specs.Held.{attributes_of, export_of, plan_of, recorder_of, writer_of};
+ghost use Rattle.kit_c.specs.Holding.{after_holding, number_after};
 ghost use Rattle.kit_c.specs.Places.{place_after};
-ghost use Rattle.kit_c.specs.declared.content.Content.TheVariants as things;
-ghost use Rattle.kit_c.specs.Numbers.{HasNumberedPoints, IsNumberOf, IsPairHeld, after_holding, after_numbered, early_numbered_fault, holding_fault, numbered_fault};
-ghost use Rattle.kit_c.specs.Writers.{HasStarted, IsCollection, instance_of};
+ghost use Rattle.kit_c.specs.Takings.{HasTakenIn, taking_fault};
+ghost use Rattle.kit_c.specs.Typed.{export_in, is_export};
+ghost use Rattle.kit_c.specs.Writers.{HasCollected, HasExport, HasNumberedPoints, HasPoints, HasStarted, IsPairHeld, by_set, collecting_fault, early_recording_fault, holding_fault, instance_of, recording_fault, restarting_fault};
+ghost use Rattle.recorder_kit.specs.Log.{ByNumber};
+ghost use Rattle.writer_kit.specs.Recording.{after_collect, after_record, after_restart};
+ghost use Rattle.writer_kit.specs.Refusals.{collect_fault};
 
 use crate::content::Content;
-use crate::fault::{FULL, Fault, NOTHING, OK, code_with_place};
-use crate::handle::KitHandle;
+use crate::fault::{FULL, Fault, NO_MEMORY, NOTHING, OK, WRONG_KIND, code_with_place};
 use crate::holding::HoldingWriter;
 use crate::pairs::Pair;
-use crate::text::text_of;
+use crate::taken::KitTaken;
+use crate::text::{text, text_of};
+use crate::typed::{KitAttributes, KitExport, KitPlan, KitRecorder, KitWriter};
+use crate::with::{with, with_two};
+use attr_kit::AttrSet;
 use bumpalo::Bump;
 use point_kit::WriterId;
 use std::alloc::Global;
 use uuid::Uuid;
-use writer_kit::Writer;
-
-fn start_writer(
-    alloc: Global,
-    id: WriterId,
-    content: &Content,
-    start: u64,
-) -> Result<HoldingWriter, Fault>
-    ensures ok { OnOk result (starting_fault content.now ≡ None) }
-    ensures value { IfOk result (λ h. HasStarted id start (Some content.now) (Some (things.Writer h))) }
-    ensures err { IfErr result (λ f. code_of f ≢ no_memory → starting_fault content.now ≡ Some f) }
-{
-    let Content::Plan(plan) = content else {
-        return Err(Fault::WrongKind);
-    };
-    let writer = Writer::start(alloc, id, plan.try_copy()?, start)?;
-    Ok(HoldingWriter::new(alloc, writer))
-}
+use writer_kit::{CollectFault, MeasureFault, Writer};
 
 /// Starts a writer, which counts from a start on, under a copy of a plan. The instance is a UUID as two numbers. Times are
 /// nanoseconds since the Unix epoch.
 ///
-/// Refused, in this order: `FULL`; `NOT_TEXT` where the service is no UTF-8; `NOTHING` or `WRONG_KIND` of the plan; `NO_MEMORY`.
+/// Refused, in this order: `FULL`; `NOT_TEXT` where the service is no UTF-8; `NOTHING` of the plan; `NO_MEMORY`.
 #[unsafe(no_mangle)]
 pub extern "C" fn kit_writer_start(
     alloc: Global,
-    writer: &mut KitHandle,
-    plan: &mut KitHandle,
+    writer: &mut KitWriter,
+    plan: &mut KitPlan,
     service: &[u8],
     instance_high: u64,
     instance_low: u64,
     start: u64,
 ) -> i32
-    ensures ok { result ≡ pos 0 → first
-        (full_fault writer.old.inner.value ∷ text_fault service.now ∷ of_one plan.old.inner.value starting_fault ∷ []) ≡ None }
+    ensures code { result ≢ no_memory → result ≡ code_for
+        (first (full_fault (writer_of writer.old) ∷ text_fault service.now ∷ of_one (plan_of plan.old) if_any ∷ [])) }
     ensures value { result ≡ pos 0 → HasStarted (record { service = service.now; instance = instance_of instance_high instance_low }) start
-        plan.old.inner.value writer.new.inner.value }
-    ensures err { result ≢ pos 0 → result ≢ no_memory → option_map code_of (first
-        (full_fault writer.old.inner.value ∷ text_fault service.now ∷ of_one plan.old.inner.value starting_fault ∷ [])) ≡ Some result }
-    ensures unchanged { result ≢ pos 0 → writer.new.inner.value ≡ writer.old.inner.value }
-    ensures kept { plan.new.inner.value ≡ plan.old.inner.value }
+        (plan_of plan.old) (writer_of writer.new) }
+    ensures unchanged { result ≢ pos 0 → writer_of writer.new ≡ writer_of writer.old }
+    ensures kept { plan_of plan.new ≡ plan_of plan.old }
 {
-    if writer.full {
+    if writer.handle.full {
         return FULL;
     }
-    let service = match text_of(alloc, service) {
-        Ok(service) => service,
-        Err(fault) => return fault.code(),
-    };
-    let Some(content) = plan.take(alloc) else {
-        return NOTHING;
+    let service = text!(alloc, service);
+    let Ok(copy) = with!(alloc, plan => Plan(held), held.try_copy()) else {
+        return NO_MEMORY;
     };
     let id = WriterId {
         service,
         instance: Uuid::from_u64_pair(instance_high, instance_low),
     };
-    let made = start_writer(alloc, id, &content, start);
-    plan.put(content);
-    match made {
-        Ok(made) => writer.fill(alloc, Content::Writer(made)),
-        Err(fault) => fault.code(),
-    }
-}
-
-#[tactic(auto, using(crate::proofs::Codes::memory_of_recording))]
-fn measure_at_writer(
-    content: &mut Content,
-    instrument: usize,
-    set: &Content,
-    value: i64,
-) -> Result<(), Fault>
-    ensures ok { OnOk result (recording_fault instrument value content.old set.now ≡ None) }
-    ensures value { OnOk result (content.new ≡ after_recording instrument value content.old set.now) }
-    ensures err { IfErr result (λ f. code_of f ≢ no_memory → recording_fault instrument value content.old set.now ≡ Some f) }
-    ensures short { IfErr result (λ f. code_of f ≡ no_memory → early_recording_fault instrument value content.old set.now ≡ None) }
-    ensures held { HasPoints instrument value (Some content.old) (Some set.now) → IfErr result (λ f. code_of f ≢ no_memory) }
-    ensures unchanged { OnErr result (content.new ≡ content.old) }
-{
-    let Content::Writer(writer) = content else {
-        return Err(Fault::WrongKind);
-    };
-    let Content::Attributes(attributes) = set else {
-        return Err(Fault::WrongKind);
-    };
-    match writer.measure(instrument, attributes, value) {
-        Ok(()) => Ok(()),
-        Err(fault) => Err(Fault::Measure(fault)),
+    match Writer::start(alloc, id, copy, start) {
+        Ok(made) => writer
+            .handle
+            .fill(alloc, Content::Writer(HoldingWriter::new(alloc, made))),
+        Err(_) => NO_MEMORY,
     }
 }
 
 /// Records a value of an instrument at an attribute set, in the stream of every feed of the instrument or in none (OpenTelemetry
 /// Metrics API, "Counter", "Histogram", "Gauge").
 ///
-/// Refused, in this order: `NOTHING` of the writer, then of the attributes; `WRONG_KIND`; `CLOSED`; `NO_INSTRUMENT`; `NEGATIVE`;
+/// Refused, in this order: `NOTHING` of the writer, then of the attributes; `CLOSED`; `NO_INSTRUMENT`; `NEGATIVE`;
 /// `OVERFLOW` with the stream; `NO_MEMORY`, but that a feed which keeps a list of keys may want memory before it and the feeds behind
 /// it are looked at. O(feeds of the instrument); no memory where every feed keeps all keys and its stream has the point.
+#[tactic(auto, using(crate::proofs::Codes::memory_of_recording))]
 #[unsafe(no_mangle)]
 pub extern "C" fn kit_writer_measure(
     alloc: Global,
-    writer: &mut KitHandle,
+    writer: &mut KitWriter,
     instrument: usize,
-    attributes: &mut KitHandle,
+    attributes: &mut KitAttributes,
     value: i64,
     place: &mut u64,
 ) -> i32
-    ensures ok { result ≡ pos 0 → of_two writer.old.inner.value attributes.old.inner.value (recording_fault instrument value) ≡ None }
-    ensures value { result ≡ pos 0 → writer.new.inner.value
-        ≡ in_first (after_recording instrument value) writer.old.inner.value attributes.old.inner.value }
-    ensures err { result ≢ pos 0 → result ≢ no_memory
-        → option_map code_of (of_two writer.old.inner.value attributes.old.inner.value (recording_fault instrument value)) ≡ Some result }
-    ensures short { result ≡ no_memory
-        → of_two writer.old.inner.value attributes.old.inner.value (early_recording_fault instrument value) ≡ None }
-    ensures held { HasPoints instrument value writer.old.inner.value attributes.old.inner.value → result ≢ no_memory }
-    ensures place { result ≢ no_memory → place.new
-        ≡ place_after (of_two writer.old.inner.value attributes.old.inner.value (recording_fault instrument value)) place.old }
+    ensures code { result ≢ no_memory → result ≡ code_for (of_two (writer_of writer.old) (attributes_of attributes.old)
+        (λ w a. recording_fault (by_set instrument value a) w)) }
+    ensures value { result ≡ pos 0 → writer_of writer.new
+        ≡ in_first (λ w a. after_record w (by_set instrument value a)) (writer_of writer.old) (attributes_of attributes.old) }
+    ensures short { result ≡ no_memory → of_two (writer_of writer.old) (attributes_of attributes.old)
+        (λ w a. early_recording_fault (by_set instrument value a) w) ≡ None }
+    ensures held { HasPoints instrument value (writer_of writer.old) (attributes_of attributes.old) → result ≢ no_memory }
+    ensures place { result ≢ no_memory → place.new ≡ place_after (of_two (writer_of writer.old) (attributes_of attributes.old)
+        (λ w a. recording_fault (by_set instrument value a) w)) place.old }
     ensures no_memory { result ≡ no_memory → place.new ≡ place.old }
-    ensures unchanged { result ≢ pos 0 → writer.new.inner.value ≡ writer.old.inner.value }
-    ensures kept { attributes.new.inner.value ≡ attributes.old.inner.value }
+    ensures unchanged { result ≢ pos 0 → writer_of writer.new ≡ writer_of writer.old }
+    ensures kept { attributes_of attributes.new ≡ attributes_of attributes.old }
 {
-    let Some(mut content) = writer.take(alloc) else {
-        return NOTHING;
-    };
-    let Some(set) = attributes.take(alloc) else {
-        writer.put(content);
-        return NOTHING;
-    };
-    let outcome = measure_at_writer(&mut content, instrument, &set, value);
-    writer.put(content);
-    attributes.put(set);
-    match outcome {
+    match with_two!(alloc, writer => Writer(held), attributes => Attributes(set), held.measure(instrument, set, value)) {
         Ok(()) => OK,
-        Err(fault) => code_with_place(fault, place),
+        Err(fault) => code_with_place(Fault::Measure(fault), place),
     }
 }
 
-fn hold_at_writer(
+// Holds a pair, whose set is lent to it.
+fn hold_lent(
     alloc: Global,
-    content: &mut Content,
+    writer: &mut HoldingWriter,
     instrument: usize,
-    set: &mut Content,
+    attributes: &mut AttrSet,
 ) -> Result<usize, Fault>
-    ensures ok { OnOk result (holding_fault instrument content.old set.old ≡ None) }
-    ensures value { OnOk result (content.new ≡ after_holding instrument content.old set.old) }
-    ensures number { IfOk result (λ n. IsNumberOf n instrument (Some content.old) (Some set.old)) }
-    ensures err { IfErr result (λ f. code_of f ≢ no_memory → holding_fault instrument content.old set.old ≡ Some f) }
-    ensures held { IsPairHeld instrument (Some content.old) (Some set.old) → OnErr result ⊥ }
-    ensures unchanged { OnErr result (content.new ≡ content.old) }
-    ensures kept { set.new ≡ set.old }
+    ensures ok { OnOk result (holding_fault instrument writer.old attributes.old ≡ None) }
+    ensures value { OnOk result (writer.new ≡ after_holding writer.old instrument attributes.old) }
+    ensures number { IfOk result (λ n. n ≡ number_after writer.old instrument attributes.old) }
+    ensures err { IfErr result (λ f. code_of f ≢ no_memory → holding_fault instrument writer.old attributes.old ≡ Some f) }
+    ensures held { IsPairHeld instrument (Some writer.old) (Some attributes.old) → OnErr result ⊥ }
+    ensures unchanged { OnErr result (writer.new ≡ writer.old) }
+    ensures kept { attributes.new ≡ attributes.old }
 {
-    let Content::Writer(writer) = content else {
-        return Err(Fault::WrongKind);
-    };
-    let Content::Attributes(attributes) = set else {
-        return Err(Fault::WrongKind);
-    };
     let pair = Pair::lend(alloc, instrument, attributes);
     let outcome = writer.hold(&pair);
     *attributes = pair.give_back();
@@ -185,38 +129,28 @@ fn hold_at_writer(
 /// count from 0, and stay as long as the writer does, over restarts too. A pair that is held already has the number that it has: nothing
 /// changes and no memory is taken, so this may be called at each recording.
 ///
-/// Refused, in this order: `NOTHING` of the writer, then of the attributes; `WRONG_KIND`; of a pair that is not held already `CLOSED`;
+/// Refused, in this order: `NOTHING` of the writer, then of the attributes; of a pair that is not held already `CLOSED`;
 /// `NO_INSTRUMENT`; `NO_MEMORY`. O(size of the attributes).
 #[unsafe(no_mangle)]
 pub extern "C" fn kit_writer_hold(
     alloc: Global,
-    writer: &mut KitHandle,
+    writer: &mut KitWriter,
     instrument: usize,
-    attributes: &mut KitHandle,
+    attributes: &mut KitAttributes,
     number: &mut usize,
 ) -> i32
-    ensures ok { result ≡ pos 0 → of_two writer.old.inner.value attributes.old.inner.value (holding_fault instrument) ≡ None }
-    ensures value { result ≡ pos 0 → writer.new.inner.value
-        ≡ in_first (after_holding instrument) writer.old.inner.value attributes.old.inner.value }
-    ensures number { result ≡ pos 0 → IsNumberOf number.new instrument writer.old.inner.value attributes.old.inner.value }
+    ensures code { result ≢ no_memory
+        → result ≡ code_for (of_two (writer_of writer.old) (attributes_of attributes.old) (holding_fault instrument)) }
+    ensures value { result ≡ pos 0 → writer_of writer.new
+        ≡ in_first (λ w a. after_holding w instrument a) (writer_of writer.old) (attributes_of attributes.old) }
+    ensures number { result ≡ pos 0 → IfSome (writer_of writer.old)
+        (λ w. IfSome (attributes_of attributes.old) (λ a. number.new ≡ number_after w instrument a)) }
     ensures told { result ≢ pos 0 → number.new ≡ number.old }
-    ensures err { result ≢ pos 0 → result ≢ no_memory
-        → option_map code_of (of_two writer.old.inner.value attributes.old.inner.value (holding_fault instrument)) ≡ Some result }
-    ensures held { IsPairHeld instrument writer.old.inner.value attributes.old.inner.value → result ≡ pos 0 }
-    ensures unchanged { result ≢ pos 0 → writer.new.inner.value ≡ writer.old.inner.value }
-    ensures kept { attributes.new.inner.value ≡ attributes.old.inner.value }
+    ensures held { IsPairHeld instrument (writer_of writer.old) (attributes_of attributes.old) → result ≡ pos 0 }
+    ensures unchanged { result ≢ pos 0 → writer_of writer.new ≡ writer_of writer.old }
+    ensures kept { attributes_of attributes.new ≡ attributes_of attributes.old }
 {
-    let Some(mut content) = writer.take(alloc) else {
-        return NOTHING;
-    };
-    let Some(mut set) = attributes.take(alloc) else {
-        writer.put(content);
-        return NOTHING;
-    };
-    let outcome = hold_at_writer(alloc, &mut content, instrument, &mut set);
-    writer.put(content);
-    attributes.put(set);
-    match outcome {
+    match with_two!(alloc, writer => Writer(held), attributes => Attributes(set), hold_lent(alloc, held, instrument, set)) {
         Ok(told) => {
             *number = told;
             OK
@@ -225,224 +159,184 @@ pub extern "C" fn kit_writer_hold(
     }
 }
 
-#[tactic(auto, using(crate::proofs::Codes::memory_of_recording))]
-fn measure_held_at_writer(content: &mut Content, number: usize, value: i64) -> Result<(), Fault>
-    ensures ok { OnOk result (numbered_fault number value content.old ≡ None) }
-    ensures value { OnOk result (content.new ≡ after_numbered number value content.old) }
-    ensures err { IfErr result (λ f. code_of f ≢ no_memory → numbered_fault number value content.old ≡ Some f) }
-    ensures short { IfErr result (λ f. code_of f ≡ no_memory → early_numbered_fault number value content.old ≡ None) }
-    ensures held { HasNumberedPoints number value (Some content.old) → IfErr result (λ f. code_of f ≢ no_memory) }
-    ensures unchanged { OnErr result (content.new ≡ content.old) }
-{
-    let Content::Writer(writer) = content else {
-        return Err(Fault::WrongKind);
-    };
-    match writer.measure_held(number, value) {
-        Ok(()) => Ok(()),
-        Err(fault) => Err(Fault::Measure(fault)),
-    }
-}
-
 /// Records a value at the pair of a number, which `kit_writer_hold` told, as `kit_writer_measure` does.
 ///
-/// Refused, in this order: `NOTHING`; `WRONG_KIND`; `CLOSED`; `NO_HELD` where nothing is held under the number; `NEGATIVE`; `OVERFLOW`
+/// Refused, in this order: `NOTHING`; `CLOSED`; `NO_HELD` where nothing is held under the number; `NEGATIVE`; `OVERFLOW`
 /// with the stream; `NO_MEMORY` as of `kit_writer_measure`. O(feeds of the instrument), and from the first value on no set is looked up.
+#[tactic(auto, using(crate::proofs::Codes::memory_of_recording))]
 #[unsafe(no_mangle)]
 pub extern "C" fn kit_writer_measure_held(
     alloc: Global,
-    writer: &mut KitHandle,
+    writer: &mut KitWriter,
     number: usize,
     value: i64,
     place: &mut u64,
 ) -> i32
-    ensures ok { result ≡ pos 0 → of_one writer.old.inner.value (numbered_fault number value) ≡ None }
-    ensures value { result ≡ pos 0 → writer.new.inner.value ≡ in_one (after_numbered number value) writer.old.inner.value }
-    ensures err { result ≢ pos 0 → result ≢ no_memory
-        → option_map code_of (of_one writer.old.inner.value (numbered_fault number value)) ≡ Some result }
-    ensures short { result ≡ no_memory → of_one writer.old.inner.value (early_numbered_fault number value) ≡ None }
-    ensures held { HasNumberedPoints number value writer.old.inner.value → result ≢ no_memory }
+    ensures code { result ≢ no_memory → result ≡ code_for (of_one (writer_of writer.old) (recording_fault (ByNumber number value))) }
+    ensures value { result ≡ pos 0 → writer_of writer.new ≡ in_one (λ w. after_record w (ByNumber number value)) (writer_of writer.old) }
+    ensures short { result ≡ no_memory → of_one (writer_of writer.old) (early_recording_fault (ByNumber number value)) ≡ None }
+    ensures held { HasNumberedPoints number value (writer_of writer.old) → result ≢ no_memory }
     ensures place { result ≢ no_memory
-        → place.new ≡ place_after (of_one writer.old.inner.value (numbered_fault number value)) place.old }
+        → place.new ≡ place_after (of_one (writer_of writer.old) (recording_fault (ByNumber number value))) place.old }
     ensures no_memory { result ≡ no_memory → place.new ≡ place.old }
-    ensures unchanged { result ≢ pos 0 → writer.new.inner.value ≡ writer.old.inner.value }
+    ensures unchanged { result ≢ pos 0 → writer_of writer.new ≡ writer_of writer.old }
 {
-    let Some(mut content) = writer.take(alloc) else {
-        return NOTHING;
-    };
-    let outcome = measure_held_at_writer(&mut content, number, value);
-    writer.put(content);
-    match outcome {
+    match with!(alloc, writer => Writer(held), held.measure_held(number, value)) {
         Ok(()) => OK,
-        Err(fault) => code_with_place(fault, place),
+        Err(fault) => code_with_place(Fault::Measure(fault), place),
+    }
+}
+
+/// Takes in at most so many recordings of a log, from its front: each is measured as if it had been so then, one after the other, and
+/// forgotten. What is refused is refused by itself, and told: how many were recorded and refused, and why the first of these. Where memory
+/// is wanting it stops, and that recording and those behind it stay. What was noted before a restart counts in the incarnation that takes
+/// it in.
+///
+/// Refused, in this order: `NOTHING` of the writer, then of the recorder; `CLOSED`. O(what each recording takes).
+#[unsafe(no_mangle)]
+pub extern "C" fn kit_writer_take_in(
+    alloc: Global,
+    writer: &mut KitWriter,
+    recorder: &mut KitRecorder,
+    most: usize,
+    taken: &mut KitTaken,
+) -> i32
+    ensures code { result ≡ code_for (of_two (writer_of writer.old) (recorder_of recorder.old) taking_fault) }
+    ensures value { result ≡ pos 0 → HasTakenIn most (writer_of writer.old) (recorder_of recorder.old)
+        (writer_of writer.new) (recorder_of recorder.new) taken.new }
+    ensures told { result ≢ pos 0 → taken.new ≡ taken.old }
+    ensures unchanged { result ≢ pos 0 → writer_of writer.new ≡ writer_of writer.old }
+    ensures kept { result ≢ pos 0 → recorder_of recorder.new ≡ recorder_of recorder.old }
+{
+    match with_two!(alloc, writer => Writer(held), recorder => Recorder(log), held.take_in(log, most)) {
+        Ok(told) => {
+            *taken = KitTaken::of(told);
+            OK
+        }
+        Err(_) => Fault::Measure(MeasureFault::Closed).code(),
     }
 }
 
 // Collects, and closes the writer where asked. The writer is marked last, where nothing can be refused any more.
 #[tactic(auto, using(writer_kit::proofs::Refusals::collect_open, writer_kit::proofs::Refusals::collect_later, crate::proofs::Codes::memory_of_collection))]
-fn collect_writer(
+fn collected(
     alloc: Global,
-    content: &mut Content,
+    writer: &mut HoldingWriter,
     time: u64,
     closing: bool,
-) -> Result<Box<Content>, Fault>
-    ensures ok { OnOk result (collection_fault time content.old ≡ None) }
-    ensures value { OnOk result (content.new ≡ after_collection time closing content.old) }
-    ensures export { IfOk result (λ made. IsCollection time (Some content.old) (Some made.value)) }
-    ensures err { IfErr result (λ f. code_of f ≢ no_memory → collection_fault time content.old ≡ Some f) }
-    ensures short { IfErr result (λ f. code_of f ≡ no_memory → collection_fault time content.old ≡ None) }
-    ensures unchanged { OnErr result (content.new ≡ content.old) }
+) -> Result<Box<Content>, CollectFault>
+    ensures ok { OnOk result (collect_fault writer.old time ≡ None) }
+    ensures value { OnOk result (writer.new ≡ after_collect writer.old time closing) }
+    ensures kind { IfOk result (λ made. is_export (Some made.value) ≡ true) }
+    ensures export { IfOk result (λ made. HasExport writer.old time (export_in (Some made.value))) }
+    ensures err { IfErr result (λ f. f ≢ CollectFault.NoMemory → collect_fault writer.old time ≡ Some f) }
+    ensures short { IfErr result (λ f. f ≡ CollectFault.NoMemory → collect_fault writer.old time ≡ None) }
+    ensures unchanged { OnErr result (writer.new ≡ writer.old) }
 {
-    let Content::Writer(writer) = content else {
-        return Err(Fault::WrongKind);
-    };
     let arena = Bump::new(alloc);
-    let round = match writer.writer().look_round(&arena, time) {
-        Ok(round) => round,
-        Err(fault) => return Err(Fault::Collect(fault)),
+    let round = writer.writer().look_round(&arena, time)?;
+    let Ok(export) = round.copy_out(alloc, writer.writer().id()) else {
+        return Err(CollectFault::NoMemory);
     };
-    let export = round.copy_out(alloc, writer.writer().id())?;
-    let made = Box::new(alloc, Content::Export(export))?;
+    let Ok(made) = Box::new(alloc, Content::Export(export)) else {
+        return Err(CollectFault::NoMemory);
+    };
     writer.mark(time, closing);
     Ok(made)
-}
-
-// Collects into a handle that is to be empty.
-fn collect_into(
-    alloc: Global,
-    writer: &mut KitHandle,
-    time: u64,
-    closing: bool,
-    export: &mut KitHandle,
-    place: &mut u64,
-) -> i32
-    ensures ok { result ≡ pos 0 → collecting_fault time writer.old.inner.value export.old.inner.value ≡ None }
-    ensures value { result ≡ pos 0 → writer.new.inner.value ≡ in_one (after_collection time closing) writer.old.inner.value }
-    ensures export { result ≡ pos 0 → IsCollection time writer.old.inner.value export.new.inner.value }
-    ensures err { result ≢ pos 0 → result ≢ no_memory
-        → option_map code_of (collecting_fault time writer.old.inner.value export.old.inner.value) ≡ Some result }
-    ensures short { result ≡ no_memory → collecting_fault time writer.old.inner.value export.old.inner.value ≡ None }
-    ensures place { result ≢ no_memory
-        → place.new ≡ place_after (collecting_fault time writer.old.inner.value export.old.inner.value) place.old }
-    ensures no_memory { result ≡ no_memory → place.new ≡ place.old }
-    ensures unchanged { result ≢ pos 0 → writer.new.inner.value ≡ writer.old.inner.value }
-    ensures export_kept { result ≢ pos 0 → export.new.inner.value ≡ export.old.inner.value }
-{
-    if export.full {
-        return FULL;
-    }
-    let Some(mut content) = writer.take(alloc) else {
-        return NOTHING;
-    };
-    let made = collect_writer(alloc, &mut content, time, closing);
-    writer.put(content);
-    match made {
-        Ok(made) => {
-            export.put(made);
-            OK
-        }
-        Err(fault) => code_with_place(fault, place),
-    }
 }
 
 /// Collects the points since the start, as an export. Exports are cumulative, so a lost one is covered by the next (OpenTelemetry
 /// Metrics SDK, "MetricReader", Collect). The time is in nanoseconds since the Unix epoch.
 ///
-/// Refused, in this order: `FULL`; `NOTHING`; `WRONG_KIND`; `CLOSED`; `TIME_NOT_AFTER` with the last collection or the start;
+/// Refused, in this order: `FULL`; `NOTHING`; `CLOSED`; `TIME_NOT_AFTER` with the last collection or the start;
 /// `NO_MEMORY`. O(size of the points).
+#[tactic(auto, using(crate::proofs::Codes::memory_of_collection))]
 #[unsafe(no_mangle)]
 pub extern "C" fn kit_writer_collect(
     alloc: Global,
-    writer: &mut KitHandle,
+    writer: &mut KitWriter,
     time: u64,
-    export: &mut KitHandle,
+    export: &mut KitExport,
     place: &mut u64,
 ) -> i32
-    ensures ok { result ≡ pos 0 → collecting_fault time writer.old.inner.value export.old.inner.value ≡ None }
-    ensures value { result ≡ pos 0 → writer.new.inner.value ≡ in_one (after_collection time false) writer.old.inner.value }
-    ensures export { result ≡ pos 0 → IsCollection time writer.old.inner.value export.new.inner.value }
-    ensures err { result ≢ pos 0 → result ≢ no_memory
-        → option_map code_of (collecting_fault time writer.old.inner.value export.old.inner.value) ≡ Some result }
-    ensures short { result ≡ no_memory → collecting_fault time writer.old.inner.value export.old.inner.value ≡ None }
+    ensures code { result ≢ no_memory → result ≡ code_for (collecting_fault time (writer_of writer.old) (export_of export.old)) }
+    ensures value { result ≡ pos 0 → writer_of writer.new ≡ in_one (λ w. after_collect w time false) (writer_of writer.old) }
+    ensures export { result ≡ pos 0 → HasCollected time (writer_of writer.old) (export_of export.new) }
+    ensures short { result ≡ no_memory → collecting_fault time (writer_of writer.old) (export_of export.old) ≡ None }
     ensures place { result ≢ no_memory
-        → place.new ≡ place_after (collecting_fault time writer.old.inner.value export.old.inner.value) place.old }
+        → place.new ≡ place_after (collecting_fault time (writer_of writer.old) (export_of export.old)) place.old }
     ensures no_memory { result ≡ no_memory → place.new ≡ place.old }
-    ensures unchanged { result ≢ pos 0 → writer.new.inner.value ≡ writer.old.inner.value }
-    ensures export_kept { result ≢ pos 0 → export.new.inner.value ≡ export.old.inner.value }
+    ensures unchanged { result ≢ pos 0 → writer_of writer.new ≡ writer_of writer.old }
+    ensures export_kept { result ≢ pos 0 → export_of export.new ≡ export_of export.old }
 {
-    collect_into(alloc, writer, time, false, export, place)
+    if export.handle.full {
+        return FULL;
+    }
+    match with!(alloc, writer => Writer(held), collected(alloc, held, time, false)) {
+        Ok(made) => {
+            export.handle.put(made);
+            OK
+        }
+        Err(fault) => code_with_place(Fault::Collect(fault), place),
+    }
 }
 
 /// Collects for the last time, and closes the writer (OpenTelemetry Metrics SDK, "MetricReader", Shutdown).
 ///
 /// Refused as `kit_writer_collect` is.
+#[tactic(auto, using(crate::proofs::Codes::memory_of_collection))]
 #[unsafe(no_mangle)]
 pub extern "C" fn kit_writer_shutdown(
     alloc: Global,
-    writer: &mut KitHandle,
+    writer: &mut KitWriter,
     time: u64,
-    export: &mut KitHandle,
+    export: &mut KitExport,
     place: &mut u64,
 ) -> i32
-    ensures ok { result ≡ pos 0 → collecting_fault time writer.old.inner.value export.old.inner.value ≡ None }
-    ensures value { result ≡ pos 0 → writer.new.inner.value ≡ in_one (after_collection time true) writer.old.inner.value }
-    ensures export { result ≡ pos 0 → IsCollection time writer.old.inner.value export.new.inner.value }
-    ensures err { result ≢ pos 0 → result ≢ no_memory
-        → option_map code_of (collecting_fault time writer.old.inner.value export.old.inner.value) ≡ Some result }
-    ensures short { result ≡ no_memory → collecting_fault time writer.old.inner.value export.old.inner.value ≡ None }
+    ensures code { result ≢ no_memory → result ≡ code_for (collecting_fault time (writer_of writer.old) (export_of export.old)) }
+    ensures value { result ≡ pos 0 → writer_of writer.new ≡ in_one (λ w. after_collect w time true) (writer_of writer.old) }
+    ensures export { result ≡ pos 0 → HasCollected time (writer_of writer.old) (export_of export.new) }
+    ensures short { result ≡ no_memory → collecting_fault time (writer_of writer.old) (export_of export.old) ≡ None }
     ensures place { result ≢ no_memory
-        → place.new ≡ place_after (collecting_fault time writer.old.inner.value export.old.inner.value) place.old }
+        → place.new ≡ place_after (collecting_fault time (writer_of writer.old) (export_of export.old)) place.old }
     ensures no_memory { result ≡ no_memory → place.new ≡ place.old }
-    ensures unchanged { result ≢ pos 0 → writer.new.inner.value ≡ writer.old.inner.value }
-    ensures export_kept { result ≢ pos 0 → export.new.inner.value ≡ export.old.inner.value }
+    ensures unchanged { result ≢ pos 0 → writer_of writer.new ≡ writer_of writer.old }
+    ensures export_kept { result ≢ pos 0 → export_of export.new ≡ export_of export.old }
 {
-    collect_into(alloc, writer, time, true, export, place)
-}
-
-#[tactic(auto, using(crate::proofs::Codes::memory_of_restart))]
-fn restart_writer(content: &mut Content, start: u64) -> Result<(), Fault>
-    ensures ok { OnOk result (restarting_fault start content.old ≡ None) }
-    ensures value { OnOk result (content.new ≡ after_restarting start content.old) }
-    ensures err { IfErr result (λ f. code_of f ≢ no_memory → restarting_fault start content.old ≡ Some f) }
-    ensures short { IfErr result (λ f. code_of f ≡ no_memory → restarting_fault start content.old ≡ None) }
-    ensures unchanged { OnErr result (content.new ≡ content.old) }
-{
-    let Content::Writer(writer) = content else {
-        return Err(Fault::WrongKind);
-    };
-    match writer.restart(start) {
-        Ok(()) => Ok(()),
-        Err(fault) => Err(Fault::Restart(fault)),
+    if export.handle.full {
+        return FULL;
+    }
+    match with!(alloc, writer => Writer(held), collected(alloc, held, time, true)) {
+        Ok(made) => {
+            export.handle.put(made);
+            OK
+        }
+        Err(fault) => code_with_place(Fault::Collect(fault), place),
     }
 }
 
 /// Begins a new incarnation under a later start: the writer is open and has recorded nothing (OpenTelemetry Metrics Data Model,
 /// "Resets and Gaps").
 ///
-/// Refused, in this order: `NOTHING`; `WRONG_KIND`; `START_NOT_AFTER` with the start so far; `NO_MEMORY`.
+/// Refused, in this order: `NOTHING`; `START_NOT_AFTER` with the start so far; `NO_MEMORY`.
+#[tactic(auto, using(crate::proofs::Codes::memory_of_restart))]
 #[unsafe(no_mangle)]
 pub extern "C" fn kit_writer_restart(
     alloc: Global,
-    writer: &mut KitHandle,
+    writer: &mut KitWriter,
     start: u64,
     place: &mut u64,
 ) -> i32
-    ensures ok { result ≡ pos 0 → of_one writer.old.inner.value (restarting_fault start) ≡ None }
-    ensures value { result ≡ pos 0 → writer.new.inner.value ≡ in_one (after_restarting start) writer.old.inner.value }
-    ensures err { result ≢ pos 0 → result ≢ no_memory
-        → option_map code_of (of_one writer.old.inner.value (restarting_fault start)) ≡ Some result }
-    ensures short { result ≡ no_memory → of_one writer.old.inner.value (restarting_fault start) ≡ None }
+    ensures code { result ≢ no_memory → result ≡ code_for (of_one (writer_of writer.old) (restarting_fault start)) }
+    ensures value { result ≡ pos 0 → writer_of writer.new ≡ in_one (λ w. after_restart w start) (writer_of writer.old) }
+    ensures short { result ≡ no_memory → of_one (writer_of writer.old) (restarting_fault start) ≡ None }
     ensures place { result ≢ no_memory
-        → place.new ≡ place_after (of_one writer.old.inner.value (restarting_fault start)) place.old }
+        → place.new ≡ place_after (of_one (writer_of writer.old) (restarting_fault start)) place.old }
     ensures no_memory { result ≡ no_memory → place.new ≡ place.old }
-    ensures unchanged { result ≢ pos 0 → writer.new.inner.value ≡ writer.old.inner.value }
+    ensures unchanged { result ≢ pos 0 → writer_of writer.new ≡ writer_of writer.old }
 {
-    let Some(mut content) = writer.take(alloc) else {
-        return NOTHING;
-    };
-    let outcome = restart_writer(&mut content, start);
-    writer.put(content);
-    match outcome {
+    match with!(alloc, writer => Writer(held), held.restart(start)) {
         Ok(()) => OK,
-        Err(fault) => code_with_place(fault, place),
+        Err(fault) => code_with_place(Fault::Restart(fault), place),
     }
 }

@@ -1,0 +1,8 @@
+use Rattle.std.specs.Arc.{arc_value}
+use Rattle.kit_c.proofs.Knowing.{know_tried}
+use Rattle.kit_c.proofs.seats.collect_at.Goals as goal
+
+pub invariant_of-desk-clause-known : goal.invariant_of-desk-clause-known
+invariant_of-desk-clause-known c =
+    know_tried (arc_value c.args.desk.now.writer) c.args.desk.now.seat c.try_change.new.seat c.args.desk.now.numbers.entries _ _ _ _ _ _ _ c.try_change.result
+    c.try_change.ensures.ok c.try_change.ensures.busy c.try_change.ensures.exhausted c.try_change.ensures.refused c.args.desk.now.known

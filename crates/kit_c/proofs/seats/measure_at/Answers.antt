@@ -1,0 +1,8 @@
+use Rattle.std.specs.Arc.{arc_value}
+use Rattle.kit_c.proofs.Knowing.{know_tried}
+use Rattle.kit_c.proofs.seats.measure_at.Goals as goal
+
+pub invariant_of-desk-clause-known : goal.invariant_of-desk-clause-known
+invariant_of-desk-clause-known c =
+    know_tried (arc_value c.args.desk.now.writer) c.args.desk.now.seat c.try_measure.new.seat c.args.desk.now.numbers.entries _ _ _ _ _ _ _ c.try_measure.result
+    c.try_measure.ensures.ok c.try_measure.ensures.busy c.try_measure.ensures.exhausted c.try_measure.ensures.refused c.args.desk.now.known

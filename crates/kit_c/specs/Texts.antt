@@ -1,0 +1,51 @@
+-- What codes say.
+use Rattle.std.specs.Prelude.{ℕ, ℤ, pos, List, [], ◌==◌, cond, codes}
+
+abbrev pub numbered_text : ℕ → List ℕ
+numbered_text n =
+    cond (n == 0) (codes "done") (
+    cond (n == 1) (codes "memory was refused") (
+    cond (n == 2) (codes "a handle that is read has nothing") (
+    cond (n == 3) (codes "a handle has a thing of another kind") (
+    cond (n == 4) (codes "the handle that is to be filled has something") (
+    cond (n == 5) (codes "a text is not UTF-8") (
+    cond (n == 6) (codes "a number stands for nothing here") (
+    cond (n == 7) (codes "nothing is held under this number") (
+    cond (n == 8) (codes "there is no row of this number") (
+    cond (n == 9) (codes "there is no point of what is asked for") (
+    cond (n == 10) (codes "the writer was shut down") (
+    cond (n == 11) (codes "there is no instrument of this number") (
+    cond (n == 12) (codes "the instrument takes no value below 0") (
+    cond (n == 13) (codes "a total would leave 64 bits") (
+    cond (n == 14) (codes "the time is not after that of the last collection") (
+    cond (n == 15) (codes "the start is not after the start so far") (
+    cond (n == 16) (codes "a call of another thread has the writer") (
+    cond (n == 17) (codes "the writer accepted as many changes as it may") (
+    cond (n == 18) (codes "the writer has as many seats as it may") (
+    cond (n == 19) (codes "there is no item of this number") (
+    cond (n == 20) (codes "a key is empty") (
+    cond (n == 30) (codes "a name breaks the rule of names") (
+    cond (n == 31) (codes "a unit breaks the rule of units") (
+    cond (n == 32) (codes "bounds do not strictly rise, or are too many") (
+    cond (n == 33) (codes "a new name breaks the rule of names") (
+    cond (n == 34) (codes "a view of every name gives a new one") (
+    cond (n == 35) (codes "an aggregation does not fit its instrument") (
+    cond (n == 36) (codes "two instruments feed one stream") (
+    cond (n == 37) (codes "the limit is 0") (
+    cond (n == 40) (codes "a total is wider than the number that it is to be told in") (
+    cond (n == 41) (codes "there is no bucket of this number") (
+    cond (n == 42) (codes "a row or a value is of another shape") (
+    cond (n == 50) (codes "the message goes to another id") (
+    cond (n == 60) (codes "bytes end within what they begin") (
+    cond (n == 61) (codes "bytes do not begin as an export or a message does") (
+    cond (n == 62) (codes "the version is none that is known") (
+    cond (n == 63) (codes "a value is not in its one form") (
+    cond (n == 64) (codes "the checksum is not that of the bytes before it") (
+    cond (n == 65) (codes "the values are none that an export can have") (
+    cond (n == 70) (codes "a log has as many recordings as it may") (
+    []))))))))))))))))))))))))))))))))))))))))
+
+-- a number that is no code has no text
+unfoldable pub code_text : ℤ → List ℕ
+code_text (pos n) = numbered_text n
+code_text other = []
