@@ -1,4 +1,4 @@
-/* A generic exporter: of each stream of a plan every row that a gateway answers, with its labels. It knows no name beforehand. */
+/* A generic exporter: every stream that a gateway holds, and of each every row with its labels. It knows no name beforehand. */
 #include <inttypes.h>
 #include <kotskhin.h>
 #include <stdio.h>
@@ -80,21 +80,22 @@ static void print_stream(kit_gateway *gateway, kit_streams *streams, size_t stre
     kit_ask_free(&ask), kit_rows_free(&rows);
 }
 
-static void print_gateway(kit_gateway *gateway, kit_plan *plan) {
+static void print_gateway(kit_gateway *gateway) {
     kit_streams streams = KIT_EMPTY;
     size_t count = 0;
-    MUST(kit_plan_streams(plan, &streams));
+    MUST(kit_gateway_streams(gateway, &streams));
     MUST(kit_streams_len(&streams, &count));
     for (size_t i = 0; i < count; i++) print_stream(gateway, &streams, i);
     kit_streams_free(&streams);
 }
 
 /* What two shops record under one plan, each at a route and a status of its own. */
-static void fill(kit_gateway *gateway, kit_plan *plan) {
+static void fill(kit_gateway *gateway) {
     const int64_t bounds[] = {10, 100};
     kit_instruments instruments = KIT_EMPTY;
     kit_view view = KIT_EMPTY;
     kit_views views = KIT_EMPTY;
+    kit_plan plan = KIT_EMPTY;
     uint64_t place = 0, second = 0, changed = 0;
     MUST(kit_instruments_add(&instruments, TEXT("app"), TEXT("requests"), TEXT("1"), KIT_COUNTER));
     MUST(kit_instruments_add(&instruments, TEXT("app"), TEXT("depth"), TEXT("1"), KIT_GAUGE));
@@ -102,7 +103,7 @@ static void fill(kit_gateway *gateway, kit_plan *plan) {
     MUST(kit_view_of_name(&view, TEXT("size")));
     MUST(kit_view_buckets(&view, bounds, 2));
     MUST(kit_views_add(&views, &view));
-    MUST(kit_plan_build(plan, &instruments, &views, KIT_DEFAULT_LIMIT, &place, &second));
+    MUST(kit_plan_build(&plan, &instruments, &views, KIT_DEFAULT_LIMIT, &place, &second));
     for (uint64_t shop = 1; shop <= 2; shop++) {
         kit_pairs pairs = KIT_EMPTY;
         kit_attributes set = KIT_EMPTY;
@@ -112,7 +113,7 @@ static void fill(kit_gateway *gateway, kit_plan *plan) {
         MUST(kit_pairs_add_whole(&pairs, TEXT("status"), 200));
         MUST(kit_pairs_add_truth(&pairs, TEXT("cached"), shop == 2));
         MUST(kit_attributes_make(&set, &pairs, &place));
-        MUST(kit_writer_start(&writer, plan, TEXT("shop"), 0, shop, 100));
+        MUST(kit_writer_start(&writer, &plan, TEXT("shop"), 0, shop, 100));
         for (size_t instrument = 0; instrument < 3; instrument++) {
             for (int64_t value = 1; value < 1000; value *= 10) MUST(kit_writer_measure(&writer, instrument, &set, value, &place));
         }
@@ -120,15 +121,14 @@ static void fill(kit_gateway *gateway, kit_plan *plan) {
         MUST(kit_gateway_take(gateway, &made, &changed));
         kit_pairs_free(&pairs), kit_attributes_free(&set), kit_writer_free(&writer), kit_export_free(&made);
     }
-    kit_instruments_free(&instruments), kit_view_free(&view), kit_views_free(&views);
+    kit_instruments_free(&instruments), kit_view_free(&view), kit_views_free(&views), kit_plan_free(&plan);
 }
 
 int main(void) {
     kit_gateway gateway = KIT_EMPTY;
-    kit_plan plan = KIT_EMPTY;
     MUST(kit_gateway_open(&gateway, 1));
-    fill(&gateway, &plan);
-    print_gateway(&gateway, &plan);
-    kit_gateway_free(&gateway), kit_plan_free(&plan);
+    fill(&gateway);
+    print_gateway(&gateway);
+    kit_gateway_free(&gateway);
     return 0;
 }

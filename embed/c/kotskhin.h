@@ -762,6 +762,11 @@ KIT_CHECKED int32_t kit_rows_table(KIT_READS kit_rows *rows, kit_text *text);
  * Refused, in this order: KIT_FULL; KIT_NOTHING; KIT_NO_MEMORY. O(streams). */
 KIT_CHECKED int32_t kit_plan_streams(KIT_READS kit_plan *plan, kit_streams *streams);
 
+/* The streams of which a gateway, which stays, holds points: each once, in the order in which the points' keys name them first.
+ *
+ * Refused, in this order: KIT_FULL; KIT_NOTHING; KIT_NO_MEMORY. O(points), and memory for the streams alone. */
+KIT_CHECKED int32_t kit_gateway_streams(KIT_READS kit_gateway *gateway, kit_streams *streams);
+
 /* Tells how many streams there are: they are numbered from 0.
  *
  * Refused: KIT_NOTHING. O(1), takes no memory. */

@@ -233,6 +233,7 @@ CALL(attributes_key, AS(attributes, 0), 0, room, sizeof room, &size)
 CALL(attributes_value, AS(attributes, 0), 0, &shape, &whole)
 CALL(attributes_text, AS(attributes, 0), 0, room, sizeof room, &size)
 CALL(plan_streams, AS(plan, 0), AS(streams, 1))
+CALL(gateway_streams, AS(gateway, 0), AS(streams, 1))
 CALL(streams_len, AS(streams, 0), &size)
 CALL(streams_text, AS(streams, 0), 0, 1, room, sizeof room, &size)
 CALL(streams_shape, AS(streams, 0), 2, &shape, &size)
@@ -279,7 +280,7 @@ static const struct row CALLS[] = {
     ROW(attributes_text, {READ, ATTRIBUTES}), ROW(plan_streams, {READ, PLAN}, {FILLED, STREAMS}), ROW(streams_len, {READ, STREAMS}),
     ROW(streams_text, {READ, STREAMS}), ROW(streams_shape, {READ, STREAMS}), ROW(streams_bounds, {READ, STREAMS}),
     ROW(ask_stream, {FILLED, ASK}, {READ, STREAMS}), ROW(rows_wide_sum, {READ, TOTALS}), ROW(rows_wide_count, {READ, HISTOGRAM_ROWS}),
-    ROW(gateway_encode, {READ, GATEWAY}, {FILLED, BYTES}), ROW(message_gateway, {READ, MESSAGE}, {FILLED, GATEWAY}),
+    ROW(gateway_streams, {READ, GATEWAY}, {FILLED, STREAMS}), ROW(gateway_encode, {READ, GATEWAY}, {FILLED, BYTES}), ROW(message_gateway, {READ, MESSAGE}, {FILLED, GATEWAY}),
 };
 
 static bool is_read(struct hand hand) { return hand.part == READ || hand.part == MAY_READ; }

@@ -811,7 +811,7 @@ static void streams(kit_plan *plan, kit_attributes *four) {
     kit_plan no_plan = KIT_EMPTY;
     kit_writer writer = KIT_EMPTY;
     kit_export made = KIT_EMPTY;
-    kit_gateway gateway = KIT_EMPTY;
+    kit_gateway gateway = KIT_EMPTY, no_gateway = KIT_EMPTY;
     kit_ask ask = KIT_EMPTY;
     kit_rows rows = KIT_EMPTY;
     kit_attributes set = KIT_EMPTY;
@@ -852,9 +852,12 @@ static void streams(kit_plan *plan, kit_attributes *four) {
     uint64_t high = 77, low = 77, start = 77, time = 77;
     CHECK(!kit_gateway_read(&gateway, &id, &len) && id == 5 && len == 1);
     kept(&gateway);
+    CHECK(kit_gateway_streams(&gateway, &list) == KIT_FULL && kit_gateway_streams(&no_gateway, &nothing) == KIT_NOTHING && !nothing.handle.full);
+    EACH_GROWTH(kit_gateway_streams(&gateway, &nothing), !nothing.handle.full && gateway.handle.full);
+    CHECK(!kit_streams_len(&nothing, &len) && len == 1 && !kit_streams_text(&nothing, 0, 1, text, sizeof text, &len) && is(text, len, "requests"));
     CHECK(!kit_export_read(&made, &high, &low, &start, &time, &len) && high == 8 && low == 9 && start == 100 && time == 200 && len == 1);
     CHECK(!kit_export_service(&made, text, sizeof text, &len) && is(text, len, "shop"));
-    kit_handle *all[] = {&list.handle, &writer.handle, &made.handle, &gateway.handle, &ask.handle, &rows.handle};
+    kit_handle *all[] = {&list.handle, &nothing.handle, &writer.handle, &made.handle, &gateway.handle, &ask.handle, &rows.handle};
     for (size_t i = 0; i < sizeof all / sizeof *all; i++) kit_free(all[i]);
     CHECK(kit_gateway_read(&gateway, &id, &len) == KIT_NOTHING && kit_export_service(&made, text, sizeof text, &len) == KIT_NOTHING);
     CHECK(kit_export_read(&made, &high, &low, &start, &time, &len) == KIT_NOTHING && kit_rows_attributes(&rows, 0, &set) == KIT_NOTHING);

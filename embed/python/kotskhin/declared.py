@@ -118,6 +118,7 @@ CALLS = {
     "kit_attributes_value": ("int32_t", ("KIT_READS kit_attributes *attributes", "size_t number", "uint8_t *kind", "int64_t *whole")),
     "kit_attributes_text": ("int32_t", ("KIT_READS kit_attributes *attributes", "size_t number", "uint8_t *into", "size_t room", "size_t *len")),
     "kit_plan_streams": ("int32_t", ("KIT_READS kit_plan *plan", "kit_streams *streams")),
+    "kit_gateway_streams": ("int32_t", ("KIT_READS kit_gateway *gateway", "kit_streams *streams")),
     "kit_streams_len": ("int32_t", ("KIT_READS kit_streams *streams", "size_t *count")),
     "kit_streams_text": ("int32_t", ("KIT_READS kit_streams *streams", "size_t number", "uint8_t part", "uint8_t *into", "size_t room", "size_t *len")),
     "kit_streams_shape": ("int32_t", ("KIT_READS kit_streams *streams", "size_t number", "uint8_t *shape", "size_t *bounds")),

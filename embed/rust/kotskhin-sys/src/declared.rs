@@ -553,6 +553,10 @@ unsafe extern "C" {
         plan: *mut Plan,
         streams: *mut Streams,
     ) -> i32;
+    pub fn kit_gateway_streams(
+        gateway: *mut Gateway,
+        streams: *mut Streams,
+    ) -> i32;
     pub fn kit_streams_len(
         streams: *mut Streams,
         count: *mut usize,

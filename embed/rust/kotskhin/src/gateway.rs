@@ -4,9 +4,11 @@ use crate::error::{Error, checked};
 use crate::export::{Export, copied};
 use crate::handle::Handle;
 use crate::rows::Rows;
+use crate::streams::Streams;
 use kotskhin_sys::{
     self as sys, kit_gateway_conflicts, kit_gateway_encode, kit_gateway_merge, kit_gateway_newest,
-    kit_gateway_open, kit_gateway_read, kit_gateway_rows, kit_gateway_same, kit_gateway_take,
+    kit_gateway_open, kit_gateway_read, kit_gateway_rows, kit_gateway_same, kit_gateway_streams,
+    kit_gateway_take,
 };
 use std::ptr;
 
@@ -44,6 +46,14 @@ impl Gateway {
         // SAFETY: the gateway is lent.
         checked(unsafe { kit_gateway_read(self.0.read().at(), &mut id, &mut points) })?;
         Ok((id, points))
+    }
+
+    /// The streams of which it holds points, each once. Refused: `NoMemory`.
+    pub fn streams(&self) -> Result<Streams, Error> {
+        let mut streams = Handle::empty();
+        // SAFETY: the gateway is lent, and the streams are ours alone.
+        checked(unsafe { kit_gateway_streams(self.0.read().at(), streams.change()) })?;
+        Ok(Streams(streams))
     }
 
     /// Its id and points as bytes, to be kept: those of a message of all that it holds, to itself. [`Message::decode`] reads them, and

@@ -360,6 +360,8 @@ fn streams_rows_and_exports_are_read_out() -> Result<(), Error> {
     assert_eq!(streams.stream(1), Ok(size));
     assert_eq!(streams.stream(0)?.shape, Shape::Sum { monotonic: true });
     assert_eq!(streams.stream(2), Err(Error::NoItem));
+    let held = gateway.streams()?;
+    assert_eq!((held.count(), held.stream(0)), (Ok(1), streams.stream(0)));
     assert_eq!(Ask::stream(&streams, 2).err(), Some(Error::NoItem));
     let rows = gateway.rows(&Ask::stream(&streams, 0)?)?;
     assert_eq!((rows.count(), rows.sum(0)), (Ok(1), Ok(7)));
