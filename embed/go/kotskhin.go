@@ -200,11 +200,11 @@ func (w Writer) Measure(instrument int, a Attributes, value int64) error {
 }
 
 // Hold holds an instrument and a set as long as the writer is, and tells their number, for MeasureHeld: the shortest way to record. Of a
-// pair that is held already it is the number that it has.
+// pair that is held already it is the number that it has. It has the set for itself meanwhile: who records with it waits.
 func (w Writer) Hold(instrument int, a Attributes) (int, error) {
 	var number C.size_t
 	err := changing(w.h, func(writer *C.kit_writer) error {
-		return reading(a.h, func(set *C.kit_attributes) error {
+		return changing(a.h, func(set *C.kit_attributes) error {
 			return told(func(*C.uint64_t) C.int32_t { return C.kit_writer_hold(writer, C.size_t(instrument), set, &number) })
 		})
 	})
@@ -358,7 +358,7 @@ func (s Seat) Measure(instrument int, a Attributes, value int64) error {
 func (s Seat) Hold(instrument int, a Attributes) (int, error) {
 	var number C.size_t
 	err := changing(s.h, func(seat *C.kit_seat) error {
-		return reading(a.h, func(set *C.kit_attributes) error {
+		return changing(a.h, func(set *C.kit_attributes) error {
 			return told(func(*C.uint64_t) C.int32_t { return C.kit_seat_hold(seat, C.size_t(instrument), set, &number) })
 		})
 	})
