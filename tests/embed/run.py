@@ -119,15 +119,15 @@ class Run:
                 self.compiled(f"C, {compiler}{how}: bytes", compiler, HERE / "mutated.c", C + flags + WRAPPED, words=FEW if how else ())
                 self.compiled(f"C, {compiler}{how}: picked texts and sets", compiler, HERE / "chosen.c", C + flags, words=FEW_POINTS if how else ())
             self.installed(compiler)
-            self.watched(compiler)
             self.stopped(compiler)
             for caller in sorted((HERE / "misuse").glob("*.c")):
                 self.warned(compiler, caller)
 
-    def watched(self, compiler):
+    def watched(self):
         """Under valgrind, which sees into the archive where sanitizers do not: every refusal, and threads that read."""
-        if not shutil.which("valgrind"):
-            print("C: there is no valgrind")
+        compiler = next((it for it in ("gcc", "clang") if shutil.which(it)), None)
+        if not compiler or not shutil.which("valgrind"):
+            print("C: there is no valgrind, or no compiler")
             return
         program, libraries = self.room / "program", [it for it in self.linked if not it.startswith("-I")]
         for what, source, flags, tool in (
@@ -135,8 +135,8 @@ class Run:
             ("threads that read", "reads.c", [], ["--tool=helgrind"]),
         ):
             command = [compiler, *C, "-g", "-O1", *flags, self.linked[0], HERE / source, *libraries, "-o", program]
-            if self.run(f"C, {compiler}, valgrind: {what}: compiled", *command):
-                self.run(f"C, {compiler}, valgrind: {what}", "valgrind", "-q", "--error-exitcode=9", *tool, program, FEW_READS)
+            if self.run(f"C, valgrind: {what}: compiled", *command):
+                self.run(f"C, valgrind: {what}", "valgrind", "-q", "--error-exitcode=9", *tool, program, FEW_READS)
 
     def stopped(self, compiler):
         """UBSan stops at a null pointer."""
@@ -303,7 +303,7 @@ def main():
         if len(sys.argv) < 2 and not laid_out(kit):
             return 1
         run = Run(kit, room)
-        for language in (run.c, run.cpp, run.rust, run.pipe, run.go, run.shared, run.python, run.documented):
+        for language in (run.c, run.watched, run.cpp, run.rust, run.pipe, run.go, run.shared, run.python, run.documented):
             language()
     print(f"{run.passed} passed, {run.failed} failed, in {time.time() - began:.0f} s")
     return 1 if run.failed else 0
