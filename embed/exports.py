@@ -1,8 +1,9 @@
 """What crates/kit_c exports, as its sources and its proved definitions say: kinds of handles, structs, codes, and calls with their pages.
 
 A call is `pub extern "C" fn` under `#[unsafe(no_mangle)]`; its page is the `///` above it. A handle that a call only reads is one of which a
-clause says, without a condition, that it is as it was, but for those of APART. A kind is a struct whose first field is a handle. The codes are those of
-specs/Codes.antt, what each says is what `kit_code_text` tells, and how many places it tells is what specs/Places.antt gives it."""
+clause says, without a condition, that it is as it was, but for those of APART. A kind is a struct whose first field is a handle. The codes
+are those of specs/Codes.antt and of the crate's constants. What each says is what `kit_code_text` tells, and the places that it tells are
+those that specs/Places.antt gives it."""
 import dataclasses
 import pathlib
 import re
@@ -96,7 +97,10 @@ def kept(contract):
 def exports():
     """The calls, by their modules."""
     for module, text in sources():
-        for page, name, given, result, contract in EXPORT.findall(text):
+        found = EXPORT.findall(text)
+        if len(found) != text.count("#[unsafe(no_mangle)]"):
+            raise ValueError(f"{module}.rt: an export that is not read: {len(found)} are")
+        for page, name, given, result, contract in found:
             words = [it.split(":", 1) for it in re.split(r",\s*", given.strip().rstrip(",")) if it]
             stays = set(kept(contract)) - {word for call, word in APART if call == name}
             given = tuple(Parameter(word.strip(), kind.strip(), word.strip() in stays) for word, kind in words)
