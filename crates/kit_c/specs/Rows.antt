@@ -33,6 +33,10 @@ told_by part (Some r) = part r
 abbrev pub row_part : {A : Type 0} → ℕ → (Row → Option A) → List Row → Option A
 row_part n part rs = told_by part (slice_get rs n)
 
+-- how many points the total of a row is of, and how many conflicts it leaves out
+abbrev pub counts_of : Row → Option (ℕ × ℕ)
+counts_of r = Some (r.points, r.conflicts)
+
 -- a total is no sum, or one that is no i64
 abbrev pub no_sum : Total → Option Fault
 no_sum (totals.Sum t) = wide_sum t

@@ -25,7 +25,7 @@ instance_of high low = to_be_bytes w128 (high * 2 ^ 64 + low)
 
 -- a writer of an identity counts from a start on under a plan, has recorded nothing and holds nothing
 pub record Starts (id : WriterId) (start : ℕ) (p : Planned) (w : Written) : Type 0 where
-  pub id : w.id ≡ id
+  pub who : w.id ≡ id
   pub plan : w.tally.plan ≡ p
   pub held : w.tally.held ≡ []
   pub follows : Follows start [] w

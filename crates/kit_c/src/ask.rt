@@ -205,7 +205,8 @@ pub extern "C" fn kit_gateway_rows(
     if rows.handle.full {
         return FULL;
     }
-    match with_two!(alloc, gateway => Gateway(held), ask => Ask(asked), rollup(alloc, held, asked)) {
+    match with_two!(alloc, gateway => Gateway(held), ask => Ask(asked), rollup(alloc, held, asked))
+    {
         Ok(answer) => rows.handle.fill(alloc, Content::Rows(answer)),
         Err(_) => NO_MEMORY,
     }

@@ -56,6 +56,13 @@ pub extern "C" fn kit_export_read(
     OK
 }
 
+fn copy_service(export: &Export, into: &mut [u8]) -> usize
+    ensures value { into.new ≡ filled export.now.writer.service into.old }
+    ensures len { result ≡ length export.now.writer.service }
+{
+    copy_front(export.writer().service.as_str().as_bytes(), into)
+}
+
 /// Copies the front of the service of an export's writer that has room, and tells in `len` how many bytes it has, in UTF-8 and with no 0
 /// at its end.
 ///
@@ -73,6 +80,6 @@ pub extern "C" fn kit_export_service(
     ensures told { result ≢ pos 0 → (into.new ≡ into.old) × (len.new ≡ len.old) }
     ensures kept { export_of export.new ≡ export_of export.old }
 {
-    *len = with!(alloc, export => Export(held), copy_front(held.writer().service.as_str().as_bytes(), into));
+    *len = with!(alloc, export => Export(held), copy_service(held, into));
     OK
 }

@@ -13,7 +13,7 @@ use crate::fault::{FULL, Fault, NO_MEMORY, OK, WRONG_KIND, code_with_places};
 use crate::list::push;
 use crate::text::{text, text_of};
 use crate::typed::{KitInstruments, KitPlan, KitViews};
-use crate::with::{add_to, copy_of};
+use crate::with::add_to;
 use attr_kit::{Seq, TryCopy};
 use plan_kit::{Instrument, Kind, Plan, View};
 use std::alloc::Global;
@@ -59,6 +59,44 @@ pub extern "C" fn kit_instruments_add(
     let name = text!(alloc, name);
     let unit = text!(alloc, unit);
     add_to!(alloc, instruments => Instruments, Instrument { scope, name, unit, kind })
+}
+
+// A copy of the list that a handle has, as the answer of a function of its own.
+macro_rules! copied {
+    ($alloc:ident, $handle:ident => $kind:ident) => {{
+        let Some(content) = $handle.handle.take($alloc) else {
+            return Ok(Seq::new($alloc));
+        };
+        let Content::$kind(list) = &*content else {
+            $handle.handle.put(content);
+            return Err(WRONG_KIND);
+        };
+        let copied = list.try_copy();
+        $handle.handle.put(content);
+        match copied {
+            Ok(copy) => Ok(copy),
+            Err(_) => Err(NO_MEMORY),
+        }
+    }};
+}
+
+fn copy_of_instruments(
+    alloc: Global,
+    instruments: &mut KitInstruments,
+) -> Result<Seq<Instrument>, i32>
+    ensures value { IfOk result (λ copy. copy ≡ instruments_of instruments.old) }
+    ensures err { IfErr result (λ code. code ≡ no_memory) }
+    ensures kept { instruments_of instruments.new ≡ instruments_of instruments.old }
+{
+    copied!(alloc, instruments => Instruments)
+}
+
+fn copy_of_views(alloc: Global, views: &mut KitViews) -> Result<Seq<View>, i32>
+    ensures value { IfOk result (λ copy. copy ≡ views_of views.old) }
+    ensures err { IfErr result (λ code. code ≡ no_memory) }
+    ensures kept { views_of views.new ≡ views_of views.old }
+{
+    copied!(alloc, views => Views)
 }
 
 fn build(
@@ -107,8 +145,14 @@ pub extern "C" fn kit_plan_build(
     if plan.handle.full {
         return FULL;
     }
-    let instruments = copy_of!(alloc, instruments => Instruments);
-    let views = copy_of!(alloc, views => Views);
+    let instruments = match copy_of_instruments(alloc, instruments) {
+        Ok(copy) => copy,
+        Err(code) => return code,
+    };
+    let views = match copy_of_views(alloc, views) {
+        Ok(copy) => copy,
+        Err(code) => return code,
+    };
     match build(alloc, instruments, views, limit) {
         Ok(made) => plan.handle.fill(alloc, Content::Plan(made)),
         Err(fault) => code_with_places(fault, place, second),

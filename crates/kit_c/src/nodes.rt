@@ -23,11 +23,7 @@ use std::alloc::Global;
 ///
 /// Refused, in this order: `FULL`; `NOTHING`; `NO_MEMORY`. O(size of the points).
 #[unsafe(no_mangle)]
-pub extern "C" fn kit_node_open(
-    alloc: Global,
-    node: &mut KitNode,
-    gateway: &mut KitGateway,
-) -> i32
+pub extern "C" fn kit_node_open(alloc: Global, node: &mut KitNode, gateway: &mut KitGateway) -> i32
     ensures code { result ≢ no_memory
         → result ≡ code_for (first (full_fault (node_of node.old) ∷ of_one (gateway_of gateway.old) if_any ∷ [])) }
     ensures value { result ≡ pos 0 → node_of node.new ≡ option_map (λ g. first_node g) (gateway_of gateway.old) }
@@ -224,7 +220,8 @@ pub extern "C" fn kit_message_read(
     ensures told { result ≢ pos 0 → (from.new ≡ from.old) × (to.new ≡ to.old) × (points.new ≡ points.old) }
     ensures kept { message_of message.new ≡ message_of message.old }
 {
-    let (sender, receiver, carried) = with!(alloc, message => Message(held), (held.from(), held.to(), held.points_len()));
+    let (sender, receiver, carried) =
+        with!(alloc, message => Message(held), (held.from(), held.to(), held.points_len()));
     *from = sender;
     *to = receiver;
     *points = carried;

@@ -58,7 +58,8 @@ pub extern "C" fn kit_recorder_measure(
     ensures unchanged { result ≢ pos 0 → recorder_of recorder.new ≡ recorder_of recorder.old }
     ensures kept { attributes_of attributes.new ≡ attributes_of attributes.old }
 {
-    match with_two!(alloc, recorder => Recorder(log), attributes => Attributes(set), log.measure(instrument, set, value)) {
+    match with_two!(alloc, recorder => Recorder(log), attributes => Attributes(set), log.measure(instrument, set, value))
+    {
         Ok(()) => OK,
         Err(fault) => Fault::Record(fault).code(),
     }

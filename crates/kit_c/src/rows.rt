@@ -4,7 +4,7 @@ ghost use Rattle.attr_kit.specs.Refusing.{first};
 ghost use Rattle.kit_c.specs.Calls.{code_for, full_fault, if_any, of_one};
 ghost use Rattle.kit_c.specs.Codes.{code_of, no_memory};
 ghost use Rattle.kit_c.specs.Held.{attributes_of, rows_of};
-ghost use Rattle.kit_c.specs.Rows.{as_gauge, as_sum, no_gauge, no_sum, row_fault, row_part, wide_count, wide_sum};
+ghost use Rattle.kit_c.specs.Rows.{as_gauge, as_sum, counts_of, no_gauge, no_sum, row_fault, row_part, wide_count, wide_sum};
 
 use crate::content::Content;
 use crate::fault::{FULL, Fault, NOTHING, OK, WRONG_KIND};
@@ -76,7 +76,7 @@ pub extern "C" fn kit_rows_attributes(
 
 fn counts(rows: &Seq<Row>, number: usize) -> Result<(u64, u64), Fault>
     ensures ok { OnOk result (row_fault number (λ r. None) rows.now ≡ None) }
-    ensures value { IfOk result (λ n. row_part number (λ r. Some (r.points, r.conflicts)) rows.now ≡ Some n) }
+    ensures value { IfOk result (λ n. row_part number counts_of rows.now ≡ Some n) }
     ensures err { IfErr result (λ f. row_fault number (λ r. None) rows.now ≡ Some f) }
 {
     let row = row(rows, number)?;
@@ -96,7 +96,7 @@ pub extern "C" fn kit_rows_counts(
 ) -> i32
     ensures code { result ≡ code_for (of_one (rows_of rows.old) (row_fault number (λ r. None))) }
     ensures value { result ≡ pos 0 → IfSome (rows_of rows.old)
-        (λ rs. row_part number (λ r. Some (r.points, r.conflicts)) rs ≡ Some (points.new, conflicts.new)) }
+        (λ rs. row_part number counts_of rs ≡ Some (points.new, conflicts.new)) }
     ensures told { result ≢ pos 0 → (points.new ≡ points.old) × (conflicts.new ≡ conflicts.old) }
     ensures kept { rows_of rows.new ≡ rows_of rows.old }
 {

@@ -58,11 +58,7 @@ fn share(alloc: Global, holder: &HoldingWriter) -> Result<Box<Content>, NoMemory
 ///
 /// Refused, in this order: `FULL` of the seat; `NOTHING` of the writer; `NO_MEMORY`. O(size of the plan and the points).
 #[unsafe(no_mangle)]
-pub extern "C" fn kit_writer_share(
-    alloc: Global,
-    writer: &mut KitWriter,
-    seat: &mut KitSeat,
-) -> i32
+pub extern "C" fn kit_writer_share(alloc: Global, writer: &mut KitWriter, seat: &mut KitSeat) -> i32
     ensures code { result ≢ no_memory
         → result ≡ code_for (first (full_fault (seat_of seat.old) ∷ of_one (writer_of writer.old) if_any ∷ [])) }
     ensures value { result ≡ pos 0 → HasShared (writer_of writer.old) (seat_of seat.new) }
@@ -124,7 +120,8 @@ pub extern "C" fn kit_seat_measure(
         (seat_of seat.new) place.old place.new result }
     ensures kept { attributes_of attributes.new ≡ attributes_of attributes.old }
 {
-    match with_two!(alloc, seat => Desk(desk), attributes => Attributes(set), measure_at(desk, instrument, set, value)) {
+    match with_two!(alloc, seat => Desk(desk), attributes => Attributes(set), measure_at(desk, instrument, set, value))
+    {
         Ok(()) => OK,
         Err(fault) => code_with_place(fault, place),
     }
@@ -232,7 +229,8 @@ pub extern "C" fn kit_seat_hold(
         → PlainTwoRefused (HoldRefused instrument) (seat_of seat.old) (attributes_of attributes.old) (seat_of seat.new) result }
     ensures kept { attributes_of attributes.new ≡ attributes_of attributes.old }
 {
-    match with_two!(alloc, seat => Desk(desk), attributes => Attributes(set), hold_at(alloc, desk, instrument, set)) {
+    match with_two!(alloc, seat => Desk(desk), attributes => Attributes(set), hold_at(alloc, desk, instrument, set))
+    {
         Ok(told) => {
             *number = told;
             OK
@@ -274,7 +272,8 @@ pub extern "C" fn kit_seat_take_in(
     ensures err { result ≢ pos 0 → PlainTwoRefused TakeInRefused (seat_of seat.old) (recorder_of recorder.old) (seat_of seat.new) result }
     ensures kept { result ≢ pos 0 → recorder_of recorder.new ≡ recorder_of recorder.old }
 {
-    match with_two!(alloc, seat => Desk(desk), recorder => Recorder(log), take_in_at(desk, log, most)) {
+    match with_two!(alloc, seat => Desk(desk), recorder => Recorder(log), take_in_at(desk, log, most))
+    {
         Ok(told) => {
             *taken = KitTaken::of(told);
             OK

@@ -135,11 +135,7 @@ pub extern "C" fn kit_gateway_streams(
 ///
 /// Refused: `NOTHING`. O(1), takes no memory.
 #[unsafe(no_mangle)]
-pub extern "C" fn kit_streams_len(
-    alloc: Global,
-    streams: &mut KitStreams,
-    count: &mut usize,
-) -> i32
+pub extern "C" fn kit_streams_len(alloc: Global, streams: &mut KitStreams, count: &mut usize) -> i32
     ensures code { result ≡ code_for (of_one (streams_of streams.old) if_any) }
     ensures value { result ≡ pos 0 → IfSome (streams_of streams.old) (λ ss. count.new ≡ length ss) }
     ensures told { result ≢ pos 0 → count.new ≡ count.old }

@@ -3,7 +3,9 @@ ghost use Rattle.std.specs.Prelude.{◌≡◌};
 
 /// The version by its three numbers.
 const MAJOR: u32 = 0;
+
 const MINOR: u32 = 1;
+
 const PATCH: u32 = 0;
 
 /// Tells the version of the library as one number: 65,536 for each of its first, 256 for each of its second, and its third number. A

@@ -98,7 +98,8 @@ pub extern "C" fn kit_writer_measure(
     ensures unchanged { result ≢ pos 0 → writer_of writer.new ≡ writer_of writer.old }
     ensures kept { attributes_of attributes.new ≡ attributes_of attributes.old }
 {
-    match with_two!(alloc, writer => Writer(held), attributes => Attributes(set), held.measure(instrument, set, value)) {
+    match with_two!(alloc, writer => Writer(held), attributes => Attributes(set), held.measure(instrument, set, value))
+    {
         Ok(()) => OK,
         Err(fault) => code_with_place(Fault::Measure(fault), place),
     }
@@ -150,7 +151,8 @@ pub extern "C" fn kit_writer_hold(
     ensures unchanged { result ≢ pos 0 → writer_of writer.new ≡ writer_of writer.old }
     ensures kept { attributes_of attributes.new ≡ attributes_of attributes.old }
 {
-    match with_two!(alloc, writer => Writer(held), attributes => Attributes(set), hold_lent(alloc, held, instrument, set)) {
+    match with_two!(alloc, writer => Writer(held), attributes => Attributes(set), hold_lent(alloc, held, instrument, set))
+    {
         Ok(told) => {
             *number = told;
             OK
@@ -208,7 +210,8 @@ pub extern "C" fn kit_writer_take_in(
     ensures unchanged { result ≢ pos 0 → writer_of writer.new ≡ writer_of writer.old }
     ensures kept { result ≢ pos 0 → recorder_of recorder.new ≡ recorder_of recorder.old }
 {
-    match with_two!(alloc, writer => Writer(held), recorder => Recorder(log), held.take_in(log, most)) {
+    match with_two!(alloc, writer => Writer(held), recorder => Recorder(log), held.take_in(log, most))
+    {
         Ok(told) => {
             *taken = KitTaken::of(told);
             OK

@@ -12,10 +12,10 @@ loop-place-preserved c =
     elim c.match-get_index.branch [
       | in-Some+in_ok-push_copy w ↦
           rw w.copies-is (
-            w.in_ok-push_copy.ensures
-              ∙ ap (λ (l : List Stream). l ++ w.in-Some.stream.now ∷ []) c.loop-place.invariant
-              ∙ sym (take-push ss i w.in-Some.stream.now (sym w.in-Some.ensures.key))
-              ∙ ap (λ k. take k ss) z
+          w.in_ok-push_copy.ensures
+          ∙ ap (λ (l : List Stream). l ++ w.in-Some.stream.now ∷ []) c.loop-place.invariant
+          ∙ sym (take-push ss i w.in-Some.stream.now (sym w.in-Some.ensures.key))
+          ∙ ap (λ k. take k ss) z
           )
       | in_default w ↦ absurd (none_there ss i (omega (arith, c.loop-place-test.true, c.len.ensures.len)) (sym w.in_default.ensures.key))
     ]

@@ -12,10 +12,10 @@ loop-number-preserved c =
     elim c.match-stream.branch [
       | in-Some+in_ok-push_copy w ↦
           rw w.copies-is (
-            w.in_ok-push_copy.ensures
-              ∙ ap (λ (l : List Stream). l ++ w.in-Some.stream.now ∷ []) c.loop-number.invariant
-              ∙ sym (take-push ss i w.in-Some.stream.now (sym w.in-Some.ensures.value))
-              ∙ ap (λ k. take k ss) z
+          w.in_ok-push_copy.ensures
+          ∙ ap (λ (l : List Stream). l ++ w.in-Some.stream.now ∷ []) c.loop-number.invariant
+          ∙ sym (take-push ss i w.in-Some.stream.now (sym w.in-Some.ensures.value))
+          ∙ ap (λ k. take k ss) z
           )
       | in_default w ↦ absurd (none_there ss i (omega (arith, c.loop-number-test.true, c.streams_len.ensures.len)) (sym w.in_default.ensures.value))
     ]
