@@ -24,7 +24,11 @@
 
 enum { TIMES = 400000, THREADS = 4, COUNTER = 0, HISTOGRAM = 1, PIECE = 1000 };
 
-static kit_handle plan, writer, none, four, seats[THREADS], logs[THREADS];
+static kit_plan plan;
+static kit_writer writer;
+static kit_attributes none, four;
+static kit_seat seats[THREADS];
+static kit_recorder logs[THREADS];
 static size_t number, empty, sizes;
 static uint64_t place;
 static int rounds;
@@ -36,15 +40,15 @@ static double now(void) {
 }
 
 /* attribute.0 to attribute.3, each with the value `value 0`, as kit_bench has them */
-static void make(kit_handle *set) {
-    kit_handle pairs = KIT_EMPTY;
+static void make(kit_attributes *set) {
+    kit_pairs pairs = KIT_EMPTY;
     uint8_t key[] = "attribute.0";
     for (int i = 0; i < 4; i++) {
         key[sizeof key - 2] = (uint8_t)('0' + i);
         MUST(kit_pairs_add_text(&pairs, key, sizeof key - 1, TEXT("value 0")));
     }
     MUST(kit_attributes_make(set, &pairs, &place));
-    kit_free(&pairs);
+    kit_pairs_free(&pairs);
 }
 
 static void without(int times) {
@@ -90,10 +94,10 @@ static void histogram(int times) {
 
 static void anew(int times) {
     for (int i = 0; i < times; i++) {
-        kit_handle set = KIT_EMPTY;
+        kit_attributes set = KIT_EMPTY;
         make(&set);
         MUST(kit_writer_measure(&writer, COUNTER, &set, 1, &place));
-        kit_free(&set);
+        kit_attributes_free(&set);
     }
 }
 
@@ -115,7 +119,8 @@ static void by_seats(int times) {
 }
 
 static void *note(void *at) {
-    kit_handle *log = at, *seat = &seats[log - logs];
+    kit_recorder *log = at;
+    kit_seat *seat = &seats[log - logs];
     kit_taken taken;
     for (int i = 0; i < TIMES; i++) {
         MUST(kit_recorder_measure_held(log, number, 1));
@@ -158,15 +163,16 @@ static void by_one(void) {
 }
 
 static void by_threads(void) {
-    MUST(kit_writer_share(&writer));
-    seats[0] = writer, writer = KIT_NONE;
+    MUST(kit_writer_share(&writer, &seats[0]));
     for (int i = 1; i < THREADS; i++) MUST(kit_seat_split(&seats[0], &seats[i]));
     tell("C: 4 attributes, by number, 4 threads by seats", by_seats, TIMES, (double)THREADS * TIMES);
     tell("C: 4 attributes, by number, 4 threads by logs", by_logs, TIMES, (double)THREADS * TIMES);
 }
 
 int main(int argc, char **argv) {
-    kit_handle instruments = KIT_EMPTY, views = KIT_EMPTY, pairs = KIT_EMPTY;
+    kit_instruments instruments = KIT_EMPTY;
+    kit_views views = KIT_EMPTY;
+    kit_pairs pairs = KIT_EMPTY;
     uint64_t second = 0;
     MUST(kit_instruments_add(&instruments, TEXT("bench"), TEXT("requests"), TEXT("1"), KIT_COUNTER));
     MUST(kit_instruments_add(&instruments, TEXT("bench"), TEXT("sizes"), TEXT("1"), KIT_HISTOGRAM));

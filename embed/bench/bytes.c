@@ -19,7 +19,8 @@
 
 enum { ROUNDS = 25, POINTS = 100000 };
 
-static kit_handle collected, bytes;
+static kit_export collected;
+static kit_bytes bytes;
 static uint8_t *front, *copy;
 static size_t len;
 static uint64_t place;
@@ -30,26 +31,27 @@ static double now(void) {
     return (double)at.tv_sec * 1e9 + (double)at.tv_nsec;
 }
 
-static void pair(kit_handle *pairs, const char *key, const char *word, uint32_t number) {
+static void pair(kit_pairs *pairs, const char *key, const char *word, uint32_t number) {
     char text[32];
     int len = snprintf(text, sizeof text, "%s%u", word, number);
     MUST(kit_pairs_add_text(pairs, (const uint8_t *)key, strlen(key), (const uint8_t *)text, (size_t)len));
 }
 
 /* The sets of kit_bench: 4 attributes each, in no order. */
-static void record(kit_handle *writer, uint32_t number) {
-    kit_handle pairs = KIT_EMPTY, set = KIT_EMPTY;
+static void record(kit_writer *writer, uint32_t number) {
+    kit_pairs pairs = KIT_EMPTY;
+    kit_attributes set = KIT_EMPTY;
     pair(&pairs, "host", "h", number * 2654435761u);
     pair(&pairs, "method", "m", number % 4);
     pair(&pairs, "route", "r", number % 100);
     pair(&pairs, "zone", "z", number % 3);
     MUST(kit_attributes_make(&set, &pairs, &place));
     MUST(kit_writer_measure(writer, 0, &set, number, &place));
-    kit_free(&pairs), kit_free(&set);
+    kit_pairs_free(&pairs), kit_attributes_free(&set);
 }
 
 static void encode(void) {
-    kit_free(&bytes);
+    kit_bytes_free(&bytes);
     MUST(kit_export_encode(&collected, &bytes));
 }
 
@@ -59,9 +61,9 @@ static void plain(void) {
 }
 
 static void decode(void) {
-    kit_handle read = KIT_EMPTY;
+    kit_export read = KIT_EMPTY;
     MUST(kit_export_decode(&read, front, len, &place));
-    kit_free(&read);
+    kit_export_free(&read);
 }
 
 static void tell(const char *name, void (*run)(void)) {
@@ -76,7 +78,10 @@ static void tell(const char *name, void (*run)(void)) {
 }
 
 int main(void) {
-    kit_handle instruments = KIT_EMPTY, views = KIT_EMPTY, plan = KIT_EMPTY, writer = KIT_EMPTY;
+    kit_instruments instruments = KIT_EMPTY;
+    kit_views views = KIT_EMPTY;
+    kit_plan plan = KIT_EMPTY;
+    kit_writer writer = KIT_EMPTY;
     uint64_t second = 0;
     MUST(kit_instruments_add(&instruments, TEXT("app"), TEXT("requests"), TEXT("1"), KIT_COUNTER));
     MUST(kit_plan_build(&plan, &instruments, &views, POINTS, &place, &second));

@@ -2,20 +2,29 @@
 #include <kotskhin.h>
 #include <stdio.h>
 
-#define TEXT(s) (const uint8_t *)(s), sizeof(s) - 1
+#define TEXT(text) KIT_TEXT(text)
 /* Ends the program where a call is refused. */
-#define MUST(call)                                                           \
-    do {                                                                     \
-        int32_t code = (call);                                               \
-        if (code) {                                                          \
-            fprintf(stderr, "%s: refused with code %d\n", #call, (int)code); \
-            return 1;                                                        \
-        }                                                                    \
+#define MUST(call)                                                            \
+    do {                                                                      \
+        int32_t code = (call);                                                \
+        if (code) {                                                           \
+            fprintf(stderr, "%s: refused: %s\n", #call, kit_code_name(code)); \
+            return 1;                                                         \
+        }                                                                     \
     } while (0)
 
 int main(void) {
-    kit_handle instruments = KIT_EMPTY, views = KIT_EMPTY, plan = KIT_EMPTY, pairs = KIT_EMPTY, none = KIT_EMPTY;
-    kit_handle writer = KIT_EMPTY, collected = KIT_EMPTY, gateway = KIT_EMPTY, ask = KIT_EMPTY, rows = KIT_EMPTY, table = KIT_EMPTY;
+    kit_instruments instruments = KIT_EMPTY;
+    kit_views views = KIT_EMPTY;
+    kit_plan plan = KIT_EMPTY;
+    kit_pairs pairs = KIT_EMPTY;
+    kit_attributes none = KIT_EMPTY;
+    kit_writer writer = KIT_EMPTY;
+    kit_export collected = KIT_EMPTY;
+    kit_gateway gateway = KIT_EMPTY;
+    kit_ask ask = KIT_EMPTY;
+    kit_rows rows = KIT_EMPTY;
+    kit_text table = KIT_EMPTY;
     uint64_t place = 0, second = 0, changed = 0;
 
     MUST(kit_instruments_add(&instruments, TEXT("app"), TEXT("requests"), TEXT("1"), KIT_COUNTER));
@@ -38,9 +47,8 @@ int main(void) {
     MUST(kit_text_copy(&table, text, sizeof text, &len));
     fwrite(text, 1, len < sizeof text ? len : sizeof text, stdout);
 
-    kit_handle *all[] = {&instruments, &views, &plan, &pairs, &none, &writer, &collected, &gateway, &ask, &rows, &table};
-    for (size_t i = 0; i < sizeof all / sizeof *all; i++) {
-        kit_free(all[i]);
-    }
+    kit_instruments_free(&instruments), kit_views_free(&views), kit_plan_free(&plan), kit_pairs_free(&pairs), kit_attributes_free(&none);
+    kit_writer_free(&writer), kit_export_free(&collected), kit_gateway_free(&gateway);
+    kit_ask_free(&ask), kit_rows_free(&rows), kit_text_free(&table);
     return 0;
 }

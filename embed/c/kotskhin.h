@@ -1,17 +1,21 @@
-/* Kotskhin for C: proved metrics (libkotskhin.a).
+/* Kotskhin for C: proved metrics (libkotskhin.a, libkotskhin.so.0).
  *
- * A handle has one thing, or nothing. Begin with KIT_EMPTY, and give back by kit_free.
- * - No pointer of any call may be null: none to a handle, none to a text or a list, even of length 0, and none to what a call tells.
- *   Compilers that know the attribute warn of one.
- * - What a call reads stays; what it makes goes into an empty handle; what it changes is its first handle.
- * - A call answers KIT_OK, or why it is refused. A refused call leaves every handle as it was, and what it was to tell, too,
- *   but for the place that some refusals tell (see the codes).
- * - A call has its handles for itself while it runs: no two parameters of one call may be one handle, and no handle may be in
- *   two calls at once, even in calls that only read it. Another thread may have a handle once this one no longer uses it.
- * - Never copy a handle that has something, and never write to one: its fields are the library's.
+ * Made by embed/declarations.py of what crates/kit_c exports: change it there.
+ *
+ * A handle has one thing of its kind, or nothing. Begin with KIT_EMPTY, and give back what it has by kit_writer_free and its like.
+ * - What a call reads (KIT_READS) stays; what it makes goes into an empty handle; what it changes is its first handle.
+ * - A call answers KIT_OK, or why it is refused: what stands first in the order of its page. A refused call leaves every handle as it was,
+ *   and what it was to tell, too, but for the place that some refusals tell (see the codes).
+ * - KIT_NO_MEMORY stands last in each order, and may come before. KIT_WRONG_KIND stands in none: it is of handles that are cast.
  * - Texts and lists are a pointer and a length; they are copied. Texts are UTF-8, with no 0 at the end.
  * - Times are nanoseconds since the Unix epoch.
- * docs/EMBEDDING.md says the rest. */
+ *
+ * What a caller keeps, and what happens otherwise (docs/EMBEDDING.md):
+ * - No pointer is null, also where its length is 0 (KIT_BYTES): else a fault, or what C leaves undefined. Compilers warn of it.
+ * - A handle is in one call at a time, and one call has it once: else a call answers KIT_NOTHING, or memory is freed under another. What calls
+ *   only read may be read by many threads at once, each by a handle of its own that is lent (KIT_LENT).
+ * - No handle that has something is copied, but to be lent, or so that the copy stands for it from then on: else what it has is freed twice.
+ * - No byte of a handle is written: one that leads nowhere is followed. */
 #ifndef KOTSKHIN_H
 #define KOTSKHIN_H
 
@@ -23,28 +27,7 @@
 extern "C" {
 #endif
 
-typedef struct kit_handle {
-    bool full;
-    void *at;
-} kit_handle;
-
-/* What a handle begins as, also a static one: kit_handle h = KIT_EMPTY. As a value, to be assigned, it is KIT_NONE. */
-#ifdef __cplusplus
-#define KIT_EMPTY {false, nullptr}
-#define KIT_NONE (kit_handle KIT_EMPTY)
-#else
-#define KIT_EMPTY {false, 0}
-#define KIT_NONE ((kit_handle)KIT_EMPTY)
-#endif
-
-/* What is told of recordings that a writer took in from the front of a log. */
-typedef struct kit_taken {
-    size_t recorded; /* how many were recorded */
-    size_t refused;  /* how many were refused, each by itself */
-    int32_t code;    /* why the first of these: KIT_OK where none was, and then what follows is 0 */
-    size_t first;    /* its place among those that were taken in, from 0 */
-    uint64_t place;  /* of KIT_OVERFLOW the stream, else 0 */
-} kit_taken;
+#define KIT_VERSION 256 /* 0.1.0: the first number * 65536 + the second * 256 + the third */
 
 /* KIT_CALL stands before each call, KIT_CHECKED also before each that may be refused: its answer is to be looked at. */
 #if defined(__GNUC__) || defined(__clang__)
@@ -55,53 +38,194 @@ typedef struct kit_taken {
 #define KIT_CHECKED
 #endif
 
-/* What calls answer. With a * the place that is told is said behind it. */
+/* Stands before each handle that a call only reads: once it answers, the handle is as it was. */
+#define KIT_READS
+
+/* What all handles are. Its fields are the library's. */
+typedef struct kit_handle {
+    bool full;
+    void *at;
+} kit_handle;
+
+/* Gives up what a handle has. The handle is then empty, and may be used again; one that is empty stays so. Never refused. */
+KIT_CALL void kit_free(kit_handle *handle);
+
+/* What a handle of any kind begins as, also a static one: kit_writer writer = KIT_EMPTY. As a value, to be assigned, KIT_NONE(kit_writer). */
+#ifdef __cplusplus
+#define KIT_EMPTY {{false, nullptr}}
+#define KIT_NONE(kind) (kind KIT_EMPTY)
+#define KIT_SIZE(kind, size) static_assert(sizeof(kind) == (size), #kind)
+#else
+#define KIT_EMPTY {{false, 0}}
+#define KIT_NONE(kind) ((kind)KIT_EMPTY)
+#define KIT_SIZE(kind, size) _Static_assert(sizeof(kind) == (size), #kind)
+/* A handle for one call that only reads it, by which other threads may read the same thing at once: KIT_LENT(kit_attributes, &set). It is the
+ * caller's that no call changes the thing or gives it up meanwhile. */
+#define KIT_LENT(kind, handle) ((kind[1]){*(handle)})
+/* For the place of a refusal that nobody looks at. */
+#define KIT_NO_PLACE ((uint64_t[1]){0})
+#endif
+
+/* A text that is written down, as its pointer and its length. */
+#define KIT_TEXT(text) (const uint8_t *)("" text), sizeof("" text) - 1
+/* Bytes that are so many: the pointer to none of them may be null here. */
+#define KIT_BYTES(at, len) kit_bytes_at(at), (len)
+static inline const uint8_t *kit_bytes_at(const void *at) { return (const uint8_t *)(at ? at : ""); }
+
+/* Pairs of attributes that are written down, or nothing. */
+typedef struct kit_pairs { kit_handle handle; } kit_pairs;
+KIT_SIZE(kit_pairs, 16);
+static inline KIT_CALL void kit_pairs_free(kit_pairs *it) { kit_free(&it->handle); }
+
+/* A set of attributes, or nothing. */
+typedef struct kit_attributes { kit_handle handle; } kit_attributes;
+KIT_SIZE(kit_attributes, 16);
+static inline KIT_CALL void kit_attributes_free(kit_attributes *it) { kit_free(&it->handle); }
+
+/* Instruments that are written down, or nothing. */
+typedef struct kit_instruments { kit_handle handle; } kit_instruments;
+KIT_SIZE(kit_instruments, 16);
+static inline KIT_CALL void kit_instruments_free(kit_instruments *it) { kit_free(&it->handle); }
+
+/* A view that is being made, or nothing. */
+typedef struct kit_view { kit_handle handle; } kit_view;
+KIT_SIZE(kit_view, 16);
+static inline KIT_CALL void kit_view_free(kit_view *it) { kit_free(&it->handle); }
+
+/* Views that are written down, or nothing. */
+typedef struct kit_views { kit_handle handle; } kit_views;
+KIT_SIZE(kit_views, 16);
+static inline KIT_CALL void kit_views_free(kit_views *it) { kit_free(&it->handle); }
+
+/* Keys of attributes that are written down, or nothing. */
+typedef struct kit_keys { kit_handle handle; } kit_keys;
+KIT_SIZE(kit_keys, 16);
+static inline KIT_CALL void kit_keys_free(kit_keys *it) { kit_free(&it->handle); }
+
+/* A plan, or nothing. */
+typedef struct kit_plan { kit_handle handle; } kit_plan;
+KIT_SIZE(kit_plan, 16);
+static inline KIT_CALL void kit_plan_free(kit_plan *it) { kit_free(&it->handle); }
+
+/* A writer, or nothing. */
+typedef struct kit_writer { kit_handle handle; } kit_writer;
+KIT_SIZE(kit_writer, 16);
+static inline KIT_CALL void kit_writer_free(kit_writer *it) { kit_free(&it->handle); }
+
+/* A thread's own log of recordings, or nothing. */
+typedef struct kit_recorder { kit_handle handle; } kit_recorder;
+KIT_SIZE(kit_recorder, 16);
+static inline KIT_CALL void kit_recorder_free(kit_recorder *it) { kit_free(&it->handle); }
+
+/* An export, or nothing. */
+typedef struct kit_export { kit_handle handle; } kit_export;
+KIT_SIZE(kit_export, 16);
+static inline KIT_CALL void kit_export_free(kit_export *it) { kit_free(&it->handle); }
+
+/* A gateway, or nothing. */
+typedef struct kit_gateway { kit_handle handle; } kit_gateway;
+KIT_SIZE(kit_gateway, 16);
+static inline KIT_CALL void kit_gateway_free(kit_gateway *it) { kit_free(&it->handle); }
+
+/* A gateway that sends messages and takes them in, or nothing. */
+typedef struct kit_node { kit_handle handle; } kit_node;
+KIT_SIZE(kit_node, 16);
+static inline KIT_CALL void kit_node_free(kit_node *it) { kit_free(&it->handle); }
+
+/* A message of a node, or nothing. */
+typedef struct kit_message { kit_handle handle; } kit_message;
+KIT_SIZE(kit_message, 16);
+static inline KIT_CALL void kit_message_free(kit_message *it) { kit_free(&it->handle); }
+
+/* A place at a writer that threads share, or nothing. */
+typedef struct kit_seat { kit_handle handle; } kit_seat;
+KIT_SIZE(kit_seat, 16);
+static inline KIT_CALL void kit_seat_free(kit_seat *it) { kit_free(&it->handle); }
+
+/* An ask of a gateway, or nothing. */
+typedef struct kit_ask { kit_handle handle; } kit_ask;
+KIT_SIZE(kit_ask, 16);
+static inline KIT_CALL void kit_ask_free(kit_ask *it) { kit_free(&it->handle); }
+
+/* Rows that a gateway answered, or nothing. */
+typedef struct kit_rows { kit_handle handle; } kit_rows;
+KIT_SIZE(kit_rows, 16);
+static inline KIT_CALL void kit_rows_free(kit_rows *it) { kit_free(&it->handle); }
+
+/* Streams, or nothing. */
+typedef struct kit_streams { kit_handle handle; } kit_streams;
+KIT_SIZE(kit_streams, 16);
+static inline KIT_CALL void kit_streams_free(kit_streams *it) { kit_free(&it->handle); }
+
+/* A text, or nothing. */
+typedef struct kit_text { kit_handle handle; } kit_text;
+KIT_SIZE(kit_text, 16);
+static inline KIT_CALL void kit_text_free(kit_text *it) { kit_free(&it->handle); }
+
+/* An export or a message as bytes, or nothing. */
+typedef struct kit_bytes { kit_handle handle; } kit_bytes;
+KIT_SIZE(kit_bytes, 16);
+static inline KIT_CALL void kit_bytes_free(kit_bytes *it) { kit_free(&it->handle); }
+
+/* How many recordings of a log a writer recorded and refused, and why the first of these: its code, its place in the log and what the code
+ * tells. Where none was refused these are KIT_OK, 0 and 0. */
+typedef struct kit_taken {
+    size_t recorded;
+    size_t refused;
+    int32_t code;
+    size_t first;
+    uint64_t place;
+} kit_taken;
+
+/* What calls answer. With a * the place that is told is said behind it, and behind ** the second. */
 enum {
-    KIT_OK = 0,
-    KIT_NO_MEMORY = 1,
+    KIT_OK = 0,               /* done */
+    KIT_NO_MEMORY = 1,        /* memory was refused */
     KIT_NOTHING = 2,          /* a handle that is read has nothing */
-    KIT_WRONG_KIND = 3,       /* a handle has something else */
+    KIT_WRONG_KIND = 3,       /* a handle has a thing of another kind */
     KIT_FULL = 4,             /* the handle that is to be filled has something */
-    KIT_NOT_TEXT = 5,         /* a text is not UTF-8: of bytes * the text's */
+    KIT_NOT_TEXT = 5,         /* a text is not UTF-8: * the byte */
     KIT_BAD_NUMBER = 6,       /* a number stands for nothing here */
-    KIT_NO_HELD = 7,          /* the writer holds nothing under this number */
+    KIT_NO_HELD = 7,          /* nothing is held under this number */
     KIT_NO_ROW = 8,           /* there is no row of this number */
     KIT_NO_POINT = 9,         /* there is no point of what is asked for */
 
-    KIT_CLOSED = 10,          /* the writer was shut down, and not restarted since */
-    KIT_NO_INSTRUMENT = 11,   /* the plan has no instrument of this number */
-    KIT_NEGATIVE = 12,        /* a counter or a histogram takes no value below 0 */
-    KIT_OVERFLOW = 13,        /* a total would leave its range: * its stream */
-    KIT_TIME_NOT_AFTER = 14,  /* the time is not after the last collection or the start: * that time */
-    KIT_START_NOT_AFTER = 15, /* the new start is not after the start so far: * that start */
-    KIT_BUSY = 16,            /* another call has the writer that threads share: try again */
-    KIT_EXHAUSTED = 17,       /* a writer that threads share accepted 2^62 changes */
-    KIT_SEATS_FULL = 18,      /* a writer that threads share gave 4,096 seats */
+    KIT_CLOSED = 10,          /* the writer was shut down */
+    KIT_NO_INSTRUMENT = 11,   /* there is no instrument of this number */
+    KIT_NEGATIVE = 12,        /* the instrument takes no value below 0 */
+    KIT_OVERFLOW = 13,        /* a total would leave 64 bits: * the stream */
+    KIT_TIME_NOT_AFTER = 14,  /* the time is not after that of the last collection: * the time */
+    KIT_START_NOT_AFTER = 15, /* the start is not after the start so far: * the start */
+    KIT_BUSY = 16,            /* a call of another thread has the writer */
+    KIT_EXHAUSTED = 17,       /* the writer accepted as many changes as it may */
+    KIT_SEATS_FULL = 18,      /* the writer has as many seats as it may */
+    KIT_NO_ITEM = 19,         /* there is no item of this number */
 
-    KIT_EMPTY_KEY = 20,       /* the key of a pair is empty: * the first such pair */
+    KIT_EMPTY_KEY = 20,       /* a key is empty: * the pair */
 
     KIT_BAD_NAME = 30,        /* a name breaks the rule of names: * the instrument */
     KIT_BAD_UNIT = 31,        /* a unit breaks the rule of units: * the instrument */
     KIT_BAD_BOUNDS = 32,      /* bounds do not strictly rise, or are too many: * the view */
     KIT_BAD_RENAME = 33,      /* a new name breaks the rule of names: * the view */
     KIT_WILDCARD_RENAME = 34, /* a view of every name gives a new one: * the view */
-    KIT_BAD_AGGREGATION = 35, /* an aggregation does not fit: * the instrument, and second the view */
-    KIT_SAME_STREAM = 36,     /* two instruments feed one stream: * the one, and second the other */
+    KIT_BAD_AGGREGATION = 35, /* an aggregation does not fit its instrument: * the instrument and ** the view */
+    KIT_SAME_STREAM = 36,     /* two instruments feed one stream: * the instrument and ** the instrument */
     KIT_BAD_LIMIT = 37,       /* the limit is 0 */
 
     KIT_TOO_WIDE = 40,        /* a total is wider than the number that it is to be told in */
     KIT_NO_BUCKET = 41,       /* there is no bucket of this number */
+    KIT_WRONG_SHAPE = 42,     /* a row or a value is of another shape */
 
     KIT_NOT_ADDRESSED = 50,   /* the message goes to another id */
 
-    KIT_TRUNCATED = 60,       /* bytes end within what they begin: * their number */
-    KIT_BAD_MAGIC = 61,       /* bytes do not begin as an export, or a message, does: * the byte */
-    KIT_BAD_VERSION = 62,     /* the version is not one that is known: * the byte */
-    KIT_NOT_CANONICAL = 63,   /* a value is not in its one form: * its byte */
-    KIT_BAD_CHECKSUM = 64,    /* the checksum is not that of the bytes before it: * its byte */
-    KIT_BAD_EXPORT = 65,      /* the values make no export, or a message has a point that no export brings */
+    KIT_TRUNCATED = 60,       /* bytes end within what they begin: * the byte */
+    KIT_BAD_MAGIC = 61,       /* bytes do not begin as an export or a message does: * the byte */
+    KIT_BAD_VERSION = 62,     /* the version is none that is known: * the byte */
+    KIT_NOT_CANONICAL = 63,   /* a value is not in its one form: * the byte */
+    KIT_BAD_CHECKSUM = 64,    /* the checksum is not that of the bytes before it: * the byte */
+    KIT_BAD_EXPORT = 65,      /* the values are none that an export can have */
 
-    KIT_RECORDER_FULL = 70,   /* a log has as many recordings as it may, or a number is too great to be noted (2^32) */
+    KIT_RECORDER_FULL = 70,   /* a log has as many recordings as it may */
 };
 
 /* Kinds of instruments. */
@@ -123,153 +247,624 @@ enum {
 /* How many attribute sets a stream has points of their own for, where nothing else is asked. */
 enum { KIT_DEFAULT_LIMIT = 2000 };
 
-/* Gives up what a handle has. The handle is then empty, and may be used again. Never refused. */
-KIT_CALL void kit_free(kit_handle *handle);
+/* The name of a code, as it stands above, for a message; kit_code_text has what it says. */
+static inline const char *kit_code_name(int32_t code) {
+    switch (code) {
+    case KIT_OK: return "KIT_OK";
+    case KIT_NO_MEMORY: return "KIT_NO_MEMORY";
+    case KIT_NOTHING: return "KIT_NOTHING";
+    case KIT_WRONG_KIND: return "KIT_WRONG_KIND";
+    case KIT_FULL: return "KIT_FULL";
+    case KIT_NOT_TEXT: return "KIT_NOT_TEXT";
+    case KIT_BAD_NUMBER: return "KIT_BAD_NUMBER";
+    case KIT_NO_HELD: return "KIT_NO_HELD";
+    case KIT_NO_ROW: return "KIT_NO_ROW";
+    case KIT_NO_POINT: return "KIT_NO_POINT";
+    case KIT_CLOSED: return "KIT_CLOSED";
+    case KIT_NO_INSTRUMENT: return "KIT_NO_INSTRUMENT";
+    case KIT_NEGATIVE: return "KIT_NEGATIVE";
+    case KIT_OVERFLOW: return "KIT_OVERFLOW";
+    case KIT_TIME_NOT_AFTER: return "KIT_TIME_NOT_AFTER";
+    case KIT_START_NOT_AFTER: return "KIT_START_NOT_AFTER";
+    case KIT_BUSY: return "KIT_BUSY";
+    case KIT_EXHAUSTED: return "KIT_EXHAUSTED";
+    case KIT_SEATS_FULL: return "KIT_SEATS_FULL";
+    case KIT_NO_ITEM: return "KIT_NO_ITEM";
+    case KIT_EMPTY_KEY: return "KIT_EMPTY_KEY";
+    case KIT_BAD_NAME: return "KIT_BAD_NAME";
+    case KIT_BAD_UNIT: return "KIT_BAD_UNIT";
+    case KIT_BAD_BOUNDS: return "KIT_BAD_BOUNDS";
+    case KIT_BAD_RENAME: return "KIT_BAD_RENAME";
+    case KIT_WILDCARD_RENAME: return "KIT_WILDCARD_RENAME";
+    case KIT_BAD_AGGREGATION: return "KIT_BAD_AGGREGATION";
+    case KIT_SAME_STREAM: return "KIT_SAME_STREAM";
+    case KIT_BAD_LIMIT: return "KIT_BAD_LIMIT";
+    case KIT_TOO_WIDE: return "KIT_TOO_WIDE";
+    case KIT_NO_BUCKET: return "KIT_NO_BUCKET";
+    case KIT_WRONG_SHAPE: return "KIT_WRONG_SHAPE";
+    case KIT_NOT_ADDRESSED: return "KIT_NOT_ADDRESSED";
+    case KIT_TRUNCATED: return "KIT_TRUNCATED";
+    case KIT_BAD_MAGIC: return "KIT_BAD_MAGIC";
+    case KIT_BAD_VERSION: return "KIT_BAD_VERSION";
+    case KIT_NOT_CANONICAL: return "KIT_NOT_CANONICAL";
+    case KIT_BAD_CHECKSUM: return "KIT_BAD_CHECKSUM";
+    case KIT_BAD_EXPORT: return "KIT_BAD_EXPORT";
+    case KIT_RECORDER_FULL: return "KIT_RECORDER_FULL";
+    default: return "no code";
+    }
+}
 
-/* Instruments are numbered from 0 in the order in which they are added. An empty handle begins with the first. */
-KIT_CHECKED int32_t kit_instruments_add(kit_handle *instruments, const uint8_t *scope, size_t scope_len, const uint8_t *name,
+/* Tells the version of the library as one number: 65,536 for each of its first, 256 for each of its second, and its third number. A caller
+ * compares it with that of the header. */
+KIT_CALL uint32_t kit_version(void);
+
+/* Copies the front of the text of a code that has room, and answers how many bytes the whole text has, in UTF-8 and with no 0 at its end:
+ * none where the number is no code. It is a clause that begins small and has no full stop. */
+KIT_CALL size_t kit_code_text(int32_t code, uint8_t *into, size_t room);
+
+/* Plans: instruments and views, numbered from 0 in the order in which they are added, and what streams they come to. */
+
+/* Adds an instrument: instruments are numbered from 0 in the order in which they are added. A handle that has nothing begins with it. The
+ * kinds: 0 a counter, 1 an up-down counter, 2 a gauge, 3 a histogram.
+ *
+ * Refused, in this order: KIT_BAD_NUMBER where the kind is none of these; KIT_NOT_TEXT where the scope, the name or the unit is no UTF-8;
+ * KIT_NO_MEMORY. */
+KIT_CHECKED int32_t kit_instruments_add(kit_instruments *instruments, const uint8_t *scope, size_t scope_len, const uint8_t *name,
                                         size_t name_len, const uint8_t *unit, size_t unit_len, uint8_t kind);
 
-/* Keys of attributes. An empty handle begins with the first. */
-KIT_CHECKED int32_t kit_keys_add(kit_handle *keys, const uint8_t *key, size_t key_len);
+/* Makes the plan of instruments and views, in which each stream has points of their own for so many attribute sets (OpenTelemetry Metrics
+ * SDK, "View", "Cardinality limits"). Instruments and views stay; a handle that has nothing stands for none. Many writers may start under
+ * one plan.
+ *
+ * Refused, in this order: KIT_FULL; what Plan::build refuses, KIT_BAD_NAME to KIT_BAD_LIMIT, with its places; KIT_NO_MEMORY. */
+KIT_CHECKED int32_t kit_plan_build(kit_plan *plan, KIT_READS kit_instruments *instruments, KIT_READS kit_views *views, uint64_t limit,
+                                   uint64_t *place, uint64_t *second);
 
-/* A view of the instruments of one name, but for the case of ASCII letters, or of all; it changes nothing until it is told to. */
-KIT_CHECKED int32_t kit_view_of_name(kit_handle *view, const uint8_t *name, size_t name_len);
-KIT_CHECKED int32_t kit_view_of_every(kit_handle *view);
-/* From now on it is of one kind, or of one scope. */
-KIT_CHECKED int32_t kit_view_kind(kit_handle *view, uint8_t kind);
-KIT_CHECKED int32_t kit_view_scope(kit_handle *view, const uint8_t *scope, size_t scope_len);
-/* From now on its stream has this name; keeps these keys of attributes alone; aggregates so. */
-KIT_CHECKED int32_t kit_view_rename(kit_handle *view, const uint8_t *name, size_t name_len);
-KIT_CHECKED int32_t kit_view_keep(kit_handle *view, kit_handle *keys);
-KIT_CHECKED int32_t kit_view_aggregation(kit_handle *view, uint8_t number);
-KIT_CHECKED int32_t kit_view_buckets(kit_handle *view, const int64_t *bounds, size_t bounds_len);
-/* Views are numbered from 0 in the order in which they are added. An empty handle begins with a copy of the first. */
-KIT_CHECKED int32_t kit_views_add(kit_handle *views, kit_handle *view);
+/* Adds a key. A handle that has nothing begins with it.
+ *
+ * Refused, in this order: KIT_NOT_TEXT; KIT_NO_MEMORY. */
+KIT_CHECKED int32_t kit_keys_add(kit_keys *keys, const uint8_t *key, size_t key_len);
 
-/* The plan of instruments and of views; a handle that has nothing stands for none. Many writers may start under one plan. */
-KIT_CHECKED int32_t kit_plan_build(kit_handle *plan, kit_handle *instruments, kit_handle *views, uint64_t limit, uint64_t *place,
-                                   uint64_t *second);
+/* Makes a view of the instruments of one name, but for the case of ASCII letters. It changes nothing yet.
+ *
+ * Refused, in this order: KIT_FULL; KIT_NOT_TEXT; KIT_NO_MEMORY. */
+KIT_CHECKED int32_t kit_view_of_name(kit_view *view, const uint8_t *name, size_t name_len);
 
-/* Pairs of attributes. An empty handle begins with the first. */
-KIT_CHECKED int32_t kit_pairs_add_text(kit_handle *pairs, const uint8_t *key, size_t key_len, const uint8_t *value, size_t value_len);
-KIT_CHECKED int32_t kit_pairs_add_whole(kit_handle *pairs, const uint8_t *key, size_t key_len, int64_t value);
-KIT_CHECKED int32_t kit_pairs_add_truth(kit_handle *pairs, const uint8_t *key, size_t key_len, bool value);
+/* Makes a view of all instruments. It changes nothing yet.
+ *
+ * Refused, in this order: KIT_FULL; KIT_NO_MEMORY. */
+KIT_CHECKED int32_t kit_view_of_every(kit_view *view);
 
-/* The set of pairs: of a key that is given twice the later value stays. A handle that has nothing stands for no pairs. */
-KIT_CHECKED int32_t kit_attributes_make(kit_handle *attributes, kit_handle *pairs, uint64_t *place);
+/* From now on a view is of instruments of one kind: 0 counters, 1 up-down counters, 2 gauges, 3 histograms.
+ *
+ * Refused, in this order: KIT_BAD_NUMBER where the kind is none of these; KIT_NOTHING. Takes no memory. */
+KIT_CHECKED int32_t kit_view_kind(kit_view *view, uint8_t kind);
 
-/* A writer counts from a start on. The instance is a UUID as two numbers. */
-KIT_CHECKED int32_t kit_writer_start(kit_handle *writer, kit_handle *plan, const uint8_t *service, size_t service_len,
+/* From now on a view is of instruments of one scope.
+ *
+ * Refused, in this order: KIT_NOT_TEXT; KIT_NOTHING; KIT_NO_MEMORY. */
+KIT_CHECKED int32_t kit_view_scope(kit_view *view, const uint8_t *scope, size_t scope_len);
+
+/* From now on a view gives its stream a new name.
+ *
+ * Refused, in this order: KIT_NOT_TEXT; KIT_NOTHING; KIT_NO_MEMORY. */
+KIT_CHECKED int32_t kit_view_rename(kit_view *view, const uint8_t *name, size_t name_len);
+
+/* From now on the stream of a view keeps these keys of attributes alone, which stay; none where their handle has nothing.
+ *
+ * Refused, in this order: KIT_NOTHING of the view; KIT_NO_MEMORY. */
+KIT_CHECKED int32_t kit_view_keep(kit_view *view, KIT_READS kit_keys *keys);
+
+/* From now on a view aggregates so: 0 as the kind of the instrument does, 1 a sum, 2 the last value, 3 not at all.
+ *
+ * Refused, in this order: KIT_BAD_NUMBER where the number is none of these; KIT_NOTHING. Takes no memory. */
+KIT_CHECKED int32_t kit_view_aggregation(kit_view *view, uint8_t number);
+
+/* From now on a view is a histogram of these bounds.
+ *
+ * Refused, in this order: KIT_NOTHING; KIT_NO_MEMORY. */
+KIT_CHECKED int32_t kit_view_buckets(kit_view *view, const int64_t *bounds, size_t bounds_len);
+
+/* Adds a copy of a view: views are numbered from 0 in the order in which they are added. A handle that has nothing begins with it.
+ *
+ * Refused, in this order: KIT_NOTHING of the view; KIT_NO_MEMORY. */
+KIT_CHECKED int32_t kit_views_add(kit_views *views, KIT_READS kit_view *view);
+
+/* Attributes: pairs are written down, and made a set, which can be read pair by pair. */
+
+/* Adds a pair whose value is a text. A handle that has nothing begins with it.
+ *
+ * Refused, in this order: KIT_NOT_TEXT where the key or else the value is no UTF-8; KIT_NO_MEMORY. */
+KIT_CHECKED int32_t kit_pairs_add_text(kit_pairs *pairs, const uint8_t *key, size_t key_len, const uint8_t *value, size_t value_len);
+
+/* Adds a pair whose value is a whole number. A handle that has nothing begins with it.
+ *
+ * Refused, in this order: KIT_NOT_TEXT where the key is no UTF-8; KIT_NO_MEMORY. */
+KIT_CHECKED int32_t kit_pairs_add_whole(kit_pairs *pairs, const uint8_t *key, size_t key_len, int64_t value);
+
+/* Adds a pair whose value is a truth. A handle that has nothing begins with it.
+ *
+ * Refused, in this order: KIT_NOT_TEXT where the key is no UTF-8; KIT_NO_MEMORY. */
+KIT_CHECKED int32_t kit_pairs_add_truth(kit_pairs *pairs, const uint8_t *key, size_t key_len, bool value);
+
+/* Makes a set of the pairs that a handle has, or of none where it has nothing. The pairs stay.
+ *
+ * Refused, in this order: KIT_FULL; KIT_EMPTY_KEY with the least place of an empty key; KIT_NO_MEMORY. O(n log n) comparisons of keys, O(n)
+ * where they rise already. */
+KIT_CHECKED int32_t kit_attributes_make(kit_attributes *attributes, KIT_READS kit_pairs *pairs, uint64_t *place);
+
+/* Tells how many pairs a set has: they are numbered from 0, in the order of their keys.
+ *
+ * Refused: KIT_NOTHING. O(1), takes no memory. */
+KIT_CHECKED int32_t kit_attributes_len(KIT_READS kit_attributes *attributes, size_t *count);
+
+/* Copies the front of the key of a pair that has room, and tells in len how many bytes the whole key has, in UTF-8 and with no 0 at its
+ * end.
+ *
+ * Refused, in this order: KIT_NOTHING; KIT_NO_ITEM where there is no pair of this number. Takes no memory. */
+KIT_CHECKED int32_t kit_attributes_key(KIT_READS kit_attributes *attributes, size_t number, uint8_t *into, size_t room, size_t *len);
+
+/* Tells the value of a pair: its kind, 0 a text, 1 a whole number, 2 a truth; and it as a number, where a truth is 1 or 0 and a text its
+ * length, and kit_attributes_text copies it.
+ *
+ * Refused, in this order: KIT_NOTHING; KIT_NO_ITEM where there is no pair of this number. O(1), takes no memory. */
+KIT_CHECKED int32_t kit_attributes_value(KIT_READS kit_attributes *attributes, size_t number, uint8_t *kind, int64_t *whole);
+
+/* Copies the front of the text that the value of a pair is, and tells in len how many bytes the whole text has, in UTF-8 and with no 0 at
+ * its end.
+ *
+ * Refused, in this order: KIT_NOTHING; KIT_NO_ITEM where there is no pair of this number; KIT_WRONG_SHAPE where its value is no text. Takes
+ * no memory. */
+KIT_CHECKED int32_t kit_attributes_text(KIT_READS kit_attributes *attributes, size_t number, uint8_t *into, size_t room, size_t *len);
+
+/* Writers count from a start on. */
+
+/* Starts a writer, which counts from a start on, under a copy of a plan. The instance is a UUID as two numbers. Times are nanoseconds since
+ * the Unix epoch.
+ *
+ * Refused, in this order: KIT_FULL; KIT_NOT_TEXT where the service is no UTF-8; KIT_NOTHING of the plan; KIT_NO_MEMORY. */
+KIT_CHECKED int32_t kit_writer_start(kit_writer *writer, KIT_READS kit_plan *plan, const uint8_t *service, size_t service_len,
                                      uint64_t instance_high, uint64_t instance_low, uint64_t start);
-KIT_CHECKED int32_t kit_writer_measure(kit_handle *writer, size_t instrument, kit_handle *attributes, int64_t value, uint64_t *place);
-/* Holds a pair of an instrument and a set as long as the writer is, and tells its number, for kit_writer_measure_held: the shortest way to
- * record. Numbers count from 0, and stay over restarts. A pair that is held already has the number that it has: nothing changes and no
- * memory is taken, also where the writer is closed. */
-KIT_CHECKED int32_t kit_writer_hold(kit_handle *writer, size_t instrument, kit_handle *attributes, size_t *number);
-KIT_CHECKED int32_t kit_writer_measure_held(kit_handle *writer, size_t number, int64_t value, uint64_t *place);
-/* The points since the start, as an export: a lost one is covered by the next. */
-KIT_CHECKED int32_t kit_writer_collect(kit_handle *writer, uint64_t time, kit_handle *export_, uint64_t *place);
-/* The same for the last time: the writer is closed. */
-KIT_CHECKED int32_t kit_writer_shutdown(kit_handle *writer, uint64_t time, kit_handle *export_, uint64_t *place);
-/* Begins anew under a later start: the writer is open and has recorded nothing. */
-KIT_CHECKED int32_t kit_writer_restart(kit_handle *writer, uint64_t start, uint64_t *place);
 
-/* Recorders are threads' own logs of recordings, of at most `capacity` each, 16 bytes a recording: each thread notes in its own, which
- * meets no other, and a writer takes in what is noted. A log needs no writer; what it notes is looked at once it is taken in. One that
- * is full answers KIT_RECORDER_FULL: take it in, and note again. A log that is freed or cleared loses what it has. */
-KIT_CHECKED int32_t kit_recorder_new(kit_handle *recorder, size_t capacity);
-KIT_CHECKED int32_t kit_recorder_measure(kit_handle *recorder, size_t instrument, kit_handle *attributes, int64_t value);
-/* By the number of a pair that is held by the writer that will take the log in. */
-KIT_CHECKED int32_t kit_recorder_measure_held(kit_handle *recorder, size_t number, int64_t value);
-KIT_CHECKED int32_t kit_recorder_len(kit_handle *recorder, size_t *count);
-KIT_CHECKED int32_t kit_recorder_clear(kit_handle *recorder);
-/* Takes in at most `most` recordings from the front of a log (SIZE_MAX: all), as if each was measured then, one after the other. What is
- * refused is refused by itself, and told: the call answers KIT_OK. Where memory is wanting it stops, and what is left stays in the log. */
-KIT_CHECKED int32_t kit_writer_take_in(kit_handle *writer, kit_handle *recorder, size_t most, kit_taken *taken);
+/* Records a value of an instrument at an attribute set, in the stream of every feed of the instrument or in none (OpenTelemetry Metrics
+ * API, "Counter", "Histogram", "Gauge").
+ *
+ * Refused, in this order: KIT_NOTHING of the writer, then of the attributes; KIT_CLOSED; KIT_NO_INSTRUMENT; KIT_NEGATIVE; KIT_OVERFLOW with
+ * the stream; KIT_NO_MEMORY, but that a feed which keeps a list of keys may want memory before it and the feeds behind it are looked at.
+ * O(feeds of the instrument); no memory where every feed keeps all keys and its stream has the point. */
+KIT_CHECKED int32_t kit_writer_measure(kit_writer *writer, size_t instrument, KIT_READS kit_attributes *attributes, int64_t value,
+                                       uint64_t *place);
 
-/* Shares a writer: its handle then has the first seat at it, and what it held stays held, under its numbers. Each thread has a seat of its
- * own, from kit_seat_split. Calls of seats wait for nobody, and answer KIT_BUSY while another thread's has the writer: yield, and try
- * again. A collection has all that any seat recorded before it. The writer lasts as long as a seat does. */
-KIT_CHECKED int32_t kit_writer_share(kit_handle *writer);
-KIT_CHECKED int32_t kit_seat_split(kit_handle *seat, kit_handle *made);
-KIT_CHECKED int32_t kit_seat_measure(kit_handle *seat, size_t instrument, kit_handle *attributes, int64_t value, uint64_t *place);
-/* Numbers are the writer's: any seat may use one that another's call told. A seat finds the pairs that were held when the writer was
- * shared, that it held itself, and that the seat knew that it was split from; another pair is held anew. */
-KIT_CHECKED int32_t kit_seat_hold(kit_handle *seat, size_t instrument, kit_handle *attributes, size_t *number);
-KIT_CHECKED int32_t kit_seat_measure_held(kit_handle *seat, size_t number, int64_t value, uint64_t *place);
-/* As kit_writer_take_in, at once for all other seats: by pieces of `most` they get in between. */
-KIT_CHECKED int32_t kit_seat_take_in(kit_handle *seat, kit_handle *recorder, size_t most, kit_taken *taken);
-KIT_CHECKED int32_t kit_seat_collect(kit_handle *seat, uint64_t time, kit_handle *export_, uint64_t *place);
+/* Holds a pair of an instrument and an attribute set beside the writer, and tells its number, for kit_writer_measure_held. Numbers count
+ * from 0, and stay as long as the writer does, over restarts too. A pair that is held already has the number that it has: nothing changes
+ * and no memory is taken, so this may be called at each recording.
+ *
+ * Refused, in this order: KIT_NOTHING of the writer, then of the attributes; of a pair that is not held already KIT_CLOSED;
+ * KIT_NO_INSTRUMENT; KIT_NO_MEMORY. O(size of the attributes). */
+KIT_CHECKED int32_t kit_writer_hold(kit_writer *writer, size_t instrument, kit_attributes *attributes, size_t *number);
 
-/* The bytes of an export, which may go to another process, and the export of such bytes. Each export has one form, and no other bytes
- * are read. kit_bytes_copy copies the front of bytes that has room, and tells how many there are. */
-KIT_CHECKED int32_t kit_export_encode(kit_handle *export_, kit_handle *bytes);
-KIT_CHECKED int32_t kit_export_decode(kit_handle *export_, const uint8_t *bytes, size_t bytes_len, uint64_t *place);
-KIT_CHECKED int32_t kit_bytes_copy(kit_handle *bytes, uint8_t *into, size_t room, size_t *len);
+/* Records a value at the pair of a number, which kit_writer_hold told, as kit_writer_measure does.
+ *
+ * Refused, in this order: KIT_NOTHING; KIT_CLOSED; KIT_NO_HELD where nothing is held under the number; KIT_NEGATIVE; KIT_OVERFLOW with the
+ * stream; KIT_NO_MEMORY as of kit_writer_measure. O(feeds of the instrument), and from the first value on no set is looked up. */
+KIT_CHECKED int32_t kit_writer_measure_held(kit_writer *writer, size_t number, int64_t value, uint64_t *place);
 
-/* A gateway takes exports, in any order and however often each comes, and merges with other gateways. What is told is the number
- * of keys whose points changed. */
-KIT_CHECKED int32_t kit_gateway_open(kit_handle *gateway, uint32_t id);
-KIT_CHECKED int32_t kit_gateway_take(kit_handle *gateway, kit_handle *export_, uint64_t *changed);
-KIT_CHECKED int32_t kit_gateway_merge(kit_handle *gateway, kit_handle *other, uint64_t *changed);
+/* Takes in at most so many recordings of a log, from its front: each is measured as if it had been so then, one after the other, and
+ * forgotten. What is refused is refused by itself, and told: how many were recorded and refused, and why the first of these. Where memory
+ * is wanting it stops, and that recording and those behind it stay. What was noted before a restart counts in the incarnation that takes it
+ * in.
+ *
+ * Refused, in this order: KIT_NOTHING of the writer, then of the recorder; KIT_CLOSED. O(what each recording takes). */
+KIT_CHECKED int32_t kit_writer_take_in(kit_writer *writer, kit_recorder *recorder, size_t most, kit_taken *taken);
 
-/* The number of keys at whose time different values came: two writers recorded under one identity. */
-KIT_CHECKED int32_t kit_gateway_conflicts(kit_handle *gateway, uint64_t *count);
-/* The greatest time that it holds of one incarnation of a writer: what was collected up to it has come. */
-KIT_CHECKED int32_t kit_gateway_newest(kit_handle *gateway, const uint8_t *service, size_t service_len, uint64_t instance_high,
+/* Collects the points since the start, as an export. Exports are cumulative, so a lost one is covered by the next (OpenTelemetry Metrics
+ * SDK, "MetricReader", Collect). The time is in nanoseconds since the Unix epoch.
+ *
+ * Refused, in this order: KIT_FULL; KIT_NOTHING; KIT_CLOSED; KIT_TIME_NOT_AFTER with the last collection or the start; KIT_NO_MEMORY.
+ * O(size of the points). */
+KIT_CHECKED int32_t kit_writer_collect(kit_writer *writer, uint64_t time, kit_export *export_, uint64_t *place);
+
+/* Collects for the last time, and closes the writer (OpenTelemetry Metrics SDK, "MetricReader", Shutdown).
+ *
+ * Refused as kit_writer_collect is.
+ *
+ * In all: KIT_FULL, KIT_NOTHING, KIT_CLOSED, KIT_TIME_NOT_AFTER, KIT_NO_MEMORY. */
+KIT_CHECKED int32_t kit_writer_shutdown(kit_writer *writer, uint64_t time, kit_export *export_, uint64_t *place);
+
+/* Begins a new incarnation under a later start: the writer is open and has recorded nothing (OpenTelemetry Metrics Data Model, "Resets and
+ * Gaps").
+ *
+ * Refused, in this order: KIT_NOTHING; KIT_START_NOT_AFTER with the start so far; KIT_NO_MEMORY. */
+KIT_CHECKED int32_t kit_writer_restart(kit_writer *writer, uint64_t start, uint64_t *place);
+
+/* Recorders are threads' own logs of recordings: each thread notes in its own, which meets no other, and a writer takes in what is noted. */
+
+/* Makes a log of no recordings, which may have as many as its capacity says: 16 bytes for each are taken now. It needs no writer, and any
+ * may take it in.
+ *
+ * Refused, in this order: KIT_FULL; KIT_NO_MEMORY. */
+KIT_CHECKED int32_t kit_recorder_new(kit_recorder *recorder, size_t capacity);
+
+/* Notes a recording of a value, by an instrument at an attribute set. No writer is looked at: what no instrument takes is refused once a
+ * writer takes it in. A set is kept once for all its recordings.
+ *
+ * Refused, in this order: KIT_NOTHING of the recorder, then of the attributes; KIT_RECORDER_FULL where it has as many recordings as its
+ * capacity says; KIT_NO_MEMORY. O(size of the attributes). */
+KIT_CHECKED int32_t kit_recorder_measure(kit_recorder *recorder, size_t instrument, KIT_READS kit_attributes *attributes, int64_t value);
+
+/* Notes a recording of a value at the pair of a number, which the writer told that will take the log in.
+ *
+ * Refused, in this order: KIT_NOTHING; KIT_RECORDER_FULL where it has as many recordings as its capacity says, or where the number is 2^32
+ * or more. O(1), takes no memory. */
+KIT_CHECKED int32_t kit_recorder_measure_held(kit_recorder *recorder, size_t number, int64_t value);
+
+/* Tells how many recordings a log has.
+ *
+ * Refused: KIT_NOTHING. O(1), takes no memory. */
+KIT_CHECKED int32_t kit_recorder_len(KIT_READS kit_recorder *recorder, size_t *count);
+
+/* Forgets all recordings of a log, which keeps its capacity.
+ *
+ * Refused: KIT_NOTHING. Takes no memory. */
+KIT_CHECKED int32_t kit_recorder_clear(kit_recorder *recorder);
+
+/* Seats are places at a writer that threads share, one for each thread. They wait for nobody, and answer KIT_BUSY while another thread's call
+ * has the writer: yield, and try again. The writer lasts as long as a seat does. */
+
+/* Shares a writer: its handle has nothing then, and the seat is the first place at it, which kit_seat_split makes others of, one for each
+ * thread. What the writer held stays held, under the same numbers.
+ *
+ * Refused, in this order: KIT_FULL of the seat; KIT_NOTHING of the writer; KIT_NO_MEMORY. O(size of the plan and the points). */
+KIT_CHECKED int32_t kit_writer_share(kit_writer *writer, kit_seat *seat);
+
+/* Records a value at an attribute set by a seat, which is one thread's. It waits for nobody.
+ *
+ * Refused, in this order: KIT_NOTHING of the seat, then of the attributes; KIT_BUSY where another thread's call has the writer;
+ * KIT_EXHAUSTED where it accepted 2^62 changes; then as kit_writer_measure is. Nothing is recorded then, though the seat may have seen what
+ * others recorded.
+ *
+ * In all: KIT_NOTHING, KIT_BUSY, KIT_EXHAUSTED, KIT_CLOSED, KIT_NO_INSTRUMENT, KIT_NEGATIVE, KIT_OVERFLOW, KIT_NO_MEMORY. */
+KIT_CHECKED int32_t kit_seat_measure(kit_seat *seat, size_t instrument, KIT_READS kit_attributes *attributes, int64_t value,
+                                     uint64_t *place);
+
+/* Records a value by a seat at the pair of a number, whichever seat's call told it.
+ *
+ * Refused, in this order: KIT_NOTHING; KIT_BUSY where another thread's call has the writer; KIT_EXHAUSTED where it accepted 2^62 changes;
+ * then as kit_writer_measure_held is.
+ *
+ * In all: KIT_NOTHING, KIT_BUSY, KIT_EXHAUSTED, KIT_CLOSED, KIT_NO_HELD, KIT_NEGATIVE, KIT_OVERFLOW, KIT_NO_MEMORY. */
+KIT_CHECKED int32_t kit_seat_measure_held(kit_seat *seat, size_t number, int64_t value, uint64_t *place);
+
+/* Holds a pair of an instrument and an attribute set by a seat, and tells its number, which any seat of the writer may use. A seat knows
+ * the numbers of the pairs that were held when the writer was shared, of those that it held itself, and those that the seat knew that it
+ * was split from. Of such a pair nothing changes, no memory is taken and the writer is not asked for.
+ *
+ * Refused, in this order: KIT_NOTHING of the seat, then of the attributes; of a pair that the seat does not know KIT_NO_MEMORY; KIT_BUSY
+ * where another thread's call has the writer; KIT_EXHAUSTED where it accepted 2^62 changes; KIT_NO_INSTRUMENT; KIT_NO_MEMORY. */
+KIT_CHECKED int32_t kit_seat_hold(kit_seat *seat, size_t instrument, kit_attributes *attributes, size_t *number);
+
+/* Takes in at most so many recordings of a log by a seat, from its front, as kit_writer_take_in does: by one change, so that others see all
+ * of them or none. By pieces other seats get in between.
+ *
+ * Refused, in this order: KIT_NOTHING of the seat, then of the recorder; KIT_BUSY where another thread's call has the writer; KIT_EXHAUSTED
+ * where it accepted 2^62 changes; KIT_CLOSED. The log stays as it is then. */
+KIT_CHECKED int32_t kit_seat_take_in(kit_seat *seat, kit_recorder *recorder, size_t most, kit_taken *taken);
+
+/* Makes another seat at the writer, for another thread, which knows the numbers that this one knows.
+ *
+ * Refused, in this order: KIT_FULL of the new one; KIT_NOTHING; KIT_NO_MEMORY; KIT_BUSY where another thread's call has the writer;
+ * KIT_SEATS_FULL where 4,096 seats were made. */
+KIT_CHECKED int32_t kit_seat_split(kit_seat *seat, kit_seat *made);
+
+/* Collects the points of the writer by a seat, as an export: all that any seat recorded before it.
+ *
+ * Refused, in this order: KIT_FULL of the export; KIT_NOTHING; KIT_BUSY where another thread's call has the writer; KIT_EXHAUSTED where it
+ * accepted 2^62 changes; then as kit_writer_collect is.
+ *
+ * In all: KIT_FULL, KIT_NOTHING, KIT_BUSY, KIT_EXHAUSTED, KIT_CLOSED, KIT_TIME_NOT_AFTER, KIT_NO_MEMORY. */
+KIT_CHECKED int32_t kit_seat_collect(kit_seat *seat, uint64_t time, kit_export *export_, uint64_t *place);
+
+/* Gateways take exports, in any order and however often each comes, and merge with other gateways. */
+
+/* Opens a gateway without points, under an id.
+ *
+ * Refused, in this order: KIT_FULL; KIT_NO_MEMORY. */
+KIT_CHECKED int32_t kit_gateway_open(kit_gateway *gateway, uint32_t id);
+
+/* Tells the id of a gateway, and how many points it holds.
+ *
+ * Refused: KIT_NOTHING. O(1), takes no memory. */
+KIT_CHECKED int32_t kit_gateway_read(KIT_READS kit_gateway *gateway, uint32_t *id, size_t *points);
+
+/* Joins the points of an export, which stays, and tells the number of keys whose points changed. An export that comes again changes nothing
+ * (OpenTelemetry Metrics Data Model, "Single-Writer").
+ *
+ * Refused, in this order: KIT_NOTHING of the gateway, then of the export; KIT_NO_MEMORY. */
+KIT_CHECKED int32_t kit_gateway_take(kit_gateway *gateway, KIT_READS kit_export *export_, uint64_t *changed);
+
+/* Joins what another gateway holds, which stays, and tells the number of keys whose points changed. What comes again changes nothing, in
+ * whatever order.
+ *
+ * Refused, in this order: KIT_NOTHING of this gateway, then of the other; KIT_NO_MEMORY. */
+KIT_CHECKED int32_t kit_gateway_merge(kit_gateway *gateway, KIT_READS kit_gateway *other, uint64_t *changed);
+
+/* Tells the number of keys at whose time different values came: two writers recorded under one identity. O(1).
+ *
+ * Refused: KIT_NOTHING. Takes no memory. */
+KIT_CHECKED int32_t kit_gateway_conflicts(KIT_READS kit_gateway *gateway, uint64_t *count);
+
+/* Tells whether two gateways hold equal points; their ids are not compared.
+ *
+ * Refused, in this order: KIT_NOTHING of this gateway, then of the other. Takes no memory. */
+KIT_CHECKED int32_t kit_gateway_same(KIT_READS kit_gateway *gateway, KIT_READS kit_gateway *other, bool *same);
+
+/* Tells the greatest time that a gateway holds of one incarnation of a service's instance: all that was collected up to then has come. The
+ * instance is a UUID as two numbers. O(log n of what is held).
+ *
+ * Refused, in this order: KIT_NOT_TEXT where the service is no UTF-8; KIT_NOTHING; KIT_NO_POINT where nothing of that incarnation is held;
+ * KIT_NO_MEMORY. */
+KIT_CHECKED int32_t kit_gateway_newest(KIT_READS kit_gateway *gateway, const uint8_t *service, size_t service_len, uint64_t instance_high,
                                        uint64_t instance_low, uint64_t start, uint64_t *time);
-/* Whether two gateways hold equal points. */
-KIT_CHECKED int32_t kit_gateway_same(kit_handle *gateway, kit_handle *other, bool *same);
 
-/* Nodes are gateways that tell each other what changed, by messages. A node begins with a gateway's points and id; the ids of nodes
- * that exchange messages are distinct. kit_node_gateway makes a copy of what it holds, to be asked. */
-KIT_CHECKED int32_t kit_node_open(kit_handle *node, kit_handle *gateway);
-KIT_CHECKED int32_t kit_node_gateway(kit_handle *node, kit_handle *gateway);
-KIT_CHECKED int32_t kit_node_take(kit_handle *node, kit_handle *export_, uint64_t *changed);
-KIT_CHECKED int32_t kit_node_merge(kit_handle *node, kit_handle *gateway, uint64_t *changed);
-/* A message to the node of an id: what changed since the last one that it answered. It may be lost, come late or come twice. */
-KIT_CHECKED int32_t kit_node_send(kit_handle *node, uint32_t to, kit_handle *message);
-/* Hands a node a message, which stays; where it is answered, the answer goes to its sender. */
-KIT_CHECKED int32_t kit_node_hand(kit_handle *node, kit_handle *message, kit_handle *answer, bool *answered);
-/* From which id to which a message goes, and how many points it carries: an answer carries none. */
-KIT_CHECKED int32_t kit_message_read(kit_handle *message, uint32_t *from, uint32_t *to, size_t *points);
-/* The bytes of a message, for a node in another process, as of exports above; kit_bytes_copy copies them. */
-KIT_CHECKED int32_t kit_message_encode(kit_handle *message, kit_handle *bytes);
-KIT_CHECKED int32_t kit_message_decode(kit_handle *message, const uint8_t *bytes, size_t bytes_len, uint64_t *place);
+/* What an export tells beside its points. */
 
-/* Asks of a stream: all its points, a row for each attribute set. The name is taken without regard to the case of ASCII letters, as plans
- * take it; scope, unit and bounds are those of the plan. */
-KIT_CHECKED int32_t kit_ask_sum(kit_handle *ask, const uint8_t *scope, size_t scope_len, const uint8_t *name, size_t name_len,
+/* Tells who made an export, its instance as two numbers, and of when and how many points it is: so that who takes it in from another
+ * process can compare it with what is known of that one. kit_export_service tells the service.
+ *
+ * Refused: KIT_NOTHING. O(1), takes no memory. */
+KIT_CHECKED int32_t kit_export_read(KIT_READS kit_export *export_, uint64_t *instance_high, uint64_t *instance_low, uint64_t *start,
+                                    uint64_t *time, size_t *points);
+
+/* Copies the front of the service of an export's writer that has room, and tells in len how many bytes it has, in UTF-8 and with no 0 at
+ * its end.
+ *
+ * Refused: KIT_NOTHING. Takes no memory. */
+KIT_CHECKED int32_t kit_export_service(KIT_READS kit_export *export_, uint8_t *into, size_t room, size_t *len);
+
+/* Nodes are gateways that tell each other what changed, by messages. */
+
+/* Opens a node with the points and the id of a gateway, which stays. The ids of nodes that exchange messages are distinct.
+ *
+ * Refused, in this order: KIT_FULL; KIT_NOTHING; KIT_NO_MEMORY. O(size of the points). */
+KIT_CHECKED int32_t kit_node_open(kit_node *node, KIT_READS kit_gateway *gateway);
+
+/* A copy of the gateway that a node has, to be asked. The node stays.
+ *
+ * Refused, in this order: KIT_FULL; KIT_NOTHING; KIT_NO_MEMORY. O(size of the points). */
+KIT_CHECKED int32_t kit_node_gateway(KIT_READS kit_node *node, kit_gateway *gateway);
+
+/* Joins the points of an export, which stays, and tells the number of keys whose points changed: later messages carry them.
+ *
+ * Refused, in this order: KIT_NOTHING of the node, then of the export; KIT_NO_MEMORY. */
+KIT_CHECKED int32_t kit_node_take(kit_node *node, KIT_READS kit_export *export_, uint64_t *changed);
+
+/* Joins what a gateway holds, which stays, and tells the number of keys whose points changed: later messages carry them.
+ *
+ * Refused, in this order: KIT_NOTHING of the node, then of the gateway; KIT_NO_MEMORY. */
+KIT_CHECKED int32_t kit_node_merge(kit_node *node, KIT_READS kit_gateway *gateway, uint64_t *changed);
+
+/* A message to the node of an id. It carries what changed since the last message of which that node's answer was handed here, so a message
+ * may be lost, come late or come twice.
+ *
+ * Refused, in this order: KIT_FULL; KIT_NOTHING; KIT_NO_MEMORY. */
+KIT_CHECKED int32_t kit_node_send(KIT_READS kit_node *node, uint32_t to, kit_message *message);
+
+/* Hands a node a message, which stays, and tells whether it is to be answered: then answer has the message to its sender.
+ *
+ * Refused, in this order: KIT_FULL of the answer; KIT_NOTHING of the node, then of the message; KIT_NOT_ADDRESSED where the message goes to
+ * another id; KIT_NO_MEMORY. */
+KIT_CHECKED int32_t kit_node_hand(kit_node *node, KIT_READS kit_message *message, kit_message *answer, bool *answered);
+
+/* Tells from which id and to which a message goes, and how many points it carries: an answer carries none.
+ *
+ * Refused: KIT_NOTHING. Takes no memory. */
+KIT_CHECKED int32_t kit_message_read(KIT_READS kit_message *message, uint32_t *from, uint32_t *to, size_t *points);
+
+/* Exports and messages as bytes, for other processes: each has one form, and no other bytes are read. */
+
+/* The bytes of an export, which stays: they may go to another process. Each export has one form.
+ *
+ * Refused, in this order: KIT_FULL; KIT_NOTHING; KIT_NO_MEMORY. */
+KIT_CHECKED int32_t kit_export_encode(KIT_READS kit_export *export_, kit_bytes *bytes);
+
+/* Copies the front of bytes that has room, and tells in len how many there are. They stay.
+ *
+ * Refused: KIT_NOTHING. Takes no memory. */
+KIT_CHECKED int32_t kit_bytes_copy(KIT_READS kit_bytes *bytes, uint8_t *into, size_t room, size_t *len);
+
+/* The export of bytes that kit_export_encode made, here or in another process.
+ *
+ * Refused, in this order: KIT_FULL; then for the first thing that is wrong with the bytes, with its place: KIT_TRUNCATED, KIT_BAD_MAGIC,
+ * KIT_BAD_VERSION, KIT_NOT_CANONICAL, KIT_NOT_TEXT, KIT_BAD_CHECKSUM, KIT_BAD_EXPORT which tells none; KIT_NO_MEMORY alone where they are
+ * an export's. */
+KIT_CHECKED int32_t kit_export_decode(kit_export *export_, const uint8_t *bytes, size_t bytes_len, uint64_t *place);
+
+/* The bytes of a message, which stays: they may go to a node in another process. Each message has one form.
+ *
+ * Refused, in this order: KIT_FULL; KIT_NOTHING; KIT_NO_MEMORY. O(n) in the bytes. */
+KIT_CHECKED int32_t kit_message_encode(KIT_READS kit_message *message, kit_bytes *bytes);
+
+/* The message of bytes that kit_message_encode made, here or in another process. Each of its points is one that an export can bring; who
+ * made the bytes is not known here.
+ *
+ * Refused, in this order: KIT_FULL; then for the first thing that is wrong with the bytes, with its place: KIT_TRUNCATED, KIT_BAD_MAGIC,
+ * KIT_BAD_VERSION, KIT_NOT_CANONICAL, KIT_NOT_TEXT, KIT_BAD_CHECKSUM, KIT_BAD_EXPORT which tells none; KIT_NO_MEMORY alone where they are
+ * such a message's. */
+KIT_CHECKED int32_t kit_message_decode(kit_message *message, const uint8_t *bytes, size_t bytes_len, uint64_t *place);
+
+/* What a message carries, as a gateway of its sender's id: to see whose points they are before a node is handed it, and the way back from
+ * kit_gateway_encode. The message stays.
+ *
+ * Refused, in this order: KIT_FULL; KIT_NOTHING; KIT_NO_MEMORY. O(size of the points). */
+KIT_CHECKED int32_t kit_message_gateway(KIT_READS kit_message *message, kit_gateway *gateway);
+
+/* A gateway's id and points as bytes, to be kept and brought back: those of a message of all that it holds, from it to itself.
+ * kit_message_decode reads them, and kit_message_gateway makes the gateway of that. The gateway stays; it is copied once.
+ *
+ * Refused, in this order: KIT_FULL; KIT_NOTHING; KIT_NO_MEMORY. O(size of the points). */
+KIT_CHECKED int32_t kit_gateway_encode(KIT_READS kit_gateway *gateway, kit_bytes *bytes);
+
+/* Asks of a gateway, the rows that it answers with, and their table. */
+
+/* Asks for the points of a sum: of all services, with a row for each attribute set. The name is taken without regard to case, as plans take
+ * it; scope and unit stand as they are.
+ *
+ * Refused, in this order: KIT_FULL; KIT_NOT_TEXT where the scope, the name or the unit is no UTF-8; KIT_NO_MEMORY. */
+KIT_CHECKED int32_t kit_ask_sum(kit_ask *ask, const uint8_t *scope, size_t scope_len, const uint8_t *name, size_t name_len,
                                 const uint8_t *unit, size_t unit_len, bool monotonic);
-KIT_CHECKED int32_t kit_ask_gauge(kit_handle *ask, const uint8_t *scope, size_t scope_len, const uint8_t *name, size_t name_len,
+
+/* Asks for the points of a gauge: of all services, with a row for each attribute set.
+ *
+ * Refused as kit_ask_sum is.
+ *
+ * In all: KIT_FULL, KIT_NOT_TEXT, KIT_NO_MEMORY. */
+KIT_CHECKED int32_t kit_ask_gauge(kit_ask *ask, const uint8_t *scope, size_t scope_len, const uint8_t *name, size_t name_len,
                                   const uint8_t *unit, size_t unit_len);
-KIT_CHECKED int32_t kit_ask_histogram(kit_handle *ask, const uint8_t *scope, size_t scope_len, const uint8_t *name, size_t name_len,
+
+/* Asks for the points of a histogram of these bounds: of all services, with a row for each attribute set.
+ *
+ * Refused as kit_ask_sum is.
+ *
+ * In all: KIT_FULL, KIT_NOT_TEXT, KIT_NO_MEMORY. */
+KIT_CHECKED int32_t kit_ask_histogram(kit_ask *ask, const uint8_t *scope, size_t scope_len, const uint8_t *name, size_t name_len,
                                       const uint8_t *unit, size_t unit_len, const int64_t *bounds, size_t bounds_len);
 
-/* From now on an ask is of one service's writers; of the points that have each of these pairs; told apart by these keys alone. */
-KIT_CHECKED int32_t kit_ask_service(kit_handle *ask, const uint8_t *service, size_t service_len);
-KIT_CHECKED int32_t kit_ask_only(kit_handle *ask, kit_handle *pairs);
-KIT_CHECKED int32_t kit_ask_keep(kit_handle *ask, kit_handle *keys);
+/* From now on an ask is of the points of one service's writers.
+ *
+ * Refused, in this order: KIT_NOT_TEXT; KIT_NOTHING; KIT_NO_MEMORY. */
+KIT_CHECKED int32_t kit_ask_service(kit_ask *ask, const uint8_t *service, size_t service_len);
 
-/* The rows that a gateway answers with, and their table. */
-KIT_CHECKED int32_t kit_gateway_rows(kit_handle *gateway, kit_handle *ask, kit_handle *rows);
-KIT_CHECKED int32_t kit_rows_table(kit_handle *rows, kit_handle *text);
+/* From now on an ask is of the points whose attributes have each of these pairs, which stay.
+ *
+ * Refused, in this order: KIT_NOTHING of the ask; KIT_NO_MEMORY. */
+KIT_CHECKED int32_t kit_ask_only(kit_ask *ask, KIT_READS kit_pairs *pairs);
 
-/* Rows as numbers: how many there are; how many points a row's total is of, and how many conflicts it leaves out; the total of a sum,
- * refused where it leaves 64 bits; the newest point of a gauge. */
-KIT_CHECKED int32_t kit_rows_len(kit_handle *rows, size_t *count);
-KIT_CHECKED int32_t kit_rows_counts(kit_handle *rows, size_t number, uint64_t *points, uint64_t *conflicts);
-KIT_CHECKED int32_t kit_rows_sum(kit_handle *rows, size_t number, int64_t *total);
-KIT_CHECKED int32_t kit_rows_gauge(kit_handle *rows, size_t number, uint64_t *time, int64_t *value);
-/* Of a histogram: how many values, their sum, and how many buckets; the least and the greatest value; how many values a bucket has:
- * those up to the bound of its number and above the one before, and in the last one those above all bounds. */
-KIT_CHECKED int32_t kit_rows_histogram(kit_handle *rows, size_t number, uint64_t *count, int64_t *sum, size_t *buckets);
-KIT_CHECKED int32_t kit_rows_range(kit_handle *rows, size_t number, int64_t *least, int64_t *greatest);
-KIT_CHECKED int32_t kit_rows_bucket(kit_handle *rows, size_t number, size_t bucket_number, uint64_t *count);
+/* From now on an ask's rows are told apart by these keys alone, which stay; by none where their handle has nothing.
+ *
+ * Refused, in this order: KIT_NOTHING of the ask; KIT_NO_MEMORY. */
+KIT_CHECKED int32_t kit_ask_keep(kit_ask *ask, KIT_READS kit_keys *keys);
 
-/* Copies the front of a text that has room, and tells how long the whole text is. */
-KIT_CHECKED int32_t kit_text_copy(kit_handle *text, uint8_t *into, size_t room, size_t *len);
+/* The rows that a gateway answers an ask with. Both stay.
+ *
+ * Refused, in this order: KIT_FULL; KIT_NOTHING of the gateway, then of the ask; KIT_NO_MEMORY. Of n points and r rows O(n log r)
+ * comparisons of sets. */
+KIT_CHECKED int32_t kit_gateway_rows(KIT_READS kit_gateway *gateway, KIT_READS kit_ask *ask, kit_rows *rows);
+
+/* The table of rows, as a text. The rows stay.
+ *
+ * Refused, in this order: KIT_FULL; KIT_NOTHING; KIT_NO_MEMORY. */
+KIT_CHECKED int32_t kit_rows_table(KIT_READS kit_rows *rows, kit_text *text);
+
+/* Streams: what can be asked for. */
+
+/* The streams of a plan, which stays, under the numbers that KIT_OVERFLOW tells.
+ *
+ * Refused, in this order: KIT_FULL; KIT_NOTHING; KIT_NO_MEMORY. O(streams). */
+KIT_CHECKED int32_t kit_plan_streams(KIT_READS kit_plan *plan, kit_streams *streams);
+
+/* The streams of which a gateway, which stays, holds points: each once, in the order in which the points' keys name them first.
+ *
+ * Refused, in this order: KIT_FULL; KIT_NOTHING; KIT_NO_MEMORY. O(points), and memory for the streams alone. */
+KIT_CHECKED int32_t kit_gateway_streams(KIT_READS kit_gateway *gateway, kit_streams *streams);
+
+/* Tells how many streams there are: they are numbered from 0.
+ *
+ * Refused: KIT_NOTHING. O(1), takes no memory. */
+KIT_CHECKED int32_t kit_streams_len(KIT_READS kit_streams *streams, size_t *count);
+
+/* Copies the front of a text of a stream that has room, and tells in len how many bytes the whole text has, in UTF-8 and with no 0 at its
+ * end. The text is 0 the scope, 1 the name, 2 the unit.
+ *
+ * Refused, in this order: KIT_NOTHING; KIT_NO_ITEM where there is no stream of this number; KIT_BAD_NUMBER where the text is none of these.
+ * Takes no memory. */
+KIT_CHECKED int32_t kit_streams_text(KIT_READS kit_streams *streams, size_t number, uint8_t part, uint8_t *into, size_t room, size_t *len);
+
+/* Tells the shape of a stream, 0 a sum that only rises, 1 a sum, 2 a gauge, 3 a histogram, and how many bounds it has: only a histogram has
+ * some.
+ *
+ * Refused, in this order: KIT_NOTHING; KIT_NO_ITEM where there is no stream of this number. O(1), takes no memory. */
+KIT_CHECKED int32_t kit_streams_shape(KIT_READS kit_streams *streams, size_t number, uint8_t *shape, size_t *bounds);
+
+/* Copies the front of the bounds of a stream that has room, and tells in len how many there are: only a histogram has some.
+ *
+ * Refused, in this order: KIT_NOTHING; KIT_NO_ITEM where there is no stream of this number. Takes no memory. */
+KIT_CHECKED int32_t kit_streams_bounds(KIT_READS kit_streams *streams, size_t number, int64_t *into, size_t room, size_t *len);
+
+/* Asks for the points of a stream: of all services, with a row for each attribute set. The streams stay.
+ *
+ * Refused, in this order: KIT_FULL; KIT_NOTHING of the streams; KIT_NO_ITEM where there is no stream of this number; KIT_NO_MEMORY. */
+KIT_CHECKED int32_t kit_ask_stream(kit_ask *ask, KIT_READS kit_streams *streams, size_t number);
+
+/* Copies the front of the bounds that has room of a histogram for which no view says others, and answers how many there are: 15
+ * (OpenTelemetry Metrics SDK, "Explicit Bucket Histogram Aggregation"). */
+KIT_CALL size_t kit_default_bounds(int64_t *into, size_t room);
+
+/* Rows as numbers. */
+
+/* Tells how many rows there are: they are numbered from 0, in the order of their attribute sets.
+ *
+ * Refused: KIT_NOTHING. Takes no memory. */
+KIT_CHECKED int32_t kit_rows_len(KIT_READS kit_rows *rows, size_t *count);
+
+/* The attributes that a row is of, as a set of their own: its labels. The rows stay.
+ *
+ * Refused, in this order: KIT_FULL; KIT_NOTHING; KIT_NO_ROW; KIT_NO_MEMORY. O(size of the attributes). */
+KIT_CHECKED int32_t kit_rows_attributes(KIT_READS kit_rows *rows, size_t number, kit_attributes *attributes);
+
+/* Tells how many points the total of a row is of, and how many conflicts it leaves out.
+ *
+ * Refused, in this order: KIT_NOTHING; KIT_NO_ROW. Takes no memory. */
+KIT_CHECKED int32_t kit_rows_counts(KIT_READS kit_rows *rows, size_t number, uint64_t *points, uint64_t *conflicts);
+
+/* Tells the total of a row of a sum.
+ *
+ * Refused, in this order: KIT_NOTHING; KIT_NO_ROW; KIT_WRONG_SHAPE of a row of another shape; KIT_TOO_WIDE where the total, which has 128
+ * bits, leaves 64: its table tells it all the same. Takes no memory. */
+KIT_CHECKED int32_t kit_rows_sum(KIT_READS kit_rows *rows, size_t number, int64_t *total);
+
+/* Tells the time and the value of the newest point of a row of a gauge.
+ *
+ * Refused, in this order: KIT_NOTHING; KIT_NO_ROW; KIT_WRONG_SHAPE of a row of another shape; KIT_NO_POINT where the row has conflicts
+ * alone. Takes no memory. */
+KIT_CHECKED int32_t kit_rows_gauge(KIT_READS kit_rows *rows, size_t number, uint64_t *time, int64_t *value);
+
+/* Tells what the values of a row of a sum or of a histogram come to, as a number of 128 bits in two's complement: its high and its low
+ * half.
+ *
+ * Refused, in this order: KIT_NOTHING; KIT_NO_ROW; KIT_WRONG_SHAPE of a row of a gauge. O(1), takes no memory. */
+KIT_CHECKED int32_t kit_rows_wide_sum(KIT_READS kit_rows *rows, size_t number, uint64_t *high, uint64_t *low);
+
+/* Tells how many values a row of a histogram is of, as a number of 128 bits: its high and its low half.
+ *
+ * Refused, in this order: KIT_NOTHING; KIT_NO_ROW; KIT_WRONG_SHAPE of a row of another shape. O(1), takes no memory. */
+KIT_CHECKED int32_t kit_rows_wide_count(KIT_READS kit_rows *rows, size_t number, uint64_t *high, uint64_t *low);
+
+/* Tells how many values a row of a histogram is of, their sum, and how many buckets there are: one more than bounds.
+ *
+ * Refused, in this order: KIT_NOTHING; KIT_NO_ROW; KIT_WRONG_SHAPE of a row of another shape; KIT_TOO_WIDE where the count or the sum,
+ * which have 128 bits, leaves 64: the table tells them all the same. Takes no memory. */
+KIT_CHECKED int32_t kit_rows_histogram(KIT_READS kit_rows *rows, size_t number, uint64_t *count, int64_t *sum, size_t *buckets);
+
+/* Tells the least and the greatest value that a row of a histogram is of.
+ *
+ * Refused, in this order: KIT_NOTHING; KIT_NO_ROW; KIT_WRONG_SHAPE of a row of another shape; KIT_NO_POINT where the row has no value.
+ * Takes no memory. */
+KIT_CHECKED int32_t kit_rows_range(KIT_READS kit_rows *rows, size_t number, int64_t *least, int64_t *greatest);
+
+/* Tells how many values a bucket of a row of a histogram has. Buckets are numbered from 0: that of a number has the values up to the bound
+ * of this number and above the one before it, and the last one those above all bounds.
+ *
+ * Refused, in this order: KIT_NOTHING; KIT_NO_ROW; KIT_WRONG_SHAPE of a row of another shape; KIT_NO_BUCKET; KIT_TOO_WIDE where the count,
+ * which has 128 bits, leaves 64. Takes no memory. */
+KIT_CHECKED int32_t kit_rows_bucket(KIT_READS kit_rows *rows, size_t number, size_t bucket_number, uint64_t *count);
+
+/* Texts. */
+
+/* Copies the front of a text that has room, and tells in len how many bytes the whole text has, in UTF-8 and with no 0 at its end. The text
+ * stays.
+ *
+ * Refused: KIT_NOTHING. Takes no memory. */
+KIT_CHECKED int32_t kit_text_copy(KIT_READS kit_text *text, uint8_t *into, size_t room, size_t *len);
 
 #ifdef __cplusplus
 }

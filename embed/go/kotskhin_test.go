@@ -236,14 +236,15 @@ func TestRefusalsSayWhy(t *testing.T) {
 	none := must[Attributes](t)(NewAttributes())
 	_, twice := NewPlan(Instrument{Name: "requests", Unit: "1"}, Instrument{Name: "1", Unit: "1"})
 	_, key := NewAttributes("a", "1", "", "2")
+	said := func(code Code) string { return code.Error() + ": " + codes[code].says }
 	for says, err := range map[string]error{
-		"kotskhin: NEGATIVE: a counter or a histogram takes no value below 0":         w.Measure(0, none, -1),
-		"kotskhin: START_NOT_AFTER: the new start is not after 100, the start so far": w.Restart(100),
-		"kotskhin: BAD_NAME: the name of instrument 1 breaks the rule of names":       twice,
-		"kotskhin: EMPTY_KEY: the key of pair 1 is empty":                             key,
-		"kotskhin: SAME_STREAM: instruments 2 and 3 feed one stream":                  Refused{ErrSameStream, 2, 3},
-		"kotskhin: code 99": Refused{Code: 99},
-		"kotskhin: CLOSED":  ErrClosed,
+		said(ErrNegative):                                     w.Measure(0, none, -1),
+		said(ErrStartNotAfter) + " (start 100)":               w.Restart(100),
+		said(ErrBadName) + " (instrument 1)":                  twice,
+		said(ErrEmptyKey) + " (pair 1)":                       key,
+		said(ErrSameStream) + " (instrument 2, instrument 3)": Refused{ErrSameStream, 2, 3},
+		"kotskhin: code 99":                                   Refused{Code: 99},
+		"kotskhin: CLOSED":                                    ErrClosed,
 	} {
 		if err == nil || err.Error() != says {
 			t.Errorf("%v, not %s", err, says)
@@ -301,5 +302,56 @@ func TestInstancesAreDrawnAnew(t *testing.T) {
 	}
 	if len(drawn) != 8 {
 		t.Fatal(drawn)
+	}
+}
+
+// Goroutines read one set, one plan and one gateway, which nobody changes meanwhile.
+func TestGoroutinesReadAtOnce(t *testing.T) {
+	plan := must[Plan](t)(NewPlan(Instrument{Scope: "app", Name: "requests", Unit: "1", Kind: Counter}))
+	route := must[Attributes](t)(NewAttributes("route", "/"))
+	first := must[Writer](t)(StartWriter(plan, "shop", 0, 1, 100))
+	if err := first.Measure(0, route, 7); err != nil {
+		t.Fatal(err)
+	}
+	gateway, export := must[Gateway](t)(OpenGateway(1)), must[Export](t)(first.Collect(200))
+	must[uint64](t)(gateway.Take(export))
+	table := must[string](t)(gateway.Sum("app", "requests", "1", true))
+	var group sync.WaitGroup
+	for i := 0; i < 4; i++ {
+		group.Add(1)
+		go func(instance uint64) {
+			defer group.Done()
+			writer, err := StartWriter(plan, "shop", 0, instance, 100)
+			number, held := writer.Hold(0, route)
+			for i := 0; i < 1000 && err == nil && held == nil; i++ {
+				if err = writer.Measure(0, route, 1); err == nil {
+					err = writer.MeasureHeld(number, 1)
+				}
+			}
+			told, asked := gateway.Sum("app", "requests", "1", true)
+			if err != nil || held != nil || asked != nil || told != table {
+				t.Error(err, held, asked, told)
+			}
+			own, _ := OpenGateway(2)
+			if made, err := writer.Collect(300); err == nil {
+				own.Take(made)
+			}
+			own.Take(export)
+			if told, _ := own.Sum("app", "requests", "1", true); !strings.HasSuffix(told, "  2007\n") {
+				t.Error(told)
+			}
+		}(uint64(i) + 2)
+	}
+	group.Wait()
+}
+
+// A writer that was shared has nothing: its seat has it.
+func TestASharedWriterIsLeftEmpty(t *testing.T) {
+	w := newWriter(t, 1)
+	seat := must[Seat](t)(w.Share())
+	none := must[Attributes](t)(NewAttributes())
+	refused(t, w.Measure(0, none, 1), ErrNothing, 0)
+	if err := seat.Measure(0, none, 1); err != nil {
+		t.Fatal(err)
 	}
 }

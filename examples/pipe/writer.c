@@ -18,8 +18,8 @@
     } while (0)
 
 /* Writes the bytes of an export behind their number. */
-static void sends(kit_handle *export_) {
-    kit_handle bytes = KIT_EMPTY;
+static void sends(kit_export *export_) {
+    kit_bytes bytes = KIT_EMPTY;
     uint8_t none = 0;
     size_t len = 0;
     MUST(kit_export_encode(export_, &bytes));
@@ -38,12 +38,16 @@ static void sends(kit_handle *export_) {
         exit(1);
     }
     free(copy);
-    kit_free(&bytes);
+    kit_bytes_free(&bytes);
 }
 
 int main(void) {
     static const char *const routes[] = {"/", "/cart", "/pay"};
-    kit_handle instruments = KIT_EMPTY, views = KIT_EMPTY, plan = KIT_EMPTY, writer = KIT_EMPTY, kept = KIT_EMPTY;
+    kit_instruments instruments = KIT_EMPTY;
+    kit_views views = KIT_EMPTY;
+    kit_plan plan = KIT_EMPTY;
+    kit_writer writer = KIT_EMPTY;
+    kit_export kept = KIT_EMPTY;
     uint64_t place = 0, second = 0, counted = 0;
     size_t numbers[3] = {0};
 
@@ -51,20 +55,21 @@ int main(void) {
     MUST(kit_plan_build(&plan, &instruments, &views, KIT_DEFAULT_LIMIT, &place, &second));
     MUST(kit_writer_start(&writer, &plan, TEXT("shop"), 0, 1, 100));
     for (size_t i = 0; i < 3; i++) {
-        kit_handle pairs = KIT_EMPTY, set = KIT_EMPTY;
+        kit_pairs pairs = KIT_EMPTY;
+        kit_attributes set = KIT_EMPTY;
         size_t len = 0;
         while (routes[i][len]) len++;
         MUST(kit_pairs_add_text(&pairs, TEXT("route"), (const uint8_t *)routes[i], len));
         MUST(kit_attributes_make(&set, &pairs, &place));
         MUST(kit_writer_hold(&writer, 0, &set, &numbers[i]));
-        kit_free(&pairs), kit_free(&set);
+        kit_pairs_free(&pairs), kit_attributes_free(&set);
     }
     for (uint64_t round = 1; round <= 5; round++) {
         for (uint64_t i = 0; i < 1000; i++) {
             MUST(kit_writer_measure_held(&writer, numbers[(round + i) % 3], (int64_t)(i % 7), &place));
             counted += i % 7;
         }
-        kit_handle collected = KIT_EMPTY;
+        kit_export collected = KIT_EMPTY;
         MUST(kit_writer_collect(&writer, 100 + round, &collected, &place));
         if (round == 2) {
             kept = collected;
@@ -74,12 +79,12 @@ int main(void) {
         if (round == 3) {
             sends(&collected);
         }
-        kit_free(&collected);
+        kit_export_free(&collected);
     }
     sends(&kept);
     fprintf(stderr, "counted %" PRIu64 "\n", counted);
 
-    kit_handle *all[] = {&instruments, &views, &plan, &writer, &kept};
+    kit_handle *all[] = {&instruments.handle, &views.handle, &plan.handle, &writer.handle, &kept.handle};
     for (size_t i = 0; i < sizeof all / sizeof *all; i++) {
         kit_free(all[i]);
     }

@@ -101,18 +101,19 @@ static enum pick pick_of(enum pick pick, size_t set) {
     return set < 2 ? ITS_SETS : NONE;
 }
 
-static void recorded(kit_handle *writer, size_t streams, enum pick pick) {
-    kit_handle pairs = KIT_EMPTY, set = KIT_EMPTY;
+static void recorded(kit_writer *writer, size_t streams, enum pick pick) {
+    kit_pairs pairs = KIT_EMPTY;
+    kit_attributes set = KIT_EMPTY;
     char text[LETTERS];
     text_of(text, pick == ITS_TEXTS);
     int64_t number = pick == ITS_SETS ? zeroing(text) : (int64_t)any();
     CHECK(!kit_pairs_add_text(&pairs, TEXT("a"), (const uint8_t *)text, LETTERS));
     CHECK(!kit_pairs_add_whole(&pairs, TEXT("z"), number) && !kit_attributes_make(&set, &pairs, &place));
     for (size_t i = 0; i < streams; i++) CHECK(!kit_writer_measure(writer, i, &set, 1, &place));
-    kit_free(&pairs), kit_free(&set);
+    kit_pairs_free(&pairs), kit_attributes_free(&set);
 }
 
-static void scoped(kit_handle *instruments, const struct kind *kind) {
+static void scoped(kit_instruments *instruments, const struct kind *kind) {
     static uint8_t scope[LONG];
     memset(scope, 's', kind->scope);
     for (size_t i = 0; i < kind->streams; i++) {
@@ -121,31 +122,48 @@ static void scoped(kit_handle *instruments, const struct kind *kind) {
     }
 }
 
-static void collected(kit_handle *export_, const struct kind *kind, enum pick pick) {
-    kit_handle instruments = KIT_EMPTY, views = KIT_EMPTY, plan = KIT_EMPTY, writer = KIT_EMPTY;
+static void collected(kit_export *export_, const struct kind *kind, enum pick pick) {
+    kit_instruments instruments = KIT_EMPTY;
+    kit_views views = KIT_EMPTY;
+    kit_plan plan = KIT_EMPTY;
+    kit_writer writer = KIT_EMPTY;
     uint64_t second;
     scoped(&instruments, kind);
     CHECK(!kit_plan_build(&plan, &instruments, &views, kind->sets + 1, &place, &second));
     CHECK(!kit_writer_start(&writer, &plan, TEXT("shop"), 0, 1, 100));
     for (size_t i = 0; i < kind->sets; i++) recorded(&writer, kind->streams, pick_of(pick, i));
     CHECK(!kit_writer_collect(&writer, 200, export_, &place));
-    kit_free(&instruments), kit_free(&views), kit_free(&plan), kit_free(&writer);
+    kit_instruments_free(&instruments), kit_views_free(&views), kit_plan_free(&plan), kit_writer_free(&writer);
 }
 
 /* What a node of no peers tells another of an export. */
-static void told(kit_handle *export_, kit_handle *message) {
-    kit_handle gateway = KIT_EMPTY, node = KIT_EMPTY;
+static void told(kit_export *export_, kit_message *message) {
+    kit_gateway gateway = KIT_EMPTY;
+    kit_node node = KIT_EMPTY;
     CHECK(!kit_gateway_open(&gateway, 1) && !kit_node_open(&node, &gateway));
     CHECK(!kit_node_take(&node, export_, &changed) && !kit_node_send(&node, 2, message));
-    kit_free(&gateway), kit_free(&node);
+    kit_gateway_free(&gateway), kit_node_free(&node);
 }
 
 struct form {
-    int32_t (*encode)(kit_handle *it, kit_handle *bytes);
+    int32_t (*encode)(kit_handle *it, kit_bytes *bytes);
     int32_t (*decode)(kit_handle *it, const uint8_t *bytes, size_t len, uint64_t *at);
 };
-static const struct form AN_EXPORT = {kit_export_encode, kit_export_decode};
-static const struct form A_MESSAGE = {kit_message_encode, kit_message_decode};
+/* An export or a message, by the handle that is in each. */
+static int32_t export_encoded(kit_handle *it, kit_bytes *bytes) { return kit_export_encode((kit_export *)it, bytes); }
+
+static int32_t export_decoded(kit_handle *it, const uint8_t *bytes, size_t len, uint64_t *at) {
+    return kit_export_decode((kit_export *)it, bytes, len, at);
+}
+
+static int32_t message_encoded(kit_handle *it, kit_bytes *bytes) { return kit_message_encode((kit_message *)it, bytes); }
+
+static int32_t message_decoded(kit_handle *it, const uint8_t *bytes, size_t len, uint64_t *at) {
+    return kit_message_decode((kit_message *)it, bytes, len, at);
+}
+
+static const struct form AN_EXPORT = {export_encoded, export_decoded};
+static const struct form A_MESSAGE = {message_encoded, message_decoded};
 
 /* Microseconds. */
 static double now(void) {
@@ -164,7 +182,8 @@ static struct took timed(const struct form *form, kit_handle *it) {
     static uint8_t copy[ROOM];
     struct took took = {1e12, 1e12};
     for (size_t round = 0; round < ROUNDS; round++) {
-        kit_handle bytes = KIT_EMPTY, read = KIT_EMPTY;
+        kit_bytes bytes = KIT_EMPTY;
+        kit_handle read = {0};
         size_t len = 0;
         double start = now();
         CHECK(!form->encode(it, &bytes));
@@ -173,7 +192,7 @@ static struct took timed(const struct form *form, kit_handle *it) {
         start = now();
         CHECK(!form->decode(&read, copy, len, &place));
         took.read = least(took.read, now() - start);
-        kit_free(&bytes), kit_free(&read);
+        kit_bytes_free(&bytes), kit_free(&read);
     }
     return took;
 }
@@ -183,10 +202,11 @@ struct both {
 };
 
 static struct both of(const struct kind *kind, enum pick pick) {
-    kit_handle export_ = KIT_EMPTY, message = KIT_EMPTY;
+    kit_export export_ = KIT_EMPTY;
+    kit_message message = KIT_EMPTY;
     collected(&export_, kind, pick), told(&export_, &message);
-    struct both both = {timed(&AN_EXPORT, &export_), timed(&A_MESSAGE, &message)};
-    kit_free(&export_), kit_free(&message);
+    struct both both = {timed(&AN_EXPORT, &export_.handle), timed(&A_MESSAGE, &message.handle)};
+    kit_export_free(&export_), kit_message_free(&message);
     return both;
 }
 

@@ -1,19 +1,7 @@
-/* Every call of the header, by one table: each of its handles empty, of each kind that it is not to be, full where it is to be filled, and
+/* Every call of calls.h: each of its handles empty, of each kind that it is not to be, full where it is to be filled, and
  * given twice; and its growths refused one after the other (linked with --wrap=malloc,--wrap=realloc). A refused call leaves each handle as
  * it was. Prints the first check that does not hold and exits with 1, or exits with 0. */
-#include <kotskhin.h>
-#include <stdio.h>
-#include <stdlib.h>
-#include <string.h>
-
-#define TEXT(s) (const uint8_t *)(s), sizeof(s) - 1
-#define MUST(call)                                                        \
-    do {                                                                  \
-        if (call) {                                                       \
-            printf("line %d: %s is refused\n", __LINE__, #call);          \
-            exit(1);                                                      \
-        }                                                                 \
-    } while (0)
+#include "calls.h"
 
 void *__real_malloc(size_t size);
 void *__real_realloc(void *at, size_t size);
@@ -27,250 +15,13 @@ void *__wrap_malloc(size_t size) { return refuses() ? NULL : __real_malloc(size)
 
 void *__wrap_realloc(void *at, size_t size) { return refuses() ? NULL : __real_realloc(at, size); }
 
-/* What a handle can have. */
-enum kind {
-    NOTHING, PAIRS, ATTRIBUTES, INSTRUMENTS, VIEW, VIEWS, KEYS, PLAN, WRITER, EXPORT, GATEWAY, NODE, MESSAGE, SEAT, RECORDER,
-    ASK, TOLD_TEXT, BYTES, SUM_ROWS, GAUGE_ROWS, HISTOGRAM_ROWS, KINDS, ROWS /* of any shape */
-};
-
-/* How a call has a handle: something must be there, or may be, or it is empty and is filled. */
-enum part { THERE = 1, OPENS, FILLED };
-
-struct hand {
-    enum part part;
-    enum kind kind;
-};
-
-enum { MOST = 3 };
-
-struct row {
-    const char *name;
-    int32_t (*call)(kit_handle **h);
-    struct hand hands[MOST];
-};
-
-static const int64_t bounds[] = {10, 20};
-static uint64_t place, second;
-static size_t size;
-static int64_t number;
-static bool truth;
-static uint32_t id;
-static uint8_t room[256];
-/* The bytes of an export, and of a message. */
-static uint8_t encoded[1024], told[1024];
-static size_t encoded_len, told_len;
-static kit_taken taken;
-
-/* A thing of a kind in an empty handle: of the scope app the counter requests, at no attributes 7, from shop since 100 at 200. */
-static void make(enum kind kind, kit_handle *it) {
-    kit_handle one = KIT_EMPTY, two = KIT_EMPTY, three = KIT_EMPTY;
-    switch (kind) {
-    case PAIRS: MUST(kit_pairs_add_whole(it, TEXT("status"), 200)); break;
-    case ATTRIBUTES: MUST(kit_attributes_make(it, &one, &place)); break;
-    case INSTRUMENTS:
-        MUST(kit_instruments_add(it, TEXT("app"), TEXT("requests"), TEXT("1"), KIT_COUNTER));
-        MUST(kit_instruments_add(it, TEXT("app"), TEXT("depth"), TEXT("1"), KIT_GAUGE));
-        MUST(kit_instruments_add(it, TEXT("app"), TEXT("size"), TEXT("By"), KIT_HISTOGRAM));
-        break;
-    case VIEW:
-        MUST(kit_view_of_name(it, TEXT("size")));
-        MUST(kit_view_buckets(it, bounds, 2));
-        break;
-    case VIEWS:
-        make(VIEW, &one);
-        MUST(kit_views_add(it, &one));
-        break;
-    case KEYS: MUST(kit_keys_add(it, TEXT("status"))); break;
-    case PLAN:
-        make(INSTRUMENTS, &one), make(VIEWS, &two);
-        MUST(kit_plan_build(it, &one, &two, KIT_DEFAULT_LIMIT, &place, &second));
-        break;
-    case WRITER:
-        make(PLAN, &one), make(ATTRIBUTES, &two);
-        MUST(kit_writer_start(it, &one, TEXT("shop"), 0, 1, 100));
-        MUST(kit_writer_hold(it, 0, &two, &size));
-        for (size_t instrument = 0; instrument < 3; instrument++) MUST(kit_writer_measure(it, instrument, &two, 7, &place));
-        break;
-    case EXPORT:
-        make(WRITER, &one);
-        MUST(kit_writer_collect(&one, 200, it, &place));
-        break;
-    case GATEWAY:
-        make(EXPORT, &one);
-        MUST(kit_gateway_open(it, 1));
-        MUST(kit_gateway_take(it, &one, &place));
-        break;
-    case NODE:
-        make(GATEWAY, &one);
-        MUST(kit_node_open(it, &one));
-        break;
-    case MESSAGE:
-        make(EXPORT, &one);
-        MUST(kit_gateway_open(&two, 2));
-        MUST(kit_node_open(&three, &two));
-        MUST(kit_node_take(&three, &one, &place));
-        MUST(kit_node_send(&three, 1, it));
-        break;
-    case SEAT:
-        make(WRITER, it);
-        MUST(kit_writer_share(it));
-        break;
-    case RECORDER:
-        make(ATTRIBUTES, &one);
-        MUST(kit_recorder_new(it, 8));
-        MUST(kit_recorder_measure(it, 2, &one, 7));
-        MUST(kit_recorder_measure_held(it, 0, 7));
-        break;
-    case ASK: MUST(kit_ask_sum(it, TEXT("app"), TEXT("requests"), TEXT("1"), true)); break;
-    case TOLD_TEXT:
-        make(ROWS, &one);
-        MUST(kit_rows_table(&one, it));
-        break;
-    case BYTES:
-        make(EXPORT, &one);
-        MUST(kit_export_encode(&one, it));
-        break;
-    case GAUGE_ROWS:
-        make(GATEWAY, &one);
-        MUST(kit_ask_gauge(&two, TEXT("app"), TEXT("depth"), TEXT("1")));
-        MUST(kit_gateway_rows(&one, &two, it));
-        break;
-    case HISTOGRAM_ROWS:
-        make(GATEWAY, &one);
-        MUST(kit_ask_histogram(&two, TEXT("app"), TEXT("size"), TEXT("By"), bounds, 2));
-        MUST(kit_gateway_rows(&one, &two, it));
-        break;
-    case SUM_ROWS:
-    case ROWS:
-        make(GATEWAY, &one), make(ASK, &two);
-        MUST(kit_gateway_rows(&one, &two, it));
-        break;
-    case NOTHING:
-    case KINDS: break;
-    }
-    kit_free(&one), kit_free(&two), kit_free(&three);
-}
-
-/* Each call, with its handles by h and all else as it should be. */
-#define CALL(name, ...) \
-    static int32_t name(kit_handle **h) { return kit_##name(__VA_ARGS__); }
-CALL(instruments_add, h[0], TEXT("app"), TEXT("more"), TEXT("1"), KIT_COUNTER)
-CALL(keys_add, h[0], TEXT("route"))
-CALL(view_of_name, h[0], TEXT("a name of more than thirty bytes of text"))
-CALL(view_of_every, h[0])
-CALL(view_kind, h[0], KIT_COUNTER)
-CALL(view_scope, h[0], TEXT("a scope of more than thirty bytes"))
-CALL(view_rename, h[0], TEXT("a_new_name_of_more_than_thirty_bytes"))
-CALL(view_keep, h[0], h[1])
-CALL(view_aggregation, h[0], KIT_DROP)
-CALL(view_buckets, h[0], bounds, 2)
-CALL(views_add, h[0], h[1])
-CALL(plan_build, h[0], h[1], h[2], KIT_DEFAULT_LIMIT, &place, &second)
-CALL(pairs_add_text, h[0], TEXT("route"), TEXT("/cart"))
-CALL(pairs_add_whole, h[0], TEXT("attempt"), 1)
-CALL(pairs_add_truth, h[0], TEXT("cached"), true)
-CALL(attributes_make, h[0], h[1], &place)
-CALL(writer_start, h[0], h[1], TEXT("a service of more than thirty bytes"), 0, 1, 100)
-CALL(writer_measure, h[0], 0, h[1], 1, &place)
-CALL(writer_hold, h[0], 1, h[1], &size)
-CALL(writer_measure_held, h[0], 0, 1, &place)
-CALL(writer_collect, h[0], 300, h[1], &place)
-CALL(writer_shutdown, h[0], 300, h[1], &place)
-CALL(writer_restart, h[0], 300, &place)
-CALL(writer_share, h[0])
-CALL(seat_split, h[0], h[1])
-CALL(seat_measure, h[0], 0, h[1], 1, &place)
-CALL(seat_hold, h[0], 1, h[1], &size)
-CALL(seat_measure_held, h[0], 0, 1, &place)
-CALL(seat_take_in, h[0], h[1], 1, &taken)
-CALL(seat_collect, h[0], 300, h[1], &place)
-CALL(recorder_new, h[0], 8)
-CALL(recorder_measure, h[0], 0, h[1], 1)
-CALL(recorder_measure_held, h[0], 0, 1)
-CALL(recorder_len, h[0], &size)
-CALL(recorder_clear, h[0])
-CALL(writer_take_in, h[0], h[1], 1, &taken)
-CALL(export_encode, h[0], h[1])
-CALL(export_decode, h[0], encoded, encoded_len, &place)
-CALL(bytes_copy, h[0], room, sizeof room, &size)
-CALL(gateway_open, h[0], 3)
-CALL(gateway_take, h[0], h[1], &place)
-CALL(gateway_merge, h[0], h[1], &place)
-CALL(gateway_conflicts, h[0], &place)
-CALL(gateway_newest, h[0], TEXT("shop"), 0, 1, 100, &place)
-CALL(gateway_same, h[0], h[1], &truth)
-CALL(node_open, h[0], h[1])
-CALL(node_gateway, h[0], h[1])
-CALL(node_take, h[0], h[1], &place)
-CALL(node_merge, h[0], h[1], &place)
-CALL(node_send, h[0], 5, h[1])
-CALL(node_hand, h[0], h[1], h[2], &truth)
-CALL(message_read, h[0], &id, &id, &size)
-CALL(message_encode, h[0], h[1])
-CALL(message_decode, h[0], told, told_len, &place)
-CALL(ask_sum, h[0], TEXT("app"), TEXT("requests"), TEXT("1"), true)
-CALL(ask_gauge, h[0], TEXT("app"), TEXT("depth"), TEXT("1"))
-CALL(ask_histogram, h[0], TEXT("app"), TEXT("size"), TEXT("By"), bounds, 2)
-CALL(ask_service, h[0], TEXT("a service of more than thirty bytes"))
-CALL(ask_only, h[0], h[1])
-CALL(ask_keep, h[0], h[1])
-CALL(gateway_rows, h[0], h[1], h[2])
-CALL(rows_table, h[0], h[1])
-CALL(rows_len, h[0], &size)
-CALL(rows_counts, h[0], 0, &place, &second)
-CALL(rows_sum, h[0], 0, &number)
-CALL(rows_gauge, h[0], 0, &place, &number)
-CALL(rows_histogram, h[0], 0, &place, &number, &size)
-CALL(rows_range, h[0], 0, &number, &number)
-CALL(rows_bucket, h[0], 0, 0, &place)
-CALL(text_copy, h[0], room, sizeof room, &size)
-
-#define ROW(name, ...) {#name, name, {__VA_ARGS__}}
-static const struct row CALLS[] = {
-    ROW(instruments_add, {OPENS, INSTRUMENTS}), ROW(keys_add, {OPENS, KEYS}), ROW(view_of_name, {FILLED, VIEW}),
-    ROW(view_of_every, {FILLED, VIEW}), ROW(view_kind, {THERE, VIEW}), ROW(view_scope, {THERE, VIEW}), ROW(view_rename, {THERE, VIEW}),
-    ROW(view_keep, {THERE, VIEW}, {OPENS, KEYS}), ROW(view_aggregation, {THERE, VIEW}), ROW(view_buckets, {THERE, VIEW}),
-    ROW(views_add, {OPENS, VIEWS}, {THERE, VIEW}), ROW(plan_build, {FILLED, PLAN}, {OPENS, INSTRUMENTS}, {OPENS, VIEWS}),
-    ROW(pairs_add_text, {OPENS, PAIRS}), ROW(pairs_add_whole, {OPENS, PAIRS}), ROW(pairs_add_truth, {OPENS, PAIRS}),
-    ROW(attributes_make, {FILLED, ATTRIBUTES}, {OPENS, PAIRS}), ROW(writer_start, {FILLED, WRITER}, {THERE, PLAN}),
-    ROW(writer_measure, {THERE, WRITER}, {THERE, ATTRIBUTES}), ROW(writer_hold, {THERE, WRITER}, {THERE, ATTRIBUTES}),
-    ROW(writer_measure_held, {THERE, WRITER}), ROW(writer_collect, {THERE, WRITER}, {FILLED, EXPORT}),
-    ROW(writer_shutdown, {THERE, WRITER}, {FILLED, EXPORT}), ROW(writer_restart, {THERE, WRITER}), ROW(writer_share, {THERE, WRITER}),
-    ROW(seat_split, {THERE, SEAT}, {FILLED, SEAT}), ROW(seat_measure, {THERE, SEAT}, {THERE, ATTRIBUTES}),
-    ROW(seat_hold, {THERE, SEAT}, {THERE, ATTRIBUTES}), ROW(seat_measure_held, {THERE, SEAT}),
-    ROW(seat_take_in, {THERE, SEAT}, {THERE, RECORDER}), ROW(seat_collect, {THERE, SEAT}, {FILLED, EXPORT}),
-    ROW(recorder_new, {FILLED, RECORDER}), ROW(recorder_measure, {THERE, RECORDER}, {THERE, ATTRIBUTES}),
-    ROW(recorder_measure_held, {THERE, RECORDER}), ROW(recorder_len, {THERE, RECORDER}), ROW(recorder_clear, {THERE, RECORDER}),
-    ROW(writer_take_in, {THERE, WRITER}, {THERE, RECORDER}),
-    ROW(export_encode, {THERE, EXPORT}, {FILLED, BYTES}), ROW(export_decode, {FILLED, EXPORT}), ROW(bytes_copy, {THERE, BYTES}),
-    ROW(gateway_open, {FILLED, GATEWAY}), ROW(gateway_take, {THERE, GATEWAY}, {THERE, EXPORT}),
-    ROW(gateway_merge, {THERE, GATEWAY}, {THERE, GATEWAY}), ROW(gateway_conflicts, {THERE, GATEWAY}), ROW(gateway_newest, {THERE, GATEWAY}),
-    ROW(gateway_same, {THERE, GATEWAY}, {THERE, GATEWAY}), ROW(node_open, {FILLED, NODE}, {THERE, GATEWAY}),
-    ROW(node_gateway, {THERE, NODE}, {FILLED, GATEWAY}), ROW(node_take, {THERE, NODE}, {THERE, EXPORT}),
-    ROW(node_merge, {THERE, NODE}, {THERE, GATEWAY}), ROW(node_send, {THERE, NODE}, {FILLED, MESSAGE}),
-    ROW(node_hand, {THERE, NODE}, {THERE, MESSAGE}, {FILLED, MESSAGE}), ROW(message_read, {THERE, MESSAGE}),
-    ROW(message_encode, {THERE, MESSAGE}, {FILLED, BYTES}), ROW(message_decode, {FILLED, MESSAGE}), ROW(ask_sum, {FILLED, ASK}),
-    ROW(ask_gauge, {FILLED, ASK}), ROW(ask_histogram, {FILLED, ASK}), ROW(ask_service, {THERE, ASK}),
-    ROW(ask_only, {THERE, ASK}, {OPENS, PAIRS}), ROW(ask_keep, {THERE, ASK}, {OPENS, KEYS}),
-    ROW(gateway_rows, {THERE, GATEWAY}, {THERE, ASK}, {FILLED, SUM_ROWS}), ROW(rows_table, {THERE, ROWS}, {FILLED, TOLD_TEXT}),
-    ROW(rows_len, {THERE, ROWS}), ROW(rows_counts, {THERE, ROWS}), ROW(rows_sum, {THERE, SUM_ROWS}), ROW(rows_gauge, {THERE, GAUGE_ROWS}),
-    ROW(rows_histogram, {THERE, HISTOGRAM_ROWS}), ROW(rows_range, {THERE, HISTOGRAM_ROWS}), ROW(rows_bucket, {THERE, HISTOGRAM_ROWS}),
-    ROW(text_copy, {THERE, TOLD_TEXT}),
-};
+static bool is_rows(enum kind kind) { return kind >= SUM_ROWS && kind != KINDS; }
 
 static bool is_of(enum kind wanted, enum kind kind) {
-    return kind == wanted || (wanted == ROWS && SUM_ROWS <= kind && kind <= HISTOGRAM_ROWS);
+    return kind == wanted || (wanted == ROWS && is_rows(kind)) || (wanted == TOTALS && is_rows(kind) && kind != GAUGE_ROWS);
 }
 
-static int hands_of(const struct row *row) {
-    int count = 0;
-    while (count < MOST && row->hands[count].part) count++;
-    return count;
-}
-
-/* The handles of a call while it is tried. */
-static kit_handle own[MOST], before[MOST];
-static kit_handle *given[MOST];
+static bool must_be_there(struct hand hand) { return hand.part == THERE || hand.part == READ; }
 
 /* What a call is to have. */
 static void lay(const struct row *row) {
@@ -280,9 +31,8 @@ static void lay(const struct row *row) {
     }
 }
 
-static void clear(void) {
-    for (int i = 0; i < MOST; i++) kit_free(&own[i]);
-}
+/* What the handles of a call were before it. */
+static kit_handle before[MOST];
 
 static bool unchanged(void) {
     for (int i = 0; i < MOST; i++) {
@@ -296,11 +46,8 @@ static int32_t called(const struct row *row) {
     return row->call(given);
 }
 
-static void expect(const struct row *row, const char *what, int hand, int kind, bool holds) {
-    if (holds) return;
-    printf("kit_%s: handle %d, kind %d: %s\n", row->name, hand, kind, what);
-    exit(1);
-}
+/* A writer that is shared is left empty: its seat has it. */
+static bool is_given_over(const struct row *row, int hand) { return !strcmp(row->name, "writer_share") && !hand; }
 
 /* Each growth refused in turn, until the call succeeds. */
 static void grows(const struct row *row) {
@@ -312,7 +59,26 @@ static void grows(const struct row *row) {
         if (code == KIT_OK) break;
         expect(row, "a refused growth is told so and changes nothing", -1, (int)growth, code == KIT_NO_MEMORY && unchanged());
     }
-    for (int i = 0; i < hands_of(row); i++) expect(row, "it is there once the call succeeded", i, -1, own[i].full);
+    for (int i = 0; i < hands_of(row); i++) {
+        bool stays = own[i].full == before[i].full && own[i].at == before[i].at;
+        expect(row, "what is read is there once the call succeeded", i, -1, !is_read(row->hands[i]) || stays);
+        expect(row, "it is there once the call succeeded", i, -1, own[i].full || is_given_over(row, i));
+    }
+    clear();
+}
+
+/* What a call only reads it may have by a handle that is lent, which then has the same. */
+static void lends(const struct row *row) {
+    kit_handle lent[MOST] = {{0}};
+    lay(row);
+    for (int i = 0; i < hands_of(row); i++) {
+        if (is_read(row->hands[i])) lent[i] = own[i], given[i] = &lent[i];
+    }
+    expect(row, "a handle may be lent", -1, -1, called(row) == KIT_OK);
+    for (int i = 0; i < hands_of(row); i++) {
+        bool same = !is_read(row->hands[i]) || (own[i].full == lent[i].full && own[i].at == lent[i].at);
+        expect(row, "what was lent is given back", i, -1, same);
+    }
     clear();
 }
 
@@ -320,7 +86,7 @@ static void emptied(const struct row *row, int hand) {
     lay(row);
     kit_free(&own[hand]);
     int32_t code = called(row);
-    if (row->hands[hand].part == THERE) {
+    if (must_be_there(row->hands[hand])) {
         expect(row, "an empty handle is told so and changes nothing", hand, -1, code == KIT_NOTHING && unchanged());
     } else {
         expect(row, "the handle may be empty", hand, -1, code == KIT_OK);
@@ -329,8 +95,9 @@ static void emptied(const struct row *row, int hand) {
 }
 
 static void of_another_kind(const struct row *row, int hand, enum kind kind) {
-    int32_t wanted = row->hands[hand].part == FILLED ? KIT_FULL : KIT_WRONG_KIND;
-    if (wanted == KIT_WRONG_KIND && is_of(row->hands[hand].kind, kind)) return;
+    bool other_shape = is_rows(kind) && is_rows(row->hands[hand].kind);
+    int32_t wanted = row->hands[hand].part == FILLED ? KIT_FULL : other_shape ? KIT_WRONG_SHAPE : KIT_WRONG_KIND;
+    if (wanted != KIT_FULL && is_of(row->hands[hand].kind, kind)) return;
     lay(row);
     kit_free(&own[hand]);
     make(kind, &own[hand]);
@@ -342,7 +109,7 @@ static void of_another_kind(const struct row *row, int hand, enum kind kind) {
 /* One handle for two of a call, with what the one wants, with what the other wants, and with nothing. */
 static void given_twice(const struct row *row, int hand, int other) {
     const enum kind kinds[] = {row->hands[hand].kind, row->hands[other].kind, NOTHING};
-    bool must = row->hands[hand].part == THERE || row->hands[other].part == THERE;
+    bool must = must_be_there(row->hands[hand]) || must_be_there(row->hands[other]);
     for (int i = 0; i < 3; i++) {
         lay(row);
         kit_free(&own[hand]), kit_free(&own[other]);
@@ -355,15 +122,10 @@ static void given_twice(const struct row *row, int hand, int other) {
 }
 
 int main(void) {
-    kit_handle bytes = KIT_EMPTY, message = KIT_EMPTY;
-    make(BYTES, &bytes), make(MESSAGE, &message);
-    MUST(kit_bytes_copy(&bytes, encoded, sizeof encoded, &encoded_len) || encoded_len > sizeof encoded);
-    kit_free(&bytes);
-    MUST(kit_message_encode(&message, &bytes) || kit_bytes_copy(&bytes, told, sizeof told, &told_len) || told_len > sizeof told);
-    kit_free(&bytes), kit_free(&message);
+    prepare();
     for (size_t i = 0; i < sizeof CALLS / sizeof *CALLS; i++) {
         const struct row *row = &CALLS[i];
-        grows(row);
+        grows(row), lends(row);
         for (int hand = 0; hand < hands_of(row); hand++) {
             emptied(row, hand);
             for (enum kind kind = PAIRS; kind < KINDS; kind++) of_another_kind(row, hand, kind);

@@ -1,5 +1,5 @@
 #!/usr/bin/env python3
-"""What docs/EMBEDDING.md says that each wrapper lacks is what it lacks, and Go's codes are those of kit_c.
+"""What docs/EMBEDDING.md says that each wrapper lacks is what it lacks.
 
 Its table names calls of kotskhin.h in a row, and of each wrapper says yes or no. A call of a row of yes stands in the wrapper, one of no
 does not, and a call that no row names stands in each. This ends with a status other than 0 where one of these does not hold."""
@@ -9,13 +9,13 @@ import sys
 
 TOP = pathlib.Path(__file__).resolve().parents[2]
 sys.path.insert(0, str(TOP / "embed"))
-import declarations
+import exports
 
 PAGE = TOP / "docs" / "EMBEDDING.md"
 # Of each column the files where a wrapper calls the library.
-WRAPPERS = {"C++": "cpp/kotskhin.hpp", "Rust": "rust/kotskhin/src/**/*.rs", "Go": "go/*.go", "Python": "python/kotskhin.py"}
+WRAPPERS = {"C++": "cpp/kotskhin.hpp", "Rust": "rust/kotskhin/src/**/*.rs", "Go": "go/*.go", "Python": "python/kotskhin/__init__.py"}
 # A call that each wrapper makes for its caller, or that has no word of its own.
-SILENT = {"kit_free"}
+SILENT = {"kit_free", "kit_version", "kit_code_text"}
 
 
 def calls_of(pattern):
@@ -24,7 +24,7 @@ def calls_of(pattern):
     return {word for text in texts for word in re.findall(r"\bkit_\w+", text)}
 
 
-def told(exports):
+def told(calls_there):
     """Of each wrapper the calls that the table says it lacks; what is wrong with the table."""
     lines = PAGE.read_text(encoding="utf-8").splitlines()
     heads = [at for at, line in enumerate(lines) if line.startswith("| What") and "Calls" in line]
@@ -36,8 +36,8 @@ def told(exports):
             break
         cells = [it.strip() for it in line.strip("|").split("|")]
         names = re.findall(r"`(kit_\w+\*?)`", cells[1])
-        calls = {it for name in names for it in exports if it == name or name.endswith("*") and it.startswith(name[:-1])}
-        wrong += [f"{PAGE.name}: no call is named {name}" for name in names if not any(it.startswith(name.rstrip("*")) for it in exports)]
+        calls = {it for name in names for it in calls_there if it == name or name.endswith("*") and it.startswith(name[:-1])}
+        wrong += [f"{PAGE.name}: no call is named {name}" for name in names if not any(it.startswith(name.rstrip("*")) for it in calls_there)]
         for column, cell in zip(columns[2:], cells[2:]):
             if cell not in ("yes", "no"):
                 wrong.append(f"{PAGE.name}: neither yes nor no: {cell}")
@@ -46,23 +46,14 @@ def told(exports):
     return lacked, wrong
 
 
-def codes_of_go():
-    """Go's codes, by the names that it tells."""
-    text = (TOP / "embed" / "go" / "codes.go").read_text(encoding="utf-8")
-    numbers = dict(re.findall(r"^\t(Err\w+)\s+Code = (\d+)$", text, re.M))
-    return {(name, int(numbers[word])) for word, name in re.findall(r'^\t(Err\w+):\s+\{"(\w+)"', text, re.M)}
-
-
 def main():
-    exports = {name for name, _, _ in declarations.exports()}
-    lacked, wrong = told(exports)
+    calls = {it.name for it in exports.exports()}
+    lacked, wrong = told(calls)
     for wrapper, pattern in WRAPPERS.items():
-        lacks = exports - calls_of(pattern) - SILENT
+        lacks = calls - calls_of(pattern) - SILENT
         wrong += [f"{wrapper} lacks {it}, and {PAGE.name} does not say so" for it in sorted(lacks - lacked.get(wrapper, set()))]
         wrong += [f"{wrapper} has {it}, and {PAGE.name} says that it lacks it" for it in sorted(lacked.get(wrapper, set()) - lacks)]
-    for name, number in sorted(codes_of_go() ^ (declarations.codes() - {("OK", 0)})):
-        wrong.append(f"embed/go/codes.go: {name} = {number} is not there, or not kit_c's")
-    print("\n".join(wrong) or f"{len(exports)} calls: each wrapper lacks what {PAGE.name} says")
+    print("\n".join(wrong) or f"{len(calls)} calls: each wrapper lacks what {PAGE.name} says")
     return 1 if wrong else 0
 
 

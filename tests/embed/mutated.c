@@ -23,11 +23,24 @@ enum { INSTRUMENTS = 4, SAMPLES = 6, ROOM = 1 << 16, CODES = 70 };
 /* What has bytes: an export, whose fourth byte is a K, and a message, whose fourth is an M. */
 struct form {
     const char *magic;
-    int32_t (*encode)(kit_handle *it, kit_handle *bytes);
+    int32_t (*encode)(kit_handle *it, kit_bytes *bytes);
     int32_t (*decode)(kit_handle *it, const uint8_t *bytes, size_t len, uint64_t *at);
 };
-static const struct form AN_EXPORT = {"KTSK", kit_export_encode, kit_export_decode};
-static const struct form A_MESSAGE = {"KTSM", kit_message_encode, kit_message_decode};
+/* An export or a message, by the handle that is in each. */
+static int32_t export_encoded(kit_handle *it, kit_bytes *bytes) { return kit_export_encode((kit_export *)it, bytes); }
+
+static int32_t export_decoded(kit_handle *it, const uint8_t *bytes, size_t len, uint64_t *at) {
+    return kit_export_decode((kit_export *)it, bytes, len, at);
+}
+
+static int32_t message_encoded(kit_handle *it, kit_bytes *bytes) { return kit_message_encode((kit_message *)it, bytes); }
+
+static int32_t message_decoded(kit_handle *it, const uint8_t *bytes, size_t len, uint64_t *at) {
+    return kit_message_decode((kit_message *)it, bytes, len, at);
+}
+
+static const struct form AN_EXPORT = {"KTSK", export_encoded, export_decoded};
+static const struct form A_MESSAGE = {"KTSM", message_encoded, message_decoded};
 
 void *__real_malloc(size_t size);
 void *__real_realloc(void *at, size_t size);
@@ -59,9 +72,11 @@ static void seal(uint8_t *bytes, size_t len) {
     bytes[len + 2] = (uint8_t)(low >> 8), bytes[len + 3] = (uint8_t)low;
 }
 
-static void planned(kit_handle *plan) {
+static void planned(kit_plan *plan) {
     const int64_t bounds[] = {-5, 0, 1000};
-    kit_handle instruments = KIT_EMPTY, view = KIT_EMPTY, views = KIT_EMPTY;
+    kit_instruments instruments = KIT_EMPTY;
+    kit_view view = KIT_EMPTY;
+    kit_views views = KIT_EMPTY;
     for (uint8_t kind = 0; kind < INSTRUMENTS; kind++) {
         uint8_t name[] = "a_metric_0";
         name[sizeof name - 2] = (uint8_t)('0' + kind);
@@ -69,13 +84,13 @@ static void planned(kit_handle *plan) {
     }
     CHECK(!kit_view_of_name(&view, TEXT("a_metric_3")) && !kit_view_buckets(&view, bounds, 3) && !kit_views_add(&views, &view));
     CHECK(!kit_plan_build(plan, &instruments, &views, KIT_DEFAULT_LIMIT, &place, &second));
-    kit_free(&instruments), kit_free(&view), kit_free(&views);
+    kit_instruments_free(&instruments), kit_view_free(&view), kit_views_free(&views);
 }
 
 /* A set of up to as many attributes. */
-static void made(kit_handle *set, size_t most) {
+static void made(kit_attributes *set, size_t most) {
     static const char *const texts[] = {"", "v", "Grüße", "a value of more than thirty bytes of text"};
-    kit_handle pairs = KIT_EMPTY;
+    kit_pairs pairs = KIT_EMPTY;
     for (size_t i = below(most + 1); i > 0; i--) {
         uint8_t key[] = "attribute.0";
         key[sizeof key - 2] = (uint8_t)('0' + below(8));
@@ -87,34 +102,34 @@ static void made(kit_handle *set, size_t most) {
         }
     }
     CHECK(!kit_attributes_make(set, &pairs, &place));
-    kit_free(&pairs);
+    kit_pairs_free(&pairs);
 }
 
 /* An export of up to as many recordings. */
-static void collected(kit_handle *plan, kit_handle *export_, size_t most) {
-    kit_handle writer = KIT_EMPTY;
+static void collected(kit_plan *plan, kit_export *export_, size_t most) {
+    kit_writer writer = KIT_EMPTY;
     uint64_t start = any() >> below(64);
     start -= start == UINT64_MAX;
     CHECK(!kit_writer_start(&writer, plan, TEXT("shop"), any(), any(), start));
     for (size_t i = below(most + 1); i > 0; i--) {
-        kit_handle set = KIT_EMPTY;
+        kit_attributes set = KIT_EMPTY;
         made(&set, 5);
         size_t instrument = below(INSTRUMENTS);
         int64_t value = (int64_t)((any() >> 1) >> below(63));
         value = any() & 1 && (instrument == KIT_UP_DOWN || instrument == KIT_GAUGE) ? -value : value;
         int32_t code = kit_writer_measure(&writer, instrument, &set, value, &place);
         CHECK(code == KIT_OK || code == KIT_OVERFLOW);
-        kit_free(&set);
+        kit_attributes_free(&set);
     }
     CHECK(!kit_writer_collect(&writer, start + 1 + below(1000) * (start < UINT64_MAX / 2), export_, &place));
-    kit_free(&writer);
+    kit_writer_free(&writer);
 }
 
 static size_t encoded(const struct form *form, kit_handle *it, uint8_t *bytes) {
-    kit_handle whole = KIT_EMPTY;
+    kit_bytes whole = KIT_EMPTY;
     size_t len = 0;
     CHECK(!form->encode(it, &whole) && !kit_bytes_copy(&whole, bytes, ROOM, &len) && len <= ROOM);
-    kit_free(&whole);
+    kit_bytes_free(&whole);
     return len;
 }
 
@@ -124,65 +139,66 @@ static void reread(const struct form *form, kit_handle *it, const uint8_t *bytes
     CHECK(encoded(form, it, again) == len && !memcmp(bytes, again, len));
 }
 
-static void opened(kit_handle *node, uint32_t id) {
-    kit_handle gateway = KIT_EMPTY;
+static void opened(kit_node *node, uint32_t id) {
+    kit_gateway gateway = KIT_EMPTY;
     CHECK(!kit_gateway_open(&gateway, id) && !kit_node_open(node, &gateway));
-    kit_free(&gateway);
+    kit_gateway_free(&gateway);
 }
 
 /* Node 1 tells node 2 of an export. */
-static void told(kit_handle *export_, kit_handle *message) {
-    kit_handle node = KIT_EMPTY;
+static void told(kit_export *export_, kit_message *message) {
+    kit_node node = KIT_EMPTY;
     opened(&node, 1);
     CHECK(!kit_node_take(&node, export_, &changed) && !kit_node_send(&node, 2, message));
-    kit_free(&node);
+    kit_node_free(&node);
 }
 
 /* What node 2 answers. */
-static void answered(kit_handle *message, kit_handle *answer) {
-    kit_handle node = KIT_EMPTY;
+static void answered(kit_message *message, kit_message *answer) {
+    kit_node node = KIT_EMPTY;
     bool is_answered = false;
     opened(&node, 2);
     CHECK(!kit_node_hand(&node, message, answer, &is_answered) && is_answered);
-    kit_free(&node);
+    kit_node_free(&node);
 }
 
 /* What is read of an export's bytes has them, and brings a gateway nothing that the export did not. */
-static void export_there_and_back(kit_handle *export_, bool taken) {
+static void export_there_and_back(kit_export *export_, bool taken) {
     static uint8_t bytes[ROOM];
-    kit_handle read = KIT_EMPTY, gateway = KIT_EMPTY;
-    size_t len = encoded(&AN_EXPORT, export_, bytes);
+    kit_export read = KIT_EMPTY;
+    kit_gateway gateway = KIT_EMPTY;
+    size_t len = encoded(&AN_EXPORT, &export_->handle, bytes);
     CHECK(!kit_export_decode(&read, bytes, len, &place));
-    reread(&AN_EXPORT, &read, bytes, len);
+    reread(&AN_EXPORT, &read.handle, bytes, len);
     if (taken) {
         CHECK(!kit_gateway_open(&gateway, 1) && !kit_gateway_take(&gateway, export_, &changed));
         CHECK(!kit_gateway_take(&gateway, &read, &changed) && changed == 0);
     }
-    kit_free(&read), kit_free(&gateway);
+    kit_export_free(&read), kit_gateway_free(&gateway);
 }
 
 /* What is read of a message's bytes has them, and is answered by the same bytes. */
-static void message_there_and_back(kit_handle *export_, bool taken) {
+static void message_there_and_back(kit_export *export_, bool taken) {
     static uint8_t bytes[ROOM];
-    kit_handle message = KIT_EMPTY, read = KIT_EMPTY, one = KIT_EMPTY, other = KIT_EMPTY;
+    kit_message message = KIT_EMPTY, read = KIT_EMPTY, one = KIT_EMPTY, other = KIT_EMPTY;
     told(export_, &message);
-    size_t len = encoded(&A_MESSAGE, &message, bytes);
+    size_t len = encoded(&A_MESSAGE, &message.handle, bytes);
     CHECK(!kit_message_decode(&read, bytes, len, &place));
-    reread(&A_MESSAGE, &read, bytes, len);
+    reread(&A_MESSAGE, &read.handle, bytes, len);
     if (taken) {
         answered(&message, &one), answered(&read, &other);
-        len = encoded(&A_MESSAGE, &one, bytes);
-        reread(&A_MESSAGE, &other, bytes, len);
+        len = encoded(&A_MESSAGE, &one.handle, bytes);
+        reread(&A_MESSAGE, &other.handle, bytes, len);
     }
-    kit_free(&message), kit_free(&read), kit_free(&one), kit_free(&other);
+    kit_message_free(&message), kit_message_free(&read), kit_message_free(&one), kit_message_free(&other);
 }
 
-static void there_and_back(kit_handle *plan, size_t count) {
+static void there_and_back(kit_plan *plan, size_t count) {
     for (; count > 0; count--) {
-        kit_handle export_ = KIT_EMPTY;
+        kit_export export_ = KIT_EMPTY;
         collected(plan, &export_, 8);
         export_there_and_back(&export_, count % 16 == 0), message_there_and_back(&export_, count % 16 == 0);
-        kit_free(&export_);
+        kit_export_free(&export_);
     }
 }
 
@@ -193,21 +209,22 @@ static struct sample {
     uint8_t bytes[ROOM];
 } samples[SAMPLES];
 
-static void sampled(kit_handle *plan, struct sample *it, size_t number) {
+static void sampled(kit_plan *plan, struct sample *it, size_t number) {
     static const size_t most[SAMPLES] = {0, 6, 120, 6, 120, 6};
-    kit_handle export_ = KIT_EMPTY, message = KIT_EMPTY, answer = KIT_EMPTY;
+    kit_export export_ = KIT_EMPTY;
+    kit_message message = KIT_EMPTY, answer = KIT_EMPTY;
     collected(plan, &export_, most[number]);
     told(&export_, &message);
     answered(&message, &answer);
     it->form = number < 3 ? &AN_EXPORT : &A_MESSAGE;
-    it->len = encoded(it->form, number < 3 ? &export_ : number < 5 ? &message : &answer, it->bytes);
-    kit_free(&export_), kit_free(&message), kit_free(&answer);
+    it->len = encoded(it->form, number < 3 ? &export_.handle : number < 5 ? &message.handle : &answer.handle, it->bytes);
+    kit_export_free(&export_), kit_message_free(&message), kit_message_free(&answer);
 }
 
-static void prefixes(kit_handle *plan) {
+static void prefixes(kit_plan *plan) {
     for (size_t i = 0; i < SAMPLES; i++) {
         struct sample *it = &samples[i];
-        kit_handle read = KIT_EMPTY;
+        kit_handle read = {0};
         do sampled(plan, it, i);
         while (0 < i && i < 5 && it->len < 100 * (i < 3 ? i : i - 2));
         for (size_t short_of = 0; short_of < it->len; short_of++) {
@@ -270,7 +287,7 @@ static void strings(size_t count) {
     for (size_t i = 0; i < count; i++) {
         const struct sample *from = &samples[below(SAMPLES)];
         const struct form *form = below(32) ? from->form : from->form == &AN_EXPORT ? &A_MESSAGE : &AN_EXPORT;
-        kit_handle read = KIT_EMPTY;
+        kit_handle read = {0};
         size_t len = mutated(from, bytes);
         bool wanting = i % 4 == 0;
         place = UINT64_MAX;
@@ -291,11 +308,11 @@ static void strings(size_t count) {
 }
 
 int main(int count, char **given) {
-    kit_handle plan = KIT_EMPTY;
+    kit_plan plan = KIT_EMPTY;
     planned(&plan);
     there_and_back(&plan, count > 1 ? strtoul(given[1], NULL, 10) : 100000);
     prefixes(&plan);
     strings(count > 2 ? strtoul(given[2], NULL, 10) : 1000000);
-    kit_free(&plan);
+    kit_plan_free(&plan);
     return 0;
 }

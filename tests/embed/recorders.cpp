@@ -16,7 +16,50 @@ static int32_t code_of(void (*call)(Recorder &, Attributes &), Recorder &recorde
     }
 }
 
+// Threads that read one plan, one set, one export and one gateway, each with a writer and a gateway of its own.
+static bool read_together() {
+    const Plan plan({{"app", "requests", "1", KIT_COUNTER}});
+    const Attributes route({{"route", "/"}});
+    Writer first(plan, "shop", 0, 1, 100);
+    first.measure(0, route, 7);
+    const Export collected = first.collect(200);
+    Gateway filled(1);
+    filled.take(collected);
+    const Gateway gateway = std::move(filled);
+    const std::string table = gateway.sum("app", "requests", "1");
+    std::vector<std::thread> threads;
+    bool same[4] = {false};
+    for (uint64_t i = 0; i < 4; i++) {
+        threads.emplace_back([&, i] {
+            Writer writer(plan, "shop", 0, i + 2, 100);
+            for (int times = 0; times < 1000; times++) writer.measure(0, route, 1);
+            writer.measure(0, Attributes{{"route", "/"}}, 1);
+            Gateway own(2);
+            own.take(writer.collect(300));
+            own.merge(gateway);
+            own.take(Export::decode(collected.encode()));
+            std::string told = own.sum("app", "requests", "1");
+            same[i] = gateway.sum("app", "requests", "1") == table && told.substr(told.size() - 7) == "  1008\n";
+        });
+    }
+    for (auto &thread : threads) thread.join();
+    return same[0] && same[1] && same[2] && same[3];
+}
+
+// A refusal says its name and what the library says of it, and has both places.
+static bool says_why() {
+    try {
+        Plan plan({{"app", "requests", "1", KIT_COUNTER}, {"app", "depth", "1", KIT_COUNTER}, {"app", "9 lives", "1", KIT_COUNTER}});
+        return false;
+    } catch (const Refused &why) {
+        std::string said = why.what();
+        return why.code == KIT_BAD_NAME && why.place == 2 && said.rfind("kotskhin: KIT_BAD_NAME: ", 0) == 0 && said.size() > 30;
+    }
+}
+
 int main() {
+    if (!read_together()) return std::printf("threads that read\n"), 2;
+    if (!says_why()) return std::printf("what a refusal says\n"), 3;
     Plan plan({{"app", "requests", "1", KIT_COUNTER}});
     Writer writer(plan, "shop", 0, 1, 100);
     Attributes none({});

@@ -24,18 +24,19 @@ static unsigned refused = 0;
 static bool refuses(void) { return refused && !--refused; }
 
 /* The seat that records and splits in the midst of another's call, and what it is answered. */
-static kit_handle *meddles = NULL;
+static kit_seat *meddles = NULL;
 static int32_t meddled[3];
 
 static void meddle(void) {
-    kit_handle *seat = meddles, made = KIT_EMPTY, collected = KIT_EMPTY;
+    kit_seat *seat = meddles, made = KIT_EMPTY;
+    kit_export collected = KIT_EMPTY;
     uint64_t place = 77;
     unsigned after = refused;
     meddles = NULL, refused = 0;
     meddled[0] = kit_seat_measure_held(seat, 0, 1, &place);
     meddled[1] = kit_seat_collect(seat, 300, &collected, &place);
     meddled[2] = kit_seat_split(seat, &made);
-    CHECK(place == 77 && !made.full && !collected.full);
+    CHECK(place == 77 && !made.handle.full && !collected.handle.full);
     refused = after;
 }
 
@@ -66,14 +67,16 @@ void *__wrap_realloc(void *at, size_t size) { return refuses() ? NULL : __real_r
 static uint64_t place, second, changed;
 
 /* The table of the counter at a gateway is this one. It is asked for by a name with a capital, which plans and asks take for the same. */
-static bool tells(kit_handle *gateway, const char *want) {
-    kit_handle ask = KIT_EMPTY, rows = KIT_EMPTY, table = KIT_EMPTY;
+static bool tells(kit_gateway *gateway, const char *want) {
+    kit_ask ask = KIT_EMPTY;
+    kit_rows rows = KIT_EMPTY;
+    kit_text table = KIT_EMPTY;
     uint8_t text[1024];
     size_t len = 0;
     bool fits = !kit_ask_sum(&ask, TEXT("app"), TEXT("Requests"), TEXT("1"), true) && !kit_gateway_rows(gateway, &ask, &rows) &&
                 !kit_rows_table(&rows, &table) && !kit_text_copy(&table, text, sizeof text, &len) && len == strlen(want) &&
                 !memcmp(text, want, len);
-    kit_free(&ask), kit_free(&rows), kit_free(&table);
+    kit_ask_free(&ask), kit_rows_free(&rows), kit_text_free(&table);
     return fits;
 }
 
@@ -81,130 +84,132 @@ static const char *const SEVEN = "attributes  points  conflicts  total\n{}      
 static const char *const NO_ROWS = "attributes  points  conflicts  total\n";
 
 /* What a writer has comes to 7, as a fresh gateway says. */
-static bool has_seven(kit_handle *writer, uint64_t time) {
-    kit_handle collected = KIT_EMPTY, gateway = KIT_EMPTY;
+static bool has_seven(kit_writer *writer, uint64_t time) {
+    kit_export collected = KIT_EMPTY;
+    kit_gateway gateway = KIT_EMPTY;
     bool fits = !kit_writer_collect(writer, time, &collected, &place) && !kit_gateway_open(&gateway, 9) &&
                 !kit_gateway_take(&gateway, &collected, &changed) && tells(&gateway, SEVEN);
-    kit_free(&collected), kit_free(&gateway);
+    kit_export_free(&collected), kit_gateway_free(&gateway);
     return fits;
 }
 
 /* The plan of these instruments and of one view is refused so. */
-static int32_t planned(kit_handle *instruments, kit_handle *view) {
-    kit_handle views = KIT_EMPTY, plan = KIT_EMPTY;
+static int32_t planned(kit_instruments *instruments, kit_view *view) {
+    kit_views views = KIT_EMPTY;
+    kit_plan plan = KIT_EMPTY;
     CHECK(!kit_views_add(&views, view));
     place = second = 77;
     int32_t code = kit_plan_build(&plan, instruments, &views, 1, &place, &second);
-    CHECK(plan.full == (code == KIT_OK));
-    kit_free(&views), kit_free(&plan);
+    CHECK(plan.handle.full == (code == KIT_OK));
+    kit_views_free(&views), kit_plan_free(&plan);
     return code;
 }
 
 static void views(void) {
-    kit_handle instruments = KIT_EMPTY, view = KIT_EMPTY, list = KIT_EMPTY, keys = KIT_EMPTY;
+    kit_instruments instruments = KIT_EMPTY;
+    kit_view view = KIT_EMPTY;
+    kit_views list = KIT_EMPTY;
+    kit_keys keys = KIT_EMPTY;
     CHECK(!kit_instruments_add(&instruments, TEXT("app"), TEXT("requests"), TEXT("1"), KIT_COUNTER));
     CHECK(!kit_instruments_add(&instruments, TEXT("app"), TEXT("size"), TEXT("By"), KIT_HISTOGRAM));
-    CHECK(kit_view_of_name(&view, TEXT("\xff")) == KIT_NOT_TEXT && !view.full);
-    CHECK(kit_view_kind(&view, KIT_COUNTER) == KIT_NOTHING && !view.full);
-    EACH_GROWTH(kit_view_of_name(&view, TEXT("a name of more than thirty bytes of text")), !view.full);
-    CHECK(kit_view_of_every(&view) == KIT_FULL && view.full);
+    CHECK(kit_view_of_name(&view, TEXT("\xff")) == KIT_NOT_TEXT && !view.handle.full);
+    CHECK(kit_view_kind(&view, KIT_COUNTER) == KIT_NOTHING && !view.handle.full);
+    EACH_GROWTH(kit_view_of_name(&view, TEXT("a name of more than thirty bytes of text")), !view.handle.full);
+    CHECK(kit_view_of_every(&view) == KIT_FULL && view.handle.full);
     CHECK(kit_view_kind(&view, 4) == KIT_BAD_NUMBER && kit_view_aggregation(&view, 4) == KIT_BAD_NUMBER);
-    CHECK(kit_view_scope(&view, TEXT("\xff")) == KIT_NOT_TEXT && kit_view_keep(&view, &instruments) == KIT_WRONG_KIND);
-    CHECK(kit_view_kind(&instruments, KIT_COUNTER) == KIT_WRONG_KIND && instruments.full);
-    CHECK(kit_views_add(&list, &instruments) == KIT_WRONG_KIND && kit_views_add(&instruments, &view) == KIT_WRONG_KIND && !list.full);
-    CHECK(kit_views_add(&list, &keys) == KIT_NOTHING && !list.full);
-    EACH_GROWTH(kit_views_add(&list, &view), !list.full && view.full);
-    kit_free(&view);
+    CHECK(kit_view_scope(&view, TEXT("\xff")) == KIT_NOT_TEXT);
+    CHECK(kit_views_add(&list, (void *)&keys) == KIT_NOTHING && !list.handle.full);
+    EACH_GROWTH(kit_views_add(&list, &view), !list.handle.full && view.handle.full);
+    kit_view_free(&view);
 
     CHECK(!kit_view_of_name(&view, TEXT("Size")));
-    EACH_GROWTH(kit_view_rename(&view, TEXT("a_new_name_of_more_than_thirty_bytes")), view.full);
-    EACH_GROWTH(kit_view_scope(&view, TEXT("a scope of more than thirty bytes")), view.full);
+    EACH_GROWTH(kit_view_rename(&view, TEXT("a_new_name_of_more_than_thirty_bytes")), view.handle.full);
+    EACH_GROWTH(kit_view_scope(&view, TEXT("a scope of more than thirty bytes")), view.handle.full);
     CHECK(!kit_view_scope(&view, TEXT("app")) && !kit_view_kind(&view, KIT_HISTOGRAM));
     CHECK(!kit_keys_add(&keys, TEXT("route")));
-    EACH_GROWTH(kit_view_keep(&view, &keys), view.full && keys.full);
+    EACH_GROWTH(kit_view_keep(&view, &keys), view.handle.full && keys.handle.full);
     CHECK(planned(&instruments, &view) == KIT_OK && place == 77 && second == 77);
     CHECK(!kit_view_rename(&view, TEXT("9 lives")) && planned(&instruments, &view) == KIT_BAD_RENAME && place == 0);
     CHECK(!kit_view_rename(&view, TEXT("fine")) && !kit_view_aggregation(&view, KIT_LAST_VALUE));
     CHECK(planned(&instruments, &view) == KIT_BAD_AGGREGATION && place == 1 && second == 0);
     const int64_t falling[] = {2, 1};
-    EACH_GROWTH(kit_view_buckets(&view, falling, 2), view.full);
+    EACH_GROWTH(kit_view_buckets(&view, falling, 2), view.handle.full);
     CHECK(planned(&instruments, &view) == KIT_BAD_BOUNDS && place == 0);
-    kit_free(&view);
+    kit_view_free(&view);
     CHECK(!kit_view_of_every(&view) && !kit_view_aggregation(&view, KIT_DROP) && planned(&instruments, &view) == KIT_OK);
     CHECK(!kit_view_rename(&view, TEXT("fine")) && planned(&instruments, &view) == KIT_WILDCARD_RENAME && place == 0);
-    kit_free(&view);
+    kit_view_free(&view);
     CHECK(!kit_view_of_name(&view, TEXT("size")) && !kit_view_rename(&view, TEXT("fine")));
     CHECK(!kit_instruments_add(&instruments, TEXT("app"), TEXT("fine"), TEXT("By"), KIT_HISTOGRAM));
     CHECK(planned(&instruments, &view) == KIT_SAME_STREAM && place == 1 && second == 2);
-    kit_free(&instruments), kit_free(&view), kit_free(&list), kit_free(&keys);
+    kit_instruments_free(&instruments), kit_view_free(&view), kit_views_free(&list), kit_keys_free(&keys);
 }
 
-static void plans(kit_handle *plan) {
-    kit_handle instruments = KIT_EMPTY, views = KIT_EMPTY, other = KIT_EMPTY, bad = KIT_EMPTY;
-    CHECK(kit_instruments_add(&instruments, TEXT("app"), TEXT("requests"), TEXT("1"), 4) == KIT_BAD_NUMBER && !instruments.full);
+static void plans(kit_plan *plan) {
+    kit_instruments instruments = KIT_EMPTY, bad = KIT_EMPTY, none = KIT_EMPTY;
+    kit_views views = KIT_EMPTY;
+    kit_plan other = KIT_EMPTY;
+    CHECK(kit_instruments_add(&instruments, TEXT("app"), TEXT("requests"), TEXT("1"), 4) == KIT_BAD_NUMBER && !instruments.handle.full);
     CHECK(kit_instruments_add(&instruments, TEXT("\xff"), TEXT("requests"), TEXT("1"), KIT_COUNTER) == KIT_NOT_TEXT);
-    CHECK(!instruments.full);
+    CHECK(!instruments.handle.full);
     EACH_GROWTH(kit_instruments_add(&instruments, TEXT("a scope of more than thirty bytes"), TEXT("other"), TEXT("1"), KIT_COUNTER),
-                !instruments.full);
-    kit_free(&instruments);
+                !instruments.handle.full);
+    kit_instruments_free(&instruments);
     CHECK(!kit_instruments_add(&instruments, TEXT("app"), TEXT("requests"), TEXT("1"), KIT_COUNTER));
     CHECK(!kit_instruments_add(&instruments, TEXT("app"), TEXT("size"), TEXT("By"), KIT_HISTOGRAM));
 
-    CHECK(kit_plan_build(&instruments, &instruments, &views, 1, &place, &second) == KIT_FULL);
-    CHECK(kit_plan_build(&other, &instruments, &views, 0, &place, &second) == KIT_BAD_LIMIT && !other.full);
+    CHECK(kit_plan_build((void *)&instruments, &instruments, &views, 1, &place, &second) == KIT_FULL);
+    CHECK(kit_plan_build(&other, &instruments, &views, 0, &place, &second) == KIT_BAD_LIMIT && !other.handle.full);
     CHECK(!kit_instruments_add(&bad, TEXT("app"), TEXT("fine"), TEXT("1"), KIT_COUNTER));
     CHECK(!kit_instruments_add(&bad, TEXT("app"), TEXT("9 lives"), TEXT("1"), KIT_COUNTER));
-    CHECK(kit_plan_build(&other, &bad, &views, 1, &place, &second) == KIT_BAD_NAME && place == 1 && !other.full);
-    kit_free(&bad);
+    CHECK(kit_plan_build(&other, &bad, &views, 1, &place, &second) == KIT_BAD_NAME && place == 1 && !other.handle.full);
+    kit_instruments_free(&bad);
     CHECK(!kit_instruments_add(&bad, TEXT("app"), TEXT("fine"), TEXT("\xc3\xa4"), KIT_COUNTER));
     CHECK(kit_plan_build(&other, &bad, &views, 1, &place, &second) == KIT_BAD_UNIT && place == 0);
-    kit_free(&bad);
+    kit_instruments_free(&bad);
     CHECK(!kit_instruments_add(&bad, TEXT("app"), TEXT("fine"), TEXT("1"), KIT_COUNTER));
     CHECK(!kit_instruments_add(&bad, TEXT("app"), TEXT("other"), TEXT("1"), KIT_COUNTER));
     CHECK(!kit_instruments_add(&bad, TEXT("app"), TEXT("fine"), TEXT("1"), KIT_HISTOGRAM));
     CHECK(!kit_instruments_add(&bad, TEXT("app"), TEXT("Fine"), TEXT("1"), KIT_COUNTER));
     CHECK(!kit_plan_build(&other, &bad, &views, 1, &place, &second));
-    kit_free(&other);
-    CHECK(kit_plan_build(&other, plan, &views, 1, &place, &second) == KIT_OK); /* (no instruments make a plan, too) */
-    kit_free(&other);
-    EACH_GROWTH(kit_plan_build(plan, &instruments, &views, KIT_DEFAULT_LIMIT, &place, &second), !plan->full && instruments.full);
-    kit_handle again = KIT_EMPTY;
-    CHECK(kit_plan_build(&again, plan, &views, 1, &place, &second) == KIT_WRONG_KIND && plan->full && !again.full);
-    CHECK(kit_plan_build(&again, &instruments, plan, 1, &place, &second) == KIT_WRONG_KIND && plan->full && instruments.full);
-    kit_free(&instruments), kit_free(&views), kit_free(&bad);
+    kit_plan_free(&other);
+    CHECK(kit_plan_build(&other, &none, &views, 1, &place, &second) == KIT_OK); /* (no instruments make a plan, too) */
+    kit_plan_free(&other);
+    EACH_GROWTH(kit_plan_build(plan, &instruments, &views, KIT_DEFAULT_LIMIT, &place, &second), !plan->handle.full && instruments.handle.full);
+    kit_instruments_free(&instruments), kit_views_free(&views), kit_instruments_free(&bad);
 }
 
-static void attributes(kit_handle *none, kit_handle *four) {
-    kit_handle pairs = KIT_EMPTY, bad = KIT_EMPTY;
+static void attributes(kit_attributes *none, kit_attributes *four) {
+    kit_pairs pairs = KIT_EMPTY, emptied = KIT_EMPTY;
+    kit_attributes bad = KIT_EMPTY;
     CHECK(!kit_attributes_make(none, &pairs, &place));
-    CHECK(kit_attributes_make(none, &pairs, &place) == KIT_FULL && none->full);
-    CHECK(kit_pairs_add_text(&pairs, TEXT("k\xff"), TEXT("v")) == KIT_NOT_TEXT && !pairs.full);
-    CHECK(kit_pairs_add_text(&pairs, TEXT("k"), TEXT("v\xff")) == KIT_NOT_TEXT && !pairs.full);
-    CHECK(kit_pairs_add_whole(none, TEXT("k"), 1) == KIT_WRONG_KIND && none->full);
-    EACH_GROWTH(kit_pairs_add_text(&pairs, TEXT("route"), TEXT("a value of more than thirty bytes of text")), !pairs.full);
+    CHECK(kit_attributes_make(none, &pairs, &place) == KIT_FULL && none->handle.full);
+    CHECK(kit_pairs_add_text(&pairs, TEXT("k\xff"), TEXT("v")) == KIT_NOT_TEXT && !pairs.handle.full);
+    CHECK(kit_pairs_add_text(&pairs, TEXT("k"), TEXT("v\xff")) == KIT_NOT_TEXT && !pairs.handle.full);
+    EACH_GROWTH(kit_pairs_add_text(&pairs, TEXT("route"), TEXT("a value of more than thirty bytes of text")), !pairs.handle.full);
+    CHECK(!kit_pairs_add_text(&emptied, KIT_BYTES("k", 1), KIT_BYTES(NULL, 0)));
     CHECK(!kit_pairs_add_whole(&pairs, TEXT("status"), 200));
     CHECK(!kit_pairs_add_truth(&pairs, TEXT("cached"), true));
     CHECK(!kit_pairs_add_whole(&pairs, TEXT("attempt"), 1));
-    EACH_GROWTH(kit_attributes_make(four, &pairs, &place), !four->full && pairs.full);
+    EACH_GROWTH(kit_attributes_make(four, &pairs, &place), !four->handle.full && pairs.handle.full);
     CHECK(!kit_pairs_add_whole(&pairs, TEXT(""), 1));
     place = 77;
-    CHECK(kit_attributes_make(&bad, &pairs, &place) == KIT_EMPTY_KEY && place == 4 && !bad.full && pairs.full);
-    CHECK(kit_attributes_make(&bad, none, &place) == KIT_WRONG_KIND && !bad.full && none->full);
-    kit_free(&pairs);
+    CHECK(kit_attributes_make(&bad, &pairs, &place) == KIT_EMPTY_KEY && place == 4 && !bad.handle.full && pairs.handle.full);
+    kit_pairs_free(&pairs), kit_pairs_free(&emptied);
 }
 
-static void writers(kit_handle *plan, kit_handle *none, kit_handle *four) {
-    kit_handle writer = KIT_EMPTY, collected = KIT_EMPTY, nothing = KIT_EMPTY;
+static void writers(kit_plan *plan, kit_attributes *none, kit_attributes *four) {
+    kit_writer writer = KIT_EMPTY, nothing = KIT_EMPTY;
+    kit_export collected = KIT_EMPTY;
     size_t number = 77;
-    CHECK(kit_writer_start(&writer, &nothing, TEXT("shop"), 0, 1, 100) == KIT_NOTHING && !writer.full);
-    CHECK(kit_writer_start(&writer, none, TEXT("shop"), 0, 1, 100) == KIT_WRONG_KIND && !writer.full && none->full);
-    CHECK(kit_writer_start(&writer, plan, TEXT("\xff"), 0, 1, 100) == KIT_NOT_TEXT && !writer.full);
-    EACH_GROWTH(kit_writer_start(&writer, plan, TEXT("a service of more than thirty bytes"), 0, 1, 100), !writer.full && plan->full);
-    CHECK(kit_writer_start(&writer, plan, TEXT("shop"), 0, 1, 100) == KIT_FULL && writer.full);
-    kit_free(&writer);
+    CHECK(kit_writer_start(&writer, (void *)&nothing, TEXT("shop"), 0, 1, 100) == KIT_NOTHING && !writer.handle.full);
+    CHECK(kit_writer_start(&writer, plan, TEXT("\xff"), 0, 1, 100) == KIT_NOT_TEXT && !writer.handle.full);
+    EACH_GROWTH(kit_writer_start(&writer, plan, TEXT("a service of more than thirty bytes"), 0, 1, 100), !writer.handle.full && plan->handle.full);
+    CHECK(kit_writer_start(&writer, plan, TEXT("shop"), 0, 1, 100) == KIT_FULL && writer.handle.full);
+    kit_writer_free(&writer);
     CHECK(!kit_writer_start(&writer, plan, TEXT("shop"), 0, 1, 100));
 
-    EACH_GROWTH(kit_writer_measure(&writer, 0, none, 3, &place), writer.full && none->full);
+    EACH_GROWTH(kit_writer_measure(&writer, 0, none, 3, &place), writer.handle.full && none->handle.full);
     EACH_GROWTH(kit_writer_hold(&writer, 0, none, &number), number == 77);
     CHECK(number == 0);
     refused = 1; /* (a pair that is held takes no memory) */
@@ -218,8 +223,7 @@ static void writers(kit_handle *plan, kit_handle *none, kit_handle *four) {
     CHECK(!kit_writer_hold(&writer, 1, none, &number) && number == 1 && !kit_writer_hold(&writer, 0, four, &number) && number == 2);
     CHECK(!kit_writer_hold(&writer, 0, none, &number) && number == 0);
     CHECK(kit_writer_hold(&writer, 2, none, &number) == KIT_NO_INSTRUMENT && number == 0);
-    CHECK(kit_writer_hold(&nothing, 0, none, &number) == KIT_NOTHING && kit_writer_hold(&writer, 0, &nothing, &number) == KIT_NOTHING);
-    CHECK(kit_writer_hold(&writer, 0, plan, &number) == KIT_WRONG_KIND && number == 0);
+    CHECK(kit_writer_hold(&nothing, 0, none, &number) == KIT_NOTHING && kit_writer_hold(&writer, 0, (void *)&nothing, &number) == KIT_NOTHING);
 
     CHECK(kit_writer_measure(&writer, 2, none, 1, &place) == KIT_NO_INSTRUMENT);
     CHECK(kit_writer_measure(&writer, 0, none, -1, &place) == KIT_NEGATIVE);
@@ -227,43 +231,39 @@ static void writers(kit_handle *plan, kit_handle *none, kit_handle *four) {
     CHECK(kit_writer_measure(&writer, 0, none, INT64_MAX, &place) == KIT_OVERFLOW && place == 0);
     CHECK(kit_writer_measure_held(&writer, 3, 1, &place) == KIT_NO_HELD);
     CHECK(kit_writer_measure_held(&writer, number, -1, &place) == KIT_NEGATIVE);
-    CHECK(kit_writer_measure(&nothing, 0, none, 1, &place) == KIT_NOTHING && !nothing.full);
-    CHECK(kit_writer_measure(&writer, 0, &nothing, 1, &place) == KIT_NOTHING && !nothing.full && writer.full);
-    CHECK(kit_writer_measure(none, 0, none, 1, &place) != KIT_OK && none->full); /* one handle given twice */
-    CHECK(kit_writer_measure(&writer, 0, &writer, 1, &place) != KIT_OK && writer.full);
-    CHECK(kit_writer_measure(four, 0, none, 1, &place) == KIT_WRONG_KIND && four->full && none->full);
-    CHECK(kit_writer_measure(&writer, 0, plan, 1, &place) == KIT_WRONG_KIND && plan->full);
-    CHECK(kit_writer_hold(plan, 0, none, &number) == KIT_WRONG_KIND && number == 0);
-    CHECK(kit_writer_measure_held(plan, 0, 1, &place) == KIT_WRONG_KIND && plan->full);
+    CHECK(kit_writer_measure(&nothing, 0, none, 1, &place) == KIT_NOTHING && !nothing.handle.full);
+    CHECK(kit_writer_measure(&writer, 0, (void *)&nothing, 1, &place) == KIT_NOTHING && !nothing.handle.full && writer.handle.full);
+    CHECK(kit_writer_measure((void *)none, 0, none, 1, &place) != KIT_OK && none->handle.full); /* one handle given twice */
+    CHECK(kit_writer_measure(&writer, 0, (void *)&writer, 1, &place) != KIT_OK && writer.handle.full);
     CHECK(has_seven(&writer, 150));
 
-    CHECK(kit_writer_collect(&writer, 150, &collected, &place) == KIT_TIME_NOT_AFTER && place == 150 && !collected.full);
-    CHECK(kit_writer_collect(&writer, 200, none, &place) == KIT_FULL && none->full);
-    CHECK(kit_writer_collect(none, 200, &collected, &place) == KIT_WRONG_KIND && !collected.full);
-    CHECK(kit_writer_collect(&nothing, 200, &collected, &place) == KIT_NOTHING && !collected.full);
-    EACH_GROWTH(kit_writer_collect(&writer, 200, &collected, &place), !collected.full && writer.full);
-    kit_free(&collected);
-    EACH_GROWTH(kit_writer_shutdown(&writer, 300, &collected, &place), !collected.full && writer.full);
-    kit_free(&collected);
+    CHECK(kit_writer_collect(&writer, 150, &collected, &place) == KIT_TIME_NOT_AFTER && place == 150 && !collected.handle.full);
+    CHECK(kit_writer_collect(&writer, 200, (void *)none, &place) == KIT_FULL && none->handle.full);
+    CHECK(kit_writer_collect(&nothing, 200, &collected, &place) == KIT_NOTHING && !collected.handle.full);
+    EACH_GROWTH(kit_writer_collect(&writer, 200, &collected, &place), !collected.handle.full && writer.handle.full);
+    kit_export_free(&collected);
+    EACH_GROWTH(kit_writer_shutdown(&writer, 300, &collected, &place), !collected.handle.full && writer.handle.full);
+    kit_export_free(&collected);
     CHECK(kit_writer_measure(&writer, 0, none, 1, &place) == KIT_CLOSED);
     CHECK(kit_writer_measure_held(&writer, 0, 1, &place) == KIT_CLOSED && kit_writer_measure_held(&writer, 9, 1, &place) == KIT_CLOSED);
     CHECK(kit_writer_hold(&writer, 1, four, &number) == KIT_CLOSED && number == 0);
     CHECK(!kit_writer_hold(&writer, 0, four, &number) && number == 2); /* (it is held already) */
-    CHECK(kit_writer_collect(&writer, 400, &collected, &place) == KIT_CLOSED && !collected.full);
+    CHECK(kit_writer_collect(&writer, 400, &collected, &place) == KIT_CLOSED && !collected.handle.full);
     CHECK(kit_writer_restart(&writer, 100, &place) == KIT_START_NOT_AFTER && place == 100);
-    CHECK(kit_writer_restart(none, 100, &place) == KIT_WRONG_KIND && none->full);
     EACH_GROWTH(kit_writer_restart(&writer, 400, &place), kit_writer_measure(&writer, 0, none, 1, &place) == KIT_CLOSED);
     CHECK(!kit_writer_measure_held(&writer, 0, 7, &place) && has_seven(&writer, 500));
-    kit_free(&writer), kit_free(&writer);
+    kit_writer_free(&writer), kit_writer_free(&writer);
     CHECK(kit_writer_measure(&writer, 0, none, 1, &place) == KIT_NOTHING); /* an emptied one */
 }
 
-static void gateways(kit_handle *plan, kit_handle *none, kit_handle *four) {
-    kit_handle writer = KIT_EMPTY, other = KIT_EMPTY, collected = KIT_EMPTY, twin = KIT_EMPTY, gateway = KIT_EMPTY, second_one = KIT_EMPTY;
+static void gateways(kit_plan *plan, kit_attributes *none, kit_attributes *four) {
+    kit_writer writer = KIT_EMPTY, other = KIT_EMPTY;
+    kit_export collected = KIT_EMPTY, twin = KIT_EMPTY;
+    kit_gateway gateway = KIT_EMPTY, second_one = KIT_EMPTY;
     CHECK(!kit_writer_start(&writer, plan, TEXT("shop"), 0, 1, 100) && !kit_writer_measure(&writer, 0, none, 7, &place));
     CHECK(!kit_writer_start(&other, plan, TEXT("shop"), 0, 1, 100) && !kit_writer_measure(&other, 0, none, 8, &place));
     CHECK(!kit_writer_collect(&writer, 200, &collected, &place) && !kit_writer_collect(&other, 200, &twin, &place));
-    EACH_GROWTH(kit_gateway_open(&gateway, 1), !gateway.full);
+    EACH_GROWTH(kit_gateway_open(&gateway, 1), !gateway.handle.full);
     CHECK(kit_gateway_open(&gateway, 2) == KIT_FULL && tells(&gateway, NO_ROWS));
     CHECK(!kit_gateway_open(&second_one, 2));
     EACH_GROWTH(kit_gateway_take(&gateway, &collected, &changed), tells(&gateway, NO_ROWS));
@@ -280,60 +280,59 @@ static void gateways(kit_handle *plan, kit_handle *none, kit_handle *four) {
     CHECK(!kit_gateway_conflicts(&second_one, &count) && count == 1);
     CHECK(!kit_gateway_same(&gateway, &second_one, &same) && !same);
 
-    CHECK(kit_gateway_take(&gateway, four, &changed) == KIT_WRONG_KIND && four->full);
-    CHECK(kit_gateway_take(&gateway, &gateway, &changed) != KIT_OK && tells(&gateway, SEVEN)); /* one handle given twice */
+    CHECK(kit_gateway_take(&gateway, (void *)four, &changed) == KIT_WRONG_KIND && four->handle.full);
+    CHECK(kit_gateway_take(&gateway, (void *)&gateway, &changed) != KIT_OK && tells(&gateway, SEVEN)); /* one handle given twice */
     CHECK(kit_gateway_merge(&gateway, &gateway, &changed) != KIT_OK && tells(&gateway, SEVEN));
-    CHECK(kit_gateway_merge(&gateway, &collected, &changed) == KIT_WRONG_KIND && collected.full);
-    CHECK(kit_gateway_conflicts(four, &count) == KIT_WRONG_KIND && count == 1);
 
-    kit_handle ask = KIT_EMPTY, rows = KIT_EMPTY, table = KIT_EMPTY, pairs = KIT_EMPTY, keys = KIT_EMPTY;
+    kit_ask ask = KIT_EMPTY;
+    kit_rows rows = KIT_EMPTY;
+    kit_text table = KIT_EMPTY;
+    kit_pairs pairs = KIT_EMPTY;
+    kit_keys keys = KIT_EMPTY;
     uint8_t text[4];
     size_t len = 77;
-    CHECK(kit_ask_sum(&gateway, TEXT("app"), TEXT("requests"), TEXT("1"), true) == KIT_FULL);
-    CHECK(kit_ask_gauge(&ask, TEXT("\xff"), TEXT("requests"), TEXT("1")) == KIT_NOT_TEXT && !ask.full);
+    CHECK(kit_ask_sum((void *)&gateway, TEXT("app"), TEXT("requests"), TEXT("1"), true) == KIT_FULL);
+    CHECK(kit_ask_gauge(&ask, TEXT("\xff"), TEXT("requests"), TEXT("1")) == KIT_NOT_TEXT && !ask.handle.full);
     const int64_t bounds[] = {1, 2, 3};
-    EACH_GROWTH(kit_ask_histogram(&ask, TEXT("app"), TEXT("size"), TEXT("By"), bounds, 3), !ask.full);
-    kit_free(&ask);
+    EACH_GROWTH(kit_ask_histogram(&ask, TEXT("app"), TEXT("size"), TEXT("By"), bounds, 3), !ask.handle.full);
+    kit_ask_free(&ask);
     CHECK(!kit_ask_sum(&ask, TEXT("app"), TEXT("requests"), TEXT("1"), true));
-    EACH_GROWTH(kit_ask_service(&ask, TEXT("a service of more than thirty bytes")), ask.full);
+    EACH_GROWTH(kit_ask_service(&ask, TEXT("a service of more than thirty bytes")), ask.handle.full);
     CHECK(!kit_ask_service(&ask, TEXT("shop")));
-    EACH_GROWTH(kit_keys_add(&keys, TEXT("a key of more than thirty bytes of text")), !keys.full);
-    EACH_GROWTH(kit_ask_keep(&ask, &keys), ask.full && keys.full);
+    EACH_GROWTH(kit_keys_add(&keys, TEXT("a key of more than thirty bytes of text")), !keys.handle.full);
+    EACH_GROWTH(kit_ask_keep(&ask, &keys), ask.handle.full && keys.handle.full);
     CHECK(!kit_pairs_add_whole(&pairs, TEXT("status"), 200));
-    EACH_GROWTH(kit_ask_only(&ask, &pairs), ask.full && pairs.full);
-    CHECK(kit_ask_only(&ask, &keys) == KIT_WRONG_KIND && kit_ask_keep(&ask, &pairs) == KIT_WRONG_KIND);
-    CHECK(kit_ask_keep(&gateway, &keys) == KIT_WRONG_KIND && gateway.full);
-    kit_free(&ask);
+    EACH_GROWTH(kit_ask_only(&ask, &pairs), ask.handle.full && pairs.handle.full);
+    kit_ask_free(&ask);
     CHECK(!kit_ask_sum(&ask, TEXT("app"), TEXT("requests"), TEXT("1"), true));
-    CHECK(kit_gateway_rows(&gateway, &ask, &ask) == KIT_FULL && kit_gateway_rows(&ask, &gateway, &rows) == KIT_WRONG_KIND);
-    CHECK(kit_gateway_rows(&rows, &ask, &table) == KIT_NOTHING && !table.full);
-    EACH_GROWTH(kit_gateway_rows(&gateway, &ask, &rows), !rows.full);
-    CHECK(kit_rows_table(&gateway, &table) == KIT_WRONG_KIND && !table.full);
-    EACH_GROWTH(kit_rows_table(&rows, &table), !table.full && rows.full);
+    CHECK(kit_gateway_rows(&gateway, &ask, (void *)&ask) == KIT_FULL);
+    CHECK(kit_gateway_rows((void *)&rows, &ask, (void *)&table) == KIT_NOTHING && !table.handle.full);
+    EACH_GROWTH(kit_gateway_rows(&gateway, &ask, &rows), !rows.handle.full);
+    EACH_GROWTH(kit_rows_table(&rows, &table), !table.handle.full && rows.handle.full);
     size_t rows_len = 77;
     int64_t total = 77;
     CHECK(!kit_rows_len(&rows, &rows_len) && rows_len == 1);
     CHECK(!kit_rows_counts(&rows, 0, &count, &time) && count == 1 && time == 0);
     CHECK(!kit_rows_sum(&rows, 0, &total) && total == 7);
     CHECK(kit_rows_sum(&rows, 1, &total) == KIT_NO_ROW && total == 7);
-    CHECK(kit_rows_gauge(&rows, 0, &time, &total) == KIT_WRONG_KIND && total == 7);
-    CHECK(kit_rows_len(&table, &rows_len) == KIT_WRONG_KIND && rows_len == 1);
-    CHECK(kit_text_copy(&rows, text, sizeof text, &len) == KIT_WRONG_KIND && len == 77);
+    CHECK(kit_rows_gauge(&rows, 0, &time, &total) == KIT_WRONG_SHAPE && total == 7);
+    CHECK(rows_len == 1);
     CHECK(!kit_text_copy(&table, text, sizeof text, &len) && len == strlen(SEVEN) && !memcmp(text, SEVEN, sizeof text));
 
     /* Two writers, whose sums leave 64 bits together. */
-    kit_handle wide[2] = {KIT_EMPTY, KIT_EMPTY}, wide_rows = KIT_EMPTY;
+    kit_writer wide[2] = {KIT_EMPTY, KIT_EMPTY};
+    kit_rows wide_rows = KIT_EMPTY;
     for (uint64_t i = 0; i < 2; i++) {
-        kit_free(&collected);
+        kit_export_free(&collected);
         CHECK(!kit_writer_start(&wide[i], plan, TEXT("wide"), 0, i, 100) && !kit_writer_measure(&wide[i], 0, none, INT64_MAX, &place));
         CHECK(!kit_writer_collect(&wide[i], 200, &collected, &place) && !kit_gateway_take(&gateway, &collected, &changed));
-        kit_free(&wide[i]);
+        kit_writer_free(&wide[i]);
     }
     CHECK(!kit_ask_service(&ask, TEXT("wide")) && !kit_gateway_rows(&gateway, &ask, &wide_rows));
     CHECK(kit_rows_sum(&wide_rows, 0, &total) == KIT_TOO_WIDE && total == 7);
-    kit_free(&wide_rows);
+    kit_rows_free(&wide_rows);
 
-    kit_handle *all[] = {&writer, &other, &collected, &twin, &gateway, &second_one, &ask, &rows, &table, &pairs, &keys};
+    kit_handle *all[] = {&writer.handle, &other.handle, &collected.handle, &twin.handle, &gateway.handle, &second_one.handle, &ask.handle, &rows.handle, &table.handle, &pairs.handle, &keys.handle};
     for (size_t i = 0; i < sizeof all / sizeof *all; i++) {
         kit_free(all[i]);
         CHECK(!all[i]->full);
@@ -342,34 +341,50 @@ static void gateways(kit_handle *plan, kit_handle *none, kit_handle *four) {
 
 /* Two writers under one identity: a gauge that has a conflict alone. */
 static void gauges(void) {
-    kit_handle instruments = KIT_EMPTY, views_of = KIT_EMPTY, plan = KIT_EMPTY, pairs = KIT_EMPTY, none = KIT_EMPTY;
-    kit_handle gateway = KIT_EMPTY, ask = KIT_EMPTY, rows = KIT_EMPTY;
+    kit_instruments instruments = KIT_EMPTY;
+    kit_views views_of = KIT_EMPTY;
+    kit_plan plan = KIT_EMPTY;
+    kit_pairs pairs = KIT_EMPTY;
+    kit_attributes none = KIT_EMPTY;
+    kit_gateway gateway = KIT_EMPTY;
+    kit_ask ask = KIT_EMPTY;
+    kit_rows rows = KIT_EMPTY;
     uint64_t time = 77;
     int64_t value = 77;
     CHECK(!kit_instruments_add(&instruments, TEXT("app"), TEXT("depth"), TEXT("1"), KIT_GAUGE));
     CHECK(!kit_plan_build(&plan, &instruments, &views_of, 1, &place, &second) && !kit_attributes_make(&none, &pairs, &place));
     CHECK(!kit_gateway_open(&gateway, 1) && !kit_ask_gauge(&ask, TEXT("app"), TEXT("depth"), TEXT("1")));
     for (int64_t i = 0; i < 2; i++) {
-        kit_handle writer = KIT_EMPTY, collected = KIT_EMPTY;
+        kit_writer writer = KIT_EMPTY;
+        kit_export collected = KIT_EMPTY;
         CHECK(!kit_writer_start(&writer, &plan, TEXT("shop"), 0, 1, 100) && !kit_writer_measure(&writer, 0, &none, 7 + i, &place));
         CHECK(!kit_writer_collect(&writer, 200, &collected, &place) && !kit_gateway_take(&gateway, &collected, &changed));
         CHECK(!kit_gateway_rows(&gateway, &ask, &rows));
         if (i == 0) {
             CHECK(!kit_rows_gauge(&rows, 0, &time, &value) && time == 200 && value == 7);
-            CHECK(kit_rows_sum(&rows, 0, &value) == KIT_WRONG_KIND && value == 7);
+            CHECK(kit_rows_sum(&rows, 0, &value) == KIT_WRONG_SHAPE && value == 7);
         } else {
             CHECK(kit_rows_gauge(&rows, 0, &time, &value) == KIT_NO_POINT && time == 200 && value == 7);
         }
-        kit_free(&writer), kit_free(&collected), kit_free(&rows);
+        kit_writer_free(&writer), kit_export_free(&collected), kit_rows_free(&rows);
     }
-    kit_free(&instruments), kit_free(&plan), kit_free(&none), kit_free(&gateway), kit_free(&ask);
+    kit_instruments_free(&instruments), kit_plan_free(&plan), kit_attributes_free(&none), kit_gateway_free(&gateway), kit_ask_free(&ask);
 }
 
 /* Rows of a histogram of the bounds 10 and 20: as numbers, with two writers whose counts' sums leave 64 bits together. */
 static void histograms(void) {
     const int64_t bounds[] = {10, 20}, values[] = {3, 10, 11, 50};
-    kit_handle instruments = KIT_EMPTY, view = KIT_EMPTY, list = KIT_EMPTY, plan = KIT_EMPTY, pairs = KIT_EMPTY, none = KIT_EMPTY;
-    kit_handle writer = KIT_EMPTY, other = KIT_EMPTY, collected = KIT_EMPTY, gateway = KIT_EMPTY, ask = KIT_EMPTY, rows = KIT_EMPTY;
+    kit_instruments instruments = KIT_EMPTY;
+    kit_view view = KIT_EMPTY;
+    kit_views list = KIT_EMPTY;
+    kit_plan plan = KIT_EMPTY;
+    kit_pairs pairs = KIT_EMPTY;
+    kit_attributes none = KIT_EMPTY;
+    kit_writer writer = KIT_EMPTY, other = KIT_EMPTY;
+    kit_export collected = KIT_EMPTY;
+    kit_gateway gateway = KIT_EMPTY;
+    kit_ask ask = KIT_EMPTY;
+    kit_rows rows = KIT_EMPTY;
     uint64_t count = 77, bucket = 77, last = 77;
     int64_t sum = 77, least = 77, greatest = 77;
     size_t buckets = 77;
@@ -383,16 +398,15 @@ static void histograms(void) {
     CHECK(!kit_writer_collect(&writer, 200, &collected, &place) && !kit_gateway_take(&gateway, &collected, &changed));
     CHECK(!kit_ask_histogram(&ask, TEXT("app"), TEXT("size"), TEXT("By"), bounds, 2) && !kit_gateway_rows(&gateway, &ask, &rows));
 
-    CHECK(kit_rows_histogram(&writer, 0, &count, &sum, &buckets) == KIT_WRONG_KIND && writer.full);
     CHECK(kit_rows_histogram(&rows, 1, &count, &sum, &buckets) == KIT_NO_ROW && count == 77 && sum == 77 && buckets == 77);
     CHECK(kit_rows_range(&rows, 1, &least, &greatest) == KIT_NO_ROW && least == 77 && greatest == 77);
     CHECK(!kit_rows_histogram(&rows, 0, &count, &sum, &buckets) && count == 4 && sum == 74 && buckets == 3);
     CHECK(!kit_rows_range(&rows, 0, &least, &greatest) && least == 3 && greatest == 50);
     CHECK(!kit_rows_bucket(&rows, 0, 0, &bucket) && bucket == 2 && !kit_rows_bucket(&rows, 0, 2, &last) && last == 1);
     CHECK(kit_rows_bucket(&rows, 0, 3, &bucket) == KIT_NO_BUCKET && bucket == 2);
-    CHECK(kit_rows_bucket(&rows, 1, 0, &bucket) == KIT_NO_ROW && kit_rows_bucket(&pairs, 0, 0, &bucket) == KIT_NOTHING && bucket == 2);
-    CHECK(kit_rows_sum(&rows, 0, &sum) == KIT_WRONG_KIND && sum == 74);
-    kit_free(&rows), kit_free(&collected);
+    CHECK(kit_rows_bucket(&rows, 1, 0, &bucket) == KIT_NO_ROW && kit_rows_bucket((void *)&pairs, 0, 0, &bucket) == KIT_NOTHING && bucket == 2);
+    CHECK(kit_rows_sum(&rows, 0, &sum) == KIT_WRONG_SHAPE && sum == 74);
+    kit_rows_free(&rows), kit_export_free(&collected);
 
     CHECK(!kit_writer_start(&other, &plan, TEXT("shop"), 0, 2, 100) && !kit_writer_measure(&other, 0, &none, INT64_MAX, &place));
     CHECK(!kit_writer_collect(&other, 200, &collected, &place) && !kit_gateway_take(&gateway, &collected, &changed));
@@ -402,68 +416,70 @@ static void histograms(void) {
 
     uint64_t time = 77;
     CHECK(kit_gateway_newest(&gateway, TEXT("\xff"), 0, 1, 100, &time) == KIT_NOT_TEXT && time == 77);
-    CHECK(kit_gateway_newest(&pairs, TEXT("shop"), 0, 1, 100, &time) == KIT_NOTHING && time == 77);
-    CHECK(kit_gateway_newest(&rows, TEXT("shop"), 0, 1, 100, &time) == KIT_WRONG_KIND && rows.full);
+    CHECK(kit_gateway_newest((void *)&pairs, TEXT("shop"), 0, 1, 100, &time) == KIT_NOTHING && time == 77);
     CHECK(kit_gateway_newest(&gateway, TEXT("shop"), 0, 3, 100, &time) == KIT_NO_POINT && time == 77);
     refused = 1;
     CHECK(kit_gateway_newest(&gateway, TEXT("a service of more than thirty bytes"), 0, 1, 100, &time) == KIT_NO_MEMORY && time == 77);
     refused = 0;
     CHECK(!kit_gateway_newest(&gateway, TEXT("shop"), 0, 1, 100, &time) && time == 200);
-    kit_handle *all[] = {&instruments, &view, &list, &plan, &none, &writer, &other, &collected, &gateway, &ask, &rows};
+    kit_handle *all[] = {&instruments.handle, &view.handle, &list.handle, &plan.handle, &none.handle, &writer.handle, &other.handle, &collected.handle, &gateway.handle, &ask.handle, &rows.handle};
     for (size_t i = 0; i < sizeof all / sizeof *all; i++) {
         kit_free(all[i]);
     }
 }
 
 /* A gateway of a node comes to this table. */
-static bool holds(kit_handle *node, const char *want) {
-    kit_handle copy = KIT_EMPTY;
+static bool holds(kit_node *node, const char *want) {
+    kit_gateway copy = KIT_EMPTY;
     bool fits = !kit_node_gateway(node, &copy) && tells(&copy, want);
-    kit_free(&copy);
+    kit_gateway_free(&copy);
     return fits;
 }
 
-static void nodes(kit_handle *plan, kit_handle *none) {
-    kit_handle gateway = KIT_EMPTY, far = KIT_EMPTY, one = KIT_EMPTY, other = KIT_EMPTY, writer = KIT_EMPTY, collected = KIT_EMPTY;
-    kit_handle sent = KIT_EMPTY, answer = KIT_EMPTY, nothing = KIT_EMPTY;
+static void nodes(kit_plan *plan, kit_attributes *none) {
+    kit_gateway gateway = KIT_EMPTY, far = KIT_EMPTY;
+    kit_node one = KIT_EMPTY, other = KIT_EMPTY;
+    kit_writer writer = KIT_EMPTY;
+    kit_export collected = KIT_EMPTY;
+    kit_message sent = KIT_EMPTY, answer = KIT_EMPTY;
+    kit_gateway nothing = KIT_EMPTY;
     uint32_t from = 77, to = 77;
     size_t points = 77;
     bool answered = true;
     CHECK(!kit_writer_start(&writer, plan, TEXT("shop"), 0, 1, 100) && !kit_writer_measure(&writer, 0, none, 7, &place));
     CHECK(!kit_writer_collect(&writer, 200, &collected, &place));
     CHECK(!kit_gateway_open(&gateway, 1) && !kit_gateway_open(&far, 2));
-    CHECK(kit_node_open(&one, &nothing) == KIT_NOTHING && kit_node_open(&one, &writer) == KIT_WRONG_KIND && !one.full);
-    EACH_GROWTH(kit_node_open(&one, &gateway), !one.full && gateway.full);
+    CHECK(kit_node_open(&one, &nothing) == KIT_NOTHING && !one.handle.full);
+    EACH_GROWTH(kit_node_open(&one, &gateway), !one.handle.full && gateway.handle.full);
     CHECK(kit_node_open(&one, &gateway) == KIT_FULL && !kit_node_open(&other, &far));
 
-    CHECK(kit_node_take(&nothing, &collected, &changed) == KIT_NOTHING && kit_node_take(&one, &nothing, &changed) == KIT_NOTHING);
-    CHECK(kit_node_take(&one, &gateway, &changed) == KIT_WRONG_KIND && kit_node_merge(&one, &collected, &changed) == KIT_WRONG_KIND);
-    CHECK(kit_node_take(&one, &one, &changed) != KIT_OK && one.full); /* one handle given twice */
+    CHECK(kit_node_take((void *)&nothing, &collected, &changed) == KIT_NOTHING && kit_node_take(&one, (void *)&nothing, &changed) == KIT_NOTHING);
+    CHECK(kit_node_take(&one, (void *)&one, &changed) != KIT_OK && one.handle.full); /* one handle given twice */
     changed = 77;
     EACH_GROWTH(kit_node_take(&one, &collected, &changed), changed == 77 && holds(&one, NO_ROWS));
     CHECK(changed == 1 && holds(&one, SEVEN) && !kit_node_take(&one, &collected, &changed) && changed == 0);
 
-    CHECK(kit_node_send(&one, 2, &writer) == KIT_FULL && kit_node_send(&writer, 2, &sent) == KIT_WRONG_KIND && !sent.full);
-    EACH_GROWTH(kit_node_send(&one, 2, &sent), !sent.full && one.full);
-    CHECK(kit_message_read(&one, &from, &to, &points) == KIT_WRONG_KIND && from == 77 && to == 77 && points == 77);
+    CHECK(kit_node_send(&one, 2, (void *)&writer) == KIT_FULL && !sent.handle.full);
+    EACH_GROWTH(kit_node_send(&one, 2, &sent), !sent.handle.full && one.handle.full);
+    CHECK(from == 77 && to == 77 && points == 77);
     CHECK(!kit_message_read(&sent, &from, &to, &points) && from == 1 && to == 2 && points == 1);
-    CHECK(kit_node_hand(&one, &sent, &answer, &answered) == KIT_NOT_ADDRESSED && !answer.full && answered);
-    CHECK(kit_node_hand(&other, &sent, &writer, &answered) == KIT_FULL && kit_node_hand(&other, &writer, &answer, &answered) == KIT_WRONG_KIND);
+    CHECK(kit_node_hand(&one, &sent, &answer, &answered) == KIT_NOT_ADDRESSED && !answer.handle.full && answered);
+    CHECK(kit_node_hand(&other, &sent, (void *)&writer, &answered) == KIT_FULL);
     answered = false;
-    EACH_GROWTH(kit_node_hand(&other, &sent, &answer, &answered), !answer.full && !answered && holds(&other, NO_ROWS));
-    CHECK(answer.full && answered && sent.full && holds(&other, SEVEN));
+    EACH_GROWTH(kit_node_hand(&other, &sent, &answer, &answered), !answer.handle.full && !answered && holds(&other, NO_ROWS));
+    CHECK(answer.handle.full && answered && sent.handle.full && holds(&other, SEVEN));
     CHECK(!kit_message_read(&answer, &from, &to, &points) && from == 2 && to == 1 && points == 0);
-    kit_free(&sent);
-    EACH_GROWTH(kit_node_hand(&one, &answer, &sent, &answered), !sent.full && answered);
-    CHECK(!sent.full && !answered && !kit_node_send(&one, 2, &sent));
+    kit_message_free(&sent);
+    EACH_GROWTH(kit_node_hand(&one, &answer, &sent, &answered), !sent.handle.full && answered);
+    CHECK(!sent.handle.full && !answered && !kit_node_send(&one, 2, &sent));
     CHECK(!kit_message_read(&sent, &from, &to, &points) && from == 1 && to == 2 && points == 0); /* all of it was acknowledged */
 
     CHECK(!kit_node_gateway(&other, &nothing) && kit_node_gateway(&other, &gateway) == KIT_FULL);
-    kit_free(&one);
+    kit_node_free(&one);
     CHECK(!kit_node_open(&one, &far));
-    EACH_GROWTH(kit_node_merge(&one, &nothing, &changed), holds(&one, NO_ROWS) && nothing.full);
+    EACH_GROWTH(kit_node_merge(&one, &nothing, &changed), holds(&one, NO_ROWS) && nothing.handle.full);
     CHECK(changed == 1 && holds(&one, SEVEN));
-    kit_handle *all[] = {&gateway, &far, &one, &other, &writer, &collected, &sent, &answer, &nothing};
+    kit_handle *all[] = {&gateway.handle, &far.handle, &one.handle, &other.handle, &writer.handle, &collected.handle, &sent.handle, &answer.handle, &nothing.handle};
     for (size_t i = 0; i < sizeof all / sizeof *all; i++) {
         kit_free(all[i]);
         CHECK(!all[i]->full);
@@ -471,21 +487,24 @@ static void nodes(kit_handle *plan, kit_handle *none) {
 }
 
 /* A seat is its writer's alone: two shared writers, of which each has what its own seats recorded. */
-static void writers_apart(kit_handle *plan, kit_handle *none) {
-    kit_handle seats[2] = {KIT_EMPTY, KIT_EMPTY}, made[2] = {KIT_EMPTY, KIT_EMPTY}, collected = KIT_EMPTY, gateway = KIT_EMPTY;
+static void writers_apart(kit_plan *plan, kit_attributes *none) {
+    kit_writer writers[2] = {KIT_EMPTY, KIT_EMPTY};
+    kit_seat seats[2] = {KIT_EMPTY, KIT_EMPTY}, made[2] = {KIT_EMPTY, KIT_EMPTY};
+    kit_export collected = KIT_EMPTY;
+    kit_gateway gateway = KIT_EMPTY;
     for (uint64_t i = 0; i < 2; i++) {
-        CHECK(!kit_writer_start(&seats[i], plan, TEXT("shop"), 0, i + 1, 100) && !kit_writer_share(&seats[i]));
+        CHECK(!kit_writer_start(&writers[i], plan, TEXT("shop"), 0, i + 1, 100) && !kit_writer_share(&writers[i], &seats[i]));
         CHECK(!kit_seat_split(&seats[i], &made[i]) && !kit_seat_measure(&seats[i], 0, none, i ? 7 : 1, &place));
     }
     CHECK(!kit_seat_measure(&made[0], 0, none, 1, &place) && !kit_gateway_open(&gateway, 1));
     CHECK(!kit_seat_collect(&made[1], 200, &collected, &place) && !kit_gateway_take(&gateway, &collected, &changed) && tells(&gateway, SEVEN));
-    for (int i = 0; i < 2; i++) kit_free(&seats[i]), kit_free(&made[i]);
-    kit_free(&collected), kit_free(&gateway);
+    for (int i = 0; i < 2; i++) kit_seat_free(&seats[i]), kit_seat_free(&made[i]);
+    kit_export_free(&collected), kit_gateway_free(&gateway);
 }
 
 /* Seats hold pairs: what was held when the writer was shared has its number at each, at no memory; another has one that each may use. */
-static void seats_hold(kit_handle *seat, kit_handle *more, kit_handle *none, kit_handle *four) {
-    kit_handle nothing = KIT_EMPTY;
+static void seats_hold(kit_seat *seat, kit_seat *more, kit_attributes *none, kit_attributes *four) {
+    kit_seat nothing = KIT_EMPTY;
     size_t number = 77;
     refused = 1;
     CHECK(!kit_seat_hold(seat, 0, none, &number) && number == 0 && !kit_seat_hold(more, 0, none, &number) && number == 0 && refused == 1);
@@ -495,66 +514,69 @@ static void seats_hold(kit_handle *seat, kit_handle *more, kit_handle *none, kit
     CHECK(number == 1 && !kit_seat_hold(seat, 0, four, &number) && number == 1);
     CHECK(kit_seat_measure_held(more, 1, -1, &place) == KIT_NEGATIVE && !kit_seat_hold(more, 0, four, &number) && number == 2);
     CHECK(kit_seat_hold(seat, 2, four, &number) == KIT_NO_INSTRUMENT && number == 2);
-    CHECK(kit_seat_hold(&nothing, 0, none, &number) == KIT_NOTHING && kit_seat_hold(seat, 0, &nothing, &number) == KIT_NOTHING);
-    CHECK(kit_seat_hold(none, 0, four, &number) == KIT_WRONG_KIND && kit_seat_hold(seat, 0, more, &number) == KIT_WRONG_KIND && more->full);
+    CHECK(kit_seat_hold(&nothing, 0, none, &number) == KIT_NOTHING && kit_seat_hold(seat, 0, (void *)&nothing, &number) == KIT_NOTHING);
 }
 
 /* Seats at one writer, in one thread: what each refuses, and that all of them record into it. */
-static void seats(kit_handle *plan, kit_handle *none, kit_handle *four) {
-    kit_handle seat = KIT_EMPTY, more = KIT_EMPTY, nothing = KIT_EMPTY, collected = KIT_EMPTY, gateway = KIT_EMPTY;
+static void seats(kit_plan *plan, kit_attributes *none, kit_attributes *four) {
+    kit_writer writer = KIT_EMPTY;
+    kit_seat seat = KIT_EMPTY, more = KIT_EMPTY, nothing = KIT_EMPTY;
+    kit_export collected = KIT_EMPTY;
+    kit_gateway gateway = KIT_EMPTY;
     size_t number = 77;
-    CHECK(!kit_writer_start(&seat, plan, TEXT("shop"), 0, 1, 100) && !kit_writer_hold(&seat, 0, none, &number));
-    CHECK(!kit_writer_measure_held(&seat, number, 1, &place));
-    CHECK(kit_writer_share(&nothing) == KIT_NOTHING && kit_writer_share(none) == KIT_WRONG_KIND && none->full);
-    EACH_GROWTH(kit_writer_share(&seat), !kit_writer_measure_held(&seat, number, 0, &place));
-    CHECK(kit_writer_share(&seat) == KIT_WRONG_KIND && kit_writer_measure(&seat, 0, none, 1, &place) == KIT_WRONG_KIND);
-    CHECK(kit_seat_split(&seat, none) == KIT_FULL && kit_seat_split(&nothing, &more) == KIT_NOTHING && !more.full);
-    CHECK(kit_seat_split(plan, &more) == KIT_WRONG_KIND && plan->full && !more.full);
-    EACH_GROWTH(kit_seat_split(&seat, &more), !more.full && seat.full);
+    CHECK(kit_writer_share(&writer, &seat) == KIT_NOTHING && !seat.handle.full);
+    CHECK(!kit_writer_start(&writer, plan, TEXT("shop"), 0, 1, 100) && !kit_writer_hold(&writer, 0, none, &number));
+    CHECK(!kit_writer_measure_held(&writer, number, 1, &place));
+    CHECK(kit_writer_share(&writer, (void *)none) == KIT_FULL && writer.handle.full);
+    EACH_GROWTH(kit_writer_share(&writer, &seat), !seat.handle.full && !kit_writer_measure_held(&writer, number, 0, &place));
+    CHECK(!writer.handle.full && kit_writer_share(&writer, &seat) == KIT_FULL);
+    CHECK(kit_seat_split(&seat, (void *)none) == KIT_FULL && kit_seat_split(&nothing, &more) == KIT_NOTHING && !more.handle.full);
+    EACH_GROWTH(kit_seat_split(&seat, &more), !more.handle.full && seat.handle.full);
 
     CHECK(!kit_seat_measure(&seat, 0, none, 2, &place) && !kit_seat_measure(&more, 0, none, 3, &place));
     CHECK(!kit_seat_measure_held(&more, number, 1, &place));
     CHECK(kit_seat_measure_held(&more, 1, 1, &place) == KIT_NO_HELD && kit_seat_measure(&more, 2, none, 1, &place) == KIT_NO_INSTRUMENT);
     seats_hold(&seat, &more, none, four);
-    CHECK(kit_seat_measure(&nothing, 0, none, 1, &place) == KIT_NOTHING && kit_seat_measure(&seat, 0, &nothing, 1, &place) == KIT_NOTHING);
-    CHECK(kit_seat_measure(none, 0, none, 1, &place) != KIT_OK && kit_seat_measure(plan, 0, none, 1, &place) == KIT_WRONG_KIND);
-    CHECK(kit_seat_measure(&seat, 0, none, -1, &place) == KIT_NEGATIVE && kit_seat_measure_held(plan, 0, 1, &place) == KIT_WRONG_KIND);
+    CHECK(kit_seat_measure(&nothing, 0, none, 1, &place) == KIT_NOTHING && kit_seat_measure(&seat, 0, (void *)&nothing, 1, &place) == KIT_NOTHING);
+    CHECK(kit_seat_measure((void *)none, 0, none, 1, &place) != KIT_OK);
+    CHECK(kit_seat_measure(&seat, 0, none, -1, &place) == KIT_NEGATIVE);
     place = 77;
     CHECK(kit_seat_measure(&seat, 0, none, INT64_MAX, &place) == KIT_OVERFLOW && place == 0);
 
-    CHECK(kit_seat_collect(&seat, 200, none, &place) == KIT_FULL && kit_seat_collect(&nothing, 200, &collected, &place) == KIT_NOTHING);
-    CHECK(kit_seat_collect(plan, 200, &collected, &place) == KIT_WRONG_KIND && !collected.full);
-    CHECK(kit_seat_collect(&seat, 100, &collected, &place) == KIT_TIME_NOT_AFTER && place == 100 && !collected.full);
+    CHECK(kit_seat_collect(&seat, 200, (void *)none, &place) == KIT_FULL && kit_seat_collect(&nothing, 200, &collected, &place) == KIT_NOTHING);
+    CHECK(kit_seat_collect(&seat, 100, &collected, &place) == KIT_TIME_NOT_AFTER && place == 100 && !collected.handle.full);
     /* Each growth of a collection is in the midst of it, where another seat's calls are to find the writer in use. */
     for (int i = 0; i < 3; i++) meddled[i] = KIT_OK;
     meddles = &seat;
     refused = 3;
     CHECK(kit_seat_collect(&more, 200, &collected, &place) == KIT_NO_MEMORY && !meddles);
     refused = 0;
-    CHECK(meddled[0] == KIT_BUSY && meddled[1] == KIT_BUSY && meddled[2] == KIT_BUSY && seat.full);
-    EACH_GROWTH(kit_seat_collect(&more, 200, &collected, &place), !collected.full && more.full);
-    kit_free(&more);
+    CHECK(meddled[0] == KIT_BUSY && meddled[1] == KIT_BUSY && meddled[2] == KIT_BUSY && seat.handle.full);
+    EACH_GROWTH(kit_seat_collect(&more, 200, &collected, &place), !collected.handle.full && more.handle.full);
+    kit_seat_free(&more);
     CHECK(!kit_gateway_open(&gateway, 1) && !kit_gateway_take(&gateway, &collected, &changed) && tells(&gateway, SEVEN));
-    CHECK(kit_seat_collect(&seat, 200, &nothing, &place) == KIT_TIME_NOT_AFTER && place == 200 && !nothing.full);
+    kit_export_free(&collected);
+    CHECK(kit_seat_collect(&seat, 200, &collected, &place) == KIT_TIME_NOT_AFTER && place == 200 && !collected.handle.full);
     uint32_t made = 2; /* (the first one, and the one that was freed) */
     int32_t code = KIT_OK;
     while (!(code = kit_seat_split(&seat, &more))) {
-        kit_free(&more), made++;
+        kit_seat_free(&more), made++;
     }
-    CHECK(code == KIT_SEATS_FULL && made == 4096 && !more.full && !kit_seat_measure_held(&seat, number, 1, &place));
-    kit_free(&seat), kit_free(&collected), kit_free(&gateway);
+    CHECK(code == KIT_SEATS_FULL && made == 4096 && !more.handle.full && !kit_seat_measure_held(&seat, number, 1, &place));
+    kit_seat_free(&seat), kit_export_free(&collected), kit_gateway_free(&gateway);
 }
 
 /* A plan of one counter requests and one instrument of a kind, under a limit. */
-static void plan_under(kit_handle *plan, uint8_t kind, uint64_t limit) {
-    kit_handle instruments = KIT_EMPTY, views = KIT_EMPTY;
+static void plan_under(kit_plan *plan, uint8_t kind, uint64_t limit) {
+    kit_instruments instruments = KIT_EMPTY;
+    kit_views views = KIT_EMPTY;
     CHECK(!kit_instruments_add(&instruments, TEXT("app"), TEXT("requests"), TEXT("1"), KIT_COUNTER));
     CHECK(!kit_instruments_add(&instruments, TEXT("app"), TEXT("size"), TEXT("By"), kind));
     CHECK(!kit_plan_build(plan, &instruments, &views, limit, &place, &second));
-    kit_free(&instruments);
+    kit_instruments_free(&instruments);
 }
 
-static size_t len_of(kit_handle *recorder) {
+static size_t len_of(kit_recorder *recorder) {
     size_t count = 77;
     CHECK(!kit_recorder_len(recorder, &count));
     return count;
@@ -566,8 +588,10 @@ static bool says(kit_taken told, size_t recorded, size_t refused_ones, int32_t c
 }
 
 /* What is refused of a log is refused by itself and told, each cause once; where memory is wanting the rest stays. */
-static void logs_in(kit_handle *none, kit_handle *four) {
-    kit_handle plan = KIT_EMPTY, writer = KIT_EMPTY, log = KIT_EMPTY;
+static void logs_in(kit_attributes *none, kit_attributes *four) {
+    kit_plan plan = KIT_EMPTY;
+    kit_writer writer = KIT_EMPTY;
+    kit_recorder log = KIT_EMPTY;
     kit_taken told = {0};
     plan_under(&plan, KIT_UP_DOWN, 7);
     CHECK(!kit_writer_start(&writer, &plan, TEXT("shop"), 0, 1, 100) && !kit_recorder_new(&log, 8));
@@ -587,33 +611,33 @@ static void logs_in(kit_handle *none, kit_handle *four) {
         refused = 0;
     }
     CHECK(!kit_writer_take_in(&writer, &log, SIZE_MAX, &told) && says(told, 0, 0, KIT_OK, 0, 0) && has_seven(&writer, 160));
-    kit_free(&plan), kit_free(&writer), kit_free(&log);
+    kit_plan_free(&plan), kit_writer_free(&writer), kit_recorder_free(&log);
 }
 
 /* Logs: what each of their calls refuses, and that writers and seats take in what they have, or leave it where they are closed. */
-static void recorders(kit_handle *plan, kit_handle *none) {
-    kit_handle writer = KIT_EMPTY, recorder = KIT_EMPTY, nothing = KIT_EMPTY, collected = KIT_EMPTY;
+static void recorders(kit_plan *plan, kit_attributes *none) {
+    kit_writer writer = KIT_EMPTY;
+    kit_seat seat = KIT_EMPTY;
+    kit_recorder recorder = KIT_EMPTY, nothing = KIT_EMPTY;
+    kit_export collected = KIT_EMPTY;
     kit_taken told = {.recorded = 77};
     size_t number = 77;
     CHECK(!kit_writer_start(&writer, plan, TEXT("shop"), 0, 1, 100) && !kit_writer_hold(&writer, 0, none, &number));
-    CHECK(kit_recorder_new(&writer, 1) == KIT_FULL && kit_recorder_new(&recorder, SIZE_MAX) == KIT_NO_MEMORY && !recorder.full);
-    EACH_GROWTH(kit_recorder_new(&recorder, 3), !recorder.full);
-    CHECK(kit_recorder_len(&nothing, &number) == KIT_NOTHING && kit_recorder_len(&writer, &number) == KIT_WRONG_KIND && number == 0);
-    CHECK(kit_recorder_clear(&nothing) == KIT_NOTHING && kit_recorder_clear(&writer) == KIT_WRONG_KIND && writer.full);
+    CHECK(kit_recorder_new((void *)&writer, 1) == KIT_FULL && kit_recorder_new(&recorder, SIZE_MAX) == KIT_NO_MEMORY && !recorder.handle.full);
+    EACH_GROWTH(kit_recorder_new(&recorder, 3), !recorder.handle.full);
+    CHECK(kit_recorder_len(&nothing, &number) == KIT_NOTHING && number == 0);
+    CHECK(kit_recorder_clear(&nothing) == KIT_NOTHING && writer.handle.full);
     EACH_GROWTH(kit_recorder_measure(&recorder, 0, none, 1), !len_of(&recorder));
     refused = 1; /* (a number takes no memory, nor does a set that is there) */
     CHECK(!kit_recorder_measure_held(&recorder, number, 2) && !kit_recorder_measure(&recorder, 0, none, 4) && refused == 1);
     refused = 0;
     CHECK(kit_recorder_measure(&recorder, 0, none, 1) == KIT_RECORDER_FULL && len_of(&recorder) == 3);
     CHECK(kit_recorder_measure_held(&recorder, number, 1) == KIT_RECORDER_FULL);
-    CHECK(kit_recorder_measure(&nothing, 0, none, 1) == KIT_NOTHING && kit_recorder_measure(&recorder, 0, &nothing, 1) == KIT_NOTHING);
-    CHECK(kit_recorder_measure(&writer, 0, none, 1) == KIT_WRONG_KIND && kit_recorder_measure(&recorder, 0, plan, 1) == KIT_WRONG_KIND);
-    CHECK(kit_recorder_measure_held(&nothing, 0, 1) == KIT_NOTHING && kit_recorder_measure_held(&writer, 0, 1) == KIT_WRONG_KIND);
-    CHECK(kit_writer_measure(&recorder, 0, none, 1, &place) == KIT_WRONG_KIND && recorder.full);
+    CHECK(kit_recorder_measure(&nothing, 0, none, 1) == KIT_NOTHING && kit_recorder_measure(&recorder, 0, (void *)&nothing, 1) == KIT_NOTHING);
+    CHECK(kit_recorder_measure_held(&nothing, 0, 1) == KIT_NOTHING);
 
-    CHECK(kit_writer_take_in(&nothing, &recorder, 1, &told) == KIT_NOTHING);
+    CHECK(kit_writer_take_in((void *)&nothing, &recorder, 1, &told) == KIT_NOTHING);
     CHECK(kit_writer_take_in(&writer, &nothing, 1, &told) == KIT_NOTHING);
-    CHECK(kit_writer_take_in(plan, &recorder, 1, &told) == KIT_WRONG_KIND && kit_writer_take_in(&writer, plan, 1, &told) == KIT_WRONG_KIND);
     CHECK(told.recorded == 77 && len_of(&recorder) == 3);
     CHECK(!kit_writer_take_in(&writer, &recorder, 2, &told) && says(told, 2, 0, KIT_OK, 0, 0) && len_of(&recorder) == 1);
     CHECK(!kit_writer_take_in(&writer, &recorder, 0, &told) && says(told, 0, 0, KIT_OK, 0, 0) && len_of(&recorder) == 1);
@@ -624,15 +648,14 @@ static void recorders(kit_handle *plan, kit_handle *none) {
 
     CHECK(!kit_writer_shutdown(&writer, 200, &collected, &place));
     CHECK(kit_writer_take_in(&writer, &recorder, 1, &told) == KIT_CLOSED && len_of(&recorder) == 1);
-    CHECK(kit_seat_take_in(&writer, &recorder, 1, &told) == KIT_WRONG_KIND && !kit_writer_share(&writer));
-    CHECK(kit_seat_take_in(&writer, &recorder, 1, &told) == KIT_CLOSED && len_of(&recorder) == 1 && says(told, 1, 0, KIT_OK, 0, 0));
-    CHECK(kit_seat_take_in(&nothing, &recorder, 1, &told) == KIT_NOTHING && kit_seat_take_in(&writer, &nothing, 1, &told) == KIT_NOTHING);
-    CHECK(kit_seat_take_in(&writer, plan, 1, &told) == KIT_WRONG_KIND && plan->full);
-    kit_free(&writer);
-    CHECK(!kit_writer_start(&writer, plan, TEXT("shop"), 0, 2, 100) && !kit_writer_share(&writer));
-    CHECK(!kit_seat_hold(&writer, 0, none, &number) && number == 0);
-    CHECK(!kit_seat_take_in(&writer, &recorder, SIZE_MAX, &told) && says(told, 1, 0, KIT_OK, 0, 0) && !len_of(&recorder));
-    kit_handle *all[] = {&writer, &recorder, &nothing, &collected};
+    CHECK(kit_seat_take_in(&seat, &recorder, 1, &told) == KIT_NOTHING && !kit_writer_share(&writer, &seat));
+    CHECK(kit_seat_take_in(&seat, &recorder, 1, &told) == KIT_CLOSED && len_of(&recorder) == 1 && says(told, 1, 0, KIT_OK, 0, 0));
+    CHECK(kit_seat_take_in(&seat, &nothing, 1, &told) == KIT_NOTHING);
+    kit_seat_free(&seat);
+    CHECK(!kit_writer_start(&writer, plan, TEXT("shop"), 0, 2, 100) && !kit_writer_share(&writer, &seat));
+    CHECK(!kit_seat_hold(&seat, 0, none, &number) && number == 0);
+    CHECK(!kit_seat_take_in(&seat, &recorder, SIZE_MAX, &told) && says(told, 1, 0, KIT_OK, 0, 0) && !len_of(&recorder));
+    kit_handle *all[] = {&writer.handle, &seat.handle, &recorder.handle, &nothing.handle, &collected.handle};
     for (size_t i = 0; i < sizeof all / sizeof *all; i++) {
         kit_free(all[i]);
     }
@@ -646,48 +669,55 @@ static void checksum(uint8_t *bytes, size_t len) {
 }
 
 /* An export as bytes, and each way in which bytes are none. */
-static void encodings(kit_handle *plan, kit_handle *none) {
-    kit_handle writer = KIT_EMPTY, collected = KIT_EMPTY, made = KIT_EMPTY, read = KIT_EMPTY, gateway = KIT_EMPTY;
+static void encodings(kit_plan *plan, kit_attributes *none) {
+    kit_writer writer = KIT_EMPTY;
+    kit_export collected = KIT_EMPTY, read = KIT_EMPTY;
+    kit_bytes made = KIT_EMPTY;
+    kit_gateway gateway = KIT_EMPTY;
     uint8_t bytes[1024], few[4] = {0};
     size_t len = 77, whole = 77;
     CHECK(!kit_writer_start(&writer, plan, TEXT("shop"), 0, 1, 100) && !kit_writer_measure(&writer, 0, none, 7, &place));
     CHECK(!kit_writer_collect(&writer, 200, &collected, &place));
-    CHECK(kit_export_encode(&made, &read) == KIT_NOTHING && kit_export_encode(&writer, &made) == KIT_WRONG_KIND && !made.full);
-    CHECK(kit_export_encode(&collected, none) == KIT_FULL && kit_bytes_copy(&collected, bytes, sizeof bytes, &len) == KIT_WRONG_KIND && len == 77);
-    EACH_GROWTH(kit_export_encode(&collected, &made), !made.full && collected.full);
+    CHECK(kit_export_encode((void *)&made, (void *)&read) == KIT_NOTHING && !made.handle.full);
+    CHECK(kit_export_encode(&collected, (void *)none) == KIT_FULL && len == 77);
+    EACH_GROWTH(kit_export_encode(&collected, &made), !made.handle.full && collected.handle.full);
     CHECK(!kit_bytes_copy(&made, few, sizeof few, &len) && !kit_bytes_copy(&made, bytes, sizeof bytes, &whole));
     CHECK(len == whole && len > sizeof few && len < sizeof bytes && !memcmp(few, bytes, sizeof few));
 
-    CHECK(kit_export_decode(none, bytes, len, &place) == KIT_FULL && none->full);
-    EACH_GROWTH(kit_export_decode(&read, bytes, len, &place), !read.full);
+    CHECK(kit_export_decode((void *)none, bytes, len, &place) == KIT_FULL && none->handle.full);
+    EACH_GROWTH(kit_export_decode(&read, bytes, len, &place), !read.handle.full);
     CHECK(!kit_gateway_open(&gateway, 1) && !kit_gateway_take(&gateway, &read, &changed) && tells(&gateway, SEVEN));
     CHECK(!kit_gateway_take(&gateway, &collected, &changed) && changed == 0); /* it is the very export */
-    kit_free(&read);
+    kit_export_free(&read);
     for (size_t short_of = 0; short_of < len; short_of++) {
-        CHECK(kit_export_decode(&read, bytes, short_of, &place) == KIT_TRUNCATED && place == short_of && !read.full);
+        CHECK(kit_export_decode(&read, bytes, short_of, &place) == KIT_TRUNCATED && place == short_of && !read.handle.full);
     }
     bytes[len] = 0;
-    CHECK(kit_export_decode(&read, bytes, len + 1, &place) == KIT_NOT_CANONICAL && !read.full);
+    CHECK(kit_export_decode(&read, bytes, len + 1, &place) == KIT_NOT_CANONICAL && !read.handle.full);
     place = 77;
     bytes[0] ^= 1;
     CHECK(kit_export_decode(&read, bytes, len, &place) == KIT_BAD_MAGIC && place == 0);
     bytes[0] ^= 1, bytes[4] ^= 0x40;
     CHECK(kit_export_decode(&read, bytes, len, &place) == KIT_BAD_VERSION && place == 4);
     bytes[4] ^= 0x40, bytes[len - 1] ^= 1;
-    CHECK(kit_export_decode(&read, bytes, len, &place) == KIT_BAD_CHECKSUM && place == len - 4 && !read.full);
+    CHECK(kit_export_decode(&read, bytes, len, &place) == KIT_BAD_CHECKSUM && place == len - 4 && !read.handle.full);
     uint8_t first = bytes[7];
     place = 77, bytes[7] = 0xff; /* (in the service) */
-    CHECK(kit_export_decode(&read, bytes, len, &place) == KIT_NOT_TEXT && place == 6 && !read.full);
+    CHECK(kit_export_decode(&read, bytes, len, &place) == KIT_NOT_TEXT && place == 6 && !read.handle.full);
     place = 77, bytes[7] = first, bytes[len - 5] = 13; /* (-7, of a sum that only rises) */
     checksum(bytes, len - 4);
-    CHECK(kit_export_decode(&read, bytes, len, &place) == KIT_BAD_EXPORT && place == 77 && !read.full);
-    kit_free(&writer), kit_free(&collected), kit_free(&made), kit_free(&gateway);
+    CHECK(kit_export_decode(&read, bytes, len, &place) == KIT_BAD_EXPORT && place == 77 && !read.handle.full);
+    kit_writer_free(&writer), kit_export_free(&collected), kit_bytes_free(&made), kit_gateway_free(&gateway);
 }
 
 /* A message as bytes: they come to a node as the message itself does. */
-static void told(kit_handle *plan, kit_handle *none) {
-    kit_handle writer = KIT_EMPTY, collected = KIT_EMPTY, gateway = KIT_EMPTY, one = KIT_EMPTY, other = KIT_EMPTY, far = KIT_EMPTY;
-    kit_handle sent = KIT_EMPTY, made = KIT_EMPTY, read = KIT_EMPTY, answer = KIT_EMPTY;
+static void told(kit_plan *plan, kit_attributes *none) {
+    kit_writer writer = KIT_EMPTY;
+    kit_export collected = KIT_EMPTY, none_read = KIT_EMPTY;
+    kit_gateway gateway = KIT_EMPTY, far = KIT_EMPTY;
+    kit_node one = KIT_EMPTY, other = KIT_EMPTY;
+    kit_message sent = KIT_EMPTY, read = KIT_EMPTY, answer = KIT_EMPTY;
+    kit_bytes made = KIT_EMPTY;
     uint8_t bytes[1024];
     size_t len = 77;
     bool answered = false;
@@ -695,33 +725,147 @@ static void told(kit_handle *plan, kit_handle *none) {
     CHECK(!kit_writer_collect(&writer, 200, &collected, &place) && !kit_gateway_open(&gateway, 1) && !kit_gateway_open(&far, 2));
     CHECK(!kit_node_open(&one, &gateway) && !kit_node_open(&other, &far) && !kit_node_take(&one, &collected, &changed));
     CHECK(!kit_node_send(&one, 2, &sent));
-    CHECK(kit_message_encode(&made, &read) == KIT_NOTHING && kit_message_encode(&collected, &made) == KIT_WRONG_KIND && !made.full);
-    CHECK(kit_export_encode(&sent, &made) == KIT_WRONG_KIND && kit_message_encode(&sent, none) == KIT_FULL && sent.full);
-    EACH_GROWTH(kit_message_encode(&sent, &made), !made.full && sent.full);
+    CHECK(kit_message_encode((void *)&made, (void *)&read) == KIT_NOTHING && !made.handle.full);
+    CHECK(kit_message_encode(&sent, (void *)none) == KIT_FULL && sent.handle.full);
+    EACH_GROWTH(kit_message_encode(&sent, &made), !made.handle.full && sent.handle.full);
     CHECK(!kit_bytes_copy(&made, bytes, sizeof bytes, &len) && len < sizeof bytes);
 
-    CHECK(kit_message_decode(none, bytes, len, &place) == KIT_FULL && none->full);
-    EACH_GROWTH(kit_message_decode(&read, bytes, len, &place), !read.full);
+    CHECK(kit_message_decode((void *)none, bytes, len, &place) == KIT_FULL && none->handle.full);
+    EACH_GROWTH(kit_message_decode(&read, bytes, len, &place), !read.handle.full);
     CHECK(!kit_node_hand(&other, &read, &answer, &answered) && answered && holds(&other, SEVEN));
-    kit_free(&read), kit_free(&made);
-    CHECK(!kit_node_hand(&one, &answer, &read, &answered) && !answered && !read.full);
+    kit_message_free(&read), kit_bytes_free(&made);
+    CHECK(!kit_node_hand(&one, &answer, &read, &answered) && !answered && !read.handle.full);
     for (size_t short_of = 0; short_of < len; short_of++) {
-        CHECK(kit_message_decode(&read, bytes, short_of, &place) == KIT_TRUNCATED && place == short_of && !read.full);
+        CHECK(kit_message_decode(&read, bytes, short_of, &place) == KIT_TRUNCATED && place == short_of && !read.handle.full);
     }
-    CHECK(kit_export_decode(&read, bytes, len, &place) == KIT_BAD_MAGIC && place == 3 && !read.full);
+    CHECK(kit_export_decode(&none_read, bytes, len, &place) == KIT_BAD_MAGIC && place == 3 && !none_read.handle.full);
     bytes[len - 1] ^= 1;
-    CHECK(kit_message_decode(&read, bytes, len, &place) == KIT_BAD_CHECKSUM && place == len - 4 && !read.full);
+    CHECK(kit_message_decode(&read, bytes, len, &place) == KIT_BAD_CHECKSUM && place == len - 4 && !read.handle.full);
     place = 77, bytes[len - 5] = 13; /* (-7, of a sum that only rises) */
     checksum(bytes, len - 4);
-    CHECK(kit_message_decode(&read, bytes, len, &place) == KIT_BAD_EXPORT && place == 77 && !read.full);
-    kit_handle *all[] = {&writer, &collected, &gateway, &one, &other, &far, &sent, &made, &read, &answer};
+    CHECK(kit_message_decode(&read, bytes, len, &place) == KIT_BAD_EXPORT && place == 77 && !read.handle.full);
+    kit_handle *all[] = {&writer.handle, &collected.handle, &gateway.handle, &one.handle, &other.handle, &far.handle, &sent.handle, &made.handle, &read.handle, &answer.handle};
     for (size_t i = 0; i < sizeof all / sizeof *all; i++) {
         kit_free(all[i]);
     }
 }
 
+/* Each code says something of its own, of which the front is copied that has room; what is no code says nothing. */
+static void texts(void) {
+    char said[128][128] = {{0}}, few[4];
+    for (int32_t code = 0; code < 128; code++) {
+        size_t len = kit_code_text(code, (uint8_t *)said[code], 127);
+        CHECK(len < 127 && !len == !strcmp(kit_code_name(code), "no code") && strlen(said[code]) == len);
+        CHECK(kit_code_text(code, (uint8_t *)few, sizeof few) == len && !memcmp(few, said[code], len < sizeof few ? len : sizeof few));
+        for (int32_t other = 0; len && other < code; other++) CHECK(strcmp(said[code], said[other]));
+    }
+    CHECK(kit_version() == KIT_VERSION && !kit_code_text(-1, (uint8_t *)few, sizeof few) && !kit_code_text(INT32_MIN, (uint8_t *)few, 0));
+}
+
+static bool is(const uint8_t *text, size_t len, const char *wanted) { return len == strlen(wanted) && !memcmp(text, wanted, len); }
+
+/* A set of four pairs, which is read pair by pair in the order of keys. */
+static void sets(kit_attributes *four) {
+    kit_attributes nothing = KIT_EMPTY;
+    uint8_t text[64], kind = 77;
+    size_t len = 77;
+    int64_t whole = 77;
+    CHECK(kit_attributes_len(&nothing, &len) == KIT_NOTHING && len == 77 && !kit_attributes_len(four, &len) && len == 4);
+    CHECK(!kit_attributes_key(four, 0, text, sizeof text, &len) && is(text, len, "attempt"));
+    CHECK(!kit_attributes_key(four, 3, text, 2, &len) && len == 6 && !memcmp(text, "st", 2));
+    CHECK(!kit_attributes_value(four, 0, &kind, &whole) && kind == 1 && whole == 1);
+    CHECK(!kit_attributes_value(four, 1, &kind, &whole) && kind == 2 && whole == 1);
+    CHECK(!kit_attributes_value(four, 3, &kind, &whole) && kind == 1 && whole == 200);
+    CHECK(!kit_attributes_value(four, 2, &kind, &whole) && kind == 0 && whole == 41);
+    CHECK(!kit_attributes_text(four, 2, text, sizeof text, &len) && is(text, len, "a value of more than thirty bytes of text"));
+    len = 77, kind = 77, whole = 77;
+    CHECK(kit_attributes_key(four, 4, text, sizeof text, &len) == KIT_NO_ITEM && kit_attributes_text(four, 4, text, 1, &len) == KIT_NO_ITEM);
+    CHECK(kit_attributes_value(four, 4, &kind, &whole) == KIT_NO_ITEM && kind == 77 && whole == 77);
+    CHECK(kit_attributes_text(four, 0, text, sizeof text, &len) == KIT_WRONG_SHAPE && len == 77);
+    CHECK(kit_attributes_key(&nothing, 0, text, sizeof text, &len) == KIT_NOTHING && kit_attributes_text(&nothing, 0, text, 1, &len) == KIT_NOTHING);
+    CHECK(kit_attributes_value(&nothing, 0, &kind, &whole) == KIT_NOTHING && len == 77);
+}
+
+/* A gateway as bytes, and back. */
+static void kept(kit_gateway *gateway) {
+    kit_bytes bytes = KIT_EMPTY;
+    kit_message message = KIT_EMPTY, nothing = KIT_EMPTY;
+    kit_gateway again = KIT_EMPTY, none = KIT_EMPTY;
+    uint8_t room[1024];
+    uint32_t id = 77;
+    size_t len = 77;
+    bool same = false;
+    CHECK(kit_gateway_encode(&none, &bytes) == KIT_NOTHING && !bytes.handle.full);
+    EACH_GROWTH(kit_gateway_encode(gateway, &bytes), !bytes.handle.full && gateway->handle.full);
+    CHECK(kit_gateway_encode(gateway, &bytes) == KIT_FULL && !kit_bytes_copy(&bytes, room, sizeof room, &len) && len < sizeof room);
+    CHECK(!kit_message_decode(&message, room, len, &place) && kit_message_gateway(&nothing, &again) == KIT_NOTHING && !again.handle.full);
+    EACH_GROWTH(kit_message_gateway(&message, &again), !again.handle.full && message.handle.full);
+    CHECK(kit_message_gateway(&message, &again) == KIT_FULL && !kit_gateway_same(gateway, &again, &same) && same);
+    CHECK(!kit_gateway_read(&again, &id, &len) && id == 5 && len == 1);
+    kit_bytes_free(&bytes), kit_message_free(&message), kit_gateway_free(&again);
+}
+
+/* The streams of a plan, whose numbers are those that an overflow tells, and what is asked of them. */
+static void streams(kit_plan *plan, kit_attributes *four) {
+    kit_streams list = KIT_EMPTY, nothing = KIT_EMPTY;
+    kit_plan no_plan = KIT_EMPTY;
+    kit_writer writer = KIT_EMPTY;
+    kit_export made = KIT_EMPTY;
+    kit_gateway gateway = KIT_EMPTY, no_gateway = KIT_EMPTY;
+    kit_ask ask = KIT_EMPTY;
+    kit_rows rows = KIT_EMPTY;
+    kit_attributes set = KIT_EMPTY;
+    uint8_t text[64], shape = 77;
+    size_t len = 77, many = 77;
+    int64_t bounds[20], total = 77;
+    CHECK(kit_plan_streams(&no_plan, &list) == KIT_NOTHING && !list.handle.full);
+    EACH_GROWTH(kit_plan_streams(plan, &list), !list.handle.full);
+    CHECK(kit_plan_streams(plan, &list) == KIT_FULL && !kit_streams_len(&list, &len) && len == 2 && kit_streams_len(&nothing, &len) == KIT_NOTHING);
+    CHECK(!kit_streams_text(&list, 0, 0, text, sizeof text, &len) && is(text, len, "app"));
+    CHECK(!kit_streams_text(&list, 1, 1, text, sizeof text, &len) && is(text, len, "size"));
+    CHECK(!kit_streams_text(&list, 1, 2, text, sizeof text, &len) && is(text, len, "By"));
+    CHECK(kit_streams_text(&list, 1, 3, text, sizeof text, &len) == KIT_BAD_NUMBER && len == 2);
+    CHECK(kit_streams_text(&list, 2, 1, text, sizeof text, &len) == KIT_NO_ITEM && kit_streams_text(&nothing, 0, 0, text, 1, &len) == KIT_NOTHING);
+    CHECK(!kit_streams_shape(&list, 0, &shape, &many) && shape == 0 && many == 0 && !kit_streams_shape(&list, 1, &shape, &many));
+    CHECK(shape == 3 && many == 15 && kit_streams_shape(&list, 2, &shape, &many) == KIT_NO_ITEM);
+    CHECK(kit_streams_shape(&nothing, 0, &shape, &many) == KIT_NOTHING && shape == 3 && many == 15);
+    CHECK(!kit_streams_bounds(&list, 1, bounds, 20, &len) && len == 15 && bounds[0] == 0 && bounds[1] == 5 && bounds[14] == 10000);
+    CHECK(kit_streams_bounds(&list, 2, bounds, 20, &len) == KIT_NO_ITEM && kit_streams_bounds(&nothing, 0, bounds, 20, &len) == KIT_NOTHING);
+    CHECK(kit_ask_stream(&ask, &nothing, 0) == KIT_NOTHING && kit_ask_stream(&ask, &list, 2) == KIT_NO_ITEM && !ask.handle.full);
+    EACH_GROWTH(kit_ask_stream(&ask, &list, 0), !ask.handle.full);
+    CHECK(kit_ask_stream(&ask, &list, 0) == KIT_FULL);
+
+    CHECK(!kit_writer_start(&writer, plan, TEXT("shop"), 8, 9, 100) && !kit_writer_measure(&writer, 0, four, 7, &place));
+    CHECK(kit_writer_measure(&writer, 0, four, INT64_MAX, &place) == KIT_OVERFLOW);
+    CHECK(!kit_streams_text(&list, place, 1, text, sizeof text, &len) && is(text, len, "requests"));
+    CHECK(!kit_writer_collect(&writer, 200, &made, &place) && !kit_gateway_open(&gateway, 5) && !kit_gateway_take(&gateway, &made, &changed));
+    CHECK(!kit_gateway_rows(&gateway, &ask, &rows) && !kit_rows_sum(&rows, 0, &total) && total == 7);
+    CHECK(!kit_rows_wide_sum(&rows, 0, &place, &second) && place == 0 && second == 7 && kit_default_bounds(bounds, 20) == 15);
+    CHECK(kit_rows_wide_count(&rows, 0, &place, &second) == KIT_WRONG_SHAPE && kit_rows_wide_sum(&rows, 1, &place, &second) == KIT_NO_ROW);
+    EACH_GROWTH(kit_rows_attributes(&rows, 0, &set), !set.handle.full);
+    CHECK(kit_rows_attributes(&rows, 0, &set) == KIT_FULL);
+    sets(&set);
+    kit_attributes_free(&set);
+    CHECK(kit_rows_attributes(&rows, 1, &set) == KIT_NO_ROW && !set.handle.full);
+
+    uint32_t id = 77;
+    uint64_t high = 77, low = 77, start = 77, time = 77;
+    CHECK(!kit_gateway_read(&gateway, &id, &len) && id == 5 && len == 1);
+    kept(&gateway);
+    CHECK(kit_gateway_streams(&gateway, &list) == KIT_FULL && kit_gateway_streams(&no_gateway, &nothing) == KIT_NOTHING && !nothing.handle.full);
+    EACH_GROWTH(kit_gateway_streams(&gateway, &nothing), !nothing.handle.full && gateway.handle.full);
+    CHECK(!kit_streams_len(&nothing, &len) && len == 1 && !kit_streams_text(&nothing, 0, 1, text, sizeof text, &len) && is(text, len, "requests"));
+    CHECK(!kit_export_read(&made, &high, &low, &start, &time, &len) && high == 8 && low == 9 && start == 100 && time == 200 && len == 1);
+    CHECK(!kit_export_service(&made, text, sizeof text, &len) && is(text, len, "shop"));
+    kit_handle *all[] = {&list.handle, &nothing.handle, &writer.handle, &made.handle, &gateway.handle, &ask.handle, &rows.handle};
+    for (size_t i = 0; i < sizeof all / sizeof *all; i++) kit_free(all[i]);
+    CHECK(kit_gateway_read(&gateway, &id, &len) == KIT_NOTHING && kit_export_service(&made, text, sizeof text, &len) == KIT_NOTHING);
+    CHECK(kit_export_read(&made, &high, &low, &start, &time, &len) == KIT_NOTHING && kit_rows_attributes(&rows, 0, &set) == KIT_NOTHING);
+}
+
 int main(void) {
-    kit_handle plan = KIT_EMPTY, none = KIT_EMPTY, four = KIT_EMPTY;
+    kit_plan plan = KIT_EMPTY;
+    kit_attributes none = KIT_EMPTY, four = KIT_EMPTY;
     views();
     plans(&plan);
     attributes(&none, &four);
@@ -736,6 +880,9 @@ int main(void) {
     logs_in(&none, &four);
     encodings(&plan, &none);
     told(&plan, &none);
-    kit_free(&plan), kit_free(&none), kit_free(&four);
+    texts();
+    sets(&four);
+    streams(&plan, &four);
+    kit_plan_free(&plan), kit_attributes_free(&none), kit_attributes_free(&four);
     return 0;
 }

@@ -7,11 +7,14 @@ The archive is crates/kit_c/out/libkit_c.a, which `rt lib` builds in crates/kit_
 proved here. The declarations are held to the exports (embed/build). Then the first script, in C and C++ under each
 compiler that is there, in Rust, Go and Python: each must print examples/first.out.
 
-In C every refusal is raised once, each growth of each call is refused in turn, threads record, logs that are taken in come to what one
-writer records one by one, and exports go as bytes, which are then changed, cut and made up, or of texts and sets that were picked to be
-slow, each plainly and under AddressSanitizer with its leak check. In Rust, Go and Python the tests run, and callers in C and Rust that
-misuse the library must not compile. Then exports between processes: examples/pipe, a writer in C and a gateway in Rust, and
-examples/broker, where there is a redis-server.
+In C every refusal is raised once, with what it says, each growth of each call is refused in turn, threads record and threads read, logs that
+are taken in come to what one writer records one by one, and exports go as bytes, which are then changed, cut and made up, or of texts and
+sets that were picked to be slow, each plainly and under AddressSanitizer and UBSan with the leak check. A generic exporter prints all that a
+gateway holds. Under valgrind, where it is, refusals are raised, and helgrind looks for races of calls that only read.
+
+A handle of each kind in the place of each other is refused by each compiler of C and C++ (kinds.py). In Rust, Go and Python the tests run,
+and callers in C and Rust that misuse the library must not compile. The shared library has its name, and gives the calls of the header alone.
+Then exports between processes: examples/pipe, a writer in C and a gateway in Rust, and examples/broker, where there is a redis-server.
 
 The lines that docs/EMBEDDING.md has one type are run twice over one folder, and its table of what wrappers lack is compared with them
 (lacks.py). What the machine has not is told and passed over.
@@ -31,15 +34,17 @@ EMBED = TOP / "embed"
 HERE = TOP / "tests" / "embed"
 ARCHIVE = TOP / "crates" / "kit_c" / "out" / "libkit_c.a"
 WANTED = (TOP / "examples" / "first.out").read_bytes()
+EXPORTED = (HERE / "exporter.out").read_bytes()
 PIPE, BROKER = TOP / "examples" / "pipe", TOP / "examples" / "broker"
 C = ["-std=c11", "-Wall", "-Wextra", "-Werror"]
 CPP = ["-std=c++17", "-Wall", "-Wextra", "-Werror"]
-ASAN = ["-g", "-fsanitize=address", "-fno-omit-frame-pointer"]
+ASAN = ["-g", "-fsanitize=address,undefined", "-fno-sanitize-recover=all", "-fno-omit-frame-pointer"]
 # How long a command may take: some take a minute alone, and more beside proofs.
 SECONDS = 600
 FEW = ("2000", "50000")
 FEW_LISTS = ("1000",)
 FEW_POINTS = ("1024",)
+FEW_READS = "4"
 WRAPPED = ["-Wl,--wrap=malloc,--wrap=realloc"]
 ERROR = re.compile(r"^// (error\[E\d+\])$", re.M)
 WARNING = re.compile(r"^// error: ([\w-]+)$", re.M)
@@ -80,11 +85,17 @@ class Run:
             self.run(what, program, *words, prints=prints, env={**os.environ, "ASAN_OPTIONS": "detect_leaks=1"})
 
     def covered(self):
-        """Whether handles.c has a row for each call that the header has, and refusals.c raises each code, but for one that takes too long."""
+        """Whether calls.h has a row for each call that the header has, which reads what the header says, and refusals.c raises each code, but for
+        one that takes too long."""
         header = (EMBED / "c" / "kotskhin.h").read_text(encoding="utf-8")
-        wanted = set(re.findall(r"int32_t kit_(\w+)\(", header))
-        rows = set(re.findall(r"ROW\((\w+),", (HERE / "handles.c").read_text(encoding="utf-8"))) - {"name"}
-        self.say("C: handles.c has each call", f"not {sorted(wanted ^ rows)}" if wanted != rows else None)
+        wanted, rows = set(), set()
+        for name, given in re.findall(r"KIT_CHECKED int32_t kit_(\w+)\(([^)]*)\);", header):
+            handles = re.findall(r"(KIT_READS )?kit_(?!taken)\w+ \*", given)
+            wanted.add((name, *(bool(it) for it in handles)))
+        for name, hands in re.findall(r"ROW\((\w+), (\{[^()]*\})\)", (HERE / "calls.h").read_text(encoding="utf-8")):
+            rows.add((name, *("READ" in it for it in re.findall(r"\{(\w+),", hands))))
+        fault = f"not {sorted(it[0] for it in wanted ^ rows)}" if wanted != rows else None
+        self.say("C: calls.h has each call, and what it reads", fault)
         answers = re.search(r"What calls answer.*?};", header, re.S)[0]
         codes = set(re.findall(r"(KIT_\w+) = [1-9]", answers)) - {"KIT_EXHAUSTED"}
         raised = set(re.findall(r"== (KIT_\w+)", (HERE / "refusals.c").read_text(encoding="utf-8")))
@@ -96,17 +107,44 @@ class Run:
             if not shutil.which(compiler):
                 print(f"C: there is no {compiler}")
                 continue
-            for how, flags in (("", ["-O2"]), (" under AddressSanitizer", ASAN)):
+            self.run(f"C, {compiler}: a kind in the place of another", sys.executable, "-B", HERE / "kinds.py", self.kit / "include", compiler)
+            for how, flags in (("", ["-O2"]), (" under sanitizers", ASAN)):
                 self.compiled(f"C, {compiler}{how}: the first script", compiler, EMBED / "c" / "first.c", C + flags, WANTED)
+                self.compiled(f"C, {compiler}{how}: an exporter", compiler, EMBED / "c" / "exporter.c", C + flags, EXPORTED)
                 self.compiled(f"C, {compiler}{how}: refusals", compiler, HERE / "refusals.c", C + flags + WRAPPED)
                 self.compiled(f"C, {compiler}{how}: handles", compiler, HERE / "handles.c", C + flags + WRAPPED)
                 self.compiled(f"C, {compiler}{how}: threads", compiler, HERE / "threads.c", C + flags)
+                self.compiled(f"C, {compiler}{how}: threads that read", compiler, HERE / "reads.c", C + flags)
                 self.compiled(f"C, {compiler}{how}: recorders", compiler, HERE / "taken_in.c", C + flags, words=FEW_LISTS if how else ())
                 self.compiled(f"C, {compiler}{how}: bytes", compiler, HERE / "mutated.c", C + flags + WRAPPED, words=FEW if how else ())
                 self.compiled(f"C, {compiler}{how}: picked texts and sets", compiler, HERE / "chosen.c", C + flags, words=FEW_POINTS if how else ())
             self.installed(compiler)
+            self.stopped(compiler)
             for caller in sorted((HERE / "misuse").glob("*.c")):
                 self.warned(compiler, caller)
+
+    def watched(self):
+        """Under valgrind, which sees into the archive where sanitizers do not: every refusal, and threads that read."""
+        compiler = next((it for it in ("gcc", "clang") if shutil.which(it)), None)
+        if not compiler or not shutil.which("valgrind"):
+            print("C: there is no valgrind, or no compiler")
+            return
+        program, libraries = self.room / "program", [it for it in self.linked if not it.startswith("-I")]
+        for what, source, flags, tool in (
+            ("every refusal", "refusals.c", WRAPPED, ["--leak-check=full", "--track-origins=no"]),
+            ("threads that read", "reads.c", [], ["--tool=helgrind"]),
+        ):
+            command = [compiler, *C, "-g", "-O1", *flags, self.linked[0], HERE / source, *libraries, "-o", program]
+            if self.run(f"C, valgrind: {what}: compiled", *command):
+                self.run(f"C, valgrind: {what}", "valgrind", "-q", "--error-exitcode=9", *tool, program, FEW_READS)
+
+    def stopped(self, compiler):
+        """UBSan stops at a null pointer."""
+        program, libraries = self.room / "program", [it for it in self.linked if not it.startswith("-I")]
+        if self.run(f"C, {compiler}: a null pointer: compiled", compiler, *C, *ASAN, self.linked[0], HERE / "null.c", *libraries, "-o", program):
+            done = subprocess.run([program], capture_output=True, text=True, check=False)
+            is_told = done.returncode and "null pointer passed as argument 1" in done.stderr
+            self.say(f"C, {compiler}: UBSan stops at a null pointer", None if is_told else f"status {done.returncode}\n{done.stderr}")
 
     def warned(self, compiler, caller):
         """A caller that a compiler must warn of, and the warning that says so."""
@@ -133,7 +171,8 @@ class Run:
             if not shutil.which(compiler):
                 print(f"C++: there is no {compiler}")
                 continue
-            for how, flags in (("", ["-O2"]), (" under AddressSanitizer", ASAN)):
+            self.run(f"C++, {compiler}: a kind in the place of another", sys.executable, "-B", HERE / "kinds.py", self.kit / "include", compiler)
+            for how, flags in (("", ["-O2"]), (" under sanitizers", ASAN)):
                 self.compiled(f"C++, {compiler}{how}: the first script", compiler, EMBED / "cpp" / "first.cpp", CPP + flags, WANTED)
                 self.compiled(f"C++, {compiler}{how}: recorders", compiler, HERE / "recorders.cpp", CPP + flags)
 
@@ -170,10 +209,23 @@ class Run:
             self.run("Go: the first script", program, prints=WANTED)
         self.run("Go: tests", "go", "test", "-count=1", ".", **go)
 
+    def shared(self):
+        """The shared library has its name, and gives the calls of the header and nothing else."""
+        shared = self.kit / "shared" / "libkotskhin.so.0"
+        if not shared.is_file():
+            print("There is no shared library, which embed/build makes where there is a compiler")
+            return
+        told = subprocess.run(["nm", "-D", "--defined-only", str(shared)], capture_output=True, text=True, check=False).stdout
+        header = (self.kit / "include" / "kotskhin.h").read_text(encoding="utf-8")
+        wanted = set(re.findall(r"^KIT_(?:CALL|CHECKED) \w+ (kit_\w+)\(", header, re.M))
+        other = {line.split()[-1] for line in told.splitlines()} ^ wanted
+        self.say("Shared library: the calls of the header alone", f"not {sorted(other)}" if other else None)
+        told = subprocess.run(["readelf", "-d", str(shared)], capture_output=True, text=True, check=False).stdout
+        self.say("Shared library: its name", None if "soname: [libkotskhin.so.0]" in told else told)
+
     def python(self):
         shared = self.kit / "shared" / "libkotskhin.so.0"
         if not shared.is_file():
-            print("Python: there is no shared library, which embed/build makes where there is a compiler")
             return
         given = {**os.environ, "KOTSKHIN_SO": str(shared)}
         self.run("Python: the first script", sys.executable, "-B", EMBED / "python" / "first.py", prints=WANTED, env=given)
@@ -251,7 +303,7 @@ def main():
         if len(sys.argv) < 2 and not laid_out(kit):
             return 1
         run = Run(kit, room)
-        for language in (run.c, run.cpp, run.rust, run.pipe, run.go, run.python, run.documented):
+        for language in (run.c, run.watched, run.cpp, run.rust, run.pipe, run.go, run.shared, run.python, run.documented):
             language()
     print(f"{run.passed} passed, {run.failed} failed, in {time.time() - began:.0f} s")
     return 1 if run.failed else 0

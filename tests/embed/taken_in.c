@@ -46,7 +46,9 @@ struct list {
 
 /* A writer with two logs, what they have, and the writer that records one by one. Of each pair the number, and how many have one. */
 struct split {
-    kit_handle writer, recorders[2], one_by_one;
+    kit_writer writer, one_by_one;
+    kit_seat seat;
+    kit_recorder recorders[2];
     bool shared;
     struct list noted[2];
     size_t numbers[INSTRUMENTS][SETS], held;
@@ -55,7 +57,8 @@ struct split {
 };
 
 static unsigned long list_number, seed = 1;
-static kit_handle sets[SETS], plans[PLANS];
+static kit_attributes sets[SETS];
+static kit_plan plans[PLANS];
 static const uint64_t limits[PLANS] = {1, 2, 3, 100};
 /* How often a log was full, a recording was refused, and the overflow set had values. */
 static unsigned long full, refused, overflown;
@@ -69,13 +72,13 @@ static uint64_t random_number(uint64_t below) {
 }
 
 static void make_set(size_t number, const char *route, int64_t status, bool overflow) {
-    kit_handle pairs = KIT_EMPTY;
+    kit_pairs pairs = KIT_EMPTY;
     uint64_t place = 0;
     if (status) CHECK(!kit_pairs_add_whole(&pairs, TEXT("status"), status));
     if (route) CHECK(!kit_pairs_add_text(&pairs, TEXT("route"), (const uint8_t *)route, strlen(route)));
     if (overflow) CHECK(!kit_pairs_add_truth(&pairs, TEXT("otel.metric.overflow"), true));
     CHECK(!kit_attributes_make(&sets[number], &pairs, &place));
-    kit_free(&pairs);
+    kit_pairs_free(&pairs);
 }
 
 static void make_sets(void) {
@@ -87,7 +90,10 @@ static void make_sets(void) {
 /* Views: the requests by route alone, and as they are; the sizes in buckets. */
 static void make_plans(void) {
     static const int64_t bounds[] = {2, 5};
-    kit_handle instruments = KIT_EMPTY, list = KIT_EMPTY, views[3] = {KIT_EMPTY, KIT_EMPTY, KIT_EMPTY}, route = KIT_EMPTY;
+    kit_instruments instruments = KIT_EMPTY;
+    kit_views list = KIT_EMPTY;
+    kit_view views[3] = {KIT_EMPTY, KIT_EMPTY, KIT_EMPTY};
+    kit_keys route = KIT_EMPTY;
     uint64_t place = 0, second = 0;
     CHECK(!kit_instruments_add(&instruments, TEXT("app"), TEXT("requests"), TEXT("1"), KIT_COUNTER));
     CHECK(!kit_instruments_add(&instruments, TEXT("app"), TEXT("size"), TEXT("By"), KIT_HISTOGRAM));
@@ -99,27 +105,29 @@ static void make_plans(void) {
     CHECK(!kit_view_of_name(&views[2], TEXT("size")) && !kit_view_buckets(&views[2], bounds, 2));
     for (int i = 0; i < 3; i++) {
         CHECK(!kit_views_add(&list, &views[i]));
-        kit_free(&views[i]);
+        kit_view_free(&views[i]);
     }
     for (int i = 0; i < PLANS; i++) {
         CHECK(!kit_plan_build(&plans[i], &instruments, &list, limits[i], &place, &second));
     }
-    kit_free(&instruments), kit_free(&list), kit_free(&route);
+    kit_instruments_free(&instruments), kit_views_free(&list), kit_keys_free(&route);
 }
 
-static void start(kit_handle *writer, size_t plan) {
+static void start(kit_writer *writer, size_t plan) {
     CHECK(!kit_writer_start(writer, &plans[plan], TEXT("shop"), 0, 1, 100));
 }
 
-static int32_t measure(kit_handle *writer, struct recording it, uint64_t *place) {
+static int32_t measure(kit_writer *writer, struct recording it, uint64_t *place) {
     if (it.lost) return kit_writer_measure_held(writer, NOT_HELD, it.value, place);
     return kit_writer_measure(writer, it.instrument, &sets[it.set], it.value, place);
 }
 
 /* The table of a stream at a gateway, which the caller frees. */
-static char *table_of(kit_handle *gateway, enum stream stream) {
+static char *table_of(kit_gateway *gateway, enum stream stream) {
     static const int64_t bounds[] = {2, 5};
-    kit_handle ask = KIT_EMPTY, rows = KIT_EMPTY, table = KIT_EMPTY;
+    kit_ask ask = KIT_EMPTY;
+    kit_rows rows = KIT_EMPTY;
+    kit_text table = KIT_EMPTY;
     size_t len = 0, room = 4096;
     char *text = calloc(1, room);
     switch (stream) {
@@ -131,11 +139,11 @@ static char *table_of(kit_handle *gateway, enum stream stream) {
     }
     CHECK(text && !kit_gateway_rows(gateway, &ask, &rows) && !kit_rows_table(&rows, &table));
     CHECK(!kit_text_copy(&table, (uint8_t *)text, room - 1, &len) && len < room);
-    kit_free(&ask), kit_free(&rows), kit_free(&table);
+    kit_ask_free(&ask), kit_rows_free(&rows), kit_text_free(&table);
     return text;
 }
 
-static bool tells(kit_handle *gateway, enum stream stream, const char *wanted) {
+static bool tells(kit_gateway *gateway, enum stream stream, const char *wanted) {
     char *text = table_of(gateway, stream);
     bool same = !strcmp(text, wanted);
     if (!same) printf("%s", text);
@@ -143,27 +151,22 @@ static bool tells(kit_handle *gateway, enum stream stream, const char *wanted) {
     return same;
 }
 
-static int32_t collect(kit_handle *writer, bool shared, uint64_t time, kit_handle *made) {
-    uint64_t place = 0;
-    return shared ? kit_seat_collect(writer, time, made, &place) : kit_writer_collect(writer, time, made, &place);
-}
-
-/* What a writer collects at a time: its bytes, which the caller frees, and a gateway that took it. */
-static uint8_t *collected(kit_handle *writer, bool shared, uint64_t time, size_t *len, kit_handle *gateway) {
-    kit_handle made = KIT_EMPTY, bytes = KIT_EMPTY;
+/* The bytes of an export, which the caller frees, and a gateway that took it. */
+static uint8_t *delivered(kit_export *made, size_t *len, kit_gateway *gateway) {
+    kit_bytes bytes = KIT_EMPTY;
     uint64_t changed = 0;
-    CHECK(!collect(writer, shared, time, &made) && !kit_export_encode(&made, &bytes));
+    CHECK(!kit_export_encode(made, &bytes));
     uint8_t none = 0, *copy = NULL;
     CHECK(!kit_bytes_copy(&bytes, &none, 0, len));
     copy = malloc(*len);
     CHECK(copy && !kit_bytes_copy(&bytes, copy, *len, len));
-    CHECK(!kit_gateway_open(gateway, 1) && !kit_gateway_take(gateway, &made, &changed));
-    kit_free(&made), kit_free(&bytes);
+    CHECK(!kit_gateway_open(gateway, 1) && !kit_gateway_take(gateway, made, &changed));
+    kit_export_free(made), kit_bytes_free(&bytes);
     return copy;
 }
 
 /* Whether two gateways answer with the same tables; it is counted where the overflow set has a row. */
-static void same_tables(kit_handle *gateway, kit_handle *other) {
+static void same_tables(kit_gateway *gateway, kit_gateway *other) {
     bool overflows = false;
     for (enum stream stream = 0; stream < STREAMS; stream++) {
         char *table = table_of(gateway, stream);
@@ -176,16 +179,19 @@ static void same_tables(kit_handle *gateway, kit_handle *other) {
 
 /* Whether both writers collect the same, in bytes and in tables. */
 static void same(struct split *all) {
-    kit_handle gateway = KIT_EMPTY, second = KIT_EMPTY;
+    kit_gateway gateway = KIT_EMPTY, second = KIT_EMPTY;
     size_t len = 0, other_len = 0;
-    uint8_t *bytes = collected(&all->writer, all->shared, all->time, &len, &gateway);
-    uint8_t *others = collected(&all->one_by_one, false, all->time++, &other_len, &second);
+    kit_export made = KIT_EMPTY, other = KIT_EMPTY;
+    uint64_t place = 0, time = all->time++;
+    CHECK(!(all->shared ? kit_seat_collect(&all->seat, time, &made, &place) : kit_writer_collect(&all->writer, time, &made, &place)));
+    CHECK(!kit_writer_collect(&all->one_by_one, time, &other, &place));
+    uint8_t *bytes = delivered(&made, &len, &gateway), *others = delivered(&other, &other_len, &second);
     same_tables(&gateway, &second);
     CHECK(len == other_len && !memcmp(bytes, others, len));
-    free(bytes), free(others), kit_free(&gateway), kit_free(&second);
+    free(bytes), free(others), kit_gateway_free(&gateway), kit_gateway_free(&second);
 }
 
-static size_t len_of(kit_handle *recorder) {
+static size_t len_of(kit_recorder *recorder) {
     size_t len = 77;
     CHECK(!kit_recorder_len(recorder, &len));
     return len;
@@ -195,7 +201,7 @@ static size_t len_of(kit_handle *recorder) {
 static size_t number_of(struct split *all, struct recording it) {
     size_t number = 77, *known = &all->numbers[it.instrument][it.set];
     bool *has = &all->has_number[it.instrument][it.set];
-    int32_t code = all->shared ? kit_seat_hold(&all->writer, it.instrument, &sets[it.set], &number)
+    int32_t code = all->shared ? kit_seat_hold(&all->seat, it.instrument, &sets[it.set], &number)
                                : kit_writer_hold(&all->writer, it.instrument, &sets[it.set], &number);
     CHECK(!code);
     if (!*has) *has = true, *known = all->held++;
@@ -208,7 +214,7 @@ static void take_in(struct split *all, size_t which, size_t most) {
     struct list *noted = &all->noted[which];
     kit_taken taken = {.recorded = 77, .refused = 77, .code = 77, .first = 77, .place = 77}, wanted = {0};
     size_t count = most < noted->len ? most : noted->len;
-    CHECK(!(all->shared ? kit_seat_take_in(&all->writer, &all->recorders[which], most, &taken)
+    CHECK(!(all->shared ? kit_seat_take_in(&all->seat, &all->recorders[which], most, &taken)
                         : kit_writer_take_in(&all->writer, &all->recorders[which], most, &taken)));
     for (size_t i = 0; i < count; i++) {
         uint64_t place = 0;
@@ -230,10 +236,10 @@ static void measure_both(struct split *all, struct recording it, bool by_number)
     size_t number = it.lost ? NOT_HELD : by_number ? number_of(all, it) : 77;
     int32_t code;
     if (it.lost || by_number) {
-        code = all->shared ? kit_seat_measure_held(&all->writer, number, it.value, &place)
+        code = all->shared ? kit_seat_measure_held(&all->seat, number, it.value, &place)
                            : kit_writer_measure_held(&all->writer, number, it.value, &place);
     } else {
-        code = all->shared ? kit_seat_measure(&all->writer, it.instrument, &sets[it.set], it.value, &place)
+        code = all->shared ? kit_seat_measure(&all->seat, it.instrument, &sets[it.set], it.value, &place)
                            : kit_writer_measure(&all->writer, it.instrument, &sets[it.set], it.value, &place);
     }
     CHECK(code == measure(&all->one_by_one, it, &other) && place == other);
@@ -242,7 +248,7 @@ static void measure_both(struct split *all, struct recording it, bool by_number)
 
 /* A log notes a recording, whatever a writer will say of it. Where it is full it is taken in first, and then it has room. */
 static void note(struct split *all, size_t which, struct recording it, bool by_number) {
-    kit_handle *recorder = &all->recorders[which];
+    kit_recorder *recorder = &all->recorders[which];
     by_number = by_number && it.instrument < INSTRUMENTS;
     size_t number = it.lost ? NOT_HELD : by_number ? number_of(all, it) : 77;
     for (;;) {
@@ -292,28 +298,31 @@ static void split_at_random(void) {
             all.noted[1].len = 0;
         }
         if (shares && !all.shared && !random_number(8)) {
-            CHECK(!kit_writer_share(&all.writer));
+            CHECK(!kit_writer_share(&all.writer, &all.seat));
             all.shared = true;
         }
     }
     size_t first = random_number(2);
     take_in(&all, first, SIZE_MAX), take_in(&all, !first, SIZE_MAX);
     same(&all);
-    kit_handle *handles[] = {&all.writer, &all.one_by_one, &all.recorders[0], &all.recorders[1]};
-    for (size_t i = 0; i < 4; i++) kit_free(handles[i]);
+    kit_writer_free(&all.writer), kit_writer_free(&all.one_by_one), kit_seat_free(&all.seat);
+    for (size_t i = 0; i < 2; i++) kit_recorder_free(&all.recorders[i]);
 }
 
-static int32_t noted(kit_handle *recorder, enum instrument instrument, size_t set, int64_t value) {
+static int32_t noted(kit_recorder *recorder, enum instrument instrument, size_t set, int64_t value) {
     return kit_recorder_measure(recorder, instrument, &sets[set], value);
 }
 
 /* What a writer collects at a time comes to these tables. */
-static void collects(kit_handle *writer, uint64_t time, const char *by_route, const char *each, const char *sizes) {
-    kit_handle gateway = KIT_EMPTY;
+static void collects(kit_writer *writer, uint64_t time, const char *by_route, const char *each, const char *sizes) {
+    kit_gateway gateway = KIT_EMPTY;
+    kit_export made = KIT_EMPTY;
+    uint64_t place = 0;
     size_t len = 0;
-    free(collected(writer, false, time, &len, &gateway));
+    CHECK(!kit_writer_collect(writer, time, &made, &place));
+    free(delivered(&made, &len, &gateway));
     CHECK(tells(&gateway, BY_ROUTE, by_route) && tells(&gateway, EACH, each) && tells(&gateway, SIZES, sizes));
-    kit_free(&gateway);
+    kit_gateway_free(&gateway);
 }
 
 #define HEAD "attributes                   points  conflicts  total\n"
@@ -328,7 +337,7 @@ static const char *const ALL_SIZES = HEAD
     "{route=\"/\"}                       1          0  count=1 sum=3 buckets=0,1,0 min=3 max=3\n"
     "{route=\"/cart\"}                   1          0  count=1 sum=7 buckets=0,0,1 min=7 max=7\n";
 
-static bool takes(kit_handle *writer, kit_handle *recorder, size_t most, kit_taken wanted) {
+static bool takes(kit_writer *writer, kit_recorder *recorder, size_t most, kit_taken wanted) {
     kit_taken taken = {.recorded = 77, .refused = 77, .code = 77, .first = 77, .place = 77};
     return !kit_writer_take_in(writer, recorder, most, &taken) && taken.recorded == wanted.recorded && taken.refused == wanted.refused &&
            taken.code == wanted.code && taken.first == wanted.first && taken.place == wanted.place;
@@ -337,7 +346,8 @@ static bool takes(kit_handle *writer, kit_handle *recorder, size_t most, kit_tak
 /* Logs at the limit 2, whose tables are known: the limit is reached in their midst, the overflow set is recorded itself, one view keeps the
  * route alone, and a value below 0 and a total that would leave its range are refused by themselves. */
 static void known(void) {
-    kit_handle writer = KIT_EMPTY, recorder = KIT_EMPTY;
+    kit_writer writer = KIT_EMPTY;
+    kit_recorder recorder = KIT_EMPTY;
     start(&writer, TWO_SETS);
     CHECK(!kit_recorder_new(&recorder, ROOM));
     CHECK(!noted(&recorder, REQUESTS, 2, 1) && !noted(&recorder, REQUESTS, 1, 2));
@@ -355,11 +365,12 @@ static void known(void) {
     kit_taken wide = {.recorded = 1, .refused = 2, .code = KIT_OVERFLOW, .first = 1, .place = BY_ROUTE};
     CHECK(takes(&writer, &recorder, SIZE_MAX, wide) && !len_of(&recorder));
     collects(&writer, 160, BY_ROUTES, ALL_ROUTES, ALL_SIZES);
-    kit_free(&writer), kit_free(&recorder);
+    kit_writer_free(&writer), kit_recorder_free(&recorder);
 }
 
 static pthread_mutex_t lock = PTHREAD_MUTEX_INITIALIZER;
-static kit_handle gathered, own[THREADS];
+static kit_writer gathered;
+static kit_recorder own[THREADS];
 
 /* The number of each pair, which are held before threads begin. */
 static size_t numbers[INSTRUMENTS][SETS];
@@ -370,7 +381,7 @@ static struct recording recording_of(size_t thread, size_t time) {
     return it;
 }
 
-static void gather(kit_handle *recorder) {
+static void gather(kit_recorder *recorder) {
     kit_taken taken = {0};
     pthread_mutex_lock(&lock);
     CHECK(!kit_writer_take_in(&gathered, recorder, SIZE_MAX, &taken) && !taken.refused);
@@ -378,7 +389,7 @@ static void gather(kit_handle *recorder) {
 }
 
 static void *work(void *at) {
-    kit_handle *recorder = at;
+    kit_recorder *recorder = at;
     size_t thread = (size_t)(recorder - own);
     for (size_t time = 0; time < TIMES; time++) {
         struct recording it = recording_of(thread, time);
@@ -392,7 +403,9 @@ static void *work(void *at) {
 /* Threads with a log each beside one that collects: after the joins the tables are those of one writer that recorded all. */
 static void threads(void) {
     pthread_t started[THREADS];
-    kit_handle whole = KIT_EMPTY, gateway = KIT_EMPTY, other = KIT_EMPTY, made = KIT_EMPTY;
+    kit_writer whole = KIT_EMPTY;
+    kit_gateway gateway = KIT_EMPTY, other = KIT_EMPTY;
+    kit_export made = KIT_EMPTY;
     uint64_t place = 77, changed = 0, time = 101;
     size_t len = 0;
     start(&gathered, NO_LIMIT), start(&whole, NO_LIMIT);
@@ -407,15 +420,16 @@ static void threads(void) {
         CHECK(!kit_writer_collect(&gathered, time, &made, &place));
         pthread_mutex_unlock(&lock);
         CHECK(!kit_gateway_take(&gateway, &made, &changed));
-        kit_free(&made);
+        kit_export_free(&made);
     }
     for (size_t i = 0; i < THREADS; i++) CHECK(!pthread_join(started[i], NULL) && !len_of(&own[i]));
     for (size_t i = 0; i < THREADS * TIMES; i++) CHECK(!measure(&whole, recording_of(i / TIMES, i % TIMES), &place));
-    free(collected(&whole, false, 200, &len, &other));
+    CHECK(!kit_writer_collect(&whole, 200, &made, &place));
+    free(delivered(&made, &len, &other));
     CHECK(!kit_writer_collect(&gathered, 200, &made, &place) && !kit_gateway_take(&gateway, &made, &changed));
     same_tables(&gateway, &other);
-    for (size_t i = 0; i < THREADS; i++) kit_free(&own[i]);
-    kit_free(&gathered), kit_free(&whole), kit_free(&gateway), kit_free(&other), kit_free(&made);
+    for (size_t i = 0; i < THREADS; i++) kit_recorder_free(&own[i]);
+    kit_writer_free(&gathered), kit_writer_free(&whole), kit_gateway_free(&gateway), kit_gateway_free(&other), kit_export_free(&made);
 }
 
 int main(int words, char **word) {
@@ -425,7 +439,7 @@ int main(int words, char **word) {
     for (list_number = 1; list_number <= lists; list_number++) split_at_random();
     CHECK(full > lists / 10 && refused > lists / 100 && overflown > lists / 10); /* (none of it is rare) */
     threads();
-    for (size_t i = 0; i < SETS; i++) kit_free(&sets[i]);
-    for (size_t i = 0; i < PLANS; i++) kit_free(&plans[i]);
+    for (size_t i = 0; i < SETS; i++) kit_attributes_free(&sets[i]);
+    for (size_t i = 0; i < PLANS; i++) kit_plan_free(&plans[i]);
     return 0;
 }

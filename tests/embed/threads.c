@@ -12,10 +12,13 @@ enum { THREADS = 4, TIMES = 25000, OFTEN = 1000, PIECE = 300 };
 
 static pthread_mutex_t lock = PTHREAD_MUTEX_INITIALIZER;
 static pthread_mutex_t gathered_lock = PTHREAD_MUTEX_INITIALIZER;
-static kit_handle plan, shared, gathered, own[THREADS], seats[THREADS], recorders[THREADS];
+static kit_plan plan;
+static kit_writer shared, gathered, own[THREADS];
+static kit_seat seats[THREADS];
+static kit_recorder recorders[THREADS];
 
 /* The writer that gathers takes in what a log has. */
-static bool gather(kit_handle *recorder) {
+static bool gather(kit_recorder *recorder) {
     kit_taken taken;
     pthread_mutex_lock(&gathered_lock);
     int32_t code = kit_writer_take_in(&gathered, recorder, SIZE_MAX, &taken);
@@ -24,7 +27,7 @@ static bool gather(kit_handle *recorder) {
 }
 
 /* The writer that is shared takes in a log by pieces. */
-static bool give(kit_handle *seat, kit_handle *recorder) {
+static bool give(kit_seat *seat, kit_recorder *recorder) {
     kit_taken taken = {0};
     for (size_t left = OFTEN; left; left -= taken.recorded) {
         int32_t code;
@@ -37,8 +40,12 @@ static bool give(kit_handle *seat, kit_handle *recorder) {
 }
 
 static void *work(void *at) {
-    kit_handle *mine = at, *seat = &seats[mine - own], *recorder = &recorders[mine - own];
-    kit_handle pairs = KIT_EMPTY, none = KIT_EMPTY, log = KIT_EMPTY; /* attributes are this thread's own */
+    kit_writer *mine = at;
+    kit_seat *seat = &seats[mine - own];
+    kit_recorder *recorder = &recorders[mine - own];
+    kit_pairs pairs = KIT_EMPTY;
+    kit_attributes none = KIT_EMPTY;
+    kit_recorder log = KIT_EMPTY; /* attributes are this thread's own */
     size_t number = 0;
     uint64_t place = 0;
     if (kit_attributes_make(&none, &pairs, &place) || kit_recorder_new(&log, OFTEN)) return "attributes";
@@ -59,47 +66,48 @@ static void *work(void *at) {
         if (kit_recorder_measure_held(recorder, 0, 1)) return "recorder";
         if (i % OFTEN == OFTEN - 1 && (!gather(recorder) || !give(seat, &log))) return "take in";
     }
-    kit_free(&none), kit_free(&log);
+    kit_attributes_free(&none), kit_recorder_free(&log);
     return NULL;
 }
 
-static int bring(kit_handle *writer, kit_handle *gateway) {
-    kit_handle collected = KIT_EMPTY;
+static int bring(kit_writer *writer, kit_gateway *gateway) {
+    kit_export collected = KIT_EMPTY;
     uint64_t place = 0, changed = 0;
     int32_t code = kit_writer_collect(writer, 200, &collected, &place);
     code = code ? code : kit_gateway_take(gateway, &collected, &changed);
-    kit_free(&collected), kit_free(writer);
+    kit_export_free(&collected), kit_writer_free(writer);
     return code;
 }
 
 /* Collects from the writer that gathers, and brings the points. */
-static int bring_gathered(uint64_t time, kit_handle *gateway) {
-    kit_handle collected = KIT_EMPTY;
+static int bring_gathered(uint64_t time, kit_gateway *gateway) {
+    kit_export collected = KIT_EMPTY;
     uint64_t place = 0, changed = 0;
     pthread_mutex_lock(&gathered_lock);
     int32_t code = kit_writer_collect(&gathered, time, &collected, &place);
     pthread_mutex_unlock(&gathered_lock);
     code = code ? code : kit_gateway_take(gateway, &collected, &changed);
-    kit_free(&collected);
+    kit_export_free(&collected);
     return code;
 }
 
 /* Collects by a seat, and brings the points. */
-static int bring_by_seat(kit_handle *seat, uint64_t time, kit_handle *gateway) {
-    kit_handle collected = KIT_EMPTY;
+static int bring_by_seat(kit_seat *seat, uint64_t time, kit_gateway *gateway) {
+    kit_export collected = KIT_EMPTY;
     uint64_t place = 0, changed = 0;
     int32_t code;
     while ((code = kit_seat_collect(seat, time, &collected, &place)) == KIT_BUSY) {
         sched_yield();
     }
     code = code ? code : kit_gateway_take(gateway, &collected, &changed);
-    kit_free(&collected);
+    kit_export_free(&collected);
     return code;
 }
 
 /* The total of the counter that a gateway has, or -1. */
-static int64_t total(kit_handle *gateway) {
-    kit_handle ask = KIT_EMPTY, rows = KIT_EMPTY;
+static int64_t total(kit_gateway *gateway) {
+    kit_ask ask = KIT_EMPTY;
+    kit_rows rows = KIT_EMPTY;
     int64_t told = -1;
     size_t count = 0;
     if (!kit_ask_sum(&ask, TEXT("app"), TEXT("requests"), TEXT("1"), true) && !kit_gateway_rows(gateway, &ask, &rows) &&
@@ -107,41 +115,50 @@ static int64_t total(kit_handle *gateway) {
         told = 0;
         if (count && kit_rows_sum(&rows, 0, &told)) told = -1;
     }
-    kit_free(&ask), kit_free(&rows);
+    kit_ask_free(&ask), kit_rows_free(&rows);
     return told;
 }
 
-static bool tells(kit_handle *gateway, const char *end) {
-    kit_handle ask = KIT_EMPTY, rows = KIT_EMPTY, table = KIT_EMPTY;
+static bool tells(kit_gateway *gateway, const char *end) {
+    kit_ask ask = KIT_EMPTY;
+    kit_rows rows = KIT_EMPTY;
+    kit_text table = KIT_EMPTY;
     uint8_t text[1024];
     size_t len = 0;
     bool fits = !kit_ask_sum(&ask, TEXT("app"), TEXT("requests"), TEXT("1"), true) && !kit_gateway_rows(gateway, &ask, &rows) &&
                 !kit_rows_table(&rows, &table) && !kit_text_copy(&table, text, sizeof text, &len) && len <= sizeof text &&
                 len >= strlen(end) && !memcmp(text + len - strlen(end), end, strlen(end));
-    kit_free(&ask), kit_free(&rows), kit_free(&table), kit_free(gateway);
+    kit_ask_free(&ask), kit_rows_free(&rows), kit_text_free(&table), kit_gateway_free(gateway);
     return fits;
 }
 
 int main(void) {
-    kit_handle one = KIT_EMPTY, four = KIT_EMPTY, seated = KIT_EMPTY, first = KIT_EMPTY, instruments = KIT_EMPTY, views = KIT_EMPTY;
-    kit_handle whole = KIT_EMPTY, none = KIT_EMPTY;
+    kit_gateway one = KIT_EMPTY, four = KIT_EMPTY, seated = KIT_EMPTY;
+    kit_writer seated_writer = KIT_EMPTY;
+    kit_seat first = KIT_EMPTY;
+    kit_instruments instruments = KIT_EMPTY;
+    kit_views views = KIT_EMPTY;
+    kit_pairs pairs = KIT_EMPTY;
+    kit_gateway whole = KIT_EMPTY;
+    kit_attributes none = KIT_EMPTY;
     size_t number = 0;
     pthread_t threads[THREADS];
     uint64_t place = 0, second = 0;
     if (kit_instruments_add(&instruments, TEXT("app"), TEXT("requests"), TEXT("1"), KIT_COUNTER)) return 1;
     if (kit_plan_build(&plan, &instruments, &views, KIT_DEFAULT_LIMIT, &place, &second)) return 2;
-    kit_free(&instruments);
+    kit_instruments_free(&instruments);
     if (kit_writer_start(&shared, &plan, TEXT("shop"), 0, 9, 100)) return 3;
     if (kit_gateway_open(&one, 1) || kit_gateway_open(&four, 2)) return 4;
     for (int i = 0; i < THREADS; i++) {
         if (kit_writer_start(&own[i], &plan, TEXT("shop"), 0, i + 1, 100)) return 5;
     }
-    if (kit_writer_start(&first, &plan, TEXT("shop"), 0, 99, 100) || kit_writer_share(&first) || kit_gateway_open(&seated, 3)) return 12;
+    if (kit_writer_start(&seated_writer, &plan, TEXT("shop"), 0, 99, 100) || kit_writer_share(&seated_writer, &first)) return 12;
+    if (kit_gateway_open(&seated, 3)) return 12;
     for (int i = 0; i < THREADS; i++) {
         if (kit_seat_split(&first, &seats[i])) return 13;
     }
     if (kit_writer_start(&gathered, &plan, TEXT("shop"), 0, 98, 100) || kit_gateway_open(&whole, 4)) return 17;
-    if (kit_attributes_make(&none, &views, &place) || kit_writer_hold(&gathered, 0, &none, &number) || number) return 18;
+    if (kit_attributes_make(&none, &pairs, &place) || kit_writer_hold(&gathered, 0, &none, &number) || number) return 18;
     for (int i = 0; i < THREADS; i++) {
         if (kit_recorder_new(&recorders[i], OFTEN)) return 19;
     }
@@ -168,14 +185,14 @@ int main(void) {
     if (!tells(&one, "  1          0  100000\n")) return 10;
     if (!tells(&four, "  4          0  100000\n")) return 11;
     for (int i = 0; i < THREADS; i++) {
-        kit_free(&seats[i]);
+        kit_seat_free(&seats[i]);
         size_t left = 77;
         if (kit_recorder_len(&recorders[i], &left) || left) return 22;
-        kit_free(&recorders[i]);
+        kit_recorder_free(&recorders[i]);
     }
     if (bring_gathered(200, &whole) || total(&whole) != 100000) return 23;
-    kit_free(&gathered), kit_free(&whole), kit_free(&none);
+    kit_writer_free(&gathered), kit_gateway_free(&whole), kit_attributes_free(&none);
     if (bring_by_seat(&first, 200, &seated) || total(&seated) != 200000) return 16;
-    kit_free(&first), kit_free(&seated), kit_free(&plan);
+    kit_seat_free(&first), kit_gateway_free(&seated), kit_plan_free(&plan);
     return 0;
 }

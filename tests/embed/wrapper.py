@@ -1,5 +1,6 @@
 """Python's wrapper: what it refuses before a call, what it tells of a refusal, and what is left of a parent's things after a fork."""
 import contextlib
+import ctypes
 import os
 import pathlib
 import subprocess
@@ -8,10 +9,9 @@ import threading
 import unittest
 
 EMBED = pathlib.Path(__file__).resolve().parents[2] / "embed"
-sys.path[:0] = [str(EMBED / "python"), str(EMBED)]
-import declarations
+sys.path.insert(0, str(EMBED / "python"))
 import kotskhin
-from kotskhin import COUNTER, UP_DOWN, Attributes, Code, Export, ForkedError, Gateway, Message, Node, Plan, Recorder, Refused, Writer
+from kotskhin import CODES, COUNTER, UP_DOWN, Attributes, Code, Export, ForkedError, Gateway, Message, Node, Plan, Recorder, Refused, Writer
 
 INSTRUMENTS = [("app", "requests", "1", COUNTER), ("app", "balance", "1", UP_DOWN)]
 
@@ -129,32 +129,32 @@ class Refusals(unittest.TestCase):
             call(*given)
         why = caught.exception
         self.assertEqual((why.code, why.name, (why.place, why.second)), (code, code.name, places))
-        self.assertEqual(str(why), f"{code.name}: {words}")
+        self.assertEqual(str(why), f"{code.name}: {code.says}{words}")
 
     def test_places(self):
         plan, none = Plan(INSTRUMENTS), Attributes()
         writer = Writer(plan, "shop", 1, 100)
         writer.measure(1, none, (1 << 63) - 1)
         bytes_ = bytearray(writer.collect(200).encode())
-        self.refused(Code.TIME_NOT_AFTER, (200, None), "the time is not after 200, the last collection or the start", writer.collect, 200)
-        self.refused(Code.START_NOT_AFTER, (100, None), "the new start is not after 100, the start so far", writer.restart, 50)
-        self.refused(Code.EMPTY_KEY, (1, None), "the key of pair 1 is empty", Attributes, {"a": 1, "": 2})
-        self.refused(Code.EMPTY_KEY, (0, None), "the key of pair 0 is empty", Attributes, {"": 2})
+        self.refused(Code.TIME_NOT_AFTER, (200, None), " (time 200)", writer.collect, 200)
+        self.refused(Code.START_NOT_AFTER, (100, None), " (start 100)", writer.restart, 50)
+        self.refused(Code.EMPTY_KEY, (1, None), " (pair 1)", Attributes, {"a": 1, "": 2})
+        self.refused(Code.EMPTY_KEY, (0, None), " (pair 0)", Attributes, {"": 2})
         bad = [*INSTRUMENTS[:1], ("app", "9 lives", "1", COUNTER)]
-        self.refused(Code.BAD_NAME, (1, None), "the name of instrument 1 breaks the rule of names", Plan, bad)
+        self.refused(Code.BAD_NAME, (1, None), " (instrument 1)", Plan, bad)
         bytes_[3] ^= 1
-        self.refused(Code.BAD_MAGIC, (3, None), "byte 3 is not that of an export, or of a message", Export.decode, bytes(bytes_))
-        self.refused(Code.TRUNCATED, (0, None), "the bytes end at 0, within what they begin", Export.decode, b"")
+        self.refused(Code.BAD_MAGIC, (3, None), " (byte 3)", Export.decode, bytes(bytes_))
+        self.refused(Code.TRUNCATED, (0, None), " (byte 0)", Export.decode, b"")
         # (without views no plan of this wrapper comes to one of two places)
-        self.assertEqual(str(Refused(Code.SAME_STREAM, 0, 2)), "SAME_STREAM: instruments 0 and 2 feed one stream")
+        self.assertEqual(str(Refused(Code.SAME_STREAM, 0, 2)), f"SAME_STREAM: {Code.SAME_STREAM.says} (instrument 0, instrument 2)")
 
     def test_without_places(self):
         writer, none = Writer(Plan(INSTRUMENTS), "shop", 1, 100), Attributes()
-        self.refused(Code.NEGATIVE, (None, None), "a counter or a histogram takes no value below 0", writer.measure, 0, none, -1)
-        self.refused(Code.BAD_NUMBER, (None, None), "a number stands for nothing here", Plan, [("app", "requests", "1", 4)])
-        self.refused(Code.NO_HELD, (None, None), "the writer holds nothing under this number", writer.measure_held, 0, 1)
+        self.refused(Code.NEGATIVE, (None, None), "", writer.measure, 0, none, -1)
+        self.refused(Code.BAD_NUMBER, (None, None), "", Plan, [("app", "requests", "1", 4)])
+        self.refused(Code.NO_HELD, (None, None), "", writer.measure_held, 0, 1)
         writer.shutdown(200)
-        self.refused(Code.CLOSED, (None, None), "the writer was shut down, and not restarted since", writer.measure, 0, none, 1)
+        self.refused(Code.CLOSED, (None, None), "", writer.measure, 0, none, 1)
 
 
 class Identities(unittest.TestCase):
@@ -242,39 +242,22 @@ class Imports(unittest.TestCase):
             self.assertRegex(last, r"^ImportError: set KOTSKHIN_SO to the path of libkotskhin\.so\.0, .*: .", named)
 
 
-class Declarations(unittest.TestCase):
-    """What stands by hand in the wrapper is what kit_c exports."""
+class Declared(unittest.TestCase):
+    """What is declared is what the library says."""
 
-    NUMBERS = {"u8": "c_uint8", "i32": "c_int32", "u32": "c_uint32", "i64": "c_int64", "u64": "c_uint64"}
-    NUMBERS |= {"usize": "c_size_t", "bool": "c_bool"}
+    def said(self, code):
+        room = ctypes.create_string_buffer(256)
+        size = kotskhin._library.kit_code_text(code, room, len(room))
+        self.assertEqual(kotskhin._library.kit_code_text(code, room, 4), size)
+        return room.raw[:size].decode()
 
-    def crossing(self, kind):
-        if kind == "Global":
-            return []
-        if kind == "&mut KitHandle":
-            return [kotskhin._HANDLE]
-        if kind in ("&[u8]", "&mut [u8]"):
-            return [kotskhin.c_char_p, kotskhin.c_size_t]
-        if kind == "&mut KitTaken":
-            return [kotskhin.POINTER(kotskhin._Told)]
-        if kind.startswith("&mut "):
-            return [kotskhin.POINTER(getattr(kotskhin, self.NUMBERS[kind[5:]]))]
-        return [getattr(kotskhin, self.NUMBERS[kind])]
-
-    def test_types(self):
-        exports = {name: given for name, given, _ in declarations.exports()}
-        for name, (function, _, _) in kotskhin._CALLS.items():
-            wanted = [it for _, kind in exports[name] for it in self.crossing(kind)]
-            self.assertEqual(list(function.argtypes), wanted, name)
-
-    def test_fields(self):
-        for name, _, fields in declarations.structs():
-            self.assertEqual(name, "kit_taken")
-            wanted = [(field, getattr(kotskhin, self.NUMBERS[kind])) for field, kind in fields]
-            self.assertEqual(kotskhin._Told._fields_, wanted)
+    def test_version(self):
+        self.assertEqual(kotskhin._library.kit_version(), kotskhin.VERSION)
 
     def test_codes(self):
-        self.assertEqual({("OK", 0)} | {(it.name, int(it)) for it in Code}, declarations.codes())
+        self.assertEqual([self.said(number) for _, number, _, _ in CODES], [says for _, _, says, _ in CODES])
+        self.assertEqual({self.said(it) for it in range(-2, 256) if it not in {number for _, number, _, _ in CODES}}, {""})
+        self.assertEqual(len({says for _, _, says, _ in CODES}), len(CODES))
 
 
 if __name__ == "__main__":

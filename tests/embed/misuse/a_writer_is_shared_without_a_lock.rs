@@ -1,8 +1,7 @@
-// error[E0277]
-use kotskhin::Writer;
+// error[E0596]
+use kotskhin::{Attributes, Error, Writer};
+use std::sync::Arc;
 
-fn shared<T: Sync>() {}
-
-pub fn writers() {
-    shared::<Writer>();
+pub fn record(writer: Arc<Writer>, set: &Attributes) -> Result<(), Error> {
+    writer.measure(0, set, 1)
 }

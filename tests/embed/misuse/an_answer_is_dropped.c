@@ -1,4 +1,4 @@
 // error: unused-result
 #include <kotskhin.h>
 
-void opened(kit_handle *gateway) { kit_gateway_open(gateway, 1); }
+void opened(kit_gateway *gateway) { kit_gateway_open(gateway, 1); }

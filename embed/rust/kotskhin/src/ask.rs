@@ -2,13 +2,14 @@
 use crate::attributes::{AttributeValue, pairs_of};
 use crate::error::{Error, checked};
 use crate::handle::Handle;
+use crate::streams::Streams;
 use kotskhin_sys::{
-    kit_ask_gauge, kit_ask_histogram, kit_ask_keep, kit_ask_only, kit_ask_service, kit_ask_sum,
-    kit_keys_add,
+    self as sys, kit_ask_gauge, kit_ask_histogram, kit_ask_keep, kit_ask_only, kit_ask_service,
+    kit_ask_stream, kit_ask_sum, kit_keys_add,
 };
 
 /// What is asked of a gateway: a stream, and which of its points. Without more, all of them, a row for each attribute set.
-pub struct Ask(pub(crate) Handle);
+pub struct Ask(pub(crate) Handle<sys::Ask>);
 
 impl Ask {
     /// Of the sum of a counter, which is monotonic, or of an up-down counter, which is not.
@@ -65,6 +66,14 @@ impl Ask {
                 bounds.len(),
             )
         })?;
+        Ok(Ask(ask))
+    }
+
+    /// Of a stream by its number, as it stands. Refused: `NoItem`, `NoMemory`.
+    pub fn stream(streams: &Streams, number: usize) -> Result<Ask, Error> {
+        let mut ask = Handle::empty();
+        // SAFETY: the ask is ours alone, and the streams are lent.
+        checked(unsafe { kit_ask_stream(ask.change(), streams.0.read().at(), number) })?;
         Ok(Ask(ask))
     }
 

@@ -14,12 +14,16 @@ pub enum Error {
     NoRow,
     /// There is no point of what is asked for.
     NoPoint,
+    /// There is no item of this number.
+    NoItem,
     /// A total is wider than the number that it is to be told in.
     TooWide,
     /// The value is above 2^63 - 1, the greatest that the kit records.
     ValueTooWide { value: u64 },
     /// There is no bucket of this number.
     NoBucket,
+    /// The total of the row is of another shape.
+    WrongShape,
     /// The message goes to another id.
     NotAddressed,
     /// The writer was shut down, and not restarted since.
@@ -88,8 +92,10 @@ pub(crate) fn refusal(code: i32, place: u64, second: u64) -> Error {
         sys::NO_HELD => Error::NoHeld,
         sys::NO_ROW => Error::NoRow,
         sys::NO_POINT => Error::NoPoint,
+        sys::NO_ITEM => Error::NoItem,
         sys::TOO_WIDE => Error::TooWide,
         sys::NO_BUCKET => Error::NoBucket,
+        sys::WRONG_SHAPE => Error::WrongShape,
         sys::NOT_ADDRESSED => Error::NotAddressed,
         sys::CLOSED => Error::Closed,
         sys::NO_INSTRUMENT => Error::NoInstrument,
@@ -156,12 +162,14 @@ impl fmt::Display for Error {
             Error::NoHeld => write!(f, "the writer holds nothing under this number"),
             Error::NoRow => write!(f, "there is no row of this number"),
             Error::NoPoint => write!(f, "there is no point of what is asked for"),
+            Error::NoItem => write!(f, "there is no item of this number"),
             Error::TooWide => write!(f, "the total is wider than the number that tells it"),
             Error::ValueTooWide { value } => write!(
                 f,
                 "the value {value} is above 2^63 - 1, the greatest that is recorded"
             ),
             Error::NoBucket => write!(f, "there is no bucket of this number"),
+            Error::WrongShape => write!(f, "the total of the row is of another shape"),
             Error::NotAddressed => write!(f, "the message goes to another id"),
             Error::Closed => write!(f, "the writer is closed"),
             Error::NoInstrument => write!(f, "there is no such instrument"),

@@ -1,17 +1,19 @@
 //! Gateways.
 use crate::ask::Ask;
 use crate::error::{Error, checked};
-use crate::export::Export;
+use crate::export::{Export, copied};
 use crate::handle::Handle;
 use crate::rows::Rows;
+use crate::streams::Streams;
 use kotskhin_sys::{
-    kit_gateway_conflicts, kit_gateway_merge, kit_gateway_newest, kit_gateway_open,
-    kit_gateway_rows, kit_gateway_same, kit_gateway_take,
+    self as sys, kit_gateway_conflicts, kit_gateway_encode, kit_gateway_merge, kit_gateway_newest,
+    kit_gateway_open, kit_gateway_read, kit_gateway_rows, kit_gateway_same, kit_gateway_streams,
+    kit_gateway_take,
 };
 use std::ptr;
 
 /// The newest points of all writers that were brought to it, in whatever order and however often.
-pub struct Gateway(pub(crate) Handle);
+pub struct Gateway(pub(crate) Handle<sys::Gateway>);
 
 impl Gateway {
     /// A gateway without points, under an id. Refused: `NoMemory`.
@@ -25,24 +27,52 @@ impl Gateway {
     /// Takes an export, and answers the number of keys whose points changed. Refused: `NoMemory`.
     pub fn take(&mut self, export: &Export) -> Result<u64, Error> {
         let mut changed = 0;
-        // SAFETY: the gateway is ours alone, and the export stays on this thread; they are two.
-        checked(unsafe { kit_gateway_take(self.0.change(), export.0.read(), &mut changed) })?;
+        // SAFETY: the gateway is ours alone, and the export is lent; they are two.
+        checked(unsafe { kit_gateway_take(self.0.change(), export.0.read().at(), &mut changed) })?;
         Ok(changed)
     }
 
     /// Joins what another gateway holds, and answers the number of keys whose points changed. Refused: `NoMemory`.
     pub fn merge(&mut self, other: &Gateway) -> Result<u64, Error> {
         let mut changed = 0;
-        // SAFETY: this one is ours alone, and the other stays on this thread; a `&mut` and a `&` are of two.
-        checked(unsafe { kit_gateway_merge(self.0.change(), other.0.read(), &mut changed) })?;
+        // SAFETY: this one is ours alone, and the other is lent; a `&mut` and a `&` are of two.
+        checked(unsafe { kit_gateway_merge(self.0.change(), other.0.read().at(), &mut changed) })?;
         Ok(changed)
+    }
+
+    /// Its id, and how many points it holds.
+    pub fn head(&self) -> Result<(u32, usize), Error> {
+        let (mut id, mut points) = (0, 0);
+        // SAFETY: the gateway is lent.
+        checked(unsafe { kit_gateway_read(self.0.read().at(), &mut id, &mut points) })?;
+        Ok((id, points))
+    }
+
+    /// The streams of which it holds points, each once. Refused: `NoMemory`.
+    pub fn streams(&self) -> Result<Streams, Error> {
+        let mut streams = Handle::empty();
+        // SAFETY: the gateway is lent, and the streams are ours alone.
+        checked(unsafe { kit_gateway_streams(self.0.read().at(), streams.change()) })?;
+        Ok(Streams(streams))
+    }
+
+    /// Its id and points as bytes, to be kept: those of a message of all that it holds, to itself. [`Message::decode`] reads them, and
+    /// [`Message::gateway`] gives the gateway. Refused: `NoMemory`.
+    ///
+    /// [`Message::decode`]: crate::Message::decode
+    /// [`Message::gateway`]: crate::Message::gateway
+    pub fn encode(&self) -> Result<Vec<u8>, Error> {
+        let mut made = Handle::empty();
+        // SAFETY: the gateway is lent, and the bytes are ours alone.
+        checked(unsafe { kit_gateway_encode(self.0.read().at(), made.change()) })?;
+        copied(&made)
     }
 
     /// The number of keys at whose time different values came: two writers recorded under one identity.
     pub fn conflicts(&self) -> Result<u64, Error> {
         let mut count = 0;
-        // SAFETY: the gateway stays on this thread.
-        checked(unsafe { kit_gateway_conflicts(self.0.read(), &mut count) })?;
+        // SAFETY: the gateway is lent.
+        checked(unsafe { kit_gateway_conflicts(self.0.read().at(), &mut count) })?;
         Ok(count)
     }
 
@@ -50,10 +80,10 @@ impl Gateway {
     /// come. Refused: `NoPoint` where nothing of it is held; `NoMemory`.
     pub fn newest(&self, service: &str, instance: u128, start: u64) -> Result<u64, Error> {
         let mut time = 0;
-        // SAFETY: the gateway stays on this thread, and the text is a slice's pointer and length.
+        // SAFETY: the gateway is lent, and the text is a slice's pointer and length.
         checked(unsafe {
             kit_gateway_newest(
-                self.0.read(),
+                self.0.read().at(),
                 service.as_ptr(),
                 service.len(),
                 (instance >> 64) as u64,
@@ -71,16 +101,16 @@ impl Gateway {
             return Ok(true);
         }
         let mut same = false;
-        // SAFETY: both stay on this thread, and they are two.
-        checked(unsafe { kit_gateway_same(self.0.read(), other.0.read(), &mut same) })?;
+        // SAFETY: both are lent.
+        checked(unsafe { kit_gateway_same(self.0.read().at(), other.0.read().at(), &mut same) })?;
         Ok(same)
     }
 
     /// The rows that answer an ask, in the order of their attribute sets. Refused: `NoMemory`.
     pub fn rows(&self, ask: &Ask) -> Result<Rows, Error> {
         let mut rows = Handle::empty();
-        // SAFETY: the rows are ours alone, the gateway and the ask stay on this thread; they are three.
-        checked(unsafe { kit_gateway_rows(self.0.read(), ask.0.read(), rows.change()) })?;
+        // SAFETY: the rows are ours alone, the gateway and the ask are lent; they are three.
+        checked(unsafe { kit_gateway_rows(self.0.read().at(), ask.0.read().at(), rows.change()) })?;
         Ok(Rows(rows))
     }
 

@@ -4,15 +4,15 @@ use crate::export::{Export, copied};
 use crate::gateway::Gateway;
 use crate::handle::Handle;
 use kotskhin_sys::{
-    kit_message_decode, kit_message_encode, kit_message_read, kit_node_gateway, kit_node_hand,
-    kit_node_merge, kit_node_open, kit_node_send, kit_node_take,
+    self as sys, kit_message_decode, kit_message_encode, kit_message_gateway, kit_message_read,
+    kit_node_gateway, kit_node_hand, kit_node_merge, kit_node_open, kit_node_send, kit_node_take,
 };
 
 /// A gateway that sends messages and takes them in. The ids of nodes that exchange messages are distinct.
-pub struct Node(Handle);
+pub struct Node(Handle<sys::Node>);
 
 /// What one node tells another. It may be lost, come late or come twice.
-pub struct Message(Handle);
+pub struct Message(Handle<sys::Message>);
 
 /// From which id to which a message goes, and how many points it carries: an answer carries none.
 #[derive(Clone, Copy, Debug, PartialEq, Eq)]
@@ -26,51 +26,51 @@ impl Node {
     /// A node with the points and the id of a gateway. Refused: `NoMemory`.
     pub fn open(gateway: &Gateway) -> Result<Node, Error> {
         let mut node = Handle::empty();
-        // SAFETY: the node is ours alone, and the gateway stays on this thread; they are two.
-        checked(unsafe { kit_node_open(node.change(), gateway.0.read()) })?;
+        // SAFETY: the node is ours alone, and the gateway is lent; they are two.
+        checked(unsafe { kit_node_open(node.change(), gateway.0.read().at()) })?;
         Ok(Node(node))
     }
 
     /// A copy of what it holds, to be asked. Refused: `NoMemory`.
     pub fn gateway(&self) -> Result<Gateway, Error> {
         let mut gateway = Handle::empty();
-        // SAFETY: the node stays on this thread, and the gateway is ours alone; they are two.
-        checked(unsafe { kit_node_gateway(self.0.read(), gateway.change()) })?;
+        // SAFETY: the node is lent, and the gateway is ours alone; they are two.
+        checked(unsafe { kit_node_gateway(self.0.read().at(), gateway.change()) })?;
         Ok(Gateway(gateway))
     }
 
     /// Takes an export, and answers the number of keys whose points changed. Refused: `NoMemory`.
     pub fn take(&mut self, export: &Export) -> Result<u64, Error> {
         let mut changed = 0;
-        // SAFETY: the node is ours alone, and the export stays on this thread; they are two.
-        checked(unsafe { kit_node_take(self.0.change(), export.0.read(), &mut changed) })?;
+        // SAFETY: the node is ours alone, and the export is lent; they are two.
+        checked(unsafe { kit_node_take(self.0.change(), export.0.read().at(), &mut changed) })?;
         Ok(changed)
     }
 
     /// Joins what a gateway holds, and answers the number of keys whose points changed. Refused: `NoMemory`.
     pub fn merge(&mut self, gateway: &Gateway) -> Result<u64, Error> {
         let mut changed = 0;
-        // SAFETY: the node is ours alone, and the gateway stays on this thread; they are two.
-        checked(unsafe { kit_node_merge(self.0.change(), gateway.0.read(), &mut changed) })?;
+        // SAFETY: the node is ours alone, and the gateway is lent; they are two.
+        checked(unsafe { kit_node_merge(self.0.change(), gateway.0.read().at(), &mut changed) })?;
         Ok(changed)
     }
 
     /// A message to the node of an id: what changed since the last one that it answered. Refused: `NoMemory`.
     pub fn send(&self, to: u32) -> Result<Message, Error> {
         let mut message = Handle::empty();
-        // SAFETY: the node stays on this thread, and the message is ours alone; they are two.
-        checked(unsafe { kit_node_send(self.0.read(), to, message.change()) })?;
+        // SAFETY: the node is lent, and the message is ours alone; they are two.
+        checked(unsafe { kit_node_send(self.0.read().at(), to, message.change()) })?;
         Ok(Message(message))
     }
 
     /// Takes in a message, and gives the answer to its sender, if there is one. Refused: `NotAddressed`, `NoMemory`.
     pub fn hand(&mut self, message: &Message) -> Result<Option<Message>, Error> {
         let (mut answer, mut answered) = (Handle::empty(), false);
-        // SAFETY: the node and the answer are ours alone, and the message stays on this thread; they are three.
+        // SAFETY: the node and the answer are ours alone, and the message is lent; they are three.
         checked(unsafe {
             kit_node_hand(
                 self.0.change(),
-                message.0.read(),
+                message.0.read().at(),
                 answer.change(),
                 &mut answered,
             )
@@ -83,9 +83,9 @@ impl Message {
     /// Its bytes, for a node in another process: each message has one form. Refused: `NoMemory`.
     pub fn encode(&self) -> Result<Vec<u8>, Error> {
         let mut made = Handle::empty();
-        // SAFETY: the message stays on this thread, and the bytes are ours alone; they are two.
-        checked(unsafe { kit_message_encode(self.0.read(), made.change()) })?;
-        copied(&mut made)
+        // SAFETY: the message is lent, and the bytes are ours alone; they are two.
+        checked(unsafe { kit_message_encode(self.0.read().at(), made.change()) })?;
+        copied(&made)
     }
 
     /// The message of bytes that `encode` made. Refused as `Export::decode` is, `BadExport` where a point is none that an export
@@ -100,11 +100,19 @@ impl Message {
         Ok(Message(message))
     }
 
+    /// What it carries, as a gateway of its sender's id. Refused: `NoMemory`.
+    pub fn gateway(&self) -> Result<Gateway, Error> {
+        let mut gateway = Handle::empty();
+        // SAFETY: the message is lent, and the gateway is ours alone.
+        checked(unsafe { kit_message_gateway(self.0.read().at(), gateway.change()) })?;
+        Ok(Gateway(gateway))
+    }
+
     /// What stands on it.
     pub fn envelope(&self) -> Result<Envelope, Error> {
         let (mut from, mut to, mut points) = (0, 0, 0);
-        // SAFETY: the message stays on this thread.
-        checked(unsafe { kit_message_read(self.0.read(), &mut from, &mut to, &mut points) })?;
+        // SAFETY: the message is lent.
+        checked(unsafe { kit_message_read(self.0.read().at(), &mut from, &mut to, &mut points) })?;
         Ok(Envelope { from, to, points })
     }
 }

@@ -1,8 +1,11 @@
 //! Instruments, and the plans that they make.
 use crate::error::{Error, checked, checked_twice};
 use crate::handle::Handle;
+use crate::streams::Streams;
 use crate::view::Views;
-use kotskhin_sys::{kit_instruments_add, kit_plan_build};
+use kotskhin_sys::{
+    self as sys, kit_default_bounds, kit_instruments_add, kit_plan_build, kit_plan_streams,
+};
 
 /// How many attribute sets a stream has points of their own for, where nothing else is asked.
 pub const DEFAULT_LIMIT: u64 = 2000;
@@ -21,9 +24,19 @@ pub enum Kind {
     Histogram = 3,
 }
 
+/// The bounds of a histogram for which no view says others.
+pub fn default_bounds() -> Vec<i64> {
+    let mut none = [];
+    // SAFETY: the room is a slice's, here and below.
+    let count = unsafe { kit_default_bounds(none.as_mut_ptr(), 0) };
+    let mut bounds = vec![0; count];
+    unsafe { kit_default_bounds(bounds.as_mut_ptr(), bounds.len()) };
+    bounds
+}
+
 /// Instruments, numbered from 0 in the order in which they are added.
 pub struct Instruments {
-    handle: Handle,
+    handle: Handle<sys::Instruments>,
     len: usize,
 }
 
@@ -63,12 +76,20 @@ impl Instruments {
 }
 
 /// Which instruments feed which streams. Many writers may start under one plan.
-pub struct Plan(pub(crate) Handle);
+pub struct Plan(pub(crate) Handle<sys::Plan>);
 
 impl Plan {
     /// Refused: `BadName`, `BadUnit`, `SameStream`, `BadLimit`, `NoMemory`.
     pub fn build(instruments: &Instruments, limit: u64) -> Result<Plan, Error> {
         Plan::with_views(instruments, &Views::new(), limit)
+    }
+
+    /// Its streams, whose numbers are those that `Overflow` tells. Refused: `NoMemory`.
+    pub fn streams(&self) -> Result<Streams, Error> {
+        let mut streams = Handle::empty();
+        // SAFETY: the plan is lent, and the streams are ours alone.
+        checked(unsafe { kit_plan_streams(self.0.read().at(), streams.change()) })?;
+        Ok(Streams(streams))
     }
 
     /// The plan of instruments and of views: each view that matches an instrument gives it a stream, and where none does the
@@ -78,12 +99,12 @@ impl Plan {
     pub fn with_views(instruments: &Instruments, views: &Views, limit: u64) -> Result<Plan, Error> {
         let mut plan = Handle::empty();
         let (mut place, mut second) = (0, 0);
-        // SAFETY: the plan is ours alone, the instruments and the views stay on this thread; they are three.
+        // SAFETY: the plan is ours alone, the instruments and the views are lent; they are three.
         let code = unsafe {
             kit_plan_build(
                 plan.change(),
-                instruments.handle.read(),
-                views.0.read(),
+                instruments.handle.read().at(),
+                views.0.read().at(),
                 limit,
                 &mut place,
                 &mut second,

@@ -38,7 +38,7 @@ impl From<sys::Taken> for Taken {
 ///
 /// [`Writer::take_in`]: crate::Writer::take_in
 /// [`Seat::take_in`]: crate::Seat::take_in
-pub struct Recorder(pub(crate) Handle);
+pub struct Recorder(pub(crate) Handle<sys::Recorder>);
 
 impl Recorder {
     /// An empty log for so many recordings, 16 bytes each. Refused: `NoMemory`.
@@ -57,9 +57,9 @@ impl Recorder {
         attributes: &Attributes,
         value: i64,
     ) -> Result<(), Error> {
-        // SAFETY: the recorder is ours alone; no other call has the attributes, since they stay on this thread; they are two.
+        // SAFETY: the recorder is ours alone; the attributes are lent.
         checked(unsafe {
-            kit_recorder_measure(self.0.change(), instrument, attributes.0.read(), value)
+            kit_recorder_measure(self.0.change(), instrument, attributes.read().at(), value)
         })
     }
 
@@ -73,8 +73,8 @@ impl Recorder {
     /// How many recordings it has.
     pub fn len(&self) -> Result<usize, Error> {
         let mut count = 0;
-        // SAFETY: the recorder stays on this thread.
-        checked(unsafe { kit_recorder_len(self.0.read(), &mut count) })?;
+        // SAFETY: the recorder is lent.
+        checked(unsafe { kit_recorder_len(self.0.read().at(), &mut count) })?;
         Ok(count)
     }
 

@@ -6,15 +6,15 @@ use crate::handle::Handle;
 use crate::recorder::{Recorder, Taken};
 use crate::writer::HeldNumber;
 use kotskhin_sys::{
-    kit_seat_collect, kit_seat_hold, kit_seat_measure, kit_seat_measure_held, kit_seat_split,
-    kit_seat_take_in,
+    self as sys, kit_seat_collect, kit_seat_hold, kit_seat_measure, kit_seat_measure_held,
+    kit_seat_split, kit_seat_take_in,
 };
 
 /// A place at a writer that threads share: each thread has its own, and it can't be used at another writer.
 ///
 /// Its calls wait for nobody: while another thread's call has the writer they are refused with `Busy`, and may be made again. The
 /// writer lasts as long as one of its seats does.
-pub struct Seat(pub(crate) Handle);
+pub struct Seat(pub(crate) Handle<sys::Seat>);
 
 impl Seat {
     /// Another seat at the same writer, for another thread. Refused: `NoMemory`; `Busy`; `SeatsFull` where 4,096 were made.
@@ -34,12 +34,12 @@ impl Seat {
         value: i64,
     ) -> Result<(), Error> {
         let mut place = 0;
-        // SAFETY: the seat is ours alone; no other call has the attributes, since they stay on this thread; they are two.
+        // SAFETY: the seat is ours alone; the attributes are lent.
         let code = unsafe {
             kit_seat_measure(
                 self.0.change(),
                 instrument,
-                attributes.0.read(),
+                attributes.read().at(),
                 value,
                 &mut place,
             )
@@ -56,15 +56,9 @@ impl Seat {
         attributes: &Attributes,
     ) -> Result<HeldNumber, Error> {
         let mut number = 0;
-        // SAFETY: as above.
-        checked(unsafe {
-            kit_seat_hold(
-                self.0.change(),
-                instrument,
-                attributes.0.read(),
-                &mut number,
-            )
-        })?;
+        let mut set = attributes.apart()?;
+        // SAFETY: both handles are ours alone, and they are two.
+        checked(unsafe { kit_seat_hold(self.0.change(), instrument, set.change(), &mut number) })?;
         Ok(HeldNumber(number))
     }
 

@@ -3,8 +3,9 @@ use crate::error::{Error, checked};
 use crate::handle::Handle;
 use crate::plan::Kind;
 use kotskhin_sys::{
-    kit_keys_add, kit_view_aggregation, kit_view_buckets, kit_view_keep, kit_view_kind,
-    kit_view_of_every, kit_view_of_name, kit_view_rename, kit_view_scope, kit_views_add,
+    self as sys, kit_keys_add, kit_view_aggregation, kit_view_buckets, kit_view_keep,
+    kit_view_kind, kit_view_of_every, kit_view_of_name, kit_view_rename, kit_view_scope,
+    kit_views_add,
 };
 
 /// What a view makes of values.
@@ -21,7 +22,7 @@ pub enum Aggregation<'a> {
 }
 
 /// A view: which instruments it matches, and what is made of their recordings (OpenTelemetry Metrics SDK, "View").
-pub struct View(Handle);
+pub struct View(Handle<sys::View>);
 
 impl View {
     /// Of the instruments of one name, but for the case of ASCII letters. It changes nothing yet.
@@ -89,7 +90,7 @@ impl View {
 }
 
 /// Views, numbered from 0 in the order in which they are added.
-pub struct Views(pub(crate) Handle);
+pub struct Views(pub(crate) Handle<sys::Views>);
 
 impl Default for Views {
     fn default() -> Views {
@@ -104,7 +105,7 @@ impl Views {
 
     /// Adds a copy of a view.
     pub fn add(&mut self, view: &View) -> Result<(), Error> {
-        // SAFETY: the views are ours alone, and the view stays on this thread; they are two.
-        checked(unsafe { kit_views_add(self.0.change(), view.0.read()) })
+        // SAFETY: the views are ours alone, and the view is lent; they are two.
+        checked(unsafe { kit_views_add(self.0.change(), view.0.read().at()) })
     }
 }

@@ -7,7 +7,7 @@ use crate::plan::Plan;
 use crate::recorder::{Recorder, Taken};
 use crate::seat::Seat;
 use kotskhin_sys::{
-    kit_writer_collect, kit_writer_hold, kit_writer_measure, kit_writer_measure_held,
+    self as sys, kit_writer_collect, kit_writer_hold, kit_writer_measure, kit_writer_measure_held,
     kit_writer_restart, kit_writer_share, kit_writer_shutdown, kit_writer_start,
     kit_writer_take_in,
 };
@@ -27,18 +27,18 @@ pub fn unique_instance() -> io::Result<u128> {
 
 /// The points of a plan's instruments since a start. One thread at a time has it: give threads recorders that it takes in, share it by
 /// seats or by a `Mutex`, or give each thread a writer of its own, under another instance.
-pub struct Writer(Handle);
+pub struct Writer(Handle<sys::Writer>);
 
 impl Writer {
     /// A writer of a service's instance, which counts from `start` on. Of two writers that share service, instance and start a gateway
     /// keeps one alone: without an instance of your own take [`unique_instance`]. Refused: `NoMemory`.
     pub fn start(plan: &Plan, service: &str, instance: u128, start: u64) -> Result<Writer, Error> {
         let mut writer = Handle::empty();
-        // SAFETY: the writer is ours alone, and the plan stays on this thread; they are two.
+        // SAFETY: the writer is ours alone, and the plan is lent; they are two.
         checked(unsafe {
             kit_writer_start(
                 writer.change(),
-                plan.0.read(),
+                plan.0.read().at(),
                 service.as_ptr(),
                 service.len(),
                 (instance >> 64) as u64,
@@ -58,12 +58,12 @@ impl Writer {
         value: i64,
     ) -> Result<(), Error> {
         let mut place = 0;
-        // SAFETY: the writer is ours alone; no other call has the attributes, since they stay on this thread; they are two.
+        // SAFETY: the writer is ours alone; the attributes are lent.
         let code = unsafe {
             kit_writer_measure(
                 self.0.change(),
                 instrument,
-                attributes.0.read(),
+                attributes.read().at(),
                 value,
                 &mut place,
             )
@@ -79,14 +79,10 @@ impl Writer {
         attributes: &Attributes,
     ) -> Result<HeldNumber, Error> {
         let mut number = 0;
-        // SAFETY: as above.
+        let mut set = attributes.apart()?;
+        // SAFETY: both handles are ours alone, and they are two.
         checked(unsafe {
-            kit_writer_hold(
-                self.0.change(),
-                instrument,
-                attributes.0.read(),
-                &mut number,
-            )
+            kit_writer_hold(self.0.change(), instrument, set.change(), &mut number)
         })?;
         Ok(HeldNumber(number))
     }
@@ -115,9 +111,10 @@ impl Writer {
     /// Shares the writer: the first seat at it. What it held the seats hold, under the same numbers. Refused, with the writer handed
     /// back: `NoMemory`.
     pub fn share(mut self) -> Result<Seat, (Writer, Error)> {
-        // SAFETY: the writer is ours alone.
-        match checked(unsafe { kit_writer_share(self.0.change()) }) {
-            Ok(()) => Ok(Seat(self.0)),
+        let mut seat = Handle::empty();
+        // SAFETY: both handles are ours alone, and they are two.
+        match checked(unsafe { kit_writer_share(self.0.change(), seat.change()) }) {
+            Ok(()) => Ok(Seat(seat)),
             Err(error) => Err((self, error)),
         }
     }

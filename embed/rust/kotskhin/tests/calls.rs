@@ -2,8 +2,9 @@
 #![forbid(unsafe_code)]
 use kotskhin::metrics::{Counter, Meter};
 use kotskhin::{
-    Aggregation, Ask, AttributeValue, Attributes, DEFAULT_LIMIT, Envelope, Error, Export, Gateway,
-    Instruments, Kind, Message, Node, Plan, Recorder, Seat, Taken, View, Views, Writer,
+    Aggregation, Ask, AttributeValue, Attributes, DEFAULT_LIMIT, Envelope, Error, Export,
+    ExportHead, Gateway, Instruments, Kind, Message, Node, OwnedValue, Plan, Recorder, Seat, Shape,
+    Stream, Taken, View, Views, Writer, default_bounds,
 };
 use std::sync::Mutex;
 use std::thread;
@@ -43,7 +44,7 @@ fn one_export_is_for_many_gateways() -> Result<(), Error> {
         (Ok(1), Ok((1, 0)), Ok(7))
     );
     assert_eq!(rows.sum(1), Err(Error::NoRow));
-    assert_eq!(rows.gauge(0), Err(Error::Unexpected(3)));
+    assert_eq!(rows.gauge(0), Err(Error::WrongShape));
     assert_eq!(one.same(&other), Ok(true));
     assert_eq!(one.same(&one), Ok(true));
     assert_eq!(one.conflicts(), Ok(0));
@@ -270,6 +271,126 @@ fn threads_have_writers() -> Result<(), Error> {
     Ok(())
 }
 
+fn shared<T: Send + Sync>() {}
+
+#[test]
+fn threads_read_one_set_one_plan_and_one_gateway() -> Result<(), Error> {
+    shared::<(Ask, Attributes, Export, Gateway, Message, Node, Plan)>();
+    let (plan, route, mut gateway) = (
+        plan()?,
+        Attributes::new([("route", "/")])?,
+        Gateway::open(1)?,
+    );
+    let mut first = Writer::start(&plan, "shop", 1, 100)?;
+    first.measure(0, &route, 7)?;
+    let export = first.collect(200)?;
+    gateway.take(&export)?;
+    let (ask, table) = (requests()?, gateway.table(&requests()?)?);
+    let work = &|instance| -> Result<Gateway, Error> {
+        let mut writer = Writer::start(&plan, "shop", instance, 100)?;
+        let number = writer.hold(0, &route)?;
+        for _ in 0..1000 {
+            writer.measure(0, &route, 1)?;
+            writer.measure_held(number, 1)?;
+        }
+        let mut own = Gateway::open(2)?;
+        own.take(&writer.collect(300)?)?;
+        own.merge(&gateway)?;
+        own.take(&export)?;
+        assert_eq!(gateway.table(&ask)?, table);
+        Ok(own)
+    };
+    let made = thread::scope(|scope| {
+        let threads: Vec<_> = (2..6)
+            .map(|instance| scope.spawn(move || work(instance)))
+            .collect();
+        threads
+            .into_iter()
+            .map(|it| it.join().unwrap())
+            .collect::<Result<Vec<_>, _>>()
+    })?;
+    for own in made {
+        gateway.merge(&own)?;
+    }
+    let rows = gateway.rows(&ask)?;
+    assert_eq!((rows.counts(0), rows.sum(0)), (Ok((5, 0)), Ok(8007)));
+    Ok(())
+}
+
+#[test]
+fn streams_rows_and_exports_are_read_out() -> Result<(), Error> {
+    let mut instruments = Instruments::new();
+    instruments.add("app", "requests", "1", Kind::Counter)?;
+    instruments.add("app", "size", "By", Kind::Histogram)?;
+    let (mut view, mut views) = (View::of_name("size")?, Views::new());
+    view.aggregate(Aggregation::Buckets(&[10, 20]))?;
+    views.add(&view)?;
+    let plan = Plan::with_views(&instruments, &views, DEFAULT_LIMIT)?;
+    let pairs = [
+        ("cached", AttributeValue::Truth(true)),
+        ("route", AttributeValue::Text("/")),
+        ("status", AttributeValue::Whole(200)),
+    ];
+    let set = Attributes::new(pairs)?;
+    let mut writer = Writer::start(&plan, "shop", (8 << 64) | 9, 100)?;
+    writer.measure(0, &set, 7)?;
+    let export = writer.collect(200)?;
+    let head = ExportHead {
+        service: "shop".into(),
+        instance: (8 << 64) | 9,
+        start: 100,
+        time: 200,
+        points: 1,
+    };
+    assert_eq!(export.head(), Ok(head));
+    let mut gateway = Gateway::open(5)?;
+    gateway.take(&export)?;
+    assert_eq!(gateway.head(), Ok((5, 1)));
+
+    let streams = plan.streams()?;
+    assert_eq!(streams.count(), Ok(2));
+    let size = Stream {
+        scope: "app".into(),
+        name: "size".into(),
+        unit: "By".into(),
+        shape: Shape::Histogram {
+            bounds: vec![10, 20],
+        },
+    };
+    assert_eq!(streams.stream(1), Ok(size));
+    assert_eq!(streams.stream(0)?.shape, Shape::Sum { monotonic: true });
+    assert_eq!(streams.stream(2), Err(Error::NoItem));
+    let held = gateway.streams()?;
+    assert_eq!((held.count(), held.stream(0)), (Ok(1), streams.stream(0)));
+    assert_eq!(Ask::stream(&streams, 2).err(), Some(Error::NoItem));
+    let rows = gateway.rows(&Ask::stream(&streams, 0)?)?;
+    assert_eq!((rows.count(), rows.sum(0)), (Ok(1), Ok(7)));
+    assert_eq!(
+        (rows.total(0), rows.values(0)),
+        (Ok(7), Err(Error::WrongShape))
+    );
+    let (bounds, again) = (
+        default_bounds(),
+        Message::decode(&gateway.encode()?)?.gateway()?,
+    );
+    assert_eq!((bounds.len(), bounds[14]), (15, 10000));
+    assert_eq!(
+        (again.same(&gateway), again.head()),
+        (Ok(true), gateway.head())
+    );
+    let told = rows.attributes(0)?;
+    let wanted = [
+        ("cached", OwnedValue::Truth(true)),
+        ("route", OwnedValue::Text("/".into())),
+        ("status", OwnedValue::Whole(200)),
+    ];
+    assert_eq!(told, wanted.map(|(key, value)| (key.to_string(), value)));
+    assert_eq!(rows.attributes(1), Err(Error::NoRow));
+    let again = Attributes::new(told.iter().map(|(key, value)| (key.as_str(), value)))?;
+    assert_eq!(writer.hold(0, &again), writer.hold(0, &set));
+    Ok(())
+}
+
 #[test]
 fn nodes_tell_each_other_what_changed() -> Result<(), Error> {
     let (mut writer, none) = (writer(1)?, Attributes::none()?);
@@ -311,7 +432,7 @@ fn histograms_have_buckets() -> Result<(), Error> {
     let buckets: Vec<_> = (0..4).map(|it| rows.bucket(0, it)).collect();
     assert_eq!(buckets, [Ok(2), Ok(1), Ok(1), Err(Error::NoBucket)]);
     assert_eq!(rows.histogram(1), Err(Error::NoRow));
-    assert_eq!(rows.sum(0), Err(Error::Unexpected(3)));
+    assert_eq!(rows.sum(0), Err(Error::WrongShape));
     Ok(())
 }
 

@@ -14,53 +14,21 @@ import time
 import typing
 from ctypes import POINTER, byref, c_bool, c_char_p, c_int32, c_int64, c_size_t, c_uint8, c_uint32, c_uint64
 
+from kotskhin.declared import CALLS, CODES, STRUCTS, VERSION
+
 COUNTER, UP_DOWN, GAUGE, HISTOGRAM = range(4)
 
 
 class Code(enum.IntEnum):
-    """Why a call is refused: the codes of kotskhin.h, each in words. Each {} stands for a place that the refusal tells."""
+    """Why a call is refused: the codes of kotskhin.h. Each has what it says, and the words for the places that it tells."""
 
-    NO_MEMORY = 1, "memory was refused"
-    NOTHING = 2, "a handle that is read has nothing"
-    WRONG_KIND = 3, "a handle has something else"
-    FULL = 4, "the handle that is to be filled has something"
-    NOT_TEXT = 5, "a text is not UTF-8, of bytes the one at {}"
-    BAD_NUMBER = 6, "a number stands for nothing here"
-    NO_HELD = 7, "the writer holds nothing under this number"
-    NO_ROW = 8, "there is no row of this number"
-    NO_POINT = 9, "there is no point of what is asked for"
-    CLOSED = 10, "the writer was shut down, and not restarted since"
-    NO_INSTRUMENT = 11, "the plan has no instrument of this number"
-    NEGATIVE = 12, "a counter or a histogram takes no value below 0"
-    OVERFLOW = 13, "a total of stream {} would leave its range"
-    TIME_NOT_AFTER = 14, "the time is not after {}, the last collection or the start"
-    START_NOT_AFTER = 15, "the new start is not after {}, the start so far"
-    BUSY = 16, "another thread's call has the writer that is shared: try again"
-    EXHAUSTED = 17, "the writer that is shared accepted 2^62 changes"
-    SEATS_FULL = 18, "the writer that is shared gave 4,096 seats"
-    EMPTY_KEY = 20, "the key of pair {} is empty"
-    BAD_NAME = 30, "the name of instrument {} breaks the rule of names"
-    BAD_UNIT = 31, "the unit of instrument {} breaks the rule of units"
-    BAD_BOUNDS = 32, "the bounds of view {} do not strictly rise, or are too many"
-    BAD_RENAME = 33, "the new name of view {} breaks the rule of names"
-    WILDCARD_RENAME = 34, "view {} is of every name, and gives a new one"
-    BAD_AGGREGATION = 35, "for instrument {} the aggregation of view {} does not fit"
-    SAME_STREAM = 36, "instruments {} and {} feed one stream"
-    BAD_LIMIT = 37, "the limit is 0"
-    TOO_WIDE = 40, "a total is wider than the number that it is to be told in"
-    NO_BUCKET = 41, "there is no bucket of this number"
-    NOT_ADDRESSED = 50, "the message goes to another id"
-    TRUNCATED = 60, "the bytes end at {}, within what they begin"
-    BAD_MAGIC = 61, "byte {} is not that of an export, or of a message"
-    BAD_VERSION = 62, "the version at byte {} is not known"
-    NOT_CANONICAL = 63, "the value at byte {} is not in its one form"
-    BAD_CHECKSUM = 64, "the checksum at byte {} is not that of the bytes before it"
-    BAD_EXPORT = 65, "the values make no export, or a message has a point that no export brings"
-    RECORDER_FULL = 70, "the recorder has as many recordings as it may, or a number is 2^32 or more: a writer takes it in first"
+    _ignore_ = ["code"]
+    for code in CODES[1:]:
+        vars()[code[0]] = code[1:]
 
-    def __new__(cls, number, words):
+    def __new__(cls, number, says, places):
         code = int.__new__(cls, number)
-        code._value_, code.words = number, words
+        code._value_, code.says, code.places = number, says, places
         return code
 
 
@@ -77,7 +45,8 @@ class Refused(Exception):
         return self.code.name
 
     def __str__(self):
-        return f"{self.name}: {self.code.words.format(self.place, self.second)}"
+        places = ", ".join(f"{word} {place}" for word, place in zip(self.code.places, (self.place, self.second)))
+        return f"{self.name}: {self.code.says}" + (f" ({places})" if places else "")
 
 
 class ForkedError(RuntimeError):
@@ -96,71 +65,38 @@ class _Raw(ctypes.Structure):
     _fields_ = [("full", c_bool), ("at", ctypes.c_void_p)]
 
 
+_C = {"uint8_t": c_uint8, "int32_t": c_int32, "uint32_t": c_uint32, "int64_t": c_int64, "uint64_t": c_uint64, "size_t": c_size_t, "bool": c_bool}
+_PLACE = object()
+
+
 class _Told(ctypes.Structure):
-    _fields_ = [("recorded", c_size_t), ("refused", c_size_t), ("code", c_int32), ("first", c_size_t), ("place", c_uint64)]
+    _fields_ = [(name, _C[kind]) for kind, name in map(str.split, STRUCTS["kit_taken"])]
 
 
-_HANDLE, _TEXT, _PLACE = POINTER(_Raw), (c_char_p, c_size_t), object()
-_BYTE, _ID, _WORD, _VALUE, _INDEX = map(_Number, (c_uint8, c_uint32, c_uint64, c_int64, c_size_t))
-_TYPES = {
-    "kit_free": [_HANDLE],
-    "kit_instruments_add": [_HANDLE, *_TEXT, *_TEXT, *_TEXT, _BYTE],
-    "kit_plan_build": [_HANDLE, _HANDLE, _HANDLE, _WORD, _PLACE, _PLACE],
-    "kit_pairs_add_text": [_HANDLE, *_TEXT, *_TEXT],
-    "kit_pairs_add_whole": [_HANDLE, *_TEXT, _VALUE],
-    "kit_pairs_add_truth": [_HANDLE, *_TEXT, c_bool],
-    "kit_attributes_make": [_HANDLE, _HANDLE, _PLACE],
-    "kit_writer_start": [_HANDLE, _HANDLE, *_TEXT, _WORD, _WORD, _WORD],
-    "kit_writer_measure": [_HANDLE, _INDEX, _HANDLE, _VALUE, _PLACE],
-    "kit_writer_hold": [_HANDLE, _INDEX, _HANDLE, POINTER(c_size_t)],
-    "kit_writer_measure_held": [_HANDLE, _INDEX, _VALUE, _PLACE],
-    "kit_writer_take_in": [_HANDLE, _HANDLE, _INDEX, POINTER(_Told)],
-    "kit_writer_collect": [_HANDLE, _WORD, _HANDLE, _PLACE],
-    "kit_writer_shutdown": [_HANDLE, _WORD, _HANDLE, _PLACE],
-    "kit_writer_restart": [_HANDLE, _WORD, _PLACE],
-    "kit_gateway_open": [_HANDLE, _ID],
-    "kit_gateway_take": [_HANDLE, _HANDLE, POINTER(c_uint64)],
-    "kit_gateway_merge": [_HANDLE, _HANDLE, POINTER(c_uint64)],
-    "kit_ask_sum": [_HANDLE, *_TEXT, *_TEXT, *_TEXT, c_bool],
-    "kit_gateway_rows": [_HANDLE, _HANDLE, _HANDLE],
-    "kit_rows_table": [_HANDLE, _HANDLE],
-    "kit_text_copy": [_HANDLE, c_char_p, c_size_t, POINTER(c_size_t)],
-    "kit_gateway_newest": [_HANDLE, *_TEXT, _WORD, _WORD, _WORD, POINTER(c_uint64)],
-    "kit_writer_share": [_HANDLE],
-    "kit_seat_split": [_HANDLE, _HANDLE],
-    "kit_seat_measure": [_HANDLE, _INDEX, _HANDLE, _VALUE, _PLACE],
-    "kit_seat_hold": [_HANDLE, _INDEX, _HANDLE, POINTER(c_size_t)],
-    "kit_seat_measure_held": [_HANDLE, _INDEX, _VALUE, _PLACE],
-    "kit_seat_take_in": [_HANDLE, _HANDLE, _INDEX, POINTER(_Told)],
-    "kit_seat_collect": [_HANDLE, _WORD, _HANDLE, _PLACE],
-    "kit_recorder_new": [_HANDLE, _INDEX],
-    "kit_recorder_measure": [_HANDLE, _INDEX, _HANDLE, _VALUE],
-    "kit_recorder_measure_held": [_HANDLE, _INDEX, _VALUE],
-    "kit_recorder_len": [_HANDLE, POINTER(c_size_t)],
-    "kit_recorder_clear": [_HANDLE],
-    "kit_node_open": [_HANDLE, _HANDLE],
-    "kit_node_gateway": [_HANDLE, _HANDLE],
-    "kit_node_take": [_HANDLE, _HANDLE, POINTER(c_uint64)],
-    "kit_node_merge": [_HANDLE, _HANDLE, POINTER(c_uint64)],
-    "kit_node_send": [_HANDLE, _ID, _HANDLE],
-    "kit_node_hand": [_HANDLE, _HANDLE, _HANDLE, POINTER(c_bool)],
-    "kit_message_read": [_HANDLE, POINTER(c_uint32), POINTER(c_uint32), POINTER(c_size_t)],
-    "kit_export_encode": [_HANDLE, _HANDLE],
-    "kit_export_decode": [_HANDLE, *_TEXT, _PLACE],
-    "kit_message_encode": [_HANDLE, _HANDLE],
-    "kit_message_decode": [_HANDLE, *_TEXT, _PLACE],
-    "kit_bytes_copy": [_HANDLE, c_char_p, c_size_t, POINTER(c_size_t)],
-}
+def _type(parameter):
+    """What ctypes makes of a parameter, as C declares it: a number of the caller's with its range, and a place apart."""
+    kind, is_pointer, name = parameter.removeprefix("KIT_READS ").removeprefix("const ").rpartition("*")
+    kind = kind.strip()
+    if not is_pointer:
+        kind, _, name = parameter.partition(" ")
+        is_length = kind == "size_t" and (name == "room" or name.endswith("_len"))
+        return _C[kind] if is_length or kind == "bool" else _Number(_C[kind])
+    if kind == "uint8_t":
+        return c_char_p
+    if name in ("place", "second"):
+        return _PLACE
+    return POINTER(_C[kind]) if kind in _C else POINTER(_Told if kind == "kit_taken" else _Raw)
 
 
 # Where calls tell places: the lock below is held while they are written and read.
 _TOLD = c_uint64(), c_uint64()
 
 
-def _declared(function, types):
+def _declared(function, result, given):
     """Declares a function: it, the ranges of the numbers that it takes of the caller's, and where it tells places."""
+    types = list(map(_type, given))
     function.argtypes = [it.of if isinstance(it, _Number) else POINTER(c_uint64) if it is _PLACE else it for it in types]
-    function.restype = c_int32
+    function.restype = _C.get(result)
     numbers = [(at, *it.range) for at, it in enumerate(types) if isinstance(it, _Number)]
     return function, numbers, [byref(it) for it in _TOLD[: types.count(_PLACE)]]
 
@@ -170,8 +106,9 @@ def _opened():
     path = os.environ.get("KOTSKHIN_SO") or "libkotskhin.so.0"
     try:
         library = ctypes.CDLL(path)
-        calls = {name: _declared(getattr(library, name), types) for name, types in _TYPES.items()}
-        library.kit_free.argtypes, library.kit_free.restype = [_HANDLE], None
+        calls = {name: _declared(getattr(library, name), *words) for name, words in CALLS.items()}
+        if library.kit_version() != VERSION:
+            raise AttributeError(f"{path} is of the version {library.kit_version()}, not {VERSION}")
     except (OSError, AttributeError) as fault:
         raise ImportError(f"set KOTSKHIN_SO to the path of libkotskhin.so.0, which embed/build makes in FOLDER/shared: {fault}") from None
     return library, calls
@@ -197,7 +134,7 @@ os.register_at_fork(after_in_child=_forked)
 def _refusal(code, *places):
     """The refusal of a code, with those of the places that it tells."""
     code = Code(code)
-    return Refused(code, *places[: code.words.count("{}")])
+    return Refused(code, *places[: len(code.places)])
 
 
 def _call(name, *given, index=operator.index):
@@ -331,7 +268,7 @@ def _held(name, at, instrument, attributes):
 def _taken_in(name, at, recorder, most):
     """What became of at most so many recordings of a recorder, or of all."""
     told = _Told()
-    _call(name, at, recorder._at, _INDEX.range[1] if most is None else most, byref(told))
+    _call(name, at, recorder._at, _Number(c_size_t).range[1] if most is None else most, byref(told))
     if not told.code:
         return Taken(told.recorded, told.refused, None, None)
     return Taken(told.recorded, told.refused, told.first, _refusal(told.code, told.place))
@@ -435,10 +372,9 @@ class Writer(_Handle):
         self.start = start
 
     def share(self):
-        """The first seat at the writer, which is none of its own from then on."""
-        _call("kit_writer_share", self._at)
+        """The first seat at the writer: no call of the writer's own does anything from then on."""
         first = Seat()
-        first._raw, self._raw = self._raw, first._raw
+        _call("kit_writer_share", self._at, first._at)
         return first
 
 

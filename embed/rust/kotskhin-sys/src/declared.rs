@@ -1,0 +1,703 @@
+//! Made by embed/declarations.py of what crates/kit_c exports.
+use crate::Handle;
+
+pub const VERSION: u32 = 256;
+
+/// Done.
+pub const OK: i32 = 0;
+/// Memory was refused.
+pub const NO_MEMORY: i32 = 1;
+/// A handle that is read has nothing.
+pub const NOTHING: i32 = 2;
+/// A handle has a thing of another kind.
+pub const WRONG_KIND: i32 = 3;
+/// The handle that is to be filled has something.
+pub const FULL: i32 = 4;
+/// A text is not UTF-8.
+pub const NOT_TEXT: i32 = 5;
+/// A number stands for nothing here.
+pub const BAD_NUMBER: i32 = 6;
+/// Nothing is held under this number.
+pub const NO_HELD: i32 = 7;
+/// There is no row of this number.
+pub const NO_ROW: i32 = 8;
+/// There is no point of what is asked for.
+pub const NO_POINT: i32 = 9;
+/// The writer was shut down.
+pub const CLOSED: i32 = 10;
+/// There is no instrument of this number.
+pub const NO_INSTRUMENT: i32 = 11;
+/// The instrument takes no value below 0.
+pub const NEGATIVE: i32 = 12;
+/// A total would leave 64 bits.
+pub const OVERFLOW: i32 = 13;
+/// The time is not after that of the last collection.
+pub const TIME_NOT_AFTER: i32 = 14;
+/// The start is not after the start so far.
+pub const START_NOT_AFTER: i32 = 15;
+/// A call of another thread has the writer.
+pub const BUSY: i32 = 16;
+/// The writer accepted as many changes as it may.
+pub const EXHAUSTED: i32 = 17;
+/// The writer has as many seats as it may.
+pub const SEATS_FULL: i32 = 18;
+/// There is no item of this number.
+pub const NO_ITEM: i32 = 19;
+/// A key is empty.
+pub const EMPTY_KEY: i32 = 20;
+/// A name breaks the rule of names.
+pub const BAD_NAME: i32 = 30;
+/// A unit breaks the rule of units.
+pub const BAD_UNIT: i32 = 31;
+/// Bounds do not strictly rise, or are too many.
+pub const BAD_BOUNDS: i32 = 32;
+/// A new name breaks the rule of names.
+pub const BAD_RENAME: i32 = 33;
+/// A view of every name gives a new one.
+pub const WILDCARD_RENAME: i32 = 34;
+/// An aggregation does not fit its instrument.
+pub const BAD_AGGREGATION: i32 = 35;
+/// Two instruments feed one stream.
+pub const SAME_STREAM: i32 = 36;
+/// The limit is 0.
+pub const BAD_LIMIT: i32 = 37;
+/// A total is wider than the number that it is to be told in.
+pub const TOO_WIDE: i32 = 40;
+/// There is no bucket of this number.
+pub const NO_BUCKET: i32 = 41;
+/// A row or a value is of another shape.
+pub const WRONG_SHAPE: i32 = 42;
+/// The message goes to another id.
+pub const NOT_ADDRESSED: i32 = 50;
+/// Bytes end within what they begin.
+pub const TRUNCATED: i32 = 60;
+/// Bytes do not begin as an export or a message does.
+pub const BAD_MAGIC: i32 = 61;
+/// The version is none that is known.
+pub const BAD_VERSION: i32 = 62;
+/// A value is not in its one form.
+pub const NOT_CANONICAL: i32 = 63;
+/// The checksum is not that of the bytes before it.
+pub const BAD_CHECKSUM: i32 = 64;
+/// The values are none that an export can have.
+pub const BAD_EXPORT: i32 = 65;
+/// A log has as many recordings as it may.
+pub const RECORDER_FULL: i32 = 70;
+
+kind!(
+    /// Pairs of attributes that are written down, or nothing.
+    Pairs
+);
+
+kind!(
+    /// A set of attributes, or nothing.
+    Attributes
+);
+
+kind!(
+    /// Instruments that are written down, or nothing.
+    Instruments
+);
+
+kind!(
+    /// A view that is being made, or nothing.
+    View
+);
+
+kind!(
+    /// Views that are written down, or nothing.
+    Views
+);
+
+kind!(
+    /// Keys of attributes that are written down, or nothing.
+    Keys
+);
+
+kind!(
+    /// A plan, or nothing.
+    Plan
+);
+
+kind!(
+    /// A writer, or nothing.
+    Writer
+);
+
+kind!(
+    /// A thread's own log of recordings, or nothing.
+    Recorder
+);
+
+kind!(
+    /// An export, or nothing.
+    Export
+);
+
+kind!(
+    /// A gateway, or nothing.
+    Gateway
+);
+
+kind!(
+    /// A gateway that sends messages and takes them in, or nothing.
+    Node
+);
+
+kind!(
+    /// A message of a node, or nothing.
+    Message
+);
+
+kind!(
+    /// A place at a writer that threads share, or nothing.
+    Seat
+);
+
+kind!(
+    /// An ask of a gateway, or nothing.
+    Ask
+);
+
+kind!(
+    /// Rows that a gateway answered, or nothing.
+    Rows
+);
+
+kind!(
+    /// Streams, or nothing.
+    Streams
+);
+
+kind!(
+    /// A text, or nothing.
+    Text
+);
+
+kind!(
+    /// An export or a message as bytes, or nothing.
+    Bytes
+);
+
+/// How many recordings of a log a writer recorded and refused, and why the first of these: its code, its place in the log and what the code
+/// tells. Where none was refused these are `OK`, 0 and 0.
+#[repr(C)]
+#[derive(Clone, Copy, Debug, Default)]
+pub struct Taken {
+    pub recorded: usize,
+    pub refused: usize,
+    pub code: i32,
+    pub first: usize,
+    pub place: u64,
+}
+
+unsafe extern "C" {
+    pub fn kit_ask_sum(
+        ask: *mut Ask,
+        scope: *const u8,
+        scope_len: usize,
+        name: *const u8,
+        name_len: usize,
+        unit: *const u8,
+        unit_len: usize,
+        monotonic: bool,
+    ) -> i32;
+    pub fn kit_ask_gauge(
+        ask: *mut Ask,
+        scope: *const u8,
+        scope_len: usize,
+        name: *const u8,
+        name_len: usize,
+        unit: *const u8,
+        unit_len: usize,
+    ) -> i32;
+    pub fn kit_ask_histogram(
+        ask: *mut Ask,
+        scope: *const u8,
+        scope_len: usize,
+        name: *const u8,
+        name_len: usize,
+        unit: *const u8,
+        unit_len: usize,
+        bounds: *const i64,
+        bounds_len: usize,
+    ) -> i32;
+    pub fn kit_ask_service(
+        ask: *mut Ask,
+        service: *const u8,
+        service_len: usize,
+    ) -> i32;
+    pub fn kit_ask_only(
+        ask: *mut Ask,
+        pairs: *mut Pairs,
+    ) -> i32;
+    pub fn kit_ask_keep(
+        ask: *mut Ask,
+        keys: *mut Keys,
+    ) -> i32;
+    pub fn kit_gateway_rows(
+        gateway: *mut Gateway,
+        ask: *mut Ask,
+        rows: *mut Rows,
+    ) -> i32;
+    pub fn kit_rows_table(
+        rows: *mut Rows,
+        text: *mut Text,
+    ) -> i32;
+    pub fn kit_pairs_add_text(
+        pairs: *mut Pairs,
+        key: *const u8,
+        key_len: usize,
+        value: *const u8,
+        value_len: usize,
+    ) -> i32;
+    pub fn kit_pairs_add_whole(
+        pairs: *mut Pairs,
+        key: *const u8,
+        key_len: usize,
+        value: i64,
+    ) -> i32;
+    pub fn kit_pairs_add_truth(
+        pairs: *mut Pairs,
+        key: *const u8,
+        key_len: usize,
+        value: bool,
+    ) -> i32;
+    pub fn kit_attributes_make(
+        attributes: *mut Attributes,
+        pairs: *mut Pairs,
+        place: *mut u64,
+    ) -> i32;
+    pub fn kit_export_encode(
+        export_: *mut Export,
+        bytes: *mut Bytes,
+    ) -> i32;
+    pub fn kit_bytes_copy(
+        bytes: *mut Bytes,
+        into: *mut u8,
+        room: usize,
+        len: *mut usize,
+    ) -> i32;
+    pub fn kit_export_decode(
+        export_: *mut Export,
+        bytes: *const u8,
+        bytes_len: usize,
+        place: *mut u64,
+    ) -> i32;
+    pub fn kit_code_text(
+        code: i32,
+        into: *mut u8,
+        room: usize,
+    ) -> usize;
+    pub fn kit_export_read(
+        export_: *mut Export,
+        instance_high: *mut u64,
+        instance_low: *mut u64,
+        start: *mut u64,
+        time: *mut u64,
+        points: *mut usize,
+    ) -> i32;
+    pub fn kit_export_service(
+        export_: *mut Export,
+        into: *mut u8,
+        room: usize,
+        len: *mut usize,
+    ) -> i32;
+    pub fn kit_gateway_open(
+        gateway: *mut Gateway,
+        id: u32,
+    ) -> i32;
+    pub fn kit_gateway_read(
+        gateway: *mut Gateway,
+        id: *mut u32,
+        points: *mut usize,
+    ) -> i32;
+    pub fn kit_gateway_take(
+        gateway: *mut Gateway,
+        export_: *mut Export,
+        changed: *mut u64,
+    ) -> i32;
+    pub fn kit_gateway_merge(
+        gateway: *mut Gateway,
+        other: *mut Gateway,
+        changed: *mut u64,
+    ) -> i32;
+    pub fn kit_gateway_conflicts(
+        gateway: *mut Gateway,
+        count: *mut u64,
+    ) -> i32;
+    pub fn kit_gateway_same(
+        gateway: *mut Gateway,
+        other: *mut Gateway,
+        same: *mut bool,
+    ) -> i32;
+    pub fn kit_gateway_newest(
+        gateway: *mut Gateway,
+        service: *const u8,
+        service_len: usize,
+        instance_high: u64,
+        instance_low: u64,
+        start: u64,
+        time: *mut u64,
+    ) -> i32;
+    pub fn kit_free(
+        handle: *mut Handle,
+    );
+    pub fn kit_rows_histogram(
+        rows: *mut Rows,
+        number: usize,
+        count: *mut u64,
+        sum: *mut i64,
+        buckets: *mut usize,
+    ) -> i32;
+    pub fn kit_rows_range(
+        rows: *mut Rows,
+        number: usize,
+        least: *mut i64,
+        greatest: *mut i64,
+    ) -> i32;
+    pub fn kit_rows_bucket(
+        rows: *mut Rows,
+        number: usize,
+        bucket_number: usize,
+        count: *mut u64,
+    ) -> i32;
+    pub fn kit_instruments_add(
+        instruments: *mut Instruments,
+        scope: *const u8,
+        scope_len: usize,
+        name: *const u8,
+        name_len: usize,
+        unit: *const u8,
+        unit_len: usize,
+        kind: u8,
+    ) -> i32;
+    pub fn kit_plan_build(
+        plan: *mut Plan,
+        instruments: *mut Instruments,
+        views: *mut Views,
+        limit: u64,
+        place: *mut u64,
+        second: *mut u64,
+    ) -> i32;
+    pub fn kit_keys_add(
+        keys: *mut Keys,
+        key: *const u8,
+        key_len: usize,
+    ) -> i32;
+    pub fn kit_message_encode(
+        message: *mut Message,
+        bytes: *mut Bytes,
+    ) -> i32;
+    pub fn kit_message_decode(
+        message: *mut Message,
+        bytes: *const u8,
+        bytes_len: usize,
+        place: *mut u64,
+    ) -> i32;
+    pub fn kit_message_gateway(
+        message: *mut Message,
+        gateway: *mut Gateway,
+    ) -> i32;
+    pub fn kit_gateway_encode(
+        gateway: *mut Gateway,
+        bytes: *mut Bytes,
+    ) -> i32;
+    pub fn kit_node_open(
+        node: *mut Node,
+        gateway: *mut Gateway,
+    ) -> i32;
+    pub fn kit_node_gateway(
+        node: *mut Node,
+        gateway: *mut Gateway,
+    ) -> i32;
+    pub fn kit_node_take(
+        node: *mut Node,
+        export_: *mut Export,
+        changed: *mut u64,
+    ) -> i32;
+    pub fn kit_node_merge(
+        node: *mut Node,
+        gateway: *mut Gateway,
+        changed: *mut u64,
+    ) -> i32;
+    pub fn kit_node_send(
+        node: *mut Node,
+        to: u32,
+        message: *mut Message,
+    ) -> i32;
+    pub fn kit_node_hand(
+        node: *mut Node,
+        message: *mut Message,
+        answer: *mut Message,
+        answered: *mut bool,
+    ) -> i32;
+    pub fn kit_message_read(
+        message: *mut Message,
+        from: *mut u32,
+        to: *mut u32,
+        points: *mut usize,
+    ) -> i32;
+    pub fn kit_recorder_new(
+        recorder: *mut Recorder,
+        capacity: usize,
+    ) -> i32;
+    pub fn kit_recorder_measure(
+        recorder: *mut Recorder,
+        instrument: usize,
+        attributes: *mut Attributes,
+        value: i64,
+    ) -> i32;
+    pub fn kit_recorder_measure_held(
+        recorder: *mut Recorder,
+        number: usize,
+        value: i64,
+    ) -> i32;
+    pub fn kit_recorder_len(
+        recorder: *mut Recorder,
+        count: *mut usize,
+    ) -> i32;
+    pub fn kit_recorder_clear(
+        recorder: *mut Recorder,
+    ) -> i32;
+    pub fn kit_rows_len(
+        rows: *mut Rows,
+        count: *mut usize,
+    ) -> i32;
+    pub fn kit_rows_attributes(
+        rows: *mut Rows,
+        number: usize,
+        attributes: *mut Attributes,
+    ) -> i32;
+    pub fn kit_rows_counts(
+        rows: *mut Rows,
+        number: usize,
+        points: *mut u64,
+        conflicts: *mut u64,
+    ) -> i32;
+    pub fn kit_rows_sum(
+        rows: *mut Rows,
+        number: usize,
+        total: *mut i64,
+    ) -> i32;
+    pub fn kit_rows_gauge(
+        rows: *mut Rows,
+        number: usize,
+        time: *mut u64,
+        value: *mut i64,
+    ) -> i32;
+    pub fn kit_writer_share(
+        writer: *mut Writer,
+        seat: *mut Seat,
+    ) -> i32;
+    pub fn kit_seat_measure(
+        seat: *mut Seat,
+        instrument: usize,
+        attributes: *mut Attributes,
+        value: i64,
+        place: *mut u64,
+    ) -> i32;
+    pub fn kit_seat_measure_held(
+        seat: *mut Seat,
+        number: usize,
+        value: i64,
+        place: *mut u64,
+    ) -> i32;
+    pub fn kit_seat_hold(
+        seat: *mut Seat,
+        instrument: usize,
+        attributes: *mut Attributes,
+        number: *mut usize,
+    ) -> i32;
+    pub fn kit_seat_take_in(
+        seat: *mut Seat,
+        recorder: *mut Recorder,
+        most: usize,
+        taken: *mut Taken,
+    ) -> i32;
+    pub fn kit_seat_split(
+        seat: *mut Seat,
+        made: *mut Seat,
+    ) -> i32;
+    pub fn kit_seat_collect(
+        seat: *mut Seat,
+        time: u64,
+        export_: *mut Export,
+        place: *mut u64,
+    ) -> i32;
+    pub fn kit_attributes_len(
+        attributes: *mut Attributes,
+        count: *mut usize,
+    ) -> i32;
+    pub fn kit_attributes_key(
+        attributes: *mut Attributes,
+        number: usize,
+        into: *mut u8,
+        room: usize,
+        len: *mut usize,
+    ) -> i32;
+    pub fn kit_attributes_value(
+        attributes: *mut Attributes,
+        number: usize,
+        kind: *mut u8,
+        whole: *mut i64,
+    ) -> i32;
+    pub fn kit_attributes_text(
+        attributes: *mut Attributes,
+        number: usize,
+        into: *mut u8,
+        room: usize,
+        len: *mut usize,
+    ) -> i32;
+    pub fn kit_plan_streams(
+        plan: *mut Plan,
+        streams: *mut Streams,
+    ) -> i32;
+    pub fn kit_gateway_streams(
+        gateway: *mut Gateway,
+        streams: *mut Streams,
+    ) -> i32;
+    pub fn kit_streams_len(
+        streams: *mut Streams,
+        count: *mut usize,
+    ) -> i32;
+    pub fn kit_streams_text(
+        streams: *mut Streams,
+        number: usize,
+        part: u8,
+        into: *mut u8,
+        room: usize,
+        len: *mut usize,
+    ) -> i32;
+    pub fn kit_streams_shape(
+        streams: *mut Streams,
+        number: usize,
+        shape: *mut u8,
+        bounds: *mut usize,
+    ) -> i32;
+    pub fn kit_streams_bounds(
+        streams: *mut Streams,
+        number: usize,
+        into: *mut i64,
+        room: usize,
+        len: *mut usize,
+    ) -> i32;
+    pub fn kit_ask_stream(
+        ask: *mut Ask,
+        streams: *mut Streams,
+        number: usize,
+    ) -> i32;
+    pub fn kit_default_bounds(
+        into: *mut i64,
+        room: usize,
+    ) -> usize;
+    pub fn kit_text_copy(
+        text: *mut Text,
+        into: *mut u8,
+        room: usize,
+        len: *mut usize,
+    ) -> i32;
+    pub fn kit_version() -> u32;
+    pub fn kit_view_of_name(
+        view: *mut View,
+        name: *const u8,
+        name_len: usize,
+    ) -> i32;
+    pub fn kit_view_of_every(
+        view: *mut View,
+    ) -> i32;
+    pub fn kit_view_kind(
+        view: *mut View,
+        kind: u8,
+    ) -> i32;
+    pub fn kit_view_scope(
+        view: *mut View,
+        scope: *const u8,
+        scope_len: usize,
+    ) -> i32;
+    pub fn kit_view_rename(
+        view: *mut View,
+        name: *const u8,
+        name_len: usize,
+    ) -> i32;
+    pub fn kit_view_keep(
+        view: *mut View,
+        keys: *mut Keys,
+    ) -> i32;
+    pub fn kit_view_aggregation(
+        view: *mut View,
+        number: u8,
+    ) -> i32;
+    pub fn kit_view_buckets(
+        view: *mut View,
+        bounds: *const i64,
+        bounds_len: usize,
+    ) -> i32;
+    pub fn kit_views_add(
+        views: *mut Views,
+        view: *mut View,
+    ) -> i32;
+    pub fn kit_rows_wide_sum(
+        rows: *mut Rows,
+        number: usize,
+        high: *mut u64,
+        low: *mut u64,
+    ) -> i32;
+    pub fn kit_rows_wide_count(
+        rows: *mut Rows,
+        number: usize,
+        high: *mut u64,
+        low: *mut u64,
+    ) -> i32;
+    pub fn kit_writer_start(
+        writer: *mut Writer,
+        plan: *mut Plan,
+        service: *const u8,
+        service_len: usize,
+        instance_high: u64,
+        instance_low: u64,
+        start: u64,
+    ) -> i32;
+    pub fn kit_writer_measure(
+        writer: *mut Writer,
+        instrument: usize,
+        attributes: *mut Attributes,
+        value: i64,
+        place: *mut u64,
+    ) -> i32;
+    pub fn kit_writer_hold(
+        writer: *mut Writer,
+        instrument: usize,
+        attributes: *mut Attributes,
+        number: *mut usize,
+    ) -> i32;
+    pub fn kit_writer_measure_held(
+        writer: *mut Writer,
+        number: usize,
+        value: i64,
+        place: *mut u64,
+    ) -> i32;
+    pub fn kit_writer_take_in(
+        writer: *mut Writer,
+        recorder: *mut Recorder,
+        most: usize,
+        taken: *mut Taken,
+    ) -> i32;
+    pub fn kit_writer_collect(
+        writer: *mut Writer,
+        time: u64,
+        export_: *mut Export,
+        place: *mut u64,
+    ) -> i32;
+    pub fn kit_writer_shutdown(
+        writer: *mut Writer,
+        time: u64,
+        export_: *mut Export,
+        place: *mut u64,
+    ) -> i32;
+    pub fn kit_writer_restart(
+        writer: *mut Writer,
+        start: u64,
+        place: *mut u64,
+    ) -> i32;
+}
