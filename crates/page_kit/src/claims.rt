@@ -1,19 +1,26 @@
-//! Which metrics are shown.
+//! Names that are claimed.
+ghost use Rattle.std.specs.Prelude.{◌≡◌, ◌++◌, List, ℕ, OnOk};
+ghost use Rattle.page_kit.specs.Families.{IsClaimed, are_claimed};
+
 use attr_kit::{NoMemory, Txt};
 use std::collections::BTreeSet;
 
-/// Whether none of these names is claimed.
-pub(crate) fn are_free(claimed: &BTreeSet<Txt>, claims: &[Txt]) -> bool {
+/// Whether one of these names is claimed.
+pub(crate) fn is_claimed(claimed: &BTreeSet<Txt>, claims: &[Txt]) -> bool
+    ensures { (names : List (List ℕ)) → IsClaimed names claimed.now.keys → result ≡ are_claimed names claims.now }
+{
     for claim in claims {
         if claimed.contains(claim) {
-            return false;
+            return true;
         }
     }
-    true
+    false
 }
 
 /// Claims these names.
-pub(crate) fn claim(claimed: &mut BTreeSet<Txt>, claims: Vec<Txt>) -> Result<(), NoMemory> {
+pub(crate) fn claim(claimed: &mut BTreeSet<Txt>, claims: Vec<Txt>) -> Result<(), NoMemory>
+    ensures { OnOk result ((names : List (List ℕ)) → IsClaimed names claimed.old.keys → IsClaimed (claims.items ++ names) claimed.new.keys) }
+{
     for claim in claims {
         claimed.insert(claim)?;
     }

@@ -1,5 +1,12 @@
 //! The metrics of points, and which of them are shown.
-use crate::claims::{are_free, claim};
+ghost use Rattle.std.specs.Prelude.{◌≡◌, map, IfOk};
+ghost use Rattle.gateway_kit.specs.Walks.{keyed_cell_of_ref};
+ghost use Rattle.attr_kit.specs.Orders.{text_cmp};
+ghost use Rattle.page_kit.specs.Families.{metrics_of, rank_of, ranked, own_names, shown_after, hidden_after, shown_metrics, hidden_metrics};
+ghost use Rattle.page_kit.specs.Groups.{in_order};
+ghost use Rattle.page_kit.specs.Metrics.{family};
+
+use crate::claims::{claim, is_claimed};
 use crate::groups::{list_of, put, values_of};
 use crate::metric::Metric;
 use crate::own::own_names;
@@ -26,45 +33,63 @@ pub(crate) struct Rank {
 
 /// Metrics that are shown, and those that are not.
 #[derive(Drop)]
-pub(crate) struct Sorted<'a> {
+pub(crate) struct Families<'a> {
     pub(crate) shown: Vec<Measured<'a>>,
     pub(crate) hidden: Vec<Measured<'a>>,
 }
 
-fn metrics_of<'a>(
+// The points by their metrics.
+#[tactic(auto, unfolding(crate::specs::Families::metrics_of))]
+fn by_metric<'a>(
     alloc: Global,
     points: &[PointRef<'a>],
-) -> Result<Vec<Measured<'a>>, NoMemory> {
+) -> Result<Vec<(Metric, Vec<PointRef<'a>>)>, NoMemory>
+    ensures { IfOk result (λ list. map (λ g. (g.0, map keyed_cell_of_ref g.1.items)) list.items ≡ metrics_of (map keyed_cell_of_ref points.now)) }
+{
     let mut groups = BTreeMap::new(alloc);
     for point in points {
         put(alloc, &mut groups, Metric::of(point.stream)?, *point)?;
     }
+    list_of(alloc, groups)
+}
+
+fn metrics_of<'a>(alloc: Global, points: &[PointRef<'a>]) -> Result<Vec<Measured<'a>>, NoMemory>
+    ensures { IfOk result (λ metrics. map (λ m. (m.metric, map keyed_cell_of_ref m.points.items)) metrics.items ≡ metrics_of (map keyed_cell_of_ref points.now)) }
+{
     let mut metrics = Vec::new(alloc);
-    for (metric, points) in list_of(alloc, groups)? {
+    for (metric, points) in by_metric(alloc, points)? {
         metrics.push(Measured { metric, points })?;
     }
     Ok(metrics)
 }
 
-fn ranked<'a>(
-    alloc: Global,
-    metrics: Vec<Measured<'a>>,
-) -> Result<Vec<Measured<'a>>, NoMemory> {
+fn rank_of(measured: &Measured<'_>) -> Result<Rank, NoMemory>
+    ensures { IfOk result (λ rank. rank ≡ rank_of (measured.now.metric, map keyed_cell_of_ref measured.now.points.items)) }
+{
+    Ok(Rank {
+        born: Reverse(born_of(measured.points.as_slice())),
+        metric: measured.metric.try_copy()?,
+    })
+}
+
+// The metrics in the order of their ranks.
+#[tactic(auto, unfolding(crate::specs::Families::ranked))]
+fn ranked<'a>(alloc: Global, metrics: Vec<Measured<'a>>) -> Result<Vec<Measured<'a>>, NoMemory>
+    ensures { IfOk result (λ ranked. map (λ m. (m.metric, map keyed_cell_of_ref m.points.items)) ranked.items
+        ≡ ranked (map (λ m. (m.metric, map keyed_cell_of_ref m.points.items)) metrics.entry.items)) }
+{
     let mut groups = BTreeMap::new(alloc);
     for measured in metrics {
-        let rank = Rank {
-            born: Reverse(born_of(measured.points.as_slice())),
-            metric: measured.metric.try_copy()?,
-        };
-        put(alloc, &mut groups, rank, measured)?;
+        put(alloc, &mut groups, rank_of(&measured)?, measured)?;
     }
     values_of(alloc, groups)
 }
 
-fn by_name<'a>(
-    alloc: Global,
-    metrics: Vec<Measured<'a>>,
-) -> Result<Vec<Measured<'a>>, NoMemory> {
+// The metrics in the order of their families' names.
+fn by_name<'a>(alloc: Global, metrics: Vec<Measured<'a>>) -> Result<Vec<Measured<'a>>, NoMemory>
+    ensures { IfOk result (λ named. map (λ m. (m.metric, map keyed_cell_of_ref m.points.items)) named.items
+        ≡ in_order text_cmp (map (λ m. (family m.0, m)) (map (λ m. (m.metric, map keyed_cell_of_ref m.points.items)) metrics.entry.items))) }
+{
     let mut groups = BTreeMap::new(alloc);
     for measured in metrics {
         let name = Txt::from_string(measured.metric.family(alloc)?);
@@ -73,35 +98,40 @@ fn by_name<'a>(
     values_of(alloc, groups)
 }
 
-fn told_apart<'a>(
-    alloc: Global,
-    metrics: Vec<Measured<'a>>,
-) -> Result<Sorted<'a>, NoMemory> {
+// Metrics that claim names which none before them claims, nor the kit, and the others.
+fn told_apart<'a>(alloc: Global, metrics: Vec<Measured<'a>>) -> Result<Families<'a>, NoMemory>
+    ensures shown { IfOk result (λ f. map (λ m. (m.metric, map keyed_cell_of_ref m.points.items)) f.shown.items
+        ≡ shown_after own_names (map (λ m. (m.metric, map keyed_cell_of_ref m.points.items)) metrics.entry.items)) }
+    ensures hidden { IfOk result (λ f. map (λ m. (m.metric, map keyed_cell_of_ref m.points.items)) f.hidden.items
+        ≡ hidden_after own_names (map (λ m. (m.metric, map keyed_cell_of_ref m.points.items)) metrics.entry.items)) }
+{
     let mut claimed = BTreeSet::new(alloc);
     claim(&mut claimed, own_names(alloc)?)?;
     let mut shown = Vec::new(alloc);
     let mut hidden = Vec::new(alloc);
     for measured in metrics {
         let claims = measured.metric.claims(alloc)?;
-        if are_free(&claimed, claims.as_slice()) {
-            shown.push(measured)?;
-        } else {
+        if is_claimed(&claimed, claims.as_slice()) {
             hidden.push(measured)?;
+        } else {
+            shown.push(measured)?;
         }
         claim(&mut claimed, claims)?;
     }
-    Ok(Sorted { shown, hidden })
+    Ok(Families { shown, hidden })
 }
 
-/// The metrics of points: those that are shown in the order of their families' names, and the others.
+/// The metrics of points: those that are shown, in the order of their families' names, and the others.
+#[tactic(auto, unfolding(crate::specs::Families::shown_metrics), unfolding(crate::specs::Families::hidden_metrics))]
 pub(crate) fn families_of<'a>(
     alloc: Global,
     points: &[PointRef<'a>],
-) -> Result<Sorted<'a>, NoMemory> {
+) -> Result<Families<'a>, NoMemory>
+    ensures shown { IfOk result (λ f. map (λ m. (m.metric, map keyed_cell_of_ref m.points.items)) f.shown.items ≡ shown_metrics (map keyed_cell_of_ref points.now)) }
+    ensures hidden { IfOk result (λ f. map (λ m. (m.metric, map keyed_cell_of_ref m.points.items)) f.hidden.items ≡ hidden_metrics (map keyed_cell_of_ref points.now)) }
+{
     let metrics = metrics_of(alloc, points)?;
-    let Sorted { shown, hidden } = told_apart(alloc, ranked(alloc, metrics)?)?;
-    Ok(Sorted {
-        shown: by_name(alloc, shown)?,
-        hidden,
-    })
+    let Families { shown, hidden } = told_apart(alloc, ranked(alloc, metrics)?)?;
+    let shown = by_name(alloc, shown)?;
+    Ok(Families { shown, hidden })
 }

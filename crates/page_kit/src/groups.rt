@@ -1,4 +1,8 @@
 //! Values by their keys.
+ghost use Rattle.std.specs.Prelude.{◌≡◌, IfOk, OnOk, map};
+ghost use Rattle.std.specs.List.{flat_map};
+ghost use Rattle.page_kit.specs.Groups.{put};
+
 use attr_kit::NoMemory;
 use std::alloc::Global;
 use std::collections::BTreeMap;
@@ -9,7 +13,10 @@ pub(crate) fn put<K: Ord + Drop, T: Drop>(
     groups: &mut BTreeMap<K, Vec<T>>,
     key: K,
     value: T,
-) -> Result<(), NoMemory> {
+) -> Result<(), NoMemory>
+    ensures { OnOk result (map (λ g. (g.0, g.1.items)) groups.new.entries
+        ≡ put K.cmp (map (λ g. (g.0, g.1.items)) groups.old.entries) (key, value)) }
+{
     if let Some(values) = groups.get_mut(&key) {
         values.push(value)?;
         return Ok(());
@@ -24,7 +31,9 @@ pub(crate) fn put<K: Ord + Drop, T: Drop>(
 pub(crate) fn list_of<K: Ord + Drop, T: Drop>(
     alloc: Global,
     groups: BTreeMap<K, Vec<T>>,
-) -> Result<Vec<(K, Vec<T>)>, NoMemory> {
+) -> Result<Vec<(K, Vec<T>)>, NoMemory>
+    ensures { IfOk result (λ list. list.items ≡ groups.entries) }
+{
     let mut list = Vec::with_capacity(alloc, groups.len())?;
     for group in groups {
         list.push(group)?;
@@ -36,12 +45,13 @@ pub(crate) fn list_of<K: Ord + Drop, T: Drop>(
 pub(crate) fn values_of<K: Ord + Drop, T: Drop>(
     alloc: Global,
     groups: BTreeMap<K, Vec<T>>,
-) -> Result<Vec<T>, NoMemory> {
+) -> Result<Vec<T>, NoMemory>
+    ensures { IfOk result (λ all. all.items ≡ flat_map (λ g. g.1.items) groups.entries) }
+{
     let mut all = Vec::new(alloc);
     for (_, values) in groups {
-        for value in values {
-            all.push(value)?;
-        }
+        let mut values = values;
+        all.append(&mut values)?;
     }
     Ok(all)
 }

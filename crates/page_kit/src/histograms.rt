@@ -1,54 +1,23 @@
 //! The samples of histograms.
-use crate::bounds::{bounds_in, shared_bounds};
-use crate::groups::{list_of, put};
+ghost use Rattle.std.specs.Prelude.{◌≡◌, ◌++◌, ◌∷◌, [], ◌-◌, ◌<◌, ◌≤◌, ◌^◌, pos, length, take, map, IfOk, OnOk, string_bytes, ◌≤ℤ◌};
+ghost use Rattle.std.specs.List.{flat_map};
+ghost use Rattle.gateway_kit.specs.Walks.{keyed_cell_of_ref};
+ghost use Rattle.page_kit.specs.Bounds.{values_up_to};
+ghost use Rattle.page_kit.specs.Rows.{without_zeros, mantissa, two_digits, scientific, bound_text, le, bucket, histogram};
+
+use crate::bounds::values_up_to;
 use crate::labels::Label;
 use crate::text::push_sample;
 use crate::totals::{count_of, sum_of};
 use attr_kit::{NoMemory, Txt};
 use gateway_kit::PointRef;
-use point_kit::{Held, Payload};
 use std::alloc::Global;
-use std::collections::BTreeMap;
 
-// The counts of a cell's buckets.
-fn buckets_in<'a>(point: PointRef<'a>) -> &'a [u64] {
-    match &point.cell.held {
-        Held::One(Payload::Hist { buckets, .. }) => buckets.as_slice(),
-        _ => &[],
-    }
-}
-
-// The counts of the buckets up to a bound.
-fn count_up_to(bound: i64, bounds: &[i64], buckets: &[u64]) -> u128 {
-    let mut count = 0;
-    for (limit, bucket) in bounds.iter().zip(buckets) {
-        if *limit <= bound {
-            count += u128::from(*bucket);
-        }
-    }
-    count
-}
-
-// How many values of all points are not above a bound.
-fn values_up_to(bound: i64, points: &[PointRef]) -> u128 {
-    let mut count = 0;
-    for point in points {
-        count += count_up_to(bound, bounds_in(*point), buckets_in(*point));
-    }
-    count
-}
-
-// A bound as `le` has it: the canonical number of OpenMetrics.
-fn bound_text(alloc: Global, bound: i64) -> Result<String, NoMemory> {
-    let digits = format!(in alloc; "{bound}")?;
-    if bound < 1000000 {
-        return Ok(format!(in alloc; "{digits}.0")?);
-    }
-    scientific(alloc, digits.as_bytes())
-}
-
-// The number of digits without zeros at the end.
-fn significant(digits: &[u8]) -> usize {
+// How many digits there are without the zeros at the end.
+fn significant(digits: &[u8]) -> usize
+    ensures within { result ≤ length digits.now }
+    ensures value { take result digits.now ≡ without_zeros digits.now }
+{
     let mut len = digits.len();
     while len > 0 && digits[len - 1] == b'0' {
         len -= 1;
@@ -56,75 +25,128 @@ fn significant(digits: &[u8]) -> usize {
     len
 }
 
-fn scientific(alloc: Global, digits: &[u8]) -> Result<String, NoMemory> {
-    let mut text = String::new(alloc);
-    for (place, digit) in digits[..significant(digits)].iter().enumerate() {
-        if place == 1 {
-            text.push('.')?;
-        }
+// What stands behind the digit at this place.
+fn point_behind(place: usize, len: usize) -> &'static str {
+    if place == 0 && len > 1 { "." } else { "" }
+}
+
+// Adds the first digit, and the others behind a point.
+fn push_mantissa(text: &mut String, digits: &[u8]) -> Result<(), NoMemory>
+    ensures { OnOk result (string_bytes text.new ≡ string_bytes text.old ++ mantissa digits.now) }
+{
+    for (place, digit) in digits.iter().enumerate() {
         text.push(*digit as char)?;
+        text.push_str(point_behind(place, digits.len()))?;
     }
-    let exponent = digits.len() - 1;
-    write!(text, "e+{exponent:02}")?;
+    Ok(())
+}
+
+// Adds a number in at least two digits.
+fn push_two_digits(text: &mut String, number: usize) -> Result<(), NoMemory>
+    ensures { OnOk result (string_bytes text.new ≡ string_bytes text.old ++ two_digits number) }
+{
+    if number < 10 {
+        text.push('0')?;
+    }
+    write!(text, "{number}")?;
+    Ok(())
+}
+
+#[tactic(auto, unfolding(crate::specs::Rows::scientific))]
+fn scientific(alloc: Global, digits: &[u8]) -> Result<String, NoMemory>
+    ensures { IfOk result (λ text. string_bytes text ≡ scientific digits.now) }
+{
+    let mut text = String::new(alloc);
+    push_mantissa(&mut text, &digits[..significant(digits)])?;
+    text.push_str("e+")?;
+    push_two_digits(&mut text, digits.len().saturating_sub(1))?;
     Ok(text)
 }
 
-/// The shared bounds of the histograms of each service.
-pub(crate) fn bounds_of_services(
-    alloc: Global,
-    points: &[PointRef],
-) -> Result<BTreeMap<Txt, Vec<i64>>, NoMemory> {
-    let mut services = BTreeMap::new(alloc);
-    for point in points {
-        put(alloc, &mut services, point.writer.service.try_copy()?, *point)?;
+// A bound as `le` has it: the canonical number of OpenMetrics.
+#[tactic(auto, unfolding(crate::specs::Rows::bound_text))]
+fn bound_text(alloc: Global, bound: i64) -> Result<String, NoMemory>
+    ensures { IfOk result (λ text. string_bytes text ≡ bound_text bound) }
+{
+    let mut digits = format!(in alloc; "{bound}")?;
+    if bound < 1000000 {
+        digits.push_str(".0")?;
+        return Ok(digits);
     }
-    let mut bounds = BTreeMap::new(alloc);
-    for (service, points) in list_of(alloc, services)? {
-        bounds.insert(service, shared_bounds(alloc, points.as_slice())?)?;
-    }
-    Ok(bounds)
+    scientific(alloc, digits.as_bytes())
 }
 
-fn push_bucket(
-    text: &mut String,
-    alloc: Global,
-    family: &str,
-    labels: &[Label],
-    le: String,
-    count: u128,
-) -> Result<(), NoMemory> {
+// Labels with that of a bucket's bound behind them.
+fn with_bound(alloc: Global, labels: &[Label], bound: &str) -> Result<Vec<Label>, NoMemory>
+    ensures { IfOk result (λ all. all.items ≡ labels.now ++ le bound.now ∷ []) }
+{
     let mut all = Vec::with_capacity(alloc, labels.len())?;
     for label in labels {
         all.push(label.try_copy()?)?;
     }
     all.push(Label {
         name: Txt::from_str(alloc, "le")?,
-        value: Txt::from_string(le),
+        value: Txt::from_str(alloc, bound)?,
     })?;
+    Ok(all)
+}
+
+// Adds a bucket: how many values are not above its bound.
+#[tactic(auto, unfolding(crate::specs::Rows::bucket))]
+fn push_bucket(
+    text: &mut String,
+    alloc: Global,
+    name: &str,
+    labels: &[Label],
+    bound: &str,
+    count: u128,
+) -> Result<(), NoMemory>
+    ensures { OnOk result (string_bytes text.new ≡ string_bytes text.old ++ bucket name.now labels.now bound.now count) }
+{
+    let labels = with_bound(alloc, labels, bound)?;
     let number = format!(in alloc; "{count}")?;
-    push_sample(text, family, "_bucket", all.as_slice(), number.as_str())?;
+    push_sample(text, name, "_bucket", labels.as_slice(), number.as_str())?;
+    Ok(())
+}
+
+fn push_buckets(
+    text: &mut String,
+    alloc: Global,
+    name: &str,
+    labels: &[Label],
+    bounds: &[i64],
+    points: &[PointRef],
+) -> Result<(), NoMemory>
+    ensures { OnOk result (string_bytes text.new ≡ string_bytes text.old
+        ++ flat_map (λ bound. bucket name.now labels.now (bound_text bound) (values_up_to bound (map keyed_cell_of_ref points.now))) bounds.now) }
+{
+    for bound in bounds {
+        let le = bound_text(alloc, *bound)?;
+        let count = values_up_to(*bound, points);
+        push_bucket(text, alloc, name, labels, le.as_str(), count)?;
+    }
     Ok(())
 }
 
 /// The samples of a row: its buckets, its sum and its count.
+#[tactic(auto, unfolding(crate::specs::Rows::histogram))]
 pub(crate) fn push_histogram(
     text: &mut String,
     alloc: Global,
-    family: &str,
+    name: &str,
     labels: &[Label],
     bounds: &[i64],
     points: &[PointRef],
-) -> Result<(), NoMemory> {
-    for bound in bounds {
-        let le = bound_text(alloc, *bound)?;
-        push_bucket(text, alloc, family, labels, le, values_up_to(*bound, points))?;
-    }
+) -> Result<(), NoMemory>
+    ensures { OnOk result (string_bytes text.new ≡ string_bytes text.old ++ histogram name.now labels.now bounds.now (map keyed_cell_of_ref points.now)) }
+{
     let count = count_of(points);
-    push_bucket(text, alloc, family, labels, String::from_str(alloc, "+Inf")?, count)?;
     let sum = sum_of(points);
-    let number = format!(in alloc; "{sum}")?;
-    push_sample(text, family, "_sum", labels, number.as_str())?;
-    let number = format!(in alloc; "{count}")?;
-    push_sample(text, family, "_count", labels, number.as_str())?;
+    let count_text = format!(in alloc; "{count}")?;
+    let sum_text = format!(in alloc; "{sum}")?;
+    push_buckets(text, alloc, name, labels, bounds, points)?;
+    push_bucket(text, alloc, name, labels, "+Inf", count)?;
+    push_sample(text, name, "_sum", labels, sum_text.as_str())?;
+    push_sample(text, name, "_count", labels, count_text.as_str())?;
     Ok(())
 }

@@ -12,8 +12,6 @@ mod names;
 mod own;
 mod page;
 mod rows;
-#[cfg(test)]
-mod tests;
 mod text;
 mod totals;
 mod units;

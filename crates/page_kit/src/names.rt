@@ -1,9 +1,15 @@
 //! Names as Prometheus wants them.
+ghost use Rattle.std.specs.Prelude.{◌≡◌, IfOk, string_bytes};
+ghost use Rattle.page_kit.specs.Names.{line, led, without_prefix, without_suffix, trimmed, has_part};
+
 use attr_kit::NoMemory;
 use std::alloc::Global;
 
-/// The bytes with each longest run of those that are no ASCII letter or digit as one `_`.
-pub(crate) fn line(alloc: Global, bytes: &[u8]) -> Result<String, NoMemory> {
+/// The bytes with each longest run of those that are no ASCII letters or digits as one `_`.
+#[tactic(auto, unfolding(crate::specs::Names::line))]
+pub(crate) fn line(alloc: Global, bytes: &[u8]) -> Result<String, NoMemory>
+    ensures { IfOk result (λ text. string_bytes text ≡ line bytes.now) }
+{
     let mut text = String::new(alloc);
     let mut in_run = false;
     for byte in bytes {
@@ -19,7 +25,10 @@ pub(crate) fn line(alloc: Global, bytes: &[u8]) -> Result<String, NoMemory> {
 }
 
 /// A name that begins with a letter: a word stands before one that does not.
-pub(crate) fn led(alloc: Global, word: &str, name: &str) -> Result<String, NoMemory> {
+#[tactic(auto, unfolding(crate::specs::Names::led))]
+pub(crate) fn led(alloc: Global, word: &str, name: &str) -> Result<String, NoMemory>
+    ensures { IfOk result (λ text. string_bytes text ≡ led word.now name.now) }
+{
     let mut text = String::new(alloc);
     match name.as_bytes().first() {
         Some(first) if first.is_ascii_alphabetic() => {}
@@ -33,12 +42,41 @@ pub(crate) fn led(alloc: Global, word: &str, name: &str) -> Result<String, NoMem
     Ok(text)
 }
 
-/// A text without a last `_`.
-pub(crate) fn without_last(text: &str) -> &str {
-    text.strip_suffix('_').unwrap_or(text)
+/// A text without this at its end, where it stands there.
+pub(crate) fn without_suffix<'a>(text: &'a str, suffix: &str) -> &'a str
+    ensures { result.now ≡ without_suffix suffix.now text.now }
+{
+    match text.strip_suffix(suffix) {
+        Some(front) => front,
+        None => text,
+    }
+}
+
+/// A text without this at its front, where it stands there.
+pub(crate) fn without_prefix<'a>(text: &'a str, prefix: &str) -> &'a str
+    ensures { result.now ≡ without_prefix prefix.now text.now }
+{
+    match text.strip_prefix(prefix) {
+        Some(rest) => rest,
+        None => text,
+    }
 }
 
 /// A text without `_` at either end.
-pub(crate) fn trimmed(text: &str) -> &str {
-    without_last(text.strip_prefix('_').unwrap_or(text))
+pub(crate) fn trimmed(text: &str) -> &str
+    ensures { result.now ≡ trimmed text.now }
+{
+    without_suffix(without_prefix(text, "_"), "_")
+}
+
+/// Whether a part stands in a text.
+pub(crate) fn has_part(bytes: &[u8], part: &[u8]) -> bool
+    ensures { result ≡ has_part part.now bytes.now }
+{
+    for place in 0..bytes.len() {
+        if bytes[place..].starts_with(part) {
+            return true;
+        }
+    }
+    false
 }

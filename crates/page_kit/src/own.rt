@@ -1,30 +1,39 @@
 //! The families of the kit's own, which tell what a page leaves out.
+ghost use Rattle.std.specs.Prelude.{◌≡◌, ◌<◌, ◌++◌, ◌∷◌, [], map, filter, length, IfOk, OnOk, string_bytes};
+ghost use Rattle.std.specs.Fmt.{decimal};
+ghost use Rattle.std.specs.List.{flat_map};
+ghost use Rattle.gateway_kit.specs.Walks.{keyed_cell_of_ref};
+ghost use Rattle.page_kit.specs.Families.{own_names};
+ghost use Rattle.page_kit.specs.Groups.{groups};
+ghost use Rattle.page_kit.specs.Labels.{labels_cmp, service_labels, metric_labels, conflict_labels};
+ghost use Rattle.page_kit.specs.Lines.{sample, metadata};
+ghost use Rattle.page_kit.specs.Page.{conflicts_text, keys_text, left_out_text, digit, seconds, newest_text, own_text};
+ghost use Rattle.page_kit.specs.Totals.{is_conflict, latest};
+
 use crate::families::Measured;
 use crate::groups::{list_of, put};
-use crate::labels::{conflict_labels, metric_labels, service_labels};
+use crate::labels::{Label, conflict_labels, metric_labels, service_labels};
 use crate::metric::Kind;
-use crate::text::{Format, push_metadata, push_sample};
+use crate::text::{Format, Head, push_metadata, push_sample};
 use crate::totals::{is_conflict, latest_of};
-use attr_kit::{NoMemory, Txt};
+use attr_kit::{NoMemory, Seq, Txt};
 use gateway_kit::PointRef;
 use std::alloc::Global;
 use std::collections::BTreeMap;
 
-const CONFLICTS: &str = "kotskhin_conflicts";
-const KEYS: &str = "kotskhin_keys";
-const LEFT_OUT: &str = "kotskhin_left_out";
-const NEWEST: &str = "kotskhin_newest_seconds";
-
 /// The names of these families.
-pub(crate) fn own_names(alloc: Global) -> Result<Vec<Txt>, NoMemory> {
+pub(crate) fn own_names(alloc: Global) -> Result<Vec<Txt>, NoMemory>
+    ensures { IfOk result (λ names. names.items ≡ own_names) }
+{
     let mut names = Vec::new(alloc);
-    names.push(Txt::from_str(alloc, CONFLICTS)?)?;
-    names.push(Txt::from_str(alloc, KEYS)?)?;
-    names.push(Txt::from_str(alloc, LEFT_OUT)?)?;
-    names.push(Txt::from_str(alloc, NEWEST)?)?;
+    names.push(Txt::from_str(alloc, "kotskhin_conflicts")?)?;
+    names.push(Txt::from_str(alloc, "kotskhin_keys")?)?;
+    names.push(Txt::from_str(alloc, "kotskhin_left_out")?)?;
+    names.push(Txt::from_str(alloc, "kotskhin_newest_seconds")?)?;
     Ok(names)
 }
 
+// Adds the metadata of a gauge.
 fn push_head(
     text: &mut String,
     alloc: Global,
@@ -32,115 +41,258 @@ fn push_head(
     name: &str,
     unit: &str,
     help: &str,
-) -> Result<(), NoMemory> {
-    push_metadata(text, alloc, format, name, Kind::Gauge, unit, help)
+) -> Result<(), NoMemory>
+    ensures { OnOk result (string_bytes text.new ≡ string_bytes text.old ++ metadata format name.now Kind.Gauge unit.now help.now) }
+{
+    let head = Head {
+        name,
+        kind: Kind::Gauge,
+        unit,
+        help,
+    };
+    push_metadata(text, alloc, format, head)
 }
 
-fn push_conflicts(
+fn push_number(
     text: &mut String,
     alloc: Global,
-    format: Format,
-    points: &[PointRef],
-) -> Result<(), NoMemory> {
-    push_head(
-        text,
-        alloc,
-        format,
-        CONFLICTS,
-        "",
-        "Keys that hold a conflict. A row that has one is not shown.",
-    )?;
+    name: &str,
+    labels: &[Label],
+    number: usize,
+) -> Result<(), NoMemory>
+    ensures { OnOk result (string_bytes text.new ≡ string_bytes text.old ++ sample name.now labels.now (decimal number)) }
+{
+    let number = format!(in alloc; "{number}")?;
+    push_sample(text, name, "", labels, number.as_str())?;
+    Ok(())
+}
+
+// The points that hold a conflict, by their labels.
+fn conflicts_of<'a>(
+    alloc: Global,
+    points: &[PointRef<'a>],
+) -> Result<Vec<(Seq<Label>, Vec<PointRef<'a>>)>, NoMemory>
+    ensures { IfOk result (λ list. map (λ g. (g.0, map keyed_cell_of_ref g.1.items)) list.items
+        ≡ groups labels_cmp (map (λ e. (conflict_labels e.0, e)) (filter is_conflict (map keyed_cell_of_ref points.now)))) }
+{
     let mut groups = BTreeMap::new(alloc);
     for point in points {
         if is_conflict(*point) {
             put(alloc, &mut groups, conflict_labels(alloc, *point)?, *point)?;
         }
     }
-    for (labels, points) in list_of(alloc, groups)?.iter() {
-        let number = format!(in alloc; "{}", points.len())?;
-        push_sample(text, CONFLICTS, "", labels.as_slice(), number.as_str())?;
+    list_of(alloc, groups)
+}
+
+fn push_lengths(
+    text: &mut String,
+    alloc: Global,
+    name: &str,
+    rows: &[(Seq<Label>, Vec<PointRef<'_>>)],
+) -> Result<(), NoMemory>
+    ensures { OnOk result (string_bytes text.new ≡ string_bytes text.old ++ flat_map (λ g. sample name.now g.0 (decimal (length g.1.items))) rows.now) }
+{
+    for (labels, points) in rows {
+        push_number(text, alloc, name, labels.as_slice(), points.len())?;
     }
     Ok(())
 }
 
+#[tactic(auto, unfolding(crate::specs::Page::conflicts_text))]
+fn push_conflicts(
+    text: &mut String,
+    alloc: Global,
+    format: Format,
+    points: &[PointRef],
+) -> Result<(), NoMemory>
+    ensures { OnOk result (string_bytes text.new ≡ string_bytes text.old ++ conflicts_text format (map keyed_cell_of_ref points.now)) }
+{
+    let rows = conflicts_of(alloc, points)?;
+    push_head(
+        text,
+        alloc,
+        format,
+        "kotskhin_conflicts",
+        "",
+        "Keys that hold a conflict. A row that has one is not shown.",
+    )?;
+    push_lengths(text, alloc, "kotskhin_conflicts", rows.as_slice())
+}
+
+#[tactic(auto, unfolding(crate::specs::Page::keys_text))]
 fn push_keys(
     text: &mut String,
     alloc: Global,
     format: Format,
     points: &[PointRef],
-) -> Result<(), NoMemory> {
-    push_head(text, alloc, format, KEYS, "", "Keys that are held.")?;
-    let number = format!(in alloc; "{}", points.len())?;
-    push_sample(text, KEYS, "", &[], number.as_str())?;
+) -> Result<(), NoMemory>
+    ensures { OnOk result (string_bytes text.new ≡ string_bytes text.old ++ keys_text format (map keyed_cell_of_ref points.now)) }
+{
+    push_head(text, alloc, format, "kotskhin_keys", "", "Keys that are held.")?;
+    push_number(text, alloc, "kotskhin_keys", &[], points.len())
+}
+
+// How many keys each metric has, by the labels that tell it.
+fn lengths_of(
+    alloc: Global,
+    metrics: &[Measured],
+) -> Result<Vec<(Seq<Label>, Vec<usize>)>, NoMemory>
+    ensures { IfOk result (λ list. map (λ g. (g.0, g.1.items)) list.items
+        ≡ groups labels_cmp (map (λ m. (metric_labels m.0, length m.1)) (map (λ m. (m.metric, map keyed_cell_of_ref m.points.items)) metrics.now))) }
+{
+    let mut groups = BTreeMap::new(alloc);
+    for measured in metrics {
+        let labels = metric_labels(alloc, &measured.metric)?;
+        put(alloc, &mut groups, labels, measured.points.len())?;
+    }
+    list_of(alloc, groups)
+}
+
+fn push_numbers(
+    text: &mut String,
+    alloc: Global,
+    name: &str,
+    labels: &[Label],
+    numbers: &[usize],
+) -> Result<(), NoMemory>
+    ensures { OnOk result (string_bytes text.new ≡ string_bytes text.old ++ flat_map (λ n. sample name.now labels.now (decimal n)) numbers.now) }
+{
+    for number in numbers {
+        push_number(text, alloc, name, labels, *number)?;
+    }
     Ok(())
 }
 
+fn push_all_numbers(
+    text: &mut String,
+    alloc: Global,
+    name: &str,
+    rows: &[(Seq<Label>, Vec<usize>)],
+) -> Result<(), NoMemory>
+    ensures { OnOk result (string_bytes text.new ≡ string_bytes text.old
+        ++ flat_map (λ g. flat_map (λ n. sample name.now g.0 (decimal n)) g.1.items) rows.now) }
+{
+    for (labels, numbers) in rows {
+        push_numbers(text, alloc, name, labels.as_slice(), numbers.as_slice())?;
+    }
+    Ok(())
+}
+
+#[tactic(auto, unfolding(crate::specs::Page::left_out_text))]
 fn push_left_out(
     text: &mut String,
     alloc: Global,
     format: Format,
     hidden: &[Measured],
-) -> Result<(), NoMemory> {
+) -> Result<(), NoMemory>
+    ensures { OnOk result (string_bytes text.new ≡ string_bytes text.old
+        ++ left_out_text format (map (λ m. (m.metric, map keyed_cell_of_ref m.points.items)) hidden.now)) }
+{
+    let rows = lengths_of(alloc, hidden)?;
     push_head(
         text,
         alloc,
         format,
-        LEFT_OUT,
+        "kotskhin_left_out",
         "",
         "Keys of metrics that are not shown, since another metric has one of their names.",
     )?;
-    let mut groups = BTreeMap::new(alloc);
-    for measured in hidden {
-        let labels = metric_labels(alloc, &measured.metric)?;
-        put(alloc, &mut groups, labels, measured.points.len())?;
-    }
-    for (labels, numbers) in list_of(alloc, groups)?.iter() {
-        for number in numbers {
-            let number = format!(in alloc; "{number}")?;
-            push_sample(text, LEFT_OUT, "", labels.as_slice(), number.as_str())?;
-        }
-    }
+    push_all_numbers(text, alloc, "kotskhin_left_out", rows.as_slice())
+}
+
+// Adds a digit of a number, by its place.
+fn push_digit(text: &mut String, number: u64, place: u32) -> Result<(), NoMemory>
+    requires { place < 9 }
+    ensures { OnOk result (string_bytes text.new ≡ string_bytes text.old ++ digit number place ∷ []) }
+{
+    let digit = (number / 10u64.pow(place) % 10) as u8;
+    text.push((b'0' + digit) as char)?;
     Ok(())
 }
 
 // Nanoseconds as seconds.
-fn seconds(alloc: Global, time: u64) -> Result<String, NoMemory> {
-    Ok(format!(in alloc; "{}.{:09}", time / 1000000000, time % 1000000000)?)
+#[tactic(auto, unfolding(crate::specs::Page::seconds))]
+fn seconds(alloc: Global, time: u64) -> Result<String, NoMemory>
+    ensures { IfOk result (λ text. string_bytes text ≡ seconds time) }
+{
+    let whole = time / 1000000000;
+    let mut text = format!(in alloc; "{whole}.")?;
+    push_digit(&mut text, time, 8)?;
+    push_digit(&mut text, time, 7)?;
+    push_digit(&mut text, time, 6)?;
+    push_digit(&mut text, time, 5)?;
+    push_digit(&mut text, time, 4)?;
+    push_digit(&mut text, time, 3)?;
+    push_digit(&mut text, time, 2)?;
+    push_digit(&mut text, time, 1)?;
+    push_digit(&mut text, time, 0)?;
+    Ok(text)
 }
 
+// The points by the labels of their services.
+fn served<'a>(
+    alloc: Global,
+    points: &[PointRef<'a>],
+) -> Result<Vec<(Seq<Label>, Vec<PointRef<'a>>)>, NoMemory>
+    ensures { IfOk result (λ list. map (λ g. (g.0, map keyed_cell_of_ref g.1.items)) list.items
+        ≡ groups labels_cmp (map (λ e. (service_labels e.0, e)) (map keyed_cell_of_ref points.now))) }
+{
+    let mut groups = BTreeMap::new(alloc);
+    for point in points {
+        put(alloc, &mut groups, service_labels(alloc, *point)?, *point)?;
+    }
+    list_of(alloc, groups)
+}
+
+fn push_times(
+    text: &mut String,
+    alloc: Global,
+    name: &str,
+    rows: &[(Seq<Label>, Vec<PointRef<'_>>)],
+) -> Result<(), NoMemory>
+    ensures { OnOk result (string_bytes text.new ≡ string_bytes text.old
+        ++ flat_map (λ g. sample name.now g.0 (seconds (latest (map keyed_cell_of_ref g.1.items)))) rows.now) }
+{
+    for (labels, points) in rows {
+        let number = seconds(alloc, latest_of(points.as_slice()))?;
+        push_sample(text, name, "", labels.as_slice(), number.as_str())?;
+    }
+    Ok(())
+}
+
+#[tactic(auto, unfolding(crate::specs::Page::newest_text))]
 fn push_newest(
     text: &mut String,
     alloc: Global,
     format: Format,
     points: &[PointRef],
-) -> Result<(), NoMemory> {
+) -> Result<(), NoMemory>
+    ensures { OnOk result (string_bytes text.new ≡ string_bytes text.old ++ newest_text format (map keyed_cell_of_ref points.now)) }
+{
+    let rows = served(alloc, points)?;
     push_head(
         text,
         alloc,
         format,
-        NEWEST,
+        "kotskhin_newest_seconds",
         "seconds",
         "Time of the newest point of a service, since the Unix epoch.",
     )?;
-    let mut groups = BTreeMap::new(alloc);
-    for point in points {
-        put(alloc, &mut groups, service_labels(alloc, *point)?, *point)?;
-    }
-    for (labels, points) in list_of(alloc, groups)?.iter() {
-        let number = seconds(alloc, latest_of(points.as_slice()))?;
-        push_sample(text, NEWEST, "", labels.as_slice(), number.as_str())?;
-    }
-    Ok(())
+    push_times(text, alloc, "kotskhin_newest_seconds", rows.as_slice())
 }
 
 /// The families of the kit's own.
+#[tactic(auto, unfolding(crate::specs::Page::own_text))]
 pub(crate) fn push_own(
     text: &mut String,
     alloc: Global,
     format: Format,
     points: &[PointRef],
     hidden: &[Measured],
-) -> Result<(), NoMemory> {
+) -> Result<(), NoMemory>
+    ensures { OnOk result (string_bytes text.new ≡ string_bytes text.old
+        ++ own_text format (map keyed_cell_of_ref points.now) (map (λ m. (m.metric, map keyed_cell_of_ref m.points.items)) hidden.now)) }
+{
     push_conflicts(text, alloc, format, points)?;
     push_keys(text, alloc, format, points)?;
     push_left_out(text, alloc, format, hidden)?;

@@ -1,20 +1,32 @@
 //! Pages.
-use crate::families::families_of;
+ghost use Rattle.std.specs.Prelude.{◌≡◌, ◌++◌, map, IfOk, OnOk, string_bytes};
+ghost use Rattle.std.specs.List.{flat_map};
+ghost use Rattle.std.specs.Option.{option_map};
+ghost use Rattle.gateway_kit.specs.Walks.{keyed_cell_of_ref, points_left};
+ghost use Rattle.page_kit.specs.Page.{last_line, asked_cells, page};
+ghost use Rattle.page_kit.specs.Rows.{family_text};
+ghost use Rattle.page_kit.specs.declared.text.Format.TheVariants.{OpenMetrics, Prometheus};
+
+use crate::families::{Measured, families_of};
 use crate::own::push_own;
 use crate::rows::push_family;
 use crate::text::Format;
 use attr_kit::NoMemory;
 use gateway_kit::{Gateway, PointRef, Points};
-use std::alloc::Global;
+use std::alloc::{AllocError, Global};
 
-fn asked_points<'a>(gateway: &'a Gateway, service: Option<&'a str>) -> Points<'a> {
+fn asked_points<'a>(gateway: &'a Gateway, service: Option<&'a str>) -> Points<'a>
+    ensures { points_left result ≡ asked_cells (option_map (λ s. s.now) service.entry) gateway.entry.now.points }
+{
     match service {
         Some(service) => gateway.points_of(service),
         None => gateway.points(),
     }
 }
 
-fn list_of<'a>(alloc: Global, points: Points<'a>) -> Result<Vec<PointRef<'a>>, NoMemory> {
+fn list_of<'a>(alloc: Global, points: Points<'a>) -> Result<Vec<PointRef<'a>>, NoMemory>
+    ensures { IfOk result (λ list. map keyed_cell_of_ref list.items ≡ points_left points.entry) }
+{
     let mut list = Vec::new(alloc);
     for point in points {
         list.push(point)?;
@@ -22,28 +34,40 @@ fn list_of<'a>(alloc: Global, points: Points<'a>) -> Result<Vec<PointRef<'a>>, N
     Ok(list)
 }
 
-fn page(
+fn push_families(
+    text: &mut String,
     alloc: Global,
     format: Format,
-    gateway: &Gateway,
-    service: Option<&str>,
-) -> Result<String, NoMemory> {
-    let points = list_of(alloc, asked_points(gateway, service))?;
-    let families = families_of(alloc, points.as_slice())?;
+    families: &[Measured],
+) -> Result<(), NoMemory>
+    ensures { OnOk result (string_bytes text.new ≡ string_bytes text.old
+        ++ flat_map (family_text format) (map (λ m. (m.metric, map keyed_cell_of_ref m.points.items)) families.now)) }
+{
+    for measured in families {
+        push_family(text, alloc, format, &measured.metric, measured.points.as_slice())?;
+    }
+    Ok(())
+}
+
+fn push_end(text: &mut String, format: Format) -> Result<(), AllocError>
+    ensures { OnOk result (string_bytes text.new ≡ string_bytes text.old ++ last_line format) }
+{
+    match format {
+        Format::OpenMetrics => text.push_str("# EOF\n"),
+        Format::Prometheus => Ok(()),
+    }
+}
+
+// The page of these points.
+#[tactic(auto, unfolding(crate::specs::Page::page))]
+fn page(alloc: Global, format: Format, points: &[PointRef]) -> Result<String, NoMemory>
+    ensures { IfOk result (λ text. string_bytes text ≡ page format (map keyed_cell_of_ref points.now)) }
+{
+    let families = families_of(alloc, points)?;
     let mut text = String::new(alloc);
-    for measured in families.shown.iter() {
-        push_family(
-            &mut text,
-            alloc,
-            format,
-            &measured.metric,
-            measured.points.as_slice(),
-        )?;
-    }
-    push_own(&mut text, alloc, format, points.as_slice(), families.hidden.as_slice())?;
-    if format == Format::OpenMetrics {
-        text.push_str("# EOF\n")?;
-    }
+    push_families(&mut text, alloc, format, families.shown.as_slice())?;
+    push_own(&mut text, alloc, format, points, families.hidden.as_slice())?;
+    push_end(&mut text, format)?;
     Ok(text)
 }
 
@@ -52,8 +76,12 @@ pub fn openmetrics(
     alloc: Global,
     gateway: &Gateway,
     service: Option<&str>,
-) -> Result<String, NoMemory> {
-    page(alloc, Format::OpenMetrics, gateway, service)
+) -> Result<String, NoMemory>
+    ensures value { IfOk result (λ text. string_bytes text
+        ≡ page OpenMetrics (asked_cells (option_map (λ s. s.now) service.entry) gateway.now.points)) }
+{
+    let points = list_of(alloc, asked_points(gateway, service))?;
+    page(alloc, Format::OpenMetrics, points.as_slice())
 }
 
 /// The page of a gateway's points in Prometheus' text format 0.0.4.
@@ -61,6 +89,10 @@ pub fn prometheus(
     alloc: Global,
     gateway: &Gateway,
     service: Option<&str>,
-) -> Result<String, NoMemory> {
-    page(alloc, Format::Prometheus, gateway, service)
+) -> Result<String, NoMemory>
+    ensures value { IfOk result (λ text. string_bytes text
+        ≡ page Prometheus (asked_cells (option_map (λ s. s.now) service.entry) gateway.now.points)) }
+{
+    let points = list_of(alloc, asked_points(gateway, service))?;
+    page(alloc, Format::Prometheus, points.as_slice())
 }

@@ -1,9 +1,22 @@
 //! The rows of a family.
+ghost use Rattle.std.specs.Prelude.{◌≡◌, ◌++◌, List, map, IfOk, OnOk, string_bytes};
+ghost use Rattle.std.specs.Fmt.{signed_decimal};
+ghost use Rattle.std.specs.List.{flat_map};
+ghost use Rattle.attr_kit.specs.Orders.{text_cmp};
+ghost use Rattle.gateway_kit.specs.Walks.{keyed_cell_of_ref};
+ghost use Rattle.page_kit.specs.Bounds.{AreBounds};
+ghost use Rattle.page_kit.specs.Groups.{groups};
+ghost use Rattle.page_kit.specs.Lines.{sample, metadata, help_of};
+ghost use Rattle.page_kit.specs.Metrics.{unit_of};
+ghost use Rattle.page_kit.specs.Rows.{gauge, row_bounds, samples, row, rows, family_text};
+ghost use Rattle.page_kit.specs.Totals.{KeyedCell, sum_of};
+
+use crate::bounds::shared_bounds;
 use crate::groups::{list_of, put};
-use crate::histograms::{bounds_of_services, push_histogram};
+use crate::histograms::push_histogram;
 use crate::labels::{Label, row_labels};
 use crate::metric::{Kind, Metric};
-use crate::text::{Format, help_of, push_metadata, push_sample};
+use crate::text::{Format, Head, help_of, push_metadata, push_sample};
 use crate::totals::{has_conflict, newest_of, sum_of};
 use attr_kit::{NoMemory, Seq, Txt};
 use gateway_kit::PointRef;
@@ -11,110 +24,197 @@ use std::alloc::Global;
 use std::collections::BTreeMap;
 
 // The points by the labels of their rows.
+#[tactic(auto, unfolding(crate::specs::Rows::rows))]
 fn rows_of<'a>(
     alloc: Global,
     points: &[PointRef<'a>],
-) -> Result<Vec<(Seq<Label>, Vec<PointRef<'a>>)>, NoMemory> {
-    let mut rows = BTreeMap::new(alloc);
+) -> Result<Vec<(Seq<Label>, Vec<PointRef<'a>>)>, NoMemory>
+    ensures { IfOk result (λ list. map (λ g. (g.0, map keyed_cell_of_ref g.1.items)) list.items ≡ rows (map keyed_cell_of_ref points.now)) }
+{
+    let mut groups = BTreeMap::new(alloc);
     for point in points {
-        put(alloc, &mut rows, row_labels(alloc, *point)?, *point)?;
+        put(alloc, &mut groups, row_labels(alloc, *point)?, *point)?;
     }
-    list_of(alloc, rows)
+    list_of(alloc, groups)
+}
+
+// The points by their services.
+fn by_service<'a>(
+    alloc: Global,
+    points: &[PointRef<'a>],
+) -> Result<Vec<(Txt, Vec<PointRef<'a>>)>, NoMemory>
+    ensures { IfOk result (λ list. map (λ g. (g.0, map keyed_cell_of_ref g.1.items)) list.items
+        ≡ groups text_cmp (map (λ e. (e.0.writer.service, e)) (map keyed_cell_of_ref points.now))) }
+{
+    let mut groups = BTreeMap::new(alloc);
+    for point in points {
+        put(alloc, &mut groups, point.writer.service.try_copy()?, *point)?;
+    }
+    list_of(alloc, groups)
+}
+
+// The shared bounds of the histograms of each service.
+fn bounds_of_services(
+    alloc: Global,
+    points: &[PointRef],
+) -> Result<BTreeMap<Txt, Vec<i64>>, NoMemory>
+    ensures { IfOk result (λ services. AreBounds (λ v. v.items) (map keyed_cell_of_ref points.now) services.entries) }
+{
+    let mut bounds = BTreeMap::new(alloc);
+    for (service, points) in by_service(alloc, points)? {
+        bounds.insert(service, shared_bounds(alloc, points.as_slice())?)?;
+    }
+    Ok(bounds)
 }
 
 fn push_sum(
     text: &mut String,
     alloc: Global,
-    family: &str,
-    kind: Kind,
+    name: &str,
+    ending: &str,
     labels: &[Label],
     points: &[PointRef],
-) -> Result<(), NoMemory> {
+) -> Result<(), NoMemory>
+    ensures { OnOk result (string_bytes text.new ≡ string_bytes text.old
+        ++ sample (name.now ++ ending.now) labels.now (signed_decimal (sum_of (map keyed_cell_of_ref points.now)))) }
+{
     let sum = sum_of(points);
     let number = format!(in alloc; "{sum}")?;
-    let ending = if kind == Kind::Counter { "_total" } else { "" };
-    push_sample(text, family, ending, labels, number.as_str())?;
+    push_sample(text, name, ending, labels, number.as_str())?;
     Ok(())
 }
 
 fn push_gauge(
     text: &mut String,
     alloc: Global,
-    family: &str,
+    name: &str,
     labels: &[Label],
-    points: &[PointRef],
-) -> Result<(), NoMemory> {
-    if let Some(value) = newest_of(points) {
+    newest: Option<i64>,
+) -> Result<(), NoMemory>
+    ensures { OnOk result (string_bytes text.new ≡ string_bytes text.old ++ gauge name.now labels.now newest) }
+{
+    if let Some(value) = newest {
         let number = format!(in alloc; "{value}")?;
-        push_sample(text, family, "", labels, number.as_str())?;
+        push_sample(text, name, "", labels, number.as_str())?;
     }
     Ok(())
 }
 
-// The bounds of a row's service.
-fn bounds_of_row<'a>(services: &'a BTreeMap<Txt, Vec<i64>>, points: &[PointRef]) -> &'a [i64] {
-    match points.first() {
-        Some(point) => match services.get(&point.writer.service) {
-            Some(bounds) => bounds.as_slice(),
-            None => &[],
-        },
+// The bounds of a row: those of its service.
+fn bounds_of_row<'a>(services: &'a BTreeMap<Txt, Vec<i64>>, points: &[PointRef]) -> &'a [i64]
+    ensures { (all : List KeyedCell) → AreBounds (λ v. v.items) all services.entry.now.entries → result.now ≡ row_bounds all (map keyed_cell_of_ref points.now) }
+{
+    let Some(point) = points.first() else {
+        return &[];
+    };
+    match services.get(&point.writer.service) {
+        Some(bounds) => bounds.as_slice(),
         None => &[],
     }
 }
 
-fn push_row(
+// What the samples of a row are of.
+#[derive(Clone, Copy)]
+struct Family<'a> {
+    name: &'a str,
+    kind: Kind,
+    bounds: &'a BTreeMap<Txt, Vec<i64>>,
+}
+
+fn push_samples(
     text: &mut String,
     alloc: Global,
-    family: &str,
-    kind: Kind,
-    services: &BTreeMap<Txt, Vec<i64>>,
+    family: Family<'_>,
     labels: &[Label],
     points: &[PointRef],
-) -> Result<(), NoMemory> {
-    if has_conflict(points) {
-        return Ok(());
-    }
-    match kind {
-        Kind::Updown | Kind::Counter => push_sum(text, alloc, family, kind, labels, points),
-        Kind::Gauge => push_gauge(text, alloc, family, labels, points),
+) -> Result<(), NoMemory>
+    ensures { OnOk result ((all : List KeyedCell) → AreBounds (λ v. v.items) all family.entry.bounds.now.entries → string_bytes text.new
+        ≡ string_bytes text.old ++ samples family.entry.kind family.entry.name.now all labels.now (map keyed_cell_of_ref points.now)) }
+{
+    match family.kind {
+        Kind::Updown => push_sum(text, alloc, family.name, "", labels, points),
+        Kind::Counter => push_sum(text, alloc, family.name, "_total", labels, points),
+        Kind::Gauge => push_gauge(text, alloc, family.name, labels, newest_of(points)),
         Kind::Histogram => {
-            let bounds = bounds_of_row(services, points);
-            push_histogram(text, alloc, family, labels, bounds, points)
+            let bounds = bounds_of_row(family.bounds, points);
+            push_histogram(text, alloc, family.name, labels, bounds, points)
         }
     }
 }
 
+#[tactic(auto, unfolding(crate::specs::Rows::row))]
+fn push_row(
+    text: &mut String,
+    alloc: Global,
+    family: Family<'_>,
+    labels: &[Label],
+    points: &[PointRef],
+) -> Result<(), NoMemory>
+    ensures { OnOk result ((all : List KeyedCell) → AreBounds (λ v. v.items) all family.entry.bounds.now.entries → string_bytes text.new
+        ≡ string_bytes text.old ++ row family.entry.kind family.entry.name.now all (labels.now, map keyed_cell_of_ref points.now)) }
+{
+    if has_conflict(points) {
+        return Ok(());
+    }
+    push_samples(text, alloc, family, labels, points)
+}
+
+fn push_rows(
+    text: &mut String,
+    alloc: Global,
+    family: Family<'_>,
+    rows: &[(Seq<Label>, Vec<PointRef<'_>>)],
+) -> Result<(), NoMemory>
+    ensures { OnOk result ((all : List KeyedCell) → AreBounds (λ v. v.items) all family.entry.bounds.now.entries → string_bytes text.new
+        ≡ string_bytes text.old ++ flat_map (λ r. row family.entry.kind family.entry.name.now all (r.0, map keyed_cell_of_ref r.1.items)) rows.now) }
+{
+    for (labels, points) in rows {
+        push_row(text, alloc, family, labels.as_slice(), points.as_slice())?;
+    }
+    Ok(())
+}
+
+// Adds a family's metadata.
+fn push_head(
+    text: &mut String,
+    alloc: Global,
+    format: Format,
+    metric: &Metric,
+    name: &str,
+) -> Result<(), NoMemory>
+    ensures { OnOk result (string_bytes text.new ≡ string_bytes text.old
+        ++ metadata format name.now metric.now.kind (unit_of metric.now) (help_of metric.now)) }
+{
+    let unit = metric.unit_name(alloc)?;
+    let help = help_of(alloc, metric)?;
+    let head = Head {
+        name,
+        kind: metric.kind,
+        unit: unit.as_str(),
+        help: help.as_str(),
+    };
+    push_metadata(text, alloc, format, head)
+}
+
 /// A family: its metadata and its rows.
+#[tactic(auto, unfolding(crate::specs::Rows::family_text))]
 pub(crate) fn push_family(
     text: &mut String,
     alloc: Global,
     format: Format,
     metric: &Metric,
     points: &[PointRef],
-) -> Result<(), NoMemory> {
-    let family = metric.family(alloc)?;
-    let unit = metric.unit_name(alloc)?;
-    let help = help_of(alloc, metric)?;
-    push_metadata(
-        text,
-        alloc,
-        format,
-        family.as_str(),
-        metric.kind,
-        unit.as_str(),
-        help.as_str(),
-    )?;
-    let services = bounds_of_services(alloc, points)?;
-    for (labels, points) in rows_of(alloc, points)?.iter() {
-        push_row(
-            text,
-            alloc,
-            family.as_str(),
-            metric.kind,
-            &services,
-            labels.as_slice(),
-            points.as_slice(),
-        )?;
-    }
-    Ok(())
+) -> Result<(), NoMemory>
+    ensures { OnOk result (string_bytes text.new ≡ string_bytes text.old ++ family_text format (metric.now, map keyed_cell_of_ref points.now)) }
+{
+    let name = metric.family(alloc)?;
+    let bounds = bounds_of_services(alloc, points)?;
+    let rows = rows_of(alloc, points)?;
+    push_head(text, alloc, format, metric, name.as_str())?;
+    let family = Family {
+        name: name.as_str(),
+        kind: metric.kind,
+        bounds: &bounds,
+    };
+    push_rows(text, alloc, family, rows.as_slice())
 }

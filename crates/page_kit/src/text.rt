@@ -1,4 +1,9 @@
 //! The lines of a page.
+ghost use Rattle.std.specs.Prelude.{◌≡◌, ◌++◌, ◌∷◌, [], IfOk, OnOk, string_bytes};
+ghost use Rattle.std.specs.List.{join_by};
+ghost use Rattle.page_kit.specs.Labels.{separator};
+ghost use Rattle.page_kit.specs.Lines.{escape, escaped, label_text, labels_text, sample, total_of, type_line, unit_line, has_quotes, help_line, metadata, help_of};
+
 use crate::labels::Label;
 use crate::metric::{Kind, Metric, ends_with_unit};
 use attr_kit::NoMemory;
@@ -13,8 +18,33 @@ pub(crate) enum Format {
     Prometheus,
 }
 
+impl Format {
+    // What lines of metadata call a family behind its name: by its samples' name where Prometheus has a counter.
+    fn total(self, kind: Kind) -> &'static str
+        ensures { result.now ≡ total_of self kind }
+    {
+        match (self, kind) {
+            (Format::Prometheus, Kind::Counter) => "_total",
+            _ => "",
+        }
+    }
+
+    // Whether quotes are escaped in a help.
+    fn has_quotes(self) -> bool
+        ensures { result ≡ has_quotes self }
+    {
+        match self {
+            Format::OpenMetrics => true,
+            Format::Prometheus => false,
+        }
+    }
+}
+
 // Adds a character: a backslash and a line feed as two, and a quote where it is to be.
-fn push_escaped(text: &mut String, c: char, quotes: bool) -> Result<(), AllocError> {
+#[tactic(auto, unfolding(crate::specs::Lines::escape))]
+fn push_escaped(text: &mut String, c: char, quotes: bool) -> Result<(), AllocError>
+    ensures { OnOk result (string_bytes text.new ≡ string_bytes text.old ++ escape quotes c) }
+{
     if c == '\\' {
         text.push_str("\\\\")
     } else if c == '\n' {
@@ -26,42 +56,66 @@ fn push_escaped(text: &mut String, c: char, quotes: bool) -> Result<(), AllocErr
     }
 }
 
-fn push_all_escaped(text: &mut String, plain: &str, quotes: bool) -> Result<(), AllocError> {
+#[tactic(auto, unfolding(crate::specs::Lines::escaped))]
+fn push_all_escaped(text: &mut String, plain: &str, quotes: bool) -> Result<(), AllocError>
+    ensures { OnOk result (string_bytes text.new ≡ string_bytes text.old ++ escaped quotes plain.now) }
+{
     for c in plain.chars() {
         push_escaped(text, c, quotes)?;
     }
     Ok(())
 }
 
-fn push_label(text: &mut String, label: &Label) -> Result<(), AllocError> {
+#[tactic(auto, unfolding(crate::specs::Lines::label_text))]
+fn push_label(text: &mut String, label: &Label) -> Result<(), AllocError>
+    ensures { OnOk result (string_bytes text.new ≡ string_bytes text.old ++ label_text label.now) }
+{
     text.push_str(label.name.as_str())?;
     text.push_str("=\"")?;
     push_all_escaped(text, label.value.as_str(), true)?;
     text.push('"')
 }
 
-fn push_labels(text: &mut String, labels: &[Label]) -> Result<(), AllocError> {
+// What stands before the label at this place.
+fn separator(place: usize) -> &'static str
+    ensures { result.now ≡ separator (44 ∷ []) place }
+{
+    if place == 0 { "" } else { "," }
+}
+
+// Adds labels with a comma between each two.
+fn push_joined(text: &mut String, labels: &[Label]) -> Result<(), AllocError>
+    ensures { OnOk result (string_bytes text.new ≡ string_bytes text.old ++ join_by label_text (44 ∷ []) labels.now) }
+{
+    for (place, label) in labels.iter().enumerate() {
+        text.push_str(separator(place))?;
+        push_label(text, label)?;
+    }
+    Ok(())
+}
+
+fn push_labels(text: &mut String, labels: &[Label]) -> Result<(), AllocError>
+    ensures { OnOk result (string_bytes text.new ≡ string_bytes text.old ++ labels_text labels.now) }
+{
     if labels.is_empty() {
         return Ok(());
     }
     text.push('{')?;
-    for (place, label) in labels.iter().enumerate() {
-        if place > 0 {
-            text.push(',')?;
-        }
-        push_label(text, label)?;
-    }
+    push_joined(text, labels)?;
     text.push('}')
 }
 
-/// What stands before a sample's number.
+/// Adds a sample: a family's name and what ends the sample's, its labels and its number.
+#[tactic(auto, unfolding(crate::specs::Lines::sample))]
 pub(crate) fn push_sample(
     text: &mut String,
     name: &str,
     ending: &str,
     labels: &[Label],
     number: &str,
-) -> Result<(), AllocError> {
+) -> Result<(), AllocError>
+    ensures { OnOk result (string_bytes text.new ≡ string_bytes text.old ++ sample (name.now ++ ending.now) labels.now number.now) }
+{
     text.push_str(name)?;
     text.push_str(ending)?;
     push_labels(text, labels)?;
@@ -70,67 +124,88 @@ pub(crate) fn push_sample(
     text.push('\n')
 }
 
-fn push_type(
-    text: &mut String,
-    format: Format,
-    name: &str,
-    kind: Kind,
-) -> Result<(), AllocError> {
+#[tactic(auto, unfolding(crate::specs::Lines::type_line))]
+fn push_type(text: &mut String, format: Format, name: &str, kind: Kind) -> Result<(), AllocError>
+    ensures { OnOk result (string_bytes text.new ≡ string_bytes text.old ++ type_line format name.now kind) }
+{
     text.push_str("# TYPE ")?;
     text.push_str(name)?;
-    if format == Format::Prometheus && kind == Kind::Counter {
-        text.push_str("_total")?;
-    }
+    text.push_str(format.total(kind))?;
     text.push(' ')?;
     text.push_str(kind.family_type())?;
     text.push('\n')
 }
 
-fn push_unit(text: &mut String, name: &str, unit: &str) -> Result<(), AllocError> {
-    text.push_str("# UNIT ")?;
-    text.push_str(name)?;
-    text.push(' ')?;
-    text.push_str(unit)?;
-    text.push('\n')
+// Adds the line of a unit, in OpenMetrics and where the name ends with it.
+#[tactic(auto, unfolding(crate::specs::Lines::unit_line))]
+fn push_unit(
+    text: &mut String,
+    alloc: Global,
+    format: Format,
+    name: &str,
+    unit: &str,
+) -> Result<(), NoMemory>
+    ensures { OnOk result (string_bytes text.new ≡ string_bytes text.old ++ unit_line format name.now unit.now) }
+{
+    if format == Format::OpenMetrics && ends_with_unit(alloc, name, unit)? {
+        text.push_str("# UNIT ")?;
+        text.push_str(name)?;
+        text.push(' ')?;
+        text.push_str(unit)?;
+        text.push('\n')?;
+    }
+    Ok(())
 }
 
+#[tactic(auto, unfolding(crate::specs::Lines::help_line))]
 fn push_help(
     text: &mut String,
     format: Format,
     name: &str,
     kind: Kind,
     help: &str,
-) -> Result<(), AllocError> {
+) -> Result<(), AllocError>
+    ensures { OnOk result (string_bytes text.new ≡ string_bytes text.old ++ help_line format name.now kind help.now) }
+{
     text.push_str("# HELP ")?;
     text.push_str(name)?;
-    if format == Format::Prometheus && kind == Kind::Counter {
-        text.push_str("_total")?;
-    }
+    text.push_str(format.total(kind))?;
     text.push(' ')?;
-    push_all_escaped(text, help, format == Format::OpenMetrics)?;
+    push_all_escaped(text, help, format.has_quotes())?;
     text.push('\n')
 }
 
-/// The lines before a family's samples.
+/// What the lines before a family's samples tell.
+#[derive(Clone, Copy)]
+pub(crate) struct Head<'a> {
+    pub(crate) name: &'a str,
+    pub(crate) kind: Kind,
+    pub(crate) unit: &'a str,
+    pub(crate) help: &'a str,
+}
+
+/// Adds the lines before a family's samples.
+#[tactic(auto, unfolding(crate::specs::Lines::metadata))]
 pub(crate) fn push_metadata(
     text: &mut String,
     alloc: Global,
     format: Format,
-    name: &str,
-    kind: Kind,
-    unit: &str,
-    help: &str,
-) -> Result<(), NoMemory> {
-    push_type(text, format, name, kind)?;
-    if format == Format::OpenMetrics && ends_with_unit(alloc, name, unit)? {
-        push_unit(text, name, unit)?;
-    }
-    push_help(text, format, name, kind, help)?;
+    head: Head<'_>,
+) -> Result<(), NoMemory>
+    ensures { OnOk result (string_bytes text.new ≡ string_bytes text.old
+        ++ metadata format head.entry.name.now head.entry.kind head.entry.unit.now head.entry.help.now) }
+{
+    push_type(text, format, head.name, head.kind)?;
+    push_unit(text, alloc, format, head.name, head.unit)?;
+    push_help(text, format, head.name, head.kind, head.help)?;
     Ok(())
 }
 
-/// What a family's help says: the name of its metric and its unit.
-pub(crate) fn help_of(alloc: Global, metric: &Metric) -> Result<String, NoMemory> {
+/// What a family's help says: the name of its metric, and its unit where it has one.
+#[tactic(auto, unfolding(crate::specs::Lines::help_of))]
+pub(crate) fn help_of(alloc: Global, metric: &Metric) -> Result<String, NoMemory>
+    ensures { IfOk result (λ help. string_bytes help ≡ help_of metric.now) }
+{
     let mut help = String::from_str(alloc, metric.name.as_str())?;
     if !metric.unit.is_empty() {
         help.push_str(" (")?;

@@ -1,11 +1,19 @@
 //! Units by their words.
+ghost use Rattle.std.specs.Prelude.{◌≡◌, ◌==◌, ◌≤◌, length, drop, IfOk, OnOk, string_bytes};
+ghost use Rattle.std.specs.List.{position_or_len};
+ghost use Rattle.std.specs.Option.{option_map};
+ghost use Rattle.page_kit.specs.Units.{outside_braces, time_word, size_word, other_word, divisor_word, unit_word, part, of_one, measure, divisor, both, unit_name};
+
 use crate::metric::Kind;
 use crate::names::{line, trimmed};
 use attr_kit::NoMemory;
 use std::alloc::Global;
 
 // What stands outside of braces.
-fn outside_braces(alloc: Global, unit: &[u8]) -> Result<Vec<u8>, NoMemory> {
+#[tactic(auto, unfolding(crate::specs::Units::outside_braces))]
+fn outside_braces(alloc: Global, unit: &[u8]) -> Result<Vec<u8>, NoMemory>
+    ensures { IfOk result (λ bytes. bytes.items ≡ outside_braces unit.now) }
+{
     let mut bytes = Vec::new(alloc);
     let mut inside = false;
     for byte in unit {
@@ -21,7 +29,10 @@ fn outside_braces(alloc: Global, unit: &[u8]) -> Result<Vec<u8>, NoMemory> {
 }
 
 // The word of a unit of time.
-fn time_word(unit: &[u8]) -> Option<&'static str> {
+#[tactic(auto, unfolding(crate::specs::Units::time_word))]
+fn time_word(unit: &[u8]) -> Option<&'static str>
+    ensures { option_map (λ word. word.now) result ≡ time_word unit.now }
+{
     match unit {
         b"d" => Some("days"),
         b"h" => Some("hours"),
@@ -34,8 +45,11 @@ fn time_word(unit: &[u8]) -> Option<&'static str> {
     }
 }
 
-// The word of a number of bytes.
-fn size_word(unit: &[u8]) -> Option<&'static str> {
+// The word of an amount of bytes.
+#[tactic(auto, unfolding(crate::specs::Units::size_word))]
+fn size_word(unit: &[u8]) -> Option<&'static str>
+    ensures { option_map (λ word. word.now) result ≡ size_word unit.now }
+{
     match unit {
         b"By" => Some("bytes"),
         b"KiBy" => Some("kibibytes"),
@@ -51,7 +65,10 @@ fn size_word(unit: &[u8]) -> Option<&'static str> {
 }
 
 // The word of another unit.
-fn other_word(unit: &[u8]) -> Option<&'static str> {
+#[tactic(auto, unfolding(crate::specs::Units::other_word))]
+fn other_word(unit: &[u8]) -> Option<&'static str>
+    ensures { option_map (λ word. word.now) result ≡ other_word unit.now }
+{
     match unit {
         b"m" => Some("meters"),
         b"V" => Some("volts"),
@@ -67,7 +84,10 @@ fn other_word(unit: &[u8]) -> Option<&'static str> {
 }
 
 // The word of what a quantity is divided by.
-fn divisor_word(unit: &[u8]) -> Option<&'static str> {
+#[tactic(auto, unfolding(crate::specs::Units::divisor_word))]
+fn divisor_word(unit: &[u8]) -> Option<&'static str>
+    ensures { option_map (λ word. word.now) result ≡ divisor_word unit.now }
+{
     match unit {
         b"s" => Some("second"),
         b"m" => Some("minute"),
@@ -80,7 +100,10 @@ fn divisor_word(unit: &[u8]) -> Option<&'static str> {
     }
 }
 
-fn unit_word(unit: &[u8]) -> Option<&'static str> {
+#[tactic(auto, unfolding(crate::specs::Units::unit_word))]
+fn unit_word(unit: &[u8]) -> Option<&'static str>
+    ensures { option_map (λ word. word.now) result ≡ unit_word unit.now }
+{
     if let Some(word) = time_word(unit) {
         return Some(word);
     }
@@ -91,7 +114,10 @@ fn unit_word(unit: &[u8]) -> Option<&'static str> {
 }
 
 // A unit as part of a name, by its word where it has one.
-fn part(alloc: Global, unit: &[u8], word: Option<&'static str>) -> Result<String, NoMemory> {
+#[tactic(auto, unfolding(crate::specs::Units::part))]
+fn part(alloc: Global, unit: &[u8], word: Option<&'static str>) -> Result<String, NoMemory>
+    ensures { IfOk result (λ text. string_bytes text ≡ part unit.now (option_map (λ word. word.now) word)) }
+{
     let text = match word {
         Some(word) => line(alloc, word.as_bytes())?,
         None => line(alloc, unit)?,
@@ -99,19 +125,32 @@ fn part(alloc: Global, unit: &[u8], word: Option<&'static str>) -> Result<String
     Ok(String::from_str(alloc, trimmed(text.as_str()))?)
 }
 
+// The name of the unit 1.
+fn of_one(kind: Kind) -> &'static str
+    ensures { result.now ≡ of_one kind }
+{
+    match kind {
+        Kind::Gauge => "ratio",
+        Kind::Updown | Kind::Counter | Kind::Histogram => "",
+    }
+}
+
 // What is measured: `ratio` where a gauge has the unit 1.
-fn measure(alloc: Global, unit: &[u8], kind: Kind) -> Result<String, NoMemory> {
+#[tactic(auto, unfolding(crate::specs::Units::measure))]
+fn measure(alloc: Global, unit: &[u8], kind: Kind) -> Result<String, NoMemory>
+    ensures { IfOk result (λ text. string_bytes text ≡ measure unit.now kind) }
+{
     if unit == b"1".as_slice() {
-        return match kind {
-            Kind::Gauge => Ok(String::from_str(alloc, "ratio")?),
-            _ => Ok(String::new(alloc)),
-        };
+        return Ok(String::from_str(alloc, of_one(kind))?);
     }
     part(alloc, unit, unit_word(unit))
 }
 
 // What it is divided by, with `per_` before it.
-fn divisor(alloc: Global, unit: &[u8]) -> Result<String, NoMemory> {
+#[tactic(auto, unfolding(crate::specs::Units::divisor))]
+fn divisor(alloc: Global, unit: &[u8]) -> Result<String, NoMemory>
+    ensures { IfOk result (λ text. string_bytes text ≡ divisor unit.now) }
+{
     let word = part(alloc, unit, divisor_word(unit))?;
     let mut text = String::new(alloc);
     if !word.is_empty() {
@@ -122,27 +161,46 @@ fn divisor(alloc: Global, unit: &[u8]) -> Result<String, NoMemory> {
 }
 
 // The place of the first `/`, or the length.
-fn slash_at(unit: &[u8]) -> usize {
-    for (place, byte) in unit.iter().enumerate() {
-        if *byte == b'/' {
-            return place;
-        }
+fn slash_at(unit: &[u8]) -> usize
+    ensures value { result ≡ position_or_len (λ c. c == 47) unit.now }
+    ensures within { result ≤ length unit.now }
+{
+    match unit.iter().position(|byte| *byte == b'/') {
+        Some(place) => place,
+        None => unit.len(),
     }
-    unit.len()
 }
 
-/// The name of a unit: its words, of `a/b` with `per` between them. Of a number without a unit it is empty.
-pub(crate) fn unit_name(alloc: Global, unit: &str, kind: Kind) -> Result<String, NoMemory> {
-    let bare = outside_braces(alloc, unit.as_bytes())?;
-    let (front, back) = bare.as_slice().split_at(slash_at(bare.as_slice()));
-    let mut name = measure(alloc, front, kind)?;
-    let below = match back.split_first() {
-        Some((_, unit)) => divisor(alloc, unit)?,
-        None => String::new(alloc),
-    };
+// What stands behind the first byte.
+fn behind(bytes: &[u8]) -> &[u8]
+    ensures { result.now ≡ drop 1 bytes.now }
+{
+    match bytes.split_first() {
+        Some((_, rest)) => rest,
+        None => bytes,
+    }
+}
+
+// Adds what a quantity is divided by to what is measured.
+fn push_divisor(name: &mut String, below: &str) -> Result<(), NoMemory>
+    ensures { OnOk result (string_bytes name.new ≡ both (string_bytes name.old) below.now) }
+{
     if !name.is_empty() && !below.is_empty() {
         name.push('_')?;
     }
-    name.push_str(below.as_str())?;
+    name.push_str(below)?;
+    Ok(())
+}
+
+/// The name of a unit: its words, of `a/b` with `per` between them. Of a number without a unit it is empty.
+#[tactic(auto, unfolding(crate::specs::Units::unit_name))]
+pub(crate) fn unit_name(alloc: Global, unit: &str, kind: Kind) -> Result<String, NoMemory>
+    ensures { IfOk result (λ text. string_bytes text ≡ unit_name unit.now kind) }
+{
+    let bare = outside_braces(alloc, unit.as_bytes())?;
+    let (front, back) = bare.as_slice().split_at(slash_at(bare.as_slice()));
+    let mut name = measure(alloc, front, kind)?;
+    let below = divisor(alloc, behind(back))?;
+    push_divisor(&mut name, below.as_str())?;
     Ok(name)
 }
