@@ -1,3 +1,9 @@
+pub mod Claimed
+pub mod Counted
+pub mod Counts
+pub mod Digits
+pub mod Folded
 pub mod Grouped
 pub mod Joined
+pub mod Shared
 pub mod Texts

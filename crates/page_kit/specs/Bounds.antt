@@ -1,5 +1,5 @@
 -- The bounds of histograms, and how many values are not above one.
-use Rattle.std.specs.Prelude.{◌≡◌, ℕ, ℤ, pos, ◌+◌, ◌-◌, ◌^◌, ◌&&◌, min, int_le, if◌then◌else◌, Bool, true, false, List, [], ◌∷◌, filter, fold}
+use Rattle.std.specs.Prelude.{◌≡◌, ℕ, ℤ, pos, ◌+◌, ◌-◌, ◌^◌, ◌&&◌, min, int_le, if◌then◌else◌, Bool, true, false, List, [], ◌∷◌, filter, fold, Option, Some, None}
 use Rattle.std.specs.BTreeMap.{is_at}
 use Rattle.std.specs.BTreeSet.{insert_key}
 use Rattle.std.specs.Ordering.{eq_by_cmp, int_cmp}
@@ -14,6 +14,8 @@ use Rattle.point_kit.specs.declared.payload.Payload.{Payload}
 use Rattle.point_kit.specs.declared.payload.Payload.TheVariants as payloads
 use Rattle.page_kit.specs.Names.{same}
 use Rattle.page_kit.specs.Totals.{KeyedCell}
+use Rattle.page_kit.specs.declared.metric.Kind.{Kind}
+use Rattle.page_kit.specs.declared.metric.Kind.TheVariants.{Updown, Counter, Gauge, Histogram}
 
 abbrev pub bounds_in : KeyedCell → List ℤ
 bounds_in e = bounds_of e.0.stream.shape
@@ -58,6 +60,18 @@ within_room n = min n (2 ^ 128 - 1)
 unfoldable pub values_up_to : ℤ → List KeyedCell → ℕ
 values_up_to bound cells = within_room (sum_by (λ e. count_up_to bound (bounds_in e) (buckets_in e.1.held)) cells)
 
+-- the bounds that some cells share, where there are some, and one more with these bounds
+abbrev pub bounds_with : Option (List ℤ) → List ℤ → List ℤ
+bounds_with None bounds = filter (λ bound. list_any (eq_by_cmp int_cmp bound) bounds) (filter is_shown (rising bounds))
+bounds_with (Some shared) bounds = filter (λ bound. list_any (eq_by_cmp int_cmp bound) bounds) shared
+
 -- what is kept under each service shows the bounds of its cells
 abbrev pub AreBounds : {V : Type 0} → (V → List ℤ) → List KeyedCell → List (List ℕ × V) → Type 0
-AreBounds shows all services = (service : List ℕ) → option_map_or shows (lookup (is_at (text_cmp service)) services) [] ≡ service_bounds all service
+AreBounds shows all kept = (service : List ℕ) → option_map_or shows (lookup (is_at (text_cmp service)) kept) [] ≡ service_bounds all service
+
+-- the same where the kind of a metric asks for bounds
+abbrev pub HaveBounds : {V : Type 0} → Kind → (V → List ℤ) → List KeyedCell → List (List ℕ × V) → Type 0
+HaveBounds Updown shows all kept = Unit {0}
+HaveBounds Counter shows all kept = Unit {0}
+HaveBounds Gauge shows all kept = Unit {0}
+HaveBounds Histogram shows all kept = AreBounds shows all kept

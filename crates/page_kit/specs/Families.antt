@@ -1,10 +1,10 @@
 -- The metrics of cells, and which of them are shown.
-use Rattle.std.specs.Prelude.{◌≡◌, ℕ, not, if◌then◌else◌, Bool, List, [], ◌∷◌, ◌++◌, map, codes}
+use Rattle.std.specs.Prelude.{◌≡◌, ℕ, not, if◌then◌else◌, Bool, List, [], ◌∷◌, ◌++◌, codes}
 use Rattle.std.specs.List.{list_any}
 use Rattle.std.specs.Ordering.{eq_by_cmp}
 use Rattle.std.specs.declared.cmp.Ordering.{Ordering}
 use Rattle.attr_kit.specs.Orders.{text_cmp}
-use Rattle.page_kit.specs.Groups.{groups, in_order}
+use Rattle.page_kit.specs.Groups.{keyed, groups, in_order}
 use Rattle.page_kit.specs.Metrics.{metric_of, family, claims}
 use Rattle.page_kit.specs.Names.{same}
 use Rattle.page_kit.specs.Totals.{KeyedCell, born}
@@ -26,14 +26,14 @@ abbrev pub rank_cmp : Rank → Rank → Ordering
 rank_cmp = (ranks.ghosts).cmp
 
 unfoldable pub metrics_of : List KeyedCell → List Measured
-metrics_of cells = groups metric_cmp (map (λ e. (metric_of e.0.stream, e)) cells)
+metrics_of cells = groups metric_cmp (keyed (λ (e : KeyedCell). metric_of e.0.stream) cells)
 
 abbrev pub rank_of : Measured → Rank
 rank_of m = record { born = record { 0 = born m.1 }; metric = m.0 }
 
 -- the metric whose youngest incarnation is the younger comes first: what is held is never forgotten, so it replaces what claims the same names
 unfoldable pub ranked : List Measured → List Measured
-ranked ms = in_order rank_cmp (map (λ m. (rank_of m, m)) ms)
+ranked ms = in_order rank_cmp (keyed rank_of ms)
 
 -- the families of the kit's own
 abbrev pub own_names : List (List ℕ)
@@ -59,9 +59,13 @@ hidden_after claimed (m ∷ ms) =
     let rest = hidden_after (claims m.0 ++ claimed) ms in
     if is_claimed claimed m then m ∷ rest else rest
 
+-- metrics in the order of their families' names
+unfoldable pub by_name : List Measured → List Measured
+by_name ms = in_order text_cmp (keyed (λ (m : Measured). family m.0) ms)
+
 -- the metrics that are shown, in the order of their families' names
 unfoldable pub shown_metrics : List KeyedCell → List Measured
-shown_metrics cells = in_order text_cmp (map (λ m. (family m.0, m)) (shown_after own_names (ranked (metrics_of cells))))
+shown_metrics cells = by_name (shown_after own_names (ranked (metrics_of cells)))
 
 -- those that are not
 unfoldable pub hidden_metrics : List KeyedCell → List Measured

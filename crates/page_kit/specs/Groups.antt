@@ -1,8 +1,12 @@
 -- Values by their keys.
-use Rattle.std.specs.Prelude.{List, [], ◌∷◌, ◌++◌, fold}
+use Rattle.std.specs.Prelude.{List, [], ◌∷◌, ◌++◌, map, fold}
 use Rattle.std.specs.List.{flat_map}
 use Rattle.std.specs.Ordering.{match_ordering}
 use Rattle.std.specs.declared.cmp.Ordering.{Ordering}
+
+-- values with their keys
+abbrev pub keyed : {K A : Type 0} → (A → K) → List A → List (K × A)
+keyed key xs = map (λ x. (key x, x)) xs
 
 module _ {K A : Type 0} (R : K → K → Ordering) where
   -- the groups with one more value: behind the others of its key, or in a group of its own, at the key's place in the order

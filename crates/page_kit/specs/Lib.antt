@@ -9,3 +9,4 @@ pub mod Page
 pub mod Rows
 pub mod Totals
 pub mod Units
+pub mod Views

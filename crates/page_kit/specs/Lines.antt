@@ -26,8 +26,7 @@ label_text label = label.name ++ (codes "=\"" ++ (escaped true label.value ++ 34
 
 -- labels between braces, with a comma between each two; nothing where there are none
 unfoldable pub labels_text : List Label → List ℕ
-labels_text [] = []
-labels_text (label ∷ labels) = (123 ∷ []) ++ (join_by label_text (44 ∷ []) (label ∷ labels) ++ 125 ∷ [])
+labels_text labels = if length labels == 0 then [] else 123 ∷ join_by label_text (44 ∷ []) labels ++ 125 ∷ []
 
 -- a sample: its name, its labels and its number
 unfoldable pub sample : List ℕ → List Label → List ℕ → List ℕ
@@ -44,14 +43,13 @@ total_of Prometheus Histogram = []
 unfoldable pub type_line : Format → List ℕ → Kind → List ℕ
 type_line format name kind = codes "# TYPE " ++ (name ++ (total_of format kind ++ (32 ∷ family_type kind ++ 10 ∷ [])))
 
--- the line of a unit that a family's name ends with; OpenMetrics alone has it
-abbrev pub unit_text : Format → Bool → List ℕ → List ℕ → List ℕ
-unit_text OpenMetrics true name unit = codes "# UNIT " ++ (name ++ (32 ∷ unit ++ 10 ∷ []))
-unit_text OpenMetrics false name unit = []
-unit_text Prometheus ends name unit = []
+-- OpenMetrics alone has the line of a unit, where the family's name ends with it
+abbrev pub has_unit_line : Format → List ℕ → List ℕ → Bool
+has_unit_line OpenMetrics name unit = ends_with_unit name unit
+has_unit_line Prometheus name unit = false
 
 unfoldable pub unit_line : Format → List ℕ → List ℕ → List ℕ
-unit_line format name unit = unit_text format (ends_with_unit name unit) name unit
+unit_line format name unit = if has_unit_line format name unit then codes "# UNIT " ++ (name ++ (32 ∷ unit ++ 10 ∷ [])) else []
 
 -- quotes are escaped in the help of OpenMetrics
 abbrev pub has_quotes : Format → Bool
@@ -67,8 +65,7 @@ metadata format name kind unit help = type_line format name kind ++ (unit_line f
 
 -- what a family's help says: the name of its metric, and its unit where it has one
 abbrev pub in_brackets : List ℕ → List ℕ
-in_brackets [] = []
-in_brackets (c ∷ cs) = codes " (" ++ (c ∷ cs ++ 41 ∷ [])
+in_brackets unit = if length unit == 0 then [] else codes " (" ++ (unit ++ 41 ∷ [])
 
 unfoldable pub help_of : Metric → List ℕ
 help_of m = m.name ++ in_brackets m.unit

@@ -1,5 +1,5 @@
 -- Metrics: a name, a unit and a kind, whatever the scopes, services and bounds. The names of their families.
-use Rattle.std.specs.Prelude.{ℕ, ◌==◌, ◌||◌, nat_eq, if◌then◌else◌, Bool, true, false, List, [], ◌∷◌, ◌++◌, length, map, codes}
+use Rattle.std.specs.Prelude.{ℕ, ◌==◌, ◌||◌, ◌&&◌, not, nat_eq, if◌then◌else◌, Bool, true, false, List, [], ◌∷◌, ◌++◌, length, map, codes}
 use Rattle.std.specs.List.{ends_with}
 use Rattle.point_kit.specs.declared.shape.Shape.{Shape}
 use Rattle.point_kit.specs.declared.shape.Shape.TheVariants as shapes
@@ -59,8 +59,7 @@ family m = with_unit (stem m) (unit_of m)
 
 -- a family's name ends with a unit
 unfoldable pub ends_with_unit : List ℕ → List ℕ → Bool
-ends_with_unit name [] = false
-ends_with_unit name (c ∷ cs) = ends_with nat_eq name (mark ∷ c ∷ cs)
+ends_with_unit name unit = not (length unit == 0) && ends_with nat_eq name (mark ∷ unit)
 
 -- what the names that a metric claims end with, behind its family's
 abbrev pub endings : Kind → List (List ℕ)

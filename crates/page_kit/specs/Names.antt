@@ -1,5 +1,5 @@
 -- Names as Prometheus wants them: of ASCII letters, digits and `_`, a letter first.
-use Rattle.std.specs.Prelude.{ℕ, ◌-◌, ◌==◌, ◌||◌, nat_eq, if◌then◌else◌, Bool, true, false, List, [], ◌∷◌, ◌++◌, length, take, drop}
+use Rattle.std.specs.Prelude.{ℕ, ◌-◌, ◌==◌, ◌||◌, nat_eq, if◌then◌else◌, Bool, true, false, List, [], ◌∷◌, ◌++◌, length, take, drop, slice_index}
 use Rattle.std.specs.Char.{is_ascii_alphabetic, is_ascii_alphanumeric}
 use Rattle.std.specs.Cmp.Lexicographic.{pointwise}
 use Rattle.std.specs.List.{starts_with, ends_with}
@@ -22,12 +22,14 @@ line_from in_run (c ∷ cs) =
 unfoldable pub line : List ℕ → List ℕ
 line bytes = line_from false bytes
 
--- a name that begins with a letter: a word stands before one that does not
+-- what stands before a name so that it begins with a letter: nothing where it does; a name without a first byte has a 0 there
+abbrev pub lead : List ℕ → List ℕ → List ℕ
+lead word name =
+    if is_ascii_alphabetic (slice_index name 0) then []
+    else (if slice_index name 0 == mark then word else word ++ mark ∷ [])
+
 unfoldable pub led : List ℕ → List ℕ → List ℕ
-led word [] = word ++ mark ∷ []
-led word (c ∷ cs) =
-    if is_ascii_alphabetic c then c ∷ cs
-    else (if c == mark then word ++ c ∷ cs else word ++ mark ∷ c ∷ cs)
+led word name = lead word name ++ name
 
 -- a text without this at its end, or at its front, where it stands there
 unfoldable pub without_suffix : List ℕ → List ℕ → List ℕ

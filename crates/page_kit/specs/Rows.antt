@@ -1,10 +1,10 @@
 -- The rows of a family.
-use Rattle.std.specs.Prelude.{ℕ, ℤ, pos, ◌-◌, ◌^◌, ◌==◌, nat_lt, int_lt, if◌then◌else◌, List, [], ◌∷◌, ◌++◌, map, length, codes, Option, Some, None}
+use Rattle.std.specs.Prelude.{ℕ, ℤ, pos, ◌-◌, ◌^◌, ◌==◌, ◌&&◌, nat_lt, int_lt, if◌then◌else◌, List, [], ◌∷◌, ◌++◌, length, codes, Option, Some, None}
 use Rattle.std.specs.Fmt.{decimal, signed_decimal}
 use Rattle.std.specs.List.{flat_map, list_any}
 use Rattle.page_kit.specs.Bounds.{service_bounds, values_up_to}
 use Rattle.page_kit.specs.Families.{Measured}
-use Rattle.page_kit.specs.Groups.{groups}
+use Rattle.page_kit.specs.Groups.{keyed, groups}
 use Rattle.page_kit.specs.Labels.{labels_cmp, row_labels}
 use Rattle.page_kit.specs.Lines.{sample, metadata, help_of}
 use Rattle.page_kit.specs.Metrics.{family, unit_of}
@@ -22,6 +22,10 @@ before_zeros d (e ∷ es) = d ∷ e ∷ es
 abbrev pub without_zeros : List ℕ → List ℕ
 without_zeros [] = []
 without_zeros (d ∷ ds) = before_zeros d (without_zeros ds)
+
+-- what stands behind the digit at a place of so many
+abbrev pub point_behind : ℕ → ℕ → List ℕ
+point_behind place len = if (place == 0) && nat_lt 1 len then codes "." else []
 
 -- the first digit, and the others behind a point
 abbrev pub mantissa : List ℕ → List ℕ
@@ -78,7 +82,7 @@ row kind name all r = if list_any is_conflict r.1 then [] else samples kind name
 
 -- the rows of a family: the keys that have equal labels, in the order of the labels
 unfoldable pub rows : List KeyedCell → List (List Label × List KeyedCell)
-rows cells = groups labels_cmp (map (λ e. (row_labels e.0, e)) cells)
+rows cells = groups labels_cmp (keyed (λ (e : KeyedCell). row_labels e.0) cells)
 
 -- the text of a family
 unfoldable pub family_text : Format → Measured → List ℕ

@@ -1,15 +1,17 @@
 //! The bounds that histograms have in common.
-ghost use Rattle.std.specs.Prelude.{◌≡◌, ◌+◌, map, filter, IfOk, IfSome};
+ghost use Rattle.std.specs.Prelude.{◌≡◌, ◌+◌, filter, slice_index, int_le, if◌then◌else◌, IfOk};
 ghost use Rattle.std.specs.List.{list_any};
+ghost use Rattle.std.specs.Option.{option_map};
 ghost use Rattle.std.specs.Ordering.{eq_by_cmp, int_cmp};
 ghost use Rattle.gateway_kit.specs.Walks.{keyed_cell_of_ref};
-ghost use Rattle.page_kit.specs.Bounds.{bounds_in, buckets_in, is_shown, rising, shared_bounds, count_up_to, within_room, values_up_to};
+ghost use Rattle.page_kit.specs.Bounds.{bounds_in, buckets_in, is_shown, rising, bounds_with, AreBounds, count_up_to, within_room, values_up_to};
+ghost use Rattle.page_kit.specs.Views.{cells};
 
-use attr_kit::NoMemory;
+use attr_kit::{NoMemory, Txt};
 use gateway_kit::PointRef;
 use point_kit::{Held, Payload, Shape};
 use std::alloc::Global;
-use std::collections::BTreeSet;
+use std::collections::{BTreeMap, BTreeSet};
 
 // Beyond it two numbers may be one double.
 const MOST: i64 = 9007199254740992;
@@ -78,38 +80,48 @@ fn kept(alloc: Global, bounds: &[i64], others: &[i64]) -> Result<Vec<i64>, NoMem
     Ok(kept)
 }
 
-// Those that stand among the bounds of a point; of the last point they do.
-fn kept_by<'a>(
+// The bounds that are shared by so many points, and by one more with these bounds.
+fn bounds_with(
     alloc: Global,
-    shared: Vec<i64>,
-    last: Option<&'a [i64]>,
-    bounds: &'a [i64],
+    shared: Option<&Vec<i64>>,
+    bounds: &[i64],
 ) -> Result<Vec<i64>, NoMemory>
-    requires { IfSome last.entry (λ others. filter (λ bound. list_any (eq_by_cmp int_cmp bound) others.now) shared.items ≡ shared.items) }
-    ensures { IfOk result (λ kept. kept.items ≡ filter (λ bound. list_any (eq_by_cmp int_cmp bound) bounds.entry.now) shared.items) }
+    ensures { IfOk result (λ both. both.items ≡ bounds_with (option_map (λ v. v.now.items) shared.entry) bounds.now) }
 {
-    if last == Some(bounds) {
-        return Ok(shared);
+    match shared {
+        Some(shared) => kept(alloc, shared.as_slice(), bounds),
+        None => {
+            let shown = shown(alloc, bounds)?;
+            kept(alloc, shown.as_slice(), bounds)
+        }
     }
-    kept(alloc, shared.as_slice(), bounds)
 }
 
-/// The bounds that all points have, rising, of those that can be shown. Points of one stream stand together, so that its bounds
-/// are looked up once.
-pub(crate) fn shared_bounds(alloc: Global, points: &[PointRef]) -> Result<Vec<i64>, NoMemory>
-    ensures { IfOk result (λ bounds. bounds.items ≡ shared_bounds (map keyed_cell_of_ref points.now)) }
+/// The bounds that all points of a service have, rising, of those that can be shown; under each service.
+pub(crate) fn bounds_of_services(
+    alloc: Global,
+    points: &[PointRef],
+) -> Result<BTreeMap<Txt, Vec<i64>>, NoMemory>
+    ensures { IfOk result (λ services. AreBounds (λ v. v.items) (cells points.now) services.entries) }
 {
-    let Some(first) = points.first() else {
-        return Ok(Vec::new(alloc));
-    };
-    let mut shared = shown(alloc, bounds_in(*first))?;
-    let mut last = None;
+    let mut services = BTreeMap::new(alloc);
     for point in points {
-        let bounds = bounds_in(*point);
-        shared = kept_by(alloc, shared, last, bounds)?;
-        last = Some(bounds);
+        let service = &point.writer.service;
+        let bounds = bounds_with(alloc, services.get(service), bounds_in(*point))?;
+        services.insert(service.try_copy()?, bounds)?;
     }
-    Ok(shared)
+    Ok(services)
+}
+
+// The count of the bucket at a place, where its own bound is at most this one.
+fn counted(limit: i64, bound: i64, buckets: &[u64], place: usize) -> u64
+    ensures { result ≡ (if int_le limit bound then slice_index buckets.now place else 0) }
+{
+    if limit <= bound && place < buckets.len() {
+        buckets[place]
+    } else {
+        0
+    }
 }
 
 // Adds the counts of the buckets whose own bound is at most this one.
@@ -118,9 +130,8 @@ fn add_up_to(count: u128, bound: i64, limits: &[i64], buckets: &[u64]) -> u128
 {
     let mut count = count;
     for (place, limit) in limits.iter().enumerate() {
-        if place < buckets.len() && *limit <= bound {
-            count = count.saturating_add(u128::from(buckets[place]));
-        }
+        let more = counted(*limit, bound, buckets, place);
+        count = count.saturating_add(u128::from(more));
     }
     count
 }
@@ -128,7 +139,7 @@ fn add_up_to(count: u128, bound: i64, limits: &[i64], buckets: &[u64]) -> u128
 /// How many values of all points are not above a bound.
 #[tactic(auto, unfolding(crate::specs::Bounds::values_up_to))]
 pub(crate) fn values_up_to(bound: i64, points: &[PointRef]) -> u128
-    ensures { result ≡ values_up_to bound (map keyed_cell_of_ref points.now) }
+    ensures { result ≡ values_up_to bound (cells points.now) }
 {
     let mut count = 0;
     for point in points {

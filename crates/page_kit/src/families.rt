@@ -1,10 +1,8 @@
 //! The metrics of points, and which of them are shown.
-ghost use Rattle.std.specs.Prelude.{◌≡◌, map, IfOk};
+ghost use Rattle.std.specs.Prelude.{◌≡◌, ◌++◌, ◌∷◌, [], if◌then◌else◌, IfOk, OnOk};
 ghost use Rattle.gateway_kit.specs.Walks.{keyed_cell_of_ref};
-ghost use Rattle.attr_kit.specs.Orders.{text_cmp};
-ghost use Rattle.page_kit.specs.Families.{metrics_of, rank_of, ranked, own_names, shown_after, hidden_after, shown_metrics, hidden_metrics};
-ghost use Rattle.page_kit.specs.Groups.{in_order};
-ghost use Rattle.page_kit.specs.Metrics.{family};
+ghost use Rattle.page_kit.specs.Families.{metrics_of, rank_of, ranked, by_name, own_names, IsClaimed, shown_after, hidden_after, shown_metrics, hidden_metrics};
+ghost use Rattle.page_kit.specs.Views.{cells, cell_lists, with_cells, all_measured};
 
 use crate::claims::{claim, is_claimed};
 use crate::groups::{list_of, put, values_of};
@@ -44,17 +42,18 @@ fn by_metric<'a>(
     alloc: Global,
     points: &[PointRef<'a>],
 ) -> Result<Vec<(Metric, Vec<PointRef<'a>>)>, NoMemory>
-    ensures { IfOk result (λ list. map (λ g. (g.0, map keyed_cell_of_ref g.1.items)) list.items ≡ metrics_of (map keyed_cell_of_ref points.now)) }
+    ensures { IfOk result (λ list. cell_lists list.items ≡ metrics_of (cells points.now)) }
 {
     let mut groups = BTreeMap::new(alloc);
     for point in points {
-        put(alloc, &mut groups, Metric::of(point.stream)?, *point)?;
+        let metric = Metric::of(point.stream)?;
+        put(alloc, &mut groups, metric, *point)?;
     }
     list_of(alloc, groups)
 }
 
 fn metrics_of<'a>(alloc: Global, points: &[PointRef<'a>]) -> Result<Vec<Measured<'a>>, NoMemory>
-    ensures { IfOk result (λ metrics. map (λ m. (m.metric, map keyed_cell_of_ref m.points.items)) metrics.items ≡ metrics_of (map keyed_cell_of_ref points.now)) }
+    ensures { IfOk result (λ metrics. all_measured metrics.items ≡ metrics_of (cells points.now)) }
 {
     let mut metrics = Vec::new(alloc);
     for (metric, points) in by_metric(alloc, points)? {
@@ -64,7 +63,7 @@ fn metrics_of<'a>(alloc: Global, points: &[PointRef<'a>]) -> Result<Vec<Measured
 }
 
 fn rank_of(measured: &Measured<'_>) -> Result<Rank, NoMemory>
-    ensures { IfOk result (λ rank. rank ≡ rank_of (measured.now.metric, map keyed_cell_of_ref measured.now.points.items)) }
+    ensures { IfOk result (λ rank. rank ≡ rank_of (with_cells measured.now)) }
 {
     Ok(Rank {
         born: Reverse(born_of(measured.points.as_slice())),
@@ -75,63 +74,93 @@ fn rank_of(measured: &Measured<'_>) -> Result<Rank, NoMemory>
 // The metrics in the order of their ranks.
 #[tactic(auto, unfolding(crate::specs::Families::ranked))]
 fn ranked<'a>(alloc: Global, metrics: Vec<Measured<'a>>) -> Result<Vec<Measured<'a>>, NoMemory>
-    ensures { IfOk result (λ ranked. map (λ m. (m.metric, map keyed_cell_of_ref m.points.items)) ranked.items
-        ≡ ranked (map (λ m. (m.metric, map keyed_cell_of_ref m.points.items)) metrics.entry.items)) }
+    ensures { IfOk result (λ list. all_measured list.items
+        ≡ ranked (all_measured metrics.entry.items)) }
 {
     let mut groups = BTreeMap::new(alloc);
     for measured in metrics {
-        put(alloc, &mut groups, rank_of(&measured)?, measured)?;
+        let rank = rank_of(&measured)?;
+        put(alloc, &mut groups, rank, measured)?;
     }
     values_of(alloc, groups)
 }
 
 // The metrics in the order of their families' names.
+#[tactic(auto, unfolding(crate::specs::Families::by_name))]
 fn by_name<'a>(alloc: Global, metrics: Vec<Measured<'a>>) -> Result<Vec<Measured<'a>>, NoMemory>
-    ensures { IfOk result (λ named. map (λ m. (m.metric, map keyed_cell_of_ref m.points.items)) named.items
-        ≡ in_order text_cmp (map (λ m. (family m.0, m)) (map (λ m. (m.metric, map keyed_cell_of_ref m.points.items)) metrics.entry.items))) }
+    ensures { IfOk result (λ list. all_measured list.items
+        ≡ by_name (all_measured metrics.entry.items)) }
 {
     let mut groups = BTreeMap::new(alloc);
     for measured in metrics {
-        let name = Txt::from_string(measured.metric.family(alloc)?);
+        let family = measured.metric.family(alloc)?;
+        let name = Txt::from_string(family);
         put(alloc, &mut groups, name, measured)?;
     }
     values_of(alloc, groups)
 }
 
-// Metrics that claim names which none before them claims, nor the kit, and the others.
-fn told_apart<'a>(alloc: Global, metrics: Vec<Measured<'a>>) -> Result<Families<'a>, NoMemory>
-    ensures shown { IfOk result (λ f. map (λ m. (m.metric, map keyed_cell_of_ref m.points.items)) f.shown.items
-        ≡ shown_after own_names (map (λ m. (m.metric, map keyed_cell_of_ref m.points.items)) metrics.entry.items)) }
-    ensures hidden { IfOk result (λ f. map (λ m. (m.metric, map keyed_cell_of_ref m.points.items)) f.hidden.items
-        ≡ hidden_after own_names (map (λ m. (m.metric, map keyed_cell_of_ref m.points.items)) metrics.entry.items)) }
+// Puts a metric to those that are shown, or to the others.
+fn add<'a>(
+    families: &mut Families<'a>,
+    measured: Measured<'a>,
+    is_claimed: bool,
+) -> Result<(), NoMemory>
+    ensures shown { OnOk result (families.new.shown.items
+        ≡ (if is_claimed then families.old.shown.items else families.old.shown.items ++ measured.entry ∷ [])) }
+    ensures hidden { OnOk result (families.new.hidden.items
+        ≡ (if is_claimed then families.old.hidden.items ++ measured.entry ∷ [] else families.old.hidden.items)) }
+{
+    if is_claimed {
+        families.hidden.push(measured)?;
+    } else {
+        families.shown.push(measured)?;
+    }
+    Ok(())
+}
+
+// The names of the kit's own, claimed.
+fn own_claims(alloc: Global) -> Result<BTreeSet<Txt>, NoMemory>
+    ensures { IfOk result (λ claimed. IsClaimed own_names claimed.keys) }
 {
     let mut claimed = BTreeSet::new(alloc);
     claim(&mut claimed, own_names(alloc)?)?;
-    let mut shown = Vec::new(alloc);
-    let mut hidden = Vec::new(alloc);
+    Ok(claimed)
+}
+
+// Metrics that claim names which none before them claims, nor the kit, and the others.
+fn told_apart<'a>(alloc: Global, metrics: Vec<Measured<'a>>) -> Result<Families<'a>, NoMemory>
+    ensures shown { IfOk result (λ f. all_measured f.shown.items
+        ≡ shown_after own_names (all_measured metrics.entry.items)) }
+    ensures hidden { IfOk result (λ f. all_measured f.hidden.items
+        ≡ hidden_after own_names (all_measured metrics.entry.items)) }
+{
+    let mut claimed = own_claims(alloc)?;
+    let mut families = Families {
+        shown: Vec::new(alloc),
+        hidden: Vec::new(alloc),
+    };
     for measured in metrics {
         let claims = measured.metric.claims(alloc)?;
-        if is_claimed(&claimed, claims.as_slice()) {
-            hidden.push(measured)?;
-        } else {
-            shown.push(measured)?;
-        }
+        let taken = is_claimed(&claimed, claims.as_slice());
         claim(&mut claimed, claims)?;
+        add(&mut families, measured, taken)?;
     }
-    Ok(Families { shown, hidden })
+    Ok(families)
 }
 
 /// The metrics of points: those that are shown, in the order of their families' names, and the others.
-#[tactic(auto, unfolding(crate::specs::Families::shown_metrics), unfolding(crate::specs::Families::hidden_metrics))]
+#[tactic(auto, unfolding(crate::specs::Families::shown_metrics, crate::specs::Families::hidden_metrics))]
 pub(crate) fn families_of<'a>(
     alloc: Global,
     points: &[PointRef<'a>],
 ) -> Result<Families<'a>, NoMemory>
-    ensures shown { IfOk result (λ f. map (λ m. (m.metric, map keyed_cell_of_ref m.points.items)) f.shown.items ≡ shown_metrics (map keyed_cell_of_ref points.now)) }
-    ensures hidden { IfOk result (λ f. map (λ m. (m.metric, map keyed_cell_of_ref m.points.items)) f.hidden.items ≡ hidden_metrics (map keyed_cell_of_ref points.now)) }
+    ensures shown { IfOk result (λ f. all_measured f.shown.items ≡ shown_metrics (cells points.now)) }
+    ensures hidden { IfOk result (λ f. all_measured f.hidden.items ≡ hidden_metrics (cells points.now)) }
 {
     let metrics = metrics_of(alloc, points)?;
-    let Families { shown, hidden } = told_apart(alloc, ranked(alloc, metrics)?)?;
+    let ranked = ranked(alloc, metrics)?;
+    let Families { shown, hidden } = told_apart(alloc, ranked)?;
     let shown = by_name(alloc, shown)?;
     Ok(Families { shown, hidden })
 }

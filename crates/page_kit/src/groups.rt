@@ -2,6 +2,7 @@
 ghost use Rattle.std.specs.Prelude.{◌≡◌, IfOk, OnOk, map};
 ghost use Rattle.std.specs.List.{flat_map};
 ghost use Rattle.page_kit.specs.Groups.{put};
+ghost use Rattle.page_kit.specs.Views.{lists};
 
 use attr_kit::NoMemory;
 use std::alloc::Global;
@@ -14,8 +15,8 @@ pub(crate) fn put<K: Ord + Drop, T: Drop>(
     key: K,
     value: T,
 ) -> Result<(), NoMemory>
-    ensures { OnOk result (map (λ g. (g.0, g.1.items)) groups.new.entries
-        ≡ put K.cmp (map (λ g. (g.0, g.1.items)) groups.old.entries) (key, value)) }
+    ensures { OnOk result (lists groups.new.entries
+        ≡ put K.cmp (lists groups.old.entries) (key, value)) }
 {
     if let Some(values) = groups.get_mut(&key) {
         values.push(value)?;

@@ -1,9 +1,11 @@
 //! The samples of histograms.
-ghost use Rattle.std.specs.Prelude.{◌≡◌, ◌++◌, ◌∷◌, [], ◌-◌, ◌<◌, ◌≤◌, ◌^◌, pos, length, take, map, IfOk, OnOk, string_bytes, ◌≤ℤ◌};
+ghost use Rattle.std.specs.Prelude.{◌≡◌, ◌++◌, ◌∷◌, [], ◌+◌, ◌<◌, ◌≤◌, ◌^◌, ◌==◌, if◌then◌else◌, length, take, IfOk, OnOk, string_bytes};
 ghost use Rattle.std.specs.List.{flat_map};
+ghost use Rattle.std.specs.Str.{IsAscii};
 ghost use Rattle.gateway_kit.specs.Walks.{keyed_cell_of_ref};
 ghost use Rattle.page_kit.specs.Bounds.{values_up_to};
-ghost use Rattle.page_kit.specs.Rows.{without_zeros, mantissa, two_digits, scientific, bound_text, le, bucket, histogram};
+ghost use Rattle.page_kit.specs.Rows.{without_zeros, point_behind, mantissa, two_digits, scientific, bound_text, le, bucket, histogram};
+ghost use Rattle.page_kit.specs.Views.{cells};
 
 use crate::bounds::values_up_to;
 use crate::labels::Label;
@@ -13,25 +15,36 @@ use attr_kit::{NoMemory, Txt};
 use gateway_kit::PointRef;
 use std::alloc::Global;
 
-// How many digits there are without the zeros at the end.
+// How many digits there are so far without zeros at the end, with one digit more.
+fn len_with(len: usize, place: usize, digit: u8) -> usize
+    requires { place + 1 < 2 ^ 64 }
+    ensures { result ≡ (if digit == 48 then len else place + 1) }
+{
+    if digit == b'0' { len } else { place + 1 }
+}
+
+// How many digits there are without zeros at the end.
 fn significant(digits: &[u8]) -> usize
     ensures within { result ≤ length digits.now }
     ensures value { take result digits.now ≡ without_zeros digits.now }
 {
-    let mut len = digits.len();
-    while len > 0 && digits[len - 1] == b'0' {
-        len -= 1;
+    let mut len = 0;
+    for (place, digit) in digits.iter().enumerate() {
+        len = len_with(len, place, *digit);
     }
     len
 }
 
 // What stands behind the digit at this place.
-fn point_behind(place: usize, len: usize) -> &'static str {
+fn point_behind(place: usize, len: usize) -> &'static str
+    ensures { result.now ≡ point_behind place len }
+{
     if place == 0 && len > 1 { "." } else { "" }
 }
 
 // Adds the first digit, and the others behind a point.
 fn push_mantissa(text: &mut String, digits: &[u8]) -> Result<(), NoMemory>
+    requires { IsAscii digits.now }
     ensures { OnOk result (string_bytes text.new ≡ string_bytes text.old ++ mantissa digits.now) }
 {
     for (place, digit) in digits.iter().enumerate() {
@@ -54,6 +67,7 @@ fn push_two_digits(text: &mut String, number: usize) -> Result<(), NoMemory>
 
 #[tactic(auto, unfolding(crate::specs::Rows::scientific))]
 fn scientific(alloc: Global, digits: &[u8]) -> Result<String, NoMemory>
+    requires { IsAscii digits.now }
     ensures { IfOk result (λ text. string_bytes text ≡ scientific digits.now) }
 {
     let mut text = String::new(alloc);
@@ -118,7 +132,7 @@ fn push_buckets(
     points: &[PointRef],
 ) -> Result<(), NoMemory>
     ensures { OnOk result (string_bytes text.new ≡ string_bytes text.old
-        ++ flat_map (λ bound. bucket name.now labels.now (bound_text bound) (values_up_to bound (map keyed_cell_of_ref points.now))) bounds.now) }
+        ++ flat_map (λ bound. bucket name.now labels.now (bound_text bound) (values_up_to bound (cells points.now))) bounds.now) }
 {
     for bound in bounds {
         let le = bound_text(alloc, *bound)?;
@@ -138,7 +152,7 @@ pub(crate) fn push_histogram(
     bounds: &[i64],
     points: &[PointRef],
 ) -> Result<(), NoMemory>
-    ensures { OnOk result (string_bytes text.new ≡ string_bytes text.old ++ histogram name.now labels.now bounds.now (map keyed_cell_of_ref points.now)) }
+    ensures { OnOk result (string_bytes text.new ≡ string_bytes text.old ++ histogram name.now labels.now bounds.now (cells points.now)) }
 {
     let count = count_of(points);
     let sum = sum_of(points);

@@ -1,10 +1,11 @@
 //! Labels.
-ghost use Rattle.std.specs.Prelude.{◌≡◌, ◌∷◌, [], map, fold, codes, IfOk, OnOk, string_bytes};
+ghost use Rattle.std.specs.Prelude.{◌≡◌, ◌++◌, ◌∷◌, [], map, filter, fold, codes, IfOk, OnOk, string_bytes};
 ghost use Rattle.gateway_kit.specs.Walks.{keyed_cell_of_ref};
 ghost use Rattle.attr_kit.specs.Orders.{text_cmp};
 ghost use Rattle.page_kit.specs.Groups.{put};
 ghost use Rattle.page_kit.specs.Metrics.{kind_name};
-ghost use Rattle.page_kit.specs.Labels.{separator, joined, labels_of_groups, value_text, is_reserved, label_name, row_labels, service_labels, metric_labels, conflict_labels};
+ghost use Rattle.page_kit.specs.Labels.{separator, joined, has_value, labels_of_groups, value_text, is_reserved, label_name, row_labels, service_labels, metric_labels, conflict_labels};
+ghost use Rattle.page_kit.specs.Views.{lists};
 
 use crate::groups::put;
 use crate::metric::Metric;
@@ -15,7 +16,7 @@ use std::alloc::Global;
 use std::collections::BTreeMap;
 
 /// A label. Ordered by its name, then by its value.
-#[derive(Debug, PartialEq, Eq, PartialOrd, Ord, Drop)]
+#[derive(PartialEq, Eq, PartialOrd, Ord, Drop)]
 pub(crate) struct Label {
     pub(crate) name: Txt,
     pub(crate) value: Txt,
@@ -51,16 +52,25 @@ fn joined(alloc: Global, texts: &[Txt]) -> Result<String, NoMemory>
     Ok(text)
 }
 
-/// The labels of texts by their names: those of one name joined, and none that is empty.
+// Adds a label, if its text is not empty.
+fn push_label(labels: &mut Vec<Label>, name: Txt, value: Txt) -> Result<(), NoMemory>
+    ensures { OnOk result (labels.new.items ≡ labels.old.items ++ filter has_value (record { name = name; value = value } ∷ [])) }
+{
+    if value.as_str().is_empty() {
+        return Ok(());
+    }
+    labels.push(Label { name, value })?;
+    Ok(())
+}
+
+// The labels of texts by their names: those of one name joined, and none that is empty.
 fn labels_of(alloc: Global, texts: BTreeMap<Txt, Vec<Txt>>) -> Result<Seq<Label>, NoMemory>
-    ensures { IfOk result (λ labels. labels ≡ labels_of_groups (map (λ g. (g.0, g.1.items)) texts.entries)) }
+    ensures { IfOk result (λ labels. labels ≡ labels_of_groups (lists texts.entries)) }
 {
     let mut labels = Vec::with_capacity(alloc, texts.len())?;
     for (name, values) in texts {
-        let value = Txt::from_string(joined(alloc, values.as_slice())?);
-        if !value.is_empty() {
-            labels.push(Label { name, value })?;
-        }
+        let value = joined(alloc, values.as_slice())?;
+        push_label(&mut labels, name, Txt::from_string(value))?;
     }
     Ok(Seq::from_vec(labels))
 }
@@ -109,8 +119,8 @@ fn add(
     name: &str,
     text: &Txt,
 ) -> Result<(), NoMemory>
-    ensures { OnOk result (map (λ g. (g.0, g.1.items)) texts.new.entries
-        ≡ put text_cmp (map (λ g. (g.0, g.1.items)) texts.old.entries) (name.now, text.now)) }
+    ensures { OnOk result (lists texts.new.entries
+        ≡ put text_cmp (lists texts.old.entries) (name.now, text.now)) }
 {
     put(alloc, texts, Txt::from_str(alloc, name)?, text.try_copy()?)
 }
@@ -121,8 +131,8 @@ fn add_attributes(
     texts: &mut BTreeMap<Txt, Vec<Txt>>,
     attrs: &AttrSet,
 ) -> Result<(), NoMemory>
-    ensures { OnOk result (map (λ g. (g.0, g.1.items)) texts.new.entries
-        ≡ fold (put text_cmp) (map (λ g. (g.0, g.1.items)) texts.old.entries) (map (λ p. (label_name p.0, value_text p.1)) attrs.now)) }
+    ensures { OnOk result (lists texts.new.entries
+        ≡ fold (put text_cmp) (lists texts.old.entries) (map (λ p. (label_name p.0, value_text p.1)) attrs.now)) }
 {
     for (key, value) in attrs.pairs() {
         let name = label_name(alloc, key.as_str())?;
@@ -132,7 +142,7 @@ fn add_attributes(
 }
 
 /// The labels of a point's service.
-#[tactic(auto, unfolding(crate::specs::Labels::service_labels))]
+#[tactic(auto, unfolding(crate::specs::Labels::service_labels, crate::specs::Labels::labels, crate::specs::Groups::groups))]
 pub(crate) fn service_labels(alloc: Global, point: PointRef) -> Result<Seq<Label>, NoMemory>
     ensures { IfOk result (λ labels. labels ≡ service_labels (keyed_cell_of_ref point.entry).0) }
 {
@@ -142,7 +152,7 @@ pub(crate) fn service_labels(alloc: Global, point: PointRef) -> Result<Seq<Label
 }
 
 /// The labels of a point's row.
-#[tactic(auto, unfolding(crate::specs::Labels::row_labels))]
+#[tactic(auto, unfolding(crate::specs::Labels::row_labels, crate::specs::Labels::labels, crate::specs::Groups::groups))]
 pub(crate) fn row_labels(alloc: Global, point: PointRef) -> Result<Seq<Label>, NoMemory>
     ensures { IfOk result (λ labels. labels ≡ row_labels (keyed_cell_of_ref point.entry).0) }
 {
@@ -159,8 +169,8 @@ fn add_kind(
     texts: &mut BTreeMap<Txt, Vec<Txt>>,
     metric: &Metric,
 ) -> Result<(), NoMemory>
-    ensures { OnOk result (map (λ g. (g.0, g.1.items)) texts.new.entries
-        ≡ fold (put text_cmp) (map (λ g. (g.0, g.1.items)) texts.old.entries)
+    ensures { OnOk result (lists texts.new.entries
+        ≡ fold (put text_cmp) (lists texts.old.entries)
         ((codes "kind", kind_name metric.now.kind) ∷ (codes "name", metric.now.name) ∷ [])) }
 {
     let kind = Txt::from_str(alloc, metric.kind.name())?;
@@ -169,7 +179,7 @@ fn add_kind(
 }
 
 /// The labels that tell a metric.
-#[tactic(auto, unfolding(crate::specs::Labels::metric_labels))]
+#[tactic(auto, unfolding(crate::specs::Labels::metric_labels, crate::specs::Labels::labels, crate::specs::Groups::groups))]
 pub(crate) fn metric_labels(alloc: Global, metric: &Metric) -> Result<Seq<Label>, NoMemory>
     ensures { IfOk result (λ labels. labels ≡ metric_labels metric.now) }
 {
@@ -180,7 +190,7 @@ pub(crate) fn metric_labels(alloc: Global, metric: &Metric) -> Result<Seq<Label>
 }
 
 /// The labels that tell a point's metric, scope and service.
-#[tactic(auto, unfolding(crate::specs::Labels::conflict_labels))]
+#[tactic(auto, unfolding(crate::specs::Labels::conflict_labels, crate::specs::Labels::labels, crate::specs::Groups::groups))]
 pub(crate) fn conflict_labels(alloc: Global, point: PointRef) -> Result<Seq<Label>, NoMemory>
     ensures { IfOk result (λ labels. labels ≡ conflict_labels (keyed_cell_of_ref point.entry).0) }
 {

@@ -9,7 +9,7 @@ use point_kit::{Shape, Stream};
 use std::alloc::Global;
 
 /// The kind of a metric.
-#[derive(Clone, Copy, Debug, PartialEq, Eq, PartialOrd, Ord)]
+#[derive(Clone, Copy, PartialEq, Eq, PartialOrd, Ord)]
 pub(crate) enum Kind {
     /// A sum that may fall.
     Updown,
@@ -55,7 +55,7 @@ impl Kind {
 }
 
 /// What a family is of. Ordered by its parts from left to right.
-#[derive(Debug, PartialEq, Eq, PartialOrd, Ord, Drop)]
+#[derive(PartialEq, Eq, PartialOrd, Ord, Drop)]
 pub(crate) struct Metric {
     pub(crate) name: Txt,
     pub(crate) unit: Txt,
@@ -167,13 +167,16 @@ impl Metric {
     }
 
     /// The name of its family: its own, and that of its unit unless it has it.
-    #[tactic(auto, unfolding(crate::specs::Metrics::family), unfolding(crate::specs::Metrics::with_unit))]
+    #[tactic(auto, unfolding(crate::specs::Metrics::family, crate::specs::Metrics::with_unit))]
     pub(crate) fn family(&self, alloc: Global) -> Result<String, NoMemory>
         ensures { IfOk result (λ text. string_bytes text ≡ family self.now) }
     {
         let mut name = self.stem(alloc)?;
         let unit = self.unit_name(alloc)?;
-        if unit.is_empty() || has_words(alloc, name.as_str(), unit.as_str())? {
+        if unit.is_empty() {
+            return Ok(name);
+        }
+        if has_words(alloc, name.as_str(), unit.as_str())? {
             return Ok(name);
         }
         name.push('_')?;

@@ -1,14 +1,15 @@
 //! The families of the kit's own, which tell what a page leaves out.
-ghost use Rattle.std.specs.Prelude.{◌≡◌, ◌<◌, ◌++◌, ◌∷◌, [], map, filter, length, IfOk, OnOk, string_bytes};
+ghost use Rattle.std.specs.Prelude.{◌≡◌, ◌+◌, ◌/◌, ◌%◌, ◌<◌, ◌++◌, ◌∷◌, [], length, if◌then◌else◌, IfOk, OnOk, string_bytes};
 ghost use Rattle.std.specs.Fmt.{decimal};
 ghost use Rattle.std.specs.List.{flat_map};
 ghost use Rattle.gateway_kit.specs.Walks.{keyed_cell_of_ref};
+ghost use Rattle.page_kit.specs.Groups.{put};
+ghost use Rattle.page_kit.specs.Labels.{labels_cmp, conflict_labels};
 ghost use Rattle.page_kit.specs.Families.{own_names};
-ghost use Rattle.page_kit.specs.Groups.{groups};
-ghost use Rattle.page_kit.specs.Labels.{labels_cmp, service_labels, metric_labels, conflict_labels};
 ghost use Rattle.page_kit.specs.Lines.{sample, metadata};
-ghost use Rattle.page_kit.specs.Page.{conflicts_text, keys_text, left_out_text, digit, seconds, newest_text, own_text};
+ghost use Rattle.page_kit.specs.Page.{conflict_rows, service_rows, left_out_rows, conflicts_text, keys_text, left_out_text, seconds, newest_text, own_text};
 ghost use Rattle.page_kit.specs.Totals.{is_conflict, latest};
+ghost use Rattle.page_kit.specs.Views.{lists, cells, cell_lists, all_measured};
 
 use crate::families::Measured;
 use crate::groups::{list_of, put};
@@ -67,19 +68,33 @@ fn push_number(
     Ok(())
 }
 
+// Puts a point to those of its labels, if it holds a conflict.
+fn put_conflict<'a>(
+    alloc: Global,
+    groups: &mut BTreeMap<Seq<Label>, Vec<PointRef<'a>>>,
+    point: PointRef<'a>,
+) -> Result<(), NoMemory>
+    ensures { OnOk result (lists groups.new.entries ≡ (if is_conflict (keyed_cell_of_ref point.entry)
+        then put labels_cmp (lists groups.old.entries) (conflict_labels (keyed_cell_of_ref point.entry).0, point.entry)
+        else lists groups.old.entries)) }
+{
+    if !is_conflict(point) {
+        return Ok(());
+    }
+    let labels = conflict_labels(alloc, point)?;
+    put(alloc, groups, labels, point)
+}
+
 // The points that hold a conflict, by their labels.
 fn conflicts_of<'a>(
     alloc: Global,
     points: &[PointRef<'a>],
 ) -> Result<Vec<(Seq<Label>, Vec<PointRef<'a>>)>, NoMemory>
-    ensures { IfOk result (λ list. map (λ g. (g.0, map keyed_cell_of_ref g.1.items)) list.items
-        ≡ groups labels_cmp (map (λ e. (conflict_labels e.0, e)) (filter is_conflict (map keyed_cell_of_ref points.now)))) }
+    ensures { IfOk result (λ list. cell_lists list.items ≡ conflict_rows (cells points.now)) }
 {
     let mut groups = BTreeMap::new(alloc);
     for point in points {
-        if is_conflict(*point) {
-            put(alloc, &mut groups, conflict_labels(alloc, *point)?, *point)?;
-        }
+        put_conflict(alloc, &mut groups, *point)?;
     }
     list_of(alloc, groups)
 }
@@ -93,7 +108,13 @@ fn push_lengths(
     ensures { OnOk result (string_bytes text.new ≡ string_bytes text.old ++ flat_map (λ g. sample name.now g.0 (decimal (length g.1.items))) rows.now) }
 {
     for (labels, points) in rows {
-        push_number(text, alloc, name, labels.as_slice(), points.len())?;
+        push_number(
+            text,
+            alloc,
+            name,
+            labels.as_slice(),
+            points.as_slice().len(),
+        )?;
     }
     Ok(())
 }
@@ -105,7 +126,7 @@ fn push_conflicts(
     format: Format,
     points: &[PointRef],
 ) -> Result<(), NoMemory>
-    ensures { OnOk result (string_bytes text.new ≡ string_bytes text.old ++ conflicts_text format (map keyed_cell_of_ref points.now)) }
+    ensures { OnOk result (string_bytes text.new ≡ string_bytes text.old ++ conflicts_text format (cells points.now)) }
 {
     let rows = conflicts_of(alloc, points)?;
     push_head(
@@ -126,9 +147,16 @@ fn push_keys(
     format: Format,
     points: &[PointRef],
 ) -> Result<(), NoMemory>
-    ensures { OnOk result (string_bytes text.new ≡ string_bytes text.old ++ keys_text format (map keyed_cell_of_ref points.now)) }
+    ensures { OnOk result (string_bytes text.new ≡ string_bytes text.old ++ keys_text format (cells points.now)) }
 {
-    push_head(text, alloc, format, "kotskhin_keys", "", "Keys that are held.")?;
+    push_head(
+        text,
+        alloc,
+        format,
+        "kotskhin_keys",
+        "",
+        "Keys that are held.",
+    )?;
     push_number(text, alloc, "kotskhin_keys", &[], points.len())
 }
 
@@ -137,13 +165,13 @@ fn lengths_of(
     alloc: Global,
     metrics: &[Measured],
 ) -> Result<Vec<(Seq<Label>, Vec<usize>)>, NoMemory>
-    ensures { IfOk result (λ list. map (λ g. (g.0, g.1.items)) list.items
-        ≡ groups labels_cmp (map (λ m. (metric_labels m.0, length m.1)) (map (λ m. (m.metric, map keyed_cell_of_ref m.points.items)) metrics.now))) }
+    ensures { IfOk result (λ list. lists list.items
+        ≡ left_out_rows (all_measured metrics.now)) }
 {
     let mut groups = BTreeMap::new(alloc);
     for measured in metrics {
         let labels = metric_labels(alloc, &measured.metric)?;
-        put(alloc, &mut groups, labels, measured.points.len())?;
+        put(alloc, &mut groups, labels, measured.points.as_slice().len())?;
     }
     list_of(alloc, groups)
 }
@@ -186,7 +214,7 @@ fn push_left_out(
     hidden: &[Measured],
 ) -> Result<(), NoMemory>
     ensures { OnOk result (string_bytes text.new ≡ string_bytes text.old
-        ++ left_out_text format (map (λ m. (m.metric, map keyed_cell_of_ref m.points.items)) hidden.now)) }
+        ++ left_out_text format (all_measured hidden.now)) }
 {
     let rows = lengths_of(alloc, hidden)?;
     push_head(
@@ -200,12 +228,12 @@ fn push_left_out(
     push_all_numbers(text, alloc, "kotskhin_left_out", rows.as_slice())
 }
 
-// Adds a digit of a number, by its place.
-fn push_digit(text: &mut String, number: u64, place: u32) -> Result<(), NoMemory>
-    requires { place < 9 }
-    ensures { OnOk result (string_bytes text.new ≡ string_bytes text.old ++ digit number place ∷ []) }
+// Adds the digit of a number whose place counts so much.
+fn push_digit(text: &mut String, number: u64, unit: u64) -> Result<(), NoMemory>
+    requires { 0 < unit }
+    ensures { OnOk result (string_bytes text.new ≡ string_bytes text.old ++ (48 + number / unit % 10) ∷ []) }
 {
-    let digit = (number / 10u64.pow(place) % 10) as u8;
+    let digit = (number / unit % 10) as u8;
     text.push((b'0' + digit) as char)?;
     Ok(())
 }
@@ -217,15 +245,15 @@ fn seconds(alloc: Global, time: u64) -> Result<String, NoMemory>
 {
     let whole = time / 1000000000;
     let mut text = format!(in alloc; "{whole}.")?;
-    push_digit(&mut text, time, 8)?;
-    push_digit(&mut text, time, 7)?;
-    push_digit(&mut text, time, 6)?;
-    push_digit(&mut text, time, 5)?;
-    push_digit(&mut text, time, 4)?;
-    push_digit(&mut text, time, 3)?;
-    push_digit(&mut text, time, 2)?;
+    push_digit(&mut text, time, 100000000)?;
+    push_digit(&mut text, time, 10000000)?;
+    push_digit(&mut text, time, 1000000)?;
+    push_digit(&mut text, time, 100000)?;
+    push_digit(&mut text, time, 10000)?;
+    push_digit(&mut text, time, 1000)?;
+    push_digit(&mut text, time, 100)?;
+    push_digit(&mut text, time, 10)?;
     push_digit(&mut text, time, 1)?;
-    push_digit(&mut text, time, 0)?;
     Ok(text)
 }
 
@@ -234,12 +262,13 @@ fn served<'a>(
     alloc: Global,
     points: &[PointRef<'a>],
 ) -> Result<Vec<(Seq<Label>, Vec<PointRef<'a>>)>, NoMemory>
-    ensures { IfOk result (λ list. map (λ g. (g.0, map keyed_cell_of_ref g.1.items)) list.items
-        ≡ groups labels_cmp (map (λ e. (service_labels e.0, e)) (map keyed_cell_of_ref points.now))) }
+    ensures { IfOk result (λ list. cell_lists list.items
+        ≡ service_rows (cells points.now)) }
 {
     let mut groups = BTreeMap::new(alloc);
     for point in points {
-        put(alloc, &mut groups, service_labels(alloc, *point)?, *point)?;
+        let labels = service_labels(alloc, *point)?;
+        put(alloc, &mut groups, labels, *point)?;
     }
     list_of(alloc, groups)
 }
@@ -251,7 +280,7 @@ fn push_times(
     rows: &[(Seq<Label>, Vec<PointRef<'_>>)],
 ) -> Result<(), NoMemory>
     ensures { OnOk result (string_bytes text.new ≡ string_bytes text.old
-        ++ flat_map (λ g. sample name.now g.0 (seconds (latest (map keyed_cell_of_ref g.1.items)))) rows.now) }
+        ++ flat_map (λ g. sample name.now g.0 (seconds (latest (cells g.1.items)))) rows.now) }
 {
     for (labels, points) in rows {
         let number = seconds(alloc, latest_of(points.as_slice()))?;
@@ -267,7 +296,7 @@ fn push_newest(
     format: Format,
     points: &[PointRef],
 ) -> Result<(), NoMemory>
-    ensures { OnOk result (string_bytes text.new ≡ string_bytes text.old ++ newest_text format (map keyed_cell_of_ref points.now)) }
+    ensures { OnOk result (string_bytes text.new ≡ string_bytes text.old ++ newest_text format (cells points.now)) }
 {
     let rows = served(alloc, points)?;
     push_head(
@@ -291,7 +320,7 @@ pub(crate) fn push_own(
     hidden: &[Measured],
 ) -> Result<(), NoMemory>
     ensures { OnOk result (string_bytes text.new ≡ string_bytes text.old
-        ++ own_text format (map keyed_cell_of_ref points.now) (map (λ m. (m.metric, map keyed_cell_of_ref m.points.items)) hidden.now)) }
+        ++ own_text format (cells points.now) (all_measured hidden.now)) }
 {
     push_conflicts(text, alloc, format, points)?;
     push_keys(text, alloc, format, points)?;

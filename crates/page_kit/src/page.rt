@@ -6,6 +6,7 @@ ghost use Rattle.gateway_kit.specs.Walks.{keyed_cell_of_ref, points_left};
 ghost use Rattle.page_kit.specs.Page.{last_line, asked_cells, page};
 ghost use Rattle.page_kit.specs.Rows.{family_text};
 ghost use Rattle.page_kit.specs.declared.text.Format.TheVariants.{OpenMetrics, Prometheus};
+ghost use Rattle.page_kit.specs.Views.{cells, all_measured};
 
 use crate::families::{Measured, families_of};
 use crate::own::push_own;
@@ -25,7 +26,7 @@ fn asked_points<'a>(gateway: &'a Gateway, service: Option<&'a str>) -> Points<'a
 }
 
 fn list_of<'a>(alloc: Global, points: Points<'a>) -> Result<Vec<PointRef<'a>>, NoMemory>
-    ensures { IfOk result (λ list. map keyed_cell_of_ref list.items ≡ points_left points.entry) }
+    ensures { IfOk result (λ list. cells list.items ≡ points_left points.entry) }
 {
     let mut list = Vec::new(alloc);
     for point in points {
@@ -41,10 +42,16 @@ fn push_families(
     families: &[Measured],
 ) -> Result<(), NoMemory>
     ensures { OnOk result (string_bytes text.new ≡ string_bytes text.old
-        ++ flat_map (family_text format) (map (λ m. (m.metric, map keyed_cell_of_ref m.points.items)) families.now)) }
+        ++ flat_map (family_text format) (all_measured families.now)) }
 {
     for measured in families {
-        push_family(text, alloc, format, &measured.metric, measured.points.as_slice())?;
+        push_family(
+            text,
+            alloc,
+            format,
+            &measured.metric,
+            measured.points.as_slice(),
+        )?;
     }
     Ok(())
 }
@@ -61,7 +68,7 @@ fn push_end(text: &mut String, format: Format) -> Result<(), AllocError>
 // The page of these points.
 #[tactic(auto, unfolding(crate::specs::Page::page))]
 fn page(alloc: Global, format: Format, points: &[PointRef]) -> Result<String, NoMemory>
-    ensures { IfOk result (λ text. string_bytes text ≡ page format (map keyed_cell_of_ref points.now)) }
+    ensures { IfOk result (λ text. string_bytes text ≡ page format (cells points.now)) }
 {
     let families = families_of(alloc, points)?;
     let mut text = String::new(alloc);

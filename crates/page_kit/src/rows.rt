@@ -2,16 +2,15 @@
 ghost use Rattle.std.specs.Prelude.{◌≡◌, ◌++◌, List, map, IfOk, OnOk, string_bytes};
 ghost use Rattle.std.specs.Fmt.{signed_decimal};
 ghost use Rattle.std.specs.List.{flat_map};
-ghost use Rattle.attr_kit.specs.Orders.{text_cmp};
 ghost use Rattle.gateway_kit.specs.Walks.{keyed_cell_of_ref};
-ghost use Rattle.page_kit.specs.Bounds.{AreBounds};
-ghost use Rattle.page_kit.specs.Groups.{groups};
+ghost use Rattle.page_kit.specs.Bounds.{AreBounds, HaveBounds};
 ghost use Rattle.page_kit.specs.Lines.{sample, metadata, help_of};
 ghost use Rattle.page_kit.specs.Metrics.{unit_of};
 ghost use Rattle.page_kit.specs.Rows.{gauge, row_bounds, samples, row, rows, family_text};
 ghost use Rattle.page_kit.specs.Totals.{KeyedCell, sum_of};
+ghost use Rattle.page_kit.specs.Views.{cells, cell_lists};
 
-use crate::bounds::shared_bounds;
+use crate::bounds::bounds_of_services;
 use crate::groups::{list_of, put};
 use crate::histograms::push_histogram;
 use crate::labels::{Label, row_labels};
@@ -29,42 +28,28 @@ fn rows_of<'a>(
     alloc: Global,
     points: &[PointRef<'a>],
 ) -> Result<Vec<(Seq<Label>, Vec<PointRef<'a>>)>, NoMemory>
-    ensures { IfOk result (λ list. map (λ g. (g.0, map keyed_cell_of_ref g.1.items)) list.items ≡ rows (map keyed_cell_of_ref points.now)) }
+    ensures { IfOk result (λ list. cell_lists list.items ≡ rows (cells points.now)) }
 {
     let mut groups = BTreeMap::new(alloc);
     for point in points {
-        put(alloc, &mut groups, row_labels(alloc, *point)?, *point)?;
+        let labels = row_labels(alloc, *point)?;
+        put(alloc, &mut groups, labels, *point)?;
     }
     list_of(alloc, groups)
 }
 
-// The points by their services.
-fn by_service<'a>(
+// The bounds of the services of a metric's points, where its kind asks for some.
+fn bounds_for(
     alloc: Global,
-    points: &[PointRef<'a>],
-) -> Result<Vec<(Txt, Vec<PointRef<'a>>)>, NoMemory>
-    ensures { IfOk result (λ list. map (λ g. (g.0, map keyed_cell_of_ref g.1.items)) list.items
-        ≡ groups text_cmp (map (λ e. (e.0.writer.service, e)) (map keyed_cell_of_ref points.now))) }
-{
-    let mut groups = BTreeMap::new(alloc);
-    for point in points {
-        put(alloc, &mut groups, point.writer.service.try_copy()?, *point)?;
-    }
-    list_of(alloc, groups)
-}
-
-// The shared bounds of the histograms of each service.
-fn bounds_of_services(
-    alloc: Global,
+    kind: Kind,
     points: &[PointRef],
 ) -> Result<BTreeMap<Txt, Vec<i64>>, NoMemory>
-    ensures { IfOk result (λ services. AreBounds (λ v. v.items) (map keyed_cell_of_ref points.now) services.entries) }
+    ensures { IfOk result (λ services. HaveBounds kind (λ v. v.items) (cells points.now) services.entries) }
 {
-    let mut bounds = BTreeMap::new(alloc);
-    for (service, points) in by_service(alloc, points)? {
-        bounds.insert(service, shared_bounds(alloc, points.as_slice())?)?;
+    match kind {
+        Kind::Histogram => bounds_of_services(alloc, points),
+        Kind::Updown | Kind::Counter | Kind::Gauge => Ok(BTreeMap::new(alloc)),
     }
-    Ok(bounds)
 }
 
 fn push_sum(
@@ -76,7 +61,7 @@ fn push_sum(
     points: &[PointRef],
 ) -> Result<(), NoMemory>
     ensures { OnOk result (string_bytes text.new ≡ string_bytes text.old
-        ++ sample (name.now ++ ending.now) labels.now (signed_decimal (sum_of (map keyed_cell_of_ref points.now)))) }
+        ++ sample (name.now ++ ending.now) labels.now (signed_decimal (sum_of (cells points.now)))) }
 {
     let sum = sum_of(points);
     let number = format!(in alloc; "{sum}")?;
@@ -102,7 +87,7 @@ fn push_gauge(
 
 // The bounds of a row: those of its service.
 fn bounds_of_row<'a>(services: &'a BTreeMap<Txt, Vec<i64>>, points: &[PointRef]) -> &'a [i64]
-    ensures { (all : List KeyedCell) → AreBounds (λ v. v.items) all services.entry.now.entries → result.now ≡ row_bounds all (map keyed_cell_of_ref points.now) }
+    ensures { (all : List KeyedCell) → AreBounds (λ v. v.items) all services.entry.now.entries → result.now ≡ row_bounds all (cells points.now) }
 {
     let Some(point) = points.first() else {
         return &[];
@@ -128,8 +113,8 @@ fn push_samples(
     labels: &[Label],
     points: &[PointRef],
 ) -> Result<(), NoMemory>
-    ensures { OnOk result ((all : List KeyedCell) → AreBounds (λ v. v.items) all family.entry.bounds.now.entries → string_bytes text.new
-        ≡ string_bytes text.old ++ samples family.entry.kind family.entry.name.now all labels.now (map keyed_cell_of_ref points.now)) }
+    ensures { OnOk result ((all : List KeyedCell) → HaveBounds family.entry.kind (λ v. v.items) all family.entry.bounds.now.entries → string_bytes text.new
+        ≡ string_bytes text.old ++ samples family.entry.kind family.entry.name.now all labels.now (cells points.now)) }
 {
     match family.kind {
         Kind::Updown => push_sum(text, alloc, family.name, "", labels, points),
@@ -150,8 +135,8 @@ fn push_row(
     labels: &[Label],
     points: &[PointRef],
 ) -> Result<(), NoMemory>
-    ensures { OnOk result ((all : List KeyedCell) → AreBounds (λ v. v.items) all family.entry.bounds.now.entries → string_bytes text.new
-        ≡ string_bytes text.old ++ row family.entry.kind family.entry.name.now all (labels.now, map keyed_cell_of_ref points.now)) }
+    ensures { OnOk result ((all : List KeyedCell) → HaveBounds family.entry.kind (λ v. v.items) all family.entry.bounds.now.entries → string_bytes text.new
+        ≡ string_bytes text.old ++ row family.entry.kind family.entry.name.now all (labels.now, cells points.now)) }
 {
     if has_conflict(points) {
         return Ok(());
@@ -165,8 +150,8 @@ fn push_rows(
     family: Family<'_>,
     rows: &[(Seq<Label>, Vec<PointRef<'_>>)],
 ) -> Result<(), NoMemory>
-    ensures { OnOk result ((all : List KeyedCell) → AreBounds (λ v. v.items) all family.entry.bounds.now.entries → string_bytes text.new
-        ≡ string_bytes text.old ++ flat_map (λ r. row family.entry.kind family.entry.name.now all (r.0, map keyed_cell_of_ref r.1.items)) rows.now) }
+    ensures { OnOk result ((all : List KeyedCell) → HaveBounds family.entry.kind (λ v. v.items) all family.entry.bounds.now.entries → string_bytes text.new
+        ≡ string_bytes text.old ++ flat_map (λ r. row family.entry.kind family.entry.name.now all (r.0, cells r.1.items)) rows.now) }
 {
     for (labels, points) in rows {
         push_row(text, alloc, family, labels.as_slice(), points.as_slice())?;
@@ -205,10 +190,10 @@ pub(crate) fn push_family(
     metric: &Metric,
     points: &[PointRef],
 ) -> Result<(), NoMemory>
-    ensures { OnOk result (string_bytes text.new ≡ string_bytes text.old ++ family_text format (metric.now, map keyed_cell_of_ref points.now)) }
+    ensures { OnOk result (string_bytes text.new ≡ string_bytes text.old ++ family_text format (metric.now, cells points.now)) }
 {
     let name = metric.family(alloc)?;
-    let bounds = bounds_of_services(alloc, points)?;
+    let bounds = bounds_for(alloc, metric.kind, points)?;
     let rows = rows_of(alloc, points)?;
     push_head(text, alloc, format, metric, name.as_str())?;
     let family = Family {

@@ -2,7 +2,7 @@
 ghost use Rattle.std.specs.Prelude.{◌≡◌, ◌++◌, ◌∷◌, [], IfOk, OnOk, string_bytes};
 ghost use Rattle.std.specs.List.{join_by};
 ghost use Rattle.page_kit.specs.Labels.{separator};
-ghost use Rattle.page_kit.specs.Lines.{escape, escaped, label_text, labels_text, sample, total_of, type_line, unit_line, has_quotes, help_line, metadata, help_of};
+ghost use Rattle.page_kit.specs.Lines.{escape, escaped, label_text, labels_text, sample, total_of, type_line, has_unit_line, unit_line, has_quotes, help_line, metadata, in_brackets, help_of};
 
 use crate::labels::Label;
 use crate::metric::{Kind, Metric, ends_with_unit};
@@ -10,7 +10,7 @@ use attr_kit::NoMemory;
 use std::alloc::{AllocError, Global};
 
 /// The format of a page.
-#[derive(Clone, Copy, Debug, PartialEq, Eq)]
+#[derive(Clone, Copy, PartialEq, Eq)]
 pub(crate) enum Format {
     /// OpenMetrics 1.0.
     OpenMetrics,
@@ -94,6 +94,7 @@ fn push_joined(text: &mut String, labels: &[Label]) -> Result<(), AllocError>
     Ok(())
 }
 
+#[tactic(auto, unfolding(crate::specs::Lines::labels_text))]
 fn push_labels(text: &mut String, labels: &[Label]) -> Result<(), AllocError>
     ensures { OnOk result (string_bytes text.new ≡ string_bytes text.old ++ labels_text labels.now) }
 {
@@ -136,7 +137,16 @@ fn push_type(text: &mut String, format: Format, name: &str, kind: Kind) -> Resul
     text.push('\n')
 }
 
-// Adds the line of a unit, in OpenMetrics and where the name ends with it.
+// Whether a family has the line of a unit.
+fn has_unit_line(alloc: Global, format: Format, name: &str, unit: &str) -> Result<bool, NoMemory>
+    ensures { IfOk result (λ has. has ≡ has_unit_line format name.now unit.now) }
+{
+    match format {
+        Format::OpenMetrics => ends_with_unit(alloc, name, unit),
+        Format::Prometheus => Ok(false),
+    }
+}
+
 #[tactic(auto, unfolding(crate::specs::Lines::unit_line))]
 fn push_unit(
     text: &mut String,
@@ -147,13 +157,14 @@ fn push_unit(
 ) -> Result<(), NoMemory>
     ensures { OnOk result (string_bytes text.new ≡ string_bytes text.old ++ unit_line format name.now unit.now) }
 {
-    if format == Format::OpenMetrics && ends_with_unit(alloc, name, unit)? {
-        text.push_str("# UNIT ")?;
-        text.push_str(name)?;
-        text.push(' ')?;
-        text.push_str(unit)?;
-        text.push('\n')?;
+    if !has_unit_line(alloc, format, name, unit)? {
+        return Ok(());
     }
+    text.push_str("# UNIT ")?;
+    text.push_str(name)?;
+    text.push(' ')?;
+    text.push_str(unit)?;
+    text.push('\n')?;
     Ok(())
 }
 
@@ -201,16 +212,24 @@ pub(crate) fn push_metadata(
     Ok(())
 }
 
+// Adds a unit in brackets, if there is one.
+fn push_brackets(text: &mut String, unit: &str) -> Result<(), AllocError>
+    ensures { OnOk result (string_bytes text.new ≡ string_bytes text.old ++ in_brackets unit.now) }
+{
+    if unit.is_empty() {
+        return Ok(());
+    }
+    text.push_str(" (")?;
+    text.push_str(unit)?;
+    text.push(')')
+}
+
 /// What a family's help says: the name of its metric, and its unit where it has one.
 #[tactic(auto, unfolding(crate::specs::Lines::help_of))]
 pub(crate) fn help_of(alloc: Global, metric: &Metric) -> Result<String, NoMemory>
     ensures { IfOk result (λ help. string_bytes help ≡ help_of metric.now) }
 {
     let mut help = String::from_str(alloc, metric.name.as_str())?;
-    if !metric.unit.is_empty() {
-        help.push_str(" (")?;
-        help.push_str(metric.unit.as_str())?;
-        help.push(')')?;
-    }
+    push_brackets(&mut help, metric.unit.as_str())?;
     Ok(help)
 }

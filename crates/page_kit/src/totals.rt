@@ -3,6 +3,7 @@ ghost use Rattle.std.specs.Prelude.{◌≡◌, map};
 ghost use Rattle.std.specs.List.{list_any};
 ghost use Rattle.gateway_kit.specs.Walks.{keyed_cell_of_ref};
 ghost use Rattle.page_kit.specs.Totals.{is_conflict, sum_in, count_in, sum_of, count_of, later, newest_with, newest_of, born, latest};
+ghost use Rattle.page_kit.specs.Views.{cells};
 
 use gateway_kit::PointRef;
 use point_kit::{Cell, Held, Payload};
@@ -19,7 +20,7 @@ pub(crate) fn is_conflict(point: PointRef) -> bool
 
 /// Whether some cell holds a conflict.
 pub(crate) fn has_conflict(points: &[PointRef]) -> bool
-    ensures { result ≡ list_any is_conflict (map keyed_cell_of_ref points.now) }
+    ensures { result ≡ list_any is_conflict (cells points.now) }
 {
     for point in points {
         if is_conflict(*point) {
@@ -53,7 +54,7 @@ fn count_in(held: &Held) -> u64
 /// The sum of all.
 #[tactic(auto, unfolding(crate::specs::Totals::sum_of))]
 pub(crate) fn sum_of(points: &[PointRef]) -> i128
-    ensures { result ≡ sum_of (map keyed_cell_of_ref points.now) }
+    ensures { result ≡ sum_of (cells points.now) }
 {
     let mut sum = 0;
     for point in points {
@@ -65,7 +66,7 @@ pub(crate) fn sum_of(points: &[PointRef]) -> i128
 /// The number of their values.
 #[tactic(auto, unfolding(crate::specs::Totals::count_of))]
 pub(crate) fn count_of(points: &[PointRef]) -> u128
-    ensures { result ≡ count_of (map keyed_cell_of_ref points.now) }
+    ensures { result ≡ count_of (cells points.now) }
 {
     let mut count = 0;
     for point in points {
@@ -96,7 +97,7 @@ fn newest_with(newest: Option<(u64, i64)>, cell: &Cell) -> Option<(u64, i64)>
 /// The value of the greatest time, and of these the last.
 #[tactic(auto, unfolding(crate::specs::Totals::newest_of))]
 pub(crate) fn newest_of(points: &[PointRef]) -> Option<i64>
-    ensures { result ≡ newest_of (map keyed_cell_of_ref points.now) }
+    ensures { result ≡ newest_of (cells points.now) }
 {
     let mut newest = None;
     for point in points {
@@ -111,7 +112,7 @@ pub(crate) fn newest_of(points: &[PointRef]) -> Option<i64>
 /// The greatest start.
 #[tactic(auto, unfolding(crate::specs::Totals::born))]
 pub(crate) fn born_of(points: &[PointRef]) -> u64
-    ensures { result ≡ born (map keyed_cell_of_ref points.now) }
+    ensures { result ≡ born (cells points.now) }
 {
     let mut born = 0;
     for point in points {
@@ -123,7 +124,7 @@ pub(crate) fn born_of(points: &[PointRef]) -> u64
 /// The greatest time.
 #[tactic(auto, unfolding(crate::specs::Totals::latest))]
 pub(crate) fn latest_of(points: &[PointRef]) -> u64
-    ensures { result ≡ latest (map keyed_cell_of_ref points.now) }
+    ensures { result ≡ latest (cells points.now) }
 {
     let mut latest = 0;
     for point in points {

@@ -1,29 +1,36 @@
 //! Units by their words.
-ghost use Rattle.std.specs.Prelude.{◌≡◌, ◌==◌, ◌≤◌, length, drop, IfOk, OnOk, string_bytes};
+ghost use Rattle.std.specs.Prelude.{◌≡◌, ◌==◌, ◌≤◌, ◌++◌, ◌∷◌, ℕ, List, length, drop, IfOk, string_bytes};
 ghost use Rattle.std.specs.List.{position_or_len};
 ghost use Rattle.std.specs.Option.{option_map};
-ghost use Rattle.page_kit.specs.Units.{outside_braces, time_word, size_word, other_word, divisor_word, unit_word, part, of_one, measure, divisor, both, unit_name};
+ghost use Rattle.page_kit.specs.Units.{outside_from, outside_braces, time_word, binary_word, decimal_word, physical_word, other_word, divisor_word, unit_word, part, of_one, measure, divisor, mark_after, both, unit_name};
 
 use crate::metric::Kind;
 use crate::names::{line, trimmed};
 use attr_kit::NoMemory;
 use std::alloc::Global;
 
+// Adds a byte that stands outside of braces; and whether the next one stands inside.
+fn push_outside(bytes: &mut Vec<u8>, byte: u8, inside: bool) -> Result<bool, NoMemory>
+    ensures { IfOk result (λ next. (rest : List ℕ) → bytes.new.items ++ outside_from next rest ≡ bytes.old.items ++ outside_from inside (byte ∷ rest)) }
+{
+    if inside {
+        return Ok(byte != b'}');
+    }
+    if byte == b'{' {
+        return Ok(true);
+    }
+    bytes.push(byte)?;
+    Ok(false)
+}
+
 // What stands outside of braces.
-#[tactic(auto, unfolding(crate::specs::Units::outside_braces))]
 fn outside_braces(alloc: Global, unit: &[u8]) -> Result<Vec<u8>, NoMemory>
     ensures { IfOk result (λ bytes. bytes.items ≡ outside_braces unit.now) }
 {
     let mut bytes = Vec::new(alloc);
     let mut inside = false;
     for byte in unit {
-        if inside {
-            inside = *byte != b'}';
-        } else if *byte == b'{' {
-            inside = true;
-        } else {
-            bytes.push(*byte)?;
-        }
+        inside = push_outside(&mut bytes, *byte, inside)?;
     }
     Ok(bytes)
 }
@@ -45,10 +52,10 @@ fn time_word(unit: &[u8]) -> Option<&'static str>
     }
 }
 
-// The word of an amount of bytes.
-#[tactic(auto, unfolding(crate::specs::Units::size_word))]
-fn size_word(unit: &[u8]) -> Option<&'static str>
-    ensures { option_map (λ word. word.now) result ≡ size_word unit.now }
+// The word of bytes by powers of 2.
+#[tactic(auto, unfolding(crate::specs::Units::binary_word))]
+fn binary_word(unit: &[u8]) -> Option<&'static str>
+    ensures { option_map (λ word. word.now) result ≡ binary_word unit.now }
 {
     match unit {
         b"By" => Some("bytes"),
@@ -56,10 +63,35 @@ fn size_word(unit: &[u8]) -> Option<&'static str>
         b"MiBy" => Some("mebibytes"),
         b"GiBy" => Some("gibibytes"),
         b"TiBy" => Some("tibibytes"),
+        _ => None,
+    }
+}
+
+// The word of bytes by powers of 10.
+#[tactic(auto, unfolding(crate::specs::Units::decimal_word))]
+fn decimal_word(unit: &[u8]) -> Option<&'static str>
+    ensures { option_map (λ word. word.now) result ≡ decimal_word unit.now }
+{
+    match unit {
         b"KBy" => Some("kilobytes"),
         b"MBy" => Some("megabytes"),
         b"GBy" => Some("gigabytes"),
         b"TBy" => Some("terabytes"),
+        _ => None,
+    }
+}
+
+// The word of a physical unit.
+#[tactic(auto, unfolding(crate::specs::Units::physical_word))]
+fn physical_word(unit: &[u8]) -> Option<&'static str>
+    ensures { option_map (λ word. word.now) result ≡ physical_word unit.now }
+{
+    match unit {
+        b"m" => Some("meters"),
+        b"V" => Some("volts"),
+        b"A" => Some("amperes"),
+        b"J" => Some("joules"),
+        b"W" => Some("watts"),
         _ => None,
     }
 }
@@ -70,11 +102,6 @@ fn other_word(unit: &[u8]) -> Option<&'static str>
     ensures { option_map (λ word. word.now) result ≡ other_word unit.now }
 {
     match unit {
-        b"m" => Some("meters"),
-        b"V" => Some("volts"),
-        b"A" => Some("amperes"),
-        b"J" => Some("joules"),
-        b"W" => Some("watts"),
         b"g" => Some("grams"),
         b"Cel" => Some("celsius"),
         b"Hz" => Some("hertz"),
@@ -107,7 +134,13 @@ fn unit_word(unit: &[u8]) -> Option<&'static str>
     if let Some(word) = time_word(unit) {
         return Some(word);
     }
-    if let Some(word) = size_word(unit) {
+    if let Some(word) = binary_word(unit) {
+        return Some(word);
+    }
+    if let Some(word) = decimal_word(unit) {
+        return Some(word);
+    }
+    if let Some(word) = physical_word(unit) {
         return Some(word);
     }
     other_word(unit)
@@ -116,7 +149,7 @@ fn unit_word(unit: &[u8]) -> Option<&'static str>
 // A unit as part of a name, by its word where it has one.
 #[tactic(auto, unfolding(crate::specs::Units::part))]
 fn part(alloc: Global, unit: &[u8], word: Option<&'static str>) -> Result<String, NoMemory>
-    ensures { IfOk result (λ text. string_bytes text ≡ part unit.now (option_map (λ word. word.now) word)) }
+    ensures { IfOk result (λ text. string_bytes text ≡ part unit.now (option_map (λ word. word.now) word.entry)) }
 {
     let text = match word {
         Some(word) => line(alloc, word.as_bytes())?,
@@ -152,11 +185,11 @@ fn divisor(alloc: Global, unit: &[u8]) -> Result<String, NoMemory>
     ensures { IfOk result (λ text. string_bytes text ≡ divisor unit.now) }
 {
     let word = part(alloc, unit, divisor_word(unit))?;
-    let mut text = String::new(alloc);
-    if !word.is_empty() {
-        text.push_str("per_")?;
-        text.push_str(word.as_str())?;
+    if word.is_empty() {
+        return Ok(word);
     }
+    let mut text = String::from_str(alloc, "per_")?;
+    text.push_str(word.as_str())?;
     Ok(text)
 }
 
@@ -165,10 +198,12 @@ fn slash_at(unit: &[u8]) -> usize
     ensures value { result ≡ position_or_len (λ c. c == 47) unit.now }
     ensures within { result ≤ length unit.now }
 {
-    match unit.iter().position(|byte| *byte == b'/') {
-        Some(place) => place,
-        None => unit.len(),
+    for (place, byte) in unit.iter().enumerate() {
+        if *byte == b'/' {
+            return place;
+        }
     }
+    unit.len()
 }
 
 // What stands behind the first byte.
@@ -181,15 +216,24 @@ fn behind(bytes: &[u8]) -> &[u8]
     }
 }
 
-// Adds what a quantity is divided by to what is measured.
-fn push_divisor(name: &mut String, below: &str) -> Result<(), NoMemory>
-    ensures { OnOk result (string_bytes name.new ≡ both (string_bytes name.old) below.now) }
+// What stands behind a name before what it is divided by.
+fn mark_after(name: &str) -> &'static str
+    ensures { result.now ≡ mark_after name.now }
 {
-    if !name.is_empty() && !below.is_empty() {
-        name.push('_')?;
+    if name.is_empty() { "" } else { "_" }
+}
+
+// What is measured, and what it is divided by.
+fn both(alloc: Global, name: String, below: &str) -> Result<String, NoMemory>
+    ensures { IfOk result (λ text. string_bytes text ≡ both (string_bytes name) below.now) }
+{
+    if below.is_empty() {
+        return Ok(name);
     }
-    name.push_str(below)?;
-    Ok(())
+    let mut text = String::from_str(alloc, name.as_str())?;
+    text.push_str(mark_after(name.as_str()))?;
+    text.push_str(below)?;
+    Ok(text)
 }
 
 /// The name of a unit: its words, of `a/b` with `per` between them. Of a number without a unit it is empty.
@@ -199,8 +243,7 @@ pub(crate) fn unit_name(alloc: Global, unit: &str, kind: Kind) -> Result<String,
 {
     let bare = outside_braces(alloc, unit.as_bytes())?;
     let (front, back) = bare.as_slice().split_at(slash_at(bare.as_slice()));
-    let mut name = measure(alloc, front, kind)?;
+    let name = measure(alloc, front, kind)?;
     let below = divisor(alloc, behind(back))?;
-    push_divisor(&mut name, below.as_str())?;
-    Ok(name)
+    both(alloc, name, below.as_str())
 }

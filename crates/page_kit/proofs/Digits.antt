@@ -1,0 +1,48 @@
+-- Digits one after the other, and zeros at their end.
+use Rattle.std.proofs.Common.{◌≡◌, ◌≢◌, ℕ, zero, suc, ◌+◌, ◌-◌, ◌<◌, ◌≤◌, Bool, true, false, cond, eqb, List, [], ◌∷◌, ◌++◌, length, take, drop, get_or, refl, sym, ap, ◌∙◌, arith}
+use Rattle.std.proofs.lemmas.Bool.{eqb-true}
+use Rattle.std.proofs.lemmas.List.{take_more}
+use Rattle.page_kit.specs.Rows.{before_zeros, without_zeros, point_behind, mantissa}
+
+-- what a mantissa has still to say of these digits, the first of which stands at a place
+abbrev pub left : ℕ → List ℕ → List ℕ
+left zero digits = mantissa digits
+left (suc place) digits = digits
+
+-- the digit at a place, and what stands behind it
+pub digit_more : (digits : List ℕ) (i : ℕ) → i < length digits → left i (drop i digits) ≡ get_or digits i 0 ∷ point_behind i (length digits) ++ left (i + 1) (drop (i + 1) digits)
+digit_more [] i h = absurd (omega arith)
+digit_more (d ∷ []) zero h = refl
+digit_more (d ∷ e ∷ es) zero h = refl
+digit_more (d ∷ ds) (suc i) h = later ds i (omega arith) where
+  later : (ds : List ℕ) (i : ℕ) → i < length ds → drop i ds ≡ get_or ds i 0 ∷ drop (i + 1) ds
+  later [] i h = absurd (omega arith)
+  later (e ∷ es) zero h = refl
+  later (e ∷ es) (suc i) h = later es i (omega arith)
+
+-- a zero at the end is left out, and what ends otherwise is kept
+pub zero_left : (ds : List ℕ) → without_zeros (ds ++ 48 ∷ []) ≡ without_zeros ds
+zero_left [] = refl
+zero_left (d ∷ ds) = ap (before_zeros d) (zero_left ds)
+
+kept_before : (d : ℕ) (ds : List ℕ) (x : ℕ) → before_zeros d (ds ++ x ∷ []) ≡ d ∷ (ds ++ x ∷ [])
+kept_before d [] x = refl
+kept_before d (e ∷ es) x = refl
+
+last_kept : (x : ℕ) → eqb x 48 ≡ false → before_zeros x [] ≡ x ∷ []
+last_kept x e = ap (λ (b : Bool). cond b [] (x ∷ [])) e
+
+pub end_kept : (ds : List ℕ) (x : ℕ) → eqb x 48 ≡ false → without_zeros (ds ++ x ∷ []) ≡ ds ++ x ∷ []
+end_kept [] x e = last_kept x e
+end_kept (d ∷ ds) x e = ap (before_zeros d) (end_kept ds x e) ∙ kept_before d ds x
+
+kept_at : (ds : List ℕ) (len i : ℕ) (b : Bool) → i < length ds → eqb (get_or ds i 0) 48 ≡ b → take len ds ≡ without_zeros (take i ds) → take (cond b len (i + 1)) ds ≡ without_zeros (take (i + 1) ds)
+kept_at ds len i true h is before =
+    let zero_here : get_or ds i 0 ≡ 48 = eqb-true (get_or ds i 0) 48 is in
+    before ∙ sym (zero_left (take i ds)) ∙ ap (λ (x : ℕ). without_zeros (take i ds ++ x ∷ [])) (sym zero_here) ∙ ap without_zeros (sym (take_more ds i 0 h))
+kept_at ds len i false h is before =
+    take_more ds i 0 h ∙ sym (end_kept (take i ds) (get_or ds i 0) is) ∙ ap without_zeros (sym (take_more ds i 0 h))
+
+-- the digits so far without zeros at their end, with one digit more
+pub digits_kept : (ds : List ℕ) (len i : ℕ) → i < length ds → take len ds ≡ without_zeros (take i ds) → take (cond (eqb (get_or ds i 0) 48) len (i + 1)) ds ≡ without_zeros (take (i + 1) ds)
+digits_kept ds len i h before = kept_at ds len i (eqb (get_or ds i 0) 48) h refl before
