@@ -46,3 +46,8 @@ kept_at ds len i false h is before =
 -- the digits so far without zeros at their end, with one digit more
 pub digits_kept : (ds : List ℕ) (len i : ℕ) → i < length ds → take len ds ≡ without_zeros (take i ds) → take (cond (eqb (get_or ds i 0) 48) len (i + 1)) ds ≡ without_zeros (take (i + 1) ds)
 digits_kept ds len i h before = kept_at ds len i (eqb (get_or ds i 0) 48) h refl before
+
+-- and there are no more than digits so far
+pub kept_within : (len i : ℕ) (b : Bool) → len ≤ i → cond b len (i + 1) ≤ i + 1
+kept_within len i true h = omega arith
+kept_within len i false h = omega arith

@@ -2,6 +2,7 @@ pub mod Claimed
 pub mod Counted
 pub mod Counts
 pub mod Digits
+pub mod Ended
 pub mod Folded
 pub mod Grouped
 pub mod Joined

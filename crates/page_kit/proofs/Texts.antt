@@ -1,8 +1,9 @@
 -- Texts without what stands at an end of them, and parts of texts.
-use Rattle.std.proofs.Common.{◌≡◌, ◌≢◌, ℕ, ◌+◌, ◌-◌, ◌<◌, Bool, true, false, cond, ◌||◌, nat_eq, List, [], ◌∷◌, ◌++◌, length, take, drop, get_or, refl, sym, ap, ◌∙◌, arith}
+use Rattle.std.proofs.Common.{◌≡◌, ◌≢◌, ℕ, ◌+◌, ◌-◌, ◌<◌, Bool, true, false, cond, ◌||◌, nat_eq, eqb, List, [], ◌∷◌, ◌++◌, length, take, drop, get_or, refl, sym, ap, ◌∙◌, arith}
 use Rattle.std.specs.Cmp.Lexicographic.{pointwise}
 use Rattle.std.specs.List.{starts_with}
 use Rattle.std.proofs.Math.Seq.{drop-append_seam, take-append_seam}
+use Rattle.std.proofs.lemmas.Bool.{eqb-true}
 use Rattle.std.proofs.lemmas.List.{length-append, take-append-drop, drop_more}
 use Rattle.std.proofs.lemmas.Slice.Eq.{bytes_eq-Decides}
 use Rattle.page_kit.specs.Names.{without_suffix, without_prefix, has_part}
@@ -57,3 +58,11 @@ pub part_more : (part xs : List ℕ) (i : ℕ) → i < length xs → has_part pa
 part_more part xs i h =
     let here = drop_more xs i 0 h in
     ap (has_part part) here ∙ ap (λ (l : List ℕ). starts_with nat_eq l part || has_part part (drop (i + 1) xs)) (sym here)
+
+ne_at : (a b : ℕ) (r : Bool) → (a ≡ b → ⊥) → eqb a b ≡ r → r ≡ false
+ne_at a b true no is = absurd (no (eqb-true a b is))
+ne_at a b false no is = refl
+
+-- numbers that differ, as a test
+pub ne_false : (a b : ℕ) → (a ≡ b → ⊥) → eqb a b ≡ false
+ne_false a b no = ne_at a b (eqb a b) no refl

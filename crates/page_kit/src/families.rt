@@ -56,7 +56,8 @@ fn metrics_of<'a>(alloc: Global, points: &[PointRef<'a>]) -> Result<Vec<Measured
     ensures { IfOk result (λ metrics. all_measured metrics.items ≡ metrics_of (cells points.now)) }
 {
     let mut metrics = Vec::new(alloc);
-    for (metric, points) in by_metric(alloc, points)? {
+    let groups = by_metric(alloc, points)?;
+    for (metric, points) in groups {
         metrics.push(Measured { metric, points })?;
     }
     Ok(metrics)

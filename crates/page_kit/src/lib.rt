@@ -1,4 +1,15 @@
-//! The points of a gateway as a page that Prometheus scrapes.
+//! A gateway's points as a page that Prometheus scrapes, and whatever else reads OpenMetrics.
+//!
+//! - [`openmetrics`] makes the page in OpenMetrics 1.0, and [`prometheus`] in Prometheus' text format 0.0.4: of the points of one
+//!   service, or of all.
+//!
+//! A caller (`crates/page_kit/src/tests.rt`):
+//!
+//!     assert_eq!(rt; openmetrics(alloc, &gateway, None)?.as_str(), FIRST);
+//!
+//! What contracts cite stands in `specs/`: `Page` (the page and the kit's own families), `Families` (metrics, and which are
+//! shown), `Rows`, `Bounds` and `Totals` (what rows say), `Labels`, `Metrics`, `Units` and `Names` (how things are called), `Lines`
+//! (how they are written) and `Groups` (values by their keys).
 #![tactic(auto)]
 
 mod bounds;

@@ -78,7 +78,17 @@ fn page(alloc: Global, format: Format, points: &[PointRef]) -> Result<String, No
     Ok(text)
 }
 
-/// The page of a gateway's points as OpenMetrics 1.0.
+/// The page of a gateway's points in OpenMetrics 1.0: of a service where one is given, else of all. It is the answer to a request
+/// that accepts `application/openmetrics-text`, with `Content-Type: application/openmetrics-text; version=1.0.0; charset=utf-8`.
+///
+/// A metric is a name, a unit and a kind, and has a family: its name and its unit as Prometheus wants them. Keys of a metric whose
+/// labels are equal are one row, over all writers and incarnations: sums add up, of gauges the newest counts, and histograms add up
+/// at the bounds that all keys of the metric and the service have. A row in which some key holds a conflict is not shown, and of
+/// metrics that claim one name only the one whose incarnation is the youngest. Four families of the kit's own tell what is left
+/// out, and when each service's newest point came. Totals have all their digits, and no value is converted.
+///
+/// O(n log n) comparisons of labels for n points; of a histogram's row each shared bound is compared with each bound of its
+/// points. Takes memory for the text, and for the labels of each point. `NoMemory` comes only where a growth was refused.
 pub fn openmetrics(
     alloc: Global,
     gateway: &Gateway,
@@ -91,7 +101,9 @@ pub fn openmetrics(
     page(alloc, Format::OpenMetrics, points.as_slice())
 }
 
-/// The page of a gateway's points in Prometheus' text format 0.0.4.
+/// The same page in Prometheus' text format 0.0.4, with `Content-Type: text/plain; version=0.0.4; charset=utf-8`: for all other
+/// requests, for a Pushgateway, and for files. Samples, labels, numbers and their order are the same. It has no `# UNIT` and no
+/// `# EOF`, lines of a counter's metadata name its samples, and quotes in a help stay as they are.
 pub fn prometheus(
     alloc: Global,
     gateway: &Gateway,
