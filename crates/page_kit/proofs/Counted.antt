@@ -35,3 +35,7 @@ up_to_more bound limits buckets i d h =
 
 pub room_more : (a b c : ℕ) → within_room (within_room (a + b) + c) ≡ within_room (a + (b + c))
 room_more a b c = omega arith
+
+-- a count has room
+pub nothing_left : (n m : ℕ) → n < 2 ^ 128 → m ≡ 0 → n ≡ within_room (n + m)
+nothing_left n m h e = omega arith

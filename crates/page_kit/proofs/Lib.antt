@@ -5,6 +5,7 @@ pub mod Digits
 pub mod Ended
 pub mod Folded
 pub mod Grouped
+pub mod Held
 pub mod Joined
 pub mod Shared
 pub mod Texts

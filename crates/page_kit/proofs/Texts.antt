@@ -25,13 +25,13 @@ pub suffix_some : (s t x : List ℕ) → t ≡ x ++ s → without_suffix s t ≡
 suffix_some s t x e = ap (without_suffix s) e ∙ suffix_of s x
 
 ends_not : (s t : List ℕ) (k : ℕ) (b : Bool) → ((front : List ℕ) → t ≢ front ++ s) → pointwise nat_eq s (drop k t) ≡ b → cond b (take k t) t ≡ t
-ends_not s t k true no is = absurd (no (take k t) (sym (take-append-drop k t) ∙ ap (λ (l : List ℕ). take k t ++ l) (sym ((bytes_eq-Decides s (drop k t)).0 is))))
-ends_not s t k false no is = refl
+ends_not s t k true lacks is = absurd (lacks (take k t) (sym (take-append-drop k t) ∙ ap (λ (l : List ℕ). take k t ++ l) (sym ((bytes_eq-Decides s (drop k t)).0 is))))
+ends_not s t k false lacks is = refl
 
 -- one that does not, as it is
 pub suffix_none : (s t : List ℕ) → ((front : List ℕ) → t ≢ front ++ s) → without_suffix s t ≡ t
 unfolding without_suffix
-suffix_none s t no = ends_not s t (length t - length s) (pointwise nat_eq s (drop (length t - length s) t)) no refl
+suffix_none s t lacks = ends_not s t (length t - length s) (pointwise nat_eq s (drop (length t - length s) t)) lacks refl
 
 prefix_of : (p x : List ℕ) → without_prefix p (p ++ x) ≡ x
 unfolding without_prefix
@@ -45,13 +45,13 @@ pub prefix_some : (p t x : List ℕ) → t ≡ p ++ x → without_prefix p t ≡
 prefix_some p t x e = ap (without_prefix p) e ∙ prefix_of p x
 
 begins_not : (p t : List ℕ) (b : Bool) → ((rest : List ℕ) → t ≢ p ++ rest) → pointwise nat_eq p (take (length p) t) ≡ b → cond b (drop (length p) t) t ≡ t
-begins_not p t true no is = absurd (no (drop (length p) t) (sym (take-append-drop (length p) t) ∙ ap (λ (l : List ℕ). l ++ drop (length p) t) (sym ((bytes_eq-Decides p (take (length p) t)).0 is))))
-begins_not p t false no is = refl
+begins_not p t true lacks is = absurd (lacks (drop (length p) t) (sym (take-append-drop (length p) t) ∙ ap (λ (l : List ℕ). l ++ drop (length p) t) (sym ((bytes_eq-Decides p (take (length p) t)).0 is))))
+begins_not p t false lacks is = refl
 
 -- one that does not, as it is
 pub prefix_none : (p t : List ℕ) → ((rest : List ℕ) → t ≢ p ++ rest) → without_prefix p t ≡ t
 unfolding without_prefix
-prefix_none p t no = begins_not p t (pointwise nat_eq p (take (length p) t)) no refl
+prefix_none p t lacks = begins_not p t (pointwise nat_eq p (take (length p) t)) lacks refl
 
 -- a part stands at a place of a text, or behind it
 pub part_more : (part xs : List ℕ) (i : ℕ) → i < length xs → has_part part (drop i xs) ≡ (starts_with nat_eq (drop i xs) part || has_part part (drop (i + 1) xs))
@@ -60,9 +60,9 @@ part_more part xs i h =
     ap (has_part part) here ∙ ap (λ (l : List ℕ). starts_with nat_eq l part || has_part part (drop (i + 1) xs)) (sym here)
 
 ne_at : (a b : ℕ) (r : Bool) → (a ≡ b → ⊥) → eqb a b ≡ r → r ≡ false
-ne_at a b true no is = absurd (no (eqb-true a b is))
-ne_at a b false no is = refl
+ne_at a b true lacks is = absurd (lacks (eqb-true a b is))
+ne_at a b false lacks is = refl
 
 -- numbers that differ, as a test
 pub ne_false : (a b : ℕ) → (a ≡ b → ⊥) → eqb a b ≡ false
-ne_false a b no = ne_at a b (eqb a b) no refl
+ne_false a b lacks = ne_at a b (eqb a b) lacks refl

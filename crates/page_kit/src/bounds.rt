@@ -1,5 +1,5 @@
 //! The bounds that histograms have in common.
-ghost use Rattle.std.specs.Prelude.{◌≡◌, ◌+◌, filter, slice_index, int_le, if◌then◌else◌, IfOk};
+ghost use Rattle.std.specs.Prelude.{◌≡◌, ◌+◌, ◌++◌, ◌∷◌, [], ℤ, filter, slice_index, int_le, if◌then◌else◌, IfOk, OnOk};
 ghost use Rattle.std.specs.List.{list_any};
 ghost use Rattle.std.specs.Option.{option_map};
 ghost use Rattle.std.specs.Ordering.{eq_by_cmp, int_cmp};
@@ -44,7 +44,8 @@ fn is_shown(bound: i64) -> bool
 
 // The bounds as a set.
 fn set_of(alloc: Global, bounds: &[i64]) -> Result<BTreeSet<i64>, NoMemory>
-    ensures { IfOk result (λ set. set.keys ≡ rising bounds.now) }
+    ensures keys { IfOk result (λ set. set.keys ≡ rising bounds.now) }
+    ensures has { IfOk result (λ set. (q : ℤ) → list_any (eq_by_cmp int_cmp q) set.keys ≡ list_any (eq_by_cmp int_cmp q) bounds.now) }
 {
     let mut set = BTreeSet::new(alloc);
     for bound in bounds {
@@ -53,15 +54,25 @@ fn set_of(alloc: Global, bounds: &[i64]) -> Result<BTreeSet<i64>, NoMemory>
     Ok(set)
 }
 
+// Puts a bound behind others, if it passes.
+fn push_if(bounds: &mut Vec<i64>, bound: i64, passes: bool) -> Result<(), NoMemory>
+    ensures { OnOk result (bounds.new.items ≡ (if passes then bounds.old.items ++ bound ∷ [] else bounds.old.items)) }
+{
+    if !passes {
+        return Ok(());
+    }
+    bounds.push(bound)?;
+    Ok(())
+}
+
 // Those that can be shown, rising.
 fn shown(alloc: Global, bounds: &[i64]) -> Result<Vec<i64>, NoMemory>
     ensures { IfOk result (λ shown. shown.items ≡ filter is_shown (rising bounds.now)) }
 {
+    let set = set_of(alloc, bounds)?;
     let mut shown = Vec::new(alloc);
-    for bound in set_of(alloc, bounds)? {
-        if is_shown(bound) {
-            shown.push(bound)?;
-        }
+    for bound in set {
+        push_if(&mut shown, bound, is_shown(bound))?;
     }
     Ok(shown)
 }
@@ -70,12 +81,11 @@ fn shown(alloc: Global, bounds: &[i64]) -> Result<Vec<i64>, NoMemory>
 fn kept(alloc: Global, bounds: &[i64], others: &[i64]) -> Result<Vec<i64>, NoMemory>
     ensures { IfOk result (λ kept. kept.items ≡ filter (λ bound. list_any (eq_by_cmp int_cmp bound) others.now) bounds.now) }
 {
-    let others = set_of(alloc, others)?;
+    let set = set_of(alloc, others)?;
     let mut kept = Vec::new(alloc);
     for bound in bounds {
-        if others.contains(bound) {
-            kept.push(*bound)?;
-        }
+        let passes = set.contains(bound);
+        push_if(&mut kept, *bound, passes)?;
     }
     Ok(kept)
 }
@@ -114,10 +124,10 @@ pub(crate) fn bounds_of_services(
 }
 
 // The count of the bucket at a place, where its own bound is at most this one.
-fn counted(limit: i64, bound: i64, buckets: &[u64], place: usize) -> u64
-    ensures { result ≡ (if int_le limit bound then slice_index buckets.now place else 0) }
+fn counted(limit: &i64, bound: &i64, buckets: &[u64], place: usize) -> u64
+    ensures { result ≡ (if int_le limit.now bound.now then slice_index buckets.now place else 0) }
 {
-    if limit <= bound && place < buckets.len() {
+    if *limit <= *bound && place < buckets.len() {
         buckets[place]
     } else {
         0
@@ -125,21 +135,20 @@ fn counted(limit: i64, bound: i64, buckets: &[u64], place: usize) -> u64
 }
 
 // Adds the counts of the buckets whose own bound is at most this one.
-fn add_up_to(count: u128, bound: i64, limits: &[i64], buckets: &[u64]) -> u128
-    ensures { result ≡ within_room (count + count_up_to bound limits.now buckets.now) }
+fn add_up_to(count: u128, bound: &i64, limits: &[i64], buckets: &[u64]) -> u128
+    ensures { result ≡ within_room (count + count_up_to bound.now limits.now buckets.now) }
 {
-    let mut count = count;
+    let mut total = count;
     for (place, limit) in limits.iter().enumerate() {
-        let more = counted(*limit, bound, buckets, place);
-        count = count.saturating_add(u128::from(more));
+        let more = counted(limit, bound, buckets, place);
+        total = total.saturating_add(u128::from(more));
     }
-    count
+    total
 }
 
 /// How many values of all points are not above a bound.
-#[tactic(auto, unfolding(crate::specs::Bounds::values_up_to))]
-pub(crate) fn values_up_to(bound: i64, points: &[PointRef]) -> u128
-    ensures { result ≡ values_up_to bound (cells points.now) }
+pub(crate) fn values_up_to(bound: &i64, points: &[PointRef]) -> u128
+    ensures { result ≡ values_up_to bound.now (cells points.now) }
 {
     let mut count = 0;
     for point in points {

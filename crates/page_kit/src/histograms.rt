@@ -136,7 +136,7 @@ fn push_buckets(
 {
     for bound in bounds {
         let le = bound_text(alloc, *bound)?;
-        let count = values_up_to(*bound, points);
+        let count = values_up_to(bound, points);
         push_bucket(text, alloc, name, labels, le.as_str(), count)?;
     }
     Ok(())
