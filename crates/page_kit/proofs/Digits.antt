@@ -1,24 +1,16 @@
 -- Digits one after the other, and zeros at their end.
-use Rattle.std.proofs.Common.{◌≡◌, ◌≢◌, ℕ, zero, suc, ◌+◌, ◌-◌, ◌<◌, ◌≤◌, Bool, true, false, cond, eqb, List, [], ◌∷◌, ◌++◌, length, take, drop, get_or, refl, sym, ap, ◌∙◌, arith}
+use Rattle.std.proofs.Common.{◌≡◌, ℕ, ℤ, pos, negsuc, zero, suc, ◌+◌, ◌<◌, ◌≤◌, Bool, true, false, cond, eqb, FitsSigned, w64, List, [], ◌∷◌, ◌++◌, length, take, get_or, refl, sym, ap, ◌∙◌, arith}
+use Rattle.std.specs.Fmt.{signed_decimal}
+use Rattle.std.specs.Str.{IsAscii}
 use Rattle.std.proofs.lemmas.Bool.{eqb-true}
+use Rattle.std.proofs.lemmas.Fmt.{IsAscii-signed}
 use Rattle.std.proofs.lemmas.List.{take_more}
-use Rattle.page_kit.specs.Rows.{before_zeros, without_zeros, point_behind, mantissa}
+use Rattle.page_kit.specs.Rows.{before_zeros, without_zeros, mantissa}
 
 -- what a mantissa has still to say of these digits, the first of which stands at a place
 abbrev pub left : ℕ → List ℕ → List ℕ
 left zero digits = mantissa digits
 left (suc place) digits = digits
-
--- the digit at a place, and what stands behind it
-pub digit_more : (digits : List ℕ) (i : ℕ) → i < length digits → left i (drop i digits) ≡ get_or digits i 0 ∷ point_behind i (length digits) ++ left (i + 1) (drop (i + 1) digits)
-digit_more [] i h = absurd (omega arith)
-digit_more (d ∷ []) zero h = refl
-digit_more (d ∷ e ∷ es) zero h = refl
-digit_more (d ∷ ds) (suc i) h = later ds i (omega arith) where
-  later : (ds : List ℕ) (i : ℕ) → i < length ds → drop i ds ≡ get_or ds i 0 ∷ drop (i + 1) ds
-  later [] i h = absurd (omega arith)
-  later (e ∷ es) zero h = refl
-  later (e ∷ es) (suc i) h = later es i (omega arith)
 
 -- a zero at the end is left out, and what ends otherwise is kept
 pub zero_left : (ds : List ℕ) → without_zeros (ds ++ 48 ∷ []) ≡ without_zeros ds
@@ -51,3 +43,8 @@ digits_kept ds len i h before = kept_at ds len i (eqb (get_or ds i 0) 48) h refl
 pub kept_within : (len i : ℕ) (b : Bool) → len ≤ i → cond b len (i + 1) ≤ i + 1
 kept_within len i true h = omega arith
 kept_within len i false h = omega arith
+
+-- digits of a number are of ASCII
+pub ascii_signed : (z : ℤ) → FitsSigned w64 z → IsAscii (signed_decimal z)
+ascii_signed (pos n) h = IsAscii-signed (pos n) h.sfits
+ascii_signed (negsuc n) h = IsAscii-signed (negsuc n) h.sfits

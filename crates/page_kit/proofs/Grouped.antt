@@ -78,24 +78,24 @@ module _ {K A B : Type 0} (R : K → K → Ordering) (f : A → B) where
   mapped_put k a (g ∷ gs) = mapped_at (R k g.0) k a g gs (mapped_put k a gs)
 
 module _ {K P E : Type 0} (R : K → K → Ordering) (view : P → E) (key : E → K) where
-  mapped_fold : (ps : List P) (gs : List (K × List P)) → mapped view (fold (put R) gs (keyed (λ p. key (view p)) ps)) ≡ fold (put R) (mapped view gs) (keyed key (map view ps))
+  mapped_fold : (ps : List P) (gs : List (K × List P)) → mapped view (fold (put R) gs (keyed (λ (p : P). key (view p)) ps)) ≡ fold (put R) (mapped view gs) (keyed key (map view ps))
   mapped_fold [] gs = refl
   mapped_fold (p ∷ ps) gs = mapped_fold ps (put R gs (key (view p), p)) ∙ ap (λ (l : List (K × List E)). fold (put R) l (keyed key (map view ps))) (mapped_put R view (key (view p)) p gs)
 
   -- groups of values, each read, are the groups of what is read
-  pub grouped_all : (ps : List P) (gs : List (K × List P)) → gs ≡ fold (put R) [] (keyed (λ p. key (view p)) ps) → mapped view gs ≡ groups R (keyed key (map view ps))
+  pub grouped_all : (ps : List P) (gs : List (K × List P)) → gs ≡ fold (put R) [] (keyed (λ (p : P). key (view p)) ps) → mapped view gs ≡ groups R (keyed key (map view ps))
   unfolding groups
-  grouped_all ps gs e = ap (mapped view) e ∙ mapped_fold ps []
+  grouped_all ps gs e = ap (λ (l : List (K × List P)). mapped view l) e ∙ mapped_fold ps []
 
-pub read_twice : {K X P E : Type 0} (f : X → List P) (view : P → E) (es : List (K × X)) → read (λ x. map view (f x)) es ≡ mapped view (read f es)
+pub read_twice : {K X P E : Type 0} (f : X → List P) (view : P → E) (es : List (K × X)) → read (λ (x : X). map view (f x)) es ≡ mapped view (read f es)
 read_twice f view [] = refl
-read_twice f view (e ∷ es) = ap (λ l. (e.0, map view (f e.1)) ∷ l) (read_twice f view es)
+read_twice {K} {X} {P} {E} f view (e ∷ es) = ap (λ (l : List (K × List E)). (e.0, map view (f e.1)) ∷ l) (read_twice f view es)
 
 -- the groups of a map's entries, as those of what its values are read as
-pub grouped_rows : {K X P E : Type 0} (R : K → K → Ordering) (view : P → E) (key : E → K) (f : X → List P) (list es : List (K × X)) (ps : List P) → list ≡ es → read f es ≡ fold (put R) [] (keyed (λ p. key (view p)) ps)
-    → read (λ x. map view (f x)) list ≡ groups R (keyed key (map view ps))
-grouped_rows R view key f list es ps same is =
-    ap (read (λ x. map view (f x))) same ∙ read_twice f view es ∙ grouped_all R view key ps (read f es) is
+pub grouped_rows : {K X P E : Type 0} (R : K → K → Ordering) (view : P → E) (key : E → K) (f : X → List P) (list es : List (K × X)) (ps : List P) → list ≡ es → read f es ≡ fold (put R) [] (keyed (λ (p : P). key (view p)) ps)
+    → read (λ (x : X). map view (f x)) list ≡ groups R (keyed key (map view ps))
+grouped_rows {K} {X} {P} {E} R view key f list es ps same is =
+    ap (λ (l : List (K × X)). read (λ (x : X). map view (f x)) l) same ∙ read_twice f view es ∙ grouped_all R view key ps (read f es) is
 
 -- one value more of a list, put
 pub one_more : {A K B : Type 0} (R : K → K → Ordering) (h : A → K × B) (xs : List A) (first old new : List (K × List B)) (i : ℕ) (d : A) → i < length xs → old ≡ fold (put R) first (map h (take i xs)) → new ≡ put R old (h (get_or xs i d))
@@ -114,27 +114,27 @@ values gs = flat_map (λ g. g.1) gs
 
 read_flat : {K P E : Type 0} (view : P → E) (gs : List (K × List P)) → map view (values gs) ≡ values (mapped view gs)
 read_flat view [] = refl
-read_flat view (g ∷ gs) = map-append view g.1 (values gs) ∙ ap (λ l. map view g.1 ++ l) (read_flat view gs)
+read_flat {K} {P} {E} view (g ∷ gs) = map-append view g.1 (values gs) ∙ ap (λ (l : List E). map view g.1 ++ l) (read_flat view gs)
 
-flat_read : {K X P : Type 0} (f : X → List P) (es : List (K × X)) → flat_map (λ e. f e.1) es ≡ values (read f es)
+flat_read : {K X P : Type 0} (f : X → List P) (es : List (K × X)) → flat_map (λ (e : K × X). f e.1) es ≡ values (read f es)
 flat_read f [] = refl
-flat_read f (e ∷ es) = ap (λ l. f e.1 ++ l) (flat_read f es)
+flat_read {K} {X} {P} f (e ∷ es) = ap (λ (l : List P). f e.1 ++ l) (flat_read f es)
 
-pub ordered_all : {K X P E : Type 0} (R : K → K → Ordering) (view : P → E) (key : E → K) (f : X → List P) (all : List P) (es : List (K × X)) (ps : List P) → all ≡ flat_map (λ e. f e.1) es → read f es ≡ fold (put R) [] (keyed (λ p. key (view p)) ps)
+pub ordered_all : {K X P E : Type 0} (R : K → K → Ordering) (view : P → E) (key : E → K) (f : X → List P) (all : List P) (es : List (K × X)) (ps : List P) → all ≡ flat_map (λ (e : K × X). f e.1) es → read f es ≡ fold (put R) [] (keyed (λ (p : P). key (view p)) ps)
     → map view all ≡ in_order R (keyed key (map view ps))
 unfolding in_order
-ordered_all R view key f all es ps same is =
-    ap (map view) (same ∙ flat_read f es) ∙ read_flat view (read f es) ∙ ap values (grouped_all R view key ps (read f es) is)
+ordered_all {K} {X} {P} {E} R view key f all es ps same is =
+    ap (λ (l : List P). map view l) (same ∙ flat_read f es) ∙ read_flat view (read f es) ∙ ap (λ (l : List (K × List E)). values l) (grouped_all R view key ps (read f es) is)
 
 -- one value more, put where it passes a test
 kept_at : {A K B : Type 0} (R : K → K → Ordering) (h : A → K × B) (xs : List A) (x : A) (first old : List (K × List B)) (b : Bool) → old ≡ fold (put R) first (map h xs) → cond b (put R old (h x)) old ≡ fold (put R) first (map h (xs ++ cond b (x ∷ []) []))
 kept_at R h xs x first old true is = one_after R h xs x first old (put R old (h x)) is refl
-kept_at R h xs x first old false is = is ∙ ap (λ l. fold (put R) first (map h l)) (sym (append-nil xs))
+kept_at {A} R h xs x first old false is = is ∙ ap (λ (l : List A). fold (put R) first (map h l)) (sym (append-nil xs))
 
 pub one_kept : {A K B : Type 0} (R : K → K → Ordering) (p : A → Bool) (h : A → K × B) (xs : List A) (first old new : List (K × List B)) (i : ℕ) (d : A) → i < length xs → old ≡ fold (put R) first (map h (filter p (take i xs)))
     → new ≡ cond (p (get_or xs i d)) (put R old (h (get_or xs i d))) old → new ≡ fold (put R) first (map h (filter p (take (i + 1) xs)))
-one_kept R p h xs first old new i d lt is more =
-    more ∙ kept_at R h (filter p (take i xs)) (get_or xs i d) first old (p (get_or xs i d)) is ∙ ap (λ l. fold (put R) first (map h l)) (sym (filter_more p xs i d lt))
+one_kept {A} R p h xs first old new i d lt is more =
+    more ∙ kept_at R h (filter p (take i xs)) (get_or xs i d) first old (p (get_or xs i d)) is ∙ ap (λ (l : List A). fold (put R) first (map h l)) (sym (filter_more p xs i d lt))
 
 -- what passes a test once it is read
 read_at : {A B : Type 0} (view : A → B) (b : Bool) (x : A) (xs : List A) → map view (cond b (x ∷ xs) xs) ≡ cond b (view x ∷ map view xs) (map view xs)

@@ -8,4 +8,5 @@ pub mod Grouped
 pub mod Held
 pub mod Joined
 pub mod Shared
+pub mod Texted
 pub mod Texts

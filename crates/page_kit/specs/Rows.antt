@@ -84,7 +84,10 @@ row kind name all r = if list_any is_conflict r.1 then [] else samples kind name
 unfoldable pub rows : List KeyedCell → List (List Label × List KeyedCell)
 rows cells = groups labels_cmp (keyed (λ (e : KeyedCell). row_labels e.0) cells)
 
--- the text of a family
+-- the text of a family of this name
+unfoldable pub named_text : Format → List ℕ → Measured → List ℕ
+named_text format name m = metadata format name m.0.kind (unit_of m.0) (help_of m.0) ++ flat_map (row m.0.kind name m.1) (rows m.1)
+
+-- that of a metric's family
 unfoldable pub family_text : Format → Measured → List ℕ
-family_text format m =
-    metadata format (family m.0) m.0.kind (unit_of m.0) (help_of m.0) ++ flat_map (row m.0.kind (family m.0) m.1) (rows m.1)
+family_text format m = named_text format (family m.0) m

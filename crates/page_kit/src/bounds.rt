@@ -65,6 +65,17 @@ fn push_if(bounds: &mut Vec<i64>, bound: i64, passes: bool) -> Result<(), NoMemo
     Ok(())
 }
 
+// Puts a bound behind others, if it can be shown.
+fn push_shown(bounds: &mut Vec<i64>, bound: i64) -> Result<(), NoMemory>
+    ensures { OnOk result (bounds.new.items ≡ bounds.old.items ++ filter is_shown (bound ∷ [])) }
+{
+    if !is_shown(bound) {
+        return Ok(());
+    }
+    bounds.push(bound)?;
+    Ok(())
+}
+
 // Those that can be shown, rising.
 fn shown(alloc: Global, bounds: &[i64]) -> Result<Vec<i64>, NoMemory>
     ensures { IfOk result (λ shown. shown.items ≡ filter is_shown (rising bounds.now)) }
@@ -72,7 +83,7 @@ fn shown(alloc: Global, bounds: &[i64]) -> Result<Vec<i64>, NoMemory>
     let set = set_of(alloc, bounds)?;
     let mut shown = Vec::new(alloc);
     for bound in set {
-        push_if(&mut shown, bound, is_shown(bound))?;
+        push_shown(&mut shown, bound)?;
     }
     Ok(shown)
 }

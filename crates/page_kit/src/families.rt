@@ -120,6 +120,17 @@ fn add<'a>(
     Ok(())
 }
 
+// None yet.
+fn nothing<'a>(alloc: Global) -> Families<'a>
+    ensures shown { result.shown.items ≡ [] }
+    ensures hidden { result.hidden.items ≡ [] }
+{
+    Families {
+        shown: Vec::new(alloc),
+        hidden: Vec::new(alloc),
+    }
+}
+
 // The names of the kit's own, claimed.
 fn own_claims(alloc: Global) -> Result<BTreeSet<Txt>, NoMemory>
     ensures { IfOk result (λ claimed. IsClaimed own_names claimed.keys) }
@@ -137,10 +148,7 @@ fn told_apart<'a>(alloc: Global, metrics: Vec<Measured<'a>>) -> Result<Families<
         ≡ hidden_after own_names (all_measured metrics.entry.items)) }
 {
     let mut claimed = own_claims(alloc)?;
-    let mut families = Families {
-        shown: Vec::new(alloc),
-        hidden: Vec::new(alloc),
-    };
+    let mut families = nothing(alloc);
     for measured in metrics {
         let claims = measured.metric.claims(alloc)?;
         let taken = is_claimed(&claimed, claims.as_slice());

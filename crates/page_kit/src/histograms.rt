@@ -1,10 +1,13 @@
 //! The samples of histograms.
-ghost use Rattle.std.specs.Prelude.{◌≡◌, ◌++◌, ◌∷◌, [], ◌+◌, ◌<◌, ◌≤◌, ◌^◌, ◌==◌, if◌then◌else◌, length, take, IfOk, OnOk, string_bytes};
+ghost use Rattle.std.specs.Prelude.{◌≡◌, ◌++◌, ◌∷◌, [], ◌+◌, ◌<◌, ◌≤◌, ◌^◌, ◌==◌, if◌then◌else◌, length, take, codes, IfOk, OnOk, string_bytes};
+ghost use Rattle.std.specs.Fmt.{decimal, signed_decimal};
 ghost use Rattle.std.specs.List.{flat_map};
 ghost use Rattle.std.specs.Str.{IsAscii};
 ghost use Rattle.gateway_kit.specs.Walks.{keyed_cell_of_ref};
 ghost use Rattle.page_kit.specs.Bounds.{values_up_to};
+ghost use Rattle.page_kit.specs.Lines.{sample};
 ghost use Rattle.page_kit.specs.Rows.{without_zeros, point_behind, mantissa, two_digits, scientific, bound_text, le, bucket, histogram};
+ghost use Rattle.page_kit.specs.Totals.{sum_of, count_of};
 ghost use Rattle.page_kit.specs.Views.{cells};
 
 use crate::bounds::values_up_to;
@@ -142,6 +145,54 @@ fn push_buckets(
     Ok(())
 }
 
+// Adds the bucket of all values.
+fn push_last(
+    text: &mut String,
+    alloc: Global,
+    name: &str,
+    labels: &[Label],
+    points: &[PointRef],
+) -> Result<(), NoMemory>
+    ensures { OnOk result (string_bytes text.new ≡ string_bytes text.old ++ bucket name.now labels.now (codes "+Inf") (count_of (cells points.now))) }
+{
+    push_bucket(text, alloc, name, labels, "+Inf", count_of(points))
+}
+
+/// Adds a sample of the sum of all.
+pub(crate) fn push_sum(
+    text: &mut String,
+    alloc: Global,
+    name: &str,
+    ending: &str,
+    labels: &[Label],
+    points: &[PointRef],
+) -> Result<(), NoMemory>
+    ensures { OnOk result (string_bytes text.new ≡ string_bytes text.old
+        ++ sample (name.now ++ ending.now) labels.now (signed_decimal (sum_of (cells points.now)))) }
+{
+    let sum = sum_of(points);
+    let number = format!(in alloc; "{sum}")?;
+    push_sample(text, name, ending, labels, number.as_str())?;
+    Ok(())
+}
+
+// Adds a sample of the number of their values.
+fn push_count(
+    text: &mut String,
+    alloc: Global,
+    name: &str,
+    labels: &[Label],
+    points: &[PointRef],
+) -> Result<(), NoMemory>
+    ensures { OnOk result (string_bytes text.new ≡ string_bytes text.old
+        ++ sample (name.now ++ codes "_count") labels.now (decimal (count_of (cells points.now)))) }
+{
+    let count = count_of(points);
+    let number = format!(in alloc; "{count}")?;
+    push_sample(text, name, "_count", labels, number.as_str())?;
+    Ok(())
+}
+
 /// The samples of a row: its buckets, its sum and its count.
 #[tactic(auto, unfolding(crate::specs::Rows::histogram))]
 pub(crate) fn push_histogram(
@@ -154,13 +205,8 @@ pub(crate) fn push_histogram(
 ) -> Result<(), NoMemory>
     ensures { OnOk result (string_bytes text.new ≡ string_bytes text.old ++ histogram name.now labels.now bounds.now (cells points.now)) }
 {
-    let count = count_of(points);
-    let sum = sum_of(points);
-    let count_text = format!(in alloc; "{count}")?;
-    let sum_text = format!(in alloc; "{sum}")?;
     push_buckets(text, alloc, name, labels, bounds, points)?;
-    push_bucket(text, alloc, name, labels, "+Inf", count)?;
-    push_sample(text, name, "_sum", labels, sum_text.as_str())?;
-    push_sample(text, name, "_count", labels, count_text.as_str())?;
-    Ok(())
+    push_last(text, alloc, name, labels, points)?;
+    push_sum(text, alloc, name, "_sum", labels, points)?;
+    push_count(text, alloc, name, labels, points)
 }

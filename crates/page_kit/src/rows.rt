@@ -1,22 +1,21 @@
 //! The rows of a family.
 ghost use Rattle.std.specs.Prelude.{◌≡◌, ◌++◌, List, map, IfOk, OnOk, string_bytes};
-ghost use Rattle.std.specs.Fmt.{signed_decimal};
 ghost use Rattle.std.specs.List.{flat_map};
 ghost use Rattle.gateway_kit.specs.Walks.{keyed_cell_of_ref};
 ghost use Rattle.page_kit.specs.Bounds.{AreBounds, HaveBounds};
-ghost use Rattle.page_kit.specs.Lines.{sample, metadata, help_of};
+ghost use Rattle.page_kit.specs.Lines.{metadata, help_of};
 ghost use Rattle.page_kit.specs.Metrics.{unit_of};
-ghost use Rattle.page_kit.specs.Rows.{gauge, row_bounds, samples, row, rows, family_text};
-ghost use Rattle.page_kit.specs.Totals.{KeyedCell, sum_of};
+ghost use Rattle.page_kit.specs.Rows.{gauge, row_bounds, samples, row, rows, named_text, family_text};
+ghost use Rattle.page_kit.specs.Totals.{KeyedCell};
 ghost use Rattle.page_kit.specs.Views.{cells, cell_lists};
 
 use crate::bounds::bounds_of_services;
 use crate::groups::{list_of, put};
-use crate::histograms::push_histogram;
+use crate::histograms::{push_histogram, push_sum};
 use crate::labels::{Label, row_labels};
 use crate::metric::{Kind, Metric};
 use crate::text::{Format, Head, help_of, push_metadata, push_sample};
-use crate::totals::{has_conflict, newest_of, sum_of};
+use crate::totals::{has_conflict, newest_of};
 use attr_kit::{NoMemory, Seq, Txt};
 use gateway_kit::PointRef;
 use std::alloc::Global;
@@ -50,23 +49,6 @@ fn bounds_for(
         Kind::Histogram => bounds_of_services(alloc, points),
         Kind::Updown | Kind::Counter | Kind::Gauge => Ok(BTreeMap::new(alloc)),
     }
-}
-
-fn push_sum(
-    text: &mut String,
-    alloc: Global,
-    name: &str,
-    ending: &str,
-    labels: &[Label],
-    points: &[PointRef],
-) -> Result<(), NoMemory>
-    ensures { OnOk result (string_bytes text.new ≡ string_bytes text.old
-        ++ sample (name.now ++ ending.now) labels.now (signed_decimal (sum_of (cells points.now)))) }
-{
-    let sum = sum_of(points);
-    let number = format!(in alloc; "{sum}")?;
-    push_sample(text, name, ending, labels, number.as_str())?;
-    Ok(())
 }
 
 fn push_gauge(
@@ -181,7 +163,29 @@ fn push_head(
     push_metadata(text, alloc, format, head)
 }
 
-/// A family: its metadata and its rows.
+// A family of this name: its metadata and its rows.
+fn push_named(
+    text: &mut String,
+    alloc: Global,
+    format: Format,
+    metric: &Metric,
+    name: &str,
+    points: &[PointRef],
+) -> Result<(), NoMemory>
+    ensures { OnOk result (string_bytes text.new ≡ string_bytes text.old ++ named_text format name.now (metric.now, cells points.now)) }
+{
+    let bounds = bounds_for(alloc, metric.kind, points)?;
+    let rows = rows_of(alloc, points)?;
+    push_head(text, alloc, format, metric, name)?;
+    let family = Family {
+        name,
+        kind: metric.kind,
+        bounds: &bounds,
+    };
+    push_rows(text, alloc, family, rows.as_slice())
+}
+
+/// The family of a metric.
 #[tactic(auto, unfolding(crate::specs::Rows::family_text))]
 pub(crate) fn push_family(
     text: &mut String,
@@ -193,13 +197,5 @@ pub(crate) fn push_family(
     ensures { OnOk result (string_bytes text.new ≡ string_bytes text.old ++ family_text format (metric.now, cells points.now)) }
 {
     let name = metric.family(alloc)?;
-    let bounds = bounds_for(alloc, metric.kind, points)?;
-    let rows = rows_of(alloc, points)?;
-    push_head(text, alloc, format, metric, name.as_str())?;
-    let family = Family {
-        name: name.as_str(),
-        kind: metric.kind,
-        bounds: &bounds,
-    };
-    push_rows(text, alloc, family, rows.as_slice())
+    push_named(text, alloc, format, metric, name.as_str(), points)
 }

@@ -1,6 +1,6 @@
 //! Units by their words.
 ghost use Rattle.std.specs.Prelude.{◌≡◌, ◌==◌, ◌≤◌, ◌++◌, ◌∷◌, ℕ, List, length, drop, IfOk, string_bytes};
-ghost use Rattle.std.specs.List.{position_or_len};
+ghost use Rattle.std.specs.List.{position_or_len, before_first, after_first};
 ghost use Rattle.std.specs.Option.{option_map};
 ghost use Rattle.page_kit.specs.Units.{outside_from, outside_braces, time_word, binary_word, decimal_word, physical_word, other_word, divisor_word, unit_word, part, of_one, measure, divisor, mark_after, both, unit_name};
 
@@ -236,14 +236,35 @@ fn both(alloc: Global, name: String, below: &str) -> Result<String, NoMemory>
     Ok(text)
 }
 
+// What stands before the first `/`.
+fn front_of(bare: &[u8]) -> &[u8]
+    ensures { result.now ≡ before_first (λ c. c == 47) bare.now }
+{
+    &bare[..slash_at(bare)]
+}
+
+// What stands behind it.
+fn back_of(bare: &[u8]) -> &[u8]
+    ensures { result.now ≡ after_first (λ c. c == 47) bare.now }
+{
+    behind(&bare[slash_at(bare)..])
+}
+
+// The name of a unit without braces.
+fn bare_name(alloc: Global, bare: &[u8], kind: Kind) -> Result<String, NoMemory>
+    ensures { IfOk result (λ text. string_bytes text
+        ≡ both (measure (before_first (λ c. c == 47) bare.now) kind) (divisor (after_first (λ c. c == 47) bare.now))) }
+{
+    let name = measure(alloc, front_of(bare), kind)?;
+    let below = divisor(alloc, back_of(bare))?;
+    both(alloc, name, below.as_str())
+}
+
 /// The name of a unit: its words, of `a/b` with `per` between them. Of a number without a unit it is empty.
 #[tactic(auto, unfolding(crate::specs::Units::unit_name))]
 pub(crate) fn unit_name(alloc: Global, unit: &str, kind: Kind) -> Result<String, NoMemory>
     ensures { IfOk result (λ text. string_bytes text ≡ unit_name unit.now kind) }
 {
     let bare = outside_braces(alloc, unit.as_bytes())?;
-    let (front, back) = bare.as_slice().split_at(slash_at(bare.as_slice()));
-    let name = measure(alloc, front, kind)?;
-    let below = divisor(alloc, behind(back))?;
-    both(alloc, name, below.as_str())
+    bare_name(alloc, bare.as_slice(), kind)
 }

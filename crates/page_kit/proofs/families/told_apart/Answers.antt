@@ -13,8 +13,8 @@ loop-measured-init c =
       record {
         names = own_names;
         claimed = c.in_ok-claimed.ensures;
-        shows = ap (λ (ms : List Measured). shown_after own_names (all_measured ms)) gives.0;
-        hides = ap (λ (ms : List Measured). hidden_after own_names (all_measured ms)) gives.0;
+        shows = ap (λ (ms : List Measured). all_measured ms ++ shown_after own_names (all_measured (into_iter_items c.into_iter-measured-iterator.result))) c.nothing-families.ensures.shown ∙ ap (λ (ms : List Measured). shown_after own_names (all_measured ms)) gives.0;
+        hides = ap (λ (ms : List Measured). all_measured ms ++ hidden_after own_names (all_measured (into_iter_items c.into_iter-measured-iterator.result))) c.nothing-families.ensures.hidden ∙ ap (λ (ms : List Measured). hidden_after own_names (all_measured ms)) gives.0;
       },
       gives.1 ∙ c.args.metrics.ok.0 ∙ ap length (sym gives.0),
     )

@@ -14,8 +14,8 @@ pub loop-measured-preserved : goal.loop-measured-preserved
 loop-measured-preserved c =
     let old = lists c.loop-measured.groups.entries in
     one_more labels_cmp (λ (m : Measured). (metric_labels m.metric, length m.points.items)) c.args.metrics.now [] old (lists c.put.new.groups.entries) c.loop-measured.measured-index c.measured-item.result c.loop-measured-test.true c.loop-measured.invariant
-    (c.in_ok-put.ensures ∙ ap (λ k. put labels_cmp old (k, c.len.result)) c.in_ok-labels.ensures
-    ∙ ap (λ (n : ℕ). put labels_cmp old (metric_labels c.measured-item.result.metric, n)) (c.len.ensures ∙ ap length c.as_slice.ensures.value)
+    (c.in_ok-put.ensures ∙ ap (λ k. put labels_cmp old (k, length c.as_slice.result.now)) c.in_ok-labels.ensures
+    ∙ ap (λ (n : ℕ). put labels_cmp old (metric_labels c.measured-item.result.metric, n)) (ap length c.as_slice.ensures.value)
     ∙ ap (λ (m : Measured). put labels_cmp old (metric_labels m.metric, length m.points.items)) c.measured-item.is)
 
 pub returns : goal.returns

@@ -1,8 +1,7 @@
-use Rattle.std.proofs.Common.{◌≡◌, ◌++◌, map, length, take, string_bytes}
+use Rattle.std.proofs.Common.{◌≡◌, ◌++◌, take, string_bytes}
 use Rattle.std.specs.List.{flat_map}
-use Rattle.gateway_kit.specs.Walks.{keyed_cell_of_ref}
 use Rattle.page_kit.specs.Rows.{family_text}
-use Rattle.page_kit.specs.Views.{measured}
+use Rattle.page_kit.specs.Views.{with_cells}
 use Rattle.page_kit.proofs.page.push_families.Given as goal
 
 abbrev pub invariant-loop-measured : goal.invariant-loop-measured

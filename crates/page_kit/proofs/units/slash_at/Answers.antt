@@ -1,4 +1,4 @@
-use Rattle.std.proofs.Common.{◌==◌, eqb, sym, arith}
+use Rattle.std.proofs.Common.{◌==◌, eqb, length, sym, arith}
 use Rattle.std.proofs.lemmas.Bool.{eq-eqb}
 use Rattle.std.proofs.lemmas.List.Sums.{position_or_len_is}
 use Rattle.page_kit.proofs.Texts.{ne_false}
@@ -10,4 +10,4 @@ returns-then-byte-eq47-clause-value c =
 
 pub returns-clause-value : goal.returns-clause-value
 returns-clause-value c =
-    sym (position_or_len_is (λ b. eqb b 47) c.args.unit.now c.len.result 0 (omega arith) (λ k h. ne_false _ _ (c.loop-place.invariant k (omega arith))) (λ h. absurd (omega arith)))
+    sym (position_or_len_is (λ b. eqb b 47) c.args.unit.now (length c.args.unit.now) 0 (omega arith) (λ k h. ne_false _ _ (c.loop-place.invariant k (omega arith))) (λ h. absurd (omega arith)))
