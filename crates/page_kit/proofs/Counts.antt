@@ -25,5 +25,5 @@ own_counts ms = map own_count ms
 pub counts_read : (ms : List Measured) → counts (all_measured ms) ≡ own_counts ms
 counts_read [] = refl
 counts_read (m ∷ ms) =
-    ap (λ (n : ℕ). (metric_labels m.metric, n) ∷ counts (all_measured ms)) (length-map keyed_cell_of_ref m.points.items)
+    ap (λ (n : ℕ). (metric_labels m.metric, n) ∷ counts (all_measured ms)) (length-map m.points.items keyed_cell_of_ref)
     ∙ ap (λ (l : List (List Label × ℕ)). (metric_labels m.metric, length m.points.items) ∷ l) (counts_read ms)

@@ -23,5 +23,5 @@ cell_length name g = sample name g.0 (decimal (length g.1))
 pub lengths_read : (name : List ℕ) (rs : List (List Label × Vec PointRef Global)) → flat_map (own_length name) rs ≡ flat_map (cell_length name) (cell_lists rs)
 lengths_read name [] = refl
 lengths_read name (r ∷ rs) =
-    ap (λ (n : ℕ). sample name r.0 (decimal n) ++ flat_map (own_length name) rs) (sym (length-map keyed_cell_of_ref r.1.items))
+    ap (λ (n : ℕ). sample name r.0 (decimal n) ++ flat_map (own_length name) rs) (sym (length-map r.1.items keyed_cell_of_ref))
     ∙ ap (λ (l : List ℕ). sample name r.0 (decimal (length (cells r.1.items))) ++ l) (lengths_read name rs)

@@ -4,7 +4,7 @@ use Rattle.std.specs.Cmp.Lexicographic.{pointwise}
 use Rattle.std.specs.List.{starts_with}
 use Rattle.std.proofs.Math.Seq.{drop-append_seam, take-append_seam}
 use Rattle.std.proofs.lemmas.Bool.{eqb-true}
-use Rattle.std.proofs.lemmas.List.{length-append, take-append-drop, drop_more}
+use Rattle.std.proofs.lemmas.List.{length-append, length-drop, take-append-drop, take_all, drop_more}
 use Rattle.std.proofs.lemmas.Slice.Eq.{bytes_eq-Decides}
 use Rattle.page_kit.specs.Names.{without_suffix, without_prefix, has_part}
 
@@ -58,6 +58,10 @@ pub part_more : (part xs : List ℕ) (i : ℕ) → i < length xs → has_part pa
 part_more part xs i h =
     let here = drop_more xs i 0 h in
     ap (has_part part) here ∙ ap (λ (l : List ℕ). starts_with nat_eq l part || has_part part (drop (i + 1) xs)) (sym here)
+
+-- all that stands behind a place
+pub all_behind : (xs : List ℕ) (i : ℕ) → take (length xs - i) (drop i xs) ≡ drop i xs
+all_behind xs i = take_all (length xs - i) (drop i xs) (omega (arith, length-drop i xs))
 
 ne_at : (a b : ℕ) (r : Bool) → (a ≡ b → ⊥) → eqb a b ≡ r → r ≡ false
 ne_at a b true lacks is = absurd (lacks (eqb-true a b is))

@@ -9,7 +9,7 @@ use Rattle.page_kit.proofs.families.metrics_of.Goals as goal
 pub loop-metric-init : goal.loop-metric-init
 loop-metric-init c =
     let gives = c.into_iter-metric-iterator.ensures.into_iter_gives in
-    (ap cell_lists gives.0 ∙ c.in_ok-groups.ensures, gives.1 ∙ c.in_ok-groups.groups.ok.0 ∙ ap length (sym gives.0))
+    (ap (λ (ms : List Measured). all_measured ms ++ cell_lists (into_iter_items c.into_iter-metric-iterator.result)) c.new-metrics.ensures.items ∙ ap cell_lists gives.0 ∙ c.in_ok-groups.ensures, gives.1 ∙ c.in_ok-groups.groups.ok.0 ∙ ap length (sym gives.0))
 
 pub loop-metric-preserved : goal.loop-metric-preserved
 loop-metric-preserved c =

@@ -18,4 +18,4 @@ pub returns : goal.returns
 unfolding keys_text
 returns c =
     on_ok_weaker c.push_number.result (λ is. two_parts _ _ _ _ _ _ c.in_ok-push_head.ensures is
-    (ap (λ (n : ℕ). sample (codes "kotskhin_keys") [] (decimal n)) (sym (length-map keyed_cell_of_ref c.args.points.now)))) c.push_number.ensures
+    (ap (λ (n : ℕ). sample (codes "kotskhin_keys") [] (decimal n)) (sym (length-map c.args.points.now keyed_cell_of_ref)))) c.push_number.ensures
