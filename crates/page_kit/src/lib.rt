@@ -28,3 +28,6 @@ mod totals;
 mod units;
 
 pub use page::{openmetrics, prometheus};
+
+#[cfg(test)]
+mod tests;

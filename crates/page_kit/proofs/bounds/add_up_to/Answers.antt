@@ -10,12 +10,14 @@ loop-place-preserved c =
     let bound = c.args.bound.now in
     let limits = c.args.limits.now in
     let buckets = c.args.buckets.now in
-    let rest = count_up_to bound (drop (i + 1) limits) (drop (i + 1) buckets) in
-    (ap (λ (n : ℕ). within_room (n + rest)) c.saturating_add-total.ensures
-    ∙ room_more c.loop-place.total c.from.result rest
-    ∙ ap (λ (n : ℕ). within_room (c.loop-place.total + (n + rest))) (c.from.ensures ∙ c.counted-more.ensures)
-    ∙ ap (λ (n : ℕ). within_room (c.loop-place.total + n)) (sym (up_to_more bound limits buckets i _ c.loop-place-test.true))
-    ∙ c.loop-place.invariant.0, omega (arith, c.saturating_add-total.ensures))
+    let rest = count_up_to bound (drop (i + 1) limits) (drop (i + 1) buckets) in (
+      ap (λ (n : ℕ). within_room (n + rest)) c.saturating_add-total.ensures
+          ∙ room_more c.loop-place.total c.from.result rest
+          ∙ ap (λ (n : ℕ). within_room (c.loop-place.total + (n + rest))) (c.from.ensures ∙ c.counted-more.ensures)
+          ∙ ap (λ (n : ℕ). within_room (c.loop-place.total + n)) (sym (up_to_more bound limits buckets i _ c.loop-place-test.true))
+          ∙ c.loop-place.invariant.0,
+      omega (arith, c.saturating_add-total.ensures),
+    )
 
 pub returns : goal.returns
 returns c =
