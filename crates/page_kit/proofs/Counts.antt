@@ -4,7 +4,7 @@ use Rattle.std.proofs.lemmas.List.{length-map}
 use Rattle.gateway_kit.specs.Walks.{keyed_cell_of_ref}
 use Rattle.page_kit.specs.Families as families
 use Rattle.page_kit.specs.Labels.{metric_labels}
-use Rattle.page_kit.specs.Views.{with_cells, all_measured}
+use Rattle.page_kit.specs.Views.{all_measured}
 use Rattle.page_kit.specs.declared.families.Measured.{Measured}
 use Rattle.page_kit.specs.declared.labels.Label.{Label}
 

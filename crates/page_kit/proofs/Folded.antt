@@ -1,6 +1,6 @@
 -- Walks over points, as walks over their cells.
 use Rattle.std.proofs.Common.{◌≡◌, ℕ, ◌≤◌, ◌||◌, Bool, List, [], ◌∷◌, length, map, fold, take, refl, sym, ap, ◌∙◌}
-use Rattle.std.specs.List.{list_any, flat_map}
+use Rattle.std.specs.List.{list_any}
 use Rattle.std.proofs.lemmas.List.{take_all}
 use Rattle.std.proofs.lemmas.List.Folds.{fold-map}
 use Rattle.gateway_kit.specs.Walks.{keyed_cell_of_ref}

@@ -1,5 +1,5 @@
 -- The bounds of histograms, and how many values are not above one.
-use Rattle.std.specs.Prelude.{◌≡◌, ℕ, ℤ, pos, ◌+◌, ◌-◌, ◌^◌, ◌&&◌, min, int_le, if◌then◌else◌, Bool, true, false, List, [], ◌∷◌, filter, fold, Option, Some, None}
+use Rattle.std.specs.Prelude.{◌≡◌, ℕ, ℤ, pos, ◌+◌, ◌-◌, ◌^◌, ◌&&◌, min, int_le, if◌then◌else◌, Bool, List, [], ◌∷◌, filter, fold, Option, Some, None}
 use Rattle.std.specs.BTreeMap.{is_at}
 use Rattle.std.specs.BTreeSet.{insert_key}
 use Rattle.std.specs.Ordering.{eq_by_cmp, int_cmp}

@@ -1,5 +1,5 @@
 -- Labels, by which the rows of a family are told apart.
-use Rattle.std.specs.Prelude.{ℕ, ℤ, ◌||◌, ◌==◌, not, length, if◌then◌else◌, Bool, true, false, List, [], ◌∷◌, ◌++◌, map, filter, codes}
+use Rattle.std.specs.Prelude.{ℕ, ◌||◌, ◌==◌, not, length, if◌then◌else◌, Bool, true, false, List, [], ◌∷◌, ◌++◌, map, filter, codes}
 use Rattle.std.specs.Cmp.Lexicographic.{slice_cmp}
 use Rattle.std.specs.Fmt.{signed_decimal}
 use Rattle.std.specs.List.{join_by}

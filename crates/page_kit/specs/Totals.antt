@@ -1,6 +1,6 @@
 -- What cells come to.
-use Rattle.std.specs.Prelude.{ℕ, ℤ, pos, ◌+◌, ◌+ℤ◌, nat_lt, if◌then◌else◌, max, Bool, List, [], ◌∷◌, fold, Option, Some, None}
-use Rattle.std.specs.List.{list_any, sum_by}
+use Rattle.std.specs.Prelude.{ℕ, ℤ, pos, ◌+ℤ◌, nat_lt, if◌then◌else◌, max, Bool, List, fold, Option, Some, None}
+use Rattle.std.specs.List.{sum_by}
 use Rattle.std.specs.Option.{option_map}
 use Rattle.gateway_kit.specs.Queries.{has_conflict}
 use Rattle.point_kit.specs.declared.cell.Cell.{Cell}

@@ -1,4 +1,4 @@
-use Rattle.std.proofs.Common.{ℕ, ◌+◌, take, refl, ap, ◌∙◌}
+use Rattle.std.proofs.Common.{◌+◌, take, refl, ap, ◌∙◌}
 use Rattle.std.specs.List.{sum_by}
 use Rattle.gateway_kit.specs.Walks.{keyed_cell_of_ref}
 use Rattle.page_kit.specs.Bounds.{bounds_in, buckets_in, count_up_to, within_room, values_up_to}

@@ -1,5 +1,4 @@
 use Rattle.std.proofs.Common.{◌≡◌, [], map, take, fold}
-use Rattle.gateway_kit.specs.Walks.{keyed_cell_of_ref}
 use Rattle.page_kit.specs.Groups.{put}
 use Rattle.page_kit.specs.Families.{metric_cmp}
 use Rattle.page_kit.specs.Metrics.{metric_of}

@@ -1,10 +1,9 @@
 use Rattle.std.proofs.Common.{◌≡◌, ◌++◌, [], length, map, fold}
 use Rattle.std.specs.Vec.Iter.{into_iter_items, into_iter_len}
-use Rattle.gateway_kit.specs.Walks.{keyed_cell_of_ref}
 use Rattle.attr_kit.specs.Orders.{text_cmp}
 use Rattle.page_kit.specs.Metrics.{family}
 use Rattle.page_kit.specs.Groups.{put}
-use Rattle.page_kit.specs.Views.{lists, with_cells}
+use Rattle.page_kit.specs.Views.{lists}
 use Rattle.page_kit.proofs.families.by_name.Given as goal
 
 abbrev pub invariant-loop-measured : goal.invariant-loop-measured

@@ -1,7 +1,7 @@
-use Rattle.std.proofs.Common.{◌≡◌, [], ◌∷◌, ◌++◌, List, length, map, sym, ap, ◌∙◌, append_assoc}
+use Rattle.std.proofs.Common.{[], ◌∷◌, ◌++◌, List, length, sym, ap, ◌∙◌, append_assoc}
 use Rattle.std.proofs.lemmas.List.{append-nil, map-append}
 use Rattle.std.specs.Vec.Iter.{into_iter_items, into_iter_len}
-use Rattle.page_kit.specs.Views.{cells, cell_lists, with_cells, all_measured}
+use Rattle.page_kit.specs.Views.{cell_lists, with_cells, all_measured}
 use Rattle.page_kit.specs.declared.families.Measured.{Measured}
 use Rattle.page_kit.proofs.Ended.{ended, went_on}
 use Rattle.page_kit.proofs.families.metrics_of.Goals as goal

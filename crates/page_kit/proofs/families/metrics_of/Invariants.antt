@@ -1,6 +1,5 @@
 use Rattle.std.proofs.Common.{◌≡◌, ◌++◌, length}
 use Rattle.std.specs.Vec.Iter.{into_iter_items, into_iter_len}
-use Rattle.gateway_kit.specs.Walks.{keyed_cell_of_ref}
 use Rattle.page_kit.specs.Families.{metrics_of}
 use Rattle.page_kit.specs.Views.{cells, cell_lists, all_measured}
 use Rattle.page_kit.proofs.families.metrics_of.Given as goal

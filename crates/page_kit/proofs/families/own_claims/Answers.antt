@@ -1,6 +1,6 @@
-use Rattle.std.proofs.Common.{◌≡◌, ℕ, [], ◌++◌, List, sym, subst, ap, ◌∙◌}
+use Rattle.std.proofs.Common.{ℕ, [], List, sym, subst, ◌∙◌}
 use Rattle.std.proofs.lemmas.List.{append-nil}
-use Rattle.page_kit.specs.Families.{own_names, IsClaimed}
+use Rattle.page_kit.specs.Families.{IsClaimed}
 use Rattle.page_kit.proofs.Claimed.{nothing_claimed}
 use Rattle.page_kit.proofs.families.own_claims.Goals as goal
 

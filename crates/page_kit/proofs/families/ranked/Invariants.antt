@@ -1,6 +1,5 @@
 use Rattle.std.proofs.Common.{◌≡◌, ◌++◌, [], length, map, fold}
 use Rattle.std.specs.Vec.Iter.{into_iter_items, into_iter_len}
-use Rattle.gateway_kit.specs.Walks.{keyed_cell_of_ref}
 use Rattle.page_kit.specs.Families.{rank_cmp, rank_of}
 use Rattle.page_kit.specs.Groups.{put}
 use Rattle.page_kit.specs.Views.{lists, with_cells}

@@ -1,6 +1,5 @@
-use Rattle.std.proofs.Common.{◌≡◌, ◌++◌, map, length, take, string_bytes}
+use Rattle.std.proofs.Common.{◌≡◌, ◌++◌, take, string_bytes}
 use Rattle.std.specs.List.{flat_map}
-use Rattle.gateway_kit.specs.Walks.{keyed_cell_of_ref}
 use Rattle.page_kit.specs.Bounds.{values_up_to}
 use Rattle.page_kit.specs.Rows.{bound_text, bucket}
 use Rattle.page_kit.specs.Views.{cells}

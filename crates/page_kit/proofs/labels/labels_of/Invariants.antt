@@ -1,4 +1,4 @@
-use Rattle.std.proofs.Common.{◌≡◌, ◌++◌, map}
+use Rattle.std.proofs.Common.{◌≡◌, ◌++◌}
 use Rattle.page_kit.specs.Labels.{labels_of_groups}
 use Rattle.page_kit.specs.Views.{lists}
 use Rattle.page_kit.proofs.labels.labels_of.Given as goal

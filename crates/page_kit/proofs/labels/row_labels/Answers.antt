@@ -1,4 +1,4 @@
-use Rattle.std.proofs.Common.{◌≡◌, ℕ, List, [], map, fold, codes, ap, ◌∙◌}
+use Rattle.std.proofs.Common.{ℕ, List, map, fold, codes, ap, ◌∙◌}
 use Rattle.std.proofs.lemmas.Result.{IfOk-weaker}
 use Rattle.attr_kit.specs.Orders.{text_cmp}
 use Rattle.gateway_kit.specs.Walks.{keyed_cell_of_ref}

@@ -1,7 +1,7 @@
 use Rattle.std.proofs.Common.{◌≡◌, [], map, take, fold, length}
 use Rattle.page_kit.specs.Groups.{put}
 use Rattle.page_kit.specs.Labels.{labels_cmp, metric_labels}
-use Rattle.page_kit.specs.Views.{lists, with_cells}
+use Rattle.page_kit.specs.Views.{lists}
 use Rattle.page_kit.proofs.own.lengths_of.Given as goal
 
 abbrev pub invariant-loop-measured : goal.invariant-loop-measured

@@ -1,5 +1,5 @@
-use Rattle.std.proofs.Common.{◌≡◌, ◌++◌, map}
-use Rattle.gateway_kit.specs.Walks.{keyed_cell_of_ref, points_left}
+use Rattle.std.proofs.Common.{◌≡◌, ◌++◌}
+use Rattle.gateway_kit.specs.Walks.{points_left}
 use Rattle.page_kit.specs.Views.{cells}
 use Rattle.page_kit.proofs.page.list_of.Given as goal
 

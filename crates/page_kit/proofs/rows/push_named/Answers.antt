@@ -1,8 +1,7 @@
-use Rattle.std.proofs.Common.{◌≡◌, List, ◌++◌, Vec, Global, sym, ap, ◌∙◌}
+use Rattle.std.proofs.Common.{List, Vec, Global, sym, ap, ◌∙◌}
 use Rattle.std.specs.List.{flat_map}
 use Rattle.std.proofs.lemmas.List.Folds.{flat_map-map}
 use Rattle.std.proofs.lemmas.Result.{on_ok_weaker}
-use Rattle.gateway_kit.specs.Walks.{keyed_cell_of_ref}
 use Rattle.gateway_kit.specs.declared.points.PointRef.{PointRef}
 use Rattle.page_kit.specs.Rows.{row, named_text}
 use Rattle.page_kit.specs.Totals.{KeyedCell}

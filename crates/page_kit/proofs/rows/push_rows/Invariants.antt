@@ -1,6 +1,5 @@
-use Rattle.std.proofs.Common.{◌≡◌, ◌++◌, List, map, take, string_bytes}
+use Rattle.std.proofs.Common.{◌≡◌, ◌++◌, List, take, string_bytes}
 use Rattle.std.specs.List.{flat_map}
-use Rattle.gateway_kit.specs.Walks.{keyed_cell_of_ref}
 use Rattle.page_kit.specs.Bounds.{HaveBounds}
 use Rattle.page_kit.specs.Rows.{row}
 use Rattle.page_kit.specs.Totals.{KeyedCell}

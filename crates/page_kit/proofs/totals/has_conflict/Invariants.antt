@@ -1,4 +1,4 @@
-use Rattle.std.proofs.Common.{◌≡◌, map, drop}
+use Rattle.std.proofs.Common.{◌≡◌, drop}
 use Rattle.std.specs.List.{list_any}
 use Rattle.gateway_kit.specs.Walks.{keyed_cell_of_ref}
 use Rattle.page_kit.specs.Totals.{is_conflict}
