@@ -7,12 +7,14 @@ The requests are the constants of crates/otlp_kit/src/tests.rt, to which the cra
 otlp_metrics.proto, the part of opentelemetry-proto that the kit writes. What protoc writes of its own reading must be the same bytes: so
 no field has another number or type, and none was passed over. Without protoc this is told and passed over.
 
-This ends with a status other than 0 where one differs."""
+Then come the pages of page_kit, as pages.py tells. This ends with a status other than 0 where one differs."""
 import pathlib
 import re
 import shutil
 import subprocess
 import sys
+
+import pages
 
 HERE = pathlib.Path(__file__).resolve().parent
 TESTS = HERE.parents[1] / "crates" / "otlp_kit" / "src" / "tests.rt"
@@ -55,4 +57,4 @@ def main():
 
 
 if __name__ == "__main__":
-    sys.exit(main())
+    sys.exit(main() or pages.main())

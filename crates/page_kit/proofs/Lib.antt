@@ -1,0 +1,12 @@
+pub mod Claimed
+pub mod Counted
+pub mod Counts
+pub mod Digits
+pub mod Ended
+pub mod Folded
+pub mod Grouped
+pub mod Held
+pub mod Joined
+pub mod Shared
+pub mod Texted
+pub mod Texts

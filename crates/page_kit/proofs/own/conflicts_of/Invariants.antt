@@ -1,0 +1,10 @@
+use Rattle.std.proofs.Common.{◌≡◌, [], map, filter, take, fold}
+use Rattle.gateway_kit.specs.Walks.{keyed_cell_of_ref}
+use Rattle.page_kit.specs.Groups.{put}
+use Rattle.page_kit.specs.Labels.{labels_cmp, conflict_labels}
+use Rattle.page_kit.specs.Totals.{is_conflict}
+use Rattle.page_kit.specs.Views.{lists}
+use Rattle.page_kit.proofs.own.conflicts_of.Given as goal
+
+abbrev pub invariant-loop-point : goal.invariant-loop-point
+invariant-loop-point l = lists l.groups.entries ≡ fold (put labels_cmp) [] (map (λ p. (conflict_labels (keyed_cell_of_ref p).0, p)) (filter (λ p. is_conflict (keyed_cell_of_ref p)) (take l.point-index l.points)))

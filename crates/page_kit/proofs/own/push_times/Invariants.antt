@@ -1,0 +1,10 @@
+use Rattle.std.proofs.Common.{◌≡◌, ◌++◌, take, string_bytes}
+use Rattle.std.specs.List.{flat_map}
+use Rattle.page_kit.specs.Lines.{sample}
+use Rattle.page_kit.specs.Page.{seconds}
+use Rattle.page_kit.specs.Totals.{latest}
+use Rattle.page_kit.specs.Views.{cells}
+use Rattle.page_kit.proofs.own.push_times.Given as goal
+
+abbrev pub invariant-loop-labels : goal.invariant-loop-labels
+invariant-loop-labels l = string_bytes l.text ≡ string_bytes l.fn.text ++ flat_map (λ e. sample l.name e.0 (seconds (latest (cells e.1.items)))) (take l.labels-index l.rows)

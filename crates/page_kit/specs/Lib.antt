@@ -1,0 +1,12 @@
+pub mod Bounds
+pub mod Families
+pub mod Groups
+pub mod Labels
+pub mod Lines
+pub mod Metrics
+pub mod Names
+pub mod Page
+pub mod Rows
+pub mod Totals
+pub mod Units
+pub mod Views
