@@ -9,7 +9,7 @@ ghost use Rattle.kit_c.specs.Holding.{after_holding, number_after};
 ghost use Rattle.kit_c.specs.Places.{place_after};
 ghost use Rattle.kit_c.specs.Takings.{HasTakenIn, taking_fault};
 ghost use Rattle.kit_c.specs.Typed.{export_in, is_export};
-ghost use Rattle.kit_c.specs.Writers.{HasCollected, HasExport, HasNumberedPoints, HasPoints, HasStarted, IsPairHeld, by_set, collecting_fault, early_recording_fault, holding_fault, instance_of, recording_fault, restarting_fault};
+ghost use Rattle.kit_c.specs.Writers.{HasCollected, HasExport, HasNumberedPoints, HasPoints, HasStarted, IsPairHeld, Starts, by_set, collecting_fault, early_recording_fault, holding_fault, instance_of, recording_fault, restarting_fault};
 ghost use Rattle.recorder_kit.specs.Log.{ByNumber};
 ghost use Rattle.writer_kit.specs.Recording.{after_collect, after_record, after_restart};
 ghost use Rattle.writer_kit.specs.Refusals.{collect_fault};
@@ -22,12 +22,21 @@ use crate::taken::KitTaken;
 use crate::text::{text, text_of};
 use crate::typed::{KitAttributes, KitExport, KitPlan, KitRecorder, KitWriter};
 use crate::with::{with, with_two};
-use attr_kit::AttrSet;
+use attr_kit::{AttrSet, NoMemory};
 use bumpalo::Bump;
+use plan_kit::Plan;
 use point_kit::WriterId;
 use std::alloc::Global;
 use uuid::Uuid;
 use writer_kit::{CollectFault, MeasureFault, Writer};
+
+// A writer under a copy of a plan.
+fn started(alloc: Global, id: WriterId, plan: &Plan, start: u64) -> Result<HoldingWriter, NoMemory>
+    ensures { IfOk result (λ writer. Starts id start plan.now writer) }
+{
+    let writer = Writer::start(alloc, id, plan.try_copy()?, start)?;
+    Ok(HoldingWriter::new(alloc, writer))
+}
 
 /// Starts a writer, which counts from a start on, under a copy of a plan. The instance is a UUID as two numbers. Times are
 /// nanoseconds since the Unix epoch.
@@ -54,17 +63,12 @@ pub extern "C" fn kit_writer_start(
         return FULL;
     }
     let service = text!(alloc, service);
-    let Ok(copy) = with!(alloc, plan => Plan(held), held.try_copy()) else {
-        return NO_MEMORY;
-    };
     let id = WriterId {
         service,
         instance: Uuid::from_u64_pair(instance_high, instance_low),
     };
-    match Writer::start(alloc, id, copy, start) {
-        Ok(made) => writer
-            .handle
-            .fill(alloc, Content::Writer(HoldingWriter::new(alloc, made))),
+    match with!(alloc, plan => Plan(held), started(alloc, id, held, start)) {
+        Ok(made) => writer.handle.fill(alloc, Content::Writer(made)),
         Err(_) => NO_MEMORY,
     }
 }
