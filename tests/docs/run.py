@@ -9,8 +9,11 @@ or any. A word of a group in capitals is one of the specs of the crate.
 In every page each relative link leads to a file and to a heading, each crate that is named is one, and no line cites a paper by number.
 In PAGES each file of the repository that is named in code letters is there, and each other name in code letters stands in the code. The
 files of specs/ that DEFINITIONS names exist. README's table has each crate once, and ARCHITECTURE's has what crates.txt says. The crates
-that README copies are COPIED and those that it stands on. The files that CONTRIBUTING lists as rooms of a word are those that name it. In READ_PAGES no sentence has more than MOST_WORDS words, code in letters counted
-as one; a heading, a cell of a table and a list's item stand by themselves.
+that README copies are COPIED and those that it stands on. The files that CONTRIBUTING lists as rooms of a word are those that name it.
+
+README, CONTRIBUTING and the pages right in docs/, but for UNBOUND, are easy to read. No sentence has more than MOST_WORDS words, code in letters
+counted as one; a heading, a cell of a table and a list's item stand by themselves. No line is wider than MOST_WIDE, but for a row of a table, what is
+fenced, and a word that can't be parted. No cell of a table is wider than MOST_IN_CELL.
 
 The page of each library, the first comment of its lib.rt, names the file of its caller, whose lines it shows; but for PAGES_ALONE. Each name that it
 links stands in the crate, and each file of specs/ that it names.
@@ -27,10 +30,10 @@ import re
 import sys
 
 TOP = pathlib.Path(sys.argv[1] if sys.argv[1:] else pathlib.Path(__file__).resolve().parents[2]).resolve()
-PAGES = ["README.md", "CONTRIBUTING.md", *(f"docs/{it}.md" for it in ("ARCHITECTURE", "DECISIONS", "DEFINITIONS", "GOSSIP", "GUIDE", "HISTORIES", "PERFORMANCE", "PROMISES", "SCRIPTS"))]
-# What its users read from its beginning to its end.
-READ_PAGES = ["README.md", "CONTRIBUTING.md", "docs/GUIDE.md", "docs/SCRIPTS.md"]
-MOST_WORDS = 29
+PAGES = ["README.md", "CONTRIBUTING.md", *(f"docs/{it}.md" for it in ("ARCHITECTURE", "BYTES", "DECISIONS", "DEFINITIONS", "GATE", "GOSSIP", "GUIDE", "HISTORIES", "PERFORMANCE", "PROMISES", "SCRIPTS"))]
+MOST_WORDS, MOST_WIDE, MOST_IN_CELL = 29, 140, 200
+# Pages that are not held to these numbers yet.
+UNBOUND = {"docs/EMBEDDING.md", "docs/INTEROP.md", "docs/PERFORMANCE.md"}
 # The crate that README copies to another repository.
 COPIED = "first"
 # Names in code letters that are none of the kit's.
@@ -59,10 +62,12 @@ def spans(text):
 
 
 def passages(text):
-    """The line and the text of each paragraph, item and cell of a page; what is fenced is left out."""
+    """The line and the text of each paragraph, item and cell of a page; what is fenced or drawn is left out."""
     open_at, lines, is_fenced = 0, [], False
     for number, line in enumerate([*text.splitlines(), ""], 1):
-        line, is_fenced = line.strip(), is_fenced != line.startswith("```")
+        is_drawn, line, is_fenced = line.startswith("    ") and not lines, line.strip(), is_fenced != line.startswith("```")
+        if is_drawn:
+            continue
         ends = is_fenced or not line or line.startswith(("#", "|", "<!--", "```")) or re.match(r"[-*] |\d+\. ", line)
         if ends and lines:
             yield open_at, " ".join(lines)
@@ -77,7 +82,7 @@ def long_sentences(text):
     """The line, the number of words and the beginning of each sentence that is too long."""
     for number, passage in passages(text):
         passage = re.sub(r"\]\([^)]*\)", "]", re.sub(SPAN, "X", passage))
-        for sentence in re.split(r"(?<=[.!?])\)?\s+(?=[A-Z\[0-9(*\"])", passage):
+        for sentence in re.split(r"(?<=[.!?])[)*]*\s+(?=[A-Z\[0-9(*\"])", passage):
             count = len(re.findall(r"[A-Za-z0-9][\w'.@/-]*", sentence))
             if count > MOST_WORDS:
                 yield number, count, sentence[:60]
@@ -187,9 +192,19 @@ class Docs:
                 for span in spans(line):
                     self.check_name(where, span)
 
-    def check_sentences(self, page):
+    def check_reading(self, page):
+        """Whether a page is easy to read: its sentences, its lines and the cells of its tables."""
         for number, count, opening in long_sentences(text_of(TOP / page)):
             self.fault(f"{page}:{number}", f"a sentence of {count} words: {opening} ..")
+        is_fenced = False
+        for number, line in enumerate(text_of(TOP / page).splitlines(), 1):
+            is_fenced = is_fenced != line.startswith("```")
+            if line.startswith("|") and not is_fenced:
+                for cell in line.strip("|").split("|"):
+                    if len(cell.strip()) > MOST_IN_CELL:
+                        self.fault(f"{page}:{number}", f"a cell of {len(cell.strip())} characters: {cell.strip()[:60]} ..")
+            elif len(line) > MOST_WIDE and not is_fenced and " " in re.sub(rf"{SPAN}|\[[^\]]*\]\([^)]*\)", "_", line.strip()):
+                self.fault(f"{page}:{number}", f"a line of {len(line)} characters")
 
     def check_link(self, where, page, target):
         if re.match(r"\w+:", target):
@@ -223,7 +238,7 @@ class Docs:
                         self.fault(f"{page}:{number}", f"no file {file}.antt in the specs of {crate}")
 
     def check_tables(self):
-        rows = re.findall(r"^\| ([\w, ]+?) \|[^|]*\|[^|]*\|$", text_of(TOP / "README.md"), re.M)
+        rows = re.findall(r"^\| ([\w, ]+?) \|[^|]*\|$", text_of(TOP / "README.md"), re.M)
         named = [it for row in rows for it in row.split(", ")]
         drawn = {}
         for line in text_of(TOP / "docs" / "ARCHITECTURE.md").splitlines():
@@ -317,8 +332,9 @@ class Docs:
             self.check_rows(page)
         for file in sorted([TOP / "README.md", TOP / "CONTRIBUTING.md", *TOP.glob("docs/**/*.md"), *TOP.glob("wip/*.md")]):
             self.check_page(str(file.relative_to(TOP)))
-        for page in READ_PAGES:
-            self.check_sentences(page)
+        for file in [TOP / "README.md", TOP / "CONTRIBUTING.md", *sorted(TOP.glob("docs/*.md"))]:
+            if str(file.relative_to(TOP)) not in UNBOUND:
+                self.check_reading(str(file.relative_to(TOP)))
         self.check_definitions()
         self.check_tables()
         self.check_copied()

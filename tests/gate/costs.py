@@ -23,11 +23,13 @@ def minutes(seconds):
 DEAREST = 20
 
 
-def table(ledger, head, stages, took):
-    """The page: what ran and where, minutes by the clock of each stage, the table, and the dearest edits of those whose seconds are given."""
+def table(ledger, head, tiers, stages, took):
+    """The page: what ran and where, the tiers, minutes by the clock of each stage, the costs, and the dearest edits of those whose seconds are given."""
     used = read(ledger)
     crates = sorted({crate for crate, _ in used}, key=lambda it: -sum(used[it, kind][0] for kind in KINDS))
-    lines = ["# The gate's last cost", "", *head, "", "| Stage | Minutes by the clock |", "|---|---|"]
+    lines = ["# The gate's last run", "", *head, "", "| What | Passed | Failed | Known | Left |", "|---|---|---|---|---|"]
+    lines += [f"| {name} | {' | '.join(str(it or '') for it in counts)} |" for name, *counts in tiers if any(counts)]
+    lines += ["", "| Stage | Minutes by the clock |", "|---|---|"]
     lines += [f"| {name} | {minutes(seconds) or '0.0'} |" for name, seconds in stages]
     lines += ["", "Processor minutes:", "", "| Crate or runner | Proofs | Tests' own proofs | Builds | Runs | Edits | Together |", "|---|---|---|---|---|---|---|"]
     for crate in crates:

@@ -1,17 +1,43 @@
+#!/usr/bin/env python3
 """Which edits are known to be refused: a ledger that runs write, and that is committed.
 
-An edit's result is known where nothing that it stands on changed since a run saw it refused: the edit, its crate, the contracts of the crates below, and
-the toolchain. All of that is one digest, and a line of the ledger is an edit's name with it. A wrong body is refused by the contracts of what it calls, so the
-bodies and the proofs of crates below take no part."""
+    tests/gate/known.py                what the ledger says of each edit, by crates
+    tests/gate/known.py merge FILE..   takes from ledgers of other clones the lines that hold of this tree
+    tests/gate/known.py leave          leaves edits of this change that no run ever saw refused, where they were left before
+
+An edit's result is known where nothing that it stands on changed since a run saw it refused. That is the edit, the text and the proof of the functions that it
+changes, the contracts, types, definitions and lemmas of its crate, the contracts and definitions of the crates below, and the toolchain. All of that is one
+digest, and a line of the ledger is an edit's name with it. A function is proved from the contracts of what it calls, so other bodies and their proofs take no
+part. Where an edit lies in no function, all of its crate takes part. A line that ends in `untried` says of an edit that no run has tried it at just this text.
+
+An edit that has no line, or one with another digest, is of the change at hand: a gate that leaves it untried fails. `leave` excuses those of them whose line
+says `untried` already. A new edit, and one that a run saw refused once, can't be left; so lines `untried` only grow fewer.
+
+A program of LATER has a line too, under its crate's name: with all that it runs, its digest has the bodies of the crates below."""
+import collections
 import hashlib
 import os
 import pathlib
+import sys
 
+sys.dont_write_bytecode = True
 import edits
-from kit import version
+from kit import edits_of, rtlib, version
 
-LEDGER = pathlib.Path(__file__).resolve().parent / "known.txt"
+TOP = pathlib.Path(__file__).resolve().parents[2]
+LEDGER = TOP / "tests" / "gate" / "known.txt"
 OWN, BELOW = ("src", "specs", "proofs"), ("src", "specs")
+# The files of proofs/ that are of one function, whose folder has its name, or that with a plus before it.
+OF_FUNCTIONS = ("Answers.antt", "Invariants.antt", "Proof.antt")
+# Programs that promise nothing, and come after the edits: the folders of tests/ that run each, and the programs that these run too.
+LATER = {"kit_bench": ((), ()), "refusals": (("refusals", "faults"), ("otm",))}
+GIVEN = ("args", "stdin", "stdout", "status")
+# What the ledger says of an edit: a run saw it refused; it was left at just this text; or it is of the change at hand.
+KNOWN, BEFORE, CHANGED = "known", "left before", "of this change"
+HEAD = """\
+# Edits that a run saw refused, each with the digest of what it stands on, and those that were left (`untried`). Written by tests/gate (known.py).
+# toolchain: {toolchain}
+"""
 
 
 def texts(folder, parts):
@@ -21,8 +47,11 @@ def texts(folder, parts):
 
 
 def told(file):
-    begins = "//" if file.suffix == ".rt" else "--"
-    return "\n".join(it for it in file.read_text(encoding="utf-8").split("\n") if not it.lstrip().startswith(begins))
+    return without_comments(file.read_text(encoding="utf-8"), "//" if file.suffix == ".rt" else "--")
+
+
+def without_comments(text, begins):
+    return "\n".join(it for it in text.split("\n") if not it.lstrip().startswith(begins))
 
 
 def without_bodies(text):
@@ -49,47 +78,201 @@ def digest_of(pieces):
     return sum_.hexdigest()
 
 
-def contracts_of(crate):
-    """The digest of what crates above see of a crate."""
-    found = [(name, without_bodies(text) if name.endswith(".rt") else text) for name, text in texts(crate.folder, BELOW)]
+def contracts_of(crate, parts=BELOW):
+    """The digest of what functions see of others of a crate."""
+    found = [(name, without_bodies(text) if name.endswith(".rt") else text) for name, text in texts(crate.folder, parts) if not is_of_function(name)]
     return digest_of([crate.name, *(it for pair in found for it in pair)])
 
 
-def ground_of(crate):
+def is_of_function(name):
+    return name.startswith("proofs/") and name.endswith(OF_FUNCTIONS)
+
+
+def sources_of(crate):
+    """The digest of what a crate does when it runs."""
+    return digest_of([crate.name, *(it for pair in texts(crate.folder, ("src",)) for it in pair)])
+
+
+def ground_of(crate, toolchain):
     """The digest of what the edits of a crate stand on, but for their own texts."""
     own = [it for pair in texts(crate.folder, OWN) for it in pair]
-    return digest_of([version(), *own, *(contracts_of(it) for it in crate.below())])
+    return digest_of([toolchain, *own, *(contracts_of(it) for it in crate.below())])
+
+
+def ground_of_functions(crate, toolchain):
+    """The digest of what each edit of a crate stands on, but for the functions that it changes and its own text."""
+    return digest_of([toolchain, contracts_of(crate, OWN), *(contracts_of(it) for it in crate.below())])
+
+
+def functions_of(crate, path, proofs):
+    """The texts and the proofs of the functions that an edit changes, of these proofs by functions; none where it changes anything else."""
+
+    def source(file):
+        return pathlib.Path(crate.folder, file).read_text(encoding="utf-8")
+
+    try:
+        made = edits.applied({}, edits.read(path), source)
+    except OSError:
+        return []
+    found = []
+    for file, folder, owner in made[1] if made else ():
+        lines = source(file).split("\n")
+        spans = [it for it in edits.spans_of(file, source(file)) if (it.folder, it.owner) == (folder, owner)]
+        found += [file, *(without_comments("\n".join(lines[it.first - 1 : it.last]), "//") for it in spans)]
+        found += proofs.get(folder.rpartition("/")[2], [])
+    return found
+
+
+def proofs_of(crate):
+    """The texts of the proofs of functions, by the functions' names: of two that share one both."""
+    found = collections.defaultdict(list)
+    for name, text in texts(crate.folder, ("proofs",)):
+        if is_of_function(name):
+            found[pathlib.Path(name).parent.name.removeprefix("+")] += [name, text]
+    return found
+
+
+def ground_of_program(crate, toolchain, crates):
+    """The digest of what a program of LATER, and whoever runs it, stands on."""
+    folders, beside = LATER[crate.name]
+    files = [pathlib.Path(crate.folder, it) for it in GIVEN] + [it for of in folders for it in sorted((TOP / "tests" / of).rglob("*.[pc]*"))]
+    given = [f"{it.name}:{it.read_text(encoding='utf-8', errors='replace')}" for it in files if it.is_file() and "__pycache__" not in it.parts]
+    others = [it for it in crates if it.name in beside]
+    run = {it.name: it for of in [crate, *others] for it in of.below()} | {it.name: it for it in others}
+    return digest_of([ground_of(crate, toolchain), *given, *(sources_of(run[name]) for name in sorted(run))])
 
 
 class Known:
     """The ledger, and which of the edits that are asked for it knows."""
 
-    def __init__(self, file=LEDGER):
-        self.file, self.grounds = file, {}
-        lines = file.read_text(encoding="utf-8").splitlines() if file.is_file() else []
-        self.lines = dict(it.rsplit(" ", 1) for it in lines if it and not it.startswith("#"))
+    def __init__(self, file=LEDGER, toolchain=None):
+        self.file, self.toolchain, self.grounds, self.found = pathlib.Path(file), toolchain or version(), {}, {}
+        self.of, self.lines = self.toolchain, {}
+        for line in self.file.read_text(encoding="utf-8").splitlines() if self.file.is_file() else []:
+            if line.startswith("# toolchain: "):
+                self.of = line.removeprefix("# toolchain: ")
+            elif line and not line.startswith("#"):
+                name, digest, *untried = line.split(" ")
+                self.lines[name] = digest, not untried
+
+    def ground(self, of, crate, *toolchain):
+        if (of, crate.name, *toolchain) not in self.grounds:
+            self.grounds[of, crate.name, *toolchain] = of(crate, *toolchain)
+        return self.grounds[of, crate.name, *toolchain]
+
+    def digests(self, crate, path, toolchain):
+        """The digest of an edit's text and all that it stands on; and one in which all of its crate takes part, which a line may have too."""
+        if (path, toolchain) not in self.found:
+            text, functions = pathlib.Path(path).read_text(encoding="utf-8"), functions_of(crate, path, self.ground(proofs_of, crate))
+            whole = digest_of([self.ground(ground_of, crate, toolchain), text])
+            own = digest_of([self.ground(ground_of_functions, crate, toolchain), text, *functions]) if functions else whole
+            self.found[path, toolchain] = own, whole
+        return self.found[path, toolchain]
 
     def digest(self, crate, path):
-        if crate.name not in self.grounds:
-            self.grounds[crate.name] = ground_of(crate)
-        return digest_of([self.grounds[crate.name], pathlib.Path(path).read_text(encoding="utf-8")])
+        return self.digests(crate, path, self.toolchain)[0]
 
-    def has(self, crate, path):
-        return self.lines.get(name_of(crate, path)) == self.digest(crate, path)
+    def kind(self, crate, path):
+        """What the ledger says of an edit. Under another toolchain than the ledger's nothing is known, and what it tells of was left."""
+        digest, was_refused = self.lines.get(name_of(crate, path), ("", False))
+        if digest not in self.digests(crate, path, self.of):
+            return CHANGED
+        return KNOWN if was_refused and self.of == self.toolchain else BEFORE
+
+    def has_program(self, crate, crates):
+        """Whether a run saw this program proved, and run well, as it is."""
+        digest, was_proved = self.lines.get(crate.name, ("", False))
+        return was_proved and digest == ground_of_program(crate, self.toolchain, crates)
 
     def note(self, crate, path, is_refused):
         """Notes what came of an edit."""
         if is_refused:
-            self.lines[name_of(crate, path)] = self.digest(crate, path)
+            self.lines[name_of(crate, path)] = self.digest(crate, path), True
         else:
             self.lines.pop(name_of(crate, path), None)
 
-    def write(self, names):
-        """Writes the ledger, with those edits alone that there are."""
-        self.lines = {name: digest for name, digest in self.lines.items() if name in names}
-        head = "# Edits that a run saw refused, each with the digest of what it stands on (known.py). Written by tests/gate/run.py.\n"
-        self.file.write_text(head + "".join(f"{name} {digest}\n" for name, digest in sorted(self.lines.items())), encoding="utf-8")
+    def note_program(self, crate, crates):
+        self.lines[crate.name] = ground_of_program(crate, self.toolchain, crates), True
+
+    def untried(self):
+        return sum(not was_refused for _, was_refused in self.lines.values())
+
+    def leave(self, crate, path):
+        """Says of an edit that it is left as it is."""
+        self.lines[name_of(crate, path)] = self.digest(crate, path), False
+
+    def renew(self, found):
+        """Begins the ledger anew under another toolchain: what no run has seen refused under this one is left."""
+        fresh = {name_of(*it): self.lines.get(name_of(*it)) == (self.digest(*it), True) for it in found}
+        waiting = [it for it in found if not fresh[name_of(*it)] and self.kind(*it) != CHANGED]
+        self.lines = {name: line for name, line in self.lines.items() if fresh.get(name)}
+        for it in waiting:
+            self.leave(*it)
+        self.of = self.toolchain
+
+    def write(self, found):
+        """Writes the ledger, with those edits alone that there are, each given as its crate and its file."""
+        if self.of != self.toolchain:
+            self.renew(found)
+        for it in found:
+            digest, was_refused = self.lines.get(name_of(*it), ("", False))
+            if digest in self.digests(*it, self.toolchain):
+                self.lines[name_of(*it)] = self.digest(*it), was_refused
+        names = {name_of(*it) for it in found} | set(LATER)
+        self.lines = {name: line for name, line in self.lines.items() if name in names}
+        lines = [f"{name} {digest}{'' if was_refused else ' untried'}\n" for name, (digest, was_refused) in sorted(self.lines.items())]
+        self.file.write_text(HEAD.format(toolchain=self.toolchain) + "".join(lines), encoding="utf-8")
 
 
 def name_of(crate, path):
     return f"{crate.name}/{os.path.basename(path)}"
+
+
+def edits_in(crates):
+    """Each edit of these crates, with its crate."""
+    return [(crate, path) for crate in crates for path in edits_of(crate)[0]]
+
+
+def merge(book, found, files):
+    """Takes the lines of other ledgers that hold of this tree; gives how many were not known before."""
+    new = 0
+    for file in files:
+        other = Known(file, book.toolchain)
+        for crate, path in found:
+            if book.kind(crate, path) != KNOWN and other.kind(crate, path) == KNOWN:
+                book.note(crate, path, True)
+                new += 1
+    return new
+
+
+def leave(book, found):
+    """Leaves what is of this change and was left before, or all where the ledger is without lines; gives what can't be left."""
+    is_new, changed = not book.lines, [it for it in found if book.kind(*it) == CHANGED]
+    may = [it for it in changed if is_new or not book.lines.get(name_of(*it), ("", True))[1]]
+    for it in may:
+        book.leave(*it)
+    return [it for it in changed if it not in may]
+
+
+def main(words):
+    crates = rtlib.crates_below(str(TOP))
+    book, found = Known(), edits_in(crates)
+    if words[:1] == ["merge"] and words[1:]:
+        print(f"{merge(book, found, words[1:])} edits more are known")
+        book.write(found)
+    elif words == ["leave"]:
+        for it in leave(book, found):
+            print(f"{name_of(*it)} is new, or a run saw it refused: it is to be tried")
+        book.write(found)
+    elif words:
+        print(__doc__)
+        return 2
+    kinds = collections.Counter((crate.name, book.kind(crate, path)) for crate, path in found)
+    for name in dict.fromkeys(crate.name for crate, _ in found):
+        print(f"{name}: " + ", ".join(f"{kinds[name, kind]} {kind}" for kind in (KNOWN, BEFORE, CHANGED) if kinds[name, kind]))
+    print(f"{len(found)} edits: " + ", ".join(f"{sum(n for (_, it), n in kinds.items() if it == kind)} {kind}" for kind in (KNOWN, BEFORE, CHANGED)))
+    return 0
+
+
+if __name__ == "__main__":
+    sys.exit(main(sys.argv[1:]))

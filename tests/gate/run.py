@@ -4,12 +4,13 @@
     python3 tests/gate/run.py [--anew]          the whole gate; with --anew it tries each edit, also those that are known
     python3 tests/gate/run.py edits [NAME..]    the must-fail edits alone, over what earlier checks of the crates kept
 
-First every proof from nothing, each crate's tests and programs, by the toolchain's own `rt ci` with all that it refuses; the tests
-stand on the proof of the crate in the same run. Then the runners of tests/. Then the must-fail edits, over the same proof, many in
-one check (edits.py, trials.py), those of crates that changed most lately first, until GATE_MINUTES (165) are over. An edit whose result
-is known for just this text (known.py, known.txt) is not tried again, but for a few that chance picks. Both kinds of runs write what they saw to known.txt.
-The table of what it cost goes to docs/log/gate.md. The last line is 'N passed, M failed', with ', K skipped' where time was too short
-for K edits. A crate, a runner and an edit count one each; a known edit counts as passed."""
+Two tiers, until GATE_MINUTES (165) are over. First, always: every proof of a product crate from nothing and its tests, by the toolchain's own `rt ci` with all
+that it refuses; the runners of tests/; and each must-fail edit that the ledger (known.py, known.txt) does not know and that is of the change at hand. One of these
+for which there is no time fails. Then, as time allows: the programs that promise nothing (known.LATER) where they or what they run changed, the edits that were
+left before, and of the known ones a few that chance picks. Edits are tried over the crates' own proofs, many in one check (edits.py, trials.py).
+
+Both kinds of runs write what they saw to known.txt. The table of tiers and costs goes to docs/log/gate.md. The last line is 'N passed, M failed', with
+', K skipped' for what time did not allow. A crate, a runner and an edit count one each; what is known counts as passed."""
 import contextlib
 import io
 import os
@@ -23,10 +24,11 @@ import threading
 import time
 import types
 
+sys.dont_write_bytecode = True
 import costs
 import known
 import trials
-from kit import ONE_JOB, patiently, rt, rtlib, version, what_is_free, whole_gate
+from kit import ONE_JOB, edits_of, patiently, rt, rtlib, version, what_is_free, whole_gate
 
 HERE = pathlib.Path(__file__).resolve().parent
 TOP = HERE.parents[1]
@@ -43,7 +45,8 @@ COUNT = re.compile(r"^(\d+) passed, (\d+) failed$")
 class Crate(rt.Crate):
     """A crate whose proof is kept in a folder of this run, so that its tests and its edits stand on it."""
 
-    proved, functions = {}, {}
+    # (late are those that the end of the time stopped)
+    proved, functions, late = {}, {}, set()
 
     def prove(self, *commands):
         out = self.out
@@ -66,6 +69,8 @@ class Crate(rt.Crate):
         is_linked = (self.is_program or self.is_static) and not tests
         status = self.ci_of_linked(flags) if is_linked else super().ci(flags, tests)
         Crate.proved[self.name, tests] = not status
+        if status and trials.is_over():
+            Crate.late.add(self.name)
         return status
 
     def ci_of_linked(self, flags):
@@ -128,28 +133,34 @@ def prepare(ledger):
     # (the folder is new in each run, so nothing in it is taken on trust from an earlier one)
     rtlib.VERDICT = re.compile(rtlib.VERDICT.pattern.replace(r"statements=trusted\n", r"statements=trusted( incremental=trusted)?\n"), re.M)
     rt.Crate = Crate
-    in_lanes = rt.in_lanes
-
-    def tests_after_proofs(tasks):
-        made = {}
-        for (name, kind), (waits, lines, needs, call) in tasks.items():
-            made[name, kind] = [*waits, (name, "proof")] if kind == "tests" else waits, lines, needs, patiently(f"{name}: {kind}", call)
-        return in_lanes(made)
-
-    rt.in_lanes = tests_after_proofs
 
 
-def runners(ledger):
-    """Runs each tests/NAME/run.py but this one; gives how many passed, and the names of those that failed."""
+def after_proofs(tasks):
+    """The toolchain's tasks, of which a crate's tests wait for its proof."""
+    made = {}
+    for (name, kind), (waits, lines, needs, call) in tasks.items():
+        made[name, kind] = [*waits, (name, "proof")] if kind == "tests" else waits, lines, needs, patiently(f"{name}: {kind}", call)
+    return made
+
+
+def over_given(tasks, given):
+    """These tasks, behind others that are done and gave this."""
+    return {
+        key: ([it for it in waits if it in tasks], lines, needs, lambda new, jobs, call=call: call({**given, **new}, jobs))
+        for key, (waits, lines, needs, call) in tasks.items()
+    }
+
+
+def runners(names, ledger):
+    """Runs tests/NAME/run.py of these; gives how many passed, and the names of those that failed."""
     passed, failed = 0, []
-    for runner in sorted(TOP.glob("tests/*/run.py")):
-        if runner.parent != HERE:
-            sys.stdout.flush()
-            name = f"tests/{runner.parent.name}"
-            if subprocess.run([*TIMED, "--run", name, ledger, sys.executable, str(runner)], cwd=TOP, stdin=subprocess.DEVNULL).returncode:
-                failed.append(name)
-            else:
-                passed += 1
+    for name in names:
+        sys.stdout.flush()
+        words = [*TIMED, "--run", f"tests/{name}", ledger, sys.executable, f"tests/{name}/run.py"]
+        if subprocess.run(words, cwd=TOP, stdin=subprocess.DEVNULL).returncode:
+            failed.append(f"tests/{name}")
+        else:
+            passed += 1
     return passed, failed
 
 
@@ -159,65 +170,156 @@ def changed(crate):
     return int(said) if said.isdigit() else 0
 
 
-def lanes(crates):
-    """How many checks of these crates may run side by side."""
-    return max(1, min(rt.processors(), int(0.85 * rt.free() / max([rt.need(it) for it in crates], default=1))))
+def until(minutes):
+    """Has proofs and edits end so many minutes after the start."""
+    os.environ["GATE_UNTIL"] = str(BEGAN + 60 * minutes)
 
 
-def chosen(crates, book, anew):
-    """Of each crate the edits to be tried: those that are not known, and of the known ones a few that chance picks; and how many are left as known."""
-    found = {crate: rt.edits_of(crate)[0] for crate in crates}
-    told = [(crate, path) for crate, paths in found.items() for path in paths if not anew and book.has(crate, path)]
-    again = random.SystemRandom().sample(told, min(TRIED_AGAIN, len(told)))
-    if told:
-        rt.say(f"{len(told)} edits are known to be refused; tried again all the same: {', '.join(known.name_of(*it) for it in again)}")
-    spared = set(told) - set(again)
-    return {crate: [it for it in paths if (crate, it) not in spared] for crate, paths in found.items()}, len(spared)
+class Gate:
+    """One whole run: what it tried, what was known and what it left."""
+
+    def __init__(self, ledger, is_anew):
+        rtlib.Crate = Crate
+        self.ledger, self.is_anew, self.book, self.every = ledger, is_anew, known.Known(), rtlib.crates_below(str(TOP))
+        self.kinds = {(crate.name, path): self.book.kind(crate, path) for crate, path in known.edits_in(self.every)}
+        self.later = [it for it in self.every if it.name in known.LATER]
+        self.spared = [] if is_anew else [it for it in self.later if self.is_known(it)]
+        self.passed, self.failed, self.skipped, self.tiers, self.stages, self.took = 0, [], [], [], [], {}
+        self.listed, self.left, self.at = None, [], time.time()
+
+    def is_known(self, program):
+        """Whether a run saw the program proved, and each of its edits refused, as they are."""
+        return self.book.has_program(program, self.every) and not self.edits_of([program], known.BEFORE, known.CHANGED)
+
+    def edits_of(self, crates, *kinds):
+        return [it for it in known.edits_in(crates) if self.kinds[it[0].name, it[1]] in kinds]
+
+    def proved(self):
+        return [it for it in self.every if Crate.proved.get((it.name, False)) and Crate.proved.get((it.name, True), True)]
+
+    def stage(self, name):
+        self.stages.append((name, time.time() - self.at))
+        self.at = time.time()
+
+    def tier(self, name, passed, failed, spared=0, left=()):
+        """Counts what came of one sort of work: what passed, what failed, how much was known, and what there was no time for."""
+        self.passed, self.failed, self.skipped = self.passed + passed + spared, self.failed + failed, [*self.skipped, *left]
+        self.tiers.append((name, passed, len(failed), spared, len(left)))
+
+    def try_edits(self, pairs):
+        """Tries these edits, those of crates that changed most lately first; gives how many were refused, which were not, and which were left."""
+        until(MINUTES)
+        order = sorted(dict.fromkeys(crate for crate, _ in pairs), key=lambda it: -changed(it))
+        tried = [trials.Trial(it, [path for of, path in pairs if of is it], Crate.functions[it.name]) for it in order]
+        refused, failed, took = trials.all_edits(tried, lambda trials: note(self.book, trials, self.every))
+        self.took.update(took)
+        return refused, failed, [known.name_of(it.crate, path) for it in tried for path in it.left()]
+
+    def hooked(self):
+        """Has the toolchain's gate prove the product crates first, and the programs that promise nothing behind what each run must do."""
+        crates_of, in_lanes = rt.crates_of, rt.in_lanes
+
+        def listed(root):
+            self.listed = crates_of(root)
+            return self.listed
+
+        def in_tiers(tasks):
+            tasks = after_proofs(tasks)
+            later = {it.name for it in self.later} if self.listed is not None else set()
+            given = in_lanes({key: task for key, task in tasks.items() if key[0] not in later})
+            self.stage("proofs and tests")
+            if all(given.values()):
+                self.first()
+            until(MINUTES)
+            asked = {it.name for it in self.later if it not in self.spared}
+            if later and all(given.values()) and not trials.is_over():
+                given |= in_lanes(over_given({key: task for key, task in tasks.items() if key[0] in asked & later}, given))
+            self.left = sorted(it for it in asked & later if (it, "proof") not in given or it in Crate.late)
+            for crate in [it for it in self.listed or [] if it.name in self.left or it.name in later - asked]:
+                self.listed.remove(crate)
+            self.stage("programs that promise nothing")
+            until(MINUTES + MORE_MINUTES)
+            return given
+
+        # (the toolchain finds no edits, which are tried here)
+        rt.crates_of, rt.in_lanes, rt.edits_of = listed, in_tiers, lambda crate: ([], [])
+
+    def first(self):
+        """What each run does once the product crates are proved: the runners of tests/, and the edits of the change."""
+        behind = {folders[0] for folders, _ in known.LATER.values() if folders} if self.listed is not None else set()
+        names = sorted(it.parent.name for it in TOP.glob("tests/*/run.py") if it.parent != HERE)
+        self.tier("runners of tests/", *runners([it for it in names if it not in behind], self.ledger))
+        self.stage("runners of tests/")
+        refused, failed, left = self.try_edits([it for it in self.edits_of(self.proved(), known.CHANGED) if it[0] not in self.later])
+        if left:
+            rt.say(f"NO TIME for {len(left)} edits of this change. `python3 tests/gate/run.py edits NAME..` tries them in a clone; commit its known.txt")
+        self.tier("edits of this change", refused, failed + left)
+        self.stage("edits of this change")
+
+    def rest(self):
+        """What time allows, once all is proved: the runners of the later programs, the edits that were left before, and known ones by chance."""
+        for crate in self.later:
+            for name in [it for it in known.LATER[crate.name][0][:1] if self.listed is not None]:
+                is_proved = crate.name not in self.left and crate not in self.spared
+                ran = runners([name], self.ledger) if is_proved else (0, [])
+                self.tier(f"the runner tests/{name}", *ran, int(crate in self.spared), [f"tests/{name}"] if crate.name in self.left else [])
+        self.tier("programs that promise nothing", 0, [], len(self.spared), self.left)
+        waiting = self.edits_of(self.every, known.BEFORE) + self.edits_of(self.later, known.CHANGED)
+        refused, failed, left = self.try_edits([it for it in waiting if it[0] in self.proved()])
+        left += [known.name_of(*it) for it in waiting if it[0] not in self.proved()]
+        self.tier("edits left before", refused, failed, 0, left)
+        told = self.edits_of(self.every, known.KNOWN)
+        here = [it for it in told if it[0] in self.proved()]
+        again = here if self.is_anew else random.SystemRandom().sample(here, min(TRIED_AGAIN, len(here)))
+        refused, failed, left = self.try_edits(again)
+        self.tier("known edits, some tried again by chance", refused, failed, len(told) - len(again) + len(left))
+        self.stage("other edits")
+
+    def run(self, from_nothing):
+        """The gate, once what earlier runs left is set aside."""
+        out = Passing(sys.stdout)
+        self.hooked()
+        until(MINUTES + MORE_MINUTES)
+        with contextlib.redirect_stdout(out):
+            status = from_nothing()
+        passed, lost = out.count or (0, 1)
+        self.tier("crates, their tests and programs", passed, ["rt ci"] * max(lost, status != 0))
+        self.tiers.insert(0, self.tiers.pop())
+        self.stage("runs of tests and programs")
+        if self.failed and trials.is_over():
+            rt.say(f"NO TIME: {MINUTES + MORE_MINUTES:.0f} minutes were over before all was proved")
+        misplaced = [os.path.relpath(path, TOP) for it in self.every for path in edits_of(it)[1]]
+        self.tier("files of must-fail/ that are no edit", 0, misplaced)
+        if not self.failed:
+            self.rest()
+        if not self.failed:
+            for crate in self.later:
+                if crate.name not in self.left and crate not in self.spared:
+                    self.book.note_program(crate, self.every)
+        self.book.write(known.edits_in(self.every))
+        self.tell()
+        return ended(self.passed, self.failed, len(self.skipped))
+
+    def tell(self):
+        """Writes the table of what was tried, known and left, and of what it cost."""
+        self.stages.append(("all", time.time() - BEGAN))
+        count = f"{self.passed} passed, {len(self.failed)} failed, {len(self.skipped)} left"
+        head = [f"Written by `tests/gate/run.py`: {count}, on {rt.processors()} processors, {version()}."]
+        page = costs.table(self.ledger, head, self.tiers, self.stages, self.took)
+        (TOP / "docs" / "log").mkdir(parents=True, exist_ok=True)
+        (TOP / "docs" / "log" / "gate.md").write_text(page, encoding="utf-8")
+        print(page)
+        if self.skipped:
+            rt.say(f"left for want of time: {' '.join(self.skipped)}")
 
 
-def note(book, tried, crates):
+def note(book, tried, every):
     """Writes what came of these trials to the ledger."""
     for trial in tried:
-        for path, (is_refused, _) in trial.told.items():
+        for path, (is_refused, _) in trial.told.items() if trial.is_untouched() else ():
             if is_refused is not None:
                 book.note(trial.crate, path, is_refused)
-    book.write({known.name_of(crate, path) for crate in crates for path in rt.edits_of(crate)[0]})
-
-
-def whole(from_nothing, ledger, anew):
-    """The gate, once what earlier runs left is set aside."""
-    edits_of, out, stages, at = rt.edits_of, Passing(sys.stdout), [], time.time()
-    rt.edits_of = lambda crate: ([], [])
-    os.environ["GATE_UNTIL"] = str(BEGAN + 60 * (MINUTES + MORE_MINUTES))
-    with contextlib.redirect_stdout(out):
-        status = from_nothing()
-    rt.edits_of = edits_of
-    passed, lost = out.count or (0, 1)
-    failed = ["rt ci"] * max(lost, status != 0)
-    if trials.is_over():
-        rt.say(f"NO TIME: {MINUTES + MORE_MINUTES:.0f} minutes were over before all was proved")
-    stages.append(("proofs, tests, programs", time.time() - at))
-    at = time.time()
-    good, bad = runners(ledger) if not failed else (0, [])
-    stages.append(("runners of tests/", time.time() - at))
-    at, os.environ["GATE_UNTIL"] = time.time(), str(BEGAN + 60 * MINUTES)
-    crates, book = rtlib.crates_below(str(TOP)), known.Known()
-    proved = [it for it in crates if Crate.proved.get((it.name, False)) and Crate.proved.get((it.name, True), True)]
-    misplaced = [os.path.relpath(path, TOP) for it in proved for path in rt.edits_of(it)[1]]
-    found, spared = chosen(proved, book, anew)
-    order = sorted([it for it, paths in found.items() if paths], key=lambda it: -changed(it))
-    tried = [trials.Trial(it, found[it], Crate.functions[it.name]) for it in order]
-    refused, not_refused, left, took = trials.all_edits(tried, lanes(order))
-    note(book, tried, crates)
-    stages.append((f"edits: {refused} refused, {spared} known, {left} left for want of time", time.time() - at))
-    stages.append(("all", time.time() - BEGAN))
-    passed, failed = passed + good + refused + spared, failed + bad + misplaced + not_refused
-    head = [f"Written by `tests/gate/run.py`: {passed} passed, {len(failed)} failed, on {rt.processors()} processors, {version()}."]
-    page = costs.table(ledger, head, stages, took)
-    (TOP / "docs" / "log").mkdir(parents=True, exist_ok=True)
-    (TOP / "docs" / "log" / "gate.md").write_text(page, encoding="utf-8")
-    print(page)
-    return ended(passed, failed, left)
+    book.write(known.edits_in(every))
 
 
 def ended(passed, failed, left):
@@ -228,32 +330,38 @@ def ended(passed, failed, left):
     return 1 if failed else 0
 
 
-def edits_alone(names):
-    """The edits of these crates, or all, over what earlier checks kept."""
-    rtlib.Crate = Crate
-    begun = []
-    for crate in rtlib.crates_below(str(TOP)):
-        paths, misplaced = rt.edits_of(crate)
+def edits_alone(names, is_anew):
+    """The edits of these crates, or all, over what earlier checks kept: those that are not known, or with is_anew each."""
+    rtlib.Crate, book = Crate, known.Known()
+    begun, every, spared = [], rtlib.crates_below(str(TOP)), 0
+    for crate in every:
+        paths, misplaced = edits_of(crate)
         if names and crate.name not in names or not paths + misplaced:
+            continue
+        waiting = [it for it in paths if is_anew or book.kind(crate, it) != known.KNOWN]
+        spared += len(paths) - len(waiting)
+        if not waiting + misplaced:
             continue
         if any(dep.build_rlib(ONE_JOB, anew=False) for dep in crate.below()):
             return ended(0, [crate.name], 0)
         if misplaced or not os.path.isdir(f"{crate.folder}/out/incremental"):
             rt.say(f"{crate.name}: each edit stands right in must-fail/ and ends in .edit, and rt check is to prove the crate first")
             return ended(0, [crate.name], 0)
-        begun.append(trials.Trial(crate, paths, []))
+        begun.append(trials.Trial(crate, waiting, []))
         if not begun[-1].is_proved():
             rt.say(f"{crate.name}: it is not proved over what was kept: rt check tells why")
             return ended(0, [crate.name], 0)
-    refused, failed, left, took = trials.all_edits(begun, lanes([it.crate for it in begun]))
-    note(known.Known(), begun, rtlib.crates_below(str(TOP)))
+    refused, failed, took = trials.all_edits(begun, lambda trials: note(book, trials, every))
     for name, seconds in sorted(took.items(), key=lambda it: -it[1]):
         print(f"{seconds:6.1f} {name}")
-    return ended(refused, failed, left)
+    if spared:
+        print(f"{spared} of these were known; with --anew they are tried too")
+    return ended(refused + spared, failed, sum(len(it.left()) for it in begun))
 
 
 def main(words):
-    if words and words != ["--anew"] and words[0] != "edits":
+    is_anew, words = "--anew" in words, [it for it in words if it != "--anew"]
+    if words and words[0] != "edits":
         print(__doc__)
         return 0 if words[0] in ("-h", "--help") else 2
     os.chdir(TOP)
@@ -262,10 +370,14 @@ def main(words):
         pathlib.Path(ledger).touch()
         prepare(ledger)
         rtlib.guarded()
-        if words[:1] == ["edits"]:
-            return edits_alone(words[1:])
+        if words:
+            return edits_alone(words[1:], is_anew)
         print(f"free: {what_is_free()}", flush=True)
-        return whole_gate(lambda from_nothing: whole(from_nothing, ledger, words == ["--anew"]))
+        try:
+            gate = Gate(ledger, is_anew)
+        except SystemExit:
+            return ended(0, ["crates.txt"], 0) + 1
+        return whole_gate(gate.run)
 
 
 if __name__ == "__main__":

@@ -14,6 +14,8 @@ from kit import BAD, ONE_JOB, REFUSED, linked, listing, must_fail, patiently, rt
 
 # More edits in one check than this would be lost at once where time is over.
 MOST_TOGETHER = 40
+# What a check over kept work takes of the memory that the toolchain reckons for one from nothing: 40 edits of attr_kit took 1.2 GB of 2.4.
+SHARE = 0.5
 FUNCTION = re.compile(r"^fn (\w+)::(\S+?): ", re.M)
 ENDED = re.compile(r"^checked (\w+)::(\S+), \d+ of \d+$")
 COUNTS = re.compile(r"^only=\d+ proved=\d+$")
@@ -131,36 +133,63 @@ class Trial:
         """Whether the seed is as the crate's proof left it; if not, no result that stands on it counts."""
         return listing(self.seed) == self.was
 
+    def left(self):
+        """The files of the edits for which there was no time."""
+        return [path for path, (is_refused, _) in self.told.items() if is_refused is None]
+
     def end(self):
-        """Tells what came of the edits; gives how many were refused, the names of those that were not, and how many were left."""
+        """Tells what came of the edits; gives how many were refused, and the names of those that were not."""
         for path, (_, text) in sorted(self.told.items()):
             if text:
                 rt.say(text)
         if not self.is_untouched():
             rt.say(f"{self.crate.name}: a check of edits changed what the proof left, so nothing is known of them: run this again")
-            return 0, [f"{self.crate.name}/must-fail"], 0
-        left = sum(it is None for it, _ in self.told.values())
+            return 0, [f"{self.crate.name}/must-fail"]
+        left = len(self.left())
         failed = [f"{self.crate.name}/{os.path.basename(path)}" for path, (it, _) in self.told.items() if it is False]
         rt.say(f"{self.crate.name}: {len(self.told) - left} of {len(self.told)} edits tried" + (f", no time for {left}" if left else ""))
-        return len(self.told) - left - len(failed), failed, left
+        return len(self.told) - left - len(failed), failed
 
 
-def all_edits(trials, lanes):
-    """Tries the edits of these trials, rounds first; gives how many were refused, the names of those that were not, how many were left, and the seconds that each took."""
-    refused, failed, left, took = 0, [], 0, {}
+def side_by_side(tasks):
+    """Makes these calls, each given as the memory that it needs and the call: as many at a time as there are processors, and as memory holds.
+
+    The first that fits is made next, so a small one goes past a great one that waits for room."""
+    left, running = list(tasks), {}
+    lanes, memory = rt.processors(), 0.85 * rt.free()
     with concurrent.futures.ThreadPoolExecutor(lanes) as pool:
-        rounds = [(trial, [pool.submit(patiently(trial.crate.name, trial.try_round), *it) for it in trial.rounds]) for trial in trials]
-        singles = []
-        for trial, tasks in rounds:
-            for it in tasks:
+        while left or running:
+            for task in list(left):
+                if len(running) < lanes and (not running or sum(running.values()) + task[0] <= memory):
+                    left.remove(task)
+                    running[pool.submit(task[1])] = task[0]
+            for it in concurrent.futures.wait(running, return_when=concurrent.futures.FIRST_COMPLETED).done:
+                del running[it]
                 it.result()
-            refused_so_far = sum(it is True for it, _ in trial.told.values())
-            rt.say(f"{trial.crate.name}: {refused_so_far} of {len(trial.edits)} edits refused by {len(tasks)} rounds")
-            singles.append((trial, [pool.submit(patiently(trial.crate.name, trial.try_alone), it) for it in trial.untold()]))
-        for trial, tasks in singles:
-            for it in tasks:
-                it.result()
-            good, bad, few = trial.end()
-            refused, failed, left = refused + good, failed + bad, left + few
-            took.update({f"{trial.crate.name}/{name}": seconds for name, seconds in trial.took.items()})
-    return refused, failed, left, took
+
+
+def all_edits(trials, keep):
+    """Tries the edits of these trials: rounds first, those of the most edits before the others, and then what is tried alone. After each of the two `keep` is called.
+
+    Gives how many were refused, the names of those that were not, and the seconds that each took."""
+    refused, failed, took = 0, [], {}
+    rounds = [(trial, texts, members) for trial in trials for texts, members in trial.rounds]
+    side_by_side([(SHARE * rt.need(it.crate), round_of(it, texts, members)) for it, texts, members in sorted(rounds, key=lambda it: -len(it[2]))])
+    keep(trials)
+    for trial in trials:
+        rt.say(f"{trial.crate.name}: {len(trial.told)} of {len(trial.edits)} edits told by {len(trial.rounds)} rounds")
+    side_by_side([(SHARE * rt.need(it.crate), alone(it, edit)) for it in trials for edit in it.untold()])
+    keep(trials)
+    for trial in trials:
+        good, bad = trial.end()
+        refused, failed = refused + good, failed + bad
+        took.update({f"{trial.crate.name}/{name}": seconds for name, seconds in trial.took.items()})
+    return refused, failed, took
+
+
+def round_of(trial, texts, members):
+    return lambda: patiently(trial.crate.name, trial.try_round)(texts, members)
+
+
+def alone(trial, edit):
+    return lambda: patiently(trial.crate.name, trial.try_alone)(edit)

@@ -35,9 +35,13 @@ AreKnown p fs is a ss = (is ≡ []) ⊎ AreAt p fs is a ss
 abbrev pub whole_feed : ℕ → Feed
 whole_feed m = record { stream = m; keep = All }
 
+-- that feed alone
+abbrev pub lone_feed : ℕ → List Feed
+lone_feed m = whole_feed m ∷ []
+
 -- the short way to the point of an instrument's one feed, which keeps all keys
 pub record IsOwnPlace (p : Planned) (ss : List Points) (i : ℕ) (a : AttrSet) (o : OwnPlace) : Type 0 where
-  pub lone : feeds_of p i ≡ whole_feed o.stream ∷ []
+  pub lone : feeds_of p i ≡ lone_feed o.stream
   pub at : place_of p.limit (series_at ss o.stream) a ≡ Some o.place
   pub rises : (v : ℤ) → is_negative_for (kind_of p i) v ≡ (o.rises && int_lt v (pos 0))
 

@@ -1,13 +1,10 @@
 //! Held points: an instrument and a set, with the places where their values go.
-ghost use Rattle.std.specs.Prelude.{◌≡◌, ◌&&◌, ◌∷◌, ℕ, ℤ, pos, int_lt, [], length, slice_get, Some, IfOk, IfSome};
+ghost use Rattle.std.specs.Prelude.{◌≡◌, ◌&&◌, ℕ, ℤ, pos, int_lt, length, slice_get, Some, IfOk};
 ghost use Rattle.agg_kit.specs.Feeding.{overflow_set};
-ghost use Rattle.agg_kit.specs.Held.{held_of, AreOf, IsOwnPlace, IsPlaceless, KnowPlaces};
+ghost use Rattle.agg_kit.specs.Held.{held_of, AreOf, IsPlaceless, KnowPlaces};
 ghost use Rattle.agg_kit.specs.declared.held.HeldPoint.{HeldPoint};
-ghost use Rattle.plan_kit.specs.Plans.{AreFeeds, feeds_of};
-ghost use Rattle.agg_kit.specs.Feeds.{entries_of};
-ghost use Rattle.agg_kit.specs.Held.{whole_feed};
+ghost use Rattle.plan_kit.specs.Plans.{AreFeeds};
 ghost use Rattle.agg_kit.specs.Refusals.{is_negative_for};
-ghost use Rattle.agg_kit.specs.Sound.{AllSound};
 ghost use Rattle.agg_kit.specs.Tallies.{Tallied};
 ghost use Rattle.attr_kit.specs.declared.attr_set.AttrSet.{AttrSet};
 
@@ -55,8 +52,8 @@ impl Places {
     }
 }
 
-// The place of each feed's point, in the order of the feeds, or none where one of the points is not there.
-fn places_of(
+/// The place of each feed's point, in the order of the feeds, or none where one of the points is not there.
+pub(crate) fn places_of(
     alloc: Global,
     plan: &Plan,
     overflow: &AttrSet,
@@ -81,56 +78,9 @@ fn places_of(
     Ok(places)
 }
 
-/// The same of the feeds of an instrument, or none where memory is refused.
-pub(crate) fn known_places(
-    alloc: Global,
-    plan: &Plan,
-    overflow: &AttrSet,
-    series: &Vec<Series>,
-    instrument: usize,
-    attrs: &AttrSet,
-) -> Vec<usize>
-    requires overflow { overflow.now ≡ overflow_set }
-    requires sound { AllSound plan.now.streams (entries_of series.now.items) }
-    ensures { KnowPlaces plan.now (feeds_of plan.now instrument) result.items attrs.now series.now.items }
-{
-    let Some(feeds) = plan.feeds(instrument) else {
-        return Vec::new(alloc);
-    };
-    match places_of(alloc, plan, overflow, series, feeds, attrs) {
-        Ok(places) => places,
-        Err(_no_memory) => Vec::new(alloc),
-    }
-}
-
-/// The short way to a point in the stream of an instrument's one feed, which keeps all keys, if the point is there.
-pub(crate) fn found_own(
-    plan: &Plan,
-    overflow: &AttrSet,
-    series: &Vec<Series>,
-    stream: usize,
-    instrument: usize,
-    attrs: &AttrSet,
-) -> Option<OwnPlace>
-    requires overflow { overflow.now ≡ overflow_set }
-    requires sound { AllSound plan.now.streams (entries_of series.now.items) }
-    requires feeds { AreFeeds (length plan.now.streams) (feeds_of plan.now instrument) }
-    requires lone { feeds_of plan.now instrument ≡ whole_feed stream ∷ [] }
-    ensures { IfSome result (λ o. IsOwnPlace plan.now (entries_of series.now.items) instrument attrs.now o) }
-{
-    let points = &series[stream];
-    let Some(place) = points.find(plan.limit(), overflow, attrs) else {
-        return None;
-    };
-    Some(OwnPlace {
-        stream,
-        place,
-        rises: only_rises(plan.kind(instrument)),
-    })
-}
-
-// Whether an instrument of the kind takes no value below 0.
-fn only_rises(kind: Option<Kind>) -> bool
+/// Whether an instrument of the kind takes no value below 0.
+#[inline(always)]
+pub(crate) fn only_rises(kind: Option<Kind>) -> bool
     ensures { (v : ℤ) → is_negative_for kind v ≡ (result && int_lt v (pos 0)) }
 {
     matches!(kind, Some(Kind::Counter | Kind::Histogram))

@@ -1,13 +1,12 @@
 //! How a recording goes into the streams of its feeds.
-ghost use Rattle.std.specs.Prelude.{◌≡◌, ◌≢◌, ◌<◌, ◌∷◌, [], ℕ, length, slice_get, Some, None, IfOk, IfErr, IfSome, OnOk, OnErr, IsTrue};
+ghost use Rattle.std.specs.Prelude.{◌≡◌, ◌≢◌, ◌<◌, ℕ, length, slice_get, Some, None, IfOk, IfErr, IfSome, OnOk, OnErr, IsTrue};
 ghost use Rattle.std.specs.Option.{unwrap_or};
 ghost use Rattle.plan_kit.specs.Plans.{is_proper, AreFeeds, lacks};
 ghost use Rattle.attr_kit.specs.Keeping.{kept};
 ghost use Rattle.attr_kit.specs.declared.keep.Keep.TheVariants as keeps;
 ghost use Rattle.agg_kit.specs.Feeding.{overflow_set};
 ghost use Rattle.agg_kit.specs.Feeds.{series_at, entries_of, shape_at, early_out_at, out_at, points_with, AreHeld};
-ghost use Rattle.agg_kit.specs.Held.{place_of, KnowPlaces, MayGive, StandAt};
-ghost use Rattle.agg_kit.specs.Held.{whole_feed};
+ghost use Rattle.agg_kit.specs.Held.{lone_feed, place_of, KnowPlaces, MayGive, StandAt};
 ghost use Rattle.agg_kit.specs.Sound.{AllSound};
 ghost use Rattle.agg_kit.specs.declared.fault.TallyFault.TheVariants as faults;
 
@@ -88,7 +87,7 @@ pub(crate) fn record(
     value: i64,
 ) -> Result<(), TallyFault>
     requires overflow { overflow.now ≡ overflow_set }
-    requires lone { IfSome lone (λ m. feeds.now ≡ whole_feed m ∷ []) }
+    requires lone { IfSome lone (λ m. feeds.now ≡ lone_feed m) }
     requires feeds { AreFeeds (length series.old.items) feeds.now }
     requires sound { AllSound plan.now.streams (entries_of series.old.items) }
     requires known { KnowPlaces plan.now feeds.now places.now attrs.now series.old.items }
@@ -104,7 +103,11 @@ pub(crate) fn record(
     {
         return add_own(plan, series, stream, place, attrs, value);
     }
-    record_all(plan, overflow, series, feeds, attrs, places, value)
+    if places.is_empty() {
+        record_each(plan, overflow, series, feeds, attrs, value, Memory::Found)
+    } else {
+        record_at(plan, series, feeds, attrs, places, value)
+    }
 }
 
 /// Records a value at the place of a set's point, in the stream of a feed that has no other beside it and keeps all keys.
@@ -120,10 +123,10 @@ pub(crate) fn add_own(
     requires stream { stream < length series.old.items }
     requires sound { AllSound plan.now.streams (entries_of series.old.items) }
     requires at { place_of plan.now.limit (series_at (entries_of series.old.items) stream) attrs.now ≡ Some place }
-    ensures value { OnOk result (entries_of series.new.items ≡ points_with plan.now (whole_feed stream ∷ []) attrs.now value series.old.items) }
-    ensures ok { OnOk result (out_at plan.now attrs.now value series.old.items (whole_feed stream ∷ []) ≡ None) }
+    ensures value { OnOk result (entries_of series.new.items ≡ points_with plan.now (lone_feed stream) attrs.now value series.old.items) }
+    ensures ok { OnOk result (out_at plan.now attrs.now value series.old.items (lone_feed stream) ≡ None) }
     ensures unchanged { OnErr result (entries_of series.new.items ≡ entries_of series.old.items) }
-    ensures err { IfErr result (λ f. out_at plan.now attrs.now value series.old.items (whole_feed stream ∷ []) ≡ Some f) }
+    ensures err { IfErr result (λ f. out_at plan.now attrs.now value series.old.items (lone_feed stream) ≡ Some f) }
     ensures memory { IfErr result (λ f. f ≢ faults.NoMemory) }
 {
     let _ = attrs;
@@ -133,35 +136,6 @@ pub(crate) fn add_own(
         return Err(TallyFault::Overflow(stream));
     }
     Ok(())
-}
-
-// Records a value in every feed's stream, or in none, whatever the feeds. `places` are those of the feeds' points, or none.
-fn record_all(
-    plan: &Plan,
-    overflow: &AttrSet,
-    series: &mut Vec<Series>,
-    feeds: &[Feed],
-    attrs: &AttrSet,
-    places: &[usize],
-    value: i64,
-) -> Result<(), TallyFault>
-    requires overflow { overflow.now ≡ overflow_set }
-    requires feeds { AreFeeds (length series.old.items) feeds.now }
-    requires sound { AllSound plan.now.streams (entries_of series.old.items) }
-    requires known { KnowPlaces plan.now feeds.now places.now attrs.now series.old.items }
-    ensures value { OnOk result (entries_of series.new.items ≡ points_with plan.now feeds.now attrs.now value series.old.items) }
-    ensures ok { OnOk result (out_at plan.now attrs.now value series.old.items feeds.now ≡ None) }
-    ensures unchanged { OnErr result (entries_of series.new.items ≡ entries_of series.old.items) }
-    ensures err { IfErr result (λ f. f ≢ faults.NoMemory → out_at plan.now attrs.now value series.old.items feeds.now ≡ Some f) }
-    ensures no_memory { IfErr result (λ f. f ≡ faults.NoMemory → early_out_at plan.now attrs.now value series.old.items feeds.now ≡ None) }
-    ensures held { AreHeld plan.now feeds.now attrs.now series.old.items → IfErr result (λ f. f ≢ faults.NoMemory) }
-    ensures known { places.now ≢ [] → IfErr result (λ f. f ≢ faults.NoMemory) }
-{
-    if places.is_empty() {
-        record_each(plan, overflow, series, feeds, attrs, value, Memory::Found)
-    } else {
-        record_at(plan, series, feeds, attrs, places, value)
-    }
 }
 
 // Records a value in every feed's stream, or in none, where the places of the feeds' points are known.

@@ -1,22 +1,21 @@
 //! The streams of a plan with their points.
-ghost use Rattle.std.specs.Prelude.{◌≡◌, ◌&&◌, ◌∷◌, [], ℕ, pos, int_lt, replicate, slice_get, Some, IfOk, IfSome, OnErr, OnOk};
+ghost use Rattle.std.specs.Prelude.{◌≡◌, ◌&&◌, [], ℕ, pos, int_lt, length, replicate, slice_get, Some, IfOk, IfSome, OnErr, OnOk};
 ghost use Rattle.std.specs.Option.{option_map};
 ghost use Rattle.agg_kit.specs.Entries.{entry_of};
 ghost use Rattle.agg_kit.specs.Feeding.{overflow_set};
 ghost use Rattle.agg_kit.specs.Feeds.{entries_of};
-ghost use Rattle.agg_kit.specs.Held.{whole_feed, AreKnown, AreOf, IsFed, IsOwnPlace};
+ghost use Rattle.agg_kit.specs.Held.{lone_feed, AreKnown, AreOf, IsFed, IsOwnPlace};
 ghost use Rattle.agg_kit.specs.Kept.{AreLone};
 ghost use Rattle.agg_kit.specs.Measuring.{emptied_tally, empty_tally, IsMeasured};
-ghost use Rattle.agg_kit.specs.Refusals.{is_negative_for};
 ghost use Rattle.agg_kit.specs.Sound.{AllSound};
-ghost use Rattle.plan_kit.specs.Plans.{feeds_of};
+ghost use Rattle.plan_kit.specs.Plans.{feeds_of, AreFeeds};
 
-use crate::held::{OwnPlace, found_own, known_places};
+use crate::held::{OwnPlace, only_rises, places_of};
 use crate::recording::{add_own, record};
 use crate::series::Series;
 use crate::{Places, TallyFault};
 use attr_kit::{AttrSet, AttrValue, Keep, NoMemory, Txt};
-use plan_kit::{Feed, Kind, Plan};
+use plan_kit::{Feed, Plan};
 use std::alloc::Global;
 use std::marker::Model;
 
@@ -126,7 +125,7 @@ impl Streams {
         let Some(feeds) = self.plan.feeds(instrument) else {
             return Err(TallyFault::NoInstrument);
         };
-        if is_negative(self.plan.kind(instrument), value) {
+        if is_below(only_rises(self.plan.kind(instrument)), value) {
             return Err(TallyFault::Negative);
         }
         record(
@@ -172,32 +171,53 @@ impl Streams {
         ensures { AreOf self.now instrument attrs.now result }
     {
         let alloc = *self.series.allocator();
-        let Some(_feeds) = self.plan.feeds(instrument) else {
+        let Some(feeds) = self.plan.feeds(instrument) else {
             return Places::unknown(alloc);
         };
         let Some(stream) = lone_at(&self.lone, instrument) else {
-            let each = known_places(
-                alloc,
-                &self.plan,
-                &self.overflow,
-                &self.series,
-                instrument,
-                attrs,
-            );
+            let each = self.places_each(feeds, attrs);
             return Places { each, own: None };
         };
-        let own = found_own(
+        Places {
+            each: Vec::new(alloc),
+            own: self.own_place(stream, instrument, attrs),
+        }
+    }
+
+    // Those of all feeds, or none where one of the points is not there or memory is refused.
+    fn places_each(&self, feeds: &[Feed], attrs: &AttrSet) -> Vec<usize>
+        requires { AreFeeds (length self.now.plan.streams) feeds.now }
+        ensures { AreKnown self.now.plan feeds.now result.items attrs.now self.now.series }
+    {
+        let alloc = *self.series.allocator();
+        match places_of(
+            alloc,
             &self.plan,
             &self.overflow,
             &self.series,
-            stream,
-            instrument,
+            feeds,
             attrs,
-        );
-        Places {
-            each: Vec::new(alloc),
-            own,
+        ) {
+            Ok(places) => places,
+            Err(_no_memory) => Vec::new(alloc),
         }
+    }
+
+    // The short way to a point in the stream of an instrument's one feed, which keeps all keys, if the point is there.
+    fn own_place(&self, stream: usize, instrument: usize, attrs: &AttrSet) -> Option<OwnPlace>
+        requires feeds { AreFeeds (length self.now.plan.streams) (feeds_of self.now.plan instrument) }
+        requires lone { feeds_of self.now.plan instrument ≡ lone_feed stream }
+        ensures { IfSome result (λ o. IsOwnPlace self.now.plan self.now.series instrument attrs.now o) }
+    {
+        let points = &self.series[stream];
+        let Some(place) = points.find(self.plan.limit(), &self.overflow, attrs) else {
+            return None;
+        };
+        Some(OwnPlace {
+            stream,
+            place,
+            rises: only_rises(self.plan.kind(instrument)),
+        })
     }
 
     /// Begins anew, without points.
@@ -277,21 +297,9 @@ fn copy_series(series: &Vec<Series>) -> Result<Vec<Series>, NoMemory>
     Ok(copy)
 }
 
-// Whether the value is below 0 and the instrument takes none.
-#[inline(always)]
-fn is_negative(kind: Option<Kind>, value: i64) -> bool
-    ensures { result ≡ is_negative_for kind value }
-{
-    match kind {
-        Some(Kind::Counter) => value < 0,
-        Some(Kind::Histogram) => value < 0,
-        _ => false,
-    }
-}
-
 // The stream of a feed that has no other beside it and keeps all keys.
 fn lone_stream(feeds: &[Feed]) -> Option<usize>
-    ensures { IfSome result (λ m. feeds.now ≡ whole_feed m ∷ []) }
+    ensures { IfSome result (λ m. feeds.now ≡ lone_feed m) }
 {
     let Some((feed, rest)) = feeds.split_first() else {
         return None;

@@ -59,14 +59,15 @@ pub fn notes_on(alloc: Global, script: &[u8], bad_line: Option<u64>) -> Result<S
     let mut listed = Listed::new(alloc);
     let mut begun: Option<IndexSet<Stream>> = None;
     let mut number: u64 = 0;
-    for text in script.split(|byte| *byte == b'\n') {
+    for text in whole_lines(script).split(|byte| *byte == b'\n') {
         number = number.saturating_add(1);
         let line = match parse_line(alloc, text) {
             Ok(line) => line,
             Err(Stop::NoMemory) => return Err(NoMemory),
             Err(Stop::Bad(_)) => break,
         };
-        if bad_line == Some(number) && line != Line::Begin || notes.is_full() {
+        let is_first_begin = line == Line::Begin && begun.is_none();
+        if bad_line == Some(number) && !is_first_begin || notes.is_full() {
             break;
         }
         match (line, &begun) {
@@ -82,6 +83,14 @@ pub fn notes_on(alloc: Global, script: &[u8], bad_line: Option<u64>) -> Result<S
         }
     }
     Ok(notes.text)
+}
+
+// The script without what stands behind its last line feed: a line that is cut is bad, whatever it says.
+fn whole_lines(script: &[u8]) -> &[u8] {
+    match script.iter().rposition(|byte| *byte == b'\n') {
+        Some(end) => script.get(..end).unwrap_or_default(),
+        None => &[],
+    }
 }
 
 // The streams of a plan that begins; none where it is refused.

@@ -83,9 +83,12 @@ impl<E: Exporter> Periodic<E> {
         ensures ok { OnOk result (fault_now self.old.writer (ByName (entry_of instrument attrs.now value)) ≡ None) }
         ensures value { OnOk result
             (self.new ≡ record self.old { writer = after_record self.old.writer (ByName (entry_of instrument attrs.now value)) }) }
-        ensures err { IfErr result (λ f. f ≢ no_memory → fault_now self.old.writer (ByName (entry_of instrument attrs.now value)) ≡ Some f) }
-        ensures no_memory { IfErr result (λ f. f ≡ no_memory → early_fault self.old.writer (ByName (entry_of instrument attrs.now value)) ≡ None) }
-        ensures held { TakesNoMemory self.old.writer.tally (ByName (entry_of instrument attrs.now value)) → IfErr result (λ f. f ≢ no_memory) }
+        ensures err { IfErr result (λ f. f ≢ no_memory
+            → fault_now self.old.writer (ByName (entry_of instrument attrs.now value)) ≡ Some f) }
+        ensures no_memory { IfErr result (λ f. f ≡ no_memory
+            → early_fault self.old.writer (ByName (entry_of instrument attrs.now value)) ≡ None) }
+        ensures held { TakesNoMemory self.old.writer.tally (ByName (entry_of instrument attrs.now value))
+            → IfErr result (λ f. f ≢ no_memory) }
         ensures unchanged { OnErr result (self.new ≡ self.old) }
     {
         self.writer.measure(instrument, attrs, value)

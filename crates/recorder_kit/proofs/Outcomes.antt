@@ -1,5 +1,5 @@
 -- One recording more of a log.
-use Rattle.std.proofs.Common.{◌≡◌, ◌≢◌, ◌+◌, ◌∙◌, Bool, true, false, Result, Ok, Err, OnOk, OnErr, IfErr, Option, Some, None, refl, sym, ap, arith, true≢false}
+use Rattle.std.proofs.Common.{◌≡◌, ◌≢◌, ◌+◌, ◌∙◌, Bool, true, false, Result, Ok, Err, OnOk, IfErr, Option, Some, None, refl, sym, ap, arith, true≢false}
 use Rattle.std.specs.Option.{option_map_or}
 use Rattle.agg_kit.specs.Tallies.{Tallied}
 use Rattle.agg_kit.specs.declared.fault.TallyFault.{TallyFault}

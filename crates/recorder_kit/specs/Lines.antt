@@ -30,6 +30,14 @@ recording_of ns ks l = recording_at ns ks l.at l.value
 abbrev pub recordings_of : List Named → List AttrSet → List Line → List Recording
 recordings_of ns ks ls = map (recording_of ns ks) ls
 
+-- an instrument with a set is named at a place
+abbrev pub IsNamed : List Named → List AttrSet → ℕ → ℕ → AttrSet → Type 0
+IsNamed ns ks j i a = (k : ℕ) × (slice_get ns j ≡ Some (record { instrument = i; set = k })) × (slice_get ks k ≡ Some a)
+
+-- what stands in a list stands in another at the same place
+abbrev pub AllStay : {X : Type 0} → List X → List X → Type 0
+AllStay {X = X} xs ys = (i : ℕ) (x : X) → slice_get xs i ≡ Some x → slice_get ys i ≡ Some x
+
 -- what a line names is there
 abbrev pub IsThere : List Named → List AttrSet → Spot → Type 0
 IsThere ns ks (Number n) = Unit {0}

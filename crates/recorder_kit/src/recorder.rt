@@ -3,7 +3,7 @@ ghost use Rattle.std.specs.Prelude.{ℕ, ◌≡◌, ◌≢◌, ◌+◌, ◌-◌,
 ghost use Rattle.std.specs.Vec.{vec_capacity};
 ghost use Rattle.attr_kit.specs.declared.attr_set.AttrSet.{AttrSet};
 ghost use Rattle.agg_kit.specs.Entries.{entry_of};
-ghost use Rattle.recorder_kit.specs.Lines.{outcome_of};
+ghost use Rattle.recorder_kit.specs.Lines.{outcome_of, AllStay, IsNamed};
 ghost use Rattle.recorder_kit.specs.Log.{taken_in, ByName, ByNumber, Recording, WantsMemory};
 ghost use Rattle.recorder_kit.specs.declared.line.Named.{Named};
 ghost use Rattle.recorder_kit.specs.declared.fault.RecordFault.TheVariants as faults;
@@ -27,6 +27,8 @@ pub struct Recorder {
     named: IndexSet<Named>,
     // Each set that was recorded with, once.
     sets: IndexSet<AttrSet>,
+    // Where the last pair stands in `named`: it is looked at first, as many recordings name the same again. A guess, that any value may be.
+    last: usize,
     capacity: usize,
 }
 
@@ -55,6 +57,7 @@ impl Recorder {
             given: 0,
             named: IndexSet::new(alloc),
             sets: IndexSet::new(alloc),
+            last: 0,
             capacity,
         })
     }
@@ -87,7 +90,7 @@ impl Recorder {
     #[inline(always)]
     pub fn measure_held(&mut self, n: usize, value: i64) -> Result<(), RecordFault>
         ensures value { OnOk result (self.new ≡ record self.old { log = self.old.log ++ ByNumber n value ∷ [] }) }
-        ensures ok { OnOk result (length self.old.log < self.old.capacity) }
+        ensures ok { OnOk result ((length self.old.log < self.old.capacity) × (n < 2 ^ 32)) }
         ensures full { IfErr result (λ f. f ≡ faults.Full → (self.old.capacity ≤ length self.old.log) ⊎ (2 ^ 32 ≤ n)) }
         ensures memory { IfErr result (λ f. f ≢ faults.NoMemory) }
         ensures unchanged { OnErr result (self.new ≡ self.old) }
@@ -113,7 +116,8 @@ impl Recorder {
         attrs: &AttrSet,
         value: i64,
     ) -> Result<(), RecordFault>
-        ensures value { OnOk result (self.new ≡ record self.old { log = self.old.log ++ ByName (entry_of instrument attrs.now value) ∷ [] }) }
+        ensures value { OnOk result
+            (self.new ≡ record self.old { log = self.old.log ++ ByName (entry_of instrument attrs.now value) ∷ [] }) }
         ensures ok { OnOk result (length self.old.log < self.old.capacity) }
         ensures full { IfErr result (λ f. f ≡ faults.Full → self.old.capacity ≤ length self.old.log) }
         ensures no_memory { IfErr result (λ f. f ≡ faults.NoMemory → length self.old.log < self.old.capacity) }
@@ -122,11 +126,17 @@ impl Recorder {
         if self.log.len() - self.given >= self.capacity {
             return Err(RecordFault::Full);
         }
-        let set = set_place(&mut self.sets, attrs)?;
-        let place = name_place(&mut self.named, Named { instrument, set })?;
+        let place = place_of(
+            &mut self.named,
+            &mut self.sets,
+            self.last,
+            instrument,
+            attrs,
+        )?;
         if place > u32::MAX as usize {
             return Err(RecordFault::NoMemory);
         }
+        self.last = place;
         let line = Line {
             at: Spot::Name(place as u32),
             value,
@@ -184,9 +194,10 @@ impl Recorder {
 }
 
 // The place of a set among those of the log, where it is put if it is not there.
+#[inline(never)]
 fn set_place(sets: &mut IndexSet<AttrSet>, attrs: &AttrSet) -> Result<usize, NoMemory>
     ensures place { IfOk result (λ place. slice_get sets.new.keys place ≡ Some attrs.now) }
-    ensures stay { (place : ℕ) (set : AttrSet) → slice_get sets.old.keys place ≡ Some set → slice_get sets.new.keys place ≡ Some set }
+    ensures stay { AllStay sets.old.keys sets.new.keys }
 {
     if let Some((place, _)) = sets.get_full(attrs) {
         return Ok(place);
@@ -195,12 +206,28 @@ fn set_place(sets: &mut IndexSet<AttrSet>, attrs: &AttrSet) -> Result<usize, NoM
     Ok(place)
 }
 
-// The place of a name among those of the log, where it is put if it is not there.
-fn name_place(named: &mut IndexSet<Named>, name: Named) -> Result<usize, NoMemory>
-    ensures place { IfOk result (λ place. slice_get named.new.keys place ≡ Some name) }
-    ensures stay { (place : ℕ) (other : Named) → slice_get named.old.keys place ≡ Some other → slice_get named.new.keys place ≡ Some other }
+// The place of a pair among what is named, where it is put if it is not there. It is looked for first where the last one stands.
+#[inline(always)]
+fn place_of(
+    named: &mut IndexSet<Named>,
+    sets: &mut IndexSet<AttrSet>,
+    last: usize,
+    instrument: usize,
+    attrs: &AttrSet,
+) -> Result<usize, NoMemory>
+    ensures place { IfOk result (λ place. IsNamed named.new.keys sets.new.keys place instrument attrs.now) }
+    ensures names { AllStay named.old.keys named.new.keys }
+    ensures sets { AllStay sets.old.keys sets.new.keys }
 {
-    let (place, _) = named.insert_full(name)?;
+    if let Some(pair) = named.get_index(last)
+        && pair.instrument == instrument
+        && let Some(set) = sets.get_index(pair.set)
+        && set == attrs
+    {
+        return Ok(last);
+    }
+    let set = set_place(sets, attrs)?;
+    let (place, _) = named.insert_full(Named { instrument, set })?;
     Ok(place)
 }
 

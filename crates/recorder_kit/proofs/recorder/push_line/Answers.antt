@@ -1,4 +1,4 @@
-use Rattle.std.proofs.Common.{◌≡◌, ◌∙◌, ◌<◌, ◌≤◌, ◌∷◌, [], ◌++◌, List, drop, length, arith, sym, ap, subst}
+use Rattle.std.proofs.Common.{◌∙◌, ◌∷◌, [], ◌++◌, List, drop, length, arith, ap}
 use Rattle.std.proofs.lemmas.List.{drop-append-le, length-append}
 use Rattle.recorder_kit.specs.declared.line.Line.{Line}
 use Rattle.recorder_kit.proofs.recorder.push_line.Goals as goal

@@ -6,7 +6,7 @@ use Rattle.recorder_kit.specs.Log.{Outcome, Recording, nothing_taken, taken_in, 
 use Rattle.recorder_kit.specs.declared.line.Line.{Line}
 use Rattle.recorder_kit.specs.declared.line.Spot.TheVariants.{Number}
 use Rattle.recorder_kit.proofs.Logs.{there-get, at-get}
-use Rattle.recorder_kit.proofs.Outcomes.{noted-more, noted-short}
+use Rattle.recorder_kit.proofs.Outcomes.{noted-more}
 use Rattle.recorder_kit.proofs.taken.take_lines.Goals as goal
 
 pub record_line-told-requires-clause-there : goal.record_line-told-requires-clause-there

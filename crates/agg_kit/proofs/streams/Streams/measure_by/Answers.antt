@@ -19,12 +19,12 @@ returns-in_default c =
     let e : Entry = entry_of c.args.instrument c.args.attrs.now c.args.value in
     record { measured = seen-same t c.args.self.now e _ c.self.view_is (refused-gone t e (kind-gone t.plan c.args.instrument (λ l. absurd (true≢false (sym (c.in_default.ensures.variant.1 l)))))) }
 
-pub returns-then-is_negative : goal.returns-then-is_negative
-returns-then-is_negative c =
+pub returns-then-is_below : goal.returns-then-is_below
+returns-then-is_below c =
     let t : Tallied = record { plan = c.self.inside.plan; series = entries_of c.self.inside.series.items; held = [] } in
     let e : Entry = entry_of c.args.instrument c.args.attrs.now c.args.value in
     let fit : FitsSigned w64 c.args.value = c.ranges.value in
-    let negative = simp to_z-of_z at c.if-is_negative.ensures in
+    let negative = (simp to_z-of_z at c.if-is_below.ensures) ∙ sym (c.only_rises.ensures c.args.value) in
     let below = sym (negative ∙ ap (λ (k : Option Kind). is_negative_for k c.args.value) c.kind.ensures.value) in
     record { measured = seen-same t c.args.self.now e _ c.self.view_is (refused-negative t e (kind-there t.plan c.args.instrument (c.in-Some.ensures.variant.0 refl)) below) }
 
@@ -51,7 +51,7 @@ invariant_of-self c =
     let e : Entry = entry_of c.args.instrument c.args.attrs.now c.args.value in
     let fit : FitsSigned w64 c.args.value = c.ranges.value in
     let there = kind-there t.plan c.args.instrument (c.in-Some.ensures.variant.0 refl) in
-    let negative = simp to_z-of_z at c.if-is_negative.ensures in
+    let negative = (simp to_z-of_z at c.if-is_below.ensures) ∙ sym (c.only_rises.ensures c.args.value) in
     let fine : is_negative_for (kind_of t.plan c.args.instrument) c.args.value ≡ false = sym (negative ∙ ap (λ (k : Option Kind). is_negative_for k c.args.value) c.kind.ensures.value) in
     let fed : AreFeeds (length t.plan.streams) c.in-Some.feeds.now = subst (AreFeeds (length t.plan.streams)) (sym c.in-Some.ensures.value) c.in-Some.ensures.feeds in
     record {
@@ -67,7 +67,7 @@ returns c =
     let e : Entry = entry_of c.args.instrument c.args.attrs.now c.args.value in
     let fit : FitsSigned w64 c.args.value = c.ranges.value in
     let there = kind-there t.plan c.args.instrument (c.in-Some.ensures.variant.0 refl) in
-    let negative = simp to_z-of_z at c.if-is_negative.ensures in
+    let negative = (simp to_z-of_z at c.if-is_below.ensures) ∙ sym (c.only_rises.ensures c.args.value) in
     let fine : is_negative_for (kind_of t.plan c.args.instrument) c.args.value ≡ false = sym (negative ∙ ap (λ (k : Option Kind). is_negative_for k c.args.value) c.kind.ensures.value) in
     let fed : AreFeeds (length t.plan.streams) c.in-Some.feeds.now = subst (AreFeeds (length t.plan.streams)) (sym c.in-Some.ensures.value) c.in-Some.ensures.feeds in
     let now = entries_of c.record.new.series.items in

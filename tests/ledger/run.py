@@ -1,0 +1,169 @@
+#!/usr/bin/env python3
+"""The gate's ledger, held to what docs/GATE.md says of it, on a small tree made for it: nothing is proved here.
+
+This ends with a status other than 0 where one of these does not hold."""
+import pathlib
+import sys
+import tempfile
+
+sys.dont_write_bytecode = True
+sys.path.insert(0, str(pathlib.Path(__file__).resolve().parents[1] / "gate"))
+import known
+from known import BEFORE, CHANGED, KNOWN
+
+SOURCE = """\
+pub fn next(n: u32) -> u32
+    ensures value { result ≡ n + 1 }
+{
+    n + 1
+}
+
+pub fn last(n: u32) -> u32
+    ensures value { result ≤ n }
+{
+    n
+}
+"""
+EDIT = "file: src/lib.rt\nold:     n + 1\nnew:     n\n"
+
+
+class Crate:
+    """A crate as the ledger sees one."""
+
+    def __init__(self, top, name, *below):
+        self.name, self.folder, self.deps = name, f"{top}/{name}", below
+        for part in ("src", "must-fail"):
+            pathlib.Path(self.folder, part).mkdir(parents=True)
+        self.write("src/lib.rt", SOURCE)
+        self.write("must-fail/it_is_the_same.edit", EDIT)
+
+    def below(self):
+        return [*self.deps]
+
+    def write(self, path, text):
+        pathlib.Path(self.folder, path).write_text(text, encoding="utf-8")
+
+    def edit(self):
+        return self, f"{self.folder}/must-fail/it_is_the_same.edit"
+
+
+class Trial:
+    """A tree of three crates, and a ledger of it."""
+
+    def __init__(self, top):
+        self.low = Crate(top, "low")
+        self.high = Crate(top, "high", self.low)
+        self.program = Crate(top, "kit_bench", self.high, self.low)
+        self.crates, self.file, self.faults, self.looked = [self.low, self.high, self.program], f"{top}/known.txt", [], 0
+
+    def book(self, toolchain="one"):
+        return known.Known(self.file, toolchain)
+
+    def found(self):
+        return known.edits_in(self.crates)
+
+    def says(self, what, is_so):
+        self.looked += 1
+        if not is_so:
+            self.faults.append(what)
+
+    def kinds(self, toolchain="one"):
+        book = self.book(toolchain)
+        return [book.kind(*it) for it in self.found()]
+
+    def all_refused(self):
+        book = self.book()
+        for it in self.found():
+            book.note(*it, True)
+        book.note_program(self.program, self.crates)
+        book.write(self.found())
+
+    def has_program(self):
+        return self.book().has_program(self.program, self.crates)
+
+    def changes(self):
+        """What becomes of lines as texts change, each change taken back after it."""
+        self.says("without a ledger each edit is of the change", self.kinds() == [CHANGED] * 3)
+        self.all_refused()
+        self.says("what a run saw refused is known", self.kinds() == [KNOWN] * 3 and self.has_program())
+        for what, path, text, kinds, is_kept in (
+            ("a comment changes nothing", "src/lib.rt", "// Why.\n" + SOURCE, [KNOWN] * 3, True),
+            ("a body changes its own edits, and what runs it", "src/lib.rt", SOURCE.replace("    n + 1\n}", "    let _ = n;\n    n + 1\n}"), [CHANGED, KNOWN, KNOWN], False),
+            ("another body changes what runs it alone", "src/lib.rt", SOURCE.replace("    n\n}", "    n / 1\n}"), [KNOWN] * 3, False),
+            ("a contract changes the crates above too", "src/lib.rt", SOURCE.replace("result ≡", "result ≥"), [CHANGED] * 3, False),
+            ("another contract does so", "src/lib.rt", SOURCE.replace("result ≤", "result ≡"), [CHANGED] * 3, False),
+            ("a definition does so", "specs/Words.antt", "word", [CHANGED] * 3, False),
+            ("and one in a file named as a proof's", "specs/Answers.antt", "word", [CHANGED] * 3, False),
+            ("a lemma changes its crate alone", "proofs/Steps.antt", "step", [CHANGED, KNOWN, KNOWN], True),
+            ("a function's proof changes its own edits", "proofs/next/Answers.antt", "step", [CHANGED, KNOWN, KNOWN], True),
+            ("a loop's proof does so", "proofs/+next/Invariants.antt", "step", [CHANGED, KNOWN, KNOWN], True),
+            ("another function's proof changes none", "proofs/last/Answers.antt", "step", [KNOWN] * 3, True),
+            ("an edit changes itself alone", "must-fail/it_is_the_same.edit", EDIT + "\n", [CHANGED, KNOWN, KNOWN], True),
+        ):
+            file = pathlib.Path(self.low.folder, path)
+            file.parent.mkdir(exist_ok=True, parents=True)
+            was = file.read_text(encoding="utf-8") if file.is_file() else None
+            self.low.write(path, text)
+            self.says(what, self.kinds() == kinds and self.has_program() == is_kept)
+            file.unlink() if was is None else self.low.write(path, was)
+        self.says("what is as it was is known again", self.kinds() == [KNOWN] * 3 and self.has_program())
+
+    def leaving(self):
+        """What may be left, and what may not."""
+        book = self.book()
+        self.low.write("src/lib.rt", SOURCE.replace("result ≡", "result ≥"))
+        self.says("what a run saw refused can't be left", len(known.leave(book, self.found())) == 3 and not book.untried())
+        book.lines = {}
+        self.says("a ledger without lines begins with all left", not known.leave(book, self.found()))
+        book.write(self.found())
+        self.says("what is left is told as left", self.kinds() == [BEFORE] * 3)
+        book = self.book()
+        book.note(*self.high.edit(), True)
+        book.write(self.found())
+        self.says("what is tried is left no more", self.kinds() == [BEFORE, KNOWN, BEFORE] and self.book().untried() == 2)
+        self.low.write("src/lib.rt", SOURCE)
+        self.says("what was left and then changed is of the change", self.kinds() == [CHANGED] * 3)
+        book = self.book()
+        self.says("it may be left again, and nothing else", known.leave(book, self.found()) == [self.high.edit()])
+        book.write(self.found())
+        self.says("and is then told so", self.kinds() == [BEFORE, CHANGED, BEFORE])
+        self.all_refused()
+
+    def toolchains(self):
+        self.says("under another toolchain nothing is known, and all was left", self.kinds("two") == [BEFORE] * 3)
+        book = self.book("two")
+        book.note(*self.high.edit(), True)
+        book.write(self.found())
+        self.says("it begins a ledger of its own", self.kinds("two") == [BEFORE, KNOWN, BEFORE] and self.book("two").untried() == 2)
+
+    def merging(self, other):
+        pathlib.Path(self.file).unlink()
+        book = self.book()
+        book.note(*self.low.edit(), True)
+        book.write(self.found())
+        pathlib.Path(self.file).rename(other)
+        book = self.book()
+        book.note(*self.high.edit(), True)
+        self.says("one line of another clone comes in", known.merge(book, self.found(), [other]) == 1)
+        book.write(self.found())
+        self.says("and both are known", self.kinds() == [KNOWN, KNOWN, CHANGED])
+        self.low.write("src/lib.rt", SOURCE.replace("result ≡", "result ≥"))
+        self.says("a line of another text does not", known.merge(self.book(), self.found(), [other]) == 0)
+
+
+def main():
+    with tempfile.TemporaryDirectory(prefix="ledger-") as top:
+        trial = Trial(top)
+        trial.changes()
+        trial.leaving()
+        trial.toolchains()
+        trial.merging(f"{top}/other.txt")
+    book = known.Known()
+    for fault in trial.faults:
+        print(f"NOT SO: {fault}")
+    print(f"ledger: {trial.looked} rules looked at, {len(trial.faults)} not so; {len(book.lines)} lines, {book.untried()} untried")
+    return 1 if trial.faults else 0
+
+
+if __name__ == "__main__":
+    sys.exit(main())
