@@ -7,6 +7,7 @@ pub mod Folded
 pub mod Grouped
 pub mod Held
 pub mod Joined
+pub mod PageLaws
 pub mod Shared
 pub mod Texted
 pub mod Texts

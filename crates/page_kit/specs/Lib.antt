@@ -2,6 +2,7 @@ pub mod Bounds
 pub mod Families
 pub mod Groups
 pub mod Labels
+pub mod Laws
 pub mod Lines
 pub mod Metrics
 pub mod Names

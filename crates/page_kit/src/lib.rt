@@ -18,6 +18,7 @@ mod families;
 mod groups;
 mod histograms;
 mod labels;
+pub mod laws;
 mod metric;
 mod names;
 mod own;
