@@ -18,10 +18,12 @@ EXPORT = re.compile(
 STRUCT = re.compile(r"((?:^///[^\n]*\n)*)^#\[repr\(C\)\]\n(?:^#\[[^\n]*\n)*^pub struct (Kit\w+) \{\n(.*?)^\}", re.M | re.S)
 FIELD = re.compile(r"((?:^ +///[^\n]*\n)*)^ +pub (\w+): (\w+),$", re.M)
 CODE = re.compile(r"^\w+_(?:code|of) \(?(?:\w+\.)?(?:Refused \(?)?(?:\w+\.)?(\w+)[^=]*= pos (\d+)$", re.M)
+# A variant whose code has another name, since one of another refusal has its own.
+RENAMED = re.compile(r"^\w+_code \(?(\w+)\.(\w+)(?: \w+)*\)? = ([a-z]\w+)$", re.M)
 NAMED_CODE = re.compile(r"^(\w+) = pos (\d+)$", re.M)
 CONSTANT = re.compile(r"^pub\(crate\) const ([A-Z_]+): i32 = (\d+);$", re.M)
 # An equation of what a refusal tells: its variant, and the word for what is told.
-PLACE = re.compile(r"^(?:\w*place\w*|(second_of)) .*?\.(\w+)(?: [a-z]\w*)+\)+ = Some (\w+)$", re.M)
+PLACE = re.compile(r"^(?:\w*place\w*|(second_of)) .*?(\w+)\.(\w+)(?: [a-z]\w*)+\)+ = Some (\w+)$", re.M)
 PLACES = {"i": "instrument", "j": "instrument", "v": "view", "at": "byte", "last": "time"}
 KEPT = re.compile(r"(?:(\w+_(?:of|in)) )?\(?(\w+)\.new([\w.]*)\)? ≡ (?:\1 )?\(?\2\.old\3\)?$")
 # A handle that stays as it is though the call takes what it has apart meanwhile. tests/embed/reads.c finds each by races.
@@ -140,10 +142,12 @@ def sayings():
 
 def places():
     """The words for the places that each code tells, by its name."""
-    text = (CRATE / "specs" / "Places.antt").read_text(encoding="utf-8")
+    renamed = {(of, name): code.upper() for of, name, code in RENAMED.findall((CRATE / "specs" / "Codes.antt").read_text(encoding="utf-8"))}
     told = {}
-    for _, name, word in sorted(PLACE.findall(text), key=lambda it: it[0]):
-        told.setdefault(upper(name), []).append(PLACES.get(word, word))
+    for second, of, name, word in sorted(PLACE.findall((CRATE / "specs" / "Places.antt").read_text(encoding="utf-8")), key=lambda it: it[0]):
+        words = told.setdefault(renamed.get((of, name), upper(name)), [])
+        if second or PLACES.get(word, word) not in words:
+            words.append(PLACES.get(word, word))
     return told
 
 

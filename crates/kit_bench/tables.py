@@ -60,7 +60,7 @@ def tell_held():
         print(f"| {name} | {each:.0f} |")
 
 
-PARTS = ["turns", "recordings", "held-points", "threads", "fleets", "gateways", "gossip", "bytes", "rounds", "rollups", "held"]
+PARTS = ["turns", "recordings", "held-points", "threads", "fleets", "gateways", "gossip", "bytes", "rounds", "rollups", "pages", "held"]
 
 
 def main(words):

@@ -1,4 +1,5 @@
-/* A generic exporter: every stream that a gateway holds, and of each every row with its labels. It knows no name beforehand. */
+/* A generic exporter: of whom a gateway holds points, every stream that it holds, and of each every row with its labels. It knows no name
+ * beforehand. */
 #include <inttypes.h>
 #include <kotskhin.h>
 #include <stdio.h>
@@ -80,9 +81,26 @@ static void print_stream(kit_gateway *gateway, kit_streams *streams, size_t stre
     kit_ask_free(&ask), kit_rows_free(&rows);
 }
 
+/* Of whom there are points: the service, the instance, since when it runs, how new its newest point is, and how many there are. */
+static void print_incarnations(kit_gateway *gateway) {
+    kit_incarnations incarnations = KIT_EMPTY;
+    size_t count = 0;
+    MUST(kit_gateway_incarnations(gateway, &incarnations));
+    MUST(kit_incarnations_len(&incarnations, &count));
+    for (size_t i = 0; i < count; i++) {
+        uint64_t high = 0, low = 0, start = 0, newest = 0;
+        size_t points = 0;
+        PRINT(kit_incarnations_service, &incarnations, i);
+        MUST(kit_incarnations_read(&incarnations, i, &high, &low, &start, &newest, &points));
+        printf(" %016" PRIx64 "%016" PRIx64 " since %" PRIu64 " up to %" PRIu64 ": %zu points\n", high, low, start, newest, points);
+    }
+    kit_incarnations_free(&incarnations);
+}
+
 static void print_gateway(kit_gateway *gateway) {
     kit_streams streams = KIT_EMPTY;
     size_t count = 0;
+    print_incarnations(gateway);
     MUST(kit_gateway_streams(gateway, &streams));
     MUST(kit_streams_len(&streams, &count));
     for (size_t i = 0; i < count; i++) print_stream(gateway, &streams, i);

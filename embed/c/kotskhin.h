@@ -122,6 +122,11 @@ typedef struct kit_export { kit_handle handle; } kit_export;
 KIT_SIZE(kit_export, 16);
 static inline KIT_CALL void kit_export_free(kit_export *it) { kit_free(&it->handle); }
 
+/* Exports that were read, or nothing. */
+typedef struct kit_exports { kit_handle handle; } kit_exports;
+KIT_SIZE(kit_exports, 16);
+static inline KIT_CALL void kit_exports_free(kit_exports *it) { kit_free(&it->handle); }
+
 /* A gateway, or nothing. */
 typedef struct kit_gateway { kit_handle handle; } kit_gateway;
 KIT_SIZE(kit_gateway, 16);
@@ -157,12 +162,17 @@ typedef struct kit_streams { kit_handle handle; } kit_streams;
 KIT_SIZE(kit_streams, 16);
 static inline KIT_CALL void kit_streams_free(kit_streams *it) { kit_free(&it->handle); }
 
+/* Incarnations of which there are points, or nothing. */
+typedef struct kit_incarnations { kit_handle handle; } kit_incarnations;
+KIT_SIZE(kit_incarnations, 16);
+static inline KIT_CALL void kit_incarnations_free(kit_incarnations *it) { kit_free(&it->handle); }
+
 /* A text, or nothing. */
 typedef struct kit_text { kit_handle handle; } kit_text;
 KIT_SIZE(kit_text, 16);
 static inline KIT_CALL void kit_text_free(kit_text *it) { kit_free(&it->handle); }
 
-/* An export or a message as bytes, or nothing. */
+/* An export, a message or a request as bytes, or nothing. */
 typedef struct kit_bytes { kit_handle handle; } kit_bytes;
 KIT_SIZE(kit_bytes, 16);
 static inline KIT_CALL void kit_bytes_free(kit_bytes *it) { kit_free(&it->handle); }
@@ -179,53 +189,81 @@ typedef struct kit_taken {
 
 /* What calls answer. With a * the place that is told is said behind it, and behind ** the second. */
 enum {
-    KIT_OK = 0,               /* done */
-    KIT_NO_MEMORY = 1,        /* memory was refused */
-    KIT_NOTHING = 2,          /* a handle that is read has nothing */
-    KIT_WRONG_KIND = 3,       /* a handle has a thing of another kind */
-    KIT_FULL = 4,             /* the handle that is to be filled has something */
-    KIT_NOT_TEXT = 5,         /* a text is not UTF-8: * the byte */
-    KIT_BAD_NUMBER = 6,       /* a number stands for nothing here */
-    KIT_NO_HELD = 7,          /* nothing is held under this number */
-    KIT_NO_ROW = 8,           /* there is no row of this number */
-    KIT_NO_POINT = 9,         /* there is no point of what is asked for */
+    KIT_OK = 0,                     /* done */
+    KIT_NO_MEMORY = 1,              /* memory was refused */
+    KIT_NOTHING = 2,                /* a handle that is read has nothing */
+    KIT_WRONG_KIND = 3,             /* a handle has a thing of another kind */
+    KIT_FULL = 4,                   /* the handle that is to be filled has something */
+    KIT_NOT_TEXT = 5,               /* a text is not UTF-8: * the byte */
+    KIT_BAD_NUMBER = 6,             /* a number stands for nothing here */
+    KIT_NO_HELD = 7,                /* nothing is held under this number */
+    KIT_NO_ROW = 8,                 /* there is no row of this number */
+    KIT_NO_POINT = 9,               /* there is no point of what is asked for */
 
-    KIT_CLOSED = 10,          /* the writer was shut down */
-    KIT_NO_INSTRUMENT = 11,   /* there is no instrument of this number */
-    KIT_NEGATIVE = 12,        /* the instrument takes no value below 0 */
-    KIT_OVERFLOW = 13,        /* a total would leave 64 bits: * the stream */
-    KIT_TIME_NOT_AFTER = 14,  /* the time is not after that of the last collection: * the time */
-    KIT_START_NOT_AFTER = 15, /* the start is not after the start so far: * the start */
-    KIT_BUSY = 16,            /* a call of another thread has the writer */
-    KIT_EXHAUSTED = 17,       /* the writer accepted as many changes as it may */
-    KIT_SEATS_FULL = 18,      /* the writer has as many seats as it may */
-    KIT_NO_ITEM = 19,         /* there is no item of this number */
+    KIT_CLOSED = 10,                /* the writer was shut down */
+    KIT_NO_INSTRUMENT = 11,         /* there is no instrument of this number */
+    KIT_NEGATIVE = 12,              /* the instrument takes no value below 0 */
+    KIT_OVERFLOW = 13,              /* a total would leave 64 bits: * the stream */
+    KIT_TIME_NOT_AFTER = 14,        /* the time is not after that of the last collection: * the time */
+    KIT_START_NOT_AFTER = 15,       /* the start is not after the start so far: * the start */
+    KIT_BUSY = 16,                  /* a call of another thread has the writer */
+    KIT_EXHAUSTED = 17,             /* the writer accepted as many changes as it may */
+    KIT_SEATS_FULL = 18,            /* the writer has as many seats as it may */
+    KIT_NO_ITEM = 19,               /* there is no item of this number */
 
-    KIT_EMPTY_KEY = 20,       /* a key is empty: * the pair */
+    KIT_EMPTY_KEY = 20,             /* a key is empty: * the pair */
 
-    KIT_BAD_NAME = 30,        /* a name breaks the rule of names: * the instrument */
-    KIT_BAD_UNIT = 31,        /* a unit breaks the rule of units: * the instrument */
-    KIT_BAD_BOUNDS = 32,      /* bounds do not strictly rise, or are too many: * the view */
-    KIT_BAD_RENAME = 33,      /* a new name breaks the rule of names: * the view */
-    KIT_WILDCARD_RENAME = 34, /* a view of every name gives a new one: * the view */
-    KIT_BAD_AGGREGATION = 35, /* an aggregation does not fit its instrument: * the instrument and ** the view */
-    KIT_SAME_STREAM = 36,     /* two instruments feed one stream: * the instrument and ** the instrument */
-    KIT_BAD_LIMIT = 37,       /* the limit is 0 */
+    KIT_BAD_NAME = 30,              /* a name breaks the rule of names: * the instrument */
+    KIT_BAD_UNIT = 31,              /* a unit breaks the rule of units: * the instrument */
+    KIT_BAD_BOUNDS = 32,            /* bounds do not strictly rise, or are too many: * the view */
+    KIT_BAD_RENAME = 33,            /* a new name breaks the rule of names: * the view */
+    KIT_WILDCARD_RENAME = 34,       /* a view of every name gives a new one: * the view */
+    KIT_BAD_AGGREGATION = 35,       /* an aggregation does not fit its instrument: * the instrument and ** the view */
+    KIT_SAME_STREAM = 36,           /* two instruments feed one stream: * the instrument and ** the instrument */
+    KIT_BAD_LIMIT = 37,             /* the limit is 0 */
 
-    KIT_TOO_WIDE = 40,        /* a total is wider than the number that it is to be told in */
-    KIT_NO_BUCKET = 41,       /* there is no bucket of this number */
-    KIT_WRONG_SHAPE = 42,     /* a row or a value is of another shape */
+    KIT_TOO_WIDE = 40,              /* a total is wider than the number that it is to be told in */
+    KIT_NO_BUCKET = 41,             /* there is no bucket of this number */
+    KIT_WRONG_SHAPE = 42,           /* a row or a value is of another shape */
 
-    KIT_NOT_ADDRESSED = 50,   /* the message goes to another id */
+    KIT_NOT_ADDRESSED = 50,         /* the message goes to another id */
 
-    KIT_TRUNCATED = 60,       /* bytes end within what they begin: * the byte */
-    KIT_BAD_MAGIC = 61,       /* bytes do not begin as an export or a message does: * the byte */
-    KIT_BAD_VERSION = 62,     /* the version is none that is known: * the byte */
-    KIT_NOT_CANONICAL = 63,   /* a value is not in its one form: * the byte */
-    KIT_BAD_CHECKSUM = 64,    /* the checksum is not that of the bytes before it: * the byte */
-    KIT_BAD_EXPORT = 65,      /* the values are none that an export can have */
+    KIT_TRUNCATED = 60,             /* bytes end within what they begin: * the byte */
+    KIT_BAD_MAGIC = 61,             /* bytes do not begin as an export or a message does: * the byte */
+    KIT_BAD_VERSION = 62,           /* the version is none that is known: * the byte */
+    KIT_NOT_CANONICAL = 63,         /* a value is not in its one form: * the byte */
+    KIT_BAD_CHECKSUM = 64,          /* the checksum is not that of the bytes before it: * the byte */
+    KIT_BAD_EXPORT = 65,            /* the values are none that an export can have */
 
-    KIT_RECORDER_FULL = 70,   /* a log has as many recordings as it may */
+    KIT_RECORDER_FULL = 70,         /* a log has as many recordings as it may */
+
+    KIT_OTLP_BOUNDS = 80,           /* the bounds of a point do not rise as doubles: * the point */
+    KIT_TOO_LONG = 81,              /* the request has more bytes than one may have */
+    KIT_MALFORMED = 82,             /* bytes begin no field that can stand there: * the byte */
+    KIT_NO_SERVICE = 83,            /* a resource names no service: * the resource */
+    KIT_NO_INSTANCE = 84,           /* a resource names no instance: * the resource */
+    KIT_NOT_UUID = 85,              /* the instance of a resource is no UUID: * the resource */
+    KIT_SCOPE_TWICE = 86,           /* a scope comes in two versions: * the scope */
+    KIT_EXPONENTIAL_HISTOGRAM = 87, /* a metric is an exponential histogram: * the metric */
+    KIT_SUMMARY = 88,               /* a metric is a summary: * the metric */
+    KIT_NO_DATA = 89,               /* a metric has no data: * the metric */
+
+    KIT_DELTA = 90,                 /* a metric is told as deltas: * the metric */
+    KIT_NO_TEMPORALITY = 91,        /* a metric is not said to be cumulative: * the metric */
+    KIT_NO_RECORDED_VALUE = 92,     /* a point has no recorded value: * the point */
+    KIT_UNKNOWN_START = 93,         /* the start of a point is not known: * the point */
+    KIT_FLOAT_VALUE = 94,           /* the value of a point is a double: * the point */
+    KIT_NO_POINT_VALUE = 95,        /* a point has no value: * the point */
+    KIT_NO_SUM = 96,                /* a histogram has no sum: * the point */
+    KIT_NOT_WHOLE = 97,             /* a double of a histogram is no whole number: * the point */
+    KIT_INEXACT = 98,               /* a double of a histogram may stand for several whole numbers: * the point */
+    KIT_NOT_RISING = 99,            /* the bounds of a histogram do not strictly rise: * the point */
+
+    KIT_HALF_RANGE = 100,           /* a histogram has a least or a greatest value alone: * the point */
+    KIT_NO_KEY = 101,               /* an attribute of a point has no key: * the point */
+    KIT_ATTRIBUTE_TWICE = 102,      /* two attributes of a point have one key: * the point */
+    KIT_ATTRIBUTE_VALUE = 103,      /* the value of an attribute is of a kind that is not known: * the point */
+    KIT_NO_EXPORT = 104,            /* what a request says together makes no export: * the export */
 };
 
 /* Kinds of instruments. */
@@ -290,6 +328,31 @@ static inline const char *kit_code_name(int32_t code) {
     case KIT_BAD_CHECKSUM: return "KIT_BAD_CHECKSUM";
     case KIT_BAD_EXPORT: return "KIT_BAD_EXPORT";
     case KIT_RECORDER_FULL: return "KIT_RECORDER_FULL";
+    case KIT_OTLP_BOUNDS: return "KIT_OTLP_BOUNDS";
+    case KIT_TOO_LONG: return "KIT_TOO_LONG";
+    case KIT_MALFORMED: return "KIT_MALFORMED";
+    case KIT_NO_SERVICE: return "KIT_NO_SERVICE";
+    case KIT_NO_INSTANCE: return "KIT_NO_INSTANCE";
+    case KIT_NOT_UUID: return "KIT_NOT_UUID";
+    case KIT_SCOPE_TWICE: return "KIT_SCOPE_TWICE";
+    case KIT_EXPONENTIAL_HISTOGRAM: return "KIT_EXPONENTIAL_HISTOGRAM";
+    case KIT_SUMMARY: return "KIT_SUMMARY";
+    case KIT_NO_DATA: return "KIT_NO_DATA";
+    case KIT_DELTA: return "KIT_DELTA";
+    case KIT_NO_TEMPORALITY: return "KIT_NO_TEMPORALITY";
+    case KIT_NO_RECORDED_VALUE: return "KIT_NO_RECORDED_VALUE";
+    case KIT_UNKNOWN_START: return "KIT_UNKNOWN_START";
+    case KIT_FLOAT_VALUE: return "KIT_FLOAT_VALUE";
+    case KIT_NO_POINT_VALUE: return "KIT_NO_POINT_VALUE";
+    case KIT_NO_SUM: return "KIT_NO_SUM";
+    case KIT_NOT_WHOLE: return "KIT_NOT_WHOLE";
+    case KIT_INEXACT: return "KIT_INEXACT";
+    case KIT_NOT_RISING: return "KIT_NOT_RISING";
+    case KIT_HALF_RANGE: return "KIT_HALF_RANGE";
+    case KIT_NO_KEY: return "KIT_NO_KEY";
+    case KIT_ATTRIBUTE_TWICE: return "KIT_ATTRIBUTE_TWICE";
+    case KIT_ATTRIBUTE_VALUE: return "KIT_ATTRIBUTE_VALUE";
+    case KIT_NO_EXPORT: return "KIT_NO_EXPORT";
     default: return "no code";
     }
 }
@@ -704,6 +767,50 @@ KIT_CHECKED int32_t kit_message_gateway(KIT_READS kit_message *message, kit_gate
  * Refused, in this order: KIT_FULL; KIT_NOTHING; KIT_NO_MEMORY. O(size of the points). */
 KIT_CHECKED int32_t kit_gateway_encode(KIT_READS kit_gateway *gateway, kit_bytes *bytes);
 
+/* What others read: exports as OTLP, and what gateways hold as pages for Prometheus; and exports that others bring by OTLP. */
+
+/* The bytes of the request that brings an export, which stays, to a Collector: the body of a POST to /v1/metrics, with Content-Type:
+ * application/x-protobuf (OTLP).
+ *
+ * Refused, in this order: KIT_FULL; KIT_NOTHING; KIT_OTLP_BOUNDS with the least place of a point whose bounds do not strictly rise as
+ * doubles; KIT_TOO_LONG where the request has more than 2,147,483,647 bytes; KIT_NO_MEMORY. O(n) in the bytes. */
+KIT_CHECKED int32_t kit_export_otlp(KIT_READS kit_export *export_, kit_bytes *bytes, uint64_t *place);
+
+/* The page of what a gateway, which stays, holds, in OpenMetrics 1.0: where only is true, of one service alone, else of all: then the
+ * service is not looked at. It answers a request that accepts application/openmetrics-text, with Content-Type:
+ * application/openmetrics-text; version=1.0.0; charset=utf-8.
+ *
+ * Refused, in this order: KIT_FULL; KIT_NOT_TEXT where the service is no UTF-8; KIT_NOTHING; KIT_NO_MEMORY. O(n log n) comparisons of
+ * labels. */
+KIT_CHECKED int32_t kit_gateway_openmetrics(KIT_READS kit_gateway *gateway, bool only, const uint8_t *service, size_t service_len,
+                                            kit_text *text);
+
+/* The same page in Prometheus' text format 0.0.4, with Content-Type: text/plain; version=0.0.4; charset=utf-8: for all other requests, for
+ * a Pushgateway, and for files.
+ *
+ * Refused, in this order: KIT_FULL; KIT_NOT_TEXT where the service is no UTF-8; KIT_NOTHING; KIT_NO_MEMORY. O(n log n) comparisons of
+ * labels. */
+KIT_CHECKED int32_t kit_gateway_prometheus(KIT_READS kit_gateway *gateway, bool only, const uint8_t *service, size_t service_len,
+                                           kit_text *text);
+
+/* The exports that the body of a POST to /v1/metrics brings (OTLP, with Content-Type: application/x-protobuf). Who made the bytes is not
+ * known here: of whom each export is, kit_export_read and kit_export_service tell.
+ *
+ * Refused, in this order: KIT_FULL; then for the first thing that is wrong with the bytes, with its place: KIT_MALFORMED, KIT_NOT_TEXT;
+ * then for the first that they say and that no export has, in the order of the request, with the place of the resource, scope, metric,
+ * point or export: KIT_NO_SERVICE to KIT_NO_EXPORT; KIT_NO_MEMORY. */
+KIT_CHECKED int32_t kit_exports_of_otlp(kit_exports *exports, const uint8_t *bytes, size_t bytes_len, uint64_t *place);
+
+/* Tells how many exports there are: they are numbered from 0.
+ *
+ * Refused: KIT_NOTHING. O(1), takes no memory. */
+KIT_CHECKED int32_t kit_exports_len(KIT_READS kit_exports *exports, size_t *count);
+
+/* The export of a number. The exports stay.
+ *
+ * Refused, in this order: KIT_FULL; KIT_NOTHING of the exports; KIT_NO_ITEM where there is no export of this number; KIT_NO_MEMORY. */
+KIT_CHECKED int32_t kit_exports_read(KIT_READS kit_exports *exports, size_t number, kit_export *export_);
+
 /* Asks of a gateway, the rows that it answers with, and their table. */
 
 /* Asks for the points of a sum: of all services, with a row for each attribute set. The name is taken without regard to case, as plans take
@@ -798,6 +905,39 @@ KIT_CHECKED int32_t kit_ask_stream(kit_ask *ask, KIT_READS kit_streams *streams,
 /* Copies the front of the bounds that has room of a histogram for which no view says others, and answers how many there are: 15
  * (OpenTelemetry Metrics SDK, "Explicit Bucket Histogram Aggregation"). */
 KIT_CALL size_t kit_default_bounds(int64_t *into, size_t room);
+
+/* Incarnations: of whom a gateway holds points, or a message carries some. */
+
+/* The incarnations of which a gateway, which stays, holds points: each once, by service, instance and start. All of a service are side by
+ * side.
+ *
+ * Refused, in this order: KIT_FULL; KIT_NOTHING; KIT_NO_MEMORY. O(incarnations). */
+KIT_CHECKED int32_t kit_gateway_incarnations(KIT_READS kit_gateway *gateway, kit_incarnations *incarnations);
+
+/* The incarnations of which a message, which stays, carries points, in the same order: who receives it compares them with those of which
+ * its sender may speak, before a node is handed it.
+ *
+ * Refused, in this order: KIT_FULL; KIT_NOTHING; KIT_NO_MEMORY. O(incarnations). */
+KIT_CHECKED int32_t kit_message_incarnations(KIT_READS kit_message *message, kit_incarnations *incarnations);
+
+/* Tells how many incarnations there are: they are numbered from 0.
+ *
+ * Refused: KIT_NOTHING. O(1), takes no memory. */
+KIT_CHECKED int32_t kit_incarnations_len(KIT_READS kit_incarnations *incarnations, size_t *count);
+
+/* Tells the instance of an incarnation as two numbers, its start, the greatest time of its points, and how many points of it there are.
+ * kit_incarnations_service tells the service.
+ *
+ * Refused, in this order: KIT_NOTHING; KIT_NO_ITEM where there is no incarnation of this number. O(1), takes no memory. */
+KIT_CHECKED int32_t kit_incarnations_read(KIT_READS kit_incarnations *incarnations, size_t number, uint64_t *instance_high,
+                                          uint64_t *instance_low, uint64_t *start, uint64_t *newest, size_t *points);
+
+/* Copies the front of the service of an incarnation that has room, and tells in len how many bytes it has, in UTF-8 and with no 0 at its
+ * end.
+ *
+ * Refused, in this order: KIT_NOTHING; KIT_NO_ITEM where there is no incarnation of this number. Takes no memory. */
+KIT_CHECKED int32_t kit_incarnations_service(KIT_READS kit_incarnations *incarnations, size_t number, uint8_t *into, size_t room,
+                                             size_t *len);
 
 /* Rows as numbers. */
 

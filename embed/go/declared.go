@@ -3,45 +3,70 @@
 package kotskhin
 
 const (
-	ErrNoMemory       Code = 1
-	ErrNothing        Code = 2
-	ErrWrongKind      Code = 3
-	ErrFull           Code = 4
-	ErrNotText        Code = 5
-	ErrBadNumber      Code = 6
-	ErrNoHeld         Code = 7
-	ErrNoRow          Code = 8
-	ErrNoPoint        Code = 9
-	ErrClosed         Code = 10
-	ErrNoInstrument   Code = 11
-	ErrNegative       Code = 12
-	ErrOverflow       Code = 13
-	ErrTimeNotAfter   Code = 14
-	ErrStartNotAfter  Code = 15
-	ErrBusy           Code = 16
-	ErrExhausted      Code = 17
-	ErrSeatsFull      Code = 18
-	ErrNoItem         Code = 19
-	ErrEmptyKey       Code = 20
-	ErrBadName        Code = 30
-	ErrBadUnit        Code = 31
-	ErrBadBounds      Code = 32
-	ErrBadRename      Code = 33
-	ErrWildcardRename Code = 34
-	ErrBadAggregation Code = 35
-	ErrSameStream     Code = 36
-	ErrBadLimit       Code = 37
-	ErrTooWide        Code = 40
-	ErrNoBucket       Code = 41
-	ErrWrongShape     Code = 42
-	ErrNotAddressed   Code = 50
-	ErrTruncated      Code = 60
-	ErrBadMagic       Code = 61
-	ErrBadVersion     Code = 62
-	ErrNotCanonical   Code = 63
-	ErrBadChecksum    Code = 64
-	ErrBadExport      Code = 65
-	ErrRecorderFull   Code = 70
+	ErrNoMemory             Code = 1
+	ErrNothing              Code = 2
+	ErrWrongKind            Code = 3
+	ErrFull                 Code = 4
+	ErrNotText              Code = 5
+	ErrBadNumber            Code = 6
+	ErrNoHeld               Code = 7
+	ErrNoRow                Code = 8
+	ErrNoPoint              Code = 9
+	ErrClosed               Code = 10
+	ErrNoInstrument         Code = 11
+	ErrNegative             Code = 12
+	ErrOverflow             Code = 13
+	ErrTimeNotAfter         Code = 14
+	ErrStartNotAfter        Code = 15
+	ErrBusy                 Code = 16
+	ErrExhausted            Code = 17
+	ErrSeatsFull            Code = 18
+	ErrNoItem               Code = 19
+	ErrEmptyKey             Code = 20
+	ErrBadName              Code = 30
+	ErrBadUnit              Code = 31
+	ErrBadBounds            Code = 32
+	ErrBadRename            Code = 33
+	ErrWildcardRename       Code = 34
+	ErrBadAggregation       Code = 35
+	ErrSameStream           Code = 36
+	ErrBadLimit             Code = 37
+	ErrTooWide              Code = 40
+	ErrNoBucket             Code = 41
+	ErrWrongShape           Code = 42
+	ErrNotAddressed         Code = 50
+	ErrTruncated            Code = 60
+	ErrBadMagic             Code = 61
+	ErrBadVersion           Code = 62
+	ErrNotCanonical         Code = 63
+	ErrBadChecksum          Code = 64
+	ErrBadExport            Code = 65
+	ErrRecorderFull         Code = 70
+	ErrOtlpBounds           Code = 80
+	ErrTooLong              Code = 81
+	ErrMalformed            Code = 82
+	ErrNoService            Code = 83
+	ErrNoInstance           Code = 84
+	ErrNotUuid              Code = 85
+	ErrScopeTwice           Code = 86
+	ErrExponentialHistogram Code = 87
+	ErrSummary              Code = 88
+	ErrNoData               Code = 89
+	ErrDelta                Code = 90
+	ErrNoTemporality        Code = 91
+	ErrNoRecordedValue      Code = 92
+	ErrUnknownStart         Code = 93
+	ErrFloatValue           Code = 94
+	ErrNoPointValue         Code = 95
+	ErrNoSum                Code = 96
+	ErrNotWhole             Code = 97
+	ErrInexact              Code = 98
+	ErrNotRising            Code = 99
+	ErrHalfRange            Code = 100
+	ErrNoKey                Code = 101
+	ErrAttributeTwice       Code = 102
+	ErrAttributeValue       Code = 103
+	ErrNoExport             Code = 104
 )
 
 // The name of each code, what it says, and the words for the places that it tells.
@@ -49,43 +74,68 @@ var codes = map[Code]struct {
 	name, says string
 	places     []string
 }{
-	ErrNoMemory:       {"NO_MEMORY", "memory was refused", nil},
-	ErrNothing:        {"NOTHING", "a handle that is read has nothing", nil},
-	ErrWrongKind:      {"WRONG_KIND", "a handle has a thing of another kind", nil},
-	ErrFull:           {"FULL", "the handle that is to be filled has something", nil},
-	ErrNotText:        {"NOT_TEXT", "a text is not UTF-8", []string{"byte"}},
-	ErrBadNumber:      {"BAD_NUMBER", "a number stands for nothing here", nil},
-	ErrNoHeld:         {"NO_HELD", "nothing is held under this number", nil},
-	ErrNoRow:          {"NO_ROW", "there is no row of this number", nil},
-	ErrNoPoint:        {"NO_POINT", "there is no point of what is asked for", nil},
-	ErrClosed:         {"CLOSED", "the writer was shut down", nil},
-	ErrNoInstrument:   {"NO_INSTRUMENT", "there is no instrument of this number", nil},
-	ErrNegative:       {"NEGATIVE", "the instrument takes no value below 0", nil},
-	ErrOverflow:       {"OVERFLOW", "a total would leave 64 bits", []string{"stream"}},
-	ErrTimeNotAfter:   {"TIME_NOT_AFTER", "the time is not after that of the last collection", []string{"time"}},
-	ErrStartNotAfter:  {"START_NOT_AFTER", "the start is not after the start so far", []string{"start"}},
-	ErrBusy:           {"BUSY", "a call of another thread has the writer", nil},
-	ErrExhausted:      {"EXHAUSTED", "the writer accepted as many changes as it may", nil},
-	ErrSeatsFull:      {"SEATS_FULL", "the writer has as many seats as it may", nil},
-	ErrNoItem:         {"NO_ITEM", "there is no item of this number", nil},
-	ErrEmptyKey:       {"EMPTY_KEY", "a key is empty", []string{"pair"}},
-	ErrBadName:        {"BAD_NAME", "a name breaks the rule of names", []string{"instrument"}},
-	ErrBadUnit:        {"BAD_UNIT", "a unit breaks the rule of units", []string{"instrument"}},
-	ErrBadBounds:      {"BAD_BOUNDS", "bounds do not strictly rise, or are too many", []string{"view"}},
-	ErrBadRename:      {"BAD_RENAME", "a new name breaks the rule of names", []string{"view"}},
-	ErrWildcardRename: {"WILDCARD_RENAME", "a view of every name gives a new one", []string{"view"}},
-	ErrBadAggregation: {"BAD_AGGREGATION", "an aggregation does not fit its instrument", []string{"instrument", "view"}},
-	ErrSameStream:     {"SAME_STREAM", "two instruments feed one stream", []string{"instrument", "instrument"}},
-	ErrBadLimit:       {"BAD_LIMIT", "the limit is 0", nil},
-	ErrTooWide:        {"TOO_WIDE", "a total is wider than the number that it is to be told in", nil},
-	ErrNoBucket:       {"NO_BUCKET", "there is no bucket of this number", nil},
-	ErrWrongShape:     {"WRONG_SHAPE", "a row or a value is of another shape", nil},
-	ErrNotAddressed:   {"NOT_ADDRESSED", "the message goes to another id", nil},
-	ErrTruncated:      {"TRUNCATED", "bytes end within what they begin", []string{"byte"}},
-	ErrBadMagic:       {"BAD_MAGIC", "bytes do not begin as an export or a message does", []string{"byte"}},
-	ErrBadVersion:     {"BAD_VERSION", "the version is none that is known", []string{"byte"}},
-	ErrNotCanonical:   {"NOT_CANONICAL", "a value is not in its one form", []string{"byte"}},
-	ErrBadChecksum:    {"BAD_CHECKSUM", "the checksum is not that of the bytes before it", []string{"byte"}},
-	ErrBadExport:      {"BAD_EXPORT", "the values are none that an export can have", nil},
-	ErrRecorderFull:   {"RECORDER_FULL", "a log has as many recordings as it may", nil},
+	ErrNoMemory:             {"NO_MEMORY", "memory was refused", nil},
+	ErrNothing:              {"NOTHING", "a handle that is read has nothing", nil},
+	ErrWrongKind:            {"WRONG_KIND", "a handle has a thing of another kind", nil},
+	ErrFull:                 {"FULL", "the handle that is to be filled has something", nil},
+	ErrNotText:              {"NOT_TEXT", "a text is not UTF-8", []string{"byte"}},
+	ErrBadNumber:            {"BAD_NUMBER", "a number stands for nothing here", nil},
+	ErrNoHeld:               {"NO_HELD", "nothing is held under this number", nil},
+	ErrNoRow:                {"NO_ROW", "there is no row of this number", nil},
+	ErrNoPoint:              {"NO_POINT", "there is no point of what is asked for", nil},
+	ErrClosed:               {"CLOSED", "the writer was shut down", nil},
+	ErrNoInstrument:         {"NO_INSTRUMENT", "there is no instrument of this number", nil},
+	ErrNegative:             {"NEGATIVE", "the instrument takes no value below 0", nil},
+	ErrOverflow:             {"OVERFLOW", "a total would leave 64 bits", []string{"stream"}},
+	ErrTimeNotAfter:         {"TIME_NOT_AFTER", "the time is not after that of the last collection", []string{"time"}},
+	ErrStartNotAfter:        {"START_NOT_AFTER", "the start is not after the start so far", []string{"start"}},
+	ErrBusy:                 {"BUSY", "a call of another thread has the writer", nil},
+	ErrExhausted:            {"EXHAUSTED", "the writer accepted as many changes as it may", nil},
+	ErrSeatsFull:            {"SEATS_FULL", "the writer has as many seats as it may", nil},
+	ErrNoItem:               {"NO_ITEM", "there is no item of this number", nil},
+	ErrEmptyKey:             {"EMPTY_KEY", "a key is empty", []string{"pair"}},
+	ErrBadName:              {"BAD_NAME", "a name breaks the rule of names", []string{"instrument"}},
+	ErrBadUnit:              {"BAD_UNIT", "a unit breaks the rule of units", []string{"instrument"}},
+	ErrBadBounds:            {"BAD_BOUNDS", "bounds do not strictly rise, or are too many", []string{"view"}},
+	ErrBadRename:            {"BAD_RENAME", "a new name breaks the rule of names", []string{"view"}},
+	ErrWildcardRename:       {"WILDCARD_RENAME", "a view of every name gives a new one", []string{"view"}},
+	ErrBadAggregation:       {"BAD_AGGREGATION", "an aggregation does not fit its instrument", []string{"instrument", "view"}},
+	ErrSameStream:           {"SAME_STREAM", "two instruments feed one stream", []string{"instrument", "instrument"}},
+	ErrBadLimit:             {"BAD_LIMIT", "the limit is 0", nil},
+	ErrTooWide:              {"TOO_WIDE", "a total is wider than the number that it is to be told in", nil},
+	ErrNoBucket:             {"NO_BUCKET", "there is no bucket of this number", nil},
+	ErrWrongShape:           {"WRONG_SHAPE", "a row or a value is of another shape", nil},
+	ErrNotAddressed:         {"NOT_ADDRESSED", "the message goes to another id", nil},
+	ErrTruncated:            {"TRUNCATED", "bytes end within what they begin", []string{"byte"}},
+	ErrBadMagic:             {"BAD_MAGIC", "bytes do not begin as an export or a message does", []string{"byte"}},
+	ErrBadVersion:           {"BAD_VERSION", "the version is none that is known", []string{"byte"}},
+	ErrNotCanonical:         {"NOT_CANONICAL", "a value is not in its one form", []string{"byte"}},
+	ErrBadChecksum:          {"BAD_CHECKSUM", "the checksum is not that of the bytes before it", []string{"byte"}},
+	ErrBadExport:            {"BAD_EXPORT", "the values are none that an export can have", nil},
+	ErrRecorderFull:         {"RECORDER_FULL", "a log has as many recordings as it may", nil},
+	ErrOtlpBounds:           {"OTLP_BOUNDS", "the bounds of a point do not rise as doubles", []string{"point"}},
+	ErrTooLong:              {"TOO_LONG", "the request has more bytes than one may have", nil},
+	ErrMalformed:            {"MALFORMED", "bytes begin no field that can stand there", []string{"byte"}},
+	ErrNoService:            {"NO_SERVICE", "a resource names no service", []string{"resource"}},
+	ErrNoInstance:           {"NO_INSTANCE", "a resource names no instance", []string{"resource"}},
+	ErrNotUuid:              {"NOT_UUID", "the instance of a resource is no UUID", []string{"resource"}},
+	ErrScopeTwice:           {"SCOPE_TWICE", "a scope comes in two versions", []string{"scope"}},
+	ErrExponentialHistogram: {"EXPONENTIAL_HISTOGRAM", "a metric is an exponential histogram", []string{"metric"}},
+	ErrSummary:              {"SUMMARY", "a metric is a summary", []string{"metric"}},
+	ErrNoData:               {"NO_DATA", "a metric has no data", []string{"metric"}},
+	ErrDelta:                {"DELTA", "a metric is told as deltas", []string{"metric"}},
+	ErrNoTemporality:        {"NO_TEMPORALITY", "a metric is not said to be cumulative", []string{"metric"}},
+	ErrNoRecordedValue:      {"NO_RECORDED_VALUE", "a point has no recorded value", []string{"point"}},
+	ErrUnknownStart:         {"UNKNOWN_START", "the start of a point is not known", []string{"point"}},
+	ErrFloatValue:           {"FLOAT_VALUE", "the value of a point is a double", []string{"point"}},
+	ErrNoPointValue:         {"NO_POINT_VALUE", "a point has no value", []string{"point"}},
+	ErrNoSum:                {"NO_SUM", "a histogram has no sum", []string{"point"}},
+	ErrNotWhole:             {"NOT_WHOLE", "a double of a histogram is no whole number", []string{"point"}},
+	ErrInexact:              {"INEXACT", "a double of a histogram may stand for several whole numbers", []string{"point"}},
+	ErrNotRising:            {"NOT_RISING", "the bounds of a histogram do not strictly rise", []string{"point"}},
+	ErrHalfRange:            {"HALF_RANGE", "a histogram has a least or a greatest value alone", []string{"point"}},
+	ErrNoKey:                {"NO_KEY", "an attribute of a point has no key", []string{"point"}},
+	ErrAttributeTwice:       {"ATTRIBUTE_TWICE", "two attributes of a point have one key", []string{"point"}},
+	ErrAttributeValue:       {"ATTRIBUTE_VALUE", "the value of an attribute is of a kind that is not known", []string{"point"}},
+	ErrNoExport:             {"NO_EXPORT", "what a request says together makes no export", []string{"export"}},
 }

@@ -3,10 +3,13 @@ package kotskhin
 import (
 	"errors"
 	"math"
+	"reflect"
 	"runtime"
 	"strings"
 	"sync"
 	"testing"
+
+	"kotskhin/attribute"
 )
 
 func must[T any](t *testing.T) func(made T, err error) T {
@@ -31,7 +34,7 @@ func refused(t *testing.T, err error, code Code, place uint64) {
 func newWriter(t *testing.T, instance uint64) Writer {
 	t.Helper()
 	plan := must[Plan](t)(NewPlan(Instrument{Scope: "app", Name: "requests", Unit: "1", Kind: Counter}))
-	return must[Writer](t)(StartWriter(plan, "shop", 0, instance, 100))
+	return must[Writer](t)(StartWriter(plan, "shop", Instance{Low: instance}, 100))
 }
 
 // total is the last word of the table's last line.
@@ -50,7 +53,7 @@ func TestRefusalsChangeNothing(t *testing.T) {
 	}
 	refused(t, w.MeasureHeld(number, -1), ErrNegative, 0)
 	g := must[Gateway](t)(OpenGateway(1))
-	_, err := g.Newest("shop", 0, 1, 100)
+	_, err := g.Newest("shop", Instance{Low: 1}, 100)
 	refused(t, err, ErrNoPoint, 0)
 	must[uint64](t)(g.Take(must[Export](t)(w.Shutdown(200))))
 	refused(t, w.Measure(0, none, 1), ErrClosed, 0)
@@ -58,14 +61,14 @@ func TestRefusalsChangeNothing(t *testing.T) {
 	if err := w.Restart(101); err != nil {
 		t.Fatal(err)
 	}
-	if time := must[uint64](t)(g.Newest("shop", 0, 1, 100)); time != 200 || total(t, g) != "7" {
+	if time := must[uint64](t)(g.Newest("shop", Instance{Low: 1}, 100)); time != 200 || total(t, g) != "7" {
 		t.Fatalf("time %d, total %s", time, total(t, g))
 	}
 }
 
 func TestExportsGoAsBytes(t *testing.T) {
 	w := newWriter(t, 1)
-	if err := w.Measure(0, must[Attributes](t)(NewAttributes("route", "/")), 7); err != nil {
+	if err := w.Measure(0, must[Attributes](t)(NewAttributes(attribute.String("route", "/"))), 7); err != nil {
 		t.Fatal(err)
 	}
 	bytes := must[[]byte](t)(must[Export](t)(w.Collect(200)).Encode())
@@ -235,7 +238,7 @@ func TestRefusalsSayWhy(t *testing.T) {
 	w := newWriter(t, 1)
 	none := must[Attributes](t)(NewAttributes())
 	_, twice := NewPlan(Instrument{Name: "requests", Unit: "1"}, Instrument{Name: "1", Unit: "1"})
-	_, key := NewAttributes("a", "1", "", "2")
+	_, key := NewAttributes(attribute.String("a", "1"), attribute.String("", "2"))
 	said := func(code Code) string { return code.Error() + ": " + codes[code].says }
 	for says, err := range map[string]error{
 		said(ErrNegative):                                     w.Measure(0, none, -1),
@@ -243,7 +246,7 @@ func TestRefusalsSayWhy(t *testing.T) {
 		said(ErrBadName) + " (instrument 1)":                  twice,
 		said(ErrEmptyKey) + " (pair 1)":                       key,
 		said(ErrSameStream) + " (instrument 2, instrument 3)": Refused{ErrSameStream, 2, 3},
-		"kotskhin: code 99":                                   Refused{Code: 99},
+		"kotskhin: code 9999":                                 Refused{Code: 9999},
 		"kotskhin: CLOSED":                                    ErrClosed,
 	} {
 		if err == nil || err.Error() != says {
@@ -255,10 +258,10 @@ func TestRefusalsSayWhy(t *testing.T) {
 	}
 }
 
-// A key without a value would else be dropped, and its values would go to another set.
-func TestAKeyWantsAValue(t *testing.T) {
-	for _, pairs := range [][]string{{"route"}, {"route", "/", "user"}} {
-		if _, err := NewAttributes(pairs...); !errors.Is(err, ErrNoValue) {
+// An attribute without a value would else be dropped, and its values would go to another set.
+func TestAnAttributeWantsAValue(t *testing.T) {
+	for _, pairs := range [][]attribute.KeyValue{{{Key: "route"}}, {attribute.Int("a", 1), {Key: "user"}}} {
+		if _, err := NewAttributes(pairs...); !errors.Is(err, ErrInvalidValue) {
 			t.Error(pairs, err)
 		}
 	}
@@ -271,7 +274,7 @@ func TestZeroValuesAreRefused(t *testing.T) {
 	r := must[Recorder](t)(NewRecorder(10))
 	g := must[Gateway](t)(OpenGateway(1))
 	_, hold := w.Hold(0, Attributes{})
-	_, start := StartWriter(Plan{}, "shop", 0, 1, 100)
+	_, start := StartWriter(Plan{}, "shop", Instance{Low: 1}, 100)
 	_, share := Writer{}.Share()
 	_, in := w.TakeIn(Recorder{}, 1)
 	_, collect := Seat{}.Collect(200)
@@ -292,24 +295,27 @@ func TestZeroValuesAreRefused(t *testing.T) {
 }
 
 func TestInstancesAreDrawnAnew(t *testing.T) {
-	drawn := map[[2]uint64]bool{}
+	drawn := map[Instance]bool{}
 	for i := 0; i < 8; i++ {
-		high, low, err := UniqueInstance()
+		instance, err := UniqueInstance()
 		if err != nil {
 			t.Fatal(err)
 		}
-		drawn[[2]uint64{high, low}] = true
+		drawn[instance] = true
 	}
 	if len(drawn) != 8 {
 		t.Fatal(drawn)
+	}
+	if uuid := (Instance{0x0123456789abcdef, 0xfedcba9876543210}).String(); uuid != "01234567-89ab-cdef-fedc-ba9876543210" {
+		t.Fatal(uuid)
 	}
 }
 
 // Goroutines read one set, one plan and one gateway, which nobody changes meanwhile.
 func TestGoroutinesReadAtOnce(t *testing.T) {
 	plan := must[Plan](t)(NewPlan(Instrument{Scope: "app", Name: "requests", Unit: "1", Kind: Counter}))
-	route := must[Attributes](t)(NewAttributes("route", "/"))
-	first := must[Writer](t)(StartWriter(plan, "shop", 0, 1, 100))
+	route := must[Attributes](t)(NewAttributes(attribute.String("route", "/")))
+	first := must[Writer](t)(StartWriter(plan, "shop", Instance{Low: 1}, 100))
 	if err := first.Measure(0, route, 7); err != nil {
 		t.Fatal(err)
 	}
@@ -321,7 +327,7 @@ func TestGoroutinesReadAtOnce(t *testing.T) {
 		group.Add(1)
 		go func(instance uint64) {
 			defer group.Done()
-			writer, err := StartWriter(plan, "shop", 0, instance, 100)
+			writer, err := StartWriter(plan, "shop", Instance{Low: instance}, 100)
 			number, held := writer.Hold(0, route)
 			for i := 0; i < 1000 && err == nil && held == nil; i++ {
 				if err = writer.Measure(0, route, 1); err == nil {
@@ -341,6 +347,77 @@ func TestGoroutinesReadAtOnce(t *testing.T) {
 				t.Error(told)
 			}
 		}(uint64(i) + 2)
+	}
+	group.Wait()
+}
+
+// What is refused of a list is told by its place, and the others are recorded.
+func TestListsAreRecorded(t *testing.T) {
+	w := newWriter(t, 1)
+	number := uint64(must[int](t)(w.Hold(0, must[Attributes](t)(NewAttributes()))))
+	refused := map[int]Code{}
+	tell := func(place int, why Refused) { refused[place] = why.Code }
+	list := []Noted{{number, -1}, {number, 3}, {number + 1, 1}, {number, 4}, {number, math.MaxInt64}}
+	err := w.MeasureAll(list, tell)
+	if wanted := map[int]Code{0: ErrNegative, 2: ErrNoHeld, 4: ErrOverflow}; err != nil || !reflect.DeepEqual(refused, wanted) {
+		t.Fatal(refused, err)
+	}
+	if err := w.MeasureAll(nil, tell); err != nil {
+		t.Fatal(err)
+	}
+	g := must[Gateway](t)(OpenGateway(1))
+	must[uint64](t)(g.Take(must[Export](t)(w.Collect(200))))
+	if total(t, g) != "7" {
+		t.Fatal(total(t, g))
+	}
+	w.Close()
+	if err := w.MeasureAll(list, tell); !errors.Is(err, ErrNothing) || len(refused) != 3 {
+		t.Fatal(refused, err)
+	}
+}
+
+// What nobody closes is given up by finalizers.
+func TestWhatIsForgottenIsGivenUp(t *testing.T) {
+	w := newWriter(t, 1)
+	for n := 0; n < 1000; n++ {
+		if err := w.Measure(0, must[Attributes](t)(NewAttributes(attribute.Int("n", n))), 1); err != nil {
+			t.Fatal(err)
+		}
+	}
+	bytes := must[[]byte](t)(must[Export](t)(w.Collect(200)).Encode())
+	before := 0
+	for turn := 0; turn <= 400; turn++ {
+		must[Export](t)(DecodeExport(bytes))
+		if turn%50 == 0 {
+			runtime.GC()
+		}
+		if turn == 100 {
+			before = resident()
+		}
+	}
+	if grown := resident() - before; grown > 64 {
+		t.Fatalf("the process grew by %d MB", grown)
+	}
+}
+
+// Two goroutines merge two gateways into each other, and compare them.
+func TestGatewaysAreMergedIntoEachOther(t *testing.T) {
+	gateways := []Gateway{must[Gateway](t)(OpenGateway(1)), must[Gateway](t)(OpenGateway(2))}
+	export := must[Export](t)(newWriter(t, 1).Collect(200))
+	var group sync.WaitGroup
+	for i := range gateways {
+		group.Add(1)
+		go func(i int) {
+			defer group.Done()
+			for turn := 0; turn < 2000; turn++ {
+				_, taken := gateways[i].Take(export)
+				_, merged := gateways[i].Merge(gateways[1-i])
+				_, same := gateways[i].Same(gateways[1-i])
+				if taken != nil || merged != nil || same != nil {
+					t.Error(taken, merged, same)
+				}
+			}
+		}(i)
 	}
 	group.Wait()
 }

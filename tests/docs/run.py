@@ -11,7 +11,7 @@ In PAGES each file of the repository that is named in code letters is there, and
 files of specs/ that DEFINITIONS names exist. README's table has each crate once, and ARCHITECTURE's has what crates.txt says. The crates
 that README copies are COPIED and those that it stands on. The files that CONTRIBUTING lists as rooms of a word are those that name it.
 
-README, CONTRIBUTING and the pages right in docs/, but for UNBOUND, are easy to read. No sentence has more than MOST_WORDS words, code in letters
+README, CONTRIBUTING and the pages right in docs/ are easy to read. No sentence has more than MOST_WORDS words, code in letters
 counted as one; a heading, a cell of a table and a list's item stand by themselves. No line is wider than MOST_WIDE, but for a row of a table, what is
 fenced, and a word that can't be parted. No cell of a table is wider than MOST_IN_CELL.
 
@@ -32,8 +32,6 @@ import sys
 TOP = pathlib.Path(sys.argv[1] if sys.argv[1:] else pathlib.Path(__file__).resolve().parents[2]).resolve()
 PAGES = ["README.md", "CONTRIBUTING.md", *(f"docs/{it}.md" for it in ("ARCHITECTURE", "BYTES", "DECISIONS", "DEFINITIONS", "GATE", "GOSSIP", "GUIDE", "HISTORIES", "PERFORMANCE", "PROMISES", "SCRIPTS"))]
 MOST_WORDS, MOST_WIDE, MOST_IN_CELL = 29, 140, 200
-# Pages that are not held to these numbers yet.
-UNBOUND = {"docs/EMBEDDING.md", "docs/INTEROP.md", "docs/PERFORMANCE.md"}
 # The crate that README copies to another repository.
 COPIED = "first"
 # Names in code letters that are none of the kit's.
@@ -43,7 +41,12 @@ PAGES_ALONE = {"schedule_kit", "uses"}
 # The public types, by their crates, that contracts speak of and that no code makes.
 OF_CONTRACTS = {"gateway_kit": {"GatewayChange"}, "writer_kit": {"WriterChange"}}
 # Those that are for other crates of the kit alone, or a part of one of OF_CONTRACTS.
-OF_THE_KIT = {"agg_kit": {"Places"}, "writer_kit": {"Recordings"}}
+OF_THE_KIT = {
+    "agg_kit": {"Places"},
+    "writer_kit": {"Recordings"},
+    # (the program `otm` is the caller of file_kit)
+    "file_kit": {"PageFormat", "FileCommand", "CommandFault", "FileFault", "SendFault"},
+}
 FN = re.compile(r"( *)(?:pub(?:\(crate\))? )?(?:unsafe )?(?:extern \"C\" )?fn (\w+)")
 OWNER = re.compile(r"(?:pub(?:\(crate\))? )?(?:unsafe )?(?:impl|trait)\b(?:<[^{]*?> )? ?(?:[\w:<>, &']+ for )?&?(?:\w+::)*(\w+)")
 SPAN = r"`[^`\n]+`"
@@ -333,8 +336,7 @@ class Docs:
         for file in sorted([TOP / "README.md", TOP / "CONTRIBUTING.md", *TOP.glob("docs/**/*.md"), *TOP.glob("wip/*.md")]):
             self.check_page(str(file.relative_to(TOP)))
         for file in [TOP / "README.md", TOP / "CONTRIBUTING.md", *sorted(TOP.glob("docs/*.md"))]:
-            if str(file.relative_to(TOP)) not in UNBOUND:
-                self.check_reading(str(file.relative_to(TOP)))
+            self.check_reading(str(file.relative_to(TOP)))
         self.check_definitions()
         self.check_tables()
         self.check_copied()

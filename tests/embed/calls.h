@@ -18,8 +18,8 @@
 
 /* What a handle can have. */
 enum kind {
-    NOTHING, PAIRS, ATTRIBUTES, STREAMS, INSTRUMENTS, VIEW, VIEWS, KEYS, PLAN, WRITER, EXPORT, GATEWAY, NODE, MESSAGE, SEAT, RECORDER,
-    ASK, TOLD_TEXT, BYTES, SUM_ROWS, GAUGE_ROWS, HISTOGRAM_ROWS, KINDS, ROWS /* of any shape */, TOTALS /* of a sum or of a histogram */
+    NOTHING, PAIRS, ATTRIBUTES, STREAMS, INSTRUMENTS, VIEW, VIEWS, KEYS, PLAN, WRITER, EXPORT, EXPORTS, GATEWAY, NODE, MESSAGE, SEAT, RECORDER,
+    ASK, INCARNATIONS, TOLD_TEXT, BYTES, SUM_ROWS, GAUGE_ROWS, HISTOGRAM_ROWS, KINDS, ROWS /* of any shape */, TOTALS /* of a sum or of a histogram */
 };
 
 /* How a call has a handle: something must be there and is changed, or may be; it is empty and is filled; or what is there is only read. */
@@ -47,9 +47,9 @@ static _Thread_local uint8_t shape;
 static _Thread_local bool truth;
 static _Thread_local uint32_t id, other_id;
 static _Thread_local uint8_t room[256];
-/* The bytes of an export, and of a message. */
-static uint8_t encoded[1024], told[1024];
-static size_t encoded_len, told_len;
+/* The bytes of an export, of a message, and of a request. */
+static uint8_t encoded[1024], told[1024], posted[1024];
+static size_t encoded_len, told_len, posted_len;
 static _Thread_local kit_taken taken;
 
 /* A thing of a kind in an empty handle: of the scope app the counter requests, at no attributes 7, from shop since 100 at 200. */
@@ -93,6 +93,7 @@ static void make(enum kind kind, kit_handle *it) {
         make(WRITER, &one);
         MUST(kit_writer_collect((void *)&one, 200, (void *)it, &place));
         break;
+    case EXPORTS: MUST(kit_exports_of_otlp((void *)it, posted, posted_len, &place)); break;
     case GATEWAY:
         make(EXPORT, &one);
         MUST(kit_gateway_open((void *)it, 1));
@@ -120,6 +121,10 @@ static void make(enum kind kind, kit_handle *it) {
         MUST(kit_recorder_measure_held((void *)it, 0, 7));
         break;
     case ASK: MUST(kit_ask_sum((void *)it, TEXT("app"), TEXT("requests"), TEXT("1"), true)); break;
+    case INCARNATIONS:
+        make(GATEWAY, &one);
+        MUST(kit_gateway_incarnations((void *)&one, (void *)it));
+        break;
     case TOLD_TEXT:
         make(ROWS, &one);
         MUST(kit_rows_table((void *)&one, (void *)it));
@@ -243,6 +248,17 @@ CALL(rows_wide_sum, AS(rows, 0), 0, &place, &second)
 CALL(rows_wide_count, AS(rows, 0), 0, &place, &second)
 CALL(gateway_encode, AS(gateway, 0), AS(bytes, 1))
 CALL(message_gateway, AS(message, 0), AS(gateway, 1))
+CALL(export_otlp, AS(export, 0), AS(bytes, 1), &place)
+CALL(exports_of_otlp, AS(exports, 0), posted, posted_len, &place)
+CALL(exports_len, AS(exports, 0), &size)
+CALL(exports_read, AS(exports, 0), 0, AS(export, 1))
+CALL(gateway_openmetrics, AS(gateway, 0), false, TEXT(""), AS(text, 1))
+CALL(gateway_prometheus, AS(gateway, 0), true, TEXT("shop"), AS(text, 1))
+CALL(gateway_incarnations, AS(gateway, 0), AS(incarnations, 1))
+CALL(message_incarnations, AS(message, 0), AS(incarnations, 1))
+CALL(incarnations_len, AS(incarnations, 0), &size)
+CALL(incarnations_read, AS(incarnations, 0), 0, &place, &second, &third, &fourth, &size)
+CALL(incarnations_service, AS(incarnations, 0), 0, room, sizeof room, &size)
 
 #define ROW(name, ...) {#name, name, {__VA_ARGS__}}
 static const struct row CALLS[] = {
@@ -280,7 +296,12 @@ static const struct row CALLS[] = {
     ROW(attributes_text, {READ, ATTRIBUTES}), ROW(plan_streams, {READ, PLAN}, {FILLED, STREAMS}), ROW(streams_len, {READ, STREAMS}),
     ROW(streams_text, {READ, STREAMS}), ROW(streams_shape, {READ, STREAMS}), ROW(streams_bounds, {READ, STREAMS}),
     ROW(ask_stream, {FILLED, ASK}, {READ, STREAMS}), ROW(rows_wide_sum, {READ, TOTALS}), ROW(rows_wide_count, {READ, HISTOGRAM_ROWS}),
-    ROW(gateway_streams, {READ, GATEWAY}, {FILLED, STREAMS}), ROW(gateway_encode, {READ, GATEWAY}, {FILLED, BYTES}), ROW(message_gateway, {READ, MESSAGE}, {FILLED, GATEWAY}),
+    ROW(gateway_streams, {READ, GATEWAY}, {FILLED, STREAMS}), ROW(gateway_encode, {READ, GATEWAY}, {FILLED, BYTES}),
+    ROW(message_gateway, {READ, MESSAGE}, {FILLED, GATEWAY}), ROW(export_otlp, {READ, EXPORT}, {FILLED, BYTES}),
+    ROW(exports_of_otlp, {FILLED, EXPORTS}), ROW(exports_len, {READ, EXPORTS}), ROW(exports_read, {READ, EXPORTS}, {FILLED, EXPORT}),
+    ROW(gateway_openmetrics, {READ, GATEWAY}, {FILLED, TOLD_TEXT}), ROW(gateway_prometheus, {READ, GATEWAY}, {FILLED, TOLD_TEXT}),
+    ROW(gateway_incarnations, {READ, GATEWAY}, {FILLED, INCARNATIONS}), ROW(message_incarnations, {READ, MESSAGE}, {FILLED, INCARNATIONS}),
+    ROW(incarnations_len, {READ, INCARNATIONS}), ROW(incarnations_read, {READ, INCARNATIONS}), ROW(incarnations_service, {READ, INCARNATIONS}),
 };
 
 static bool is_read(struct hand hand) { return hand.part == READ || hand.part == MAY_READ; }
@@ -305,15 +326,18 @@ static void expect(const struct row *row, const char *what, int hand, int kind, 
     exit(1);
 }
 
-/* The bytes of an export and of a message, for the calls that read them. */
+/* The bytes of an export, of a message and of a request, for the calls that read them. */
 static void prepare(void) {
-    kit_handle bytes = {0}, message = {0};
-    make(BYTES, &bytes), make(MESSAGE, &message);
+    kit_handle bytes = {0}, message = {0}, made = {0};
+    make(BYTES, &bytes), make(MESSAGE, &message), make(EXPORT, &made);
     MUST(kit_bytes_copy((kit_bytes *)&bytes, encoded, sizeof encoded, &encoded_len) || encoded_len > sizeof encoded);
     kit_free(&bytes);
     MUST(kit_message_encode((kit_message *)&message, (kit_bytes *)&bytes));
     MUST(kit_bytes_copy((kit_bytes *)&bytes, told, sizeof told, &told_len) || told_len > sizeof told);
-    kit_free(&bytes), kit_free(&message);
+    kit_free(&bytes);
+    MUST(kit_export_otlp((kit_export *)&made, (kit_bytes *)&bytes, &place));
+    MUST(kit_bytes_copy((kit_bytes *)&bytes, posted, sizeof posted, &posted_len) || posted_len > sizeof posted);
+    kit_free(&bytes), kit_free(&message), kit_free(&made);
 }
 
 #endif

@@ -1,27 +1,7 @@
-/* Every refusal, raised once: what it answers, the place that it tells, and that it leaves all as it was; but for KIT_EXHAUSTED, for which
- * 2^62 changes are wanting. Growths of calls refused one after the other (linked with --wrap=malloc,--wrap=realloc). Prints the first
- * check that does not hold and exits with 1, or exits with 0. handles.c has what each call makes of handles. */
-#include <kotskhin.h>
-#include <stdio.h>
-#include <stdlib.h>
-#include <string.h>
-
-#define TEXT(s) (const uint8_t *)(s), sizeof(s) - 1
-#define CHECK(holds)                                            \
-    do {                                                        \
-        if (!(holds)) {                                         \
-            printf("line %d: %s does not hold\n", __LINE__, #holds); \
-            exit(1);                                            \
-        }                                                       \
-    } while (0)
-
-void *__real_malloc(size_t size);
-void *__real_realloc(void *at, size_t size);
-
-/* The growth that is refused, counted from 1; 0 for none. */
-static unsigned refused = 0;
-
-static bool refuses(void) { return refused && !--refused; }
+/* Every refusal, raised once: what it answers, the place that it tells, and that it leaves all as it was; but for those of formats.c. KIT_EXHAUSTED
+ * wants 2^62 changes: for it the number is lowered where it lies in memory. Growths of calls refused one after the other (linked with --wrap=malloc,--wrap=realloc,--wrap=free).
+ * Prints the first check that does not hold and exits with 1, or exits with 0. handles.c has what each call makes of handles. */
+#include "growths.h"
 
 /* The seat that records and splits in the midst of another's call, and what it is answered. */
 static kit_seat *meddles = NULL;
@@ -32,37 +12,13 @@ static void meddle(void) {
     kit_export collected = KIT_EMPTY;
     uint64_t place = 77;
     unsigned after = refused;
-    meddles = NULL, refused = 0;
+    meets = NULL, refused = 0;
     meddled[0] = kit_seat_measure_held(seat, 0, 1, &place);
     meddled[1] = kit_seat_collect(seat, 300, &collected, &place);
     meddled[2] = kit_seat_split(seat, &made);
     CHECK(place == 77 && !made.handle.full && !collected.handle.full);
     refused = after;
 }
-
-void *__wrap_malloc(size_t size) {
-    if (meddles) meddle();
-    return refuses() ? NULL : __real_malloc(size);
-}
-
-void *__wrap_realloc(void *at, size_t size) { return refuses() ? NULL : __real_realloc(at, size); }
-
-/* Makes a call again until no growth of it is refused: each refusal says so, and leaves all as it was. */
-#define EACH_GROWTH(call, as_before)             \
-    do {                                         \
-        unsigned growth = 0;                     \
-        for (;;) {                               \
-            refused = ++growth;                  \
-            int32_t code = (call);               \
-            refused = 0;                         \
-            if (code == KIT_OK) {                \
-                break;                           \
-            }                                    \
-            CHECK(code == KIT_NO_MEMORY);        \
-            CHECK(as_before);                    \
-        }                                        \
-        CHECK(growth > 1);                       \
-    } while (0)
 
 static uint64_t place, second, changed;
 
@@ -547,9 +503,9 @@ static void seats(kit_plan *plan, kit_attributes *none, kit_attributes *four) {
     CHECK(kit_seat_collect(&seat, 100, &collected, &place) == KIT_TIME_NOT_AFTER && place == 100 && !collected.handle.full);
     /* Each growth of a collection is in the midst of it, where another seat's calls are to find the writer in use. */
     for (int i = 0; i < 3; i++) meddled[i] = KIT_OK;
-    meddles = &seat;
+    meddles = &seat, meets = meddle;
     refused = 3;
-    CHECK(kit_seat_collect(&more, 200, &collected, &place) == KIT_NO_MEMORY && !meddles);
+    CHECK(kit_seat_collect(&more, 200, &collected, &place) == KIT_NO_MEMORY && !meets);
     refused = 0;
     CHECK(meddled[0] == KIT_BUSY && meddled[1] == KIT_BUSY && meddled[2] == KIT_BUSY && seat.handle.full);
     EACH_GROWTH(kit_seat_collect(&more, 200, &collected, &place), !collected.handle.full && more.handle.full);
@@ -580,6 +536,63 @@ static size_t len_of(kit_recorder *recorder) {
     size_t count = 77;
     CHECK(!kit_recorder_len(recorder, &count));
     return count;
+}
+
+/* The blocks that sharing a writer takes. */
+static struct { void *at; size_t size; } blocks[64];
+static size_t noted = 0;
+
+static void note(void *at, size_t size) {
+    CHECK(noted < sizeof blocks / sizeof *blocks);
+    blocks[noted].at = at, blocks[noted].size = size, noted++;
+}
+
+void __real_free(void *at);
+
+void __wrap_free(void *at) {
+    for (size_t i = 0; i < noted; i++) {
+        if (blocks[i].at == at) blocks[i].size = 0;
+    }
+    __real_free(at);
+}
+
+/* Writes a number in the place of the only word of these blocks that is another. */
+static void poke(uint64_t number, uint64_t other) {
+    uint64_t *found = NULL;
+    for (size_t i = 0; i < noted; i++) {
+        uint64_t *words = blocks[i].at;
+        for (size_t word = 0; word < blocks[i].size / sizeof *words; word++) {
+            if (words[word] != number) continue;
+            CHECK(!found);
+            found = &words[word];
+        }
+    }
+    CHECK(found);
+    *found = other;
+}
+
+/* A shared writer that may accept no more than 3 changes. */
+static void exhausted(kit_plan *plan, kit_attributes *none, kit_attributes *four) {
+    kit_writer writer = KIT_EMPTY;
+    kit_seat seat = KIT_EMPTY;
+    kit_recorder recorder = KIT_EMPTY;
+    kit_export collected = KIT_EMPTY;
+    kit_taken told = {.first = 77};
+    size_t number = 77;
+    CHECK(!kit_writer_start(&writer, plan, TEXT("shop"), 0, 1, 100));
+    notes = note;
+    CHECK(!kit_writer_share(&writer, &seat));
+    notes = NULL;
+    poke(UINT64_C(1) << 62, 3);
+    CHECK(!kit_seat_measure(&seat, 0, none, 7, &place) && !kit_seat_hold(&seat, 0, none, &number) && number == 0);
+    CHECK(!kit_seat_measure_held(&seat, 0, 1, &place));
+    place = 77;
+    CHECK(kit_seat_measure(&seat, 0, none, 7, &place) == KIT_EXHAUSTED && kit_seat_measure_held(&seat, 0, 1, &place) == KIT_EXHAUSTED);
+    CHECK(kit_seat_hold(&seat, 0, four, &number) == KIT_EXHAUSTED && !kit_seat_hold(&seat, 0, none, &number) && number == 0);
+    CHECK(kit_seat_collect(&seat, 200, &collected, &place) == KIT_EXHAUSTED && !collected.handle.full && place == 77);
+    CHECK(!kit_recorder_new(&recorder, 8) && !kit_recorder_measure_held(&recorder, 0, 1));
+    CHECK(kit_seat_take_in(&seat, &recorder, 1, &told) == KIT_EXHAUSTED && told.first == 77 && len_of(&recorder) == 1);
+    kit_seat_free(&seat), kit_recorder_free(&recorder);
 }
 
 /* Whether what was told of a log says so. */
@@ -875,6 +888,7 @@ int main(void) {
     histograms();
     nodes(&plan, &none);
     seats(&plan, &none, &four);
+    exhausted(&plan, &none, &four);
     writers_apart(&plan, &none);
     recorders(&plan, &none);
     logs_in(&none, &four);

@@ -16,8 +16,14 @@ A handle of each kind in the place of each other is refused by each compiler of 
 and callers in C and Rust that misuse the library must not compile. The shared library has its name, and gives the calls of the header alone.
 Then exports between processes: examples/pipe, a writer in C and a gateway in Rust, and examples/broker, where there is a redis-server.
 
-The lines that docs/EMBEDDING.md has one type are run twice over one folder, and its table of what wrappers lack is compared with them
-(lacks.py). What the machine has not is told and passed over.
+In Go and Python the wrappers perform the cases that all languages share (cases.json), the wheel is put into a fresh environment, and the first
+programs of docs/GO.md and docs/PYTHON.md print what these say.
+
+In C++ and Rust they perform the cases, too (cpp/run.py, and a test of the crates). cpp/run.py and rust/run.py do what else is of one of
+these alone; package/run.py uses what embed/package/make packs, in each language by two commands.
+
+The lines that docs/EMBEDDING.md has one type are run twice over one folder, and each wrapper has each call, or it is said why not
+(features.py). What the machine has not is told and passed over.
 
 This ends with a status other than 0 where one fails or differs. It leaves nothing in the tree but what lies in out/."""
 import os
@@ -46,6 +52,7 @@ FEW_LISTS = ("1000",)
 FEW_POINTS = ("1024",)
 FEW_READS = "4"
 WRAPPED = ["-Wl,--wrap=malloc,--wrap=realloc"]
+FREED = ["-Wl,--wrap=free"]
 ERROR = re.compile(r"^// (error\[E\d+\])$", re.M)
 WARNING = re.compile(r"^// error: ([\w-]+)$", re.M)
 
@@ -85,8 +92,8 @@ class Run:
             self.run(what, program, *words, prints=prints, env={**os.environ, "ASAN_OPTIONS": "detect_leaks=1"})
 
     def covered(self):
-        """Whether calls.h has a row for each call that the header has, which reads what the header says, and refusals.c raises each code, but for
-        one that takes too long."""
+        """Whether calls.h has a row for each call that the header has, which reads what it says, and refusals.c and formats.c raise each code,
+        but for that of a request of 2 GiB."""
         header = (EMBED / "c" / "kotskhin.h").read_text(encoding="utf-8")
         wanted, rows = set(), set()
         for name, given in re.findall(r"KIT_CHECKED int32_t kit_(\w+)\(([^)]*)\);", header):
@@ -97,9 +104,9 @@ class Run:
         fault = f"not {sorted(it[0] for it in wanted ^ rows)}" if wanted != rows else None
         self.say("C: calls.h has each call, and what it reads", fault)
         answers = re.search(r"What calls answer.*?};", header, re.S)[0]
-        codes = set(re.findall(r"(KIT_\w+) = [1-9]", answers)) - {"KIT_EXHAUSTED"}
-        raised = set(re.findall(r"== (KIT_\w+)", (HERE / "refusals.c").read_text(encoding="utf-8")))
-        self.say("C: refusals.c raises each code", f"not {sorted(codes - raised)}" if codes - raised else None)
+        codes = set(re.findall(r"(KIT_\w+) = [1-9]", answers)) - {"KIT_TOO_LONG"}
+        raised = {it for name in ("refusals.c", "formats.c") for it in re.findall(r"== (KIT_\w+)", (HERE / name).read_text(encoding="utf-8"))}
+        self.say("C: each code is raised", f"not {sorted(codes - raised)}" if codes - raised else None)
 
     def c(self):
         self.covered()
@@ -111,7 +118,8 @@ class Run:
             for how, flags in (("", ["-O2"]), (" under sanitizers", ASAN)):
                 self.compiled(f"C, {compiler}{how}: the first script", compiler, EMBED / "c" / "first.c", C + flags, WANTED)
                 self.compiled(f"C, {compiler}{how}: an exporter", compiler, EMBED / "c" / "exporter.c", C + flags, EXPORTED)
-                self.compiled(f"C, {compiler}{how}: refusals", compiler, HERE / "refusals.c", C + flags + WRAPPED)
+                self.compiled(f"C, {compiler}{how}: refusals", compiler, HERE / "refusals.c", C + flags + WRAPPED + FREED)
+                self.compiled(f"C, {compiler}{how}: other formats, and incarnations", compiler, HERE / "formats.c", C + flags + WRAPPED)
                 self.compiled(f"C, {compiler}{how}: handles", compiler, HERE / "handles.c", C + flags + WRAPPED)
                 self.compiled(f"C, {compiler}{how}: threads", compiler, HERE / "threads.c", C + flags)
                 self.compiled(f"C, {compiler}{how}: threads that read", compiler, HERE / "reads.c", C + flags)
@@ -131,7 +139,8 @@ class Run:
             return
         program, libraries = self.room / "program", [it for it in self.linked if not it.startswith("-I")]
         for what, source, flags, tool in (
-            ("every refusal", "refusals.c", WRAPPED, ["--leak-check=full", "--track-origins=no"]),
+            ("every refusal", "refusals.c", WRAPPED + FREED, ["--leak-check=full", "--track-origins=no"]),
+            ("other formats", "formats.c", WRAPPED, ["--leak-check=full", "--track-origins=no"]),
             ("threads that read", "reads.c", [], ["--tool=helgrind"]),
         ):
             command = [compiler, *C, "-g", "-O1", *flags, self.linked[0], HERE / source, *libraries, "-o", program]
@@ -175,6 +184,8 @@ class Run:
             for how, flags in (("", ["-O2"]), (" under sanitizers", ASAN)):
                 self.compiled(f"C++, {compiler}{how}: the first script", compiler, EMBED / "cpp" / "first.cpp", CPP + flags, WANTED)
                 self.compiled(f"C++, {compiler}{how}: recorders", compiler, HERE / "recorders.cpp", CPP + flags)
+        for what in ("cases", "kit", "otel", "readers", "page"):
+            self.run(f"C++: {what}", sys.executable, "-B", HERE / "cpp" / "run.py", self.kit, what)
 
     def rust(self):
         if not self.works("cargo"):
@@ -188,6 +199,8 @@ class Run:
         self.run("Rust: built", "cargo", "build", "-q", "--offline", "--locked", **cargo)
         for caller in sorted((HERE / "misuse").glob("*.rs")):
             self.misused(caller, target / "debug")
+        for what in ("clean", "package", "page"):
+            self.run(f"Rust: {what}", sys.executable, "-B", HERE / "rust" / "run.py", self.kit, target, what)
 
     def misused(self, caller, built):
         """A caller that must not compile, and the error that says so."""
@@ -202,12 +215,14 @@ class Run:
         if not shutil.which("go"):
             print("Go: there is no go")
             return
-        given = {"CGO_CFLAGS": f"-I{self.kit}/include", "CGO_LDFLAGS": f"-L{self.kit}/lib -lkotskhin", "GOCACHE": f"{self.room}/go", "GOFLAGS": "-mod=mod", "GOPROXY": "off"}
+        given = {"PKG_CONFIG_PATH": f"{self.kit}/lib/pkgconfig", "GOCACHE": f"{self.room}/go", "GOFLAGS": "-mod=mod", "GOPROXY": "off"}
         program = self.room / "program"
         go = {"cwd": EMBED / "go", "env": {**os.environ, **given}}
         if self.run("Go: compiled", "go", "build", "-o", program, "./first", **go):
             self.run("Go: the first script", program, prints=WANTED)
-        self.run("Go: tests", "go", "test", "-count=1", ".", **go)
+        self.run("Go: vetted", "go", "vet", "./...", **go)
+        self.run("Go: the shared cases, tests and examples", "go", "test", "-count=1", "./...", **go)
+        self.run("Go: the first program of its page", sys.executable, "-B", HERE / "go" / "page.py", env=go["env"])
 
     def shared(self):
         """The shared library has its name, and gives the calls of the header and nothing else."""
@@ -229,8 +244,8 @@ class Run:
             return
         given = {**os.environ, "KOTSKHIN_SO": str(shared)}
         self.run("Python: the first script", sys.executable, "-B", EMBED / "python" / "first.py", prints=WANTED, env=given)
-        self.run("Python: recorders", sys.executable, "-B", HERE / "recorders.py", env=given)
-        self.run("Python: numbers, refusals and forks", sys.executable, "-B", HERE / "wrapper.py", env=given)
+        for what, name in (("the shared cases", "cases"), ("the kit", "kit"), ("OpenTelemetry's names", "metrics"), ("the wheel", "package")):
+            self.run(f"Python: {what}", sys.executable, "-B", HERE / "python" / f"{name}.py", env=given)
         self.broker(given)
 
     def broker(self, given):
@@ -262,9 +277,13 @@ class Run:
             fault = f"it printed\n{done.stdout.decode(errors='replace')}\nwhere the writer {counted.decode(errors='replace')}"
         self.say("Pipe: what the gateway has is what the writer counted", fault)
 
+    def package(self):
+        """What embed/package/make packs, unpacked into a fresh folder."""
+        self.run("Package: two commands in each language", sys.executable, "-B", HERE / "package" / "run.py", self.kit)
+
     def documented(self):
         """The lines of docs/EMBEDDING.md, twice over one folder: what the first turn leaves must not stand in the way of the second."""
-        self.run("Docs: what each wrapper lacks", sys.executable, "-B", HERE / "lacks.py")
+        self.run("Docs: what each language has", sys.executable, "-B", HERE / "features.py")
         folder = self.room / "documented"
         shutil.copytree(self.kit, folder, symlinks=True)
         page = (TOP / "docs" / "EMBEDDING.md").read_text(encoding="utf-8")
@@ -303,7 +322,7 @@ def main():
         if len(sys.argv) < 2 and not laid_out(kit):
             return 1
         run = Run(kit, room)
-        for language in (run.c, run.watched, run.cpp, run.rust, run.pipe, run.go, run.shared, run.python, run.documented):
+        for language in (run.c, run.watched, run.cpp, run.rust, run.pipe, run.go, run.shared, run.python, run.package, run.documented):
             language()
     print(f"{run.passed} passed, {run.failed} failed, in {time.time() - began:.0f} s")
     return 1 if run.failed else 0

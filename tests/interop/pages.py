@@ -3,9 +3,10 @@
 
     pages.py
 
-The pages are the constants of crates/page_kit/src/tests.rt, to which the crate's tests hold `openmetrics` and `prometheus`. `promtool` checks each page
-of the text format, and both parsers of Prometheus' client for Python read theirs: no sample may stand twice, and the families are those that the
-page's metadata names. A reader that is not on this machine is told and passed over.
+The pages are the constants of crates/page_kit/src/tests.rt, to which the crate's tests hold `openmetrics` and `prometheus`: a page is a
+list of parts. `promtool` checks each page of the text format, and both parsers of Prometheus' client for Python read theirs: no sample
+may stand twice, and the families are those that the page's metadata names. A reader that is not on this machine is a fault, unless
+GATE_WITHOUT names it, as GATE_WITHOUT=promtool,python3-prometheus-client.
 
 This ends with a status other than 0 where one refuses a page."""
 import json
@@ -14,9 +15,14 @@ import re
 import shutil
 import subprocess
 import sys
+import typing
+
+sys.dont_write_bytecode = True
+import wanted
 
 TESTS = pathlib.Path(__file__).resolve().parents[2] / "crates" / "page_kit" / "src" / "tests.rt"
-PAGE = re.compile(r'^const (\w+): &str = ("(?:[^"\\]|\\.)*");', re.M | re.S)
+PART = re.compile(r'^const (\w+): &str =\s+("(?:[^"\\]|\\.)*");', re.M | re.S)
+PAGE = re.compile(r"^const (\w+): \[&str; \d+\] = \[([^]]*)\];", re.M)
 # A status of promtool: the page was read, and there are remarks on its names.
 REMARKS = 3
 READER = """
@@ -35,11 +41,21 @@ for family in (openmetrics if sys.argv[1] == "openmetrics" else prometheus)(page
 """
 
 
+class Page(typing.NamedTuple):
+    """A page: the name of its constant, its format, and its text."""
+
+    name: str
+    form: str
+    text: str
+
+
 def pages():
-    """The name, the format and the text of each page."""
-    for name, literal in PAGE.findall(TESTS.read_text()):
-        text = json.loads(literal.replace("\\0", "\\u0000").replace("\n", "\\n"))
-        yield name, "openmetrics" if text.endswith("# EOF\n") else "prometheus", text
+    """Each page of the tests, in their order."""
+    tests = TESTS.read_text(encoding="utf-8")
+    parts = {name: json.loads(literal.replace("\n", "\\n")) for name, literal in PART.findall(tests)}
+    for name, names in PAGE.findall(tests):
+        text = "".join(parts[it] for it in re.findall(r"\w+", names))
+        yield Page(name, "openmetrics" if text.endswith("# EOF\n") else "prometheus", text)
 
 
 def families(text):
@@ -50,32 +66,38 @@ def families(text):
 def python():
     """A Python that has Prometheus' client, if there is one."""
     for it in (sys.executable, "/usr/bin/python3"):
-        if subprocess.run([it, "-c", "import prometheus_client"], capture_output=True).returncode == 0:
+        if subprocess.run([it, "-c", "import prometheus_client"], capture_output=True, check=False).returncode == 0:
             return it
     return None
 
 
-def fault_of(reader, form, text):
-    said = subprocess.run([reader, "-c", READER, form], input=text, capture_output=True, text=True, timeout=60)
+def fault_of(reader, page):
+    """What the client's parser has against a page."""
+    said = subprocess.run([reader, "-c", READER, page.form], input=page.text, capture_output=True, text=True, timeout=60, check=False)
     if said.returncode:
         return said.stderr
-    read = {it + "_total" if form == "prometheus" and it + "_total" in families(text) else it for it in said.stdout.split()}
-    return "" if read == families(text) else f"the parser reads the families {sorted(read)}"
+    told = families(page.text)
+    read = {it + "_total" if page.form == "prometheus" and it + "_total" in told else it for it in said.stdout.split()}
+    return "" if read == told else f"the parser reads the families {sorted(read)}"
+
+
+def remarks_of(page):
+    """What promtool has against a page of the text format; what it remarks on names is none."""
+    said = subprocess.run(["promtool", "check", "metrics"], input=page.text, capture_output=True, text=True, timeout=60, check=False)
+    return said.stderr if said.returncode not in (0, REMARKS) else ""
 
 
 def main():
-    reader, promtool = python(), shutil.which("promtool")
-    faults = 0
-    for name, form, text in pages():
-        fault = fault_of(reader, form, text) if reader else ""
-        if promtool and form == "prometheus":
-            said = subprocess.run([promtool, "check", "metrics"], input=text, capture_output=True, text=True, timeout=60)
-            fault += said.stderr if said.returncode not in (0, REMARKS) else ""
+    reader = python()
+    reads, faults = wanted.look("python3-prometheus-client", reader)
+    checks, more = wanted.look("promtool", shutil.which("promtool"))
+    faults += more
+    for page in pages():
+        fault = fault_of(reader, page) if reads else ""
+        if checks and page.form == "prometheus":
+            fault += remarks_of(page)
         faults += bool(fault)
-        print(f"{name}: {fault or 'ok'}")
-    for it, there in (("Prometheus' client for Python", reader), ("promtool", promtool)):
-        if not there:
-            print(f"interop: no {it} on this machine, passed over")
+        print(f"{page.name}: {fault or 'ok'}")
     return min(faults, 1)
 
 

@@ -1,20 +1,26 @@
 #!/usr/bin/env python3
-"""Requests of otlp_kit beside Google's library for Protocol Buffers.
+"""What the kit writes for others, beside their own readers.
 
     run.py
 
-The requests are the constants of crates/otlp_kit/src/tests.rt, to which the crate's tests hold `encode_otlp`. `protoc` reads each by
-otlp_metrics.proto, the part of opentelemetry-proto that the kit writes. What protoc writes of its own reading must be the same bytes: so
-no field has another number or type, and none was passed over. Without protoc this is told and passed over.
+The requests are the constants of crates/otlp_kit/src/tests.rt, to which the crate's tests hold `encode_otlp`. `protoc --decode` reads each
+by otlp_metrics.proto, the part of opentelemetry-proto that the kit writes. What protoc writes of its own reading must be the same bytes: so
+no field has another number or type, and none was passed over.
 
-Then come the pages of page_kit, as pages.py tells. This ends with a status other than 0 where one differs."""
+Then come the pages of page_kit: pages.py has them read, and live.py has them scraped. What is not on this machine is a fault, unless
+GATE_WITHOUT names it, as GATE_WITHOUT=protoc,promtool,python3-prometheus-client,prometheus,prometheus-pushgateway.
+
+This ends with a status other than 0 where one differs."""
 import pathlib
 import re
 import shutil
 import subprocess
 import sys
 
+sys.dont_write_bytecode = True
+import live
 import pages
+import wanted
 
 HERE = pathlib.Path(__file__).resolve().parent
 TESTS = HERE.parents[1] / "crates" / "otlp_kit" / "src" / "tests.rt"
@@ -24,7 +30,7 @@ MESSAGE = "otlp.ExportMetricsServiceRequest"
 
 def requests():
     """The name and the bytes of each request."""
-    for name, length, numbers in REQUEST.findall(TESTS.read_text()):
+    for name, length, numbers in REQUEST.findall(TESTS.read_text(encoding="utf-8")):
         found = bytes(int(number) for number in numbers.split(",") if number.strip())
         if len(found) != int(length):
             sys.exit(f"{name} has {len(found)} bytes, and not {length}")
@@ -45,16 +51,13 @@ def fault_of(request):
 
 
 def main():
-    if not shutil.which("protoc"):
-        print("interop: no protoc on this machine, passed over")
-        return 0
-    faults = 0
-    for name, request in requests():
+    is_used, faults = wanted.look("protoc", shutil.which("protoc"))
+    for name, request in requests() if is_used else ():
         fault = fault_of(request)
         faults += bool(fault)
         print(f"{name}: {fault or 'ok'}")
-    return min(faults, 1)
+    return min(faults + pages.main() + live.main(), 1)
 
 
 if __name__ == "__main__":
-    sys.exit(main() or pages.main())
+    sys.exit(main())

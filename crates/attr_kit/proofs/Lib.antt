@@ -1,5 +1,4 @@
 pub mod Allowing
-pub mod DerivedOrder
 pub mod Finding
 pub mod Firsts
 pub mod Keeping

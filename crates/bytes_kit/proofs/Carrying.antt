@@ -13,14 +13,7 @@ use Rattle.bytes_kit.specs.Messages.{body_bytes, body_bytes_of, cells, message_f
 use Rattle.bytes_kit.specs.Reading.{NoneAt}
 use Rattle.bytes_kit.specs.declared.carried.Carried.TheVariants as bodies
 use Rattle.bytes_kit.proofs.Soundness.{sorted_of}
-
-first : List ℕ → ℕ
-first [] = 0
-first (x ∷ xs) = x
-
-rest_of : List ℕ → List ℕ
-rest_of [] = []
-rest_of (x ∷ xs) = xs
+use Rattle.bytes_kit.proofs.Tags.{first, rest_of}
 
 -- a delta's number, and then no cells
 pub no_delta : (mid last : List ℕ) (number : ℕ) → mid ≡ varint number ++ last → NoneAt cells IsCells last → NoneAt body_bytes IsCarried (1 ∷ mid)

@@ -5,11 +5,12 @@ use Rattle.bytes_kit.specs.Fits.{IsNumber, IsInteger, IsList, IsPair, IsPayload}
 use Rattle.bytes_kit.specs.Format.{varint, integer, list_of, pair_of, payload}
 use Rattle.bytes_kit.specs.Reading.{NoneAt}
 
-first : List ℕ → ℕ
+-- the first of a list, 0 of none, and what follows it
+unfoldable pub first : List ℕ → ℕ
 first [] = 0
 first (x ∷ xs) = x
 
-rest_of : List ℕ → List ℕ
+unfoldable pub rest_of : List ℕ → List ℕ
 rest_of [] = []
 rest_of (x ∷ xs) = xs
 

@@ -4,7 +4,7 @@ ghost use Rattle.std.specs.FinMap.Entries.{is_sorted};
 ghost use Rattle.attr_kit.specs.Attributes.{keys_have_text, AreAttributes};
 ghost use Rattle.attr_kit.specs.Orders.{text_cmp};
 ghost use Rattle.bytes_kit.specs.Explaining.{IsReadFault};
-ghost use Rattle.bytes_kit.specs.Fits.{IsInstance, IsValue, IsSet, IsShape, IsStream, IsPayload, IsPoint, IsWriter};
+ghost use Rattle.bytes_kit.specs.Fits.{IsInstance, IsInteger, IsValue, IsSet, IsShape, IsStream, IsPayload, IsPoint, IsWriter};
 ghost use Rattle.bytes_kit.specs.Format.{text, value, past_value, attributes, past_attributes, shape, stream, past_stream, point_stream, past_point_stream, payload, point, past_point, writer, past_writer, same_behind, past_same};
 ghost use Rattle.bytes_kit.specs.Laws.{text_code, text_bytes};
 ghost use Rattle.bytes_kit.specs.FieldLaws.{value_code, value_bytes, attributes_code, attributes_bytes, shape_code, shape_bytes, stream_code, stream_bytes, point_stream_code, point_stream_bytes, payload_code, payload_bytes, point_code, point_bytes, writer_code, writer_bytes};
@@ -16,7 +16,7 @@ ghost use Rattle.bytes_kit.specs.declared.fault.DecodeFault.TheVariants as fault
 use crate::DecodeFault;
 use crate::history::History;
 use crate::passage::Passage;
-use crate::passages::write_list_behind;
+use crate::passages::{text_is_utf8, write_list_behind};
 use crate::piece::Piece;
 use crate::pieces::{read_counted, to_zigzag};
 use crate::reader::Reader;
@@ -206,25 +206,32 @@ impl Passage for Stream {
     ghost has_bytes = { stream_bytes };
 }
 
-// What is known of the sizes of a shape's fields: the calls are made for their clauses.
-fn see_shape(shape: &Shape)
+// A bound is an integer of 64 bits. Does nothing.
+fn bound_is_integer(bound: i64)
+    ensures { IsInteger bound }
+{
+    to_zigzag(bound);
+}
+
+// So all bounds of a shape are. Does nothing.
+fn bounds_are_integers(shape: &Shape)
     ensures { IsShape shape.now }
 {
     if let Shape::Histogram { bounds } = shape {
         for bound in bounds.as_slice() {
-            let _number = to_zigzag(*bound);
+            bound_is_integer(*bound);
         }
     }
 }
 
-// What is known of the sizes of a stream's fields: the calls are made for their clauses.
-fn see_stream(stream: &Stream)
+// So a stream's fields are as there is a form for. Does nothing.
+fn stream_fits(stream: &Stream)
     ensures { IsStream stream.now }
 {
-    let _scope = stream.scope.as_str().as_bytes();
-    let _name = stream.name.as_str().as_bytes();
-    let _unit = stream.unit.as_str().as_bytes();
-    see_shape(&stream.shape);
+    text_is_utf8(&stream.scope);
+    text_is_utf8(&stream.name);
+    text_is_utf8(&stream.unit);
+    bounds_are_integers(&stream.shape);
 }
 
 // A stream that is not the last, or not light, behind the 1 that says so.
@@ -246,7 +253,7 @@ fn read_other(
     if history.is_last(&stream) {
         return Err(DecodeFault::NotCanonical(place));
     }
-    see_stream(&stream);
+    stream_fits(&stream);
     let stream = SharedStream::new(alloc, stream)?;
     history.keep(stream.try_copy()?);
     Ok(stream)

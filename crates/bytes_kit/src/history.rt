@@ -156,11 +156,18 @@ impl History {
         }
     }
 
-    /// How many texts came.
-    pub(crate) fn count(&self) -> usize
+    // How many texts came.
+    fn count(&self) -> usize
         ensures { result ≡ length self.now.texts }
     {
         self.texts.len()
+    }
+
+    /// Each place of a text is a number, and the next. Does nothing.
+    pub(crate) fn places_are_numbers(&self)
+        ensures { length self.now.texts < 2 ^ 63 }
+    {
+        self.texts.places_are_numbers();
     }
 
     /// The text at a place.

@@ -39,6 +39,13 @@ fn read_new(
     Ok(text)
 }
 
+// A text is in UTF-8, and as long as a number can say. Does nothing.
+pub(crate) fn text_is_utf8(text: &Txt)
+    ensures { IsText text.now }
+{
+    text.as_str().as_bytes();
+}
+
 impl Passage for Txt {
     ghost code = { text_behind };
 
@@ -47,8 +54,7 @@ impl Passage for Txt {
     ghost is_value = { IsText };
 
     fn write_behind(&self, history: &mut History, out: &mut Vec<u8>) -> Result<(), NoMemory> {
-        // The call is made for its clause: a text is UTF-8, of so many bytes.
-        let _bytes = self.as_str().as_bytes();
+        text_is_utf8(self);
         match history.enter(self)? {
             Some(place) => (place as u64 + 1).write(out),
             None => {
@@ -60,8 +66,7 @@ impl Passage for Txt {
 
     fn read_behind(reader: &mut Reader<'_>, history: &mut History) -> Result<Txt, DecodeFault> {
         let place = reader.place();
-        // No place is behind this, so that each has a number.
-        let _count = history.count();
+        history.places_are_numbers();
         let number = u64::read(reader)?;
         if number == 0 {
             return read_new(place, reader, history);

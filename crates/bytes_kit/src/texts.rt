@@ -47,10 +47,16 @@ impl Texts {
 
     /// How many there are.
     pub(crate) fn len(&self) -> usize
-        ensures value { result ≡ length self.now }
-        ensures small { result < 2 ^ 63 }
+        ensures { result ≡ length self.now }
     {
         self.texts.len()
+    }
+
+    /// There are not more than a memory has room for: so each place is a number, and the next. Does nothing.
+    pub(crate) fn places_are_numbers(&self)
+        ensures { length self.now < 2 ^ 63 }
+    {
+        self.texts.len();
     }
 
     /// The text at a place.
@@ -66,7 +72,7 @@ impl Texts {
         ensures value { result ≡ place_of self.now text.now }
         ensures small { IfSome result (λ place. place < 2 ^ 63) }
     {
-        let _len = self.len();
+        self.places_are_numbers();
         let found = self.index.seek(self.texts.as_slice(), text);
         self.index.place(self.texts.as_slice(), text, found)
     }

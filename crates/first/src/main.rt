@@ -56,7 +56,8 @@ fn ask(alloc: Global) -> Result<Ask, NoMemory> {
 
 // What the service does: it counts three requests, and four.
 fn serve(alloc: Global, writer: &mut Writer) -> Result<(), MeasureFault>
-    ensures { OnOk result (writer.new ≡ after_record (after_record writer.old (ByName (entry_of 0 [] (pos 3)))) (ByName (entry_of 0 [] (pos 4)))) }
+    ensures { OnOk result
+        (writer.new ≡ after_record (after_record writer.old (ByName (entry_of 0 [] (pos 3)))) (ByName (entry_of 0 [] (pos 4)))) }
 {
     let none = AttrSet::empty(alloc);
     writer.measure(0, &none, 3)?;

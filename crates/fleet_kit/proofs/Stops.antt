@@ -29,7 +29,7 @@ same_job : (a b : Job) → Some a ≡ Some b → a ≡ b
 same_job a b e = cc e
 
 -- what a list's elements have, which agree with another's in number and job
-pub all_carried : {A B : Type 0} (n : A → ℕ) (j : A → Job) (n' : B → ℕ) (j' : B → Job) (R : ℕ → Job → Type 0) (ds : List A) (rs : List B) → map n ds ≡ map n' rs → map j ds ≡ map j' rs → All (λ r. R (n' r) (j' r)) rs → All (λ d. R (n d) (j d)) ds
+all_carried : {A B : Type 0} (n : A → ℕ) (j : A → Job) (n' : B → ℕ) (j' : B → Job) (R : ℕ → Job → Type 0) (ds : List A) (rs : List B) → map n ds ≡ map n' rs → map j ds ≡ map j' rs → All (λ r. R (n' r) (j' r)) rs → All (λ d. R (n d) (j d)) ds
 all_carried n j n' j' R [] rs ns js each = λ k d less. absurd (omega (arith, less))
 all_carried n j n' j' R (d ∷ ds) [] ns js each = cc ns
 all_carried n j n' j' R (d ∷ ds) (r ∷ rs) ns js each =
@@ -69,6 +69,13 @@ module _ (passes : ℕ → ℕ → Bool → Type 0) (plan : Planned) (start plac
     ended_for [] each h i = absurd i
     ended_for (d ∷ ds) each h (inl is) = let e = each 0 d (omega arith) in (number d, job d, (e.0, e.1, subst (EndsAs passes plan start (number d) (job d)) (sym is) e.2))
     ended_for (d ∷ ds) each h (inr i) = ended_for ds (λ k e less. each (suc k) e (omega (arith, less))) h i
+
+    -- each that was done ended so, where it has the number and the job of one that was seated
+    pub each_ended : {B : Type 0} (number' : B → ℕ) (job' : B → Job) (ds : List A) (rs : List B) → map number ds ≡ map number' rs → map job ds ≡ map job' rs → All (λ r. (slice_get jobs (number' r) ≡ Some (job' r)) × ((job' r).writer ≡ place)) rs
+        → All (λ d. EndsAs passes plan start (number d) (job d) (fault d)) ds → All (λ d. HasEnded (number d) (job d) (fault d)) ds
+    each_ended number' job' ds rs ns js seated ends =
+        let carried = all_carried number job number' job' (λ n j. (slice_get jobs n ≡ Some j) × (j.writer ≡ place)) ds rs ns js seated in
+        λ k d less. let a = carried k d less in (a.0, a.1, ends k d less)
 
     -- where none stopped short, each ended well
     pub jobs_end : (ds : List A) → All (λ d. HasEnded (number d) (job d) (fault d)) ds → ((n : ℕ) (j : Job) → slice_get jobs n ≡ Some j → j.writer ≡ place → In n (map number ds)) → IsFirst (λ h. In (Some h) (map fault ds)) None

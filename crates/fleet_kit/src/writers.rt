@@ -101,8 +101,7 @@ fn export_at<R: Threads + Wait + Sync, G: Gate + Sync>(
 {
     let writers = setup.writers.as_slice();
     let (id, plan, start) = &writers[place];
-    // What every plan says: no stream stands twice.
-    let _first = plan.stream(0);
+    plan.streams_are_apart();
     let writer = Writer::start(alloc, id.try_copy()?, plan.try_copy()?, *start)?;
     export_of(
         rt,

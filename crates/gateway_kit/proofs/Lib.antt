@@ -6,6 +6,7 @@ pub mod ExportEntries
 pub mod Finishing
 pub mod Growing
 pub mod Joining
+pub mod Listed
 pub mod MergeDrafts
 pub mod Merged
 pub mod Moved

@@ -9,6 +9,7 @@ pub mod Growth
 pub mod Keys
 pub mod KeyOrders
 pub mod IncarnationState
+pub mod Listing
 pub mod Merging
 pub mod Numbering
 pub mod Numbers

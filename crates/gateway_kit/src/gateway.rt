@@ -1,15 +1,17 @@
 //! A gateway: the newest point of every key that it was told of.
-ghost use Rattle.std.specs.Prelude.{IsOk, IsSome, nat_lt, ◌≡◌, ◌<◌, ◌≤◌, ◌^◌, IfOk, OnOk, OnErr, Ok, [], ◌∷◌, ◌↔◌, IsTrue, count_by, filter, option_copied};
+ghost use Rattle.std.specs.Prelude.{IsOk, IsSome, nat_lt, ◌≡◌, ◌<◌, ◌≤◌, ◌^◌, IfOk, OnOk, OnErr, Ok, [], ◌∷◌, ◌↔◌, IsTrue, count_by, filter, length, option_copied};
 ghost use Rattle.std.specs.FinMap as finite;
 ghost use Rattle.point_kit.specs.Exports.{state, join_points, changed_points};
 ghost use Rattle.gateway_kit.specs.Numbering.{IsNumberedBy, GatewayMoves, number_of};
 ghost use Rattle.std.specs.FinMap.{entries, retain_keys};
+ghost use Rattle.gateway_kit.specs.Listing.{held_incarnations, held_services, incarnations_left, services_left};
 ghost use Rattle.gateway_kit.specs.Queries.{has_conflict, incarnation_points, newest_time, part_points};
 ghost use Rattle.gateway_kit.specs.Walks.{is_of, points_left};
 ghost use Rattle.gateway_kit.specs.Incarnations.{all_points};
 
 use crate::incarnation::Incarnation;
 use crate::incarnations::{all_conflicts, all_len, all_since, incarnation_place, join_in, take_in};
+use crate::listing::{Incarnations, Services};
 use crate::merging::merge_in;
 use crate::ordered::{all_same, renumber_all};
 use crate::part_item::PartItem;
@@ -134,6 +136,33 @@ impl Gateway {
         match incarnation_place(self.incarnations.as_slice(), writer, start) {
             Ok(place) => Some(self.incarnations[place].newest()),
             Err(_) => None,
+        }
+    }
+
+    /// The incarnations of which points are held, each once with how many and the greatest time, in the order of their keys.
+    /// Takes no memory; O(1) to begin, and O(1) a step.
+    pub fn incarnations(&self) -> Incarnations<'_>
+        ensures value { incarnations_left result ≡ held_incarnations self.now.points }
+    {
+        Incarnations {
+            ahead: self.incarnations.as_slice(),
+        }
+    }
+
+    /// How many incarnations that are: O(1).
+    pub fn incarnations_len(&self) -> usize
+        ensures value { result ≡ length (held_incarnations self.now.points) }
+    {
+        self.incarnations.as_slice().len()
+    }
+
+    /// The services of which points are held, each once, in order. Takes no memory; O(1) to begin, and O(m) for all of m
+    /// incarnations.
+    pub fn services(&self) -> Services<'_>
+        ensures value { services_left result ≡ held_services self.now.points }
+    {
+        Services {
+            ahead: self.incarnations.as_slice(),
         }
     }
 

@@ -1,8 +1,9 @@
-//! Exports and messages as bytes: made and read, beside a plain copy of as many bytes.
+//! Exports and messages as bytes: made and read, in the kit's own form and as OTLP, beside a plain copy of as many bytes.
 use crate::clock::tell;
 use crate::gateways::{Keys, Sets, Times, export_of, holding};
 use bytes_kit::{decode_export, decode_message, encode_export_into, encode_message_into};
 use gossip_kit::{Message, Node};
+use otlp_kit::{decode_otlp, encode_otlp};
 use point_kit::Export;
 use std::alloc::Global;
 use std::time::{Duration, Instant};
@@ -60,6 +61,36 @@ fn exports(
     tell_copy(rt, points, bytes.as_slice())
 }
 
+fn time_otlp(rt: &HostRuntime, export: &Export) -> anyhow::Result<(Duration, Vec<u8>)> {
+    let start = Instant::now(rt)?;
+    let bytes = encode_otlp(rt.alloc(), export)?;
+    Ok((start.elapsed(rt)?, bytes))
+}
+
+fn time_otlp_read(rt: &HostRuntime, bytes: &[u8]) -> anyhow::Result<Duration> {
+    let start = Instant::now(rt)?;
+    let read = decode_otlp(rt.alloc(), bytes)?;
+    let took = start.elapsed(rt)?;
+    drop(read);
+    Ok(took)
+}
+
+// As OTLP each writing makes a new vector.
+fn otlp(rt: &HostRuntime, points: u64, export: &Export) -> anyhow::Result<()> {
+    let mut written = Duration::MAX;
+    let mut read = Duration::MAX;
+    let mut last = Vec::new(rt.alloc());
+    for _ in 0..ROUNDS {
+        let (took, bytes) = time_otlp(rt, export)?;
+        written = written.min(took);
+        read = read.min(time_otlp_read(rt, bytes.as_slice())?);
+        last = bytes;
+    }
+    tell(rt, "export written as OTLP", points, written)?;
+    tell(rt, "export read from OTLP", points, read)?;
+    tell_copy(rt, points, last.as_slice())
+}
+
 fn time_message(
     rt: &HostRuntime,
     message: &Message,
@@ -106,6 +137,7 @@ pub fn run(rt: &HostRuntime, points: u32) -> anyhow::Result<()> {
     let keys = Keys::first(Sets::Scattered, points);
     let export = export_of(rt.alloc(), Times::at(200), keys)?;
     exports(rt, u64::from(points), &export, &mut Vec::new(rt.alloc()))?;
+    otlp(rt, u64::from(points), &export)?;
     drop(export);
     let message = message_of(rt.alloc(), keys)?;
     messages(rt, u64::from(points), &message, &mut Vec::new(rt.alloc()))

@@ -2,7 +2,7 @@
 //!
 //! - `kit_bench` runs small sizes of all parts, so that all of it is tried.
 //! - `kit_bench full` runs the sizes that docs tell of, and `kit_bench full rollups` those of one part: `turns`, `recordings`,
-//!   `held-points`, `threads`, `fleets`, `gateways`, `gossip`, `bytes`, `rounds` or `rollups`.
+//!   `held-points`, `threads`, `fleets`, `gateways`, `gossip`, `bytes`, `rounds`, `rollups` or `pages`.
 //! - `kit_bench hold-gateway 1000000` holds so many points and ends, so that its memory can be measured from outside;
 //!   `hold-tree` and `hold-map` hold the same points in maps of `std`.
 //!
@@ -21,6 +21,7 @@ mod held_points;
 mod lanes;
 mod measures;
 mod mutexes;
+mod pages;
 mod rollups;
 mod rounds;
 mod takes;
@@ -80,6 +81,9 @@ fn alone(rt: &HostRuntime, words: &Words) -> anyhow::Result<()> {
     if words.has(Part::Rollups) {
         let points = words.sizes(&[100_000, 1_000_000], &[40]);
         all_rollups(rt, points, words.sizes(&[1, 10, 10_000], &[4]))?;
+    }
+    if words.has(Part::Pages) {
+        pages::run(rt, words.size(100_000, 40))?;
     }
     Ok(())
 }

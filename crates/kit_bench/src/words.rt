@@ -15,6 +15,7 @@ pub enum Part {
     Bytes,
     Rounds,
     Rollups,
+    Pages,
 }
 
 /// What holds points.
@@ -38,7 +39,7 @@ pub struct Words {
     pub count: u32,
 }
 
-const PARTS: [(&str, Part); 10] = [
+const PARTS: [(&str, Part); 11] = [
     ("turns", Part::Turns),
     ("recordings", Part::Recordings),
     ("held-points", Part::HeldPoints),
@@ -49,6 +50,7 @@ const PARTS: [(&str, Part); 10] = [
     ("bytes", Part::Bytes),
     ("rounds", Part::Rounds),
     ("rollups", Part::Rollups),
+    ("pages", Part::Pages),
 ];
 
 fn part_of(word: &str) -> Option<Part> {

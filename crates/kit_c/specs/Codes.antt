@@ -9,6 +9,10 @@ use Rattle.bytes_kit.specs.declared.fault.DecodeFault.{DecodeFault}
 use Rattle.bytes_kit.specs.declared.fault.DecodeFault.TheVariants as decodings
 use Rattle.gossip_kit.specs.declared.fault.HandFault.{HandFault}
 use Rattle.gossip_kit.specs.declared.fault.HandFault.TheVariants as hands
+use Rattle.otlp_kit.specs.declared.fault.OtlpFault.{OtlpFault}
+use Rattle.otlp_kit.specs.declared.fault.OtlpFault.TheVariants as otlps
+use Rattle.otlp_kit.specs.declared.request_fault.RequestFault.{RequestFault}
+use Rattle.otlp_kit.specs.declared.request_fault.RequestFault.TheVariants as requests
 use Rattle.recorder_kit.specs.declared.fault.RecordFault.{RecordFault}
 use Rattle.recorder_kit.specs.declared.fault.RecordFault.TheVariants as records
 use Rattle.writer_kit.specs.declared.fault.CollectFault.{CollectFault}
@@ -27,6 +31,23 @@ no_memory = pos 1
 -- a recorder that has as many recordings as it may
 abbrev pub recorder_full : ℤ
 recorder_full = pos 70
+
+-- bounds of a point that OTLP has no form for
+abbrev pub otlp_bounds : ℤ
+otlp_bounds = pos 80
+
+-- of a request that is read: a point without a value, the bounds of a histogram, a key of a point, what makes no export
+abbrev pub no_point_value : ℤ
+no_point_value = pos 95
+
+abbrev pub not_rising : ℤ
+not_rising = pos 99
+
+abbrev pub no_key : ℤ
+no_key = pos 101
+
+abbrev pub no_export : ℤ
+no_export = pos 104
 
 abbrev pub recording_code : MeasureFault → ℤ
 recording_code recordings.Closed = pos 10
@@ -78,6 +99,38 @@ decoding_code (decodings.BadChecksum at) = pos 64
 decoding_code (decodings.BadExport fault) = pos 65
 decoding_code decodings.NoMemory = no_memory
 
+abbrev pub otlp_code : OtlpFault → ℤ
+otlp_code (otlps.BadBounds point) = otlp_bounds
+otlp_code otlps.TooLong = pos 81
+otlp_code otlps.NoMemory = no_memory
+
+abbrev pub request_code : RequestFault → ℤ
+request_code (requests.Malformed at) = pos 82
+request_code (requests.NotText at) = pos 5
+request_code (requests.NoService resource) = pos 83
+request_code (requests.NoInstance resource) = pos 84
+request_code (requests.NotUuid resource) = pos 85
+request_code (requests.ScopeTwice scope) = pos 86
+request_code (requests.ExponentialHistogram metric) = pos 87
+request_code (requests.Summary metric) = pos 88
+request_code (requests.NoData metric) = pos 89
+request_code (requests.Delta metric) = pos 90
+request_code (requests.NoTemporality metric) = pos 91
+request_code (requests.NoRecordedValue point) = pos 92
+request_code (requests.UnknownStart point) = pos 93
+request_code (requests.FloatValue point) = pos 94
+request_code (requests.NoValue point) = no_point_value
+request_code (requests.NoSum point) = pos 96
+request_code (requests.NotWhole point) = pos 97
+request_code (requests.Inexact point) = pos 98
+request_code (requests.BadBounds point) = not_rising
+request_code (requests.HalfRange point) = pos 100
+request_code (requests.EmptyKey point) = no_key
+request_code (requests.AttributeTwice point) = pos 102
+request_code (requests.AttributeValue point) = pos 103
+request_code (requests.BadExport export fault) = no_export
+request_code requests.NoMemory = no_memory
+
 -- those that carry none are refusals of the boundary
 abbrev pub code_of : Fault → ℤ
 code_of faults.NoMemory = no_memory
@@ -102,3 +155,5 @@ code_of (faults.Plan f) = plan_code f
 code_of (faults.Hand f) = handing_code f
 code_of (faults.Decode f) = decoding_code f
 code_of (faults.Record f) = record_code f
+code_of (faults.Otlp f) = otlp_code f
+code_of (faults.Request f) = request_code f

@@ -14,13 +14,16 @@ use Rattle.rollup_kit.specs.declared.ask.Ask.{Ask}
 use Rattle.rollup_kit.specs.declared.row.Row.{Row}
 use Rattle.writer_kit.specs.Written.{Written}
 use Rattle.kit_c.specs.Calls.{listed}
-use Rattle.kit_c.specs.Typed.{ask_in, attributes_in, bytes_in, export_in, gateway_in, instruments_in, keys_in, message_in, node_in, pairs_in, plan_in, recorder_in, rows_in, seat_in, streams_in, text_in, view_in, views_in, writer_in}
+use Rattle.kit_c.specs.Typed.{ask_in, attributes_in, bytes_in, export_in, exports_in, gateway_in, incarnations_in, instruments_in, keys_in, message_in, node_in, pairs_in, plan_in, recorder_in, rows_in, seat_in, streams_in, text_in, view_in, views_in, writer_in}
 use Rattle.kit_c.specs.declared.desk.Desk.{Desk}
 use Rattle.kit_c.specs.declared.typed.KitAsk.{KitAsk}
 use Rattle.kit_c.specs.declared.typed.KitAttributes.{KitAttributes}
 use Rattle.kit_c.specs.declared.typed.KitBytes.{KitBytes}
 use Rattle.kit_c.specs.declared.typed.KitExport.{KitExport}
+use Rattle.kit_c.specs.declared.typed.KitExports.{KitExports}
 use Rattle.kit_c.specs.declared.typed.KitGateway.{KitGateway}
+use Rattle.kit_c.specs.declared.incarnations.Incarnation.{Incarnation}
+use Rattle.kit_c.specs.declared.typed.KitIncarnations.{KitIncarnations}
 use Rattle.kit_c.specs.declared.typed.KitInstruments.{KitInstruments}
 use Rattle.kit_c.specs.declared.typed.KitKeys.{KitKeys}
 use Rattle.kit_c.specs.declared.typed.KitMessage.{KitMessage}
@@ -67,6 +70,9 @@ recorder_of k = recorder_in k.handle.inner.value
 abbrev pub export_of : KitExport → Option Export
 export_of k = export_in k.handle.inner.value
 
+abbrev pub exports_of : KitExports → Option (List Export)
+exports_of k = exports_in k.handle.inner.value
+
 abbrev pub gateway_of : KitGateway → Option GatewayState
 gateway_of k = gateway_in k.handle.inner.value
 
@@ -87,6 +93,9 @@ rows_of k = rows_in k.handle.inner.value
 
 abbrev pub streams_of : KitStreams → Option (List Stream)
 streams_of k = streams_in k.handle.inner.value
+
+abbrev pub incarnations_of : KitIncarnations → Option (List Incarnation)
+incarnations_of k = incarnations_in k.handle.inner.value
 
 abbrev pub text_of : KitText → Option (List ℕ)
 text_of k = text_in k.handle.inner.value

@@ -5,10 +5,12 @@ pub mod Codes
 pub mod Desks
 pub mod Exports
 pub mod Faults
+pub mod Formats
 pub mod Gateways
 pub mod Held
 pub mod Histograms
 pub mod Holding
+pub mod Incarnations
 pub mod Items
 pub mod Kinds
 pub mod Knowing

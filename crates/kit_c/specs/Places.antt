@@ -5,6 +5,10 @@ use Rattle.agg_kit.specs.declared.fault.TallyFault.TheVariants as tallies
 use Rattle.attr_kit.specs.declared.error.AttrFault.TheVariants as sets
 use Rattle.bytes_kit.specs.declared.fault.DecodeFault.{DecodeFault}
 use Rattle.bytes_kit.specs.declared.fault.DecodeFault.TheVariants as decodings
+use Rattle.otlp_kit.specs.declared.fault.OtlpFault.{OtlpFault}
+use Rattle.otlp_kit.specs.declared.fault.OtlpFault.TheVariants as otlps
+use Rattle.otlp_kit.specs.declared.request_fault.RequestFault.{RequestFault}
+use Rattle.otlp_kit.specs.declared.request_fault.RequestFault.TheVariants as requests
 use Rattle.plan_kit.specs.declared.fault.PlanFault.{PlanFault}
 use Rattle.plan_kit.specs.declared.fault.PlanFault.TheVariants as plans
 use Rattle.writer_kit.specs.declared.fault.CollectFault.TheVariants as collections
@@ -32,6 +36,37 @@ decoding_place (decodings.NotText at) = Some at
 decoding_place (decodings.BadChecksum at) = Some at
 decoding_place other = None
 
+abbrev pub otlp_place : OtlpFault → Option ℕ
+otlp_place (otlps.BadBounds point) = Some point
+otlp_place other = None
+
+abbrev pub request_place : RequestFault → Option ℕ
+request_place (requests.Malformed at) = Some at
+request_place (requests.NotText at) = Some at
+request_place (requests.NoService resource) = Some resource
+request_place (requests.NoInstance resource) = Some resource
+request_place (requests.NotUuid resource) = Some resource
+request_place (requests.ScopeTwice scope) = Some scope
+request_place (requests.ExponentialHistogram metric) = Some metric
+request_place (requests.Summary metric) = Some metric
+request_place (requests.NoData metric) = Some metric
+request_place (requests.Delta metric) = Some metric
+request_place (requests.NoTemporality metric) = Some metric
+request_place (requests.NoRecordedValue point) = Some point
+request_place (requests.UnknownStart point) = Some point
+request_place (requests.FloatValue point) = Some point
+request_place (requests.NoValue point) = Some point
+request_place (requests.NoSum point) = Some point
+request_place (requests.NotWhole point) = Some point
+request_place (requests.Inexact point) = Some point
+request_place (requests.BadBounds point) = Some point
+request_place (requests.HalfRange point) = Some point
+request_place (requests.EmptyKey point) = Some point
+request_place (requests.AttributeTwice point) = Some point
+request_place (requests.AttributeValue point) = Some point
+request_place (requests.BadExport export fault) = Some export
+request_place requests.NoMemory = None
+
 -- the place of a refusal, or the first where it has two
 abbrev pub place_of : Fault → Option ℕ
 place_of (faults.Measure (recordings.Refused (tallies.Overflow stream))) = Some stream
@@ -40,6 +75,8 @@ place_of (faults.Restart (restarts.StartNotAfter start)) = Some start
 place_of (faults.Attributes (sets.EmptyKey pair)) = Some pair
 place_of (faults.Plan f) = plan_place f
 place_of (faults.Decode f) = decoding_place f
+place_of (faults.Otlp f) = otlp_place f
+place_of (faults.Request f) = request_place f
 place_of other = None
 
 -- the second

@@ -1,8 +1,9 @@
 -- What codes say.
-use Rattle.std.specs.Prelude.{ℕ, ℤ, pos, List, [], ◌==◌, cond, codes}
+use Rattle.std.specs.Prelude.{ℕ, ℤ, pos, List, [], ◌==◌, cond, codes, int_lt}
 
-abbrev pub numbered_text : ℕ → List ℕ
-numbered_text n =
+-- of calls, handles, writers and sets
+abbrev pub first_texts : ℕ → List ℕ
+first_texts n =
     cond (n == 0) (codes "done") (
     cond (n == 1) (codes "memory was refused") (
     cond (n == 2) (codes "a handle that is read has nothing") (
@@ -24,6 +25,15 @@ numbered_text n =
     cond (n == 18) (codes "the writer has as many seats as it may") (
     cond (n == 19) (codes "there is no item of this number") (
     cond (n == 20) (codes "a key is empty") (
+    [])))))))))))))))))))))
+
+unfoldable pub first_text : ℤ → List ℕ
+first_text (pos n) = first_texts n
+first_text other = []
+
+-- of plans, rows, messages, bytes and logs
+abbrev pub second_texts : ℕ → List ℕ
+second_texts n =
     cond (n == 30) (codes "a name breaks the rule of names") (
     cond (n == 31) (codes "a unit breaks the rule of units") (
     cond (n == 32) (codes "bounds do not strictly rise, or are too many") (
@@ -43,9 +53,46 @@ numbered_text n =
     cond (n == 64) (codes "the checksum is not that of the bytes before it") (
     cond (n == 65) (codes "the values are none that an export can have") (
     cond (n == 70) (codes "a log has as many recordings as it may") (
-    []))))))))))))))))))))))))))))))))))))))))
+    [])))))))))))))))))))
+
+unfoldable pub second_text : ℤ → List ℕ
+second_text (pos n) = second_texts n
+second_text other = []
+
+-- of requests
+abbrev pub third_texts : ℕ → List ℕ
+third_texts n =
+    cond (n == 80) (codes "the bounds of a point do not rise as doubles") (
+    cond (n == 81) (codes "the request has more bytes than one may have") (
+    cond (n == 82) (codes "bytes begin no field that can stand there") (
+    cond (n == 83) (codes "a resource names no service") (
+    cond (n == 84) (codes "a resource names no instance") (
+    cond (n == 85) (codes "the instance of a resource is no UUID") (
+    cond (n == 86) (codes "a scope comes in two versions") (
+    cond (n == 87) (codes "a metric is an exponential histogram") (
+    cond (n == 88) (codes "a metric is a summary") (
+    cond (n == 89) (codes "a metric has no data") (
+    cond (n == 90) (codes "a metric is told as deltas") (
+    cond (n == 91) (codes "a metric is not said to be cumulative") (
+    cond (n == 92) (codes "a point has no recorded value") (
+    cond (n == 93) (codes "the start of a point is not known") (
+    cond (n == 94) (codes "the value of a point is a double") (
+    cond (n == 95) (codes "a point has no value") (
+    cond (n == 96) (codes "a histogram has no sum") (
+    cond (n == 97) (codes "a double of a histogram is no whole number") (
+    cond (n == 98) (codes "a double of a histogram may stand for several whole numbers") (
+    cond (n == 99) (codes "the bounds of a histogram do not strictly rise") (
+    cond (n == 100) (codes "a histogram has a least or a greatest value alone") (
+    cond (n == 101) (codes "an attribute of a point has no key") (
+    cond (n == 102) (codes "two attributes of a point have one key") (
+    cond (n == 103) (codes "the value of an attribute is of a kind that is not known") (
+    cond (n == 104) (codes "what a request says together makes no export") (
+    [])))))))))))))))))))))))))
+
+unfoldable pub third_text : ℤ → List ℕ
+third_text (pos n) = third_texts n
+third_text other = []
 
 -- a number that is no code has no text
 unfoldable pub code_text : ℤ → List ℕ
-code_text (pos n) = numbered_text n
-code_text other = []
+code_text code = cond (int_lt code (pos 30)) (first_text code) (cond (int_lt code (pos 80)) (second_text code) (third_text code))

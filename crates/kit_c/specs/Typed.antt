@@ -15,8 +15,9 @@ use Rattle.rollup_kit.specs.declared.ask.Ask.{Ask as TheAsk}
 use Rattle.rollup_kit.specs.declared.row.Row.{Row}
 use Rattle.writer_kit.specs.Written.{Written}
 use Rattle.kit_c.specs.declared.desk.Desk.{Desk as TheDesk}
+use Rattle.kit_c.specs.declared.incarnations.Incarnation.{Incarnation}
 use Rattle.kit_c.specs.declared.content.Content.{Content}
-use Rattle.kit_c.specs.declared.content.Content.TheVariants.{Ask, Attributes, Bytes, Desk, Export, Gateway, Instruments, Keys, Message, Node, Pairs, Plan, Recorder, Rows, Streams, Text, View, Views, Writer}
+use Rattle.kit_c.specs.declared.content.Content.TheVariants.{Ask, Attributes, Bytes, Desk, Export, Exports, Gateway, Incarnations, Instruments, Keys, Message, Node, Pairs, Plan, Recorder, Rows, Streams, Text, View, Views, Writer}
 
 abbrev pub pairs_in : Option Content → Option (List (List ℕ × AttrValue))
 pairs_in (Some (Pairs x)) = Some x
@@ -58,6 +59,10 @@ abbrev pub export_in : Option Content → Option TheExport
 export_in (Some (Export x)) = Some x
 export_in m = None
 
+abbrev pub exports_in : Option Content → Option (List TheExport)
+exports_in (Some (Exports x)) = Some x
+exports_in m = None
+
 abbrev pub gateway_in : Option Content → Option GatewayState
 gateway_in (Some (Gateway x)) = Some x
 gateway_in m = None
@@ -85,6 +90,10 @@ rows_in m = None
 abbrev pub streams_in : Option Content → Option (List Stream)
 streams_in (Some (Streams x)) = Some x
 streams_in m = None
+
+abbrev pub incarnations_in : Option Content → Option (List Incarnation)
+incarnations_in (Some (Incarnations x)) = Some x
+incarnations_in m = None
 
 abbrev pub text_in : Option Content → Option (List ℕ)
 text_in (Some (Text x)) = Some x
@@ -135,6 +144,10 @@ abbrev pub is_export : Option Content → Bool
 is_export None = true
 is_export (Some h) = is_some (export_in (Some h))
 
+abbrev pub is_exports : Option Content → Bool
+is_exports None = true
+is_exports (Some h) = is_some (exports_in (Some h))
+
 abbrev pub is_gateway : Option Content → Bool
 is_gateway None = true
 is_gateway (Some h) = is_some (gateway_in (Some h))
@@ -162,6 +175,10 @@ is_rows (Some h) = is_some (rows_in (Some h))
 abbrev pub is_streams : Option Content → Bool
 is_streams None = true
 is_streams (Some h) = is_some (streams_in (Some h))
+
+abbrev pub is_incarnations : Option Content → Bool
+is_incarnations None = true
+is_incarnations (Some h) = is_some (incarnations_in (Some h))
 
 abbrev pub is_text : Option Content → Bool
 is_text None = true

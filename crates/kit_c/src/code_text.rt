@@ -1,14 +1,14 @@
 //! What codes say, for people.
 ghost use Rattle.std.specs.Prelude.{◌≡◌, length};
 ghost use Rattle.kit_c.specs.Calls.{filled};
-ghost use Rattle.kit_c.specs.Texts.{code_text};
+ghost use Rattle.kit_c.specs.Texts.{code_text, first_text, second_text, third_text};
 
 use crate::text::copy_front;
 
-// What a code says: nothing where it is none.
-#[tactic(auto, unfolding(crate::specs::Texts::code_text))]
-fn text_of_code(code: i32) -> &'static str
-    ensures { result.now ≡ code_text code }
+// What a code of calls, handles, writers and sets says: nothing where it is none.
+#[tactic(auto, unfolding(crate::specs::Texts::first_text))]
+fn first_text(code: i32) -> &'static str
+    ensures { result.now ≡ first_text code }
 {
     match code {
         0 => "done",
@@ -32,6 +32,16 @@ fn text_of_code(code: i32) -> &'static str
         18 => "the writer has as many seats as it may",
         19 => "there is no item of this number",
         20 => "a key is empty",
+        _ => "",
+    }
+}
+
+// What one of plans, rows, messages, bytes and logs says.
+#[tactic(auto, unfolding(crate::specs::Texts::second_text))]
+fn second_text(code: i32) -> &'static str
+    ensures { result.now ≡ second_text code }
+{
+    match code {
         30 => "a name breaks the rule of names",
         31 => "a unit breaks the rule of units",
         32 => "bounds do not strictly rise, or are too many",
@@ -52,6 +62,55 @@ fn text_of_code(code: i32) -> &'static str
         65 => "the values are none that an export can have",
         70 => "a log has as many recordings as it may",
         _ => "",
+    }
+}
+
+// What one of requests says.
+#[tactic(auto, unfolding(crate::specs::Texts::third_text))]
+fn third_text(code: i32) -> &'static str
+    ensures { result.now ≡ third_text code }
+{
+    match code {
+        80 => "the bounds of a point do not rise as doubles",
+        81 => "the request has more bytes than one may have",
+        82 => "bytes begin no field that can stand there",
+        83 => "a resource names no service",
+        84 => "a resource names no instance",
+        85 => "the instance of a resource is no UUID",
+        86 => "a scope comes in two versions",
+        87 => "a metric is an exponential histogram",
+        88 => "a metric is a summary",
+        89 => "a metric has no data",
+        90 => "a metric is told as deltas",
+        91 => "a metric is not said to be cumulative",
+        92 => "a point has no recorded value",
+        93 => "the start of a point is not known",
+        94 => "the value of a point is a double",
+        95 => "a point has no value",
+        96 => "a histogram has no sum",
+        97 => "a double of a histogram is no whole number",
+        98 => "a double of a histogram may stand for several whole numbers",
+        99 => "the bounds of a histogram do not strictly rise",
+        100 => "a histogram has a least or a greatest value alone",
+        101 => "an attribute of a point has no key",
+        102 => "two attributes of a point have one key",
+        103 => "the value of an attribute is of a kind that is not known",
+        104 => "what a request says together makes no export",
+        _ => "",
+    }
+}
+
+// What a code says: nothing where it is none.
+#[tactic(auto, unfolding(crate::specs::Texts::code_text))]
+fn text_of_code(code: i32) -> &'static str
+    ensures { result.now ≡ code_text code }
+{
+    if code < 30 {
+        first_text(code)
+    } else if code < 80 {
+        second_text(code)
+    } else {
+        third_text(code)
     }
 }
 

@@ -1,6 +1,7 @@
 //! What a handle can have.
 use crate::desk::Desk;
 use crate::holding::HoldingWriter;
+use crate::incarnations::Incarnation;
 use attr_kit::{AttrSet, AttrValue, Seq, Txt};
 use gateway_kit::Gateway;
 use gossip_kit::{Message, Node};
@@ -27,6 +28,7 @@ pub enum Content {
     /// A thread's own log of recordings.
     Recorder(Recorder),
     Export(Export),
+    Exports(Seq<Export>),
     Gateway(Gateway),
     /// A gateway that sends messages and takes them in.
     Node(Node),
@@ -36,6 +38,7 @@ pub enum Content {
     Ask(Ask),
     Rows(Seq<Row>),
     Streams(Seq<Stream>),
+    Incarnations(Seq<Incarnation>),
     Text(Txt),
     /// An export or a message as bytes.
     Bytes(Seq<u8>),

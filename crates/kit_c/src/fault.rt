@@ -1,13 +1,14 @@
 //! Why calls are refused, and the codes that say so.
 ghost use Rattle.std.specs.Prelude.{◌≡◌, ◌≢◌, pos, None, OnOk, OnErr, IfErr, IfOk};
 ghost use Rattle.std.specs.Option.{unwrap_or};
-ghost use Rattle.kit_c.specs.Codes.{code_of, recording_code, record_code, collection_code, restart_code, attributes_code, plan_code, handing_code, decoding_code, no_memory};
-ghost use Rattle.kit_c.specs.Places.{decoding_place, place_of, plan_place, second_of};
+ghost use Rattle.kit_c.specs.Codes.{code_of, recording_code, record_code, collection_code, restart_code, attributes_code, plan_code, handing_code, decoding_code, otlp_code, request_code, no_memory};
+ghost use Rattle.kit_c.specs.Places.{decoding_place, otlp_place, place_of, request_place, plan_place, second_of};
 
 use agg_kit::TallyFault;
 use attr_kit::{AttrFault, NoMemory};
 use bytes_kit::DecodeFault;
 use gossip_kit::HandFault;
+use otlp_kit::{OtlpFault, RequestFault};
 use plan_kit::PlanFault;
 use recorder_kit::RecordFault;
 use std::alloc::{AllocError, AllocFailed};
@@ -70,6 +71,8 @@ pub enum Fault {
     Hand(HandFault),
     Decode(DecodeFault),
     Record(RecordFault),
+    Otlp(OtlpFault),
+    Request(RequestFault),
 }
 
 impl From<NoMemory> for Fault {
@@ -220,6 +223,50 @@ fn of_decoding(fault: &DecodeFault) -> i32
     }
 }
 
+fn of_otlp(fault: &OtlpFault) -> i32
+    ensures code { result ≡ otlp_code fault.now }
+    ensures refused { result ≢ pos 0 }
+{
+    match fault {
+        OtlpFault::BadBounds(_) => 80,
+        OtlpFault::TooLong => 81,
+        OtlpFault::NoMemory => 1,
+    }
+}
+
+fn of_request(fault: &RequestFault) -> i32
+    ensures code { result ≡ request_code fault.now }
+    ensures refused { result ≢ pos 0 }
+{
+    match fault {
+        RequestFault::Malformed(_) => 82,
+        RequestFault::NotText(_) => 5,
+        RequestFault::NoService(_) => 83,
+        RequestFault::NoInstance(_) => 84,
+        RequestFault::NotUuid(_) => 85,
+        RequestFault::ScopeTwice(_) => 86,
+        RequestFault::ExponentialHistogram(_) => 87,
+        RequestFault::Summary(_) => 88,
+        RequestFault::NoData(_) => 89,
+        RequestFault::Delta(_) => 90,
+        RequestFault::NoTemporality(_) => 91,
+        RequestFault::NoRecordedValue(_) => 92,
+        RequestFault::UnknownStart(_) => 93,
+        RequestFault::FloatValue(_) => 94,
+        RequestFault::NoValue(_) => 95,
+        RequestFault::NoSum(_) => 96,
+        RequestFault::NotWhole(_) => 97,
+        RequestFault::Inexact(_) => 98,
+        RequestFault::BadBounds(_) => 99,
+        RequestFault::HalfRange(_) => 100,
+        RequestFault::EmptyKey(_) => 101,
+        RequestFault::AttributeTwice(_) => 102,
+        RequestFault::AttributeValue(_) => 103,
+        RequestFault::BadExport(_, _) => 104,
+        RequestFault::NoMemory => 1,
+    }
+}
+
 impl Fault {
     /// The code of a refusal.
     pub(crate) fn code(&self) -> i32
@@ -249,6 +296,8 @@ impl Fault {
             Fault::Hand(fault) => of_handing(fault),
             Fault::Decode(fault) => of_decoding(fault),
             Fault::Record(fault) => of_record(fault),
+            Fault::Otlp(fault) => of_otlp(fault),
+            Fault::Request(fault) => of_request(fault),
         }
     }
 
@@ -266,6 +315,8 @@ impl Fault {
             Fault::Attributes(AttrFault::EmptyKey(pair)) => Some(*pair as u64),
             Fault::Plan(fault) => plan_place(fault),
             Fault::Decode(fault) => decoding_place(fault),
+            Fault::Otlp(fault) => otlp_place(fault),
+            Fault::Request(fault) => request_place(fault),
             _ => None,
         }
     }
@@ -313,6 +364,50 @@ fn decoding_place(fault: &DecodeFault) -> Option<u64>
         DecodeFault::BadChecksum(at) => Some(*at as u64),
         DecodeFault::BadExport(_) => None,
         DecodeFault::NoMemory => None,
+    }
+}
+
+fn otlp_place(fault: &OtlpFault) -> Option<u64>
+    ensures value { result ≡ otlp_place fault.now }
+    ensures no_memory { otlp_code fault.now ≡ no_memory → result ≡ None }
+{
+    match fault {
+        OtlpFault::BadBounds(point) => Some(*point as u64),
+        OtlpFault::TooLong => None,
+        OtlpFault::NoMemory => None,
+    }
+}
+
+fn request_place(fault: &RequestFault) -> Option<u64>
+    ensures value { result ≡ request_place fault.now }
+    ensures no_memory { request_code fault.now ≡ no_memory → result ≡ None }
+{
+    match fault {
+        RequestFault::Malformed(at) => Some(*at as u64),
+        RequestFault::NotText(at) => Some(*at as u64),
+        RequestFault::NoService(at) => Some(*at as u64),
+        RequestFault::NoInstance(at) => Some(*at as u64),
+        RequestFault::NotUuid(at) => Some(*at as u64),
+        RequestFault::ScopeTwice(at) => Some(*at as u64),
+        RequestFault::ExponentialHistogram(at) => Some(*at as u64),
+        RequestFault::Summary(at) => Some(*at as u64),
+        RequestFault::NoData(at) => Some(*at as u64),
+        RequestFault::Delta(at) => Some(*at as u64),
+        RequestFault::NoTemporality(at) => Some(*at as u64),
+        RequestFault::NoRecordedValue(at) => Some(*at as u64),
+        RequestFault::UnknownStart(at) => Some(*at as u64),
+        RequestFault::FloatValue(at) => Some(*at as u64),
+        RequestFault::NoValue(at) => Some(*at as u64),
+        RequestFault::NoSum(at) => Some(*at as u64),
+        RequestFault::NotWhole(at) => Some(*at as u64),
+        RequestFault::Inexact(at) => Some(*at as u64),
+        RequestFault::BadBounds(at) => Some(*at as u64),
+        RequestFault::HalfRange(at) => Some(*at as u64),
+        RequestFault::EmptyKey(at) => Some(*at as u64),
+        RequestFault::AttributeTwice(at) => Some(*at as u64),
+        RequestFault::AttributeValue(at) => Some(*at as u64),
+        RequestFault::BadExport(at, _) => Some(*at as u64),
+        RequestFault::NoMemory => None,
     }
 }
 

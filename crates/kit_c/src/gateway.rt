@@ -128,7 +128,8 @@ pub extern "C" fn kit_gateway_conflicts(
     count: &mut u64,
 ) -> i32
     ensures code { result ≡ code_for (of_one (gateway_of gateway.old) if_any) }
-    ensures value { result ≡ pos 0 → IfSome (gateway_of gateway.old) (λ g. count.new ≡ count_by (λ e. has_conflict e.1) (entries g.points)) }
+    ensures value { result ≡ pos 0 → IfSome (gateway_of gateway.old)
+        (λ g. count.new ≡ count_by (λ e. has_conflict e.1) (entries g.points)) }
     ensures told { result ≢ pos 0 → count.new ≡ count.old }
     ensures kept { gateway_of gateway.new ≡ gateway_of gateway.old }
 {

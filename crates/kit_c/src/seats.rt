@@ -9,6 +9,8 @@ ghost use Rattle.kit_c.specs.Held.{attributes_of, export_of, recorder_of, seat_o
 ghost use Rattle.kit_c.specs.Pairs.{number_in};
 ghost use Rattle.kit_c.specs.Typed.{export_in, is_export, is_seat, seat_in};
 ghost use Rattle.kit_c.specs.Writers.{HasExport, by_set};
+ghost use Rattle.kit_c.specs.declared.content.Content.TheVariants as contents;
+ghost use Rattle.kit_c.specs.declared.fault.Fault.TheVariants as faults;
 ghost use Rattle.recorder_kit.specs.Log.{ByNumber};
 ghost use Rattle.writer_kit.specs.Shared.{MayRefuseRound, StandsForSet};
 ghost use Rattle.writer_kit.specs.declared.shared.change.WriterChange.TheVariants.{Collected, Measured, MeasuredHeld};
@@ -282,6 +284,24 @@ pub extern "C" fn kit_seat_take_in(
     }
 }
 
+// Room for another place, which has nothing yet.
+fn empty_room(alloc: Global) -> Result<Box<Content>, Fault>
+    ensures err { IfErr result (λ f. f ≡ faults.NoMemory) }
+{
+    match Box::new(alloc, Content::Keys(Seq::new(alloc))) {
+        Ok(room) => Ok(room),
+        Err(_) => Err(Fault::NoMemory),
+    }
+}
+
+// Puts a place into its room.
+fn furnished(mut room: Box<Content>, desk: Desk) -> Box<Content>
+    ensures { result.value ≡ contents.Desk desk }
+{
+    *room = Content::Desk(desk);
+    room
+}
+
 // Splits off another place. All memory is taken first, since nothing can be refused once the seat is split.
 fn split(alloc: Global, desk: &mut Desk) -> Result<Box<Content>, Fault>
     ensures kind { IfOk result (λ made. is_seat (Some made.value) ≡ true) }
@@ -294,18 +314,16 @@ fn split(alloc: Global, desk: &mut Desk) -> Result<Box<Content>, Fault>
     let Ok(writer) = Arc::try_clone(&desk.writer) else {
         return Err(Fault::NoMemory);
     };
-    let Ok(mut room) = Box::new(alloc, Content::Keys(Seq::new(alloc))) else {
-        return Err(Fault::NoMemory);
-    };
+    let room = empty_room(alloc)?;
     match desk.writer.try_split(&mut desk.seat) {
-        Ok(seat) => {
-            *room = Content::Desk(Desk {
+        Ok(seat) => Ok(furnished(
+            room,
+            Desk {
                 writer,
                 seat,
                 numbers,
-            });
-            Ok(room)
-        }
+            },
+        )),
         Err(SplitFault::Busy) => Err(Fault::Busy),
         Err(SplitFault::SeatsFull) => Err(Fault::SeatsFull),
     }

@@ -2,7 +2,7 @@
 //!
 //! All of them are one `KitHandle`, which an empty one of any kind is: so `kit_free` is of all.
 ghost use Rattle.std.specs.Prelude.{◌≡◌, true};
-ghost use Rattle.kit_c.specs.Typed.{is_ask, is_attributes, is_bytes, is_export, is_gateway, is_instruments, is_keys, is_message, is_node, is_pairs, is_plan, is_recorder, is_rows, is_seat, is_streams, is_text, is_view, is_views, is_writer};
+ghost use Rattle.kit_c.specs.Typed.{is_ask, is_attributes, is_bytes, is_export, is_exports, is_gateway, is_incarnations, is_instruments, is_keys, is_message, is_node, is_pairs, is_plan, is_recorder, is_rows, is_seat, is_streams, is_text, is_view, is_views, is_writer};
 
 use crate::handle::KitHandle;
 
@@ -86,6 +86,14 @@ pub struct KitExport {
     pub ghost kind: { is_export handle.inner.value ≡ true },
 }
 
+/// Exports that were read, or nothing.
+#[repr(C)]
+#[derive(Drop)]
+pub struct KitExports {
+    pub handle: KitHandle,
+    pub ghost kind: { is_exports handle.inner.value ≡ true },
+}
+
 /// A gateway, or nothing.
 #[repr(C)]
 #[derive(Drop)]
@@ -142,6 +150,14 @@ pub struct KitStreams {
     pub ghost kind: { is_streams handle.inner.value ≡ true },
 }
 
+/// Incarnations of which there are points, or nothing.
+#[repr(C)]
+#[derive(Drop)]
+pub struct KitIncarnations {
+    pub handle: KitHandle,
+    pub ghost kind: { is_incarnations handle.inner.value ≡ true },
+}
+
 /// A text, or nothing.
 #[repr(C)]
 #[derive(Drop)]
@@ -150,7 +166,7 @@ pub struct KitText {
     pub ghost kind: { is_text handle.inner.value ≡ true },
 }
 
-/// An export or a message as bytes, or nothing.
+/// An export, a message or a request as bytes, or nothing.
 #[repr(C)]
 #[derive(Drop)]
 pub struct KitBytes {

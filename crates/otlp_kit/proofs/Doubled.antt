@@ -14,7 +14,7 @@ pub record Digits (m d : ℕ) : Type 0 where
   pub most : d < 2 ^ 53
   pub exact : d ≡ m * 2 ^ 52 / 2 ^ (bit_length m - 1)
 
-digits_at : (m j : ℕ) → m < 2 ^ 64 → 2 ^ j ≤ m → m < 2 ^ suc j → bit_length m - 1 ≡ j → Digits m (m * 2 ^ 52 / 2 ^ j)
+pub digits_at : (m j : ℕ) → m < 2 ^ 64 → 2 ^ j ≤ m → m < 2 ^ suc j → bit_length m - 1 ≡ j → Digits m (m * 2 ^ 52 / 2 ^ j)
 digits_at m j h lo hi e =
     let some : 0 < 2 ^ j = pow_pos j in
     let twice : 2 ^ suc j ≡ 2 ^ j * 2 = pow-suc 2 j in

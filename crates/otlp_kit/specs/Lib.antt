@@ -1,5 +1,14 @@
+pub mod Contents
 pub mod Doubles
+pub mod Exact
+pub mod Fields
+pub mod Messages
+pub mod Places
+pub mod Reading
 pub mod Refusals
 pub mod Request
 pub mod Runs
+pub mod Sent
+pub mod Spans
+pub mod Walks
 pub mod Wire

@@ -6,8 +6,8 @@ use crate::doubles::rounded;
 use crate::points::bounds_of;
 use point_kit::ExportPoint;
 
-// Whether the doubles of bounds rise, each from the one before it.
-fn are_rising(bounds: &[i64]) -> bool
+/// Whether the doubles of bounds rise, each from the one before it.
+pub(crate) fn are_rising(bounds: &[i64]) -> bool
     ensures { result ≡ rises bounds.now }
 {
     bounds.is_sorted_by(|bound, next| rounded(*bound) < rounded(*next))

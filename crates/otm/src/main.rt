@@ -9,9 +9,9 @@
 //! a read or a write failed (`read failed` or `write failed`, on the standard error).
 #![tactic(auto)]
 
-ghost use Rattle.std.specs.Prelude.{IfOk};
 ghost use Rattle.otm_kit.specs.Asked.{IsRanged};
 
+use file_kit::is_of_files;
 use otm_kit::command_line::asked;
 use otm_kit::{Asked, Ended, FleetEnd, LineFault, fleet_report, notes_on, run_script_told};
 use script_kit::{ScriptFault, read_script};
@@ -22,6 +22,8 @@ use std::rt::Env;
 use std::sync::Wait;
 use std::thread::Threads;
 use std::{env, io};
+
+mod files;
 
 const BAD_SCRIPT: u8 = 1;
 
@@ -34,7 +36,14 @@ const NO_MEMORY: u8 = 3;
 const BAD_STREAM: u8 = 4;
 
 fn main(rt: HostRuntime) -> ExitCode {
-    match read_arguments(&rt) {
+    let words = match read_words(&rt) {
+        Ok(words) => words,
+        Err(fault) => return refuse(&rt, &fault),
+    };
+    if is_of_files(words.as_slice()) {
+        return files::do_files(&rt, words.as_slice());
+    }
+    match asked(rt.alloc(), words.as_slice()) {
         Ok(Asked::Run) => run(&rt),
         Ok(
             Asked::Fleet {
@@ -48,19 +57,16 @@ fn main(rt: HostRuntime) -> ExitCode {
     }
 }
 
-// What the words of the command line ask for.
-fn read_arguments(rt: &(impl Env + AllocGlobal)) -> Result<Asked, LineFault>
-    ensures { IfOk result IsRanged }
-{
+// The words of the command line.
+fn read_words(rt: &(impl Env + AllocGlobal)) -> Result<Vec<String>, LineFault> {
     let args = match env::args(rt) {
         Ok(args) => args,
         Err(error) => return Err(unread(rt.alloc(), &error)),
     };
-    let words: Vec<String> = match args.collect(rt.alloc()) {
-        Ok(words) => words,
-        Err(_) => return Err(LineFault::NoMemory),
-    };
-    asked(rt.alloc(), words.as_slice())
+    match args.collect(rt.alloc()) {
+        Ok(words) => Ok(words),
+        Err(_) => Err(LineFault::NoMemory),
+    }
 }
 
 // Why the words were not read: memory was refused, or one of them is no text.

@@ -4,10 +4,15 @@ pub mod Counts
 pub mod Digits
 pub mod Ended
 pub mod Folded
+pub mod GroupLaws
 pub mod Grouped
 pub mod Held
 pub mod Joined
+pub mod Ordered
 pub mod PageLaws
+pub mod Recordings
 pub mod Shared
+pub mod Telling
 pub mod Texted
 pub mod Texts
+pub mod UpTo

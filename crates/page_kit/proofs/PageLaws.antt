@@ -57,12 +57,16 @@ module _ {K : Type 0} {R : K → K → Ordering} (o : IsTotalOrder R) where
   sorted_put k [] s = (tt, tt)
   sorted_put k (x ∷ xs) s = sorted_at (R k x) k x xs refl s (sorted_put k xs s.1)
 
-  -- the keys of groups differ
-  sorted_groups : {A : Type 0} (es : List (K × A)) (gs : List (K × List A)) → IsStrictlySortedBy R (keys_of gs) → IsStrictlySortedBy R (keys_of (fold (put R) gs es))
-  sorted_groups [] gs s = s
-  sorted_groups (e ∷ es) gs s = sorted_groups es (put R gs e) (subst (λ (ks : List K). IsStrictlySortedBy R ks) (sym (keys_put R gs e.0 e.1)) (sorted_put e.0 (keys_of gs) s))
+  -- with one value more the keys of groups differ still
+  pub sorted_one : {A : Type 0} (gs : List (K × List A)) (e : K × A) → IsStrictlySortedBy R (keys_of gs) → IsStrictlySortedBy R (keys_of (put R gs e))
+  sorted_one gs e s = subst (λ (ks : List K). IsStrictlySortedBy R ks) (sym (keys_put R gs e.0 e.1)) (sorted_put e.0 (keys_of gs) s)
 
-labels_total : IsTotalOrder labels_cmp
+  -- the keys of groups differ
+  pub sorted_groups : {A : Type 0} (es : List (K × A)) (gs : List (K × List A)) → IsStrictlySortedBy R (keys_of gs) → IsStrictlySortedBy R (keys_of (fold (put R) gs es))
+  sorted_groups [] gs s = s
+  sorted_groups (e ∷ es) gs s = sorted_groups es (put R gs e) (sorted_one gs e s)
+
+pub labels_total : IsTotalOrder labels_cmp
 labels_total = lists_total label_laws.total-law
 
 pub rows_differ : RowsDiffer

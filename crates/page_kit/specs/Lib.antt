@@ -7,6 +7,8 @@ pub mod Lines
 pub mod Metrics
 pub mod Names
 pub mod Page
+pub mod Pages
+pub mod Recorded
 pub mod Rows
 pub mod Totals
 pub mod Units

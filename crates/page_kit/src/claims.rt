@@ -19,7 +19,8 @@ pub(crate) fn is_claimed(claimed: &BTreeSet<Txt>, claims: &[Txt]) -> bool
 
 /// Claims these names.
 pub(crate) fn claim(claimed: &mut BTreeSet<Txt>, claims: Vec<Txt>) -> Result<(), NoMemory>
-    ensures { OnOk result ((names : List (List ℕ)) → IsClaimed names claimed.old.keys → IsClaimed (claims.items ++ names) claimed.new.keys) }
+    ensures { OnOk result ((names : List (List ℕ)) → IsClaimed names claimed.old.keys
+        → IsClaimed (claims.items ++ names) claimed.new.keys) }
 {
     for claim in claims {
         claimed.insert(claim)?;

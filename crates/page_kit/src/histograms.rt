@@ -153,7 +153,8 @@ fn push_last(
     labels: &[Label],
     points: &[PointRef],
 ) -> Result<(), NoMemory>
-    ensures { OnOk result (string_bytes text.new ≡ string_bytes text.old ++ bucket name.now labels.now (codes "+Inf") (count_of (cells points.now))) }
+    ensures { OnOk result (string_bytes text.new ≡ string_bytes text.old
+        ++ bucket name.now labels.now (codes "+Inf") (count_of (cells points.now))) }
 {
     push_bucket(text, alloc, name, labels, "+Inf", count_of(points))
 }

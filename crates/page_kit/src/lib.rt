@@ -5,11 +5,14 @@
 //!
 //! A caller (`crates/page_kit/src/tests.rt`):
 //!
-//!     assert_eq!(rt; openmetrics(alloc, &gateway, None)?.as_str(), FIRST);
+//!     let page = openmetrics(alloc, &gateway, None)?;
+//!
+//! Laws: rows and families differ ([`laws::rows_and_families_differ`]), and each number of a page is what was recorded
+//! ([`laws::numbers_are_recorded`]).
 //!
 //! What contracts cite stands in `specs/`: `Page` (the page and the kit's own families), `Families` (metrics, and which are
 //! shown), `Rows`, `Bounds` and `Totals` (what rows say), `Labels`, `Metrics`, `Units` and `Names` (how things are called), `Lines`
-//! (how they are written) and `Groups` (values by their keys).
+//! (how they are written) and `Groups` (values by their keys); `Laws` and `Recorded` say what the laws do.
 #![tactic(auto)]
 
 mod bounds;

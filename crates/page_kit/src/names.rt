@@ -7,7 +7,8 @@ use std::alloc::Global;
 
 // Adds a byte, or for the first of a run the mark; and whether a run goes on.
 fn push_byte(text: &mut String, byte: u8, in_run: bool) -> Result<bool, NoMemory>
-    ensures { IfOk result (λ next. (rest : List ℕ) → string_bytes text.new ++ line_from next rest ≡ string_bytes text.old ++ line_from in_run (byte ∷ rest)) }
+    ensures { IfOk result (λ next. (rest : List ℕ) → string_bytes text.new ++ line_from next rest
+        ≡ string_bytes text.old ++ line_from in_run (byte ∷ rest)) }
 {
     if byte.is_ascii_alphanumeric() {
         text.push(byte as char)?;

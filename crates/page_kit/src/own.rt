@@ -105,7 +105,8 @@ fn push_lengths(
     name: &str,
     rows: &[(Seq<Label>, Vec<PointRef<'_>>)],
 ) -> Result<(), NoMemory>
-    ensures { OnOk result (string_bytes text.new ≡ string_bytes text.old ++ flat_map (λ g. sample name.now g.0 (decimal (length g.1.items))) rows.now) }
+    ensures { OnOk result (string_bytes text.new ≡ string_bytes text.old
+        ++ flat_map (λ g. sample name.now g.0 (decimal (length g.1.items))) rows.now) }
 {
     for (labels, points) in rows {
         push_number(
@@ -183,7 +184,8 @@ fn push_numbers(
     labels: &[Label],
     numbers: &[usize],
 ) -> Result<(), NoMemory>
-    ensures { OnOk result (string_bytes text.new ≡ string_bytes text.old ++ flat_map (λ n. sample name.now labels.now (decimal n)) numbers.now) }
+    ensures { OnOk result (string_bytes text.new ≡ string_bytes text.old
+        ++ flat_map (λ n. sample name.now labels.now (decimal n)) numbers.now) }
 {
     for number in numbers {
         push_number(text, alloc, name, labels, *number)?;

@@ -5,7 +5,7 @@ ghost use Rattle.std.specs.Option.{option_map};
 ghost use Rattle.gateway_kit.specs.Walks.{keyed_cell_of_ref, points_left};
 ghost use Rattle.page_kit.specs.Page.{last_line, asked_cells, page};
 ghost use Rattle.page_kit.specs.Rows.{family_text};
-ghost use Rattle.page_kit.specs.declared.text.Format.TheVariants.{OpenMetrics, Prometheus};
+ghost use Rattle.page_kit.specs.Pages.{openmetrics_page, prometheus_page};
 ghost use Rattle.page_kit.specs.Views.{cells, all_measured};
 
 use crate::families::{Measured, families_of};
@@ -95,7 +95,7 @@ pub fn openmetrics(
     service: Option<&str>,
 ) -> Result<String, NoMemory>
     ensures value { IfOk result (λ text. string_bytes text
-        ≡ page OpenMetrics (asked_cells (option_map (λ s. s.now) service.entry) gateway.now.points)) }
+        ≡ openmetrics_page (asked_cells (option_map (λ s. s.now) service.entry) gateway.now.points)) }
 {
     let points = list_of(alloc, asked_points(gateway, service))?;
     page(alloc, Format::OpenMetrics, points.as_slice())
@@ -110,7 +110,7 @@ pub fn prometheus(
     service: Option<&str>,
 ) -> Result<String, NoMemory>
     ensures value { IfOk result (λ text. string_bytes text
-        ≡ page Prometheus (asked_cells (option_map (λ s. s.now) service.entry) gateway.now.points)) }
+        ≡ prometheus_page (asked_cells (option_map (λ s. s.now) service.entry) gateway.now.points)) }
 {
     let points = list_of(alloc, asked_points(gateway, service))?;
     page(alloc, Format::Prometheus, points.as_slice())

@@ -69,7 +69,8 @@ fn push_gauge(
 
 // The bounds of a row: those of its service.
 fn bounds_of_row<'a>(services: &'a BTreeMap<Txt, Vec<i64>>, points: &[PointRef]) -> &'a [i64]
-    ensures { (all : List KeyedCell) → AreBounds (λ v. v.items) all services.entry.now.entries → result.now ≡ row_bounds all (cells points.now) }
+    ensures { (all : List KeyedCell) → AreBounds (λ v. v.items) all services.entry.now.entries
+        → result.now ≡ row_bounds all (cells points.now) }
 {
     let Some(point) = points.first() else {
         return &[];
@@ -95,8 +96,9 @@ fn push_samples(
     labels: &[Label],
     points: &[PointRef],
 ) -> Result<(), NoMemory>
-    ensures { OnOk result ((all : List KeyedCell) → HaveBounds family.entry.kind (λ v. v.items) all family.entry.bounds.now.entries → string_bytes text.new
-        ≡ string_bytes text.old ++ samples family.entry.kind family.entry.name.now all labels.now (cells points.now)) }
+    ensures { OnOk result ((all : List KeyedCell) → HaveBounds family.entry.kind (λ v. v.items) all family.entry.bounds.now.entries
+        → string_bytes text.new ≡ string_bytes text.old
+        ++ samples family.entry.kind family.entry.name.now all labels.now (cells points.now)) }
 {
     match family.kind {
         Kind::Updown => push_sum(text, alloc, family.name, "", labels, points),
@@ -117,8 +119,9 @@ fn push_row(
     labels: &[Label],
     points: &[PointRef],
 ) -> Result<(), NoMemory>
-    ensures { OnOk result ((all : List KeyedCell) → HaveBounds family.entry.kind (λ v. v.items) all family.entry.bounds.now.entries → string_bytes text.new
-        ≡ string_bytes text.old ++ row family.entry.kind family.entry.name.now all (labels.now, cells points.now)) }
+    ensures { OnOk result ((all : List KeyedCell) → HaveBounds family.entry.kind (λ v. v.items) all family.entry.bounds.now.entries
+        → string_bytes text.new ≡ string_bytes text.old
+        ++ row family.entry.kind family.entry.name.now all (labels.now, cells points.now)) }
 {
     if has_conflict(points) {
         return Ok(());
@@ -132,8 +135,9 @@ fn push_rows(
     family: Family<'_>,
     rows: &[(Seq<Label>, Vec<PointRef<'_>>)],
 ) -> Result<(), NoMemory>
-    ensures { OnOk result ((all : List KeyedCell) → HaveBounds family.entry.kind (λ v. v.items) all family.entry.bounds.now.entries → string_bytes text.new
-        ≡ string_bytes text.old ++ flat_map (λ r. row family.entry.kind family.entry.name.now all (r.0, cells r.1.items)) rows.now) }
+    ensures { OnOk result ((all : List KeyedCell) → HaveBounds family.entry.kind (λ v. v.items) all family.entry.bounds.now.entries
+        → string_bytes text.new ≡ string_bytes text.old
+        ++ flat_map (λ r. row family.entry.kind family.entry.name.now all (r.0, cells r.1.items)) rows.now) }
 {
     for (labels, points) in rows {
         push_row(text, alloc, family, labels.as_slice(), points.as_slice())?;

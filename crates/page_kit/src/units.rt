@@ -11,7 +11,8 @@ use std::alloc::Global;
 
 // Adds a byte that stands outside of braces; and whether the next one stands inside.
 fn push_outside(bytes: &mut Vec<u8>, byte: u8, inside: bool) -> Result<bool, NoMemory>
-    ensures { IfOk result (λ next. (rest : List ℕ) → bytes.new.items ++ outside_from next rest ≡ bytes.old.items ++ outside_from inside (byte ∷ rest)) }
+    ensures { IfOk result (λ next. (rest : List ℕ) → bytes.new.items ++ outside_from next rest
+        ≡ bytes.old.items ++ outside_from inside (byte ∷ rest)) }
 {
     if inside {
         return Ok(byte != b'}');

@@ -112,6 +112,13 @@ impl Plan {
         self.streams.get(number)
     }
 
+    /// No stream of a plan stands twice in it: callers who owe this learn it here. Does nothing.
+    pub fn streams_are_apart(&self)
+        ensures apart { AreApart self.now.streams }
+    {
+        let _streams = &self.streams;
+    }
+
     /// How many streams there are. Takes no memory and constant time.
     pub fn streams_len(&self) -> usize
         ensures len { result ≡ length self.now.streams }

@@ -131,9 +131,7 @@ fn list_of_groups(
     ensures value { IfOk result (λ groups. groups.items ≡ rows.entries) }
     ensures distinct { IsDistinct (eq_by_cmp attributes_cmp) (keys_of rows.entries) }
 {
-    // `len` is called for its clause that the keys differ.
-    let _len = rows.len();
-    append(Vec::new(alloc), rows)
+    append(Vec::with_capacity(alloc, rows.len())?, rows)
 }
 
 /// The groups of all points that are asked for, of which no two have one set. O(n) hashes and comparisons of n points.

@@ -1,5 +1,5 @@
 //! What a gateway answers.
-ghost use Rattle.std.specs.Prelude.{◌≡◌, ◌≤◌, ℕ, true, length, IfOk};
+ghost use Rattle.std.specs.Prelude.{◌≡◌, ◌<◌, ◌≤◌, ◌^◌, ℕ, true, length, IfOk};
 ghost use Rattle.std.specs.FinMap as finite;
 ghost use Rattle.std.specs.FinMap.{entries};
 ghost use Rattle.std.specs.FinMap.Entries.{is_sorted};
@@ -28,6 +28,13 @@ fn asked_points<'a>(gateway: &'a Gateway, ask: &'a Ask) -> Points<'a>
     }
 }
 
+// So no total of the points of a gateway leaves 128 bits. Does nothing.
+fn points_are_countable(gateway: &Gateway)
+    ensures { finite.len gateway.now.points < 2 ^ 64 }
+{
+    gateway.len();
+}
+
 /// The roll-up of a gateway's points: those of the asked stream and, where one is given, of the asked service, whose
 /// attributes have every asked pair, grouped by the attributes that are kept. There is a row for each such group, in
 /// the order of attribute sets, and it has the number of points and of conflicts.
@@ -45,8 +52,7 @@ fn asked_points<'a>(gateway: &'a Gateway, ask: &'a Ask) -> Points<'a>
 pub fn rollup(alloc: Global, gateway: &Gateway, ask: &Ask) -> Result<Seq<Row>, NoMemory>
     ensures value { IfOk result (λ rows. rows ≡ rollup_rows ask.now gateway.now.points) }
 {
-    // The number of points is a `usize`, so no total leaves 128 bits.
-    let _points = gateway.len();
+    points_are_countable(gateway);
     let buckets = buckets_for(&ask.stream.shape);
     let groups = groups_of(alloc, buckets, ask, asked_points(gateway, ask))?;
     rows_of(alloc, &ask.stream.shape, in_order(groups)?)

@@ -4,6 +4,7 @@ ghost use Rattle.std.specs.Borrow.{Bor};
 ghost use Rattle.std.specs.FinMap.{entries};
 ghost use Rattle.std.specs.Map.{values_of};
 ghost use Rattle.attr_kit.specs.declared.attr_value.AttrValue.TheVariants as values;
+ghost use Rattle.gateway_kit.specs.Listing.{held_incarnations, held_of_ref, held_services};
 ghost use Rattle.gateway_kit.specs.Walks.{keyed_cell_of_ref};
 ghost use Rattle.plan_kit.specs.Plans.{feeds_of};
 ghost use Rattle.plan_kit.specs.declared.feed.Feed.{Feed};
@@ -17,7 +18,7 @@ ghost use Rattle.round_kit.specs.Rounds.{point_of};
 ghost use Rattle.round_kit.specs.declared.payload.RoundHistogram.{RoundHistogram};
 ghost use Rattle.round_kit.specs.declared.payload.RoundPayload.TheVariants as parts;
 
-use gateway_kit::{Gateway, PointRef, Points};
+use gateway_kit::{Gateway, IncarnationRef, Incarnations, PointRef, Points, Services};
 use plan_kit::{Feed, Plan};
 use point_kit::Ordered;
 use rollup_kit::{Row, Total};
@@ -106,6 +107,24 @@ pub fn first_point(gateway: &Gateway) -> Option<PointRef<'_>>
 {
     let mut points: Points<'_> = gateway.points();
     points.next()
+}
+
+/// The first incarnation of which a gateway holds points, in the order of keys; none where it holds nothing.
+pub fn first_incarnation(gateway: &Gateway) -> Option<IncarnationRef<'_>>
+    ensures nothing { result ≡ None → held_incarnations gateway.now.points ≡ [] }
+    ensures first { IfSome result (λ first. (rest : List _) × (held_incarnations gateway.now.points ≡ held_of_ref first ∷ rest)) }
+{
+    let mut incarnations: Incarnations<'_> = gateway.incarnations();
+    incarnations.next()
+}
+
+/// The first service of which a gateway holds points, in order; none where it holds nothing.
+pub fn first_service(gateway: &Gateway) -> Option<&str>
+    ensures nothing { result ≡ None → held_services gateway.now.points ≡ [] }
+    ensures first { IfSome result (λ first. (rest : List _) × (held_services gateway.now.points ≡ first.now ∷ rest)) }
+{
+    let mut services: Services<'_> = gateway.services();
+    services.next()
 }
 
 /// The number of the only stream that an instrument feeds; none where it feeds none, or more than one.

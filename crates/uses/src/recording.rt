@@ -56,13 +56,7 @@ pub fn first_export(alloc: Global, id: WriterId, plan: Plan) -> anyhow::Result<E
 pub fn first_table(alloc: Global, id: WriterId, plan: Plan, ask: &Ask) -> anyhow::Result<Txt>
     ensures { IfOk result (IsTableOf ask.now id plan 100 200 (three_and_four [])) }
 {
-    let none = AttrSet::empty(alloc);
-    let mut writer = Writer::start(alloc, id, plan, 100)?;
-    writer.measure(0, &none, 3)?;
-    writer.measure(0, &none, 4)?;
-    let arena = Bump::new(alloc);
-    let round = writer.collect(&arena, 200)?;
-    let export = round.copy_out(alloc, writer.id())?;
+    let export = first_export(alloc, id, plan)?;
     let mut gateway = Gateway::new(alloc, 1);
     gateway.take(&export)?;
     let rows = rollup(alloc, &gateway, ask)?;

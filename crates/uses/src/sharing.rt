@@ -72,22 +72,21 @@ fn note_all(alloc: Global, work: &Work) -> Result<Recorder, RecordFault>
     Ok(recorder)
 }
 
-// Has a log of all values taken in by a seat, and gives it back; none where one is refused.
+// Has a log taken in whole by a seat, and gives the seat back; none where a recording is refused.
 #[tactic(auto, using(crate::proofs::Logs::all_gone))]
 fn record_log<R: Wait>(
     rt: &R,
-    alloc: Global,
     shared: &SharedWriter,
     seat: Seat<Writer>,
-    work: &Work,
+    recorder: Recorder,
 ) -> Option<Seat<Writer>>
     requires at { IsAt shared.now seat }
     requires fresh { (mine seat ≡ []) × (joined seat ≡ []) }
     ensures at { IfSome result (λ s. IsAt shared.now s × (joined s ≡ [])) }
-    ensures all { IfSome result (λ s. mine s ≡ TakenIn (log_of work.now) ∷ []) }
+    ensures all { IfSome result (λ s. mine s ≡ TakenIn recorder.log ∷ []) }
 {
     let mut seat = seat;
-    let mut recorder = note_all(alloc, work).ok()?;
+    let mut recorder = recorder;
     let Ok(told) = shared.take_in(rt, &mut seat, &mut recorder, usize::MAX) else {
         return None;
     };
@@ -112,7 +111,7 @@ fn record_all<R: Wait>(
 {
     match work.way {
         Way::OneByOne => record_each(rt, shared, seat, work),
-        Way::ByLog => record_log(rt, alloc, shared, seat, work),
+        Way::ByLog => record_log(rt, shared, seat, note_all(alloc, work).ok()?),
     }
 }
 

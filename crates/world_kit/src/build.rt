@@ -57,12 +57,12 @@ fn start(alloc: Global, setups: Seq<WriterSetup>) -> Result<Vec<Writer>, NoMemor
     Ok(writers)
 }
 
-// A writer before any event. No stream of its plan stands twice: `Plan::stream` says so of every plan.
+// A writer before any event.
 fn begin_writer(alloc: Global, setup: WriterSetup) -> Result<Writer, NoMemory>
     ensures value { IfOk result (λ writer. WriterStands setup [] writer) }
     ensures apart { OnOk result (AreApart setup.plan.streams) }
 {
-    let _first = setup.plan.stream(0);
+    setup.plan.streams_are_apart();
     let writer = Writer::start(alloc, setup.id, setup.plan, setup.start)?;
     Ok(writer)
 }

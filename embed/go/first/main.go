@@ -17,7 +17,7 @@ func must[T any](made T, err error) T {
 
 func main() {
 	plan := must(kotskhin.NewPlan(kotskhin.Instrument{Scope: "app", Name: "requests", Unit: "1", Kind: kotskhin.Counter}))
-	writer := must(kotskhin.StartWriter(plan, "shop", 0, 1, 100))
+	writer := must(kotskhin.StartWriter(plan, "shop", kotskhin.Instance{Low: 1}, 100))
 	none := must(kotskhin.NewAttributes())
 	for _, value := range []int64{3, 4} {
 		if err := writer.Measure(0, none, value); err != nil {

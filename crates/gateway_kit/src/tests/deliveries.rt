@@ -1,4 +1,4 @@
-//! The incarnations of a gateway after a restart.
+//! The incarnations of a gateway.
 use super::builders::{newest, single, told};
 use crate::Gateway;
 use std::alloc::Global;
@@ -20,5 +20,31 @@ fn each_start_is_an_incarnation_of_its_own(rt: HostRuntime) -> Result<(), Fail> 
     assert!(rt; newest(alloc, &gateway, 1, 100)? == Some(300));
     assert!(rt; newest(alloc, &gateway, 1, 400)? == Some(500));
     assert!(rt; newest(alloc, &gateway, 1, 50)?.is_none());
+    Ok(())
+}
+
+#[test]
+fn incarnations_and_services_are_listed_in_order(rt: HostRuntime) -> Result<(), Fail> {
+    let alloc = rt.alloc();
+    let again = single(alloc, 1, 400, 500, 2)?;
+    let till = single(alloc, 3, 100, 250, 1)?;
+    let other = single(alloc, 2, 100, 300, 1)?;
+    let early = single(alloc, 1, 100, 200, 7)?;
+    let gateway = told(alloc, 1, &[&again, &till, &other, &early])?;
+    let rows = [
+        ("shop", 100, 200, 1),
+        ("shop", 400, 500, 1),
+        ("till", 100, 300, 1),
+        ("till", 100, 250, 1),
+    ];
+    assert!(rt; gateway.incarnations_len() == rows.len());
+    for (listed, row) in gateway.incarnations().zip(rows) {
+        let service = listed.writer.service.as_str();
+        assert!(rt; (service, listed.start, listed.newest, listed.points) == row);
+    }
+    let mut services = gateway.services();
+    assert!(rt; services.next() == Some("shop"));
+    assert!(rt; services.next() == Some("till"));
+    assert!(rt; services.next().is_none());
     Ok(())
 }

@@ -83,6 +83,56 @@ pub const BAD_CHECKSUM: i32 = 64;
 pub const BAD_EXPORT: i32 = 65;
 /// A log has as many recordings as it may.
 pub const RECORDER_FULL: i32 = 70;
+/// The bounds of a point do not rise as doubles.
+pub const OTLP_BOUNDS: i32 = 80;
+/// The request has more bytes than one may have.
+pub const TOO_LONG: i32 = 81;
+/// Bytes begin no field that can stand there.
+pub const MALFORMED: i32 = 82;
+/// A resource names no service.
+pub const NO_SERVICE: i32 = 83;
+/// A resource names no instance.
+pub const NO_INSTANCE: i32 = 84;
+/// The instance of a resource is no UUID.
+pub const NOT_UUID: i32 = 85;
+/// A scope comes in two versions.
+pub const SCOPE_TWICE: i32 = 86;
+/// A metric is an exponential histogram.
+pub const EXPONENTIAL_HISTOGRAM: i32 = 87;
+/// A metric is a summary.
+pub const SUMMARY: i32 = 88;
+/// A metric has no data.
+pub const NO_DATA: i32 = 89;
+/// A metric is told as deltas.
+pub const DELTA: i32 = 90;
+/// A metric is not said to be cumulative.
+pub const NO_TEMPORALITY: i32 = 91;
+/// A point has no recorded value.
+pub const NO_RECORDED_VALUE: i32 = 92;
+/// The start of a point is not known.
+pub const UNKNOWN_START: i32 = 93;
+/// The value of a point is a double.
+pub const FLOAT_VALUE: i32 = 94;
+/// A point has no value.
+pub const NO_POINT_VALUE: i32 = 95;
+/// A histogram has no sum.
+pub const NO_SUM: i32 = 96;
+/// A double of a histogram is no whole number.
+pub const NOT_WHOLE: i32 = 97;
+/// A double of a histogram may stand for several whole numbers.
+pub const INEXACT: i32 = 98;
+/// The bounds of a histogram do not strictly rise.
+pub const NOT_RISING: i32 = 99;
+/// A histogram has a least or a greatest value alone.
+pub const HALF_RANGE: i32 = 100;
+/// An attribute of a point has no key.
+pub const NO_KEY: i32 = 101;
+/// Two attributes of a point have one key.
+pub const ATTRIBUTE_TWICE: i32 = 102;
+/// The value of an attribute is of a kind that is not known.
+pub const ATTRIBUTE_VALUE: i32 = 103;
+/// What a request says together makes no export.
+pub const NO_EXPORT: i32 = 104;
 
 kind!(
     /// Pairs of attributes that are written down, or nothing.
@@ -135,6 +185,11 @@ kind!(
 );
 
 kind!(
+    /// Exports that were read, or nothing.
+    Exports
+);
+
+kind!(
     /// A gateway, or nothing.
     Gateway
 );
@@ -170,12 +225,17 @@ kind!(
 );
 
 kind!(
+    /// Incarnations of which there are points, or nothing.
+    Incarnations
+);
+
+kind!(
     /// A text, or nothing.
     Text
 );
 
 kind!(
-    /// An export or a message as bytes, or nothing.
+    /// An export, a message or a request as bytes, or nothing.
     Bytes
 );
 
@@ -303,6 +363,25 @@ unsafe extern "C" {
         room: usize,
         len: *mut usize,
     ) -> i32;
+    pub fn kit_export_otlp(
+        export_: *mut Export,
+        bytes: *mut Bytes,
+        place: *mut u64,
+    ) -> i32;
+    pub fn kit_gateway_openmetrics(
+        gateway: *mut Gateway,
+        only: bool,
+        service: *const u8,
+        service_len: usize,
+        text: *mut Text,
+    ) -> i32;
+    pub fn kit_gateway_prometheus(
+        gateway: *mut Gateway,
+        only: bool,
+        service: *const u8,
+        service_len: usize,
+        text: *mut Text,
+    ) -> i32;
     pub fn kit_gateway_open(
         gateway: *mut Gateway,
         id: u32,
@@ -361,6 +440,34 @@ unsafe extern "C" {
         number: usize,
         bucket_number: usize,
         count: *mut u64,
+    ) -> i32;
+    pub fn kit_gateway_incarnations(
+        gateway: *mut Gateway,
+        incarnations: *mut Incarnations,
+    ) -> i32;
+    pub fn kit_message_incarnations(
+        message: *mut Message,
+        incarnations: *mut Incarnations,
+    ) -> i32;
+    pub fn kit_incarnations_len(
+        incarnations: *mut Incarnations,
+        count: *mut usize,
+    ) -> i32;
+    pub fn kit_incarnations_read(
+        incarnations: *mut Incarnations,
+        number: usize,
+        instance_high: *mut u64,
+        instance_low: *mut u64,
+        start: *mut u64,
+        newest: *mut u64,
+        points: *mut usize,
+    ) -> i32;
+    pub fn kit_incarnations_service(
+        incarnations: *mut Incarnations,
+        number: usize,
+        into: *mut u8,
+        room: usize,
+        len: *mut usize,
     ) -> i32;
     pub fn kit_instruments_add(
         instruments: *mut Instruments,
@@ -459,6 +566,21 @@ unsafe extern "C" {
     ) -> i32;
     pub fn kit_recorder_clear(
         recorder: *mut Recorder,
+    ) -> i32;
+    pub fn kit_exports_of_otlp(
+        exports: *mut Exports,
+        bytes: *const u8,
+        bytes_len: usize,
+        place: *mut u64,
+    ) -> i32;
+    pub fn kit_exports_len(
+        exports: *mut Exports,
+        count: *mut usize,
+    ) -> i32;
+    pub fn kit_exports_read(
+        exports: *mut Exports,
+        number: usize,
+        export_: *mut Export,
     ) -> i32;
     pub fn kit_rows_len(
         rows: *mut Rows,

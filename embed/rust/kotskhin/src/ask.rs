@@ -9,6 +9,7 @@ use kotskhin_sys::{
 };
 
 /// What is asked of a gateway: a stream, and which of its points. Without more, all of them, a row for each attribute set.
+#[derive(Debug)]
 pub struct Ask(pub(crate) Handle<sys::Ask>);
 
 impl Ask {
@@ -86,7 +87,7 @@ impl Ask {
     /// From now on of the points that have each of these pairs.
     pub fn only<'a, V: Into<AttributeValue<'a>>>(
         &mut self,
-        pairs: impl IntoIterator<Item = (&'a str, V)>,
+        pairs: impl IntoIterator<Item = (impl AsRef<str>, V)>,
     ) -> Result<(), Error> {
         let mut pairs = pairs_of(pairs)?;
         // SAFETY: both handles are ours alone, and they are two.

@@ -22,6 +22,12 @@ impl<'a> From<&'a str> for AttributeValue<'a> {
     }
 }
 
+impl<'a> From<&'a String> for AttributeValue<'a> {
+    fn from(text: &'a String) -> Self {
+        AttributeValue::Text(text)
+    }
+}
+
 impl From<i64> for AttributeValue<'_> {
     fn from(number: i64) -> Self {
         AttributeValue::Whole(number)
@@ -82,10 +88,11 @@ fn pair_in(set: &Handle<sys::Attributes>, number: usize) -> Result<(String, Owne
 
 /// Pairs, in the order in which they come.
 pub(crate) fn pairs_of<'a, V: Into<AttributeValue<'a>>>(
-    pairs: impl IntoIterator<Item = (&'a str, V)>,
+    pairs: impl IntoIterator<Item = (impl AsRef<str>, V)>,
 ) -> Result<Handle<sys::Pairs>, Error> {
     let mut handle = Handle::empty();
     for (key, value) in pairs {
+        let key = key.as_ref();
         let at = handle.change();
         // SAFETY: the handle is ours alone, and each text is a slice's pointer and length.
         checked(unsafe {
@@ -114,6 +121,7 @@ fn set_of(pairs: &Handle<sys::Pairs>) -> Result<Handle<sys::Attributes>, Error> 
 }
 
 /// A set of attributes: of a key that is given twice the later value stays. Make it once, and record with it often, from any thread.
+#[derive(Debug)]
 pub struct Attributes {
     set: Handle<sys::Attributes>,
     pairs: Handle<sys::Pairs>,
@@ -122,9 +130,9 @@ pub struct Attributes {
 }
 
 impl Attributes {
-    /// Refused: `EmptyKey`, `NoMemory`.
+    /// Of pairs, or of what a map has. Refused: `EmptyKey`, `NoMemory`.
     pub fn new<'a, V: Into<AttributeValue<'a>>>(
-        pairs: impl IntoIterator<Item = (&'a str, V)>,
+        pairs: impl IntoIterator<Item = (impl AsRef<str>, V)>,
     ) -> Result<Attributes, Error> {
         let pairs = pairs_of(pairs)?;
         Ok(Attributes {
@@ -136,7 +144,12 @@ impl Attributes {
 
     /// The set without attributes.
     pub fn none() -> Result<Attributes, Error> {
-        Attributes::new::<&str>([])
+        Attributes::new([("", ""); 0])
+    }
+
+    /// Its pairs, in the order of their keys: each key once. Refused: `NoMemory`.
+    pub fn pairs(&self) -> Result<Vec<(String, OwnedValue)>, Error> {
+        pairs_in(&self.set)
     }
 
     /// For a call that only reads the set.

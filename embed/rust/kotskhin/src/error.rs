@@ -1,4 +1,5 @@
 //! Why a call is refused.
+use crate::requests::{self, RequestFault};
 use kotskhin_sys as sys;
 use std::fmt;
 
@@ -78,8 +79,16 @@ pub enum Error {
     BadChecksum { at: u64 },
     /// The values of the bytes make no export, or a point of a message is none that an export brings.
     BadExport,
+    /// The bounds of this point do not rise as doubles, which OTLP has.
+    OtlpBounds { point: u64 },
+    /// The request has more bytes than one may have, 2^31 - 1.
+    TooLong,
+    /// The bytes are no request of OTLP, or say what no export has.
+    Request(RequestFault),
     /// The instrument's meter has not started, or its start was refused.
     NotStarted,
+    /// The provider had started before the instrument was declared.
+    DeclaredLate,
     /// A code that these types make impossible: `NOTHING`, `WRONG_KIND`, `FULL`, `BAD_NUMBER`, or none of the kit's.
     Unexpected(i32),
 }
@@ -129,7 +138,12 @@ pub(crate) fn refusal(code: i32, place: u64, second: u64) -> Error {
         sys::NOT_TEXT => Error::NotText { at: place },
         sys::BAD_CHECKSUM => Error::BadChecksum { at: place },
         sys::BAD_EXPORT => Error::BadExport,
-        other => Error::Unexpected(other),
+        sys::OTLP_BOUNDS => Error::OtlpBounds { point: place },
+        sys::TOO_LONG => Error::TooLong,
+        other => match requests::fault(other, place) {
+            Some(fault) => Error::Request(fault),
+            None => Error::Unexpected(other),
+        },
     }
 }
 
@@ -227,7 +241,16 @@ impl fmt::Display for Error {
                 )
             }
             Error::BadExport => write!(f, "the values make no export"),
+            Error::OtlpBounds { point } => {
+                write!(f, "the bounds of point {point} do not rise as doubles")
+            }
+            Error::TooLong => write!(f, "the request has more bytes than one may have"),
+            Error::Request(fault) => write!(f, "{fault}"),
             Error::NotStarted => write!(f, "the meter has not started, or was refused"),
+            Error::DeclaredLate => write!(
+                f,
+                "the provider had started before the instrument was declared"
+            ),
             Error::Unexpected(code) => write!(f, "unexpected code {code}"),
         }
     }

@@ -2,8 +2,8 @@
 use crate::error::{Error, checked, checked_at};
 use crate::handle::Handle;
 use kotskhin_sys::{
-    self as sys, kit_bytes_copy, kit_export_decode, kit_export_encode, kit_export_read,
-    kit_export_service,
+    self as sys, kit_bytes_copy, kit_export_decode, kit_export_encode, kit_export_otlp,
+    kit_export_read, kit_export_service, kit_text_copy,
 };
 
 /// What a call copies out into a room, of which it tells the whole length, once the room is enough.
@@ -20,6 +20,18 @@ pub(crate) fn copied_by(
             return Ok(bytes);
         }
     }
+}
+
+/// The text that a handle has.
+pub(crate) fn text_in(made: &Handle<sys::Text>) -> Result<String, Error> {
+    // SAFETY: the text is lent, and the room is a slice's.
+    let bytes = copied_by(|room, len| unsafe {
+        kit_text_copy(made.read().at(), room.as_mut_ptr(), room.len(), len)
+    })?;
+    // (the library's texts are UTF-8)
+    String::from_utf8(bytes).map_err(|fault| Error::NotText {
+        at: fault.utf8_error().valid_up_to() as u64,
+    })
 }
 
 /// The bytes that a handle has.
@@ -41,6 +53,7 @@ pub struct ExportHead {
 }
 
 /// The points of one collection: all that the writer recorded since its start. A gateway may take it, and so may others.
+#[derive(Debug)]
 pub struct Export(pub(crate) Handle<sys::Export>);
 
 impl Export {
@@ -76,6 +89,16 @@ impl Export {
         let mut made = Handle::empty();
         // SAFETY: the export is lent, and the bytes are ours alone; they are two.
         checked(unsafe { kit_export_encode(self.0.read().at(), made.change()) })?;
+        copied(&made)
+    }
+
+    /// The request of OTLP that brings it to a Collector: the body of a POST to `/v1/metrics`, with `Content-Type:
+    /// application/x-protobuf`. Refused: `OtlpBounds`, `TooLong`, `NoMemory`.
+    pub fn otlp(&self) -> Result<Vec<u8>, Error> {
+        let (mut made, mut place) = (Handle::empty(), 0);
+        // SAFETY: the export is lent, and the bytes are ours alone; they are two.
+        let code = unsafe { kit_export_otlp(self.0.read().at(), made.change(), &mut place) };
+        checked_at(code, place)?;
         copied(&made)
     }
 

@@ -1,18 +1,25 @@
 //! Gateways.
 use crate::ask::Ask;
 use crate::error::{Error, checked};
-use crate::export::{Export, copied};
+use crate::export::{Export, copied, text_in};
 use crate::handle::Handle;
+use crate::incarnations::{Incarnation, incarnations_in};
+use crate::node::Message;
 use crate::rows::Rows;
 use crate::streams::Streams;
 use kotskhin_sys::{
-    self as sys, kit_gateway_conflicts, kit_gateway_encode, kit_gateway_merge, kit_gateway_newest,
-    kit_gateway_open, kit_gateway_read, kit_gateway_rows, kit_gateway_same, kit_gateway_streams,
-    kit_gateway_take,
+    self as sys, kit_gateway_conflicts, kit_gateway_encode, kit_gateway_incarnations,
+    kit_gateway_merge, kit_gateway_newest, kit_gateway_open, kit_gateway_openmetrics,
+    kit_gateway_prometheus, kit_gateway_read, kit_gateway_rows, kit_gateway_same,
+    kit_gateway_streams, kit_gateway_take,
 };
 use std::ptr;
 
+/// A call that makes a page.
+type Page = unsafe extern "C" fn(*mut sys::Gateway, bool, *const u8, usize, *mut sys::Text) -> i32;
+
 /// The newest points of all writers that were brought to it, in whatever order and however often.
+#[derive(Debug)]
 pub struct Gateway(pub(crate) Handle<sys::Gateway>);
 
 impl Gateway {
@@ -56,16 +63,54 @@ impl Gateway {
         Ok(Streams(streams))
     }
 
-    /// Its id and points as bytes, to be kept: those of a message of all that it holds, to itself. [`Message::decode`] reads them, and
-    /// [`Message::gateway`] gives the gateway. Refused: `NoMemory`.
+    /// Of whom it holds points. Refused: `NoMemory`.
+    pub fn incarnations(&self) -> Result<Vec<Incarnation>, Error> {
+        let mut list = Handle::empty();
+        // SAFETY: the gateway is lent, and the list is ours alone.
+        checked(unsafe { kit_gateway_incarnations(self.0.read().at(), list.change()) })?;
+        incarnations_in(&list)
+    }
+
+    /// The page of what it holds, in OpenMetrics 1.0: of one service, or of all where none is said. It answers a request that accepts
+    /// `application/openmetrics-text`, with `Content-Type: application/openmetrics-text; version=1.0.0; charset=utf-8`.
     ///
-    /// [`Message::decode`]: crate::Message::decode
-    /// [`Message::gateway`]: crate::Message::gateway
+    /// Refused: `NoMemory`.
+    pub fn openmetrics(&self, service: Option<&str>) -> Result<String, Error> {
+        self.page(service, kit_gateway_openmetrics)
+    }
+
+    /// The same page in Prometheus' text format 0.0.4, with `Content-Type: text/plain; version=0.0.4; charset=utf-8`. Refused: `NoMemory`.
+    pub fn prometheus(&self, service: Option<&str>) -> Result<String, Error> {
+        self.page(service, kit_gateway_prometheus)
+    }
+
+    fn page(&self, service: Option<&str>, call: Page) -> Result<String, Error> {
+        let (mut text, only) = (Handle::empty(), service.is_some());
+        let service = service.unwrap_or_default();
+        let (at, len) = (service.as_ptr(), service.len());
+        // SAFETY: the gateway is lent, the text is ours alone, and the service is a slice's pointer and length.
+        checked(unsafe { call(self.0.read().at(), only, at, len, text.change()) })?;
+        text_in(&text)
+    }
+
+    /// Its id and points as bytes, to be kept: those of a message of all that it holds, to itself. [`decode`](Self::decode) brings it back.
+    /// Refused: `NoMemory`.
     pub fn encode(&self) -> Result<Vec<u8>, Error> {
         let mut made = Handle::empty();
         // SAFETY: the gateway is lent, and the bytes are ours alone.
         checked(unsafe { kit_gateway_encode(self.0.read().at(), made.change()) })?;
         copied(&made)
+    }
+
+    /// The gateway of bytes that `encode` made. Refused as [`Message::decode`](crate::Message::decode) is; `NotAddressed` where they are of
+    /// a message that a node sent to another.
+    pub fn decode(bytes: &[u8]) -> Result<Gateway, Error> {
+        let kept = Message::decode(bytes)?;
+        let stands = kept.envelope()?;
+        match stands.from == stands.to {
+            true => kept.gateway(),
+            false => Err(Error::NotAddressed),
+        }
     }
 
     /// The number of keys at whose time different values came: two writers recorded under one identity.

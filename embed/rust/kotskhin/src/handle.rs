@@ -1,5 +1,6 @@
 //! One owner for each handle.
 use kotskhin_sys::{Kind, kit_free};
+use std::fmt;
 use std::marker::PhantomData;
 use std::ptr;
 
@@ -37,6 +38,12 @@ impl<K: Kind> Handle<K> {
     pub fn read(&self) -> Lent<'_, K> {
         // SAFETY: a handle is bytes, and what it has is given up by `Handle` alone.
         Lent(unsafe { ptr::read(&self.0) }, PhantomData)
+    }
+}
+
+impl<K: Kind> fmt::Debug for Handle<K> {
+    fn fmt(&self, f: &mut fmt::Formatter<'_>) -> fmt::Result {
+        f.write_str(if self.is_empty() { "empty" } else { "full" })
     }
 }
 

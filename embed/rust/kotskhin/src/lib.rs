@@ -1,12 +1,31 @@
 //! Metrics after OpenTelemetry whose totals are proved: safe types over libkotskhin.a.
 //!
-//! [`metrics`] has OpenTelemetry's names: `Meter`, `Counter::add`, `Histogram::record`. Below it are the kit's own: a [`Writer`]
+//! [`otel`] has OpenTelemetry's names: `SdkMeterProvider`, `Counter::add`, `PeriodicReader`. In [`metrics`] each recording answers a
+//! `Result`, by a writer under a lock. Below them are the kit's own: a [`Writer`]
 //! records under a [`Plan`] and gives an [`Export`], a [`Gateway`] takes exports and merges with others, and answers an [`Ask`]
 //! with a table. A [`Node`] is a gateway that tells others what changed, by [`Message`]s. Times are nanoseconds since the Unix epoch.
 //!
+//! ```
+//! use kotskhin::metrics::now;
+//! use kotskhin::{Ask, Attributes, DEFAULT_LIMIT, Gateway, Instruments, Kind, Plan, Total, Writer, unique_instance};
+//!
+//! let mut instruments = Instruments::new();
+//! let requests = instruments.add("app", "requests", "1", Kind::Counter)?;
+//! let plan = Plan::build(&instruments, DEFAULT_LIMIT)?;
+//! let mut writer = Writer::start(&plan, "shop", unique_instance()?, now() - 1)?;
+//! writer.measure(requests, &Attributes::new([("route", "/")])?, 3)?;
+//!
+//! let mut gateway = Gateway::open(1)?;
+//! gateway.take(&writer.collect(now())?)?;
+//! for row in gateway.rows(&Ask::sum("app", "requests", "1", true)?)?.all()? {
+//!     assert_eq!(row.total, Total::Sum(3));
+//! }
+//! # Ok::<(), Box<dyn std::error::Error>>(())
+//! ```
+//!
 //! A call that is refused says why, and changes nothing ([`Error`]). Every type may go to another thread, and may be read by many at once:
 //! a set of attributes, a plan, an export, and a gateway that no thread changes. What changes takes a `&mut`.
-#![deny(unsafe_op_in_unsafe_fn)]
+#![deny(unsafe_op_in_unsafe_fn, missing_debug_implementations)]
 
 mod ask;
 mod attributes;
@@ -14,10 +33,13 @@ mod error;
 mod export;
 mod gateway;
 mod handle;
+mod incarnations;
 pub mod metrics;
 mod node;
+pub mod otel;
 mod plan;
 mod recorder;
+mod requests;
 mod rows;
 mod seat;
 mod streams;
@@ -29,10 +51,12 @@ pub use attributes::{AttributeValue, Attributes, OwnedValue};
 pub use error::Error;
 pub use export::{Export, ExportHead};
 pub use gateway::Gateway;
+pub use incarnations::Incarnation;
 pub use node::{Envelope, Message, Node};
 pub use plan::{DEFAULT_LIMIT, Instruments, Kind, Plan, default_bounds};
 pub use recorder::{Recorder, Taken};
-pub use rows::Rows;
+pub use requests::RequestFault;
+pub use rows::{Row, Rows, Total};
 pub use seat::Seat;
 pub use streams::{Shape, Stream, Streams};
 pub use view::{Aggregation, View, Views};

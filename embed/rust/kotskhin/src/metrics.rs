@@ -1,8 +1,8 @@
-//! The names of OpenTelemetry's metrics API, over a writer that threads share by a `Mutex` of Rust.
+//! Instruments whose recordings answer a `Result`, over a writer that threads share by a `Mutex` of Rust.
 //!
-//! Three things are other than there. Instruments are declared in one place, before the first recording, since a plan is fixed
-//! when its writer starts. `add` and `record` answer a `Result`: nothing is dropped or wrapped in silence. Values are whole
-//! numbers. Attributes are made once and held: to make them anew for each recording costs several times as much.
+//! [`otel`](crate::otel) has OpenTelemetry's names, and recordings that never fail. Here instruments are declared in one place, before the
+//! first recording, since a plan is fixed when its writer starts. `add` and `record` answer a `Result`: nothing is dropped or wrapped in
+//! silence. Values are whole numbers. Attributes are made once and held: to make them anew for each recording costs several times as much.
 use crate::{
     Attributes, DEFAULT_LIMIT, Error, Export, HeldNumber, Instruments, Kind, Plan, Writer,
 };
@@ -11,7 +11,7 @@ use std::sync::{Arc, Mutex, MutexGuard, OnceLock, PoisonError};
 mod reader;
 pub use reader::{DEFAULT_INTERVAL, ExportError, PeriodicReader, PushExporter, ReadError, now};
 
-#[derive(Default)]
+#[derive(Debug, Default)]
 struct Shared(OnceLock<Mutex<Writer>>);
 
 impl Shared {
@@ -24,6 +24,7 @@ impl Shared {
 }
 
 /// Declares the instruments of one scope.
+#[derive(Debug)]
 pub struct Declaring<'a> {
     scope: &'a str,
     instruments: Instruments,
@@ -56,7 +57,7 @@ impl Declaring<'_> {
     }
 }
 
-#[derive(Clone)]
+#[derive(Clone, Debug)]
 struct Instrument {
     shared: Arc<Shared>,
     number: usize,
@@ -84,7 +85,7 @@ fn whole(value: u64) -> Result<i64, Error> {
 }
 
 /// Increments of at least 0.
-#[derive(Clone)]
+#[derive(Clone, Debug)]
 pub struct Counter(Instrument);
 
 impl Counter {
@@ -100,7 +101,7 @@ impl Counter {
 }
 
 /// A counter at one set of attributes: recording looks no set up.
-#[derive(Clone)]
+#[derive(Clone, Debug)]
 pub struct BoundCounter(Instrument, HeldNumber);
 
 impl BoundCounter {
@@ -110,7 +111,7 @@ impl BoundCounter {
 }
 
 /// Increments of either sign.
-#[derive(Clone)]
+#[derive(Clone, Debug)]
 pub struct UpDownCounter(Instrument);
 
 impl UpDownCounter {
@@ -125,7 +126,7 @@ impl UpDownCounter {
 }
 
 /// An up-down counter at one set of attributes.
-#[derive(Clone)]
+#[derive(Clone, Debug)]
 pub struct BoundUpDownCounter(Instrument, HeldNumber);
 
 impl BoundUpDownCounter {
@@ -135,7 +136,7 @@ impl BoundUpDownCounter {
 }
 
 /// Values of which the last one counts.
-#[derive(Clone)]
+#[derive(Clone, Debug)]
 pub struct Gauge(Instrument);
 
 impl Gauge {
@@ -150,7 +151,7 @@ impl Gauge {
 }
 
 /// A gauge at one set of attributes.
-#[derive(Clone)]
+#[derive(Clone, Debug)]
 pub struct BoundGauge(Instrument, HeldNumber);
 
 impl BoundGauge {
@@ -160,7 +161,7 @@ impl BoundGauge {
 }
 
 /// Values of at least 0 whose distribution counts.
-#[derive(Clone)]
+#[derive(Clone, Debug)]
 pub struct Histogram(Instrument);
 
 impl Histogram {
@@ -176,7 +177,7 @@ impl Histogram {
 }
 
 /// A histogram at one set of attributes.
-#[derive(Clone)]
+#[derive(Clone, Debug)]
 pub struct BoundHistogram(Instrument, HeldNumber);
 
 impl BoundHistogram {
@@ -186,7 +187,7 @@ impl BoundHistogram {
 }
 
 /// A writer, and what is done with it beside recording.
-#[derive(Clone)]
+#[derive(Clone, Debug)]
 pub struct Meter {
     shared: Arc<Shared>,
 }

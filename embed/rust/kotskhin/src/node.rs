@@ -3,15 +3,19 @@ use crate::error::{Error, checked, checked_at};
 use crate::export::{Export, copied};
 use crate::gateway::Gateway;
 use crate::handle::Handle;
+use crate::incarnations::{Incarnation, incarnations_in};
 use kotskhin_sys::{
-    self as sys, kit_message_decode, kit_message_encode, kit_message_gateway, kit_message_read,
-    kit_node_gateway, kit_node_hand, kit_node_merge, kit_node_open, kit_node_send, kit_node_take,
+    self as sys, kit_message_decode, kit_message_encode, kit_message_gateway,
+    kit_message_incarnations, kit_message_read, kit_node_gateway, kit_node_hand, kit_node_merge,
+    kit_node_open, kit_node_send, kit_node_take,
 };
 
 /// A gateway that sends messages and takes them in. The ids of nodes that exchange messages are distinct.
+#[derive(Debug)]
 pub struct Node(Handle<sys::Node>);
 
 /// What one node tells another. It may be lost, come late or come twice.
+#[derive(Debug)]
 pub struct Message(Handle<sys::Message>);
 
 /// From which id to which a message goes, and how many points it carries: an answer carries none.
@@ -106,6 +110,14 @@ impl Message {
         // SAFETY: the message is lent, and the gateway is ours alone.
         checked(unsafe { kit_message_gateway(self.0.read().at(), gateway.change()) })?;
         Ok(Gateway(gateway))
+    }
+
+    /// Of whom it carries points: who receives it compares them with those of which its sender may speak. Refused: `NoMemory`.
+    pub fn incarnations(&self) -> Result<Vec<Incarnation>, Error> {
+        let mut list = Handle::empty();
+        // SAFETY: the message is lent, and the list is ours alone.
+        checked(unsafe { kit_message_incarnations(self.0.read().at(), list.change()) })?;
+        incarnations_in(&list)
     }
 
     /// What stands on it.

@@ -35,6 +35,7 @@ pub fn default_bounds() -> Vec<i64> {
 }
 
 /// Instruments, numbered from 0 in the order in which they are added.
+#[derive(Debug)]
 pub struct Instruments {
     handle: Handle<sys::Instruments>,
     len: usize,
@@ -76,6 +77,7 @@ impl Instruments {
 }
 
 /// Which instruments feed which streams. Many writers may start under one plan.
+#[derive(Debug)]
 pub struct Plan(pub(crate) Handle<sys::Plan>);
 
 impl Plan {

@@ -38,6 +38,7 @@ impl From<sys::Taken> for Taken {
 ///
 /// [`Writer::take_in`]: crate::Writer::take_in
 /// [`Seat::take_in`]: crate::Seat::take_in
+#[derive(Debug)]
 pub struct Recorder(pub(crate) Handle<sys::Recorder>);
 
 impl Recorder {

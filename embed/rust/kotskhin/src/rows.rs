@@ -1,15 +1,53 @@
 //! Rows of gateways' answers.
 use crate::attributes::{OwnedValue, pairs_in};
 use crate::error::{Error, checked};
-use crate::export::copied_by;
+use crate::export::text_in;
 use crate::handle::Handle;
 use kotskhin_sys::{
     self as sys, kit_rows_attributes, kit_rows_bucket, kit_rows_counts, kit_rows_gauge,
     kit_rows_histogram, kit_rows_len, kit_rows_range, kit_rows_sum, kit_rows_table,
-    kit_rows_wide_count, kit_rows_wide_sum, kit_text_copy,
+    kit_rows_wide_count, kit_rows_wide_sum,
 };
 
+/// What the points of a row come to.
+#[derive(Clone, Debug, PartialEq, Eq)]
+#[non_exhaustive]
+pub enum Total {
+    Sum(i128),
+    /// The time and the value of the newest point; none where the row has conflicts alone.
+    Gauge(Option<(u64, i64)>),
+    Histogram {
+        count: u128,
+        sum: i128,
+        /// How many values each bucket has: one more than bounds.
+        buckets: Vec<u64>,
+        /// The least and the greatest value; none where there is no value.
+        range: Option<(i64, i64)>,
+    },
+}
+
+/// A row as data.
+#[derive(Clone, Debug, PartialEq, Eq)]
+pub struct Row {
+    /// The set that it is of, in the order of keys.
+    pub attributes: Vec<(String, OwnedValue)>,
+    /// How many points its total is of.
+    pub points: u64,
+    /// How many conflicts its total leaves out.
+    pub conflicts: u64,
+    pub total: Total,
+}
+
+/// What is there, or none where there is no point.
+fn where_there_is<T>(told: Result<T, Error>) -> Result<Option<T>, Error> {
+    match told {
+        Err(Error::NoPoint) => Ok(None),
+        told => told.map(Some),
+    }
+}
+
 /// The rows that answer an ask, numbered from 0 in the order of their attribute sets.
+#[derive(Debug)]
 pub struct Rows(pub(crate) Handle<sys::Rows>);
 
 impl Rows {
@@ -19,6 +57,52 @@ impl Rows {
         // SAFETY: the rows are lent.
         checked(unsafe { kit_rows_len(self.0.read().at(), &mut count) })?;
         Ok(count)
+    }
+
+    /// All of them, as data. Refused: `NoMemory`; `TooWide` where a bucket's count leaves 64 bits.
+    pub fn all(&self) -> Result<Vec<Row>, Error> {
+        (0..self.count()?).map(|row| self.row(row)).collect()
+    }
+
+    /// A row as data. Refused: `NoRow`, `NoMemory`; `TooWide` where a bucket's count leaves 64 bits.
+    pub fn row(&self, row: usize) -> Result<Row, Error> {
+        let (points, conflicts) = self.counts(row)?;
+        Ok(Row {
+            attributes: self.attributes(row)?,
+            points,
+            conflicts,
+            total: self.total_of(row)?,
+        })
+    }
+
+    /// (each shape is told by the calls that its rows refuse)
+    fn total_of(&self, row: usize) -> Result<Total, Error> {
+        let sum = match self.total(row) {
+            Err(Error::WrongShape) => {
+                return Ok(Total::Gauge(where_there_is(self.gauge(row))?));
+            }
+            told => told?,
+        };
+        match self.values(row) {
+            Err(Error::WrongShape) => Ok(Total::Sum(sum)),
+            told => Ok(Total::Histogram {
+                count: told?,
+                sum,
+                buckets: self.buckets(row)?,
+                range: where_there_is(self.range(row))?,
+            }),
+        }
+    }
+
+    /// How many values each bucket of a histogram's row has. Refused: as `bucket` is.
+    pub fn buckets(&self, row: usize) -> Result<Vec<u64>, Error> {
+        let mut counts = Vec::new();
+        loop {
+            match self.bucket(row, counts.len()) {
+                Err(Error::NoBucket) => return Ok(counts),
+                told => counts.push(told?),
+            }
+        }
     }
 
     /// The attribute set that a row is of, pair by pair in the order of keys. Refused: `NoRow`, `NoMemory`.
@@ -50,7 +134,7 @@ impl Rows {
         let (mut high, mut low) = (0, 0);
         // SAFETY: the rows are lent.
         checked(unsafe { kit_rows_wide_sum(self.0.read().at(), row, &mut high, &mut low) })?;
-        Ok((u128::from(high) << 64 | u128::from(low)).cast_signed())
+        Ok((u128::from(high) << 64 | u128::from(low)) as i128)
     }
 
     /// How many values a row of a histogram is of. Refused: `NoRow`; `WrongShape`.
@@ -102,13 +186,6 @@ impl Rows {
         let mut table = Handle::empty();
         // SAFETY: the table is ours alone, and the rows are lent; they are two.
         checked(unsafe { kit_rows_table(self.0.read().at(), table.change()) })?;
-        // SAFETY: the text is lent, and the room is a slice's.
-        let bytes = copied_by(|room, len| unsafe {
-            kit_text_copy(table.read().at(), room.as_mut_ptr(), room.len(), len)
-        })?;
-        // (the library's texts are UTF-8)
-        String::from_utf8(bytes).map_err(|fault| Error::NotText {
-            at: fault.utf8_error().valid_up_to() as u64,
-        })
+        text_in(&table)
     }
 }

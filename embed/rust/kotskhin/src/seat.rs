@@ -14,6 +14,7 @@ use kotskhin_sys::{
 ///
 /// Its calls wait for nobody: while another thread's call has the writer they are refused with `Busy`, and may be made again. The
 /// writer lasts as long as one of its seats does.
+#[derive(Debug)]
 pub struct Seat(pub(crate) Handle<sys::Seat>);
 
 impl Seat {

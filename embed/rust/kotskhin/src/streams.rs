@@ -31,6 +31,7 @@ pub struct Stream {
 }
 
 /// The streams of a plan, whose numbers are those that [`Error::Overflow`] tells, or of a gateway.
+#[derive(Debug)]
 pub struct Streams(pub(crate) Handle<sys::Streams>);
 
 impl Streams {
@@ -40,6 +41,13 @@ impl Streams {
         // SAFETY: the streams are lent.
         checked(unsafe { kit_streams_len(self.0.read().at(), &mut count) })?;
         Ok(count)
+    }
+
+    /// All of them, in the order of their numbers. Refused: `NoMemory`.
+    pub fn all(&self) -> Result<Vec<Stream>, Error> {
+        (0..self.count()?)
+            .map(|number| self.stream(number))
+            .collect()
     }
 
     /// The stream of a number, from 0. Refused: `NoItem`.

@@ -22,6 +22,7 @@ pub enum Aggregation<'a> {
 }
 
 /// A view: which instruments it matches, and what is made of their recordings (OpenTelemetry Metrics SDK, "View").
+#[derive(Debug)]
 pub struct View(Handle<sys::View>);
 
 impl View {
@@ -90,6 +91,7 @@ impl View {
 }
 
 /// Views, numbered from 0 in the order in which they are added.
+#[derive(Debug)]
 pub struct Views(pub(crate) Handle<sys::Views>);
 
 impl Default for Views {

@@ -27,6 +27,7 @@ pub fn unique_instance() -> io::Result<u128> {
 
 /// The points of a plan's instruments since a start. One thread at a time has it: give threads recorders that it takes in, share it by
 /// seats or by a `Mutex`, or give each thread a writer of its own, under another instance.
+#[derive(Debug)]
 pub struct Writer(Handle<sys::Writer>);
 
 impl Writer {

@@ -1,10 +1,10 @@
-use Rattle.std.proofs.Common.{◌≡◌, ◌∙◌, ◌⊎◌, inl, inr, map, slice_get, Some, subst, sym}
+use Rattle.std.proofs.Common.{◌≡◌, ◌∙◌, ◌⊎◌, inl, inr, map, Some, subst, sym}
 use Rattle.std.specs.Prelude.{IfSome}
 use Rattle.schedule_kit.specs.Members.{In}
 use Rattle.turn_kit.specs.Public.{made}
 use Rattle.writer_kit.specs.Shared.{first_of}
 use Rattle.fleet_kit.proofs.Lists.{entries_same, if_none}
-use Rattle.fleet_kit.proofs.Stops.{all_carried, jobs_end, jobs_stop, not_run, told_err}
+use Rattle.fleet_kit.proofs.Stops.{each_ended, jobs_end, jobs_stop, not_run, told_err}
 use Rattle.fleet_kit.specs.Ends.{StopsShort}
 use Rattle.fleet_kit.specs.Halts.{IsFirst}
 use Rattle.fleet_kit.specs.Noting.{IsFilled, TellsRoom}
@@ -40,12 +40,9 @@ returns-in-None-clause-ends g c =
     let first = first_of c.args.shared.now in
     let dones = c.in_ok-dones.ensures in
     let seats = c.in_ok-seats.ensures in
-    let jobs = c.args.jobs.now in
-    let place = c.args.place in
-    let numbers = all_carried (λ (d : Done). d.number) (λ (d : Done). d.job.now) (λ (r : Seated). r.number) (λ (r : Seated). r.job.now) (λ n j. (slice_get c.args.jobs.now n ≡ Some j) × (j.writer ≡ c.args.place)) c.in_ok-dones.dones.items c.in_ok-seats.seats.items
-    dones.numbers dones.jobs seats.numbers in
-    jobs_end (g.G.Gate.passes c.args.gate.now) first.tally.plan first.start place jobs (λ (d : Done). d.number) (λ (d : Done). d.job.now) (λ (d : Done). d.fault) c.in_ok-dones.dones.items
-    (λ k d less. let a = numbers k d less in (a.0, a.1, dones.ends k d less))
+    let each = each_ended (g.G.Gate.passes c.args.gate.now) first.tally.plan first.start c.args.place c.args.jobs.now (λ (d : Done). d.number) (λ (d : Done). d.job.now) (λ (d : Done). d.fault) (λ (r : Seated). r.number) (λ (r : Seated). r.job.now)
+    c.in_ok-dones.dones.items c.in_ok-seats.seats.items dones.numbers dones.jobs seats.numbers dones.ends in
+    jobs_end (g.G.Gate.passes c.args.gate.now) first.tally.plan first.start c.args.place c.args.jobs.now (λ (d : Done). d.number) (λ (d : Done). d.job.now) (λ (d : Done). d.fault) c.in_ok-dones.dones.items each
     (λ n j at here. subst (In n) (sym dones.numbers) (seats.whole n j at here))
     (subst (λ o. IsFirst (λ h. In (Some h) (map (λ (d : Done). d.fault) c.in_ok-dones.dones.items)) o) c.in-None.is c.join_all.ensures.first)
 
@@ -54,12 +51,9 @@ returns-in-Some-clause-err g c =
     let first = first_of c.args.shared.now in
     let dones = c.in_ok-dones.ensures in
     let seats = c.in_ok-seats.ensures in
-    let jobs = c.args.jobs.now in
-    let place = c.args.place in
-    let numbers = all_carried (λ (d : Done). d.number) (λ (d : Done). d.job.now) (λ (r : Seated). r.number) (λ (r : Seated). r.job.now) (λ n j. (slice_get c.args.jobs.now n ≡ Some j) × (j.writer ≡ c.args.place)) c.in_ok-dones.dones.items c.in_ok-seats.seats.items
-    dones.numbers dones.jobs seats.numbers in
-    jobs_stop (g.G.Gate.passes c.args.gate.now) first.tally.plan first.start place jobs (λ (d : Done). d.number) (λ (d : Done). d.job.now) (λ (d : Done). d.fault) c.in_ok-dones.dones.items
-    (λ k d less. let a = numbers k d less in (a.0, a.1, dones.ends k d less))
+    let each = each_ended (g.G.Gate.passes c.args.gate.now) first.tally.plan first.start c.args.place c.args.jobs.now (λ (d : Done). d.number) (λ (d : Done). d.job.now) (λ (d : Done). d.fault) (λ (r : Seated). r.number) (λ (r : Seated). r.job.now)
+    c.in_ok-dones.dones.items c.in_ok-seats.seats.items dones.numbers dones.jobs seats.numbers dones.ends in
+    jobs_stop (g.G.Gate.passes c.args.gate.now) first.tally.plan first.start c.args.place c.args.jobs.now (λ (d : Done). d.number) (λ (d : Done). d.job.now) (λ (d : Done). d.fault) c.in_ok-dones.dones.items each
     (λ n j at here. subst (In n) (sym dones.numbers) (seats.whole n j at here)) c.in-Some.fault
     (subst (λ o. IsFirst (λ h. In (Some h) (map (λ (d : Done). d.fault) c.in_ok-dones.dones.items)) o) c.in-Some.is c.join_all.ensures.first)
 

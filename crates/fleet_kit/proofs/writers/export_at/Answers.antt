@@ -26,7 +26,7 @@ returns g c =
       ok = ok_then c.export_of.result (λ e. IsRoundOfMixed c.in_ok-writer.writer c.args.setup.now.end (entries_of (map task_of c.as_slice.result.now) c.args.place) e) (λ e. IsExportAt c.args.setup.now c.args.place e)
           (λ e is. exported c.args.setup.now c.args.place c.in_ok-writer.writer e
           (its.id ∙ c.in_ok-try_copy.ensures.value ∙ ap (λ v. v.0) at) plan start
-          (subst (λ v. AreApart v.1.streams) at c.stream-first.ensures.apart)
+          (subst (λ v. AreApart v.1.streams) at c.streams_are_apart.ensures.apart)
           (subst (λ js. IsRoundOfMixed c.in_ok-writer.writer c.args.setup.now.end (entries_of (map task_of js) c.args.place) e) c.as_slice.ensures.value is)) c.export_of.ensures.ok;
       ends = ok_then c.export_of.result _ (λ _. EndAt (g.G.Gate.passes c.args.gate.now) c.args.setup.now c.args.place)
           (λ e is. setup_ends passes s place c.in_ok-writer.writer.tally.plan c.in_ok-writer.writer.start plan start

@@ -88,6 +88,7 @@ impl std::error::Error for ReadError {}
 
 type Answer = Result<(), ReadError>;
 
+#[derive(Debug)]
 enum Request {
     Flush(Sender<Answer>),
     Shutdown(Sender<Answer>),
@@ -98,6 +99,7 @@ enum Request {
 ///
 /// An export that fails is counted and forgotten: the next collection covers it. Only the last one has no next, so
 /// [`shutdown`](Self::shutdown) hands it back.
+#[derive(Debug)]
 pub struct PeriodicReader {
     requests: Sender<Request>,
     failed: Arc<AtomicU64>,

@@ -1,0 +1,33 @@
+-- Files joined one after the other.
+use Rattle.std.proofs.Common.{◌≡◌, ◌≢◌, ◌∙◌, ◌<◌, ◌+◌, ℕ, List, [], ◌∷◌, ◌++◌, Some, map, take, length, get_or, ap, sym, refl, true, false, subst}
+use Rattle.std.specs.Prelude.{slice_get, fold}
+use Rattle.std.specs.FinMap.{empty}
+use Rattle.std.proofs.lemmas.List.{take_more, take-map, map-append, get_or-map, length-map}
+use Rattle.std.proofs.lemmas.List.Sums.{fold-append}
+use Rattle.std.proofs.lemmas.Option.{slice_get-map, slice_get-get_or}
+use Rattle.point_kit.specs.Exports.{Points, join_points}
+use Rattle.file_kit.specs.Contents.{form, joined, points_of, IsNone, IsFirstNone, IsRefused, IsRefusedAt, JoinsAt, Says}
+use Rattle.file_kit.specs.declared.content.Content.{Content}
+use Rattle.file_kit.specs.declared.fault.FileFault.{FileFault}
+use Rattle.file_kit.specs.declared.fault.FileFault.TheVariants as file
+
+module _ {V : Type 0} (items : V → List ℕ) (fs : List V) where
+  -- one file more
+  pub says_more : (i : ℕ) (d : V) (old new : Points) → i < length fs → Says (map items (take i fs)) old → JoinsAt (items (get_or fs i d)) old new
+      → Says (map items (take (i + 1) fs)) new
+  says_more i d old new lt says joins =
+      let c = joins.0 in
+      let cs : List Content = says.0 in
+      let forms : map form (cs ++ c ∷ []) ≡ map items (take (i + 1) fs) =
+      map-append form cs (c ∷ []) ∙ ap (λ (l : List (List ℕ)). l ++ form c ∷ []) says.1 ∙ ap (λ (b : List ℕ). map items (take i fs) ++ b ∷ []) joins.1
+      ∙ sym (map-append items (take i fs) (get_or fs i d ∷ [])) ∙ sym (ap (map items) (take_more fs i d lt)) in
+      (cs ++ c ∷ [], forms, joins.2 ∙ ap (λ (p : Points). join_points p (points_of c)) says.2 ∙ sym (fold-append (λ (p : Points) x. join_points p (points_of x)) empty cs (c ∷ [])))
+
+  -- the first file that is refused
+  pub refused_at : (i : ℕ) (d : V) (points : Points) (fault : FileFault) → i < length fs → Says (map items (take i fs)) points
+      → IsRefusedAt i (items (get_or fs i d)) fault → IsRefused (map items fs) fault
+  refused_at i d points (file.Refused place fault) lt says at = record {
+    before = (says.0, says.1 ∙ sym (take-map items i fs) ∙ sym (ap (λ k. take k (map items fs)) at.0));
+    here = (items (get_or fs i d), ap (slice_get (map items fs)) at.0 ∙ slice_get-get_or (map items fs) i [] (subst (λ n. i < n) (sym (length-map fs items)) lt) ∙ ap (λ (b : List ℕ). Some b) (get_or-map items fs i d [] lt), at.1);
+  }
+  refused_at i d points file.NoMemory lt says at = tt

@@ -1,0 +1,5 @@
+pub mod Joining
+pub mod Pieces
+pub mod Reading
+pub mod Requests
+pub mod Taking

@@ -1,0 +1,12 @@
+use Rattle.std.proofs.Common.{◌≡◌, ◌∙◌, ap, List}
+use Rattle.rollup_kit.specs.Rollups.{rollup_rows}
+use Rattle.rollup_kit.specs.TableText.{table_text}
+use Rattle.rollup_kit.specs.declared.row.Row.{Row}
+use Rattle.file_kit.proofs.answers.report.Goals as goal
+
+pub returns-clause-value : goal.returns-clause-value
+returns-clause-value c = (
+  c.in_ok-gateway.gateway.points,
+  c.in_ok-gateway.ensures.value,
+  c.in_ok-table.ensures.value ∙ ap table_text c.as_slice.ensures ∙ ap table_text c.in_ok-rows.ensures.value,
+)

@@ -1,0 +1,6 @@
+pub mod Answers
+pub mod AskWords
+pub mod Commands
+pub mod Contents
+pub mod Sending
+pub mod Shown

@@ -1,0 +1,83 @@
+//! The words of a command line that ask for a table.
+ghost use Rattle.std.specs.Prelude.{◌≡◌, ◌++◌, ◌∷◌, map, IfOk, IsErrOf, OnOk, string_bytes};
+ghost use Rattle.rollup_kit.specs.declared.ask.Ask.{Ask};
+ghost use Rattle.file_kit.specs.AskWords.{ask_line, ask_of, IsAsk};
+
+use crate::CommandFault;
+use attr_kit::{AttrSet, AttrValue, NoMemory, Seq, TryCopy, Txt};
+use rollup_kit::Ask;
+use script_kit::{Line, Query, Reason, Report, Stop, explain, parse_line};
+use std::alloc::{AllocError, Global};
+
+fn push_word(line: &mut String, word: &str) -> Result<(), AllocError>
+    ensures { OnOk result (string_bytes line.new ≡ string_bytes line.old ++ (32 ∷ word.now)) }
+{
+    line.push(' ')?;
+    line.push_str(word)
+}
+
+// The line of a script that asks the same.
+#[tactic(auto, unfolding(crate::specs::AskWords::ask_line))]
+fn line_of(alloc: Global, words: &[&str]) -> Result<String, AllocError>
+    ensures { IfOk result (λ line. string_bytes line ≡ ask_line (map (λ w. w.now) words.now)) }
+{
+    let mut line = String::from_str(alloc, "report 1")?;
+    for word in words {
+        push_word(&mut line, word)?;
+    }
+    Ok(line)
+}
+
+fn pairs_of(alloc: Global, attrs: &AttrSet) -> Result<Seq<(Txt, AttrValue)>, NoMemory>
+    ensures { IfOk result (λ pairs. pairs ≡ attrs.now) }
+{
+    let mut pairs = Vec::with_capacity(alloc, attrs.len())?;
+    for pair in attrs.pairs() {
+        pairs.push(pair.try_copy()?)?;
+    }
+    Ok(Seq::from_vec(pairs))
+}
+
+// What a report asks of a gateway.
+fn ask_of(alloc: Global, report: Report) -> Result<Ask, NoMemory>
+    ensures { IfOk result (λ ask. ask ≡ ask_of report) }
+{
+    let Report {
+        stream,
+        service,
+        only,
+        keep,
+    } = report;
+    let only = pairs_of(alloc, &only)?;
+    Ok(Ask {
+        stream,
+        service,
+        only,
+        keep,
+    })
+}
+
+// The refusal of a line, by its sentence.
+fn refusal(alloc: Global, line: &[u8], reason: Reason) -> CommandFault {
+    match explain(alloc, line, reason) {
+        Ok(sentence) => CommandFault::BadWords(sentence),
+        Err(NoMemory) => CommandFault::NoMemory,
+    }
+}
+
+/// What the words of a script's line `report` behind its gateway ask for.
+///
+/// Refused: `BadWords`, with the sentence that the script's line would get; `NoMemory`.
+pub(crate) fn read_ask(alloc: Global, words: &[&str]) -> Result<Ask, CommandFault>
+    ensures ok { IfOk result (IsAsk (map (λ w. w.now) words.now)) }
+    ensures bad_words { (text : _) → IsErrOf result (CommandFault.BadWords text) → (ask : Ask)
+        → IsAsk (map (λ w. w.now) words.now) ask → ⊥ }
+{
+    let line = line_of(alloc, words)?;
+    match parse_line(alloc, line.as_bytes()) {
+        Ok(Line::Ask(Query::Report { report, .. })) => Ok(ask_of(alloc, report)?),
+        Ok(_) => Err(CommandFault::NoMemory),
+        Err(Stop::Bad(reason)) => Err(refusal(alloc, line.as_bytes(), reason)),
+        Err(Stop::NoMemory) => Err(CommandFault::NoMemory),
+    }
+}

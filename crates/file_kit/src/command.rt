@@ -1,0 +1,68 @@
+//! What a command line may ask of files.
+ghost use Rattle.std.specs.Prelude.{◌≡◌};
+
+use crate::PageFormat;
+use attr_kit::{NoMemory, Seq, Txt};
+use rollup_kit::Ask;
+use std::alloc::AllocError;
+use thiserror::Error;
+
+/// What a command line asks of files, which it names.
+#[derive(Debug, Drop)]
+pub enum FileCommand {
+    /// What each file is of, and its points.
+    Show {
+        files: Seq<Txt>,
+    },
+    /// One state of all files, into a file.
+    Merge {
+        into: Txt,
+        files: Seq<Txt>,
+    },
+    /// The table of what the files say.
+    Report {
+        ask: Ask,
+        files: Seq<Txt>,
+    },
+    /// The page of what the files say, of a service or of all.
+    Expose {
+        format: PageFormat,
+        service: Option<Txt>,
+        files: Seq<Txt>,
+    },
+    /// The OTLP request of the files' exports.
+    Otlp {
+        files: Seq<Txt>,
+    },
+}
+
+/// Why a command line is refused, in the order in which it is looked for.
+#[derive(Debug, Drop, Error)]
+pub enum CommandFault {
+    /// The words ask for nothing that is done on files, or for help. The text says what is wrong, or helps.
+    #[error("{0}")]
+    BadWords(String),
+    /// Memory was refused.
+    #[error("no memory")]
+    NoMemory,
+}
+
+impl From<NoMemory> for CommandFault {
+    ghost use Rattle.file_kit.specs.declared.command.CommandFault.TheVariants as faults;
+
+    ghost from_gives = { λ _ e. e ≡ faults.NoMemory };
+
+    fn from(_error: NoMemory) -> CommandFault {
+        CommandFault::NoMemory
+    }
+}
+
+impl From<AllocError> for CommandFault {
+    ghost use Rattle.file_kit.specs.declared.command.CommandFault.TheVariants as faults;
+
+    ghost from_gives = { λ _ e. e ≡ faults.NoMemory };
+
+    fn from(_error: AllocError) -> CommandFault {
+        CommandFault::NoMemory
+    }
+}

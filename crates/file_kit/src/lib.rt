@@ -1,0 +1,38 @@
+//! What files of exports, messages and states say: the commands of the program `otm` on files, over values.
+//!
+//! - [`joined`] is what files say, in a gateway: each file is the bytes of an export, or of a message or a state. A [`FileFault`] tells
+//!   the first file that is none, and why.
+//! - [`report`] and [`expose`] answer of that: a table, or a page in a [`PageFormat`]. [`merged`] is a state of it, as bytes.
+//! - [`show`] tells what one file is of, with tables of its points. [`otlp`] is the OTLP request of files of exports, or a [`SendFault`].
+//! - [`read_command`] reads what a command line asks of files: a [`FileCommand`], or a [`CommandFault`]. [`is_of_files`] tells whether
+//!   words are for it.
+//!
+//! A caller, from `crates/otm/src/files.rt`:
+//!
+//!     match report(alloc, ask, contents.as_slice()) {
+//!         Ok(table) => print(rt, table.as_str().as_bytes()),
+//!         Err(fault) => Err(unjoined(alloc, files, fault)),
+//!
+//! docs/FILES.md tells the commands. What contracts cite stands in `specs/`: `Contents` (what files have, what they say joined, and why
+//! a file says nothing), `Answers`, `Sending`, `Shown`, `AskWords` and `Commands` (what words ask for).
+#![tactic(auto)]
+
+mod answers;
+mod ask_words;
+mod command;
+mod command_line;
+mod content;
+mod fault;
+mod join;
+mod sending;
+mod shown;
+mod streams;
+mod word;
+
+pub use answers::{PageFormat, expose, report};
+pub use command::{CommandFault, FileCommand};
+pub use command_line::{is_of_files, read_command};
+pub use fault::{FileFault, SendFault};
+pub use join::joined;
+pub use sending::{merged, otlp};
+pub use shown::show;

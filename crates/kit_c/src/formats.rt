@@ -1,0 +1,125 @@
+//! What others read: exports as OTLP, and what gateways hold as pages for Prometheus.
+ghost use Rattle.std.specs.Option.{option_map};
+ghost use Rattle.std.specs.Prelude.{◌≡◌, ◌≢◌, ◌∷◌, [], pos, OnOk, IfErr, IfOk};
+ghost use Rattle.attr_kit.specs.Refusing.{first};
+ghost use Rattle.otlp_kit.specs.Request.{request};
+ghost use Rattle.page_kit.specs.Page.{asked_cells};
+ghost use Rattle.page_kit.specs.Pages.{openmetrics_page, prometheus_page};
+ghost use Rattle.kit_c.specs.Calls.{code_for, full_fault, if_any, of_one};
+ghost use Rattle.kit_c.specs.Codes.{no_memory};
+ghost use Rattle.kit_c.specs.Faults.{text_fault};
+ghost use Rattle.kit_c.specs.Formats.{asked_service, request_fault};
+ghost use Rattle.kit_c.specs.Held.{bytes_of, export_of, gateway_of, text_of as text_in};
+ghost use Rattle.kit_c.specs.Places.{place_after};
+
+use crate::content::Content;
+use crate::fault::{FULL, Fault, NO_MEMORY, NOTHING, OK, WRONG_KIND, code_with_place};
+use crate::text::{text, text_of};
+use crate::typed::{KitBytes, KitExport, KitGateway, KitText};
+use crate::with::with;
+use attr_kit::{Seq, Txt};
+use otlp_kit::encode_otlp;
+use page_kit::{openmetrics, prometheus};
+use std::alloc::Global;
+
+/// The bytes of the request that brings an export, which stays, to a Collector: the body of a POST to `/v1/metrics`, with
+/// `Content-Type: application/x-protobuf` (OTLP).
+///
+/// Refused, in this order: `FULL`; `NOTHING`; `OTLP_BOUNDS` with the least place of a point whose bounds do not strictly rise as doubles;
+/// `TOO_LONG` where the request has more than 2,147,483,647 bytes; `NO_MEMORY`. O(n) in the bytes.
+#[unsafe(no_mangle)]
+pub extern "C" fn kit_export_otlp(
+    alloc: Global,
+    export: &mut KitExport,
+    bytes: &mut KitBytes,
+    place: &mut u64,
+) -> i32
+    ensures code { result ≢ no_memory
+        → result ≡ code_for (first (full_fault (bytes_of bytes.old) ∷ of_one (export_of export.old) request_fault ∷ [])) }
+    ensures value { result ≡ pos 0 → bytes_of bytes.new ≡ option_map (λ e. request e) (export_of export.old) }
+    ensures place { result ≢ no_memory → place.new
+        ≡ place_after (first (full_fault (bytes_of bytes.old) ∷ of_one (export_of export.old) request_fault ∷ [])) place.old }
+    ensures no_memory { result ≡ no_memory → place.new ≡ place.old }
+    ensures unchanged { result ≢ pos 0 → bytes_of bytes.new ≡ bytes_of bytes.old }
+    ensures kept { export_of export.new ≡ export_of export.old }
+{
+    if bytes.handle.full {
+        return FULL;
+    }
+    match with!(alloc, export => Export(held), encode_otlp(alloc, held)) {
+        Ok(made) => bytes
+            .handle
+            .fill(alloc, Content::Bytes(Seq::from_vec(made))),
+        Err(fault) => code_with_place(Fault::Otlp(fault), place),
+    }
+}
+
+// The service of a page, if it is of one alone.
+fn asked(only: bool, service: &Txt) -> Option<&str>
+    ensures { option_map (λ s. s.now) result ≡ asked_service only service.now }
+{
+    if only { Some(service.as_str()) } else { None }
+}
+
+/// The page of what a gateway, which stays, holds, in OpenMetrics 1.0: where `only` is true, of one service alone, else of all: then the
+/// service is not looked at. It answers a request that accepts `application/openmetrics-text`, with
+/// `Content-Type: application/openmetrics-text; version=1.0.0; charset=utf-8`.
+///
+/// Refused, in this order: `FULL`; `NOT_TEXT` where the service is no UTF-8; `NOTHING`; `NO_MEMORY`. O(n log n) comparisons of labels.
+#[unsafe(no_mangle)]
+pub extern "C" fn kit_gateway_openmetrics(
+    alloc: Global,
+    gateway: &mut KitGateway,
+    only: bool,
+    service: &[u8],
+    text: &mut KitText,
+) -> i32
+    ensures code { result ≢ no_memory → result ≡ code_for
+        (first (full_fault (text_in text.old) ∷ text_fault service.now ∷ of_one (gateway_of gateway.old) if_any ∷ [])) }
+    ensures value { result ≡ pos 0 → text_in text.new
+        ≡ option_map (λ g. openmetrics_page (asked_cells (asked_service only service.now) g.points)) (gateway_of gateway.old) }
+    ensures unchanged { result ≢ pos 0 → text_in text.new ≡ text_in text.old }
+    ensures kept { gateway_of gateway.new ≡ gateway_of gateway.old }
+{
+    if text.handle.full {
+        return FULL;
+    }
+    let service = text!(alloc, service);
+    match with!(alloc, gateway => Gateway(held), openmetrics(alloc, held, asked(only, &service))) {
+        Ok(made) => text
+            .handle
+            .fill(alloc, Content::Text(Txt::from_string(made))),
+        Err(_) => NO_MEMORY,
+    }
+}
+
+/// The same page in Prometheus' text format 0.0.4, with `Content-Type: text/plain; version=0.0.4; charset=utf-8`: for all other requests,
+/// for a Pushgateway, and for files.
+///
+/// Refused, in this order: `FULL`; `NOT_TEXT` where the service is no UTF-8; `NOTHING`; `NO_MEMORY`. O(n log n) comparisons of labels.
+#[unsafe(no_mangle)]
+pub extern "C" fn kit_gateway_prometheus(
+    alloc: Global,
+    gateway: &mut KitGateway,
+    only: bool,
+    service: &[u8],
+    text: &mut KitText,
+) -> i32
+    ensures code { result ≢ no_memory → result ≡ code_for
+        (first (full_fault (text_in text.old) ∷ text_fault service.now ∷ of_one (gateway_of gateway.old) if_any ∷ [])) }
+    ensures value { result ≡ pos 0 → text_in text.new
+        ≡ option_map (λ g. prometheus_page (asked_cells (asked_service only service.now) g.points)) (gateway_of gateway.old) }
+    ensures unchanged { result ≢ pos 0 → text_in text.new ≡ text_in text.old }
+    ensures kept { gateway_of gateway.new ≡ gateway_of gateway.old }
+{
+    if text.handle.full {
+        return FULL;
+    }
+    let service = text!(alloc, service);
+    match with!(alloc, gateway => Gateway(held), prometheus(alloc, held, asked(only, &service))) {
+        Ok(made) => text
+            .handle
+            .fill(alloc, Content::Text(Txt::from_string(made))),
+        Err(_) => NO_MEMORY,
+    }
+}

@@ -1,0 +1,114 @@
+//! Exports that other senders bring by OTLP, read by their numbers.
+ghost use Rattle.std.specs.Prelude.{◌≡◌, ◌≢◌, ◌∷◌, [], pos, length, slice_get, true, None, Some, IfErr, IfOk, IfSome, OnOk};
+ghost use Rattle.attr_kit.specs.Refusing.{first};
+ghost use Rattle.kit_c.specs.Calls.{code_for, full_fault, if_any, of_one};
+ghost use Rattle.kit_c.specs.Codes.{code_of, no_memory};
+ghost use Rattle.kit_c.specs.Formats.{HasBrought, reading_fault};
+ghost use Rattle.kit_c.specs.Held.{export_of, exports_of};
+ghost use Rattle.kit_c.specs.Items.{item_fault};
+ghost use Rattle.kit_c.specs.Places.{place_after};
+ghost use Rattle.kit_c.specs.Typed.{exports_in, is_exports};
+
+use crate::content::Content;
+use crate::fault::{FULL, Fault, NO_MEMORY, NOTHING, OK, WRONG_KIND, code_with_place};
+use crate::typed::{KitExport, KitExports};
+use crate::with::with;
+use attr_kit::Seq;
+use otlp_kit::decode_otlp;
+use point_kit::Export;
+use std::alloc::Global;
+
+fn decode(alloc: Global, bytes: &[u8]) -> Result<Box<Content>, Fault>
+    ensures kind { IfOk result (λ made. is_exports (Some made.value) ≡ true) }
+    ensures ok { OnOk result (reading_fault bytes.now ≡ None) }
+    ensures value { IfOk result (λ made. HasBrought bytes.now (exports_in (Some made.value))) }
+    ensures err { IfErr result (λ f. code_of f ≢ no_memory → reading_fault bytes.now ≡ Some f) }
+{
+    match decode_otlp(alloc, bytes) {
+        Ok(exports) => Ok(Box::new(alloc, Content::Exports(Seq::from_vec(exports)))?),
+        Err(fault) => Err(Fault::Request(fault)),
+    }
+}
+
+/// The exports that the body of a POST to `/v1/metrics` brings (OTLP, with `Content-Type: application/x-protobuf`). Who made the bytes is
+/// not known here: of whom each export is, `kit_export_read` and `kit_export_service` tell.
+///
+/// Refused, in this order: `FULL`; then for the first thing that is wrong with the bytes, with its place: `MALFORMED`, `NOT_TEXT`; then for
+/// the first that they say and that no export has, in the order of the request, with the place of the resource, scope, metric, point or
+/// export: `NO_SERVICE` to `NO_EXPORT`; `NO_MEMORY`.
+#[unsafe(no_mangle)]
+pub extern "C" fn kit_exports_of_otlp(
+    alloc: Global,
+    exports: &mut KitExports,
+    bytes: &[u8],
+    place: &mut u64,
+) -> i32
+    ensures code { result ≢ no_memory
+        → result ≡ code_for (first (full_fault (exports_of exports.old) ∷ reading_fault bytes.now ∷ [])) }
+    ensures value { result ≡ pos 0 → HasBrought bytes.now (exports_of exports.new) }
+    ensures place { result ≢ no_memory → place.new
+        ≡ place_after (first (full_fault (exports_of exports.old) ∷ reading_fault bytes.now ∷ [])) place.old }
+    ensures no_memory { result ≡ no_memory → place.new ≡ place.old }
+    ensures unchanged { result ≢ pos 0 → exports_of exports.new ≡ exports_of exports.old }
+{
+    if exports.handle.full {
+        return FULL;
+    }
+    match decode(alloc, bytes) {
+        Ok(made) => {
+            exports.handle.put(made);
+            OK
+        }
+        Err(fault) => code_with_place(fault, place),
+    }
+}
+
+/// Tells how many exports there are: they are numbered from 0.
+///
+/// Refused: `NOTHING`. O(1), takes no memory.
+#[unsafe(no_mangle)]
+pub extern "C" fn kit_exports_len(alloc: Global, exports: &mut KitExports, count: &mut usize) -> i32
+    ensures code { result ≡ code_for (of_one (exports_of exports.old) if_any) }
+    ensures value { result ≡ pos 0 → IfSome (exports_of exports.old) (λ es. count.new ≡ length es) }
+    ensures told { result ≢ pos 0 → count.new ≡ count.old }
+    ensures kept { exports_of exports.new ≡ exports_of exports.old }
+{
+    *count = with!(alloc, exports => Exports(held), held.len());
+    OK
+}
+
+fn copy(exports: &Seq<Export>, number: usize) -> Result<Export, Fault>
+    ensures ok { OnOk result (item_fault number exports.now ≡ None) }
+    ensures value { IfOk result (λ e. slice_get exports.now number ≡ Some e) }
+    ensures err { IfErr result (λ f. code_of f ≢ no_memory → item_fault number exports.now ≡ Some f) }
+{
+    match exports.get(number) {
+        Some(export) => Ok(export.try_copy()?),
+        None => Err(Fault::NoItem),
+    }
+}
+
+/// The export of a number. The exports stay.
+///
+/// Refused, in this order: `FULL`; `NOTHING` of the exports; `NO_ITEM` where there is no export of this number; `NO_MEMORY`.
+#[unsafe(no_mangle)]
+pub extern "C" fn kit_exports_read(
+    alloc: Global,
+    exports: &mut KitExports,
+    number: usize,
+    export: &mut KitExport,
+) -> i32
+    ensures code { result ≢ no_memory → result
+        ≡ code_for (first (full_fault (export_of export.old) ∷ of_one (exports_of exports.old) (item_fault number) ∷ [])) }
+    ensures value { result ≡ pos 0 → IfSome (exports_of exports.old) (λ es. slice_get es number ≡ export_of export.new) }
+    ensures unchanged { result ≢ pos 0 → export_of export.new ≡ export_of export.old }
+    ensures kept { exports_of exports.new ≡ exports_of exports.old }
+{
+    if export.handle.full {
+        return FULL;
+    }
+    match with!(alloc, exports => Exports(held), copy(held, number)) {
+        Ok(made) => export.handle.fill(alloc, Content::Export(made)),
+        Err(fault) => fault.code(),
+    }
+}

@@ -1,0 +1,119 @@
+//! Attributes of a point.
+ghost use Rattle.std.specs.Prelude.{◌≡◌, ◌≢◌, ◌==◌, ◌++◌, [], ◌∷◌, not, map, Ok, Err, IfOk, IfErr, OnOk};
+ghost use Rattle.otlp_kit.specs.Reading.{value_of, content_value, key_of, attribute, attributes, add_attribute};
+ghost use Rattle.otlp_kit.specs.Walks.{walk};
+
+use crate::RequestFault;
+use crate::first_places::first_places;
+use crate::key_value::{AnyContent, AnyValue, KeyValue};
+use attr_kit::{AttrSet, AttrValue, NoMemory, Txt};
+use std::alloc::Global;
+
+fn content_value(content: &Option<AnyContent>) -> Result<Option<AttrValue>, NoMemory>
+    ensures { IfOk result (λ value. value ≡ content_value content.now) }
+{
+    Ok(match content {
+        Some(AnyContent::Text(text)) => Some(AttrValue::Text(text.try_copy()?)),
+        Some(AnyContent::Truth(truth)) => Some(AttrValue::Truth(*truth)),
+        Some(AnyContent::Whole(number)) => Some(AttrValue::Whole(*number)),
+        _ => None,
+    })
+}
+
+// The value of an attribute, if it is one that the kit has.
+fn value_of(value: &Option<AnyValue>) -> Result<Option<AttrValue>, NoMemory>
+    ensures { IfOk result (λ found. found ≡ value_of value.now) }
+{
+    match value {
+        Some(value) => content_value(&value.content),
+        None => Ok(None),
+    }
+}
+
+/// The key of an attribute: empty where it is left out.
+pub(crate) fn key_of(attribute: &KeyValue) -> &str
+    ensures { result.now ≡ key_of attribute.now }
+{
+    match &attribute.key {
+        Some(key) => key.as_str(),
+        None => "",
+    }
+}
+
+fn keys_of(alloc: Global, attributes: &[KeyValue]) -> Result<Vec<Txt>, NoMemory>
+    ensures { IfOk result (λ keys. keys.items ≡ map key_of attributes.now) }
+{
+    let mut keys = Vec::with_capacity(alloc, attributes.len())?;
+    for attribute in attributes {
+        keys.push(Txt::from_str(alloc, key_of(attribute))?)?;
+    }
+    Ok(keys)
+}
+
+// The attribute of a point at a place, whose key stands first at another where it comes twice.
+fn attribute(
+    alloc: Global,
+    point: usize,
+    place: usize,
+    first: usize,
+    given: &KeyValue,
+) -> Result<(Txt, AttrValue), RequestFault>
+    ensures ok { IfOk result (λ pair. attribute point (not (first == place)) given.now ≡ Ok pair) }
+    ensures err { IfErr result (λ f. f ≢ RequestFault.NoMemory → attribute point (not (first == place)) given.now ≡ Err f) }
+{
+    let key = key_of(given);
+    if key.is_empty() {
+        return Err(RequestFault::EmptyKey(point));
+    }
+    if first != place {
+        return Err(RequestFault::AttributeTwice(point));
+    }
+    match value_of(&given.value)? {
+        Some(value) => Ok((Txt::from_str(alloc, key)?, value)),
+        None => Err(RequestFault::AttributeValue(point)),
+    }
+}
+
+fn push_pair(pairs: &mut Vec<(Txt, AttrValue)>, pair: (Txt, AttrValue)) -> Result<(), NoMemory>
+    ensures { OnOk result (pairs.new.items ≡ pairs.old.items ++ pair ∷ []) }
+{
+    pairs.push(pair)?;
+    Ok(())
+}
+
+#[tactic(auto, unfolding(crate::specs::Walks::walk))]
+fn pairs_of(
+    alloc: Global,
+    point: usize,
+    given: &[KeyValue],
+) -> Result<Vec<(Txt, AttrValue)>, RequestFault>
+    ensures ok { IfOk result (λ pairs. walk (add_attribute point given.now) [] given.now ≡ Ok pairs.items) }
+    ensures err { IfErr result (λ f. f ≢ RequestFault.NoMemory → walk (add_attribute point given.now) [] given.now ≡ Err f) }
+{
+    let keys = keys_of(alloc, given)?;
+    let firsts = first_places(alloc, keys.as_slice())?;
+    let mut pairs = Vec::with_capacity(alloc, given.len())?;
+    for place in 0..given.len() {
+        let pair = attribute(alloc, point, place, firsts[place], &given[place])?;
+        push_pair(&mut pairs, pair)?;
+    }
+    Ok(pairs)
+}
+
+/// The attributes of a point as a set. O(n log n) comparisons of keys.
+#[tactic(auto, unfolding(crate::specs::Reading::attributes))]
+pub(crate) fn attributes(
+    alloc: Global,
+    point: usize,
+    given: &[KeyValue],
+) -> Result<AttrSet, RequestFault>
+    ensures ok { IfOk result (λ set. attributes point given.now ≡ Ok set) }
+    ensures err { IfErr result (λ f. f ≢ RequestFault.NoMemory → attributes point given.now ≡ Err f) }
+{
+    let pairs = pairs_of(alloc, point, given)?;
+    match AttrSet::from_pairs(pairs) {
+        Ok(set) => Ok(set),
+        // No key is empty: only memory can be refused.
+        Err(_) => Err(RequestFault::NoMemory),
+    }
+}

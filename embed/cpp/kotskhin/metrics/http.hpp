@@ -1,0 +1,76 @@
+// Exports by HTTP POST, over libcurl: link with -lcurl.
+#pragma once
+#include "kotskhin/metrics/exporters.hpp"
+#include <chrono>
+#include <curl/curl.h>
+#include <mutex>
+
+namespace kotskhin::metrics {
+
+// Sends each export as the body of a POST: a request of OTLP, as a Collector takes it at /v1/metrics. An answer other than 2xx is a
+// failure.
+class HttpExporter : public PushMetricExporter {
+public:
+    struct Options {
+        // How long a request may take (OTLP exporters, "Timeout").
+        std::chrono::milliseconds timeout{10'000};
+        // Headers beside Content-Type, each as "name: value".
+        std::vector<std::string> headers;
+        Encode encode = otlp();
+        std::string content_type = "application/x-protobuf";
+    };
+
+private:
+    std::string url;
+    Options options;
+    std::unique_ptr<CURL, void (*)(CURL *)> curl{nullptr, curl_easy_cleanup};
+    std::unique_ptr<curl_slist, void (*)(curl_slist *)> headers{nullptr, curl_slist_free_all};
+
+    void set(CURLcode code) {
+        if (code != CURLE_OK) throw std::runtime_error(std::string("kotskhin: curl: ") + curl_easy_strerror(code));
+    }
+    void add(const std::string &line) {
+        if (line.find_first_of("\r\n") != std::string::npos) throw std::invalid_argument("kotskhin: a header of several lines");
+        curl_slist *longer = curl_slist_append(headers.get(), line.c_str());
+        if (!longer) throw std::bad_alloc();
+        headers.release();
+        headers.reset(longer);
+    }
+    static size_t passed_over(char *, size_t size, size_t count, void *) { return size * count; }
+
+public:
+    explicit HttpExporter(std::string of) : HttpExporter(std::move(of), Options()) {}
+    HttpExporter(std::string of, Options given) : url(std::move(of)), options(std::move(given)) {
+        static std::once_flag once;
+        std::call_once(once, [] { curl_global_init(CURL_GLOBAL_DEFAULT); });
+        curl.reset(curl_easy_init());
+        if (!curl) throw std::bad_alloc();
+        add("Content-Type: " + options.content_type);
+        // (else curl waits for leave to send a long body)
+        add("Expect:");
+        for (auto &it : options.headers) add(it);
+        set(curl_easy_setopt(curl.get(), CURLOPT_URL, url.c_str()));
+#if LIBCURL_VERSION_NUM >= 0x075500
+        set(curl_easy_setopt(curl.get(), CURLOPT_PROTOCOLS_STR, "http,https"));
+#else
+        set(curl_easy_setopt(curl.get(), CURLOPT_PROTOCOLS, static_cast<long>(CURLPROTO_HTTP | CURLPROTO_HTTPS)));
+#endif
+        set(curl_easy_setopt(curl.get(), CURLOPT_POST, 1L));
+        set(curl_easy_setopt(curl.get(), CURLOPT_NOSIGNAL, 1L));
+        set(curl_easy_setopt(curl.get(), CURLOPT_TIMEOUT_MS, static_cast<long>(options.timeout.count())));
+        set(curl_easy_setopt(curl.get(), CURLOPT_HTTPHEADER, headers.get()));
+        set(curl_easy_setopt(curl.get(), CURLOPT_WRITEFUNCTION, &passed_over));
+    }
+
+    void Export(const kotskhin::Export &given) override {
+        std::vector<uint8_t> body = options.encode(given);
+        set(curl_easy_setopt(curl.get(), CURLOPT_POSTFIELDSIZE_LARGE, static_cast<curl_off_t>(body.size())));
+        set(curl_easy_setopt(curl.get(), CURLOPT_POSTFIELDS, body.empty() ? "" : reinterpret_cast<const char *>(body.data())));
+        set(curl_easy_perform(curl.get()));
+        long answered = 0;
+        set(curl_easy_getinfo(curl.get(), CURLINFO_RESPONSE_CODE, &answered));
+        if (answered < 200 || answered > 299) throw std::runtime_error(url + " answered " + std::to_string(answered));
+    }
+};
+
+}  // namespace kotskhin::metrics

@@ -1,0 +1,134 @@
+package metric
+
+import (
+	"bytes"
+	"context"
+	"fmt"
+	"io"
+	"net/http"
+	"os"
+	"path/filepath"
+	"strings"
+
+	"kotskhin"
+)
+
+// The types of what is posted.
+const (
+	OTLPType  = "application/x-protobuf"
+	BytesType = "application/x-kotskhin"
+)
+
+// FileExporter keeps the bytes of the newest export in a file. It is replaced as a whole, so that who reads it finds one export.
+func FileExporter(path string) Exporter {
+	return ExporterFunc(func(_ context.Context, export kotskhin.Export) error {
+		made, err := export.Encode()
+		if err != nil {
+			return err
+		}
+		file, err := os.CreateTemp(filepath.Dir(path), "."+filepath.Base(path)+".*")
+		if err != nil {
+			return err
+		}
+		if _, err = file.Write(made); err == nil {
+			err = file.Sync()
+		}
+		if closed := file.Close(); err == nil {
+			err = closed
+		}
+		if err == nil {
+			err = os.Rename(file.Name(), path)
+		}
+		if err != nil {
+			os.Remove(file.Name())
+		}
+		return err
+	})
+}
+
+// HTTPExporter posts each export as a request of the OpenTelemetry protocol, to a URL that ends in /v1/metrics as a Collector has it. An
+// answer other than 2xx is a failure, a redirection too. Headers may be nil, and so may the client.
+func HTTPExporter(url string, headers http.Header, client *http.Client) Exporter {
+	return posting(url, OTLPType, kotskhin.Export.OTLP, headers, client)
+}
+
+// HTTPBytesExporter posts the kit's own bytes of each export, as HTTPExporter does.
+func HTTPBytesExporter(url string, headers http.Header, client *http.Client) Exporter {
+	return posting(url, BytesType, kotskhin.Export.Encode, headers, client)
+}
+
+func posting(url, kind string, bytesOf func(kotskhin.Export) ([]byte, error), headers http.Header, client *http.Client) Exporter {
+	if client == nil {
+		client = http.DefaultClient
+	}
+	// (a POST would be made a GET, which brings nothing and succeeds)
+	straight := *client
+	straight.CheckRedirect = func(*http.Request, []*http.Request) error { return http.ErrUseLastResponse }
+	return ExporterFunc(func(ctx context.Context, export kotskhin.Export) error {
+		made, err := bytesOf(export)
+		if err != nil {
+			return err
+		}
+		request, err := http.NewRequestWithContext(ctx, http.MethodPost, url, bytes.NewReader(made))
+		if err != nil {
+			return err
+		}
+		request.Header.Set("Content-Type", kind)
+		for key, values := range headers {
+			request.Header[key] = values
+		}
+		return posted(straight.Do(request))
+	})
+}
+
+func posted(answer *http.Response, err error) error {
+	if err != nil {
+		return err
+	}
+	defer answer.Body.Close()
+	if _, err := io.Copy(io.Discard, io.LimitReader(answer.Body, 1<<20)); err != nil {
+		return err
+	}
+	if answer.StatusCode/100 != 2 {
+		return fmt.Errorf("the answer is %s", answer.Status)
+	}
+	return nil
+}
+
+// TableExporter prints the tables of each export: one for each stream, below its scope, name and unit.
+func TableExporter(out io.Writer) Exporter {
+	return ExporterFunc(func(_ context.Context, export kotskhin.Export) error {
+		gateway, err := kotskhin.OpenGateway(0)
+		if err != nil {
+			return err
+		}
+		defer gateway.Close()
+		if _, err := gateway.Take(export); err != nil {
+			return err
+		}
+		streams, err := gateway.Streams()
+		if err != nil {
+			return err
+		}
+		defer streams.Close()
+		all, err := streams.All()
+		for number := 0; err == nil && number < len(all); number++ {
+			err = printed(out, gateway, streams, number, all[number])
+		}
+		return err
+	})
+}
+
+func printed(out io.Writer, gateway kotskhin.Gateway, streams kotskhin.Streams, number int, stream kotskhin.Stream) error {
+	ask, err := kotskhin.AskStream(streams, number)
+	if err != nil {
+		return err
+	}
+	defer ask.Close()
+	table, err := gateway.Table(ask)
+	if err != nil {
+		return err
+	}
+	_, err = fmt.Fprintf(out, "%s\n%s", strings.Join(strings.Fields(stream.Scope+" "+stream.Name+" "+stream.Unit), " "), table)
+	return err
+}

@@ -1,0 +1,168 @@
+package metric
+
+import (
+	"errors"
+	"fmt"
+	"strings"
+
+	"kotskhin"
+	"kotskhin/attribute"
+)
+
+// The attributes of a resource that are kept.
+const (
+	ServiceName       = "service.name"
+	ServiceInstanceID = "service.instance.id"
+)
+
+// DefaultHeld is how many attribute sets, over all instruments, have a number of their own where nothing else is said.
+const DefaultHeld = 10000
+
+// Option is an option of NewMeterProvider.
+type Option func(*config) error
+
+type config struct {
+	service   string
+	instance  *kotskhin.Instance
+	views     []kotskhin.View
+	limit     uint64
+	held      int
+	readers   []*PeriodicReader
+	onRefused func(Refusal)
+}
+
+// WithResource says whose the measurements are, by ServiceName, and ServiceInstanceID as a UUID: one is drawn anew where there is none.
+func WithResource(attributes ...attribute.KeyValue) Option {
+	return func(c *config) error {
+		for _, it := range attributes {
+			switch it.Key {
+			case ServiceName:
+				c.service = it.Value.AsString()
+			case ServiceInstanceID:
+				instance, err := instanceOf(it.Value.AsString())
+				if err != nil {
+					return err
+				}
+				c.instance = &instance
+			default:
+				return fmt.Errorf("kotskhin: of a resource %s and %s are kept, and no %s", ServiceName, ServiceInstanceID, it.Key)
+			}
+		}
+		return nil
+	}
+}
+
+func instanceOf(uuid string) (kotskhin.Instance, error) {
+	var made kotskhin.Instance
+	digits := strings.ReplaceAll(uuid, "-", "")
+	if len(digits) == 32 {
+		if n, err := fmt.Sscanf(digits, "%16x%16x", &made.High, &made.Low); err == nil && n == 2 {
+			return made, nil
+		}
+	}
+	return made, fmt.Errorf("kotskhin: %q is no UUID", uuid)
+}
+
+// WithReader adds a reader.
+func WithReader(reader *PeriodicReader) Option {
+	return func(c *config) error {
+		c.readers = append(c.readers, reader)
+		return nil
+	}
+}
+
+// WithView adds views.
+func WithView(views ...kotskhin.View) Option {
+	return func(c *config) error {
+		for _, it := range views {
+			if strings.ContainsAny(it.Name, "*?") {
+				return fmt.Errorf("kotskhin: a view is of one name, or without a name of every one: %q is neither", it.Name)
+			}
+		}
+		c.views = append(c.views, views...)
+		return nil
+	}
+}
+
+// WithCardinalityLimit says for how many attribute sets a stream has points of their own.
+func WithCardinalityLimit(limit uint64) Option {
+	return func(c *config) error {
+		c.limit = limit
+		return nil
+	}
+}
+
+// WithHeldLimit bounds how many attribute sets, over all instruments, are looked up by a number: others are made anew at each recording.
+func WithHeldLimit(held int) Option {
+	return func(c *config) error {
+		if held < 0 {
+			return kotskhin.ErrRange
+		}
+		c.held = held
+		return nil
+	}
+}
+
+// WithOnRefused calls a function with each recording that is refused, from the goroutine that records, collects or flushes. It is to
+// return soon; where it records itself, and that is refused, it is called again.
+func WithOnRefused(call func(Refusal)) Option {
+	return func(c *config) error {
+		c.onRefused = call
+		return nil
+	}
+}
+
+// InstrumentOption is an option of an instrument.
+type InstrumentOption func(*instrumentConfig)
+
+type instrumentConfig struct {
+	unit   string
+	bounds []int64
+}
+
+// WithUnit gives an instrument a unit.
+func WithUnit(unit string) InstrumentOption { return func(c *instrumentConfig) { c.unit = unit } }
+
+// WithDescription says what an instrument is for. It is not kept.
+func WithDescription(string) InstrumentOption { return func(*instrumentConfig) {} }
+
+// WithExplicitBucketBoundaries advises bounds of a histogram, which hold unless a view is of it.
+func WithExplicitBucketBoundaries(bounds ...int64) InstrumentOption {
+	return func(c *instrumentConfig) { c.bounds = append([]int64{}, bounds...) }
+}
+
+// MeasurementOption is an option of a recording.
+type MeasurementOption struct {
+	pairs []attribute.KeyValue
+	set   attribute.Set
+	isSet bool
+}
+
+// WithAttributes records at attributes.
+func WithAttributes(attributes ...attribute.KeyValue) MeasurementOption {
+	return MeasurementOption{pairs: attributes}
+}
+
+// WithAttributeSet records at a set that was made before.
+func WithAttributeSet(set attribute.Set) MeasurementOption {
+	return MeasurementOption{set: set, isSet: true}
+}
+
+// ErrStarted says that an instrument is declared after its provider started, which a plan does not allow.
+var ErrStarted = errors.New("the provider has started: declare all instruments before the first recording")
+
+// Refusal is a recording that was refused: of which instrument, and why. It is an error.
+type Refusal struct {
+	Scope, Instrument string
+	Value             int64
+	Attributes        []attribute.KeyValue
+	Err               error
+}
+
+// Error says what was refused, and why.
+func (r Refusal) Error() string {
+	return fmt.Sprintf("a recording of %d by %q of %q is refused: %v", r.Value, r.Instrument, r.Scope, r.Err)
+}
+
+// Unwrap is why.
+func (r Refusal) Unwrap() error { return r.Err }

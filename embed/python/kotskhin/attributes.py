@@ -1,0 +1,66 @@
+"""Attribute sets, and lists of pairs and of keys."""
+import operator
+import typing
+from collections.abc import Iterable, Mapping
+from ctypes import byref, c_int64, c_size_t, c_uint8
+
+from kotskhin.handle import Handle
+from kotskhin.library import calls, copied, text
+
+# A value of an attribute: a text, a whole number of 64 bits, or a truth.
+Value = typing.Union[str, int, bool]
+Pairs = typing.Union[Mapping[str, Value], Iterable[tuple[str, Value]]]
+
+
+def written(pairs: Pairs) -> Handle:
+    """The pairs, written down in their order."""
+    made = Handle()
+    for key, value in pairs.items() if isinstance(pairs, Mapping) else pairs:
+        if isinstance(value, str):
+            calls["kit_pairs_add_text"](made, *text(key), *text(value))
+        elif isinstance(value, bool):
+            calls["kit_pairs_add_truth"](made, *text(key), value)
+        elif hasattr(value, "__index__"):
+            calls["kit_pairs_add_whole"](made, *text(key), operator.index(value))
+        else:
+            raise TypeError(f"the value of {key!r} is a {type(value).__name__}, not a text, a whole number or a truth: {value!r}")
+    return made
+
+
+def keys_of(keys: Iterable[str]) -> Handle:
+    """Keys, written down in their order."""
+    made = Handle()
+    if isinstance(keys, str):
+        raise TypeError(f"keys are a list of texts, not the text {keys!r}")
+    for key in keys:
+        calls["kit_keys_add"](made, *text(key))
+    return made
+
+
+class Attributes(Handle):
+    """A set of attributes, of a map or of pairs. Values are texts, whole numbers of 64 bits and truths. Of a key that is given twice the
+    later value stays."""
+
+    def __init__(self, pairs: Pairs = ()):
+        super().__init__()
+        with written(pairs) as made:
+            calls["kit_attributes_make"](self, made)
+
+    def __len__(self) -> int:
+        count = c_size_t()
+        calls["kit_attributes_len"](self, byref(count))
+        return count.value
+
+    def pairs(self) -> list[tuple[str, Value]]:
+        """The pairs, in the order of their keys."""
+        return [(copied("kit_attributes_key", self, number).decode(), self._value(number)) for number in range(len(self))]
+
+    def _value(self, number):
+        kind, whole = c_uint8(), c_int64()
+        calls["kit_attributes_value"](self, number, byref(kind), byref(whole))
+        if kind.value == 0:
+            return copied("kit_attributes_text", self, number).decode()
+        return whole.value if kind.value == 1 else bool(whole.value)
+
+    def __repr__(self) -> str:
+        return f"Attributes({dict(self.pairs())!r})" if self._raw.full else "Attributes (closed)"

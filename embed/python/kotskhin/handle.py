@@ -1,0 +1,99 @@
+"""What all things of the library have in common: they are given up once, and not used by a child of the process that made them."""
+import itertools
+import os
+import threading
+from ctypes import byref
+
+from kotskhin.errors import ForkedError
+from kotskhin.library import Raw, free
+
+_forks = 0
+_numbers = itertools.count()
+
+
+def _forked():
+    """In a child: another thread of the parent may have been in a call, so what the parent made is left alone."""
+    global _forks
+    _forks += 1
+
+
+os.register_at_fork(after_in_child=_forked)
+
+
+def forks() -> int:
+    """How many forks lie between this process and the first one."""
+    return _forks
+
+
+class Handle:
+    """A thing of the library. It is given up by `close`, at the end of a `with`, or once nothing names it. A call on what was closed is
+    refused as Nothing; to close it again does nothing."""
+
+    __slots__ = ("_raw", "_forks", "__weakref__")
+
+    def __init__(self):
+        self._raw, self._forks = Raw(False, None), _forks
+
+    def _is_ours(self):
+        """Whether this process made it; else it is told so."""
+        if self._forks != _forks:
+            told = f"this {type(self).__name__} was made before a fork"
+            raise ForkedError(f"{told}: make one in each process, a writer under an instance of its own")
+
+    @property
+    def _as_parameter_(self):
+        self._is_ours()
+        return byref(self._raw)
+
+    def close(self) -> None:
+        """Gives it up now."""
+        if self._forks == _forks:
+            free(byref(self._raw))
+
+    def __enter__(self):
+        return self
+
+    def __exit__(self, *_):
+        self.close()
+
+    def __del__(self, free=free, byref=byref):
+        if self._forks == _forks:
+            free(byref(self._raw))
+
+
+class LockedHandle(Handle):
+    """A thing whose calls let go of Python's own lock: it has one, and is in one call at a time."""
+
+    __slots__ = ("_own_lock", "_number")
+
+    def __init__(self):
+        super().__init__()
+        # (of two things the one that was made first is locked first; one that is closed by a collector may be locked by its thread)
+        self._own_lock, self._number = threading.RLock(), next(_numbers)
+
+    @property
+    def _lock(self):
+        # (in a child nobody may be left who gives back what was locked in the parent)
+        self._is_ours()
+        return self._own_lock
+
+    def close(self) -> None:
+        """Gives it up, once no call has it."""
+        if self._forks == _forks:
+            with self._own_lock:
+                super().close()
+
+
+class both:
+    """The locks of one or two things, in one order in all threads."""
+
+    def __init__(self, *things):
+        self._locks = [it._lock for it in sorted(things, key=lambda it: it._number)]
+
+    def __enter__(self):
+        for lock in self._locks:
+            lock.acquire()
+
+    def __exit__(self, *_):
+        for lock in reversed(self._locks):
+            lock.release()

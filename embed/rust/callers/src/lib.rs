@@ -1,0 +1,1 @@
+//! Programs of this repository over the crate `kotskhin`: its examples.

@@ -1,0 +1,319 @@
+//! Exporters: tables, a file, and HTTP.
+use crate::ask::Ask;
+use crate::export::Export;
+use crate::gateway::Gateway;
+use crate::metrics::{ExportError, PushExporter};
+use std::fmt;
+use std::fs;
+use std::io::{self, ErrorKind, Read, Write};
+use std::net::{TcpStream, ToSocketAddrs};
+use std::path::PathBuf;
+use std::time::{Duration, Instant};
+
+/// How an export goes as bytes.
+type Encode = Box<dyn Fn(&Export) -> Result<Vec<u8>, ExportError> + Send>;
+
+/// The kit's own bytes (docs/BYTES.md).
+fn own_bytes() -> Encode {
+    Box::new(|export| Ok(export.encode()?))
+}
+
+/// A request of OTLP.
+fn otlp() -> Encode {
+    Box::new(|export| Ok(export.otlp()?))
+}
+
+/// Writes a table of each stream of an export: to the standard output, or where else is said.
+pub struct ConsoleExporter(Box<dyn Write + Send>);
+
+impl fmt::Debug for ConsoleExporter {
+    fn fmt(&self, f: &mut fmt::Formatter<'_>) -> fmt::Result {
+        write!(f, "ConsoleExporter")
+    }
+}
+
+impl Default for ConsoleExporter {
+    fn default() -> ConsoleExporter {
+        ConsoleExporter::new(io::stdout())
+    }
+}
+
+impl ConsoleExporter {
+    pub fn new(into: impl Write + Send + 'static) -> ConsoleExporter {
+        ConsoleExporter(Box::new(into))
+    }
+}
+
+impl PushExporter for ConsoleExporter {
+    fn export(&mut self, export: &Export) -> Result<(), ExportError> {
+        let mut gateway = Gateway::open(0)?;
+        gateway.take(export)?;
+        let streams = gateway.streams()?;
+        for (number, it) in streams.all()?.iter().enumerate() {
+            let table = gateway.table(&Ask::stream(&streams, number)?)?;
+            write!(self.0, "{} {} {}\n{table}", it.scope, it.name, it.unit)?;
+        }
+        Ok(self.0.flush()?)
+    }
+}
+
+/// Writes each export into one file, in the place of the one before, which it covers. Who reads the file finds a whole one at any time.
+pub struct FileExporter {
+    path: PathBuf,
+    encode: Encode,
+}
+
+impl fmt::Debug for FileExporter {
+    fn fmt(&self, f: &mut fmt::Formatter<'_>) -> fmt::Result {
+        write!(f, "FileExporter({:?})", self.path)
+    }
+}
+
+impl FileExporter {
+    pub fn new(path: impl Into<PathBuf>) -> FileExporter {
+        FileExporter {
+            path: path.into(),
+            encode: own_bytes(),
+        }
+    }
+
+    /// Requests of OTLP, and not the kit's own bytes.
+    pub fn with_otlp(mut self) -> FileExporter {
+        self.encode = otlp();
+        self
+    }
+
+    /// Other bytes than the kit's own.
+    pub fn with_encoding(
+        mut self,
+        encode: impl Fn(&Export) -> Result<Vec<u8>, ExportError> + Send + 'static,
+    ) -> FileExporter {
+        self.encode = Box::new(encode);
+        self
+    }
+}
+
+impl PushExporter for FileExporter {
+    fn export(&mut self, export: &Export) -> Result<(), ExportError> {
+        let mut beside = self.path.clone().into_os_string();
+        beside.push(".new");
+        let bytes = (self.encode)(export)?;
+        let mut file = fs::File::create(&beside)?;
+        file.write_all(&bytes)?;
+        file.sync_data()?;
+        fs::rename(&beside, &self.path)?;
+        Ok(())
+    }
+}
+
+/// How long a request may take where nothing else is said (OTLP exporters, "Timeout").
+const DEFAULT_TIMEOUT: Duration = Duration::from_secs(10);
+/// The most that is read of an answer's first line.
+const LINE: usize = 1024;
+
+/// Sends each export as the body of a POST, over plain HTTP/1.1, by a connection of its own: a request of OTLP, as a Collector takes it at
+/// `/v1/metrics`. An answer other than 2xx is a failure.
+///
+/// `https` is not spoken: a proxy on the same machine does that.
+///
+/// ```
+/// # use kotskhin::otel::{HttpExporter, PeriodicReader};
+/// let exporter = HttpExporter::new("http://localhost:4318/v1/metrics")?;
+/// let reader = PeriodicReader::builder(exporter).build();
+/// # Ok::<(), std::io::Error>(())
+/// ```
+pub struct HttpExporter {
+    host: String,
+    port: u16,
+    path: String,
+    content_type: String,
+    headers: Vec<(String, String)>,
+    timeout: Duration,
+    encode: Encode,
+}
+
+impl fmt::Debug for HttpExporter {
+    fn fmt(&self, f: &mut fmt::Formatter<'_>) -> fmt::Result {
+        write!(f, "HttpExporter({}:{}{})", self.host, self.port, self.path)
+    }
+}
+
+fn refused(why: impl Into<String>) -> io::Error {
+    io::Error::new(ErrorKind::InvalidInput, why.into())
+}
+
+/// Whether a text may stand in a line of a request.
+fn is_line(text: &str) -> bool {
+    text.chars().all(|it| !it.is_control())
+}
+
+impl HttpExporter {
+    /// Of a URL: `http://HOST[:PORT][/PATH]`. Refused, as invalid input: any other.
+    pub fn new(url: &str) -> io::Result<HttpExporter> {
+        let rest = url
+            .strip_prefix("http://")
+            .ok_or_else(|| refused(format!("'{url}' does not begin with http://")))?;
+        if !is_line(url) || url.contains(' ') || url.contains('@') {
+            return Err(refused(format!("'{url}' has characters that none has")));
+        }
+        let end = rest.find(['/', '?']).unwrap_or(rest.len());
+        let (place, path) = rest.split_at(end);
+        // (an address of IPv6 stands in brackets, and has colons itself)
+        let (host, port) = match place.rsplit_once(':') {
+            Some((host, port)) if !port.ends_with(']') => {
+                let port = port.parse().ok().filter(|it| *it > 0);
+                (
+                    host,
+                    port.ok_or_else(|| refused(format!("'{url}' has no port")))?,
+                )
+            }
+            _ => (place, 80),
+        };
+        if host.is_empty() {
+            return Err(refused(format!("'{url}' has no host")));
+        }
+        Ok(HttpExporter {
+            host: host.to_owned(),
+            port,
+            path: match path.strip_prefix('/') {
+                Some(_) => path.to_owned(),
+                None => format!("/{path}"),
+            },
+            content_type: "application/x-protobuf".to_owned(),
+            headers: Vec::new(),
+            timeout: DEFAULT_TIMEOUT,
+            encode: otlp(),
+        })
+    }
+
+    /// How long a request may take, from the look-up of the host to the answer's first line: 10 s where nothing is said. (The system bounds
+    /// the look-up itself.)
+    pub fn with_timeout(mut self, timeout: Duration) -> HttpExporter {
+        self.timeout = timeout;
+        self
+    }
+
+    /// A header more. Refused, as invalid input: one with a control character, or a name with a colon or a blank.
+    pub fn with_header(mut self, name: &str, value: &str) -> io::Result<HttpExporter> {
+        if !is_line(name) || !is_line(value) || name.is_empty() || name.contains([':', ' ']) {
+            return Err(refused(format!("'{name}: {value}' is no header")));
+        }
+        self.headers.push((name.to_owned(), value.to_owned()));
+        Ok(self)
+    }
+
+    /// The kit's own bytes, and not OTLP.
+    pub fn with_own_bytes(mut self) -> HttpExporter {
+        self.content_type = "application/octet-stream".to_owned();
+        self.encode = own_bytes();
+        self
+    }
+
+    /// Other bytes than OTLP, and their type.
+    pub fn with_encoding(
+        mut self,
+        content_type: &str,
+        encode: impl Fn(&Export) -> Result<Vec<u8>, ExportError> + Send + 'static,
+    ) -> io::Result<HttpExporter> {
+        if !is_line(content_type) {
+            return Err(refused(format!("'{content_type}' is no type")));
+        }
+        self.content_type = content_type.to_owned();
+        self.encode = Box::new(encode);
+        Ok(self)
+    }
+
+    fn head(&self, len: usize) -> String {
+        let mut head = format!(
+            "POST {} HTTP/1.1\r\nHost: {}:{}\r\nContent-Type: {}\r\nContent-Length: {len}\r\nConnection: close\r\n",
+            self.path, self.host, self.port, self.content_type
+        );
+        for (name, value) in &self.headers {
+            head.push_str(name);
+            head.push_str(": ");
+            head.push_str(value);
+            head.push_str("\r\n");
+        }
+        head.push_str("\r\n");
+        head
+    }
+
+    fn connected(&self, until: Instant) -> io::Result<TcpStream> {
+        let mut fault = refused(format!("'{}' has no address", self.host));
+        let host = self.host.trim_matches(['[', ']']);
+        for address in (host, self.port).to_socket_addrs()? {
+            match TcpStream::connect_timeout(&address, left(until)?) {
+                Ok(stream) => return Ok(stream),
+                Err(why) => fault = why,
+            }
+        }
+        Err(fault)
+    }
+
+    /// Sends a body, and answers the first line of the answer.
+    fn posted(&self, body: &[u8]) -> io::Result<String> {
+        let until = Instant::now() + self.timeout.min(Duration::from_secs(1 << 30));
+        let mut stream = self.connected(until)?;
+        let head = self.head(body.len());
+        for part in [head.as_bytes(), body] {
+            sent(&mut stream, part, until)?;
+        }
+        let mut line = Vec::new();
+        while !line.contains(&b'\n') && line.len() < LINE {
+            let mut piece = [0; 256];
+            stream.set_read_timeout(Some(left(until)?))?;
+            match stream.read(&mut piece) {
+                Ok(0) => return Err(ErrorKind::UnexpectedEof.into()),
+                Ok(many) => line.extend_from_slice(&piece[..many]),
+                Err(why) if why.kind() == ErrorKind::Interrupted => (),
+                Err(why) => return Err(timed(why)),
+            }
+        }
+        let line = String::from_utf8_lossy(&line);
+        Ok(line.lines().next().unwrap_or_default().to_owned())
+    }
+}
+
+fn sent(stream: &mut TcpStream, mut bytes: &[u8], until: Instant) -> io::Result<()> {
+    while !bytes.is_empty() {
+        stream.set_write_timeout(Some(left(until)?))?;
+        match stream.write(bytes) {
+            Ok(0) => return Err(ErrorKind::WriteZero.into()),
+            Ok(many) => bytes = &bytes[many..],
+            Err(why) if why.kind() == ErrorKind::Interrupted => (),
+            Err(why) => return Err(timed(why)),
+        }
+    }
+    Ok(())
+}
+
+/// How long there is still. Refused where there is nothing left.
+fn left(until: Instant) -> io::Result<Duration> {
+    let left = until.saturating_duration_since(Instant::now());
+    match left.is_zero() {
+        true => Err(ErrorKind::TimedOut.into()),
+        false => Ok(left),
+    }
+}
+
+/// A socket that waited for too long says that it would block.
+fn timed(why: io::Error) -> io::Error {
+    match why.kind() {
+        ErrorKind::WouldBlock => ErrorKind::TimedOut.into(),
+        _ => why,
+    }
+}
+
+impl PushExporter for HttpExporter {
+    fn export(&mut self, export: &Export) -> Result<(), ExportError> {
+        let body = (self.encode)(export)?;
+        let line = self.posted(&body)?;
+        let mut words = line.split(' ');
+        let is_http = words.next().is_some_and(|it| it.starts_with("HTTP/1."));
+        let code = words.next().and_then(|it| it.parse::<u16>().ok());
+        match code {
+            Some(200..300) if is_http => Ok(()),
+            _ => Err(format!("{}:{} answered '{line}'", self.host, self.port).into()),
+        }
+    }
+}

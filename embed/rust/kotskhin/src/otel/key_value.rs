@@ -1,0 +1,99 @@
+//! Attributes, as a recording has them.
+use crate::attributes::AttributeValue;
+use std::borrow::Cow;
+use std::fmt;
+
+/// The key of an attribute.
+#[derive(Clone, PartialEq, Eq, PartialOrd, Ord, Hash)]
+pub struct Key(Cow<'static, str>);
+
+impl Key {
+    pub fn new(key: impl Into<Key>) -> Key {
+        key.into()
+    }
+
+    pub const fn from_static_str(key: &'static str) -> Key {
+        Key(Cow::Borrowed(key))
+    }
+
+    pub fn as_str(&self) -> &str {
+        &self.0
+    }
+}
+
+impl From<&'static str> for Key {
+    fn from(key: &'static str) -> Key {
+        Key::from_static_str(key)
+    }
+}
+
+impl From<String> for Key {
+    fn from(key: String) -> Key {
+        Key(Cow::Owned(key))
+    }
+}
+
+impl fmt::Debug for Key {
+    fn fmt(&self, f: &mut fmt::Formatter<'_>) -> fmt::Result {
+        self.0.fmt(f)
+    }
+}
+
+/// The value of an attribute.
+#[derive(Clone, Debug, PartialEq, Eq, Hash)]
+#[non_exhaustive]
+pub enum Value {
+    Bool(bool),
+    I64(i64),
+    String(Cow<'static, str>),
+}
+
+impl From<bool> for Value {
+    fn from(truth: bool) -> Value {
+        Value::Bool(truth)
+    }
+}
+
+impl From<i64> for Value {
+    fn from(number: i64) -> Value {
+        Value::I64(number)
+    }
+}
+
+impl From<&'static str> for Value {
+    fn from(text: &'static str) -> Value {
+        Value::String(Cow::Borrowed(text))
+    }
+}
+
+impl From<String> for Value {
+    fn from(text: String) -> Value {
+        Value::String(Cow::Owned(text))
+    }
+}
+
+/// An attribute: a key and its value. Of a key that is given twice the later value counts.
+#[derive(Clone, Debug, PartialEq, Eq, Hash)]
+pub struct KeyValue {
+    pub key: Key,
+    pub value: Value,
+}
+
+impl KeyValue {
+    pub fn new(key: impl Into<Key>, value: impl Into<Value>) -> KeyValue {
+        KeyValue {
+            key: key.into(),
+            value: value.into(),
+        }
+    }
+
+    /// As sets of the kit have it.
+    pub(super) fn pair(&self) -> (&str, AttributeValue<'_>) {
+        let value = match &self.value {
+            Value::Bool(truth) => AttributeValue::Truth(*truth),
+            Value::I64(number) => AttributeValue::Whole(*number),
+            Value::String(text) => AttributeValue::Text(text),
+        };
+        (self.key.as_str(), value)
+    }
+}

@@ -1,0 +1,219 @@
+//! What threads note, each in a log of its own.
+use super::key_value::KeyValue;
+use super::shared::{Core, Shared, locked, take_in_of_ending_thread};
+use crate::attributes::Attributes;
+use crate::error::Error;
+use crate::recorder::{Recorder, Taken};
+use crate::writer::HeldNumber;
+use std::cell::RefCell;
+use std::collections::HashMap;
+use std::sync::{Arc, Mutex, RwLock, TryLockError, Weak};
+
+/// The numbers of instruments at sets, by the instrument: as they were written down, so that one set may stand here in several orders. What
+/// was written down is kept once, by the cache and by threads.
+#[derive(Default)]
+pub(super) struct Numbers(Vec<HashMap<Arc<[KeyValue]>, HeldNumber>>);
+
+impl Numbers {
+    fn find(&self, instrument: usize, attributes: &[KeyValue]) -> Option<HeldNumber> {
+        self.0.get(instrument)?.get(attributes).copied()
+    }
+
+    fn entry(
+        &self,
+        instrument: usize,
+        attributes: &[KeyValue],
+    ) -> Option<(Arc<[KeyValue]>, HeldNumber)> {
+        let (key, number) = self.0.get(instrument)?.get_key_value(attributes)?;
+        Some((Arc::clone(key), *number))
+    }
+
+    fn keep(&mut self, instrument: usize, attributes: Arc<[KeyValue]>, number: HeldNumber) {
+        if self.0.len() <= instrument {
+            self.0.resize_with(instrument + 1, HashMap::new);
+        }
+        if let Some(numbers) = self.0.get_mut(instrument) {
+            numbers.insert(attributes, number);
+        }
+    }
+}
+
+/// What the writer holds for recordings by numbers. It is never given up, so there is a bound.
+pub(super) struct Cache {
+    room: usize,
+    count: usize,
+    numbers: Numbers,
+}
+
+impl Cache {
+    pub fn new(room: usize) -> Cache {
+        Cache {
+            room,
+            count: 0,
+            numbers: Numbers::default(),
+        }
+    }
+
+    pub fn count(&self) -> usize {
+        self.count
+    }
+
+    fn is_full(&self) -> bool {
+        self.count >= self.room
+    }
+
+    fn keep(
+        &mut self,
+        instrument: usize,
+        attributes: &[KeyValue],
+        number: HeldNumber,
+    ) -> Arc<[KeyValue]> {
+        // (another thread may have been first)
+        if let Some((key, _)) = self.numbers.entry(instrument, attributes) {
+            return key;
+        }
+        let key: Arc<[KeyValue]> = attributes.into();
+        self.numbers.keep(instrument, Arc::clone(&key), number);
+        self.count += 1;
+        key
+    }
+}
+
+/// A thread's log. The thread has its lock while it notes, and who collects while it takes the log in.
+pub(super) struct Log {
+    pub recorder: Recorder,
+    /// What this thread knows of the cache.
+    numbers: Numbers,
+    /// Nothing is taken in any more: the provider was shut down.
+    pub is_closed: bool,
+}
+
+/// Which way a recording is noted.
+enum Way {
+    Number(HeldNumber),
+    Set(Attributes),
+}
+
+impl Log {
+    pub fn new(capacity: usize) -> Result<Log, Error> {
+        Ok(Log {
+            recorder: Recorder::new(capacity)?,
+            numbers: Numbers::default(),
+            is_closed: false,
+        })
+    }
+
+    /// Notes a value. Refused: `Closed`, `RecorderFull`, `EmptyKey`, `NoMemory`.
+    pub fn note(
+        &mut self,
+        at: (&Mutex<Core>, &RwLock<Cache>),
+        instrument: usize,
+        attributes: &[KeyValue],
+        value: i64,
+    ) -> Result<(), Error> {
+        if self.is_closed {
+            return Err(Error::Closed);
+        }
+        let way = match self.numbers.find(instrument, attributes) {
+            Some(number) => Way::Number(number),
+            None => self.way(at, instrument, attributes)?,
+        };
+        match way {
+            Way::Number(number) => self.recorder.measure_held(number, value),
+            Way::Set(set) => self.recorder.measure(instrument, &set, value),
+        }
+    }
+
+    /// Of a pair that this thread has not seen. A number is looked for in the cache, or made where it has room and nobody has the writer:
+    /// a recording is not to wait for it. Else the set itself is noted.
+    fn way(
+        &mut self,
+        (core, cache): (&Mutex<Core>, &RwLock<Cache>),
+        instrument: usize,
+        attributes: &[KeyValue],
+    ) -> Result<Way, Error> {
+        let (known, is_full) = {
+            let cache = cache.read().unwrap_or_else(|it| it.into_inner());
+            (cache.numbers.entry(instrument, attributes), cache.is_full())
+        };
+        if let Some((key, number)) = known {
+            self.numbers.keep(instrument, key, number);
+            return Ok(Way::Number(number));
+        }
+        let set = Attributes::new(attributes.iter().map(KeyValue::pair))?;
+        if is_full {
+            return Ok(Way::Set(set));
+        }
+        let mut core = match core.try_lock() {
+            Ok(core) => core,
+            Err(TryLockError::Poisoned(it)) => it.into_inner(),
+            Err(TryLockError::WouldBlock) => return Ok(Way::Set(set)),
+        };
+        // (others may have been first: who has the writer alone changes the cache)
+        let mut cache = cache.write().unwrap_or_else(|it| it.into_inner());
+        if cache.is_full() {
+            return Ok(Way::Set(set));
+        }
+        let number = core.writer.hold(instrument, &set)?;
+        let key = cache.keep(instrument, attributes, number);
+        self.numbers.keep(instrument, key, number);
+        Ok(Way::Number(number))
+    }
+
+    /// Takes in what is noted.
+    pub fn take_in(&mut self, core: &mut Core) -> Result<Taken, Error> {
+        core.writer.take_in(&mut self.recorder, usize::MAX)
+    }
+}
+
+/// A log that its thread and its provider have.
+pub(super) type Slot = Arc<Mutex<Log>>;
+
+/// A log of this thread, and whose it is.
+struct Own {
+    provider: u64,
+    shared: Weak<Shared>,
+    slot: Slot,
+}
+
+impl Drop for Own {
+    /// The thread ends, and what it noted is taken in, at once or with the next collection.
+    fn drop(&mut self) {
+        if let Some(shared) = self.shared.upgrade() {
+            take_in_of_ending_thread(&shared, &self.slot);
+        }
+    }
+}
+
+thread_local! {
+    static OWN: RefCell<Vec<Own>> = const { RefCell::new(Vec::new()) };
+}
+
+/// The log of this thread, which it is given where it has none. `None` where the thread is ending. Refused: as `Shared::new_slot` is.
+pub(super) fn of_this_thread(shared: &Arc<Shared>) -> Option<Result<Slot, Error>> {
+    OWN.try_with(|own| {
+        let mut own = own.borrow_mut();
+        if let Some(there) = own.iter().find(|it| it.provider == shared.number()) {
+            return Ok(Arc::clone(&there.slot));
+        }
+        let slot = shared.new_slot()?;
+        own.retain(|it| it.shared.strong_count() > 0);
+        own.push(Own {
+            provider: shared.number(),
+            shared: Arc::downgrade(shared),
+            slot: Arc::clone(&slot),
+        });
+        Ok(slot)
+    })
+    .ok()
+}
+
+/// Whether no thread notes in it any more. It is asked of the one that the provider has.
+pub(super) fn is_left(slot: &Slot) -> bool {
+    Arc::strong_count(slot) == 1
+}
+
+/// How many recordings it has.
+pub(super) fn len_of(slot: &Slot) -> usize {
+    locked(slot).recorder.len().unwrap_or(0)
+}

@@ -1,0 +1,159 @@
+//! Views: what is made of instruments.
+use super::key_value::Key;
+use crate::error::Error;
+use crate::plan::{Instruments, Kind, Plan};
+use crate::view::{self, View, Views};
+
+/// What a view is asked about: an instrument that is being declared.
+#[derive(Clone, Debug, PartialEq, Eq)]
+pub struct Instrument {
+    pub(super) scope: String,
+    pub(super) name: String,
+    pub(super) unit: String,
+    pub(super) kind: Kind,
+}
+
+impl Instrument {
+    /// The name of its meter.
+    pub fn scope(&self) -> &str {
+        &self.scope
+    }
+
+    pub fn name(&self) -> &str {
+        &self.name
+    }
+
+    pub fn unit(&self) -> &str {
+        &self.unit
+    }
+
+    pub fn kind(&self) -> Kind {
+        self.kind
+    }
+
+    /// Whether both are one instrument, but for the unit: names are taken without regard to case.
+    pub(super) fn is_named_as(&self, other: &Instrument) -> bool {
+        self.kind == other.kind
+            && self.scope == other.scope
+            && self.name.eq_ignore_ascii_case(&other.name)
+    }
+}
+
+/// What a stream makes of values.
+#[derive(Clone, Debug, Default, PartialEq, Eq)]
+#[non_exhaustive]
+pub enum Aggregation {
+    /// As the kind of the instrument does.
+    #[default]
+    Default,
+    Sum,
+    LastValue,
+    /// A histogram of these bounds.
+    ExplicitBucketHistogram {
+        boundaries: Vec<i64>,
+    },
+    /// No stream at all.
+    Drop,
+}
+
+/// A stream that a view makes of an instrument.
+///
+/// ```
+/// use kotskhin::otel::{Aggregation, Key, SdkMeterProvider, Stream};
+///
+/// let boundaries = vec![10, 100, 1000];
+/// let latency = Stream::builder()
+///     .with_aggregation(Aggregation::ExplicitBucketHistogram { boundaries })
+///     .with_allowed_attribute_keys([Key::from_static_str("route")])
+///     .build()?;
+/// let provider = SdkMeterProvider::builder()
+///     .with_view(move |it| (it.name() == "latency").then(|| latency.clone()))
+///     .build();
+/// # Ok::<(), kotskhin::Error>(())
+/// ```
+#[derive(Clone, Debug, Default, PartialEq, Eq)]
+pub struct Stream {
+    name: Option<String>,
+    aggregation: Aggregation,
+    keys: Option<Vec<Key>>,
+}
+
+impl Stream {
+    pub fn builder() -> StreamBuilder {
+        StreamBuilder(Stream::default())
+    }
+
+    /// A histogram of these bounds.
+    pub(super) fn of_bounds(boundaries: Vec<i64>) -> Stream {
+        Stream {
+            aggregation: Aggregation::ExplicitBucketHistogram { boundaries },
+            ..Stream::default()
+        }
+    }
+
+    /// The kit's view that makes this stream of an instrument.
+    pub(super) fn view_of(&self, instrument: &Instrument) -> Result<View, Error> {
+        let mut view = View::of_name(&instrument.name)?;
+        view.scope(&instrument.scope)?;
+        view.kind(instrument.kind)?;
+        if let Some(name) = &self.name {
+            view.rename(name)?;
+        }
+        if let Some(keys) = &self.keys {
+            view.keep(keys.iter().map(Key::as_str))?;
+        }
+        view.aggregate(match &self.aggregation {
+            Aggregation::Default => view::Aggregation::Default,
+            Aggregation::Sum => view::Aggregation::Sum,
+            Aggregation::LastValue => view::Aggregation::LastValue,
+            Aggregation::ExplicitBucketHistogram { boundaries } => {
+                view::Aggregation::Buckets(boundaries)
+            }
+            Aggregation::Drop => view::Aggregation::Drop,
+        })?;
+        Ok(view)
+    }
+}
+
+/// Makes a [`Stream`].
+#[derive(Clone, Debug)]
+pub struct StreamBuilder(Stream);
+
+impl StreamBuilder {
+    /// The stream has this name in the place of the instrument's.
+    pub fn with_name(mut self, name: impl Into<String>) -> StreamBuilder {
+        self.0.name = Some(name.into());
+        self
+    }
+
+    pub fn with_aggregation(mut self, aggregation: Aggregation) -> StreamBuilder {
+        self.0.aggregation = aggregation;
+        self
+    }
+
+    /// The stream keeps these keys of attributes alone.
+    pub fn with_allowed_attribute_keys(
+        mut self,
+        keys: impl IntoIterator<Item = Key>,
+    ) -> StreamBuilder {
+        self.0.keys = Some(keys.into_iter().collect());
+        self
+    }
+
+    /// Refused: `BadBounds`, `BadRename`, `NoMemory`. Whether an aggregation fits is told once an instrument has the stream.
+    pub fn build(self) -> Result<Stream, Error> {
+        let any = Instrument {
+            scope: String::new(),
+            name: "any".to_owned(),
+            unit: String::new(),
+            kind: Kind::Histogram,
+        };
+        let (mut instruments, mut views) = (Instruments::new(), Views::new());
+        instruments.add(&any.scope, &any.name, &any.unit, any.kind)?;
+        views.add(&self.0.view_of(&any)?)?;
+        match Plan::with_views(&instruments, &views, 1) {
+            Ok(_) | Err(Error::BadAggregation { .. }) => Ok(self.0),
+            Err(refused) => Err(refused),
+        }
+    }
+}

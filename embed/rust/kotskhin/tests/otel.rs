@@ -1,0 +1,570 @@
+//! OpenTelemetry's names: what is recorded, what is refused and told, threads with exact totals, bounds of memory.
+#![forbid(unsafe_code)]
+use kotskhin::otel::{
+    Aggregation, Counter, Key, KeyValue, Meter, Refusal, Resource, SdkError, SdkMeterProvider,
+    Stream, global,
+};
+use kotskhin::{Ask, Error, Gateway, OwnedValue, Row, Total, default_bounds};
+use std::cell::RefCell;
+use std::error::Error as AnyError;
+use std::sync::{Arc, Mutex, PoisonError};
+use std::thread;
+
+type Done = Result<(), Box<dyn AnyError>>;
+
+/// What a hook was told.
+#[derive(Clone, Default)]
+struct Told(Arc<Mutex<Vec<Refusal>>>);
+
+impl Told {
+    fn hook(&self) -> impl Fn(&Refusal) + Send + Sync + 'static {
+        let list = self.clone();
+        move |it| {
+            let mut list = list.0.lock().unwrap_or_else(PoisonError::into_inner);
+            list.push(it.clone());
+        }
+    }
+
+    /// Each refusal: the instrument, why, and how many recordings.
+    fn all(&self) -> Vec<(String, Error, u64)> {
+        let list = self.0.lock().unwrap_or_else(PoisonError::into_inner);
+        list.iter()
+            .map(|it| (it.instrument.clone(), it.why, it.count))
+            .collect()
+    }
+
+    fn shown(&self) -> Vec<String> {
+        let list = self.0.lock().unwrap_or_else(PoisonError::into_inner);
+        list.iter().map(Refusal::to_string).collect()
+    }
+}
+
+fn shop() -> Resource {
+    Resource::builder()
+        .with_service_name("shop")
+        .with_service_instance(7)
+        .build()
+}
+
+fn provider() -> SdkMeterProvider {
+    SdkMeterProvider::builder().with_resource(shop()).build()
+}
+
+fn requests(provider: &SdkMeterProvider) -> Counter<u64> {
+    provider
+        .meter("app")
+        .u64_counter("requests")
+        .with_unit("1")
+        .build()
+}
+
+fn rows(provider: &SdkMeterProvider, ask: &Ask) -> Result<Vec<Row>, Box<dyn AnyError>> {
+    let mut gateway = Gateway::open(1)?;
+    gateway.take(&provider.collect()?)?;
+    Ok(gateway.rows(ask)?.all()?)
+}
+
+fn of_requests() -> Result<Ask, Error> {
+    Ask::sum("app", "requests", "1", true)
+}
+
+/// What all rows come to.
+fn total(rows: &[Row]) -> i128 {
+    rows.iter()
+        .map(|it| match it.total {
+            Total::Sum(sum) => sum,
+            _ => 0,
+        })
+        .sum()
+}
+
+#[test]
+fn every_instrument_records() -> Done {
+    let provider = provider();
+    let meter = provider.meter("app");
+    let open = meter
+        .i64_up_down_counter("open")
+        .with_description("connections")
+        .build();
+    let (depth, room) = (
+        meter.i64_gauge("depth").build(),
+        meter.u64_gauge("room").build(),
+    );
+    let size = meter.u64_histogram("size").with_unit("By").build();
+    let requests = requests(&provider);
+    let set = [
+        KeyValue::new("route", "/"),
+        KeyValue::new("status", 200),
+        KeyValue::new("cached", true),
+        KeyValue::new(String::from("host"), format!("host {}", 1)),
+    ];
+    requests.add(3, &set);
+    requests.add(4, &set);
+    open.add(5, &[]);
+    open.add(-6, &[]);
+    depth.record(9, &[]);
+    depth.record(-4, &[]);
+    room.record(8, &[]);
+    size.record(10, &[]);
+    size.record(20_000, &[]);
+    let told = rows(&provider, &of_requests()?)?;
+    let pair = |key: &str, value: OwnedValue| (key.to_owned(), value);
+    assert_eq!(
+        told[0].attributes,
+        [
+            pair("cached", OwnedValue::Truth(true)),
+            pair("host", OwnedValue::Text("host 1".into())),
+            pair("route", OwnedValue::Text("/".into())),
+            pair("status", OwnedValue::Whole(200)),
+        ]
+    );
+    assert_eq!(total(&told), 7);
+    assert_eq!(
+        rows(&provider, &Ask::sum("app", "open", "", false)?)?[0].total,
+        Total::Sum(-1)
+    );
+    for (name, wanted) in [("depth", -4), ("room", 8)] {
+        let told = rows(&provider, &Ask::gauge("app", name, "")?)?;
+        assert!(matches!(told[0].total, Total::Gauge(Some((_, value))) if value == wanted));
+    }
+    let ask = Ask::histogram("app", "size", "By", &default_bounds())?;
+    match &rows(&provider, &ask)?[0].total {
+        Total::Histogram {
+            count: 2,
+            sum: 20_010,
+            range: Some((10, 20_000)),
+            ..
+        } => (),
+        other => panic!("{other:?}"),
+    }
+    assert_eq!((provider.refused(), provider.logs()), (0, 1));
+    provider.shutdown()?;
+    Ok(())
+}
+
+#[test]
+fn a_late_instrument_is_told_by_name_and_place() -> Done {
+    let told = Told::default();
+    let provider = SdkMeterProvider::builder().on_refused(told.hook()).build();
+    let first = requests(&provider);
+    assert!(matches!(
+        provider.collect(),
+        Err(SdkError::Refused(Error::NotStarted))
+    ));
+    first.add(1, &[]);
+    let line = line!() + 1;
+    let late = provider.meter("app").u64_counter("late").build();
+    late.add(5, &[]);
+    // (the same again is the same, also when it is late)
+    requests(&provider).add(2, &[]);
+    assert_eq!(
+        told.all(),
+        [
+            ("late".into(), Error::DeclaredLate, 0),
+            ("late".into(), Error::DeclaredLate, 1)
+        ]
+    );
+    let place = format!("'late', declared at {}:{line}:", file!());
+    assert!(
+        told.shown().iter().all(|it| it.starts_with(&place)),
+        "{:?}",
+        told.shown()
+    );
+    assert_eq!(
+        (
+            provider.refused(),
+            total(&rows(&provider, &of_requests()?)?)
+        ),
+        (1, 3)
+    );
+    Ok(())
+}
+
+#[test]
+fn one_that_the_plan_refuses_leaves_the_others() -> Done {
+    let told = Told::default();
+    let provider = SdkMeterProvider::builder()
+        .on_refused(told.hook())
+        .with_view(|it| {
+            let sum = Stream::builder().with_aggregation(Aggregation::LastValue);
+            (it.name() == "misfit").then(|| sum.build().ok())?
+        })
+        .build();
+    let meter = provider.meter("app");
+    let refused = [
+        meter.u64_counter("9 lives").build(),
+        meter.u64_counter("fine").with_unit("\u{b5}s").build(),
+        meter.u64_counter("misfit").build(),
+        meter.u64_counter("").build(),
+    ];
+    let requests = requests(&provider);
+    refused.iter().for_each(|it| it.add(1, &[]));
+    requests.add(7, &[]);
+    let whys: Vec<Error> = told.all().into_iter().map(|it| it.1).collect();
+    assert_eq!(
+        whys[..4],
+        [
+            Error::BadName { instrument: 0 },
+            Error::BadUnit { instrument: 0 },
+            Error::BadAggregation {
+                instrument: 0,
+                view: 0
+            },
+            Error::BadName { instrument: 0 },
+        ]
+    );
+    assert_eq!((whys.len(), provider.refused()), (8, 4));
+    assert_eq!(total(&rows(&provider, &of_requests()?)?), 7);
+    Ok(())
+}
+
+#[test]
+fn what_is_refused_is_counted_and_told() -> Done {
+    let told = Told::default();
+    let provider = SdkMeterProvider::builder().on_refused(told.hook()).build();
+    let (requests, most) = (requests(&provider), (1 << 63) - 1);
+    requests.add(1 << 63, &[]);
+    requests.add(1, &[KeyValue::new("", 1)]);
+    requests.add(most, &[]);
+    requests.add(1, &[]);
+    requests.add(2, &[]);
+    assert_eq!(
+        provider.refused(),
+        2,
+        "logs are looked at once they are taken in"
+    );
+    assert_eq!(total(&rows(&provider, &of_requests()?)?), i128::from(most));
+    provider.shutdown()?;
+    requests.add(1, &[]);
+    assert!(matches!(
+        provider.shutdown(),
+        Err(SdkError::AlreadyShutdown)
+    ));
+    assert!(matches!(provider.collect(), Err(SdkError::AlreadyShutdown)));
+    let requests = || String::from("requests");
+    assert_eq!(
+        told.all(),
+        [
+            (requests(), Error::ValueTooWide { value: 1 << 63 }, 1),
+            (requests(), Error::EmptyKey { pair: 0 }, 1),
+            (requests(), Error::Overflow { stream: 0 }, 2),
+            (requests(), Error::Closed, 1),
+        ]
+    );
+    assert_eq!(provider.refused(), 5);
+    Ok(())
+}
+
+#[test]
+fn a_provider_without_recordings_ends() -> Done {
+    let told = Told::default();
+    let provider = SdkMeterProvider::builder().on_refused(told.hook()).build();
+    let requests = requests(&provider);
+    assert!(provider.close()?.is_none());
+    requests.add(1, &[]);
+    provider
+        .meter("app")
+        .u64_counter("more")
+        .build()
+        .add(1, &[]);
+    assert!(matches!(provider.start(), Err(SdkError::AlreadyShutdown)));
+    let closed: Vec<Error> = told.all().into_iter().map(|it| it.1).collect();
+    assert_eq!(closed, [Error::Closed; 3]);
+    Ok(())
+}
+
+/// Threads that record while others collect, at more sets than are held and than the stream has points for.
+#[test]
+fn nothing_is_lost_between_threads() -> Done {
+    const THREADS: u64 = 6;
+    const EACH: u64 = 20_000;
+    let told = Told::default();
+    let provider = SdkMeterProvider::builder()
+        .with_cardinality_limit(300)
+        .with_cache(50)
+        .with_log(64)
+        .on_refused(told.hook())
+        .build();
+    let requests = requests(&provider);
+    let collected = thread::scope(|scope| {
+        for of in 0..THREADS {
+            let requests = &requests;
+            scope.spawn(move || {
+                for turn in 0..EACH {
+                    let n = i64::try_from((turn * THREADS + of) % 500).unwrap_or(0);
+                    requests.add(1, &[KeyValue::new("n", n), KeyValue::new("of", "all")]);
+                }
+            });
+        }
+        let collecting = scope.spawn(|| {
+            let mut last = 0;
+            for _ in 0..50 {
+                let now = rows(&provider, &of_requests()?).map_err(|it| it.to_string());
+                let now = now.map_or(0, |it| total(&it));
+                assert!(now >= last, "{now} is less than {last}");
+                last = now;
+                thread::yield_now();
+            }
+            Ok::<i128, Error>(last)
+        });
+        collecting.join()
+    });
+    assert!(collected.is_ok_and(|it| it.is_ok()));
+    let told_rows = rows(&provider, &of_requests()?)?;
+    assert_eq!(total(&told_rows), i128::from(THREADS * EACH));
+    assert_eq!(
+        (told_rows.len(), told.all(), provider.refused()),
+        (301, vec![], 0),
+        "300 sets, and one for the others"
+    );
+    assert_eq!(
+        (provider.cached(), provider.logs()),
+        (50, 0),
+        "of threads that ended nothing stays"
+    );
+    Ok(())
+}
+
+#[test]
+fn threads_that_come_and_go_leave_nothing_behind() -> Done {
+    let provider = provider();
+    let requests = requests(&provider);
+    for _ in 0..500 {
+        let requests = requests.clone();
+        let recorded = thread::spawn(move || requests.add(1, &[KeyValue::new("route", "/")]));
+        assert!(recorded.join().is_ok());
+        assert_eq!(provider.logs(), 0);
+    }
+    assert_eq!(total(&rows(&provider, &of_requests()?)?), 500);
+    Ok(())
+}
+
+/// How much memory the process has, of the tests beside this one too.
+fn megabytes() -> usize {
+    let told = std::fs::read_to_string("/proc/self/statm").unwrap_or_default();
+    let pages = told.split(' ').nth(1).and_then(|it| it.parse().ok());
+    pages.map_or(0, |it: usize| it * 4 / 1024)
+}
+
+#[test]
+fn sets_without_end_take_memory_that_has_one() -> Done {
+    let provider = SdkMeterProvider::builder()
+        .with_cardinality_limit(100)
+        .with_cache(100)
+        .build();
+    let requests = requests(&provider);
+    let mut before = 0;
+    for user in 0..60_000_i64 {
+        let path = format!("/{}/{user}", "long ".repeat(100));
+        requests.add(
+            1,
+            &[KeyValue::new("user", user), KeyValue::new("path", path)],
+        );
+        if user == 10_000 {
+            before = megabytes();
+        }
+    }
+    // (what was recorded comes to 30 MB and more)
+    let grown = megabytes().saturating_sub(before);
+    assert!(grown < 16, "it grew by {grown} MB");
+    let told = rows(&provider, &of_requests()?)?;
+    assert_eq!(
+        (total(&told), told.len(), provider.cached()),
+        (60_000, 101, 100)
+    );
+    Ok(())
+}
+
+/// One set in two orders has one number: what is held does not grow by it, beyond the cache.
+#[test]
+fn the_order_of_attributes_is_none_of_the_sets() -> Done {
+    let provider = provider();
+    let requests = requests(&provider);
+    let (a, b) = (KeyValue::new("a", 1), KeyValue::new("b", "x"));
+    requests.add(1, &[a.clone(), b.clone()]);
+    requests.add(2, &[b.clone(), a.clone()]);
+    requests.add(4, &[KeyValue::new("a", 5), b, a]);
+    let told = rows(&provider, &of_requests()?)?;
+    assert_eq!((told.len(), total(&told), provider.cached()), (1, 7, 3));
+    Ok(())
+}
+
+#[test]
+fn views_make_streams() -> Done {
+    let provider = SdkMeterProvider::builder()
+        .with_view(|it| {
+            if it.name() != "requests" || it.scope() != "app" || it.unit() != "1" {
+                return None;
+            }
+            let keys = [Key::from_static_str("route")];
+            let by_route = Stream::builder().with_name("by_route");
+            by_route.with_allowed_attribute_keys(keys).build().ok()
+        })
+        .with_view(|it| {
+            let drop = Stream::builder().with_aggregation(Aggregation::Drop);
+            (it.name() == "noise").then(|| drop.build().ok())?
+        })
+        .build();
+    let meter = provider.meter("app");
+    let requests = requests(&provider);
+    let noise = meter.u64_counter("noise").build();
+    let size = meter
+        .u64_histogram("size")
+        .with_boundaries(vec![1, 10])
+        .build();
+    for status in [200, 404] {
+        requests.add(
+            1,
+            &[KeyValue::new("route", "/"), KeyValue::new("status", status)],
+        );
+    }
+    noise.add(1, &[]);
+    size.record(5, &[]);
+    let told = rows(&provider, &Ask::sum("app", "by_route", "1", true)?)?;
+    assert_eq!(
+        (told.len(), told[0].attributes.len(), total(&told)),
+        (1, 1, 2)
+    );
+    let told = rows(&provider, &Ask::histogram("app", "size", "", &[1, 10])?)?;
+    assert!(matches!(&told[0].total, Total::Histogram { buckets, .. } if *buckets == [0, 1, 0]));
+    let mut gateway = Gateway::open(1)?;
+    gateway.take(&provider.collect()?)?;
+    assert_eq!(gateway.streams()?.count()?, 2);
+    let falling = Aggregation::ExplicitBucketHistogram {
+        boundaries: vec![2, 1],
+    };
+    let built = Stream::builder().with_aggregation(falling).build();
+    assert_eq!(built, Err(Error::BadBounds { view: 0 }));
+    let renamed = Stream::builder().with_name("9 lives").build();
+    assert_eq!(renamed, Err(Error::BadRename { view: 0 }));
+    Ok(())
+}
+
+#[test]
+fn one_name_has_one_unit_where_there_are_views() -> Done {
+    let told = Told::default();
+    let provider = SdkMeterProvider::builder().on_refused(told.hook()).build();
+    let meter = provider.meter("app");
+    let first = meter.u64_histogram("size").with_boundaries(vec![1]).build();
+    let other = meter.u64_histogram("Size").with_unit("By").build();
+    first.record(1, &[]);
+    other.record(1, &[]);
+    let same = Error::SameStream {
+        first: 0,
+        second: 1,
+    };
+    assert_eq!(
+        told.all(),
+        [("Size".into(), same, 0), ("Size".into(), same, 1)]
+    );
+    Ok(())
+}
+
+#[test]
+fn a_hook_may_record_and_may_panic() -> Done {
+    let counter: Arc<Mutex<Option<Counter<u64>>>> = Arc::default();
+    let inner = Arc::clone(&counter);
+    let provider = SdkMeterProvider::builder()
+        .on_refused(move |_| {
+            let refusals = inner.lock().unwrap_or_else(PoisonError::into_inner).clone();
+            refusals
+                .into_iter()
+                .for_each(|it: Counter<u64>| it.add(1, &[]));
+            panic!("a hook's own");
+        })
+        .build();
+    let requests = requests(&provider);
+    let refusals = provider.meter("app").u64_counter("refusals").build();
+    *counter.lock().unwrap_or_else(PoisonError::into_inner) = Some(refusals);
+    requests.add(u64::MAX, &[]);
+    requests.add(1, &[]);
+    assert_eq!(
+        total(&rows(&provider, &Ask::sum("app", "refusals", "", true)?)?),
+        1
+    );
+    *counter.lock().unwrap_or_else(PoisonError::into_inner) = None;
+    Ok(())
+}
+
+/// Records once its thread is over.
+struct Late(Counter<u64>);
+
+impl Drop for Late {
+    fn drop(&mut self) {
+        self.0.add(1, &[]);
+    }
+}
+
+thread_local! {
+    static LATE: RefCell<Vec<Late>> = const { RefCell::new(Vec::new()) };
+}
+
+#[test]
+fn a_thread_that_ends_may_record_still() -> Done {
+    let provider = provider();
+    let requests = requests(&provider);
+    for is_first in [true, false] {
+        let requests = requests.clone();
+        let ended = thread::spawn(move || {
+            // (which of the thread's things goes first depends on which came first)
+            if is_first {
+                requests.add(1, &[]);
+            }
+            LATE.with_borrow_mut(|late| late.push(Late(requests.clone())));
+            requests.add(1, &[]);
+        });
+        assert!(ended.join().is_ok());
+    }
+    assert_eq!(total(&rows(&provider, &of_requests()?)?), 5);
+    Ok(())
+}
+
+#[test]
+fn one_provider_is_for_all() -> Done {
+    let none = global::meter("app").u64_counter("requests").build();
+    none.add(1, &[]);
+    assert_eq!(global::meter_provider().refused(), 1);
+    let provider = provider();
+    global::set_meter_provider(provider.clone());
+    let meter = global::meter("app");
+    meter
+        .u64_counter("requests")
+        .with_unit("1")
+        .build()
+        .add(7, &[]);
+    assert_eq!(total(&rows(&provider, &of_requests()?)?), 7);
+    global::set_meter_provider(SdkMeterProvider::builder().build());
+    drop(provider);
+    Ok(())
+}
+
+#[test]
+fn instruments_outlast_their_provider() {
+    let told = Told::default();
+    let provider = SdkMeterProvider::builder().on_refused(told.hook()).build();
+    let requests = requests(&provider);
+    let clone = provider.clone();
+    drop(provider);
+    requests.add(1, &[]);
+    assert_eq!(told.all(), []);
+    drop(clone);
+    requests.add(1, &[]);
+    assert_eq!(told.all(), [("requests".into(), Error::Closed, 1)]);
+}
+
+fn shared<T: Send + Sync>(_: &T) {}
+
+#[test]
+fn all_may_go_to_threads_and_be_shown() {
+    let provider = provider();
+    let meter: Meter = provider.meter("app");
+    let requests = requests(&provider);
+    shared(&provider);
+    shared(&meter);
+    shared(&requests);
+    let shown = format!("{provider:?} {meter:?} {requests:?}");
+    assert!(
+        shown.contains("shop") && shown.contains("requests"),
+        "{shown}"
+    );
+}

@@ -1,0 +1,342 @@
+// Periodic readers and their exporters in C++: real threads, short intervals, a file, and sockets where libcurl is.
+#include "check.hpp"
+#include <condition_variable>
+#include <cstdlib>
+#include <fstream>
+#include <iterator>
+#include <kotskhin.hpp>
+#include <kotskhin/metrics.hpp>
+#ifdef WITH_CURL
+#include <arpa/inet.h>
+#include <kotskhin/metrics/http.hpp>
+#include <sys/socket.h>
+#endif
+
+using namespace kotskhin;
+using namespace kotskhin::metrics;
+using Millis = std::chrono::milliseconds;
+using Clock = std::chrono::steady_clock;
+
+static const Millis SHORT(10), LONG(30000), NEVER = std::chrono::hours(1000000);
+
+static std::unique_ptr<Counter<uint64_t>> requests_of(const MeterProvider &provider) {
+    return provider.GetMeter("app")->CreateUInt64Counter("requests", "", "1");
+}
+
+static int64_t total(const Export &given) {
+    Gateway gateway(1);
+    gateway.take(given);
+    // (a provider may be collected from between its start and the first recording)
+    Rows rows = gateway.rows(Ask::sum("app", "requests", "1"));
+    return rows.size() ? rows.sum(0) : 0;
+}
+
+// What an exporter and a hook were told, in their order: totals, "flush", "end", and why something failed.
+struct Heard {
+    std::mutex lock;
+    std::condition_variable changed;
+    std::vector<std::string> list;
+
+    void tell(std::string what) {
+        std::lock_guard<std::mutex> has(lock);
+        list.push_back(std::move(what));
+        changed.notify_all();
+    }
+    std::vector<std::string> all() {
+        std::lock_guard<std::mutex> has(lock);
+        return list;
+    }
+    bool many(size_t count, Millis wait = LONG) {
+        std::unique_lock<std::mutex> has(lock);
+        return changed.wait_for(has, wait, [&] { return list.size() >= count; });
+    }
+};
+
+// Tells what it is asked, and fails so often first.
+class Telling : public PushMetricExporter {
+    Heard &heard;
+    int failures;
+
+public:
+    explicit Telling(Heard &heard, int failures = 0) : heard(heard), failures(failures) {}
+    void Export(const kotskhin::Export &given) override {
+        if (failures-- > 0) throw std::runtime_error("the line is down");
+        heard.tell(std::to_string(total(given)));
+    }
+    void ForceFlush() override { heard.tell("flush"); }
+    void Shutdown() override { heard.tell("end"); }
+};
+
+static std::unique_ptr<PeriodicExportingMetricReader> reader(std::unique_ptr<PushMetricExporter> exporter, Millis interval,
+                                                             Heard *failed = nullptr, Millis timeout = LONG) {
+    PeriodicExportingMetricReaderOptions options;
+    options.export_interval_millis = interval;
+    options.export_timeout_millis = timeout;
+    if (failed) {
+        options.on_failed = [failed](const ExportFailure &it) {
+            failed->tell(it.why + (it.unsent ? ": " + std::to_string(total(*it.unsent)) : ""));
+        };
+    }
+    return std::make_unique<PeriodicExportingMetricReader>(std::move(exporter), options);
+}
+
+using Words = std::vector<std::string>;
+
+static void it_collects_once_in_an_interval() {
+    Heard heard;
+    MeterProvider provider;
+    provider.AddMetricReader(reader(std::make_unique<Telling>(heard), SHORT));
+    auto requests = requests_of(provider);
+    // (nothing is brought before the first recording)
+    CHECK(!heard.many(1, SHORT * 5));
+    auto began = Clock::now();
+    requests->Add(7);
+    CHECK(heard.many(3) && Clock::now() - began >= SHORT && provider.Shutdown());
+    Words all = heard.all();
+    CHECK(all[1] == "7" && all[all.size() - 2] == "7" && all.back() == "end" && provider.FailedCount() == 0);
+}
+
+static void a_flush_collects_now_and_a_shutdown_for_the_last_time() {
+    Heard heard;
+    MeterProvider provider;
+    provider.AddMetricReader(reader(std::make_unique<Telling>(heard), NEVER));
+    auto requests = requests_of(provider);
+    requests->Add(3);
+    CHECK(provider.ForceFlush());
+    // (a thread's log that is not yet taken in counts)
+    requests->Add(4);
+    CHECK(provider.Shutdown());
+    requests->Add(5);
+    CHECK((heard.all() == Words{"3", "flush", "7", "end"}));
+    CHECK(!provider.Shutdown() && !provider.ForceFlush() && provider.RefusedCount() == 1);
+}
+
+static void the_next_collection_covers_an_export_that_failed() {
+    Heard heard, failed;
+    MeterProvider provider;
+    requests_of(provider)->Add(7);
+    provider.AddMetricReader(reader(std::make_unique<Telling>(heard, 2), SHORT, &failed));
+    CHECK(heard.many(1) && heard.all()[0] == "7" && provider.FailedCount() == 2);
+    CHECK((failed.all() == Words{"the line is down: 7", "the line is down: 7"}));
+}
+
+static void a_last_export_that_failed_is_handed_back() {
+    Heard heard, failed;
+    MeterProvider provider;
+    provider.AddMetricReader(reader(std::make_unique<Telling>(heard, 1), NEVER, &failed));
+    requests_of(provider)->Add(7);
+    CHECK(!provider.Shutdown());
+    CHECK((failed.all() == Words{"the line is down: 7"} && heard.all() == Words{"end"}));
+}
+
+static void two_readers_bring_the_same() {
+    Heard heard[2];
+    MeterProvider provider;
+    for (auto &it : heard) provider.AddMetricReader(reader(std::make_unique<Telling>(it), NEVER));
+    requests_of(provider)->Add(7);
+    CHECK(provider.Shutdown());
+    for (auto &it : heard) CHECK((it.all() == Words{"7", "end"}));
+}
+
+static void an_export_that_takes_too_long_is_told() {
+    Heard failed, gate;
+    MeterProvider provider;
+    auto hangs = std::make_unique<FunctionExporter>([&](const Export &) { gate.many(1); });
+    requests_of(provider)->Add(7);
+    provider.AddMetricReader(reader(std::move(hangs), SHORT, &failed, SHORT));
+    CHECK(failed.many(3) && failed.all()[0] == "the exporter took longer than is allowed: 7");
+    CHECK(failed.all()[1] == "an export that took too long goes on");
+    auto began = Clock::now();
+    CHECK(!provider.ForceFlush(SHORT * 20) && Clock::now() - began < LONG);
+    // (once the call ends, the next one is made)
+    gate.tell("go");
+    bool is_good = provider.ForceFlush() || provider.ForceFlush();
+    CHECK(is_good);
+}
+
+static void a_function_that_throws_anything_is_told() {
+    Heard failed;
+    MeterProvider provider;
+    auto throws = std::make_unique<FunctionExporter>([](const Export &) { throw 1; });
+    provider.AddMetricReader(reader(std::move(throws), NEVER, &failed));
+    requests_of(provider)->Add(7);
+    CHECK(!provider.ForceFlush() && !provider.Shutdown());
+    CHECK((failed.all() == Words{"the exporter failed: 7", "the exporter failed: 7"}));
+}
+
+static void a_hook_may_ask_its_provider() {
+    MeterProvider provider;
+    std::atomic<uint64_t> asked{0};
+    PeriodicExportingMetricReaderOptions options;
+    options.on_failed = [&](const ExportFailure &) { asked += provider.FailedCount(); };
+    auto fails = [](const Export &) { throw std::runtime_error("the line is down"); };
+    provider.AddMetricReader(std::make_unique<PeriodicExportingMetricReader>(fails, options));
+    requests_of(provider)->Add(7);
+    auto began = Clock::now();
+    std::thread other([&] { provider.Shutdown(); });
+    provider.Shutdown();
+    other.join();
+    CHECK(asked == 1 && Clock::now() - began < LONG);
+}
+
+static void a_provider_that_is_destroyed_shuts_down() {
+    Heard heard;
+    {
+        MeterProvider provider;
+        provider.AddMetricReader(reader(std::make_unique<Telling>(heard), NEVER));
+        requests_of(provider)->Add(7);
+    }
+    CHECK((heard.all() == Words{"7", "end"}));
+    // One that was closed by hand ends its readers, too.
+    {
+        MeterProvider provider;
+        provider.AddMetricReader(reader(std::make_unique<Telling>(heard), NEVER));
+        requests_of(provider)->Add(8);
+        CHECK(total(*provider.Close()) == 8);
+    }
+    CHECK((heard.all() == Words{"7", "end", "end"}));
+    // (a reader that no provider was given does nothing)
+    reader(std::make_unique<Telling>(heard), NEVER);
+}
+
+static void a_file_has_the_newest_export() {
+    std::string path = std::string(getenv("TMPDIR") ? getenv("TMPDIR") : "/tmp") + "/kotskhin-readers-" + std::to_string(getpid());
+    MeterProvider provider;
+    provider.AddMetricReader(reader(std::make_unique<FileExporter>(path), NEVER));
+    auto requests = requests_of(provider);
+    int64_t sum = 0;
+    for (int more : {3, 4}) {
+        requests->Add(static_cast<uint64_t>(more));
+        CHECK(provider.ForceFlush());
+        std::ifstream file(path, std::ios::binary);
+        std::string bytes(std::istreambuf_iterator<char>(file), {});
+        CHECK(total(Export::decode(bytes)) == (sum += more));
+    }
+    FileExporter(path, otlp()).Export(provider.Collect());
+    std::ifstream file(path, std::ios::binary);
+    CHECK(Export::of_otlp(std::string(std::istreambuf_iterator<char>(file), {})).size() == 1);
+    std::remove(path.c_str());
+    CHECK(throws<std::system_error>([&] { FileExporter("/nowhere/at/all").Export(provider.Collect()); }));
+}
+
+#ifdef WITH_CURL
+// A server of so many requests, each answered with a line; it keeps what it heard.
+struct Server {
+    int listening = socket(AF_INET, SOCK_STREAM, 0);
+    std::string url;
+    std::vector<std::string> heard;
+    std::thread thread;
+
+    explicit Server(std::vector<std::string> answers) {
+        sockaddr_in address{};
+        socklen_t len = sizeof address;
+        address.sin_family = AF_INET;
+        address.sin_addr.s_addr = htonl(INADDR_LOOPBACK);
+        CHECK(bind(listening, reinterpret_cast<sockaddr *>(&address), len) == 0 && listen(listening, 8) == 0);
+        getsockname(listening, reinterpret_cast<sockaddr *>(&address), &len);
+        url = "http://127.0.0.1:" + std::to_string(ntohs(address.sin_port)) + "/v1/metrics";
+        thread = std::thread([this, answers] {
+            for (auto &it : answers) serve(it);
+        });
+    }
+    ~Server() {
+        thread.join();
+        close(listening);
+    }
+    void serve(const std::string &answer) {
+        int one = accept(listening, nullptr, nullptr);
+        std::string request;
+        size_t head = std::string::npos, length = 0;
+        char piece[4096];
+        while (head == std::string::npos || request.size() < head + 4 + length) {
+            ssize_t many = read(one, piece, sizeof piece);
+            if (many <= 0) break;
+            request.append(piece, static_cast<size_t>(many));
+            head = request.find("\r\n\r\n");
+            size_t at = request.find("Content-Length: ");
+            if (head != std::string::npos && at != std::string::npos) length = std::stoul(request.substr(at + 16));
+        }
+        heard.push_back(request);
+        CHECK(write(one, answer.data(), answer.size()) == static_cast<ssize_t>(answer.size()));
+        close(one);
+    }
+};
+
+static void http_brings_an_export_and_tells_what_is_answered() {
+    MeterProvider provider;
+    requests_of(provider)->Add(7);
+    Export given = provider.Collect();
+    {
+        Server server({"HTTP/1.1 200 OK\r\nContent-Length: 0\r\nConnection: close\r\n\r\n",
+                       "HTTP/1.1 202 Fine\r\nContent-Length: 0\r\nConnection: close\r\n\r\n",
+                       "HTTP/1.1 503 Busy\r\nContent-Length: 0\r\nConnection: close\r\n\r\n", ""});
+        HttpExporter::Options options;
+        options.headers = {"X-Shop: one"};
+        HttpExporter::Options own;
+        own.encode = own_bytes();
+        own.content_type = "application/octet-stream";
+        HttpExporter exporter(server.url, options);
+        exporter.Export(given);
+        HttpExporter(server.url, own).Export(given);
+        std::string said;
+        try {
+            exporter.Export(given);
+        } catch (const std::runtime_error &why) {
+            said = why.what();
+        }
+        CHECK(said == server.url + " answered 503");
+        CHECK(throws<std::runtime_error>([&] { exporter.Export(given); }));
+        server.thread.join();
+        server.thread = std::thread([] {});
+        const std::string &first = server.heard[0];
+        CHECK(first.rfind("POST /v1/metrics HTTP/1.1\r\n", 0) == 0 && first.find("X-Shop: one\r\n") != std::string::npos);
+        CHECK(first.find("Content-Type: application/x-protobuf\r\n") != std::string::npos);
+        auto body = [](const std::string &request) { return request.substr(request.find("\r\n\r\n") + 4); };
+        std::vector<Export> brought = Export::of_otlp(body(first));
+        CHECK(brought.size() == 1 && total(brought[0]) == 7);
+        CHECK(server.heard[1].find("Content-Type: application/octet-stream\r\n") != std::string::npos);
+        CHECK(total(Export::decode(body(server.heard[1]))) == 7);
+    }
+    CHECK(throws<std::runtime_error>([&] { HttpExporter("file:///etc/passwd").Export(given); }));
+    HttpExporter::Options split;
+    split.headers = {"A: b\r\nC: d"};
+    CHECK(throws<std::invalid_argument>([&] { HttpExporter("http://127.0.0.1", split); }));
+}
+
+static void http_waits_no_longer_than_it_says() {
+    int listening = socket(AF_INET, SOCK_STREAM, 0);
+    sockaddr_in address{};
+    socklen_t len = sizeof address;
+    address.sin_family = AF_INET;
+    address.sin_addr.s_addr = htonl(INADDR_LOOPBACK);
+    CHECK(bind(listening, reinterpret_cast<sockaddr *>(&address), len) == 0 && listen(listening, 8) == 0);
+    getsockname(listening, reinterpret_cast<sockaddr *>(&address), &len);
+    MeterProvider provider;
+    requests_of(provider)->Add(7);
+    HttpExporter::Options options;
+    options.timeout = SHORT * 10;
+    HttpExporter exporter("http://127.0.0.1:" + std::to_string(ntohs(address.sin_port)), options);
+    auto began = Clock::now();
+    CHECK(throws<std::runtime_error>([&] { exporter.Export(provider.Collect()); }) && Clock::now() - began < LONG);
+    close(listening);
+}
+#endif
+
+int main() {
+    return checked_all({
+        {"it collects once in an interval", it_collects_once_in_an_interval},
+        {"a flush collects now, and a shutdown for the last time", a_flush_collects_now_and_a_shutdown_for_the_last_time},
+        {"the next collection covers an export that failed", the_next_collection_covers_an_export_that_failed},
+        {"a last export that failed is handed back", a_last_export_that_failed_is_handed_back},
+        {"two readers bring the same", two_readers_bring_the_same},
+        {"an export that takes too long is told", an_export_that_takes_too_long_is_told},
+        {"a function that throws anything is told", a_function_that_throws_anything_is_told},
+        {"a hook may ask its provider", a_hook_may_ask_its_provider},
+        {"a provider that is destroyed shuts down", a_provider_that_is_destroyed_shuts_down},
+        {"a file has the newest export", a_file_has_the_newest_export},
+#ifdef WITH_CURL
+        {"http brings an export, and tells what is answered", http_brings_an_export_and_tells_what_is_answered},
+        {"http waits no longer than it says", http_waits_no_longer_than_it_says},
+#endif
+    });
+}

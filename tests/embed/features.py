@@ -1,0 +1,108 @@
+#!/usr/bin/env python3
+"""What each language has of the kit, read off the wrappers' sources.
+
+    features.py              checks: each export is used by each wrapper, or stands in WITHOUT with a sentence that says why not
+    features.py --table      prints the table, as docs/EMBEDDING.md has it below HEADING
+
+Each export stands in a row of FEATURES. A wrapper has a row where it uses all calls of it, and where it has its word. The table of the
+page, where it has one, is the one that is printed. This ends with a status other than 0 where one of these does not hold."""
+import pathlib
+import re
+import sys
+
+TOP = pathlib.Path(__file__).resolve().parents[2]
+sys.path.insert(0, str(TOP / "embed"))
+import exports
+
+PAGE, HEADING = TOP / "docs" / "EMBEDDING.md", "## What each language has"
+# Of each language the files where it calls the library. C is the header itself.
+WRAPPERS = {"C++": "cpp/**/*.hpp", "Rust": "rust/kotskhin/src/**/*.rs", "Go": "go/**/*.go", "Python": "python/kotskhin/**/*.py"}
+# How a wrapper makes a call. In C++ and Rust comments are left out, and a name that is imported is used, or a compiler says so.
+MADE = {"C++": r"\b{}\b", "Rust": r"\b{}\b", "Go": r"\bC\.{}\(", "Python": r"[\".]{}\b"}
+# Calls that the wrapper of a language does not make, and why not.
+WITHOUT = {
+    ("Go", "kit_version"): "cgo compiles it with the header of the library that it links",
+    ("C++", "kit_version"): "it is a header, compiled with that of the library",
+    ("Rust", "kit_version"): "kotskhin-sys tells the version of the header that it was made with",
+    ("Rust", "kit_code_text"): "the texts stand in the sources that are made",
+    ("Go", "kit_code_text"): "the texts stand in declared.go, which is made",
+}
+# A row: what it is, its calls (a * at the end stands for what follows), and a word that a wrapper has beside them, where it has it.
+FEATURES = [
+    ("sets of texts, whole numbers and truths", "kit_pairs_add_* kit_attributes_make kit_free", ""),
+    ("a set read back, pair by pair", "kit_attributes_len kit_attributes_key kit_attributes_value kit_attributes_text", ""),
+    ("plans of several scopes, with a limit", "kit_instruments_add kit_plan_build", ""),
+    ("views", "kit_view_* kit_views_add kit_keys_add", ""),
+    ("recording by a set and by a number", "kit_writer_measure kit_writer_hold kit_writer_measure_held", ""),
+    ("collecting, shutting down, beginning anew", "kit_writer_start kit_writer_collect kit_writer_shutdown kit_writer_restart", ""),
+    ("recorders of threads", "kit_recorder_* kit_writer_take_in", ""),
+    ("seats", "kit_writer_share kit_seat_*", ""),
+    ("gateways, merged and compared", "kit_gateway_open kit_gateway_take kit_gateway_merge kit_gateway_same kit_gateway_conflicts", ""),
+    ("whether a collection came", "kit_gateway_newest", ""),
+    ("whose an export is; a gateway's id and size", "kit_export_read kit_export_service kit_gateway_read kit_message_read", ""),
+    ("of whom there are points", "kit_gateway_incarnations kit_message_incarnations kit_incarnations_*", ""),
+    ("asks of each shape, of a service, by keys", "kit_ask_*", ""),
+    ("streams of a plan and of a gateway", "kit_plan_streams kit_gateway_streams kit_streams_* kit_default_bounds", ""),
+    ("tables", "kit_gateway_rows kit_rows_table kit_text_copy", ""),
+    ("rows as data, with attributes and wide totals", "kit_rows_*", ""),
+    ("nodes and messages", "kit_node_* kit_message_gateway", ""),
+    ("bytes of exports", "kit_export_encode kit_export_decode kit_bytes_copy", ""),
+    ("bytes of messages, and of gateways", "kit_message_encode kit_message_decode kit_gateway_encode", ""),
+    ("requests of OTLP", "kit_export_otlp", ""),
+    ("exports of requests of OTLP", "kit_exports_*", ""),
+    ("pages for Prometheus", "kit_gateway_openmetrics kit_gateway_prometheus", ""),
+    ("refusals by name, with both places", "kit_version kit_code_text", ""),
+    ("an instance that is drawn anew", "", r"unique_?instance"),
+    ("providers, meters and instruments", "", r"MeterProvider"),
+    ("refused recordings told to a hook", "", r"on_?refused"),
+    ("a periodic reader", "", r"Periodic\w*Reader"),
+    ("exports into files and by HTTP", "", r"(?s)File_?Exporter.*Http_?Exporter|Http_?Exporter.*File_?Exporter"),
+]
+
+
+def sources(pattern):
+    """What a wrapper says."""
+    files = [it for it in sorted((TOP / "embed").glob(pattern)) if not it.stem.endswith("_test") and "declared" not in it.stem]
+    text = "\n".join(it.read_text(encoding="utf-8") for it in files)
+    return re.sub(r"^\s*//.*$", "", text, flags=re.M)
+
+
+def of_row(words, there):
+    """The calls of a row."""
+    return {it for word in words.split() for it in there if it == word or word.endswith("*") and it.startswith(word[:-1])}
+
+
+def main():
+    there = {it.name for it in exports.exports()}
+    texts = {language: sources(pattern) for language, pattern in WRAPPERS.items()}
+    lacks = {language: {it for it in there if not re.search(MADE[language].format(it), text)} for language, text in texts.items()}
+    table, covered, wrong = [], set(), []
+    for what, words, word in FEATURES:
+        calls = of_row(words, there)
+        covered |= calls
+        if words and not calls:
+            continue
+        row = [f"| {what} | {'yes' if words else 'no'} |"]
+        for language, text in texts.items():
+            missing = {it for it in calls & lacks[language] if (language, it) not in WITHOUT}
+            is_there = not missing and (not word or re.search(word, text, re.I))
+            row.append(f" {'yes' if is_there else 'part' if calls - missing and words else 'no'} |")
+        table.append("".join(row))
+    wrong += [f"FEATURES has no row of {it}" for it in sorted(there - covered)]
+    for language, calls in lacks.items():
+        wrong += [f"{language} does not use {it}, and WITHOUT does not say why" for it in sorted(calls) if (language, it) not in WITHOUT]
+    wrong += [f"{language} uses {it}, and WITHOUT says that it does not" for language, it in WITHOUT if it in there - lacks[language]]
+    head = [f"| What | C | {' | '.join(WRAPPERS)} |", f"|{'---|' * (len(WRAPPERS) + 2)}"]
+    made = "\n".join([*head, *table])
+    page = PAGE.read_text(encoding="utf-8")
+    if HEADING in page and made not in page:
+        wrong.append(f"{PAGE.name}: the table is not what features.py --table prints")
+    if "--table" in sys.argv:
+        print(made)
+        return 0
+    print("\n".join(wrong) or f"{len(there)} calls: each is used in {', '.join(WRAPPERS)}, or it is said why not")
+    return 1 if wrong else 0
+
+
+if __name__ == "__main__":
+    sys.exit(main())

@@ -1,0 +1,68 @@
+#!/usr/bin/env python3
+"""The Rust crates beside their tests: laid out, without warnings, packed, and as docs/RUST.md says.
+
+    run.py FOLDER TARGET WHAT     FOLDER is what embed/build made, TARGET a folder for cargo; WHAT is clean, package or page
+
+clean: `cargo fmt`, `cargo clippy` where they are, and `cargo doc` say nothing. package: `cargo package` packs both crates, and builds
+what it packed. page: the first program of docs/RUST.md is the crate's example, and prints what that page says. It ends with a status
+other than 0 where one does not hold."""
+import os
+import pathlib
+import re
+import shutil
+import subprocess
+import sys
+import tempfile
+
+TOP = pathlib.Path(__file__).resolve().parents[3]
+RUST = TOP / "embed" / "rust"
+SECONDS = 500
+
+
+class Crates:
+    """The workspace, over a kit."""
+
+    def __init__(self, kit, target):
+        self.env = {**os.environ, "KOTSKHIN_LIB": f"{kit}/lib", "CARGO_TARGET_DIR": str(target)}
+        self.env |= {"RUSTFLAGS": "-D warnings", "RUSTDOCFLAGS": "-D warnings"}
+
+    def cargo(self, *words):
+        command = ["cargo", *words]
+        told = subprocess.run(command, cwd=RUST, env=self.env, stdin=subprocess.DEVNULL, capture_output=True, timeout=SECONDS, check=False)
+        if told.returncode:
+            sys.exit(f"{' '.join(command)}: status {told.returncode}\n{(told.stdout + told.stderr).decode(errors='replace')}")
+        return told.stdout.decode()
+
+    def clean(self):
+        for word, program in (("fmt", "rustfmt"), ("clippy", "cargo-clippy")):
+            if not shutil.which(program):
+                print(f"there is no {program}")
+        if shutil.which("rustfmt"):
+            self.cargo("fmt", "--check")
+        if shutil.which("cargo-clippy"):
+            self.cargo("clippy", "-q", "--offline", "--locked", "--all-targets", "--", "-D", "warnings")
+        self.cargo("doc", "-q", "--offline", "--locked", "--no-deps", "-p", "kotskhin", "-p", "kotskhin-sys")
+
+    def package(self):
+        # (cargo keeps what it unpacked, by its version: a home of this run's own has nothing of another run's)
+        with tempfile.TemporaryDirectory() as home:
+            self.env["CARGO_HOME"] = home
+            self.cargo("package", "-q", "--offline", "--locked", "--allow-dirty", "-p", "kotskhin-sys", "-p", "kotskhin")
+
+    def page(self):
+        text = (TOP / "docs" / "RUST.md").read_text(encoding="utf-8")
+        program, printed = (re.search(rf"^```{kind}\n(.*?)^```$", text, re.M | re.S)[1] for kind in ("rust", "text"))
+        if program != (RUST / "kotskhin" / "examples" / "otel.rs").read_text(encoding="utf-8").split("\n", 1)[1]:
+            sys.exit("docs/RUST.md: its first program is not embed/rust/kotskhin/examples/otel.rs")
+        if (told := self.cargo("run", "-q", "--offline", "--locked", "--example", "otel")) != printed:
+            sys.exit(f"docs/RUST.md: its first program prints\n{told}")
+
+
+def main():
+    kit, target, what = pathlib.Path(sys.argv[1]).resolve(), pathlib.Path(sys.argv[2]).resolve(), sys.argv[3]
+    {"clean": Crates.clean, "package": Crates.package, "page": Crates.page}[what](Crates(kit, target))
+    return 0
+
+
+if __name__ == "__main__":
+    sys.exit(main())

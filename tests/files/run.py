@@ -1,0 +1,223 @@
+#!/usr/bin/env python3
+"""What `otm` does on files: its tables, pages, requests and states, its refusals, and what docs/FILES.md shows.
+
+    tests/files/run.py [PROGRAM..]      these programs in place of those that lie in crates/otm/out
+
+The files are written by kept.py, from docs/BYTES.md alone. Each row has words, the status that they end with, and what both streams get. The blocks of
+docs/FILES.md that are fenced as `console` are run too, over the files that the page names: a line `$ otm ..`, and below it what is printed.
+The state that `otm merge` writes must be, byte for byte, the message that kept.py makes of the same cells, and `otm otlp` must write what the crate's tests
+hold `encode_otlp` to.
+
+This ends with a status other than 0 where one is not as told, or where there is no program."""
+import pathlib
+import re
+import shlex
+import subprocess
+import sys
+import tempfile
+
+sys.dont_write_bytecode = True
+import kept
+
+HERE = pathlib.Path(__file__).resolve().parent
+TOP = HERE.parents[1]
+PAGE = TOP / "docs" / "FILES.md"
+BYTES = TOP / "docs" / "BYTES.md"
+BUILDS = ("otm", "otm.by-rattle")
+SECONDS = 60
+
+SALES = ("app", "sales", "1", "sum+")
+LATENCY = ("app", "latency", "ms", (0, 5, 10))
+HEAT = ("", "heat", "C", "gauge")
+TEA, MILK = {"item": "tea"}, {"item": "milk", "size": "1"}
+SHOP, TILL = ("shop", 7), ("till", 8)
+
+EXAMPLE = kept.export(*SHOP, 100, 200, [(SALES, TEA, 6), (SALES, MILK, 3)])
+LATER = kept.export(*SHOP, 100, 300, [(SALES, TEA, 10)])
+OTHER = kept.export(*TILL, 50, 250, [(SALES, TEA, 5), (LATENCY, {}, (12, [0, 2, 1, 0], (3, 6))), (HEAT, {"room": "a b"}, -4)])
+TWIN = kept.export(*SHOP, 100, 200, [(SALES, TEA, 7)])
+EMPTY = kept.export("a\nb \\", 1, 0, 18446744073709551615, [])
+STATE = kept.message(3, 3, [(SHOP, 100, SALES, MILK, 200, 3), (SHOP, 100, SALES, TEA, 300, 10)])
+DELTA = kept.message(1, 2, [(SHOP, 100, SALES, MILK, 200, 3), (SHOP, 100, SALES, TEA, 200, 6)], 1)
+CONFLICT = kept.message(1, 1, [(SHOP, 100, SALES, TEA, 200, None)])
+FALLING = kept.export(*SHOP, 100, 200, [(SALES, TEA, -1)])
+WIDE = kept.export(*SHOP, 100, 200, [(("app", "wide", "1", (2**53, 2**53 + 1)), {}, (0, [0, 0, 0], None))])
+
+FILES = {
+    "a.ktsk": EXAMPLE,
+    "later.ktsk": LATER,
+    "b.ktsk": OTHER,
+    "twin.ktsk": TWIN,
+    "empty.ktsk": EMPTY,
+    "three.ktsm": STATE,
+    "delta.ktsm": DELTA,
+    "conflict.ktsm": CONFLICT,
+    "ack.ktsm": kept.ack(2, 1, 9),
+    "falling.ktsk": FALLING,
+    "wide.ktsk": WIDE,
+    "cut.ktsk": EXAMPLE[:-1],
+    "torn.ktsk": EXAMPLE[:30] + b"x" + EXAMPLE[31:],
+    "two.ktsk": EXAMPLE + LATER,
+    "text.txt": b"no export\n",
+    "nothing": b"",
+}
+
+ASK = ["report", "app", "sales", "1", "sum+", "*", "-", "*"]
+TABLE = b"""attributes              points  conflicts  total
+{item="milk",size="1"}       1          0  3
+{item="tea"}                 1          0  %d
+"""
+BOTH = TABLE.replace(b"1          0  %d", b"2          0  11")
+ALONE = b"""attributes    points  conflicts  total
+{item="tea"}       1          %d  %s
+"""
+KEPT_SUMS = b"""attributes  points  conflicts  total
+{}               3          0  14
+"""
+
+# By its name what the program is given, words and input, and what it must do: its status, its standard output, its standard error.
+ROWS = {
+    "an export": ([*ASK, "a.ktsk"], b"", 0, TABLE % 6, b""),
+    "the input": ([*ASK, "-"], EXAMPLE, 0, TABLE % 6, b""),
+    "an export twice": ([*ASK, "a.ktsk", "a.ktsk"], b"", 0, TABLE % 6, b""),
+    "a later export": ([*ASK, "a.ktsk", "later.ktsk"], b"", 0, TABLE % 10, b""),
+    "a later export, before": ([*ASK, "later.ktsk", "a.ktsk"], b"", 0, TABLE % 10, b""),
+    "two writers": ([*ASK, "a.ktsk", "b.ktsk"], b"", 0, BOTH, b""),
+    "two writers in one row": ([*ASK[:-1], "-", "b.ktsk", "later.ktsk", "-"], DELTA, 0, KEPT_SUMS.replace(b"14", b"18"), b""),
+    "one service": ([*ASK[:5], "till", *ASK[6:], "a.ktsk", "b.ktsk"], b"", 0, ALONE % (0, b"5"), b""),
+    "a pair": ([*ASK[:6], "item=tea", "*", "a.ktsk"], b"", 0, ALONE % (0, b"6"), b""),
+    "a state": ([*ASK, "three.ktsm"], b"", 0, TABLE % 10, b""),
+    "a delta": ([*ASK, "delta.ktsm"], b"", 0, TABLE % 6, b""),
+    "an Ack": ([*ASK, "ack.ktsm"], b"", 0, b"attributes  points  conflicts  total\n", b""),
+    "a message's conflict": ([*ASK, "conflict.ktsm"], b"", 0, b'attributes    points  conflicts  total\n{item="tea"}       0          1  0\n', b""),
+    "a shared identity": ([*ASK, "a.ktsk", "twin.ktsk"], b"", 0, TABLE.replace(b"1          0  %d", b"0          1  0"), b""),
+    "a stream that is not there": ([*ASK[:4], "sum", *ASK[5:], "a.ktsk"], b"", 0, b"attributes  points  conflicts  total\n", b""),
+    "no file": ([*ASK, "none"], b"", 4, b"", b"read failed: none\n"),
+    "a folder": ([*ASK, "a.ktsk", "."], b"", 4, b"", b"read failed: .\n"),
+    "nothing": ([*ASK, "nothing"], b"", 1, b"", b"nothing: the bytes end at 0, too early\n"),
+    "a text": ([*ASK, "a.ktsk", "text.txt", "cut.ktsk"], b"", 1, b"", b"text.txt: byte 0 is not that of what is read\n"),
+    "a cut file": ([*ASK, "cut.ktsk", "text.txt"], b"", 1, b"", b"cut.ktsk: the bytes end at %d, too early\n" % (len(EXAMPLE) - 1)),
+    "a torn file": ([*ASK, "torn.ktsk"], b"", 1, b"", b"torn.ktsk: the checksum at byte %d is not that of the bytes before it\n" % (len(EXAMPLE) - 4)),
+    "two exports in one file": ([*ASK, "two.ktsk"], b"", 1, b"", b"two.ktsk: the value at byte %d is not in its one form\n" % len(EXAMPLE)),
+    "a sum that fell": ([*ASK, "falling.ktsk"], b"", 1, b"", None),
+    "no shape": ([*ASK[:4], "sum-", *ASK[5:], "a.ktsk"], b"", 2, b"", b"'sum-' is no shape: a shape is sum+, sum, gauge, hist, or hist: and values with commas between\n"),
+    "two words in one": (["report", "app x", *ASK[2:], "a.ktsk"], b"", 2, b"", b"'report' wants a gateway, a scope, a name, a unit, a shape, a service, attributes and keys to keep\n"),
+    "an empty word": (["report", "", *ASK[2:], "a.ktsk"], b"", 2, b"", b"a line has one space between two words, and none at its ends\n"),
+    "an ask without a file": (ASK, b"", 2, b"", None),
+    "expose without a file": (["expose"], b"", 2, b"", None),
+    "merge without an output": (["merge", "a.ktsk"], b"", 2, b"", None),
+    "a request of a message": (["otlp", "a.ktsk", "delta.ktsm"], b"", 1, b"", b"delta.ktsm: byte 3 is not that of what is read\n"),
+    "a request of bounds that are one double": (["otlp", "a.ktsk", "wide.ktsk", "text.txt"], b"", 1, b"", b"wide.ktsk: the bounds of point 0 do not rise as doubles\n"),
+    "an export shown": (["show", "a.ktsk"], b"", 0, b"a.ktsk: export of shop 00000000-0000-0000-0000-000000000007, start 100, time 200\napp sales 1 sum+\n" + TABLE % 6, b""),
+    "odd names": (["show", "empty.ktsk"], b"", 0, b"empty.ktsk: export of a\\x0ab\\x20\\\\ 00000000-0000-0000-0000-000000000001, start 0, time 18446744073709551615\n", b""),
+    "messages shown": (["show", "ack.ktsm", "conflict.ktsm"], b"", 0, b'ack.ktsm: ack 9 of gateway 2, for 1\nconflict.ktsm: state of gateway 1, for 1\napp sales 1 sum+\nattributes    points  conflicts  total\n{item="tea"}       0          1  0\n', b""),
+    "streams shown": (["show", "b.ktsk"], b"", 0, b"""b.ktsk: export of till 00000000-0000-0000-0000-000000000008, start 50, time 250
+- heat C gauge
+attributes    points  conflicts  total
+{room="a b"}       1          0  -4@250
+app latency ms hist:0,5,10
+attributes  points  conflicts  total
+{}               1          0  count=3 sum=12 buckets=0,2,1,0 min=3 max=6
+app sales 1 sum+
+attributes    points  conflicts  total
+{item="tea"}       1          0  5
+""", b""),
+    "nothing is shown of a file before a bad one": (["show", "a.ktsk", "text.txt"], b"", 1, b"", b"text.txt: byte 0 is not that of what is read\n"),
+    "an output that no file can have": (["merge", "-o", "none/x", "a.ktsk"], b"", 4, b"", b"write failed\n"),
+}
+
+
+def ran(program, folder, words, given=b""):
+    # (its texts call it by its first word, whichever build it is)
+    it = subprocess.run(["otm", *words], executable=program, cwd=folder, input=given, capture_output=True, timeout=SECONDS)
+    return it.returncode, it.stdout, it.stderr
+
+
+def differs(did, wanted):
+    """What a run did otherwise than told, or an empty text. Of a stream that is not told only that it says something."""
+    same = all(here == there or there is None and here for here, there in zip(did, wanted))
+    return "" if same else f"status {did[0]}, wrote {did[1]!r}, and on the standard error {did[2]!r}"
+
+
+def states(program, folder):
+    """What `otm merge` writes, into a file and to the standard output, and what it leaves."""
+    merged = kept.message(0, 0, [
+        (SHOP, 100, SALES, MILK, 200, 3), (SHOP, 100, SALES, TEA, 300, 10),
+        (TILL, 50, HEAT, {"room": "a b"}, 250, -4), (TILL, 50, LATENCY, {}, 250, (12, [0, 2, 1, 0], (3, 6))), (TILL, 50, SALES, TEA, 250, 5),
+    ])
+    for name, files in {"a state of three files": ["a.ktsk", "b.ktsk", "later.ktsk"], "of states": ["three.ktsm", "delta.ktsm", "b.ktsk"]}.items():
+        yield name, differs(ran(program, folder, ["merge", "-o", "-", *files]), (0, merged, b""))
+        yield f"{name}, kept", differs(ran(program, folder, ["merge", "--output", "all.ktsm", *files]), (0, b"", b""))
+        yield f"{name}, read again", "" if (folder / "all.ktsm").read_bytes() == merged else "other bytes"
+        yield f"{name}, merged alone", differs(ran(program, folder, ["merge", "-o", "-", "all.ktsm"]), (0, merged, b""))
+    conflict = kept.message(0, 0, [(SHOP, 100, SALES, MILK, 200, 3), (SHOP, 100, SALES, TEA, 200, None)])
+    yield "a state with a conflict", differs(ran(program, folder, ["merge", "-o", "-", "twin.ktsk", "a.ktsk"]), (0, conflict, b""))
+    before = (folder / "all.ktsm").read_bytes()
+    yield "a state of a bad file", differs(ran(program, folder, ["merge", "-o", "all.ktsm", "a.ktsk", "text.txt"]), (1, b"", None))
+    yield "what stays then", "" if (folder / "all.ktsm").read_bytes() == before else "another file"
+    (folder / "all.ktsm").unlink()
+    yield "files besides", "" if {it.name for it in folder.iterdir()} == set(FILES) else f"{sorted(it.name for it in folder.iterdir())}"
+
+
+def requests(program, folder):
+    """What `otm otlp` writes: the request of each export, one behind the other."""
+    one, other = (ran(program, folder, ["otlp", name]) for name in ("a.ktsk", "b.ktsk"))
+    yield "a request", "" if one[0] == 0 and one[1][:1] == b"\x0a" and b"service.name" in one[1] and not one[2] else f"{one}"
+    yield "two requests", differs(ran(program, folder, ["otlp", "a.ktsk", "b.ktsk"]), (0, one[1] + other[1], b""))
+
+
+def pages(program, folder):
+    """What `otm expose` writes."""
+    lines = b'sales_total{item="tea",otel_scope_name="app",service_name="%s"} %d\n'
+    for words, service, here, end in ((["expose"], None, b"# TYPE sales_total counter\n", b""), (["expose", "--openmetrics", "--service", "till"], b"till", b"# TYPE sales counter\n", b"# EOF\n")):
+        status, page, said = ran(program, folder, [*words, "a.ktsk", "b.ktsk"])
+        shown = here in page and lines % (b"till", 5) in page and (lines % (b"shop", 6) in page) == (service is None) and page.endswith(end or b"\n")
+        yield " ".join(words), "" if (status, said) == (0, b"") and shown else f"status {status}, wrote {page!r}, and on the standard error {said!r}"
+
+
+def told_bytes():
+    """The bytes of the worked example of docs/BYTES.md."""
+    rows = re.findall(r"^\| ([0-9 ,]+) \| ", BYTES.read_text().split("## A worked example")[1].split("\n## ")[0], re.M)
+    return bytes(int(it) for row in rows for it in re.findall(r"[0-9]+", row))
+
+
+def blocks():
+    """The words of each example of the page, and what it shows."""
+    for block in re.findall(r"^```console\n(.*?)^```$", PAGE.read_text(), re.S | re.M):
+        for part in block.split("$ otm ")[1:]:
+            words, shown = part.split("\n", 1)
+            yield shlex.split(words), shown.encode()
+
+
+def cases(program, folder):
+    for name, (words, given, *wanted) in ROWS.items():
+        yield name, differs(ran(program, folder, words, given), wanted)
+    yield from pages(program, folder)
+    yield from requests(program, folder)
+    yield from states(program, folder)
+    for words, shown in blocks():
+        status, text, said = ran(program, folder, words)
+        # (a shell shows both streams; help ends with a blank line)
+        yield f"{PAGE.name}: otm {shlex.join(words)}", "" if (text + said).rstrip() == shown.rstrip() else f"status {status}, {text + said!r}"
+
+
+def main():
+    given = [pathlib.Path(it).resolve() for it in sys.argv[1:]]
+    programs = given or [path for path in (TOP / "crates" / "otm" / "out" / name for name in BUILDS) if path.is_file()]
+    failed = not programs
+    if failed:
+        print("NO PROGRAM: rt ci, or rt run in crates/otm, makes it")
+    failed = failed or told_bytes() != EXAMPLE
+    print(f"the worked example: {'as told' if told_bytes() == EXAMPLE else 'OTHER BYTES'}")
+    for program in programs:
+        with tempfile.TemporaryDirectory() as folder:
+            folder = pathlib.Path(folder)
+            for name, content in FILES.items():
+                (folder / name).write_bytes(content)
+            for name, told in cases(program, folder):
+                failed = failed or bool(told)
+                print(f"{program.name}: {name}: {'NOT AS TOLD: ' + told if told else 'as told'}")
+    return int(failed)
+
+
+sys.exit(main())
