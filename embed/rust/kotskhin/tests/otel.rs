@@ -287,15 +287,17 @@ fn nothing_is_lost_between_threads() -> Done {
         .build();
     let requests = requests(&provider);
     let collected = thread::scope(|scope| {
-        for of in 0..THREADS {
-            let requests = &requests;
-            scope.spawn(move || {
-                for turn in 0..EACH {
-                    let n = i64::try_from((turn * THREADS + of) % 500).unwrap_or(0);
-                    requests.add(1, &[KeyValue::new("n", n), KeyValue::new("of", "all")]);
-                }
-            });
-        }
+        let recording: Vec<_> = (0..THREADS)
+            .map(|of| {
+                let requests = &requests;
+                scope.spawn(move || {
+                    for turn in 0..EACH {
+                        let n = i64::try_from((turn * THREADS + of) % 500).unwrap_or(0);
+                        requests.add(1, &[KeyValue::new("n", n), KeyValue::new("of", "all")]);
+                    }
+                })
+            })
+            .collect();
         let collecting = scope.spawn(|| {
             let mut last = 0;
             for _ in 0..50 {
@@ -307,6 +309,8 @@ fn nothing_is_lost_between_threads() -> Done {
             }
             Ok::<i128, Error>(last)
         });
+        // (the end of a scope waits for what threads do, and not for what they give up: a thread's log is taken in as it ends)
+        assert!(recording.into_iter().all(|it| it.join().is_ok()));
         collecting.join()
     });
     assert!(collected.is_ok_and(|it| it.is_ok()));
