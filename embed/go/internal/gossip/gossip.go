@@ -1,0 +1,228 @@
+// Package gossip tells other gateways what they have not: to each peer a delta, again and again, whose answer is handed back.
+//
+// A peer that is away is asked with growing pauses. Nothing is kept for it meanwhile: what it has not, the node knows by a number.
+package gossip
+
+import (
+	"context"
+	"crypto/tls"
+	"net"
+	"net/http"
+	"net/url"
+	"sort"
+	"strings"
+	"sync"
+	"time"
+
+	"kotskhin/internal/held"
+	"kotskhin/internal/logs"
+)
+
+// Gossip is what gateways tell each other, from the side of one.
+type Gossip struct {
+	Held    *held.Held
+	Log     *logs.Logger
+	Process string
+	// Peers are URLs, and names with a port, which are looked up again and again: each address is a peer then.
+	Peers                                    []string
+	Interval, LongestPause, Timeout, Refresh time.Duration
+	Token                                    string
+	// TLS says how to speak to peers that are looked up, and to those by https; nil without TLS.
+	TLS *tls.Config
+
+	began time.Time
+	lock  sync.Mutex
+	peers map[string]*peer
+	heard map[uint32]bool
+	ended sync.WaitGroup
+}
+
+// Begin begins to speak to the peers, until the context ends.
+func (g *Gossip) Begin(ctx context.Context) {
+	g.began, g.peers, g.heard = time.Now(), map[string]*peer{}, map[uint32]bool{}
+	names := g.named()
+	g.set(ctx, g.found(ctx, names))
+	if len(names) == 0 {
+		return
+	}
+	g.ended.Add(1)
+	go func() {
+		defer g.ended.Done()
+		for ctx.Err() == nil {
+			sleep(ctx, g.Refresh)
+			g.set(ctx, g.found(ctx, names))
+		}
+	}()
+}
+
+// Wait returns once nothing is said any more.
+func (g *Gossip) Wait() { g.ended.Wait() }
+
+// named are the peers that are to be looked up.
+func (g *Gossip) named() (names []string) {
+	for _, it := range g.Peers {
+		if !strings.Contains(it, "://") {
+			names = append(names, it)
+		}
+	}
+	return names
+}
+
+// A target is a URL to speak to, and the name under which it was looked up.
+type target struct{ url, name string }
+
+// found are all peers as they are now. A name that can't be looked up keeps those that it had.
+func (g *Gossip) found(ctx context.Context, names []string) []target {
+	var all []target
+	for _, it := range g.Peers {
+		if strings.Contains(it, "://") {
+			all = append(all, target{url: strings.TrimRight(it, "/")})
+		}
+	}
+	scheme := "http"
+	if g.TLS != nil {
+		scheme = "https"
+	}
+	for _, it := range names {
+		host, port, _ := net.SplitHostPort(it)
+		addresses, err := net.DefaultResolver.LookupHost(ctx, host)
+		if err != nil && ctx.Err() == nil {
+			g.Log.Warn("a name of peers can't be looked up", "name", host, "why", err)
+			all = append(all, g.under(host)...)
+		}
+		for _, address := range addresses {
+			all = append(all, target{(&url.URL{Scheme: scheme, Host: net.JoinHostPort(address, port)}).String(), host})
+		}
+	}
+	return all
+}
+
+func (g *Gossip) under(name string) (all []target) {
+	g.lock.Lock()
+	defer g.lock.Unlock()
+	for url, it := range g.peers {
+		if it.name == name {
+			all = append(all, target{url, name})
+		}
+	}
+	return all
+}
+
+// set begins to speak to peers that are new, and ends with those that are gone.
+func (g *Gossip) set(ctx context.Context, all []target) {
+	g.lock.Lock()
+	defer g.lock.Unlock()
+	wanted := map[string]bool{}
+	for _, it := range all {
+		wanted[it.url] = true
+		if g.peers[it.url] == nil && ctx.Err() == nil {
+			g.peers[it.url] = g.start(ctx, it)
+		}
+	}
+	for url, it := range g.peers {
+		if !wanted[url] {
+			g.Log.Info("a peer is gone", "peer", url)
+			it.end()
+			it.client.CloseIdleConnections()
+			delete(g.peers, url)
+		}
+	}
+}
+
+func (g *Gossip) start(ctx context.Context, to target) *peer {
+	transport := &http.Transport{
+		MaxIdleConnsPerHost: 1, IdleConnTimeout: 90 * time.Second, TLSHandshakeTimeout: g.Timeout,
+		DialContext: (&net.Dialer{Timeout: g.Timeout}).DialContext,
+	}
+	if g.TLS != nil {
+		transport.TLSClientConfig = g.TLS.Clone()
+		transport.TLSClientConfig.ServerName = to.name
+	}
+	ctx, end := context.WithCancel(ctx)
+	made := &peer{url: to.url, name: to.name, client: &http.Client{Transport: transport}, wake: make(chan struct{}, 1), end: end}
+	// (a POST would be made a GET, which brings nothing and succeeds)
+	made.client.CheckRedirect = func(*http.Request, []*http.Request) error { return http.ErrUseLastResponse }
+	g.ended.Add(1)
+	go func() {
+		defer g.ended.Done()
+		g.run(ctx, made)
+	}()
+	return made
+}
+
+func (g *Gossip) all() []*peer {
+	g.lock.Lock()
+	defer g.lock.Unlock()
+	made := make([]*peer, 0, len(g.peers))
+	for _, it := range g.peers {
+		made = append(made, it)
+	}
+	sort.Slice(made, func(i, j int) bool { return made[i].url < made[j].url })
+	return made
+}
+
+// States are the peers as they are, by their URLs.
+func (g *Gossip) States() []State {
+	states := []State{}
+	for _, it := range g.all() {
+		states = append(states, it.state(g.began))
+	}
+	return states
+}
+
+// Heard notes that a message of another gateway was taken in. One that was not heard before may be a peer that came back, so those that are
+// away are asked at once.
+func (g *Gossip) Heard(from uint32) {
+	g.lock.Lock()
+	isNew := !g.heard[from]
+	if isNew {
+		// (ids come from whoever may send messages; more than these are none of gateways that live)
+		if len(g.heard) >= 1<<16 {
+			g.heard = map[uint32]bool{}
+		}
+		g.heard[from] = true
+	}
+	g.lock.Unlock()
+	if !isNew {
+		return
+	}
+	for _, it := range g.all() {
+		if it.read().failures > 0 {
+			it.awaken()
+		}
+	}
+}
+
+// Unheard are the peers that were reached, or not tried yet, and whose messages have not come: what they hold may be more than this gateway
+// has.
+func (g *Gossip) Unheard() (urls []string) {
+	for _, it := range g.all() {
+		known := it.read()
+		g.lock.Lock()
+		isHeard := g.heard[known.id]
+		g.lock.Unlock()
+		if known.isSelf || known.failures > 0 || known.process != "" && isHeard {
+			continue
+		}
+		urls = append(urls, it.url)
+	}
+	return urls
+}
+
+// Last tells each peer that is near what it has not, once more, before the gateway ends.
+func (g *Gossip) Last(ctx context.Context) {
+	var ended sync.WaitGroup
+	for _, it := range g.all() {
+		if known := it.read(); known.isSelf || known.failures > 0 || known.process == "" {
+			continue
+		}
+		ended.Add(1)
+		go func(it *peer) {
+			defer ended.Done()
+			if err := g.exchange(ctx, it); err != nil {
+				g.Log.Warn("a peer was not told the last of it", "peer", it.url, "why", err)
+			}
+		}(it)
+	}
+	ended.Wait()
+}

@@ -1,0 +1,245 @@
+package gossip
+
+import (
+	"context"
+	"errors"
+	"fmt"
+	"math/rand"
+	"net/http"
+	"strings"
+	"sync"
+	"time"
+)
+
+// A peer is another gateway, as this one reaches it.
+type peer struct {
+	url string
+	// The name under which it was looked up, which its certificate has.
+	name   string
+	client *http.Client
+	wake   chan struct{}
+	end    context.CancelFunc
+
+	lock sync.Mutex
+	told told
+}
+
+// told is what is known of a peer.
+type told struct {
+	id       uint32
+	process  string
+	isSelf   bool
+	failures int
+	err      error
+	// When an exchange began that ended well, and how many did and did not.
+	acked                      time.Time
+	exchanges, allFailed, sent uint64
+}
+
+// State is what a peer is at the moment.
+type State struct {
+	URL     string  `json:"url"`
+	ID      uint32  `json:"id,omitempty"`
+	State   string  `json:"state"`
+	Lag     float64 `json:"lag_seconds"`
+	Sent    uint64  `json:"messages"`
+	Failed  uint64  `json:"failed"`
+	Failure string  `json:"failure,omitempty"`
+}
+
+// States of a peer.
+const (
+	New  = "new"
+	Near = "near"
+	Away = "away"
+	Self = "self"
+)
+
+func (p *peer) read() told {
+	p.lock.Lock()
+	defer p.lock.Unlock()
+	return p.told
+}
+
+func (p *peer) note(change func(it *told)) {
+	p.lock.Lock()
+	defer p.lock.Unlock()
+	change(&p.told)
+}
+
+func (p *peer) state(began time.Time) State {
+	it := p.read()
+	made := State{URL: p.url, ID: it.id, State: Near, Sent: it.exchanges, Failed: it.allFailed}
+	since := it.acked
+	if since.IsZero() {
+		since = began
+	}
+	made.Lag = time.Since(since).Seconds()
+	switch {
+	case it.isSelf:
+		made.State, made.Lag = Self, 0
+	case it.failures > 0:
+		made.State, made.Failure = Away, it.err.Error()
+	case it.acked.IsZero():
+		made.State = New
+	}
+	return made
+}
+
+// awaken has a peer asked at once.
+func (p *peer) awaken() {
+	select {
+	case p.wake <- struct{}{}:
+	default:
+	}
+}
+
+// pause is how long it is to the next message: the interval, and longer with each failure in a row, up to the longest pause.
+func (g *Gossip) pause(failures int) time.Duration {
+	pause := g.Interval
+	for turn := 0; turn < failures && pause < g.LongestPause; turn++ {
+		pause *= 2
+	}
+	if failures > 0 && pause > g.LongestPause {
+		pause = g.LongestPause
+	}
+	// (so that gateways which began together do not go on together)
+	return pause*3/4 + time.Duration(rand.Int63n(int64(pause)/2+1))
+}
+
+// run tells a peer what it has not, again and again, until the context ends.
+func (g *Gossip) run(ctx context.Context, p *peer) {
+	for {
+		began := time.Now()
+		err := g.exchange(ctx, p)
+		if ctx.Err() != nil {
+			return
+		}
+		g.noted(p, began, err)
+		it := p.read()
+		wait := time.NewTimer(g.pause(it.failures))
+		select {
+		case <-wait.C:
+		case <-p.wake:
+			wait.Stop()
+			// (whoever wakes a peer often does not have it asked more often than in the interval)
+			if left := g.Interval - time.Since(began); left > 0 && it.failures == 0 {
+				sleep(ctx, left)
+			}
+		case <-ctx.Done():
+			wait.Stop()
+			return
+		}
+	}
+}
+
+func sleep(ctx context.Context, length time.Duration) {
+	wait := time.NewTimer(length)
+	defer wait.Stop()
+	select {
+	case <-wait.C:
+	case <-ctx.Done():
+	}
+}
+
+func (g *Gossip) noted(p *peer, began time.Time, err error) {
+	before := p.read().failures
+	p.note(func(it *told) {
+		if err != nil {
+			it.failures++
+			it.allFailed++
+			it.err = err
+			return
+		}
+		it.failures, it.err = 0, nil
+		if !it.isSelf {
+			it.acked = began
+			it.exchanges++
+		}
+	})
+	switch {
+	case err != nil && before == 0:
+		g.Log.Warn("a peer is away", "peer", p.url, "why", err)
+	case err != nil:
+		g.Log.Debug("a peer is still away", "peer", p.url, "why", err, "failures", before+1)
+	case before > 0:
+		g.Log.Info("a peer is back", "peer", p.url, "id", p.read().id, "failures", before)
+	}
+}
+
+// errMoved says that a peer has another id than the one that was asked.
+var errMoved = errors.New("the peer has another id")
+
+// exchange tells a peer what it has not, and takes in its answer.
+func (g *Gossip) exchange(ctx context.Context, p *peer) error {
+	ctx, cancel := context.WithTimeout(ctx, g.Timeout)
+	defer cancel()
+	if it := p.read(); it.process == "" {
+		if err := g.meet(ctx, p); err != nil {
+			return err
+		}
+	}
+	err := g.tell(ctx, p)
+	if !errors.Is(err, errMoved) {
+		return err
+	}
+	if err := g.meet(ctx, p); err != nil {
+		return err
+	}
+	return g.tell(ctx, p)
+}
+
+// meet asks a peer who it is.
+func (g *Gossip) meet(ctx context.Context, p *peer) error {
+	who, err := g.who(ctx, p)
+	if err != nil {
+		return err
+	}
+	if who.ID == g.Held.ID() && who.Process != g.Process {
+		g.Log.Error("two gateways drew one id: start one of them anew", "peer", p.url, "id", who.ID)
+		return fmt.Errorf("%s has the id %d of this gateway", p.url, who.ID)
+	}
+	p.note(func(it *told) { it.id, it.process, it.isSelf = who.ID, who.Process, who.Process == g.Process })
+	g.Log.Info("a peer is met", "peer", p.url, "id", who.ID, "self", who.Process == g.Process)
+	return nil
+}
+
+// tell sends one message to a peer that is known, and hands the answer to the node.
+func (g *Gossip) tell(ctx context.Context, p *peer) error {
+	it := p.read()
+	if it.isSelf {
+		return nil
+	}
+	message, err := g.Held.Tell(it.id)
+	if err != nil {
+		return err
+	}
+	answer, err := g.post(ctx, p, message)
+	if err != nil {
+		return err
+	}
+	p.note(func(it *told) { it.sent += uint64(len(message)) })
+	return g.answered(it.id, message, answer)
+}
+
+// answered hands an answer on, once it is seen to be the Ack of what was sent.
+func (g *Gossip) answered(id uint32, message, answer []byte) error {
+	sent, _ := envelopeOf(message)
+	if sent.kind == kindAll && len(answer) == 0 {
+		return nil
+	}
+	got, isRead := envelopeOf(answer)
+	if !isRead || got.kind != kindAck || got.from != uint64(id) || got.to != uint64(g.Held.ID()) || got.number != sent.number {
+		return errors.New("the answer is not the Ack of what was sent")
+	}
+	return g.Held.Answered(answer)
+}
+
+// short is an answer's text, for a log.
+func short(text []byte) string {
+	const most = 200
+	if len(text) > most {
+		text = text[:most]
+	}
+	return strings.TrimSpace(string(text))
+}

@@ -1,0 +1,188 @@
+package server
+
+import (
+	"net/http"
+	"os"
+	"strconv"
+	"strings"
+	"sync/atomic"
+	"time"
+
+	"kotskhin"
+	"kotskhin/internal/figures"
+	"kotskhin/internal/gossip"
+	"kotskhin/internal/held"
+	"kotskhin/internal/tokens"
+)
+
+const plainText = "text/plain; charset=utf-8"
+
+// looking has a worker call a function with a copy of what is held, and gives the copy up before anything is written.
+func (s *Server) looking(request *http.Request, call func(look *held.Look) error) error {
+	if is, why := s.ready(); !is {
+		return refusal{http.StatusServiceUnavailable, "not_ready", why}
+	}
+	return s.worked(request, func() error {
+		look, err := s.Held.Look()
+		if err != nil {
+			return err
+		}
+		defer look.Done()
+		return call(look)
+	})
+}
+
+// metrics is the page for Prometheus.
+func (s *Server) metrics(w http.ResponseWriter, request *http.Request, _ tokens.Grant) error {
+	isOpenMetrics := strings.Contains(request.Header.Get("Accept"), "application/openmetrics-text")
+	var page string
+	if err := s.looking(request, func(look *held.Look) (err error) {
+		if isOpenMetrics {
+			page, err = look.OpenMetrics()
+		} else {
+			page, err = look.Prometheus()
+		}
+		return err
+	}); err != nil {
+		return err
+	}
+	kind := kotskhin.PrometheusType
+	if isOpenMetrics {
+		kind = kotskhin.OpenMetricsType
+	}
+	return writeText(w, kind, s.Figures.Page(page, isOpenMetrics))
+}
+
+// table is the table that answers an ask.
+func (s *Server) table(w http.ResponseWriter, request *http.Request, _ tokens.Grant) error {
+	var table string
+	if err := s.looking(request, func(look *held.Look) error {
+		ask, _, err := asked(look, request.URL.Query())
+		if err != nil {
+			return err
+		}
+		defer ask.Close()
+		table, err = look.Gateway().Table(ask)
+		return err
+	}); err != nil {
+		return err
+	}
+	return writeText(w, plainText, table)
+}
+
+// rows is the same as data.
+func (s *Server) rows(w http.ResponseWriter, request *http.Request, _ tokens.Grant) error {
+	made := struct {
+		Stream jsonStream `json:"stream"`
+		Rows   []jsonRow  `json:"rows"`
+	}{Rows: []jsonRow{}}
+	if err := s.looking(request, func(look *held.Look) error {
+		ask, stream, err := asked(look, request.URL.Query())
+		if err != nil {
+			return err
+		}
+		defer ask.Close()
+		made.Stream = streamOf(stream)
+		rows, err := look.Gateway().Rows(ask)
+		if err != nil {
+			return err
+		}
+		defer rows.Close()
+		all, err := rows.All()
+		for _, it := range all {
+			made.Rows = append(made.Rows, rowOf(it))
+		}
+		return err
+	}); err != nil {
+		return err
+	}
+	return asJSON(w, made)
+}
+
+// streams lists what may be asked for.
+func (s *Server) streams(w http.ResponseWriter, request *http.Request, _ tokens.Grant) error {
+	made := []jsonStream{}
+	if err := s.looking(request, func(look *held.Look) error {
+		for _, it := range look.Streams {
+			made = append(made, streamOf(it))
+		}
+		return nil
+	}); err != nil {
+		return err
+	}
+	return asJSON(w, map[string]any{"streams": made})
+}
+
+// peers says who this gateway is, and how it stands with the others.
+func (s *Server) peers(w http.ResponseWriter, _ *http.Request, _ tokens.Grant) error {
+	return asJSON(w, gossip.Who{ID: s.Held.ID(), Process: s.Process, Peers: s.Gossip.States()})
+}
+
+func (s *Server) healthz(w http.ResponseWriter, _ *http.Request, _ tokens.Grant) error {
+	return writeText(w, plainText, "alive\n")
+}
+
+func (s *Server) readyz(w http.ResponseWriter, _ *http.Request, _ tokens.Grant) error {
+	if atomic.LoadInt32(&s.draining) != 0 {
+		return refusal{http.StatusServiceUnavailable, "draining", "the gateway is about to end"}
+	}
+	if is, why := s.ready(); !is {
+		return refusal{http.StatusServiceUnavailable, "not_ready", why}
+	}
+	return writeText(w, plainText, "ready\n")
+}
+
+// ready tells whether what is held may be shown. A gateway that has just begun may hold less than it did: then counters would fall, so each
+// peer that can be reached is heard first.
+func (s *Server) ready() (is bool, why string) {
+	if atomic.LoadInt32(&s.isReady) != 0 {
+		return true, ""
+	}
+	unheard := s.Gossip.Unheard()
+	if len(unheard) > 0 && time.Since(s.began) < s.Limits.Patience {
+		return false, "peers were not heard yet: " + strings.Join(unheard, ", ")
+	}
+	atomic.StoreInt32(&s.isReady, 1)
+	return true, ""
+}
+
+// Show sets the figures that are read when a page is made.
+func (s *Server) Show(set func(family, labels string, value float64)) {
+	points, streams := s.Held.Counts()
+	set(figures.Held, "", float64(points))
+	set(figures.Streams, "", float64(streams))
+	set(figures.Started, "", float64(s.began.UnixNano())/1e9)
+	if resident, is := residentBytes(); is {
+		set(figures.Resident, "", resident)
+	}
+	for _, it := range s.Gossip.States() {
+		if it.State == gossip.Self {
+			continue
+		}
+		labels := figures.Labels("peer", it.URL)
+		set(figures.Lag, labels, it.Lag)
+		set(figures.Messages, labels, float64(it.Sent))
+		set(figures.Failed, labels, float64(it.Failed))
+	}
+	if s.Store == nil {
+		return
+	}
+	last := s.Store.Last()
+	if !last.At.IsZero() {
+		set(figures.Saved, "", float64(last.At.UnixNano())/1e9)
+	}
+	set(figures.StateBytes, "", float64(last.Bytes))
+	set(figures.NotSaved, "", float64(last.Failures))
+	set(figures.Journal, "", float64(s.Store.Journal()))
+}
+
+// residentBytes is the memory of this process, where the system tells it.
+func residentBytes() (float64, bool) {
+	told, err := os.ReadFile("/proc/self/statm")
+	words := strings.Fields(string(told))
+	if err != nil || len(words) < 2 {
+		return 0, false
+	}
+	pages, err := strconv.ParseFloat(words[1], 64)
+	return pages * float64(os.Getpagesize()), err == nil
+}

@@ -1,0 +1,194 @@
+package server
+
+import (
+	"encoding/binary"
+	"encoding/json"
+	"fmt"
+	"net/http"
+	"strings"
+
+	"kotskhin"
+	"kotskhin/internal/figures"
+	"kotskhin/internal/gossip"
+	"kotskhin/internal/held"
+	"kotskhin/internal/otlp"
+	"kotskhin/internal/tokens"
+)
+
+// ExportsType is that of a body with several exports: of each the number of its bytes, as a varint, and the bytes.
+const ExportsType = "application/vnd.kotskhin.exports"
+
+// exports takes the kit's own bytes of one export, or of several.
+func (s *Server) exports(w http.ResponseWriter, request *http.Request, grant tokens.Grant) error {
+	var brought *held.Brought
+	if err := s.read(request, s.Limits.Body, func(body []byte) (err error) {
+		parts, isAlone := [][]byte{body}, true
+		if kind, _, _ := strings.Cut(request.Header.Get("Content-Type"), ";"); kind == ExportsType {
+			if parts, err = partsOf(body); err != nil {
+				return err
+			}
+			isAlone = len(parts) == 1
+		}
+		exports, err := decoded(parts)
+		defer closeAll(exports)
+		if err != nil {
+			return err
+		}
+		var kept []byte
+		if isAlone {
+			kept = parts[0]
+		}
+		brought, err = s.take(request, grant, exports, kept)
+		return err
+	}); err != nil {
+		return err
+	}
+	return asJSON(w, map[string]int{"exports": brought.Exports, "points": brought.Points})
+}
+
+func decoded(parts [][]byte) (exports []kotskhin.Export, err error) {
+	for _, part := range parts {
+		export, err := kotskhin.DecodeExport(part)
+		if err != nil {
+			return exports, err
+		}
+		exports = append(exports, export)
+	}
+	return exports, nil
+}
+
+func closeAll(exports []kotskhin.Export) {
+	for _, export := range exports {
+		export.Close()
+	}
+}
+
+func partsOf(body []byte) (parts [][]byte, err error) {
+	for len(body) > 0 {
+		length, size := binary.Uvarint(body)
+		if size <= 0 || length > uint64(len(body)-size) {
+			return nil, refusal{http.StatusBadRequest, "malformed", "the exports of the body are cut"}
+		}
+		end := size + int(length)
+		parts, body = append(parts, body[size:end]), body[end:]
+	}
+	if len(parts) == 0 {
+		return nil, refusal{http.StatusBadRequest, "malformed", "the body has no export"}
+	}
+	return parts, nil
+}
+
+// take takes exports, all or none, once the sender may speak for them, there is room, and they are kept on disk.
+func (s *Server) take(request *http.Request, grant tokens.Grant, exports []kotskhin.Export, bytes []byte) (*held.Brought, error) {
+	brought, err := held.Bring(exports, bytes)
+	if brought != nil {
+		defer brought.Close()
+	}
+	if err == nil {
+		err = notFor(grant, brought.Of)
+	}
+	if err == nil {
+		err = s.Held.Admit(brought)
+	}
+	if err == nil {
+		err = s.Store.Keep(brought.Bytes, func() error { return s.Held.Take(brought) })
+	}
+	if err != nil {
+		return nil, err
+	}
+	s.Figures.Add(figures.Exports, figures.Labels("path", request.URL.Path), float64(brought.Exports))
+	s.Figures.Add(figures.Points, figures.Labels("path", request.URL.Path), float64(brought.Points))
+	return brought, nil
+}
+
+// otlp takes a request of the OpenTelemetry protocol.
+func (s *Server) otlp(w http.ResponseWriter, request *http.Request, grant tokens.Grant) error {
+	kind, _, _ := strings.Cut(request.Header.Get("Content-Type"), ";")
+	if !strings.EqualFold(strings.TrimSpace(kind), otlp.Type) {
+		return refusal{http.StatusUnsupportedMediaType, "type", fmt.Sprintf("requests come as %s, and not as %q", otlp.Type, kind)}
+	}
+	var refused int
+	var why string
+	if err := s.read(request, s.Limits.Body, func(body []byte) error {
+		read, err := otlp.Of(body)
+		if err != nil {
+			return err
+		}
+		defer read.Close()
+		refused, why = read.Refused, read.Why()
+		if len(read.Exports) > 0 {
+			_, err = s.take(request, grant, read.Exports, nil)
+		}
+		return err
+	}); err != nil {
+		return err
+	}
+	if refused > 0 {
+		s.Figures.Add(figures.PointsLost, "", float64(refused))
+		s.Log.Debug("points have no counterpart", "points", refused, "why", why, "from", request.RemoteAddr)
+	}
+	w.Header().Set("Content-Type", otlp.Type)
+	w.WriteHeader(http.StatusOK)
+	w.Write(otlp.Taken(refused, why))
+	return nil
+}
+
+// messages takes in what another gateway tells, and answers with its Ack.
+func (s *Server) messages(w http.ResponseWriter, request *http.Request, grant tokens.Grant) error {
+	var answer []byte
+	if err := s.read(request, s.Limits.Message, func(body []byte) error {
+		message, err := kotskhin.DecodeMessage(body)
+		if err != nil {
+			return err
+		}
+		defer message.Close()
+		from, err := s.mayHand(message, body, grant)
+		if err != nil {
+			return err
+		}
+		if answer, err = s.Held.Hand(message); err == nil {
+			s.Gossip.Heard(from)
+		}
+		return err
+	}); err != nil {
+		return err
+	}
+	w.Header().Set("Content-Type", gossip.MessageType)
+	if answer == nil {
+		w.WriteHeader(http.StatusNoContent)
+		return nil
+	}
+	w.Write(answer)
+	return nil
+}
+
+// mayHand tells whether a message is one that another gateway sends here, and speaks of services that it may speak for.
+func (s *Server) mayHand(message kotskhin.Message, body []byte, grant tokens.Grant) (from uint32, err error) {
+	from, to, _, err := message.Envelope()
+	switch {
+	case err != nil:
+		return from, err
+	case to != s.Held.ID():
+		return from, refusal{http.StatusMisdirectedRequest, "misdirected", "the message goes to another gateway"}
+	case from == s.Held.ID():
+		return from, refusal{http.StatusBadRequest, "own", "the message is said to be of this gateway"}
+	case gossip.IsAck(body):
+		// (an Ack that anybody may send could say that a peer has what it has not)
+		return from, refusal{http.StatusBadRequest, "ack", "an Ack answers a message, and is not sent by itself"}
+	}
+	of, err := message.Incarnations()
+	if err != nil {
+		return from, err
+	}
+	return from, notFor(grant, of)
+}
+
+func asJSON(w http.ResponseWriter, value any) error {
+	made, err := json.Marshal(value)
+	if err != nil {
+		return err
+	}
+	w.Header().Set("Content-Type", "application/json")
+	w.Write(append(made, '\n'))
+	return nil
+}

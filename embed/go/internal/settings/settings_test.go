@@ -1,0 +1,51 @@
+package settings
+
+import (
+	"errors"
+	"strings"
+	"testing"
+	"time"
+)
+
+func read(words string, environment map[string]string) (*Settings, error, string) {
+	var out strings.Builder
+	made, err := Read(strings.Fields(words), func(name string) string { return environment[name] }, &out)
+	return made, err, out.String()
+}
+
+func TestFlagsGoBeforeTheEnvironment(t *testing.T) {
+	made, err, _ := read("--max-body 64KiB --peer http://a:1 --peer b:2", map[string]string{
+		"KOTSKHIN_MAX_BODY": "1MiB", "KOTSKHIN_MAX_POINTS": "7", "KOTSKHIN_GOSSIP_INTERVAL": "200ms", "KOTSKHIN_PEER": "http://c:3",
+	})
+	if err != nil || made.MaxBody != 64<<10 || made.MaxPoints != 7 || made.GossipInterval != 200*time.Millisecond {
+		t.Fatal(made, err)
+	}
+	if strings.Join(made.Peers, " ") != "http://a:1 b:2" {
+		t.Fatal(made.Peers)
+	}
+	made, err, _ = read("", map[string]string{"KOTSKHIN_PEER": "http://c:3, d:4"})
+	if err != nil || strings.Join(made.Peers, " ") != "http://c:3 d:4" || made.MaxBody != 16<<20 {
+		t.Fatal(made, err)
+	}
+}
+
+func TestWhatIsRefused(t *testing.T) {
+	for _, words := range []string{
+		"--max-body 0", "--max-body 1KB", "--max-body -5", "--max-body 9999999999GiB", "--peer ftp://a", "--peer a", "--peer :1", "--loud", "word",
+		"--gossip-interval 0s", "--gossip-interval 5", "--max-points 0", "--log-format xml", "--tls-cert a", "--client-ca a", "--state /dev/null",
+	} {
+		if made, err, _ := read(words, nil); err == nil {
+			t.Errorf("%s: %+v", words, made)
+		}
+	}
+	if _, err, _ := read("", map[string]string{"KOTSKHIN_MAX_BODY": "much"}); err == nil || !strings.Contains(err.Error(), "KOTSKHIN_MAX_BODY") {
+		t.Error(err)
+	}
+}
+
+func TestHelp(t *testing.T) {
+	_, err, told := read("--help", nil)
+	if !errors.Is(err, ErrHelp) || !strings.Contains(told, "-peer URL") || !strings.Contains(told, "(default 16MiB)") {
+		t.Fatal(err, told)
+	}
+}
