@@ -1,0 +1,208 @@
+package held
+
+import (
+	"errors"
+	"strings"
+	"sync"
+	"testing"
+
+	"kotskhin"
+	"kotskhin/attribute"
+)
+
+func must[T any](t *testing.T) func(made T, err error) T {
+	return func(made T, err error) T {
+		t.Helper()
+		if err != nil {
+			t.Fatal(err)
+		}
+		return made
+	}
+}
+
+// export is one of a writer, with so many points, of a counter of this name: each of them 1.
+func export(t *testing.T, name string, instance uint64, points int, time uint64) kotskhin.Export {
+	t.Helper()
+	plan := must[kotskhin.Plan](t)(kotskhin.NewPlan(kotskhin.Instrument{Scope: "app", Name: name, Unit: "1", Kind: kotskhin.Counter}))
+	writer := must[kotskhin.Writer](t)(kotskhin.StartWriter(plan, "shop", kotskhin.Instance{Low: instance}, 100))
+	for n := 0; n < points; n++ {
+		set := must[kotskhin.Attributes](t)(kotskhin.NewAttributes(attribute.Int("n", n)))
+		if err := writer.Measure(0, set, 1); err != nil {
+			t.Fatal(err)
+		}
+	}
+	return must[kotskhin.Export](t)(writer.Collect(time))
+}
+
+func opened(t *testing.T, id uint32, limits Limits) *Held {
+	t.Helper()
+	return must[*Held](t)(New(id, must[kotskhin.Gateway](t)(kotskhin.OpenGateway(id)), limits))
+}
+
+func take(t *testing.T, h *Held, exports ...kotskhin.Export) error {
+	t.Helper()
+	brought := must[*Brought](t)(Bring(exports, nil))
+	defer brought.Close()
+	if err := h.Admit(brought); err != nil {
+		return err
+	}
+	return h.Take(brought)
+}
+
+func held(t *testing.T, h *Held) int {
+	t.Helper()
+	look := must[*Look](t)(h.Look())
+	defer look.Done()
+	return look.Points
+}
+
+var wide = Limits{Points: 1000, Streams: 10}
+
+func TestALookHasAllThatWasTaken(t *testing.T) {
+	h := opened(t, 1, wide)
+	old := must[*Look](t)(h.Look())
+	if err := take(t, h, export(t, "requests", 1, 3, 200)); err != nil {
+		t.Fatal(err)
+	}
+	look := must[*Look](t)(h.Look())
+	if again := must[*Look](t)(h.Look()); again != look || look == old {
+		t.Fatal("a look is made once, until something changes")
+	}
+	if err := take(t, h, export(t, "requests", 2, 4, 200), export(t, "others", 1, 2, 200)); err != nil {
+		t.Fatal(err)
+	}
+	// (who has a copy goes on to have it)
+	if page, err := look.Prometheus(); err != nil || strings.Count(page, "\nrequests_total{") != 3 || old.Points != 0 {
+		t.Fatal(page, err)
+	}
+	look.Done()
+	if found := held(t, h); found != 9 {
+		t.Fatal(found)
+	}
+	if points, streams := h.Counts(); points != 9 || streams != 2 {
+		t.Fatal(points, streams)
+	}
+}
+
+func TestAFullGatewayTakesWhatItHolds(t *testing.T) {
+	h := opened(t, 1, Limits{Points: 10, Streams: 2})
+	if err := take(t, h, export(t, "requests", 1, 10, 200)); err != nil {
+		t.Fatal(err)
+	}
+	if err := take(t, h, export(t, "requests", 2, 1, 200)); !errors.Is(err, ErrFull) {
+		t.Fatal(err)
+	}
+	if err := take(t, h, export(t, "requests", 1, 11, 300)); !errors.Is(err, ErrFull) {
+		t.Fatal(err)
+	}
+	for time := uint64(300); time < 310; time++ {
+		if err := take(t, h, export(t, "requests", 1, 10, time)); err != nil {
+			t.Fatal(time, err)
+		}
+	}
+	if found := held(t, h); found != 10 {
+		t.Fatal(found)
+	}
+}
+
+// What has other points under a writer that is known is seen by a look, and then nothing more is taken.
+func TestPointsThatComeUnseen(t *testing.T) {
+	h := opened(t, 1, Limits{Points: 8, Streams: 100})
+	refused := 0
+	for _, name := range strings.Fields("a b c d e f g h") {
+		if err := take(t, h, export(t, name, 1, 2, 200)); errors.Is(err, ErrFull) {
+			refused++
+		} else if err != nil {
+			t.Fatal(err)
+		}
+	}
+	if found := held(t, h); refused == 0 || found > 10 {
+		t.Fatal(refused, found)
+	}
+}
+
+func TestStreamsAreBounded(t *testing.T) {
+	h := opened(t, 1, Limits{Points: 100, Streams: 2})
+	for _, name := range []string{"a", "b"} {
+		if err := take(t, h, export(t, name, uint64(name[0]), 2, 200)); err != nil {
+			t.Fatal(err)
+		}
+	}
+	if err := take(t, h, export(t, "c", 7, 2, 200)); !errors.Is(err, ErrFull) || held(t, h) != 4 {
+		t.Fatal(err, held(t, h))
+	}
+	if err := take(t, h, export(t, "a", 8, 2, 200)); err != nil {
+		t.Fatal(err)
+	}
+}
+
+// Of several exports all are taken, or none.
+func TestSeveralAreTakenWhole(t *testing.T) {
+	h := opened(t, 1, Limits{Points: 5, Streams: 2})
+	if err := take(t, h, export(t, "a", 1, 3, 200), export(t, "a", 2, 3, 200)); !errors.Is(err, ErrFull) || held(t, h) != 0 {
+		t.Fatal(err, held(t, h))
+	}
+}
+
+func TestNodesTellEachOther(t *testing.T) {
+	one, other := opened(t, 1, wide), opened(t, 2, wide)
+	if err := take(t, one, export(t, "requests", 1, 3, 200)); err != nil {
+		t.Fatal(err)
+	}
+	message := must[kotskhin.Message](t)(kotskhin.DecodeMessage(must[[]byte](t)(one.Tell(2))))
+	answer := must[[]byte](t)(other.Hand(message))
+	if err := one.Answered(answer); err != nil || held(t, other) != 3 {
+		t.Fatal(err, held(t, other))
+	}
+	if again := must[[]byte](t)(one.Tell(2)); len(again) > 20 {
+		t.Fatal("what is acknowledged is told again", again)
+	}
+	if string(must[[]byte](t)(one.Encode())) == string(must[[]byte](t)(other.Encode())) {
+		t.Fatal("two have one id")
+	}
+	small := opened(t, 3, Limits{Points: 2, Streams: 1})
+	to3 := must[kotskhin.Message](t)(kotskhin.DecodeMessage(must[[]byte](t)(one.Tell(3))))
+	if _, err := small.Hand(to3); !errors.Is(err, ErrFull) || held(t, small) != 0 {
+		t.Fatal(err)
+	}
+}
+
+// Some take while others look.
+func TestTakesBesideLooks(t *testing.T) {
+	h := opened(t, 1, wide)
+	var hands sync.WaitGroup
+	for hand := uint64(0); hand < 4; hand++ {
+		hands.Add(2)
+		own := export(t, "requests", hand, 10, 200)
+		go func() {
+			defer hands.Done()
+			for turn := 0; turn < 50; turn++ {
+				brought, err := Bring([]kotskhin.Export{own}, nil)
+				if err == nil {
+					err = h.Take(brought)
+				}
+				if err != nil {
+					t.Error(err)
+				}
+			}
+		}()
+		go func() {
+			defer hands.Done()
+			for turn := 0; turn < 50; turn++ {
+				look, err := h.Look()
+				if err != nil {
+					t.Error(err)
+					return
+				}
+				if _, err := look.OpenMetrics(); err != nil {
+					t.Error(err)
+				}
+				look.Done()
+			}
+		}()
+	}
+	hands.Wait()
+	if found := held(t, h); found != 40 {
+		t.Fatal(found)
+	}
+}
