@@ -47,10 +47,16 @@ func served(t *testing.T, id uint32, change func(s *Server)) (*Server, string) {
 	if change != nil {
 		change(s)
 	}
-	s.Gossip.Begin(context.Background())
+	ctx, end := context.WithCancel(context.Background())
+	s.Gossip.Begin(ctx)
 	s.Figures.Reads(s.Show)
 	answers := httptest.NewServer(s.Handler())
-	t.Cleanup(answers.Close)
+	t.Cleanup(func() {
+		end()
+		s.Gossip.Wait()
+		answers.CloseClientConnections()
+		answers.Close()
+	})
 	return s, answers.URL
 }
 
@@ -264,7 +270,7 @@ func TestWhatIsUnderWayIsBounded(t *testing.T) {
 				answer.Body.Close()
 			}
 		}()
-		writer.Write(good)
+		go writer.Write(good)
 	}
 	until(t, 429, post)
 	for _, writer := range slow {

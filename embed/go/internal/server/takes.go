@@ -3,6 +3,7 @@ package server
 import (
 	"encoding/binary"
 	"encoding/json"
+	"errors"
 	"fmt"
 	"net/http"
 	"strings"
@@ -12,6 +13,7 @@ import (
 	"kotskhin/internal/gossip"
 	"kotskhin/internal/held"
 	"kotskhin/internal/otlp"
+	"kotskhin/internal/store"
 	"kotskhin/internal/tokens"
 )
 
@@ -146,7 +148,7 @@ func (s *Server) messages(w http.ResponseWriter, request *http.Request, grant to
 		if err != nil {
 			return err
 		}
-		if answer, err = s.Held.Hand(message); err == nil {
+		if answer, err = s.hand(message, body); err == nil {
 			s.Gossip.Heard(from)
 		}
 		return err
@@ -160,6 +162,25 @@ func (s *Server) messages(w http.ResponseWriter, request *http.Request, grant to
 	}
 	w.Write(answer)
 	return nil
+}
+
+// hand takes in a message. It is kept like what senders bring, so that after a kill no less is shown than before. Where the disk is full it
+// is taken in all the same: its sender has it, too.
+func (s *Server) hand(message kotskhin.Message, body []byte) (answer []byte, err error) {
+	hand := func() (err error) {
+		answer, err = s.Held.Hand(message)
+		return err
+	}
+	if _, _, points, told := message.Envelope(); told == nil && points == 0 {
+		err = hand()
+		return answer, err
+	}
+	err = s.Store.Keep(body, hand)
+	if errors.Is(err, store.ErrDisk) {
+		s.Log.Debug("a message is not kept", "why", err)
+		err = hand()
+	}
+	return answer, err
 }
 
 // mayHand tells whether a message is one that another gateway sends here, and speaks of services that it may speak for.

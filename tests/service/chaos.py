@@ -1,0 +1,164 @@
+"""One seed: three gateways, eight workers, and a nemesis. In the end each gateway's tables and page, and what Prometheus keeps of it, are
+the same, and what the workers were told was taken."""
+import threading
+import time
+
+from fleet import PATIENCE, PORT, Fault, Gateway, page_of, tables_of, until
+from nemesis import Nemesis
+from prometheus import samples_of
+from proxy import Proxy
+from workers import ROUTES, SCOPE, Worker
+
+GATEWAYS, WORKERS = 3, 8
+FLAGS = ("--gossip-interval", "100ms", "--gossip-longest-pause", "500ms", "--gossip-timeout", "1s", "--save-interval", "2s", "--ready-patience", "30s")
+
+
+def gateways_of(program, network, disks, room, seed):
+    made = {}
+    for number, address in network.addresses.items():
+        others = [it for it in network.addresses if it != number]
+        links = getattr(network, "links", None)
+        peers = [f"http://127.0.0.1:{links[number, it].port}" if links else f"http://{network.addresses[it]}:{PORT}" for it in others]
+        log = room / f"gateway{number}.{seed}.log"
+        made[number] = Gateway(program, number, address, peers, disks.folders[number], log, network.inside(number), FLAGS)
+    return made
+
+
+def agreed(gateways):
+    """The tables and the page that all gateways give; nothing while they differ, or are not ready."""
+    told = []
+    for gateway in gateways.values():
+        tables = tables_of(gateway)
+        page = tables and page_of(gateway)
+        if not page:
+            return None
+        told.append((tables, page))
+    return told[0] if all(it == told[0] for it in told) else None
+
+
+class Seed:
+    """What runs of a seed."""
+
+    def __init__(self, seed, program, network, disks, prometheus, room):
+        self.seed, self.network, self.prometheus = seed, network, prometheus
+        disks.clear()
+        self.gateways = gateways_of(program, network, disks, room, seed)
+        self.proxy = Proxy(network.addresses, seed)
+        self.workers = [Worker(number, seed, self.proxy, network.addresses) for number in range(1, WORKERS + 1)]
+        self.nemesis = Nemesis(seed, self.gateways, network, disks, self.proxy, self.workers)
+
+    def run(self, seconds):
+        """Tells what was done, and what it came to."""
+        try:
+            return self.ran(seconds)
+        except Fault as fault:
+            logs = "\n".join(f"--- gateway {it.number}\n{it.tail()}" for it in self.gateways.values())
+            raise Fault(f"seed {self.seed}: {fault}\ndone: {self.nemesis.done}\n{logs}") from fault
+        finally:
+            for worker in self.workers:
+                worker.ends.set()
+            self.nemesis.heal_quietly()
+            for gateway in self.gateways.values():
+                gateway.kill()
+            self.proxy.close()
+
+    def ran(self, seconds):
+        for gateway in self.gateways.values():
+            gateway.start()
+        until(lambda: all(it.is_ready() for it in self.gateways.values()), "the gateways are not ready")
+        for worker in self.workers:
+            worker.thread.start()
+        self.nemesis.run(seconds)
+        healed = time.monotonic()
+        until(lambda: all(it.is_ready() for it in self.gateways.values()), "the gateways are not ready once all is healed")
+        for worker in self.workers:
+            worker.finish(PATIENCE)
+        tables, page = self.converged()
+        took = time.monotonic() - healed
+        self.compare(tables)
+        self.scraped(page)
+        return self.told(took)
+
+    def converged(self):
+        """What all gateways say once they agree, and nothing that a worker was told is missing any more."""
+        return until(lambda: self.whole(agreed(self.gateways)), lambda: f"the gateways do not agree: {self.differing()}")
+
+    def whole(self, told):
+        return told if told and not self.missing(totals_in(told[0])) else None
+
+    def missing(self, found):
+        """The lives of which less is held than was told."""
+        return [it.name() for it in self.lives() if it.told >= 0 and self.place_of(it, found) < it.told]
+
+    def lives(self):
+        return [life for worker in self.workers for life in worker.lives]
+
+    def place_of(self, life, found):
+        """Which collection of a life is held, by its totals; -1 of none, and -2 of what it never said."""
+        held = {at: found[life.name(), *at] for at in ((i, route) for i in range(3) for route in ROUTES) if (life.name(), *at) in found}
+        if not held:
+            return -1
+        places = [number for number, it in enumerate(life.pushed) if it.totals == held]
+        return max(places) if places else -2
+
+    def compare(self, tables):
+        """Of each life all gateways hold one collection, which is none before the newest that was told."""
+        found = totals_in(tables)
+        strange = {name for name, *_ in found} - {it.name() for it in self.lives()}
+        if strange:
+            raise Fault(f"there are totals of {sorted(strange)}, who never lived")
+        for life in self.lives():
+            place = self.place_of(life, found)
+            if place < life.told:
+                raise Fault(f"life {life.name()}: collection {place} is held, and {life.told} was told of {len(life.pushed)}")
+        for worker in self.workers:
+            if self.place_of(worker.lives[-1], found) != len(worker.lives[-1].pushed) - 1:
+                raise Fault(f"worker {worker.number}: its last collection is not what is held")
+
+    def scraped(self, page):
+        """Prometheus keeps of each gateway just this page."""
+        wanted = samples_of(page)
+        for gateway in self.gateways.values():
+            until(
+                lambda: self.prometheus.page_of(f"{gateway.address}:{PORT}") == wanted,
+                lambda: f"Prometheus does not keep the page of gateway {gateway.number}",
+            )
+
+    def differing(self):
+        told = {it.number: (tables_of(it), it.json("/v1/peers")) for it in self.gateways.values()}
+        found = {number: tables and self.missing(totals_in(tables)) for number, (tables, _) in told.items()}
+        return f"missing lives: {found}; peers: {[peers for _, peers in told.values()]}"
+
+    def told(self, took):
+        exports = sum(it.counts["taken"] for it in self.workers)
+        return {
+            "done": dict(sorted(self.nemesis.done.items())), "exports told": exports, "not taken": sum(it.counts["not taken"] for it in self.workers),
+            "lives": len(self.lives()), "starts": sum(it.starts for it in self.gateways.values()), "proxy": dict(self.proxy.counts),
+            "seconds to agree": round(took, 2),
+        }
+
+
+INSTRUMENTS = {"requests": 0, "open": 1, "latency": 2}
+
+
+def totals_in(tables):
+    """Of each life, instrument and route the total."""
+    found = {}
+    for stream, table in tables.items():
+        words = dict(stream)
+        if words["scope"] != SCOPE:
+            continue
+        for row in table.splitlines()[1:]:
+            attributes, points, conflicts, total = parted(row)
+            if (points, conflicts) != ("1", "0"):
+                raise Fault(f"{words['name']}: the row {row} is not of one point")
+            total = int(total.split("sum=")[1].split()[0]) if "sum=" in total else int(total)
+            found[attributes["life"], INSTRUMENTS[words["name"]], attributes["route"]] = total
+    return found
+
+
+def parted(row):
+    braced, rest = row.split("}", 1)
+    pairs = (it.split("=", 1) for it in braced.lstrip("{").split(","))
+    points, conflicts, total = rest.split(None, 2)
+    return {name: value.strip('"') for name, value in pairs}, points, conflicts, total

@@ -1,0 +1,193 @@
+#!/usr/bin/env python3
+"""The gateway as a service: embed/go/cmd/kotskhin-gateway, as its processes do what docs/SERVICE.md says.
+
+    run.py [FOLDER]                            the short form, as the gate runs it
+    run.py --seeds 200 [--first 1] [FOLDER]    the chaos test alone, of so many seeds
+    run.py --bad 10000 [FOLDER]                bad input alone, so many bodies to each path
+    run.py --load [FOLDER]                     how much one gateway takes, beside a Pushgateway
+
+FOLDER is what embed/build made; where none is given it is made of crates/kit_c/out/libkit_c.a, as in tests/embed. Nothing is proved here.
+
+The chaos test: three gateways, each in a network namespace of its own, and eight workers that count, push and are told what was taken. From
+a seed a nemesis kills and restarts gateways, parts them by iptables, loses packets, stops processes, fills the disks of their states, has a
+proxy bring exports late, twice and out of order, and has workers die and come back. In the end all heals. Then each gateway's tables and
+its page must be the same, and what Prometheus keeps of each; and of each worker's life they say one collection, none before the newest of
+which it was told. Where no namespaces can be made, gateways live on addresses of the loopback with links that are cut, without loss, and
+this is told.
+
+Bad input: random and changed bodies to each path, cut bodies, slow senders, wrong tokens. Each has its status, and nothing is taken. Disks:
+a damaged state and a damaged journal are told and set aside.
+
+It ends with a status other than 0 where one of these does not hold. What is not on this machine is a fault, unless GATE_WITHOUT names it."""
+import argparse
+import contextlib
+import os
+import pathlib
+import shutil
+import subprocess
+import sys
+import tempfile
+import time
+
+sys.dont_write_bytecode = True
+HERE = pathlib.Path(__file__).resolve().parent
+TOP = HERE.parents[1]
+EMBED = TOP / "embed"
+ARCHIVE = TOP / "crates" / "kit_c" / "out" / "libkit_c.a"
+sys.path[:0] = [str(HERE), str(EMBED / "python")]
+WANTED = ("go", "pkg-config", "prometheus")
+# How long the short form's chaos goes on for a seed, and its seeds.
+SECONDS, SEEDS, BAD = 6, 3, 300
+INSIDE = "KOTSKHIN_SERVICE_INSIDE"
+
+
+def asked():
+    parser = argparse.ArgumentParser(description="Tries the gateway as a service.")
+    parser.add_argument("folder", nargs="?", type=pathlib.Path)
+    parser.add_argument("--seeds", type=int, default=0)
+    parser.add_argument("--first", type=int, default=1)
+    parser.add_argument("--seconds", type=float, default=SECONDS)
+    parser.add_argument("--bad", type=int, default=0)
+    parser.add_argument("--load", action="store_true")
+    return parser.parse_args()
+
+
+def is_missing():
+    """Whether something is not there that is wanted, and whether all of this is left out on purpose."""
+    left_out = set(os.environ.get("GATE_WITHOUT", "").split(","))
+    for name in WANTED:
+        if name in left_out:
+            print(f"service: {name} is left out, as GATE_WITHOUT says: nothing is tried")
+            sys.exit(0)
+        if not shutil.which(name):
+            sys.exit(f"service: there is no {name} on this machine, and GATE_WITHOUT does not name it")
+
+
+def laid_out(kit):
+    if not ARCHIVE.is_file():
+        sys.exit(f"there is no {ARCHIVE.relative_to(TOP)}: `rt lib` in crates/kit_c builds it")
+    command = [sys.executable, "-B", str(EMBED / "build"), "--archive", str(ARCHIVE), str(kit)]
+    if subprocess.run(command, stdin=subprocess.DEVNULL, check=False).returncode:
+        sys.exit("the archive was not laid out")
+
+
+def built(kit, room):
+    """The gateway's program."""
+    program = room / "kotskhin-gateway"
+    given = {**os.environ, "PKG_CONFIG_PATH": f"{kit}/lib/pkgconfig", "GOFLAGS": "-mod=mod -buildvcs=false", "GOPROXY": "off"}
+    if "HOME" not in given and "GOCACHE" not in given:
+        given["GOCACHE"] = str(room / "go")
+    command = ["go", "build", "-o", str(program), "./cmd/kotskhin-gateway"]
+    told = subprocess.run(command, cwd=EMBED / "go", env=given, stdin=subprocess.DEVNULL, capture_output=True, text=True, check=False)
+    if told.returncode:
+        sys.exit(f"the gateway is not built:\n{told.stdout}{told.stderr}")
+    return program
+
+
+class Run:
+    """What was tried, and what failed."""
+
+    def __init__(self, given, program, room):
+        self.given, self.program, self.room, self.passed, self.failed = given, program, room, 0, 0
+
+    def try_it(self, what, call):
+        from fleet import Fault
+
+        began = time.monotonic()
+        try:
+            told = call()
+        except (Fault, OSError, subprocess.SubprocessError) as fault:
+            self.failed += 1
+            print(f"{what}: FAILED: {fault}", flush=True)
+            return
+        self.passed += 1
+        print(f"{what}: ok, in {time.monotonic() - began:.1f} s{'' if told is None else f': {told}'}", flush=True)
+
+    def chaos(self, seeds):
+        import chaos
+        import prometheus
+        from fleet import PORT
+
+        with contextlib.ExitStack() as stack:
+            network, disks = network_of(stack, self.room)
+            targets = [f"{it}:{PORT}" for it in network.addresses.values()]
+            scrapes = stack.enter_context(prometheus.running(self.room / "prometheus", targets))
+            for seed in seeds:
+                self.try_it(
+                    f"chaos, seed {seed}",
+                    lambda: chaos.Seed(seed, self.program, network, disks, scrapes, self.room).run(self.given.seconds),
+                )
+
+    def bad(self, count):
+        import bad
+
+        for what, call in bad.trials(self.program, self.room, count):
+            self.try_it(f"bad input: {what}", call)
+
+    def disks(self):
+        import disks
+
+        for what, call in disks.trials(self.program, self.room):
+            self.try_it(f"disks: {what}", call)
+
+
+def network_of(stack, room):
+    import chaos
+    import network
+    from fleet import PORT
+    from proxy import Loopback
+
+    disks = network.Disks(room, chaos.GATEWAYS)
+    stack.callback(disks.close)
+    if not disks.mounted:
+        print("service: no disk can be mounted here: none is filled")
+    if os.environ.get(INSIDE):
+        return stack.enter_context(network.namespaces(chaos.GATEWAYS)), disks
+    made = Loopback(chaos.GATEWAYS, PORT)
+    stack.callback(made.close)
+    return made, disks
+
+
+def go_inside():
+    """Begins anew in a network of this test's own, where one can be made. Its namespaces and disks end with it."""
+    import network
+
+    if os.environ.get(INSIDE):
+        return
+    network.sweep()
+    why = network.is_there()
+    if why:
+        print(f"service: no namespaces can be made here, so links are cut, and nothing is lost on them: {why}", flush=True)
+        return
+    os.environ[INSIDE] = "1"
+    os.execvp("unshare", ["unshare", "--net", "--mount", sys.executable, "-B", str(HERE / "run.py"), *sys.argv[1:]])
+
+
+def main():
+    given, began = asked(), time.time()
+    is_missing()
+    go_inside()
+    with tempfile.TemporaryDirectory() as made:
+        room = pathlib.Path(made)
+        kit = given.folder.resolve() if given.folder else room / "kit"
+        if not given.folder:
+            laid_out(kit)
+        os.environ["KOTSKHIN_SO"] = f"{kit}/shared/libkotskhin.so.0"
+        run = Run(given, built(kit, room), room)
+        if given.load:
+            import load
+
+            return load.main(run.program, room)
+        is_whole = not given.seeds and not given.bad
+        if is_whole or given.bad:
+            run.bad(given.bad or BAD)
+        if is_whole:
+            run.disks()
+        if is_whole or given.seeds:
+            run.chaos(range(given.first, given.first + (given.seeds or SEEDS)))
+    print(f"{run.passed} passed, {run.failed} failed, in {time.time() - began:.0f} s")
+    return 1 if run.failed else 0
+
+
+if __name__ == "__main__":
+    sys.exit(main())
