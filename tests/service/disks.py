@@ -174,10 +174,11 @@ def full_disk(program, room):
             until(gateway.is_ready, "it is not ready")
             pushed(gateway, 1, 5)
             disks.fill(1)
-            # (what is left of the last page may take some)
-            until(lambda: refused(gateway), "a full disk refuses nothing")
+            # (what is left of the last page takes some)
+            until(lambda: refused(gateway), "a full disk refuses nothing", pause=0)
             kept = total(gateway)
-            pushed(gateway, 1, 1000, status=503)
+            if not refused(gateway):
+                raise Fault("what was refused is taken where nothing changed")
             holds(gateway, kept)
             disks.free(1)
             until(lambda: not refused(gateway), "a disk that has room again refuses")
@@ -197,15 +198,14 @@ def refused(gateway):
     """Whether one more export is refused; it is of a writer of its own."""
     refused.instance += 1
     writer = Writer(Plan(PLAN), "shop", refused.instance, 100)
-    for i in range(20):
-        writer.measure(0, Attributes({"long": f"{i}" * 60}), 1)
+    writer.measure(0, Attributes({}), 1)
     status, _, told = gateway.ask("/v1/exports", "POST", writer.collect(time.time_ns()).encode())
     if status not in (200, 503):
         raise Fault(f"an export is answered {status}: {told}")
     return status == 503
 
 
-refused.instance = 100
+refused.instance = 1000
 
 
 def trials(program, room):

@@ -153,6 +153,7 @@ def go_inside():
     import network
 
     if os.environ.get(INSIDE):
+        network.done("ip", "link", "set", "lo", "up")
         return
     network.sweep()
     why = network.is_there()
@@ -179,9 +180,6 @@ def main():
 
             return load.main(run.program, room)
         is_whole = not given.seeds and not given.bad
-        import network
-
-        network.called("ip", "link", "set", "lo", "up")
         if is_whole or given.bad:
             run.bad(given.bad or BAD)
         if is_whole:
