@@ -1,5 +1,6 @@
 // Periodic readers and their exporters in C++: real threads, short intervals, a file, and sockets where libcurl is.
 #include "check.hpp"
+#include <algorithm>
 #include <condition_variable>
 #include <cstdlib>
 #include <fstream>
@@ -219,6 +220,33 @@ static void a_file_has_the_newest_export() {
     CHECK(throws<std::system_error>([&] { FileExporter("/nowhere/at/all").Export(provider.Collect()); }));
 }
 
+static void the_next_exporter_where_one_fails() {
+    std::vector<int> asked, down;
+    auto gateway = [&](int number) {
+        return std::make_unique<FunctionExporter>([&asked, &down, number](const Export &) {
+            asked.push_back(number);
+            if (std::find(down.begin(), down.end(), number) != down.end()) throw std::runtime_error("down");
+        });
+    };
+    std::vector<std::unique_ptr<PushMetricExporter>> three;
+    for (int number : {1, 2, 3}) three.push_back(gateway(number));
+    FirstOf all(std::move(three));
+    MeterProvider provider;
+    requests_of(provider)->Add(7);
+    Export given = provider.Collect();
+    using Turn = std::pair<std::vector<int>, std::vector<int>>;
+    for (const Turn &it : {Turn{{}, {1}}, Turn{{1, 2}, {1, 2, 3}}, Turn{{}, {3}}}) {
+        asked.clear();
+        down = it.first;
+        all.Export(given);
+        CHECK(asked == it.second);
+    }
+    down = {1, 2, 3};
+    CHECK(throws<std::runtime_error>([&] { all.Export(given); }));
+    all.Shutdown();
+    CHECK(throws<std::invalid_argument>([] { FirstOf none({}); }));
+}
+
 #ifdef WITH_CURL
 // A server of so many requests, each answered with a line; it keeps what it heard.
 struct Server {
@@ -334,6 +362,7 @@ int main() {
         {"a hook may ask its provider", a_hook_may_ask_its_provider},
         {"a provider that is destroyed shuts down", a_provider_that_is_destroyed_shuts_down},
         {"a file has the newest export", a_file_has_the_newest_export},
+        {"the next exporter where one fails", the_next_exporter_where_one_fails},
 #ifdef WITH_CURL
         {"http brings an export, and tells what is answered", http_brings_an_export_and_tells_what_is_answered},
         {"http waits no longer than it says", http_waits_no_longer_than_it_says},

@@ -23,7 +23,7 @@ import kotskhin
 from kotskhin import Ask, Export, Gateway
 from kotskhin.metrics import (
     ConsoleMetricExporter, Counter, DropAggregation, ExplicitBucketHistogramAggregation, ExportFailed, FileExporter, Histogram,
-    HttpExporter, MeterProvider, PeriodicExportingMetricReader, ProviderStarted, Resource, SumAggregation, View,
+    FirstOf, HttpExporter, MeterProvider, PeriodicExportingMetricReader, ProviderStarted, Resource, SumAggregation, View,
 )
 
 SHOP = {"service.name": "shop"}
@@ -479,6 +479,38 @@ class Exporters(unittest.TestCase):
         self.assertEqual(types, [("application/x-protobuf", "k")] * 4 + [("application/x-kotskhin", "k")] * 4)
         self.assertEqual(rows_of(Export.of_otlp(posted[3][1])[0], Ask.sum("app", "requests", "")), [({}, 7)])
         self.assertEqual(rows_of(Export.decode(posted[7][1]), Ask.sum("app", "requests", "")), [({}, 7)])
+
+    def test_the_next_exporter_where_one_fails(self):
+        asked, down, timeouts = [], set(), []
+
+        class Gateway:
+            def __init__(self, number):
+                self.number = number
+
+            def export(self, export, timeout):
+                asked.append(self.number)
+                timeouts.append(timeout)
+                if self.number in down:
+                    raise OSError(f"{self.number} is down")
+
+            def shutdown(self):
+                asked.append(-self.number)
+
+        it = FirstOf(*map(Gateway, (1, 2, 3)))
+        for away, wanted in (((), [1]), ((1, 2), [1, 2, 3]), ((), [3])):
+            asked.clear()
+            down.clear()
+            down.update(away)
+            it.export(None, 9)
+            self.assertEqual(asked, wanted)
+        self.assertTrue(2.9 < timeouts[0] <= 3 and timeouts[2] <= 4.5 and timeouts[3] <= 9, timeouts)
+        down.update((1, 2, 3))
+        with self.assertRaisesRegex(OSError, "2 is down"):
+            it.export(None, 9)
+        it.shutdown()
+        self.assertEqual(asked[-3:], [-1, -2, -3])
+        with self.assertRaises(ValueError):
+            FirstOf()
 
     def test_console(self):
         out = io.StringIO()

@@ -7,8 +7,11 @@
 #include <functional>
 #include <iostream>
 #include <memory>
+#include <stdexcept>
 #include <system_error>
 #include <unistd.h>
+#include <utility>
+#include <vector>
 
 namespace kotskhin::metrics {
 
@@ -35,6 +38,33 @@ class FunctionExporter : public PushMetricExporter {
 public:
     explicit FunctionExporter(std::function<void(const kotskhin::Export &)> call) : call(std::move(call)) {}
     void Export(const kotskhin::Export &given) override { call(given); }
+};
+
+// Brings each export by one of several exporters, as to gateways of which any may take it: by the one that took the last one, and where that
+// fails by the next. It fails where all did. Each bounds the time of its own calls.
+class FirstOf : public PushMetricExporter {
+    std::vector<std::unique_ptr<PushMetricExporter>> exporters;
+    size_t last = 0;
+
+public:
+    explicit FirstOf(std::vector<std::unique_ptr<PushMetricExporter>> given) : exporters(std::move(given)) {
+        if (exporters.empty()) throw std::invalid_argument("there is no exporter");
+    }
+    void Export(const kotskhin::Export &given) override {
+        for (size_t turn = 0; turn < exporters.size(); turn++) {
+            size_t at = (last + turn) % exporters.size();
+            try {
+                exporters[at]->Export(given);
+                last = at;
+                return;
+            } catch (...) {
+                if (turn + 1 == exporters.size()) throw;
+            }
+        }
+    }
+    void Shutdown() override {
+        for (auto &it : exporters) it->Shutdown();
+    }
 };
 
 // Writes a table of each stream of an export: to the standard output, or where else is said.

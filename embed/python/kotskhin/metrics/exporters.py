@@ -3,6 +3,7 @@ import os
 import pathlib
 import sys
 import tempfile
+import time
 import typing
 import urllib.error
 import urllib.request
@@ -92,6 +93,33 @@ class HttpExporter:
         except urllib.error.HTTPError as fault:
             fault.close()
             raise
+
+
+class FirstOf:
+    """Brings each export by one of several exporters, as to gateways of which any may take it: by the one that took the last one, and where
+    that fails by the next. It fails where all did. Each has its part of the time that is left."""
+
+    def __init__(self, *exporters):
+        self._exporters, self._last = exporters, 0
+        if not exporters:
+            raise ValueError("there is no exporter")
+
+    def export(self, export: Export, timeout: float) -> None:
+        end, count = time.monotonic() + timeout, len(self._exporters)
+        for turn in range(count):
+            at = (self._last + turn) % count
+            try:
+                export_of(self._exporters[at])(export, max((end - time.monotonic()) / (count - turn), 0.001))
+            except Exception:
+                if turn == count - 1:
+                    raise
+            else:
+                self._last = at
+                return
+
+    def shutdown(self) -> None:
+        for it in self._exporters:
+            ending_of(it)()
 
 
 class ConsoleMetricExporter:

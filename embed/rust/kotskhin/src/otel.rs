@@ -35,7 +35,7 @@ mod resource;
 mod shared;
 mod views;
 
-pub use exporters::{ConsoleExporter, FileExporter, HttpExporter};
+pub use exporters::{ConsoleExporter, FileExporter, FirstOf, HttpExporter};
 pub use instruments::{
     Counter, Gauge, Histogram, HistogramBuilder, InstrumentBuilder, Meter, UpDownCounter,
 };

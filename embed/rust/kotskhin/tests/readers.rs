@@ -1,8 +1,8 @@
 //! Periodic readers and their exporters: real threads, short intervals, files and sockets.
 #![forbid(unsafe_code)]
 use kotskhin::otel::{
-    Counter, ExportError, FileExporter, HttpExporter, PeriodicReader, PushExporter, SdkError,
-    SdkMeterProvider,
+    Counter, ExportError, FileExporter, FirstOf, HttpExporter, PeriodicReader, PushExporter,
+    SdkError, SdkMeterProvider,
 };
 use kotskhin::{Ask, Error, Export, Gateway, Rows};
 use std::io::{self, BufRead, BufReader, Read, Write};
@@ -373,6 +373,42 @@ fn http_brings_an_export_and_tells_what_is_answered() -> Done {
     let (head, body) = &told[1];
     assert!(head.contains(&"Content-Type: application/octet-stream".into()));
     assert_eq!(total(body)?, 7);
+    Ok(())
+}
+
+#[test]
+fn the_next_exporter_where_one_fails() -> Done {
+    let asked = Arc::new(Mutex::new(Vec::new()));
+    let down = Arc::new(Mutex::new(Vec::new()));
+    let gateway = |number: i32| -> Box<dyn PushExporter> {
+        let (asked, down) = (asked.clone(), down.clone());
+        Box::new(move |_: &Export| -> Result<(), ExportError> {
+            asked.lock().unwrap().push(number);
+            match down.lock().unwrap().contains(&number) {
+                true => Err(format!("{number} is down").into()),
+                false => Ok(()),
+            }
+        })
+    };
+    let provider = SdkMeterProvider::builder().build();
+    requests(&provider).add(7, &[]);
+    let export = provider.collect()?;
+    let mut all = FirstOf::new(vec![gateway(1), gateway(2), gateway(3)]);
+    for (away, wanted) in [
+        (vec![], vec![1]),
+        (vec![1, 2], vec![1, 2, 3]),
+        (vec![], vec![3]),
+    ] {
+        asked.lock().unwrap().clear();
+        *down.lock().unwrap() = away;
+        all.export(&export)?;
+        assert_eq!(*asked.lock().unwrap(), wanted);
+    }
+    *down.lock().unwrap() = vec![1, 2, 3];
+    let fault = all.export(&export).err().map(|it| it.to_string());
+    assert_eq!(fault, Some("2 is down".to_owned()));
+    assert!(FirstOf::new(Vec::new()).export(&export).is_err());
+    all.shutdown()?;
     Ok(())
 }
 

@@ -317,3 +317,45 @@ impl PushExporter for HttpExporter {
         }
     }
 }
+
+/// Brings each export by one of several exporters, as to gateways of which any may take it: by the one that took the last one, and where
+/// that fails by the next. It fails where all did. Each bounds the time of its own calls.
+pub struct FirstOf {
+    exporters: Vec<Box<dyn PushExporter>>,
+    last: usize,
+}
+
+impl fmt::Debug for FirstOf {
+    fn fmt(&self, f: &mut fmt::Formatter<'_>) -> fmt::Result {
+        write!(f, "FirstOf({})", self.exporters.len())
+    }
+}
+
+impl FirstOf {
+    pub fn new(exporters: Vec<Box<dyn PushExporter>>) -> FirstOf {
+        FirstOf { exporters, last: 0 }
+    }
+}
+
+impl PushExporter for FirstOf {
+    fn export(&mut self, export: &Export) -> Result<(), ExportError> {
+        let count = self.exporters.len();
+        let mut failed: ExportError = "there is no exporter".into();
+        for turn in 0..count {
+            let at = (self.last + turn) % count;
+            match self.exporters[at].export(export) {
+                Ok(()) => {
+                    self.last = at;
+                    return Ok(());
+                }
+                Err(error) => failed = error,
+            }
+        }
+        Err(failed)
+    }
+
+    fn shutdown(&mut self) -> Result<(), ExportError> {
+        let ended = self.exporters.iter_mut().map(|it| it.shutdown());
+        ended.fold(Ok(()), |before, now| before.and(now))
+    }
+}
