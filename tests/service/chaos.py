@@ -124,6 +124,17 @@ class Seed:
                 lambda: f"Prometheus does not keep the page of gateway {gateway.number}",
             )
 
+    def resets(self):
+        """How often Prometheus saw a counter of this seed fall: a gateway that comes back shows no less than before, but for what peers told
+        it while its disk was full."""
+        count = 0
+        for name in ("requests_total", "latency_milliseconds_count"):
+            found = self.prometheus.ask(f'resets({name}{{life=~"{self.seed}-.*"}}[10m])')
+            if not found:
+                raise Fault(f"Prometheus kept no {name}")
+            count += int(sum(value for _, value in found))
+        return count
+
     def differing(self):
         told = {it.number: (tables_of(it), it.json("/v1/peers")) for it in self.gateways.values()}
         found = {number: tables and self.missing(totals_in(tables)) for number, (tables, _) in told.items()}
@@ -134,7 +145,7 @@ class Seed:
         return {
             "done": dict(sorted(self.nemesis.done.items())), "exports told": exports, "not taken": sum(it.counts["not taken"] for it in self.workers),
             "lives": len(self.lives()), "starts": sum(it.starts for it in self.gateways.values()), "proxy": dict(self.proxy.counts),
-            "seconds to agree": round(took, 2),
+            "seconds to agree": round(took, 2), "resets seen": self.resets(),
         }
 
 

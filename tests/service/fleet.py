@@ -46,7 +46,7 @@ class Gateway:
         self.number, self.address, self.state, self.log, self.port = number, address, state, log, port
         self.process, self.starts = None, 0
         peers = [word for it in peers for word in ("--peer", it)]
-        self.words = [*inside, str(program), "--listen", f"{address}:{port}", "--state", str(state), "--log-level", "debug", *peers, *flags]
+        self.words = [*inside, str(program), "--listen", f"{address}:{port}", "--state", str(state), "--log-level", "info", *peers, *flags]
 
     def start(self):
         self.starts += 1

@@ -24,19 +24,19 @@ class Pushed(typing.NamedTuple):
 class Life:
     """A worker from a start on: what it collected, and the newest of that of which it was told that it was taken."""
 
-    def __init__(self, worker, number, service):
-        self.worker, self.number, self.service = worker, number, service
+    def __init__(self, seed, worker, number):
+        self.seed, self.worker, self.number = seed, worker, number
         self.pushed, self.told = [], -1
 
     def name(self):
-        return f"{self.worker}-{self.number}"
+        return f"{self.seed}-{self.worker}-{self.number}"
 
 
 class Worker:
     """Counts at random, from a seed; dies and comes back where it is told to."""
 
     def __init__(self, number, seed, proxy, gateways):
-        self.number, self.proxy, self.gateways = number, proxy, list(gateways)
+        self.number, self.seed, self.proxy, self.gateways = number, seed, proxy, list(gateways)
         self.chance = random.Random(f"worker {number} {seed}")
         self.service, self.instance = ("shop", "till")[number % 2], unique_instance()
         self.plan, self.lives, self.last, self.time = Plan(PLAN), [], 0, 0
@@ -52,7 +52,7 @@ class Worker:
 
     def begin(self):
         """A life begins: the same instance, under a later start."""
-        self.lives.append(Life(self.number, len(self.lives) + 1, self.service))
+        self.lives.append(Life(self.seed, self.number, len(self.lives) + 1))
         self.writer = Writer(self.plan, self.service, self.instance, self.now())
         life = self.lives[-1].name()
         self.sets = {it: Attributes({"route": it, "life": life}) for it in ROUTES}
