@@ -14,7 +14,7 @@ class Nemesis:
         self.stop = threading.Event()
 
     def deeds(self):
-        deeds = [self.kills, self.kills, self.ends, self.parts, self.hides, self.pauses, self.delays, self.doubles, self.reorders, self.lets_die]
+        deeds = [self.kills, self.kills, self.ends, self.parts, self.hides, self.pauses, self.delays, self.doubles, self.reorders, self.lets_die, self.takes_along]
         if self.network.has_loss:
             deeds.append(self.loses)
         if self.disks.mounted:
@@ -82,6 +82,22 @@ class Nemesis:
 
     def lets_die(self):
         self.chance.choice(self.workers).dies.set()
+
+    def takes_along(self):
+        """A gateway is cut off, a worker dies right after it pushed there, and the gateway is killed: what that worker was told is nowhere
+        but on this one's disk."""
+        worker = self.chance.choice(self.workers)
+        number = worker.gateways[worker.last]
+        if number in self.dead:
+            return
+        self.network.cut(number, [it for it in self.gateways if it != number])
+        taken, end = worker.counts["taken"], time.monotonic() + 1
+        while worker.counts["taken"] < taken + 2 and time.monotonic() < end:
+            time.sleep(0.005)
+        worker.dies.set()
+        self.gateways[number].kill()
+        self.dead[number] = True
+        self.later(self.network.heal)
 
     def delays(self):
         self.proxy.delay = self.chance.random() * 0.3
