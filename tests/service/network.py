@@ -1,15 +1,14 @@
 """Where gateways live: network namespaces of this test's own, each with an address, or addresses of the loopback where a machine lets
 nobody make namespaces. Nothing goes beyond them."""
 import contextlib
-import os
 import pathlib
 import random
-import re
 import shutil
 import subprocess
 
-PREFIX = "ktsk"
 HUB = "10.77.0.1"
+# A network, mounts and processes of one's own: all of it ends with the process that is the first there.
+OWN = ("unshare", "--net", "--mount", "--pid", "--fork", "--kill-child", "--mount-proc")
 
 
 def called(*words):
@@ -29,11 +28,10 @@ class Namespaces:
     has_loss = True
 
     def __init__(self, count):
-        self.own = f"{PREFIX}{os.getpid()}"
         self.addresses = {it: f"10.77.0.{10 + it}" for it in range(1, count + 1)}
 
     def name(self, number):
-        return f"{self.own}g{number}"
+        return f"g{number}"
 
     def inside(self, number):
         """The words before a command that is to run where a gateway lives."""
@@ -41,7 +39,6 @@ class Namespaces:
 
     def make(self):
         """The hub is the namespace in which this process is."""
-        done("ip", "link", "set", "lo", "up")
         done("ip", "link", "add", "hub", "type", "bridge")
         done("ip", "addr", "add", f"{HUB}/24", "dev", "hub")
         done("ip", "link", "set", "hub", "up")
@@ -72,27 +69,24 @@ class Namespaces:
             self.table(number, "-F")
 
 
+TRIAL = """mkdir -p /run/netns && mount -t tmpfs tmpfs /run/netns && ip netns add trial &&
+ip netns exec trial iptables -A INPUT -m statistic --mode random --probability 0.1 -j DROP"""
+
+
 def is_there():
     """Why namespaces can't be made here; nothing where they can."""
-    for program in ("ip", "iptables", "unshare"):
+    for program in ("ip", "iptables", "unshare", "mount"):
         if not shutil.which(program):
             return f"there is no {program}"
-    trial = f"{PREFIX}trial{os.getpid()}"
-    told = called("ip", "netns", "add", trial)
-    try:
-        if not told.returncode:
-            told = called("ip", "netns", "exec", trial, "iptables", "-A", "INPUT", "-m", "statistic", "--mode", "random", "--probability", "0.1", "-j", "DROP")
-    finally:
-        called("ip", "netns", "del", trial)
-    return told.stderr.strip() if told.returncode else ""
+    told = called(*OWN, "sh", "-c", TRIAL)
+    return f"{told.stderr.strip()} (status {told.returncode})" if told.returncode else ""
 
 
-def sweep():
-    """Namespaces that a run left which was killed."""
-    for line in called("ip", "netns", "list").stdout.splitlines():
-        found = re.match(rf"{PREFIX}(?:trial)?(\d+)", line)
-        if found and not pathlib.Path(f"/proc/{found[1]}").exists():
-            called("ip", "netns", "del", line.split()[0])
+def enter():
+    """What the first process of a network of its own does there."""
+    pathlib.Path("/run/netns").mkdir(exist_ok=True)
+    done("mount", "-t", "tmpfs", "tmpfs", "/run/netns")
+    done("ip", "link", "set", "lo", "up")
 
 
 @contextlib.contextmanager

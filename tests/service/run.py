@@ -24,6 +24,7 @@ import contextlib
 import os
 import pathlib
 import shutil
+import signal
 import subprocess
 import sys
 import tempfile
@@ -153,18 +154,19 @@ def go_inside():
     import network
 
     if os.environ.get(INSIDE):
-        network.done("ip", "link", "set", "lo", "up")
+        network.enter()
         return
-    network.sweep()
     why = network.is_there()
     if why:
         print(f"service: no namespaces can be made here, so links are cut, and nothing is lost on them: {why}", flush=True)
         return
     os.environ[INSIDE] = "1"
-    os.execvp("unshare", ["unshare", "--net", "--mount", sys.executable, "-B", str(HERE / "run.py"), *sys.argv[1:]])
+    os.execvp(network.OWN[0], [*network.OWN, sys.executable, "-B", str(HERE / "run.py"), *sys.argv[1:]])
 
 
 def main():
+    # (whoever ends this has all ended that it began)
+    signal.signal(signal.SIGTERM, lambda *_: sys.exit("ended from outside"))
     given, began = asked(), time.time()
     is_missing()
     go_inside()
