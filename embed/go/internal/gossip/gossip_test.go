@@ -121,7 +121,7 @@ func (o *other) ServeHTTP(w http.ResponseWriter, request *http.Request) {
 func until(t *testing.T, what string, holds func() bool) {
 	t.Helper()
 	for turn := 0; !holds(); turn++ {
-		if turn == 1000 {
+		if turn == 6000 {
 			t.Fatal(what)
 		}
 		time.Sleep(10 * time.Millisecond)

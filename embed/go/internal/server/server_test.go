@@ -248,7 +248,7 @@ func until(t *testing.T, status int, ask func() (int, string, http.Header)) {
 		if found == status {
 			return
 		}
-		if turn == 1000 {
+		if turn == 6000 {
 			t.Fatal(found, said)
 		}
 		time.Sleep(10 * time.Millisecond)

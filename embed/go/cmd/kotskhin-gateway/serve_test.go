@@ -1,0 +1,198 @@
+package main
+
+import (
+	"bytes"
+	"context"
+	"crypto/ecdsa"
+	"crypto/elliptic"
+	"crypto/rand"
+	"crypto/tls"
+	"crypto/x509"
+	"crypto/x509/pkix"
+	"encoding/pem"
+	"fmt"
+	"io"
+	"math/big"
+	"net"
+	"net/http"
+	"os"
+	"path/filepath"
+	"strings"
+	"testing"
+	"time"
+
+	"kotskhin"
+	"kotskhin/internal/logs"
+	"kotskhin/internal/settings"
+)
+
+const rights = "shop-0123456789abcdef write shop\npeer-0123456789abcdef peer *\n"
+
+func must[T any](t *testing.T) func(made T, err error) T {
+	return func(made T, err error) T {
+		t.Helper()
+		if err != nil {
+			t.Fatal(err)
+		}
+		return made
+	}
+}
+
+func write(t *testing.T, name string, content []byte) string {
+	t.Helper()
+	if err := os.WriteFile(name, content, 0o600); err != nil {
+		t.Fatal(err)
+	}
+	return name
+}
+
+func block(kind string, content []byte) []byte {
+	return pem.EncodeToMemory(&pem.Block{Type: kind, Bytes: content})
+}
+
+// certified makes a CA, and a certificate of localhost by it: the names of three files.
+func certified(t *testing.T, folder string) (ca, cert, key string) {
+	t.Helper()
+	own := must[*ecdsa.PrivateKey](t)(ecdsa.GenerateKey(elliptic.P256(), rand.Reader))
+	of := func(serial int64, isCA bool) *x509.Certificate {
+		return &x509.Certificate{
+			SerialNumber: big.NewInt(serial), Subject: pkix.Name{CommonName: fmt.Sprint(serial)}, NotBefore: time.Now().Add(-time.Hour),
+			NotAfter: time.Now().Add(time.Hour), IsCA: isCA, BasicConstraintsValid: true, DNSNames: []string{"localhost"},
+			KeyUsage:    x509.KeyUsageCertSign | x509.KeyUsageDigitalSignature,
+			ExtKeyUsage: []x509.ExtKeyUsage{x509.ExtKeyUsageServerAuth, x509.ExtKeyUsageClientAuth},
+		}
+	}
+	root := must[[]byte](t)(x509.CreateCertificate(rand.Reader, of(1, true), of(1, true), own.Public(), own))
+	leaf := must[[]byte](t)(x509.CreateCertificate(rand.Reader, of(2, false), of(1, true), own.Public(), own))
+	bytes := must[[]byte](t)(x509.MarshalECPrivateKey(own))
+	return write(t, filepath.Join(folder, "ca"), block("CERTIFICATE", root)), write(t, filepath.Join(folder, "cert"), block("CERTIFICATE", leaf)),
+		write(t, filepath.Join(folder, "key"), block("EC PRIVATE KEY", bytes))
+}
+
+func freePort(t *testing.T) string {
+	t.Helper()
+	listener := must[net.Listener](t)(net.Listen("tcp", "127.0.0.1:0"))
+	defer listener.Close()
+	_, port, _ := net.SplitHostPort(listener.Addr().String())
+	return port
+}
+
+// begun is a gateway of these words, and what ends it and gives its error.
+func begun(t *testing.T, words ...string) func() error {
+	t.Helper()
+	it := must[*settings.Settings](t)(settings.Read(words, func(string) string { return "" }, io.Discard))
+	ctx, cancel := context.WithCancel(context.Background())
+	ended := make(chan error, 1)
+	go func() { ended <- serve(ctx, it, logs.New(io.Discard, logs.Error, false)) }()
+	return func() error {
+		cancel()
+		return <-ended
+	}
+}
+
+// clientOf speaks TLS, with a certificate where one is given.
+func clientOf(t *testing.T, ca, cert, key string) *http.Client {
+	t.Helper()
+	roots := x509.NewCertPool()
+	roots.AppendCertsFromPEM(must[[]byte](t)(os.ReadFile(ca)))
+	speaks := &tls.Config{RootCAs: roots}
+	if cert != "" {
+		speaks.Certificates = []tls.Certificate{must[tls.Certificate](t)(tls.LoadX509KeyPair(cert, key))}
+	}
+	return &http.Client{Transport: &http.Transport{TLSClientConfig: speaks}, Timeout: 30 * time.Second}
+}
+
+// asked is the status and the text of an answer; 0 where there is none.
+func asked(client *http.Client, method, url, token string, body []byte) (int, string) {
+	request, err := http.NewRequest(method, url, bytes.NewReader(body))
+	if err != nil {
+		return 0, err.Error()
+	}
+	request.Header.Set("Authorization", "Bearer "+token)
+	answer, err := client.Do(request)
+	if err != nil {
+		return 0, err.Error()
+	}
+	defer answer.Body.Close()
+	told, _ := io.ReadAll(answer.Body)
+	return answer.StatusCode, string(told)
+}
+
+func until(t *testing.T, what string, holds func() bool) {
+	t.Helper()
+	for turn := 0; !holds(); turn++ {
+		if turn == 6000 {
+			t.Fatal(what)
+		}
+		time.Sleep(10 * time.Millisecond)
+	}
+}
+
+func exported(t *testing.T, value int64) []byte {
+	t.Helper()
+	plan := must[kotskhin.Plan](t)(kotskhin.NewPlan(kotskhin.Instrument{Scope: "app", Name: "requests", Unit: "1", Kind: kotskhin.Counter}))
+	writer := must[kotskhin.Writer](t)(kotskhin.StartWriter(plan, "shop", kotskhin.Instance{Low: 1}, 100))
+	if err := writer.Measure(0, must[kotskhin.Attributes](t)(kotskhin.NewAttributes()), value); err != nil {
+		t.Fatal(err)
+	}
+	return must[[]byte](t)(must[kotskhin.Export](t)(writer.Collect(200)).Encode())
+}
+
+// Two gateways that find each other by a name speak TLS with certificates and tokens, and one that ends has kept what it took.
+func TestTwoByNameWithTLSAndTokens(t *testing.T) {
+	room := t.TempDir()
+	ca, cert, key := certified(t, room)
+	tokens := write(t, filepath.Join(room, "tokens"), []byte(rights))
+	ports := []string{freePort(t), freePort(t)}
+	common := []string{
+		"--token-file", tokens, "--tls-cert", cert, "--tls-key", key, "--client-ca", ca, "--gossip-interval", "20ms", "--gossip-longest-pause", "100ms",
+		"--peer", "localhost:" + ports[0], "--peer", "localhost:" + ports[1],
+	}
+	words := func(number int) []string {
+		return append([]string{"--listen", "127.0.0.1:" + ports[number], "--state", filepath.Join(room, ports[number])}, common...)
+	}
+	ends := []func() error{begun(t, words(0)...), begun(t, words(1)...)}
+	client := clientOf(t, ca, cert, key)
+	url := func(number int, path string) string { return "https://localhost:" + ports[number] + path }
+	until(t, "it is not ready", func() bool { status, _ := asked(client, "GET", url(0, "/readyz"), "", nil); return status == 200 })
+	status, told := asked(client, "POST", url(0, "/v1/exports"), "shop-0123456789abcdef", exported(t, 7))
+	if status != 200 {
+		t.Fatal(status, told)
+	}
+	if status, _ := asked(client, "POST", url(0, "/v1/exports"), "peer-0123456789abcdef", exported(t, 7)); status != 403 {
+		t.Fatal(status)
+	}
+	if status, told := asked(clientOf(t, ca, "", ""), "GET", url(0, "/readyz"), "", nil); status != 0 {
+		t.Fatal(status, told)
+	}
+	holds := func(number int) func() bool {
+		return func() bool {
+			_, told := asked(client, "GET", url(number, "/v1/table"), "", nil)
+			return strings.HasSuffix(told, "  7\n")
+		}
+	}
+	until(t, "the other one is not told", holds(1))
+	for _, end := range ends {
+		if err := end(); err != nil {
+			t.Fatal(err)
+		}
+	}
+	alone := begun(t, words(1)...)
+	until(t, "it comes back without what it held", holds(1))
+	if err := alone(); err != nil {
+		t.Fatal(err)
+	}
+}
+
+func TestWhatIsNotThere(t *testing.T) {
+	room := t.TempDir()
+	for _, words := range [][]string{
+		{"--token-file", filepath.Join(room, "none")}, {"--tls-cert", filepath.Join(room, "none"), "--tls-key", filepath.Join(room, "none")},
+		{"--listen", "256.0.0.1:1"}, {"--token-file", write(t, filepath.Join(room, "bad"), []byte("short write shop\n"))},
+	} {
+		it := must[*settings.Settings](t)(settings.Read(words, func(string) string { return "" }, io.Discard))
+		if err := serve(context.Background(), it, nil); err == nil {
+			t.Error(words)
+		}
+	}
+}
