@@ -3,10 +3,9 @@
 
     run.py FOLDER          FOLDER is what embed/build made
 
-While the workers count one gateway is killed and comes back, another is asked to end and comes back, and a worker is started once more. Each
-worker pushes to the first gateway that takes what it has. In the end Prometheus is asked, and must answer what the workers counted. All of
-it runs on 127.0.0.1, on free ports, and in a folder that is removed. What is not on this machine is said and left out, but for Go and
-Prometheus."""
+While the workers count one gateway is killed and comes back, another is asked to end and comes back, and a worker is started once more.
+Each worker pushes to the first gateway that takes what it has. In the end Prometheus is asked, and must answer what the workers counted.
+All of it runs on 127.0.0.1, on free ports, and in a folder that is removed. Without cargo there is no worker in Rust."""
 import contextlib
 import os
 import pathlib

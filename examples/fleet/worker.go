@@ -23,7 +23,8 @@ func main() {
 	for _, it := range gateways {
 		exporters = append(exporters, metric.HTTPBytesExporter(it+"/v1/exports", nil, nil))
 	}
-	reader := metric.NewPeriodicReader(metric.FirstOf(exporters...), metric.WithInterval(200*time.Millisecond), metric.WithOnFailed(func(error) {}))
+	quiet := metric.WithOnFailed(func(error) {})
+	reader := metric.NewPeriodicReader(metric.FirstOf(exporters...), metric.WithInterval(200*time.Millisecond), quiet)
 	provider, err := metric.NewMeterProvider(metric.WithResource(attribute.String("service.name", service)), metric.WithReader(reader))
 	if err != nil {
 		log.Fatal(err)

@@ -1,4 +1,5 @@
-//! A worker in Rust: worker SERVICE RECORDINGS GATEWAY.. . It pushes to the first gateway that takes what it has, and prints what it counted.
+//! A worker in Rust: worker SERVICE RECORDINGS GATEWAY.. . It pushes to the first gateway that takes what it has, and prints what it
+//! counted.
 use kotskhin::otel::{
     FirstOf, HttpExporter, KeyValue, PeriodicReader, PushExporter, Resource, SdkMeterProvider,
 };

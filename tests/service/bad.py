@@ -14,9 +14,11 @@ WRITES, NOBODY, PEERS = "writes-0123456789abcdef", "nobody-0123456789abcdef", "p
 TOKENS = f"{WRITES} write shop\n{NOBODY} write nobody\n{PEERS} peer nobody\n"
 MOST_GROWTH = 64 << 20
 THREADS = 4
-TYPES = {"/v1/exports": "application/x-kotskhin", "/v1/metrics": "application/x-protobuf", "/v1/messages": "application/vnd.kotskhin.message"}
-# What each path may answer to bodies that are bad, or speak for a service that is not the sender's. A request of OTLP that has nothing in it,
-# or nothing that has a counterpart, is answered 200: then nothing is taken, too.
+TYPES = {
+    "/v1/exports": "application/x-kotskhin", "/v1/metrics": "application/x-protobuf", "/v1/messages": "application/vnd.kotskhin.message",
+}
+# What each path may answer to bodies that are bad, or speak for a service that is not the sender's. A request of OTLP that has nothing in
+# it, or nothing that has a counterpart, is answered 200: then nothing is taken, too.
 MAY = {"/v1/exports": {400, 403}, "/v1/metrics": {200, 400, 403, 413}, "/v1/messages": {400, 403, 421}}
 
 
@@ -26,7 +28,8 @@ def sample():
     writer = Writer(plan, "shop", 7, 100)
     for number in range(40):
         for instrument in range(3):
-            writer.measure(instrument, Attributes({"route": f"/{number % 7}", "status": 200 + number % 3, "ok": number % 2 == 0}), number * 17)
+            pairs = {"route": f"/{number % 7}", "status": 200 + number % 3, "ok": number % 2 == 0}
+            writer.measure(instrument, Attributes(pairs), number * 17)
     return writer.collect(time.time_ns())
 
 
@@ -67,7 +70,8 @@ class Trial:
     def __init__(self, program, room):
         self.tokens = room / "tokens"
         self.tokens.write_text(TOKENS)
-        flags = ("--token-file", str(self.tokens), "--read-timeout", "2s", "--max-body", "256KiB", "--max-connections", "64", "--log-level", "error")
+        limits = ("--read-timeout", "2s", "--max-body", "256KiB", "--max-connections", "64")
+        flags = ("--token-file", str(self.tokens), *limits, "--log-level", "error")
         self.gateway = Gateway(program, 1, ADDRESS, [], room / "bad", room / "bad.log", flags=flags, port=PORT)
 
     def __enter__(self):
@@ -84,7 +88,8 @@ class Trial:
         self.gateway.kill()
 
     def post(self, path, body, token, **heads):
-        heads = {"Content-Type": TYPES[path], "Authorization": f"Bearer {token}", **{it.replace("_", "-"): value for it, value in heads.items()}}
+        heads = {it.replace("_", "-"): value for it, value in heads.items()}
+        heads = {"Content-Type": TYPES[path], "Authorization": f"Bearer {token}", **heads}
         status, _, told = asked(ADDRESS, "POST", path, body, heads, 30, PORT)
         return status, told
 
@@ -116,7 +121,8 @@ def bodies(program, room, count):
                     body = mutated(chance, good[path])
                     token = PEERS if path == "/v1/messages" else NOBODY
                     zips = chance.random() < 0.2
-                    status, told = it.post(path, gzip.compress(body) if zips else body, token, **({"Content_Encoding": "gzip"} if zips else {}))
+                    heads = {"Content_Encoding": "gzip"} if zips else {}
+                    status, told = it.post(path, gzip.compress(body) if zips else body, token, **heads)
                     answers[path][status] = answers[path].get(status, 0) + 1
                     if status not in MAY[path]:
                         faults.append(f"{path}: {status} {told[:200]} to {body[:200].hex()}")
@@ -152,7 +158,8 @@ def queries(program, room, count):
             values = ["app", "requests", "%00", "%ff", "route=/1", "=", ",", "histogram", "%22", "5,10", ""]
             query = "&".join(f"{chance.choice(words)}={chance.choice(values)}" for _ in range(chance.randrange(5)))
             path = chance.choice(["/v1/table", "/v1/rows", "/v1/streams", "/metrics", "/v1/peers", "/", "/v1", "/v1/rows/", "//metrics"])
-            status, _, told = asked(ADDRESS, chance.choice(["GET", "GET", "GET", "POST", "PUT", "DELETE", "HEAD"]), f"{path}?{query}", port=PORT)
+            method = chance.choice(["GET", "GET", "GET", "POST", "PUT", "DELETE", "HEAD"])
+            status, _, told = asked(ADDRESS, method, f"{path}?{query}", port=PORT)
             answers[status] = answers.get(status, 0) + 1
             if status not in (200, 400, 401, 404, 405):
                 raise Fault(f"{path}?{query}: {status} {told[:200]}")
@@ -186,8 +193,9 @@ def opened(head=b""):
 
 
 def head_of(path, length, token):
-    words = f"POST {path} HTTP/1.1\r\nHost: gateway\r\nAuthorization: Bearer {token}\r\nContent-Type: {TYPES[path]}\r\nContent-Length: {length}\r\n\r\n"
-    return words.encode()
+    lines = [f"POST {path} HTTP/1.1", "Host: gateway", f"Authorization: Bearer {token}", f"Content-Type: {TYPES[path]}"]
+    lines.append(f"Content-Length: {length}")
+    return "".join(f"{it}\r\n" for it in [*lines, ""]).encode()
 
 
 def rest_of(made):

@@ -10,7 +10,7 @@ from proxy import Proxy
 from workers import ROUTES, SCOPE, Worker
 
 GATEWAYS, WORKERS = 3, 8
-FLAGS = ("--gossip-interval", "100ms", "--gossip-longest-pause", "500ms", "--gossip-timeout", "1s", "--save-interval", "2s", "--ready-patience", "30s")
+FLAGS = ("--gossip-interval", "100ms", "--gossip-longest-pause", "500ms", "--gossip-timeout", "1s", "--save-interval", "2s")
 
 
 def gateways_of(program, network, disks, room, seed):
@@ -125,8 +125,8 @@ class Seed:
             )
 
     def resets(self):
-        """How often Prometheus saw a counter of this seed fall: a gateway that comes back shows no less than before, but for what peers told
-        it while its disk was full."""
+        """How often Prometheus saw a counter of this seed fall: a gateway that comes back shows no less than before, but for what peers
+        told it while its disk was full."""
         count = 0
         for name in ("requests_total", "latency_milliseconds_count"):
             found = self.prometheus.ask(f'resets({name}{{life=~"{self.seed}-.*"}}[10m])')
@@ -141,9 +141,9 @@ class Seed:
         return f"missing lives: {found}; peers: {[peers for _, peers in told.values()]}"
 
     def told(self, took):
-        exports = sum(it.counts["taken"] for it in self.workers)
+        taken, not_taken = (sum(it.counts[what] for it in self.workers) for what in ("taken", "not taken"))
         return {
-            "done": dict(sorted(self.nemesis.done.items())), "exports told": exports, "not taken": sum(it.counts["not taken"] for it in self.workers),
+            "done": dict(sorted(self.nemesis.done.items())), "exports told": taken, "not taken": not_taken,
             "lives": len(self.lives()), "starts": sum(it.starts for it in self.gateways.values()), "proxy": dict(self.proxy.counts),
             "seconds to agree": round(took, 2), "resets seen": self.resets(),
         }

@@ -1,5 +1,6 @@
-"""How much one gateway takes by HTTP, beside a Pushgateway that is sent the same series as text: one run, one after the other, each on two
-processors of its own."""
+"""How much one gateway takes by HTTP, beside a Pushgateway that is sent the same series as text: one run, one after the other, each on the
+same two processors. Each shape is posted for at most ten seconds. Points a processor second are what is left to compare where other work
+runs beside."""
 import contextlib
 import json
 import os
@@ -11,6 +12,7 @@ from fleet import PORT, Gateway, asked, until
 
 HERE = pathlib.Path(__file__).resolve().parent
 ADDRESS, PUSH = "127.0.0.1", 9091
+UNCHECKED = "--push.disable-consistency-check"
 MODULE = "module load\n\ngo 1.18\n\nrequire kotskhin v0.0.0\n\nreplace kotskhin => {}\n"
 
 
@@ -33,6 +35,12 @@ def halves():
 
 def on(processors, words):
     return ["taskset", "-c", ",".join(map(str, processors)), *map(str, words)]
+
+
+def seconds_of(process):
+    """Seconds of processors that a process has had: what else runs takes none of them away."""
+    words = open(f"/proc/{process}/stat").read().rpartition(")")[2].split()
+    return (int(words[11]) + int(words[12])) / os.sysconf("SC_CLK_TCK")
 
 
 def memory(process):
@@ -76,18 +84,22 @@ def pushgateway(room, processors, *flags):
 def main(program, room):
     posts, (measured, others) = built(room), halves()
     print(f"measured on processors {measured}, posted from {others}; load {os.getloadavg()}", flush=True)
+    kept = ("--state", str(room / "kept"))
     for shape in (("50", "1000"), ("1000", "20")):
         sizes = ["-writers", shape[0], "-points", shape[1], "-rounds", str(5000000 // int(shape[0]) // int(shape[1]))]
         for name, opened, kind, port in (
             ("gateway, the kit's bytes", lambda: gateway(program, room, "kit", measured), "kit", PORT),
             ("gateway, OTLP", lambda: gateway(program, room, "otlp", measured), "otlp", PORT),
-            ("gateway with a state, the kit's bytes", lambda: gateway(program, room, "kept", measured, "--state", str(room / "kept")), "kit", PORT),
+            ("gateway with a state, the kit's bytes", lambda: gateway(program, room, "kept", measured, *kept), "kit", PORT),
             ("Pushgateway", lambda: pushgateway(room, measured), "text", PUSH),
-            ("Pushgateway without its check", lambda: pushgateway(room, measured, "--push.disable-consistency-check"), "text", PUSH),
+            ("Pushgateway without its check", lambda: pushgateway(room, measured, UNCHECKED), "text", PUSH),
         ):
             few = ["-rounds", "20"] if kind == "text" else []
             with opened() as process:
+                before = seconds_of(process)
                 told = posted(posts, others, kind, port, *sizes, *few)
+                spent = seconds_of(process) - before
+                told["points a processor second"] = told["posts"] * int(shape[1]) / max(spent, 0.01)
                 print(f"{shape[0]} writers of {shape[1]} points, {name}: {rounded(told)}, {memory(process)}", flush=True)
     return 0
 

@@ -14,7 +14,8 @@ class Nemesis:
         self.stop = threading.Event()
 
     def deeds(self):
-        deeds = [self.kills, self.kills, self.ends, self.parts, self.hides, self.pauses, self.delays, self.doubles, self.reorders, self.lets_die, self.takes_along]
+        deeds = [self.kills, self.kills, self.ends, self.parts, self.hides, self.pauses, self.delays, self.doubles, self.reorders]
+        deeds += [self.lets_die, self.takes_along]
         if self.network.has_loss:
             deeds.append(self.loses)
         if self.disks.mounted:

@@ -16,9 +16,11 @@ which it was told. Where no namespaces can be made, gateways live on addresses o
 this is told.
 
 Bad input: random and changed bodies to each path, cut bodies, slow senders, wrong tokens. Each has its status, and nothing is taken. Disks:
-a damaged state and a damaged journal are told and set aside.
+a damaged state and a damaged journal are told and set aside, and a full disk refuses. Docs: the commands of README print their total, and
+docs/SERVICE.md has the flags, the paths and the figures that there are.
 
-It ends with a status other than 0 where one of these does not hold. What is not on this machine is a fault, unless GATE_WITHOUT names it."""
+It ends with a status other than 0 where one of these does not hold. What is not on this machine is a fault, unless GATE_WITHOUT names
+it."""
 import argparse
 import contextlib
 import os
@@ -132,6 +134,13 @@ class Run:
             self.try_it(f"disks: {what}", call)
 
 
+    def documented(self, kit):
+        import documented
+
+        for what, call in documented.trials(self.program, self.room, kit):
+            self.try_it(f"docs: {what}", call)
+
+
 def network_of(stack, room):
     import chaos
     import network
@@ -186,6 +195,7 @@ def main():
             run.bad(given.bad or BAD)
         if is_whole:
             run.disks()
+            run.documented(kit)
         if is_whole or given.seeds:
             run.chaos(range(given.first, given.first + (given.seeds or SEEDS)))
     print(f"{run.passed} passed, {run.failed} failed, in {time.time() - began:.0f} s")

@@ -43,7 +43,8 @@ func must[T any](made T, err error) T {
 
 // collected are the exports of a writer, one for each round.
 func collected(writer int) []post {
-	plan := must(kotskhin.PlanWith([]kotskhin.Instrument{{Scope: "app", Name: "requests", Unit: "1", Kind: kotskhin.Counter}}, nil, uint64(*points+1)))
+	requests := kotskhin.Instrument{Scope: "app", Name: "requests", Unit: "1", Kind: kotskhin.Counter}
+	plan := must(kotskhin.PlanWith([]kotskhin.Instrument{requests}, nil, uint64(*points+1)))
 	own := must(kotskhin.StartWriter(plan, "shop", must(kotskhin.UniqueInstance()), uint64(time.Now().UnixNano())))
 	defer own.Close()
 	var noted []kotskhin.Noted
@@ -148,7 +149,8 @@ func tell(all []post, took []time.Duration, seconds time.Duration) {
 	sort.Float64s(done)
 	at := func(part float64) float64 { return done[int(part*float64(len(done)-1))] }
 	json.NewEncoder(os.Stdout).Encode(map[string]float64{
-		"posts": float64(len(done)), "posts a second": float64(len(done)) / seconds.Seconds(), "points a second": float64(len(done)**points) / seconds.Seconds(),
-		"p50 ms": at(0.5), "p99 ms": at(0.99), "bytes a point": float64(size) / float64(len(done)**points), "seconds": seconds.Seconds(),
+		"posts": float64(len(done)), "posts a second": float64(len(done)) / seconds.Seconds(),
+		"points a second": float64(len(done)**points) / seconds.Seconds(),
+		"p50 ms":          at(0.5), "p99 ms": at(0.99), "bytes a point": float64(size) / float64(len(done)**points), "seconds": seconds.Seconds(),
 	})
 }

@@ -65,8 +65,10 @@ func certified(t *testing.T, folder string) (ca, cert, key string) {
 	root := must[[]byte](t)(x509.CreateCertificate(rand.Reader, of(1, true), of(1, true), own.Public(), own))
 	leaf := must[[]byte](t)(x509.CreateCertificate(rand.Reader, of(2, false), of(1, true), own.Public(), own))
 	bytes := must[[]byte](t)(x509.MarshalECPrivateKey(own))
-	return write(t, filepath.Join(folder, "ca"), block("CERTIFICATE", root)), write(t, filepath.Join(folder, "cert"), block("CERTIFICATE", leaf)),
-		write(t, filepath.Join(folder, "key"), block("EC PRIVATE KEY", bytes))
+	kept := func(name, kind string, content []byte) string {
+		return write(t, filepath.Join(folder, name), block(kind, content))
+	}
+	return kept("ca", "CERTIFICATE", root), kept("cert", "CERTIFICATE", leaf), kept("key", "EC PRIVATE KEY", bytes)
 }
 
 func freePort(t *testing.T) string {
@@ -145,8 +147,8 @@ func TestTwoByNameWithTLSAndTokens(t *testing.T) {
 	tokens := write(t, filepath.Join(room, "tokens"), []byte(rights))
 	ports := []string{freePort(t), freePort(t)}
 	common := []string{
-		"--token-file", tokens, "--tls-cert", cert, "--tls-key", key, "--client-ca", ca, "--gossip-interval", "20ms", "--gossip-longest-pause", "100ms",
-		"--peer", "localhost:" + ports[0], "--peer", "localhost:" + ports[1],
+		"--token-file", tokens, "--tls-cert", cert, "--tls-key", key, "--client-ca", ca, "--gossip-interval", "20ms",
+		"--gossip-longest-pause", "100ms", "--peer", "localhost:" + ports[0], "--peer", "localhost:" + ports[1],
 	}
 	words := func(number int) []string {
 		return append([]string{"--listen", "127.0.0.1:" + ports[number], "--state", filepath.Join(room, ports[number])}, common...)

@@ -19,7 +19,8 @@ func TestThePageHasFigures(t *testing.T) {
 	for _, wanted := range []string{
 		"a 1\n# HELP kotskhin_gateway_requests_total ", "# TYPE kotskhin_gateway_requests_total counter\n",
 		"\nkotskhin_gateway_requests_total{path=\"/metrics\",status=\"200\"} 3\n",
-		"\nkotskhin_gateway_points_total{path=\"a\\\"b\\\\c\\n\"} 5\n", "# TYPE kotskhin_gateway_held_points gauge\nkotskhin_gateway_held_points 7\n",
+		"\nkotskhin_gateway_points_total{path=\"a\\\"b\\\\c\\n\"} 5\n",
+		"# TYPE kotskhin_gateway_held_points gauge\nkotskhin_gateway_held_points 7\n",
 	} {
 		if !strings.Contains(page, wanted) {
 			t.Fatalf("%q is not in\n%s", wanted, page)

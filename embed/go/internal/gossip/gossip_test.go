@@ -59,7 +59,9 @@ func TestEnvelopes(t *testing.T) {
 	if it, isRead := envelopeOf(answer); !isRead || it != (envelope{kindAck, 2, 300, 1}) || !IsAck(answer) || IsAck(delta) {
 		t.Fatal(it, isRead)
 	}
-	for _, bytes := range []string{"", "KTSM", "KTSM\x02\x01", "KTSM\x02\x01\x01\x03", "KTSM\x02\x01\x01\x01\x80", "KTSK\x02\x01\x01\x02\x01"} {
+	for _, bytes := range []string{
+		"", "KTSM", "KTSM\x02\x01", "KTSM\x02\x01\x01\x03", "KTSM\x02\x01\x01\x01\x80", "KTSK\x02\x01\x01\x02\x01",
+	} {
 		if it, isRead := envelopeOf([]byte(bytes)); isRead {
 			t.Error(bytes, it)
 		}
@@ -143,7 +145,8 @@ func TestAPeerIsToldAndBeginsAnew(t *testing.T) {
 	at := httptest.NewServer(peer)
 	own := opened(t, 1)
 	take(t, own, 1)
-	g := &Gossip{Held: own, Process: "own", Peers: []string{at.URL}, Interval: 10 * time.Millisecond, LongestPause: 50 * time.Millisecond, Timeout: 5 * time.Second}
+	g := &Gossip{Held: own, Process: "own", Peers: []string{at.URL}, Interval: 10 * time.Millisecond, LongestPause: 50 * time.Millisecond,
+		Timeout: 5 * time.Second}
 	ctx, end := context.WithCancel(context.Background())
 	g.Begin(ctx)
 	until(t, "it is not told", func() bool { return points(first) == 1 })
@@ -183,7 +186,8 @@ func TestOtherAnswersAreRefused(t *testing.T) {
 		peer := &other{t: t, answer: answer}
 		peer.begin(7, "one")
 		at := httptest.NewServer(peer)
-		g := &Gossip{Held: own, Process: "own", Peers: []string{at.URL}, Interval: time.Millisecond, LongestPause: time.Millisecond, Timeout: 5 * time.Second}
+		g := &Gossip{Held: own, Process: "own", Peers: []string{at.URL}, Interval: time.Millisecond, LongestPause: time.Millisecond,
+			Timeout: 5 * time.Second}
 		ctx, end := context.WithCancel(context.Background())
 		g.Begin(ctx)
 		until(t, name, func() bool { return g.States()[0].Failed > 1 })
@@ -206,8 +210,8 @@ func TestAGatewayKnowsItself(t *testing.T) {
 	at := httptest.NewServer(peer)
 	defer at.Close()
 	_, port, _ := strings.Cut(strings.TrimPrefix(at.URL, "http://"), ":")
-	g := &Gossip{Held: opened(t, 1), Process: "own", Peers: []string{"127.0.0.1:" + port}, Interval: time.Millisecond, LongestPause: time.Second,
-		Timeout: 5 * time.Second, Refresh: time.Millisecond}
+	g := &Gossip{Held: opened(t, 1), Process: "own", Peers: []string{"127.0.0.1:" + port}, Interval: time.Millisecond,
+		LongestPause: time.Second, Timeout: 5 * time.Second, Refresh: time.Millisecond}
 	ctx, end := context.WithCancel(context.Background())
 	g.Begin(ctx)
 	until(t, "it does not know itself", func() bool { return len(g.States()) == 1 && g.States()[0].State == Self })

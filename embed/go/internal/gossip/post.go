@@ -55,13 +55,13 @@ func (g *Gossip) post(ctx context.Context, p *peer, message []byte) ([]byte, err
 		return nil, err
 	case status == http.StatusOK, status == http.StatusNoContent:
 		return body, nil
-	case status == http.StatusMisdirectedRequest && head.Get(IDHeader) != "" && head.Get(IDHeader) != strconv.FormatUint(uint64(p.read().id), 10):
+	case status == http.StatusMisdirectedRequest && head.Get(IDHeader) != strconv.FormatUint(uint64(p.read().id), 10):
 		return nil, errMoved
 	}
 	return nil, fmt.Errorf("%s answers %d: %s", MessagesPath, status, short(body))
 }
 
-func (g *Gossip) ask(ctx context.Context, p *peer, method, path string, body []byte) (status int, answer []byte, head http.Header, err error) {
+func (g *Gossip) ask(ctx context.Context, p *peer, method, path string, body []byte) (int, []byte, http.Header, error) {
 	request, err := http.NewRequestWithContext(ctx, method, p.url+path, bytes.NewReader(body))
 	if err != nil {
 		return 0, nil, nil, err
@@ -77,6 +77,6 @@ func (g *Gossip) ask(ctx context.Context, p *peer, method, path string, body []b
 		return 0, nil, nil, err
 	}
 	defer got.Body.Close()
-	answer, err = io.ReadAll(io.LimitReader(got.Body, mostAnswer))
+	answer, err := io.ReadAll(io.LimitReader(got.Body, mostAnswer))
 	return got.StatusCode, answer, got.Header, err
 }

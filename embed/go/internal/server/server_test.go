@@ -114,7 +114,8 @@ func TestExportsAreTakenAndShown(t *testing.T) {
 		{zipped(encoded(t, "shop", 2, 4)), []string{"Content-Encoding", "gzip"}, `{"exports":1,"points":1}`},
 		{framed(encoded(t, "till", 3, 5), encoded(t, "till", 4, 6)), []string{"Content-Type", ExportsType}, `{"exports":2,"points":2}`},
 	} {
-		if status, said, _ := got(t, http.MethodPost, url+"/v1/exports", it.body, it.heads...); status != 200 || strings.TrimSpace(said) != it.says {
+		status, said, _ := got(t, http.MethodPost, url+"/v1/exports", it.body, it.heads...)
+		if status != 200 || strings.TrimSpace(said) != it.says {
 			t.Fatal(status, said)
 		}
 	}
@@ -123,7 +124,8 @@ func TestExportsAreTakenAndShown(t *testing.T) {
 		t.Fatal(status, said)
 	}
 	_, page, head := got(t, http.MethodGet, url+"/metrics", nil)
-	if head.Get("Content-Type") != kotskhin.PrometheusType || !strings.Contains(page, `service_name="till"} 11`) || !strings.Contains(page, "kotskhin_gateway_held_points 5") {
+	isWhole := strings.Contains(page, `service_name="till"} 11`) && strings.Contains(page, "kotskhin_gateway_held_points 5")
+	if head.Get("Content-Type") != kotskhin.PrometheusType || !isWhole {
 		t.Fatal(page)
 	}
 	_, page, head = got(t, http.MethodGet, url+"/metrics", nil, "Accept", "application/openmetrics-text;version=1.0.0,*/*;q=0.1")
@@ -141,7 +143,8 @@ func TestExportsAreTakenAndShown(t *testing.T) {
 		}
 	}
 	_, said, _ := got(t, http.MethodGet, url+"/v1/rows?scope=app&shape=counter", nil)
-	if said != `{"stream":{"scope":"app","name":"requests","unit":"1","shape":"counter"},"rows":[{"attributes":[],"points":5,"conflicts":0,"total":"25"}]}`+"\n" {
+	if said != `{"stream":{"scope":"app","name":"requests","unit":"1","shape":"counter"},`+
+		`"rows":[{"attributes":[],"points":5,"conflicts":0,"total":"25"}]}`+"\n" {
 		t.Error(said)
 	}
 	if _, said, _ = got(t, http.MethodGet, url+"/v1/streams", nil); !strings.Contains(said, `"name":"requests"`) {
@@ -204,7 +207,8 @@ func TestRefusals(t *testing.T) {
 	if points, _ := s.Held.Counts(); points != 0 {
 		t.Error("taken:", points)
 	}
-	if status, said, head := got(t, http.MethodPost, url+"/v1/messages", message, "Authorization", peer); status != 200 || head.Get("Content-Type") != gossip.MessageType {
+	status, said, head := got(t, http.MethodPost, url+"/v1/messages", message, "Authorization", peer)
+	if status != 200 || head.Get("Content-Type") != gossip.MessageType {
 		t.Error(status, said)
 	}
 	if points, _ := s.Held.Counts(); points != 1 {

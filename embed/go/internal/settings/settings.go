@@ -118,8 +118,8 @@ func flagsOf(it *Settings, out io.Writer) *flag.FlagSet {
 	flags.SetOutput(out)
 	flags.Usage = func() {}
 	flags.StringVar(&it.Listen, "listen", "127.0.0.1:9464", "`ADDRESS` on which it listens")
-	flags.Var((*peers)(&it.Peers), "peer", "another gateway, as often as there are: a `URL`, or a name with a port that is looked up again and again, of "+
-		"which each address is a peer")
+	flags.Var((*peers)(&it.Peers), "peer", "another gateway, as often as there are: a `URL`, or a name with a port, which is looked up again "+
+		"and again, and of which each address is a peer")
 	flags.DurationVar(&it.GossipInterval, "gossip-interval", time.Second, "from one message to a peer to the next")
 	flags.DurationVar(&it.GossipLongestPause, "gossip-longest-pause", 30*time.Second, "the most that pauses grow to while a peer is away")
 	flags.DurationVar(&it.GossipTimeout, "gossip-timeout", 10*time.Second, "how long a peer may take to answer")
@@ -141,7 +141,7 @@ func flagsOf(it *Settings, out io.Writer) *flag.FlagSet {
 	flags.StringVar(&it.TokenFile, "token-file", "", "`FILE` with lines of a token, a right (write, peer or read) and services")
 	flags.StringVar(&it.TLSCert, "tls-cert", "", "`FILE` with its certificate, also towards peers")
 	flags.StringVar(&it.TLSKey, "tls-key", "", "`FILE` with the key of its certificate")
-	flags.StringVar(&it.ClientCA, "client-ca", "", "`FILE` with certificates of who may certify senders and peers; senders without one are refused then")
+	flags.StringVar(&it.ClientCA, "client-ca", "", "`FILE` with certificates of who may certify senders and peers; others are refused then")
 	flags.StringVar(&it.LogLevel, "log-level", "info", "least `LEVEL` that is logged: debug, info, warn or error")
 	flags.StringVar(&it.LogFormat, "log-format", "json", "`FORM` of lines: json or text")
 	flags.BoolVar(&it.IsVersion, "version", false, "tells the version")

@@ -31,14 +31,16 @@ func TestFlagsGoBeforeTheEnvironment(t *testing.T) {
 
 func TestWhatIsRefused(t *testing.T) {
 	for _, words := range []string{
-		"--max-body 0", "--max-body 1KB", "--max-body -5", "--max-body 9999999999GiB", "--peer ftp://a", "--peer a", "--peer :1", "--loud", "word",
+		"--max-body 0", "--max-body 1KB", "--max-body -5", "--max-body 9999999999GiB", "--peer ftp://a", "--peer a", "--peer :1",
+		"--loud", "word",
 		"--gossip-interval 0s", "--gossip-interval 5", "--max-points 0", "--log-format xml", "--tls-cert a", "--client-ca a", "--state /dev/null",
 	} {
 		if made, err, _ := read(words, nil); err == nil {
 			t.Errorf("%s: %+v", words, made)
 		}
 	}
-	if _, err, _ := read("", map[string]string{"KOTSKHIN_MAX_BODY": "much"}); err == nil || !strings.Contains(err.Error(), "KOTSKHIN_MAX_BODY") {
+	_, err, _ := read("", map[string]string{"KOTSKHIN_MAX_BODY": "much"})
+	if err == nil || !strings.Contains(err.Error(), "KOTSKHIN_MAX_BODY") {
 		t.Error(err)
 	}
 }
