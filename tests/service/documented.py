@@ -96,8 +96,9 @@ def paths(program, room, _):
         gateway.kill()
 
 
-def trials(program, room, kit):
+def trials(program, room, kit, is_alone):
     return [
         (what, lambda call=call: call(program, room, kit))
         for what, call in (("the flags", flags), ("how it ends", ends), ("the paths", paths), ("README's commands", commands))
+        if is_alone or call != commands
     ]

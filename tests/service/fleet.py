@@ -3,6 +3,7 @@ import http.client
 import json
 import os
 import signal
+import socket
 import subprocess
 import time
 
@@ -37,6 +38,12 @@ def asked(address, method, path, body=None, heads=None, timeout=10, port=PORT):
         return 0, {}, str(fault).encode()
     finally:
         connection.close()
+
+
+def free_port(address="127.0.0.1"):
+    with socket.socket() as it:
+        it.bind((address, 0))
+        return it.getsockname()[1]
 
 
 class Gateway:

@@ -7,7 +7,6 @@ import urllib.parse
 
 from fleet import Fault, asked, until
 
-PORT = 9090
 SAMPLE = re.compile(r"^(\w+)(?:\{(.*)\})? (\S+)$", re.M)
 LABEL = re.compile(r'(\w+)="((?:[^"\\]|\\.)*)"')
 OF_SCRAPE = {"__name__", "instance", "job"}
@@ -51,7 +50,7 @@ class Prometheus:
 
 
 @contextlib.contextmanager
-def running(folder, targets, address="127.0.0.1", port=PORT, every="500ms"):
+def running(folder, targets, address="127.0.0.1", port=9090, every="500ms"):
     """A Prometheus of these targets, with a folder of its own."""
     folder.mkdir()
     listed = ", ".join(f"'{it}'" for it in targets)

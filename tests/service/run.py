@@ -40,7 +40,7 @@ ARCHIVE = TOP / "crates" / "kit_c" / "out" / "libkit_c.a"
 sys.path[:0] = [str(HERE), str(EMBED / "python")]
 WANTED = ("go", "pkg-config", "prometheus")
 # How long the short form's chaos goes on for a seed, and its seeds.
-SECONDS, SEEDS, BAD = 6, 3, 300
+SECONDS, SEEDS, BAD = 5, 2, 300
 INSIDE = "KOTSKHIN_SERVICE_INSIDE"
 
 
@@ -109,12 +109,12 @@ class Run:
     def chaos(self, seeds):
         import chaos
         import prometheus
-        from fleet import PORT
+        from fleet import PORT, free_port
 
         with contextlib.ExitStack() as stack:
             network, disks = network_of(stack, self.room)
             targets = [f"{it}:{PORT}" for it in network.addresses.values()]
-            scrapes = stack.enter_context(prometheus.running(self.room / "prometheus", targets))
+            scrapes = stack.enter_context(prometheus.running(self.room / "prometheus", targets, port=free_port()))
             for seed in seeds:
                 self.try_it(
                     f"chaos, seed {seed}",
@@ -137,7 +137,8 @@ class Run:
     def documented(self, kit):
         import documented
 
-        for what, call in documented.trials(self.program, self.room, kit):
+        # (README's commands have ports that somebody else may have outside)
+        for what, call in documented.trials(self.program, self.room, kit, bool(os.environ.get(INSIDE))):
             self.try_it(f"docs: {what}", call)
 
 
