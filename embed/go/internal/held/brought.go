@@ -7,8 +7,7 @@ type Brought struct {
 	export *kotskhin.Export
 	// Several exports, joined before anything is taken.
 	joined *kotskhin.Gateway
-	// The bytes by which it is kept: those of the export, or of a gateway that took them all.
-	Bytes []byte
+	bytes  []byte
 	// Of whom it is, and how many points it has of each.
 	Of      []kotskhin.Incarnation
 	Exports int
@@ -17,7 +16,7 @@ type Brought struct {
 
 // Bring is what exports bring. Bytes are those of an export that comes alone, where they are at hand.
 func Bring(exports []kotskhin.Export, bytes []byte) (*Brought, error) {
-	made := &Brought{Exports: len(exports), Bytes: bytes}
+	made := &Brought{Exports: len(exports), bytes: bytes}
 	if len(exports) != 1 {
 		return made, made.join(exports)
 	}
@@ -29,16 +28,18 @@ func Bring(exports []kotskhin.Export, bytes []byte) (*Brought, error) {
 	made.Of = []kotskhin.Incarnation{{
 		Service: head.Service, Instance: head.Instance, Start: head.Start, Newest: head.Time, Points: head.Points,
 	}}
-	if bytes == nil {
-		made.Bytes, err = exports[0].Encode()
-	}
-	return made, err
+	return made, nil
 }
 
-// BringGateway is what a gateway's state brings, which was kept.
-func BringGateway(gateway kotskhin.Gateway) (*Brought, error) {
-	made := &Brought{joined: &gateway}
-	return made, made.list()
+// Bytes are those by which it is kept: of the export, or of a gateway that took them all.
+func (b *Brought) Bytes() (bytes []byte, err error) {
+	switch {
+	case b.bytes != nil:
+		return b.bytes, nil
+	case b.joined != nil:
+		return b.joined.Encode()
+	}
+	return b.export.Encode()
 }
 
 func (b *Brought) join(exports []kotskhin.Export) error {
@@ -52,14 +53,6 @@ func (b *Brought) join(exports []kotskhin.Export) error {
 			return err
 		}
 	}
-	if err := b.list(); err != nil {
-		return err
-	}
-	b.Bytes, err = joined.Encode()
-	return err
-}
-
-func (b *Brought) list() (err error) {
 	if _, b.Points, err = b.joined.Head(); err != nil {
 		return err
 	}

@@ -93,7 +93,7 @@ func (s *Server) take(request *http.Request, grant tokens.Grant, exports []kotsk
 		err = s.Held.Admit(brought)
 	}
 	if err == nil {
-		err = s.Store.Keep(brought.Bytes, func() error { return s.Held.Take(brought) })
+		err = s.keep(brought)
 	}
 	if err != nil {
 		return nil, err
@@ -101,6 +101,18 @@ func (s *Server) take(request *http.Request, grant tokens.Grant, exports []kotsk
 	s.Figures.Add(figures.Exports, figures.Labels("path", request.URL.Path), float64(brought.Exports))
 	s.Figures.Add(figures.Points, figures.Labels("path", request.URL.Path), float64(brought.Points))
 	return brought, nil
+}
+
+// keep keeps what is brought on disk, where there is one, and takes it.
+func (s *Server) keep(brought *held.Brought) error {
+	if s.Store == nil {
+		return s.Held.Take(brought)
+	}
+	bytes, err := brought.Bytes()
+	if err != nil {
+		return err
+	}
+	return s.Store.Keep(bytes, func() error { return s.Held.Take(brought) })
 }
 
 // otlp takes a request of the OpenTelemetry protocol.
