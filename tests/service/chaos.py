@@ -10,7 +10,7 @@ from proxy import Proxy
 from workers import ROUTES, SCOPE, Worker
 
 GATEWAYS, WORKERS = 3, 8
-FLAGS = ("--gossip-interval", "100ms", "--gossip-longest-pause", "500ms", "--gossip-timeout", "1s", "--save-interval", "2s")
+FLAGS = ("--gossip-interval", "100ms", "--gossip-longest-pause", "500ms", "--gossip-timeout", "5s", "--save-interval", "2s")
 
 
 def gateways_of(program, network, disks, room, seed):

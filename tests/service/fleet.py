@@ -8,7 +8,8 @@ import subprocess
 import time
 
 PORT = 9464
-PATIENCE = 120  # seconds that anything has which must come in the end
+PATIENCE = 300  # seconds that anything has which must come in the end
+ANSWER = 60  # and an answer
 
 
 class Fault(Exception):
@@ -27,7 +28,7 @@ def until(holds, what, patience=PATIENCE, pause=0.05):
         time.sleep(pause)
 
 
-def asked(address, method, path, body=None, heads=None, timeout=10, port=PORT):
+def asked(address, method, path, body=None, heads=None, timeout=ANSWER, port=PORT):
     """Status, headers and body of an answer; a status of 0 where there is none."""
     connection = http.client.HTTPConnection(address, port, timeout=timeout)
     try:
@@ -91,7 +92,7 @@ class Gateway:
             self.process.wait()
             raise Fault(f"gateway {self.number} does not end\n{self.tail()}") from fault
 
-    def ask(self, path, method="GET", body=None, heads=None, timeout=10):
+    def ask(self, path, method="GET", body=None, heads=None, timeout=ANSWER):
         return asked(self.address, method, path, body, heads, timeout, self.port)
 
     def is_ready(self):

@@ -50,7 +50,7 @@ class Prometheus:
 
 
 @contextlib.contextmanager
-def running(folder, targets, address="127.0.0.1", port=9090, every="500ms"):
+def running(folder, targets, address="127.0.0.1", port=9090, every="2s"):
     """A Prometheus of these targets, with a folder of its own."""
     folder.mkdir()
     listed = ", ".join(f"'{it}'" for it in targets)

@@ -6,7 +6,7 @@ import socket
 import threading
 import time
 
-from fleet import PORT, asked
+from fleet import ANSWER, PORT, asked
 
 KEPT = 50  # exports that are kept to be brought once more
 
@@ -48,7 +48,7 @@ class Proxy:
         with self.guard:
             return self.chance.choice([it for it in self.addresses if it != number])
 
-    def bring(self, number, path, body, heads, timeout=10):
+    def bring(self, number, path, body, heads, timeout=ANSWER):
         return asked(self.addresses[number], "POST", path, body, heads, timeout, self.port)
 
     def take(self, number, path, body, heads):

@@ -5,13 +5,13 @@ import threading
 import time
 import typing
 
-from fleet import Fault
+from fleet import ANSWER, Fault
 from kotskhin import COUNTER, HISTOGRAM, UP_DOWN, Attributes, Plan, Writer, unique_instance
 
 SCOPE = "service.test"
 ROUTES = ("/", "/cart", "/pay")
 PLAN = ((SCOPE, "requests", "1", COUNTER), (SCOPE, "open", "1", UP_DOWN), (SCOPE, "latency", "ms", HISTOGRAM))
-SECONDS = 1.0  # that a gateway has to take an export
+SECONDS = 1.0  # that a gateway has to take an export, while things go wrong
 
 
 class Pushed(typing.NamedTuple):
@@ -86,7 +86,7 @@ class Worker:
         return False
 
     def posted(self, path, body, heads):
-        connection = http.client.HTTPConnection(self.proxy.url, timeout=SECONDS)
+        connection = http.client.HTTPConnection(self.proxy.url, timeout=ANSWER if self.ends.is_set() else SECONDS)
         try:
             connection.request("POST", path, body, heads)
             answer = connection.getresponse()
