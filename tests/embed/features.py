@@ -4,8 +4,11 @@
     features.py              checks: each export is used by each wrapper, or stands in WITHOUT with a sentence that says why not
     features.py --table      prints the table, as docs/EMBEDDING.md has it below HEADING
 
+Each code of refusals is raised by a case that all languages share (cases.json), or stands in UNRAISED with a sentence that says why not.
+
 Each export stands in a row of FEATURES. A wrapper has a row where it uses all calls of it, and where it has its word. The table of the
 page, where it has one, is the one that is printed. This ends with a status other than 0 where one of these does not hold."""
+import json
 import pathlib
 import re
 import sys
@@ -26,6 +29,15 @@ WITHOUT = {
     ("Rust", "kit_version"): "kotskhin-sys tells the version of the header that it was made with",
     ("Rust", "kit_code_text"): "the texts stand in the sources that are made",
     ("Go", "kit_code_text"): "the texts stand in declared.go, which is made",
+}
+CASES = pathlib.Path(__file__).resolve().parent / "cases.json"
+# Codes that no shared case raises, and why not. The tests in C raise each, but for the last (refusals.c, formats.c).
+UNRAISED = {
+    "WRONG_KIND": "a handle of another kind is given by a cast in C alone: the wrappers' types tell kinds apart",
+    "FULL": "a wrapper fills handles that it has just made",
+    "BUSY": "it takes two calls at once: the threads of the case with seats go on where it is raised, which no test can force",
+    "EXHAUSTED": "it takes 2^62 changes",
+    "TOO_LONG": "it takes a request of 2 GiB",
 }
 # A row: what it is, its calls (a * at the end stands for what follows), and a word that a wrapper has beside them, where it has it.
 FEATURES = [
@@ -72,6 +84,25 @@ def of_row(words, there):
     return {it for word in words.split() for it in there if it == word or word.endswith("*") and it.startswith(word[:-1])}
 
 
+def raised(of):
+    """The codes of steps that are refused, as cases.json writes them."""
+    if isinstance(of, list):
+        return {code for it in of for code in raised(it)}
+    if not isinstance(of, dict):
+        return set()
+    told = of.get("refused")
+    return raised(list(of.values())) | ({told["code"]} if isinstance(told, dict) else set())
+
+
+def unraised():
+    """What does not hold of the codes that shared cases raise."""
+    codes = {it.name for it in exports.codes() if it.number}
+    told = raised(json.loads(CASES.read_text(encoding="utf-8"))["cases"])
+    yield from (f"no shared case raises {it}, and UNRAISED does not say why" for it in sorted(codes - told - set(UNRAISED)))
+    yield from (f"a shared case raises {it}, and UNRAISED says that none does" for it in sorted(told & set(UNRAISED)))
+    yield from (f"{it} is no code" for it in sorted((told | set(UNRAISED)) - codes))
+
+
 def main():
     there = {it.name for it in exports.exports()}
     texts = {language: sources(pattern) for language, pattern in WRAPPERS.items()}
@@ -91,6 +122,7 @@ def main():
     wrong += [f"FEATURES has no row of {it}" for it in sorted(there - covered)]
     for language, calls in lacks.items():
         wrong += [f"{language} does not use {it}, and WITHOUT does not say why" for it in sorted(calls) if (language, it) not in WITHOUT]
+    wrong += unraised()
     wrong += [f"{language} uses {it}, and WITHOUT says that it does not" for language, it in WITHOUT if it in there - lacks[language]]
     head = [f"| What | C | {' | '.join(WRAPPERS)} |", f"|{'---|' * (len(WRAPPERS) + 2)}"]
     made = "\n".join([*head, *table])
@@ -100,7 +132,8 @@ def main():
     if "--table" in sys.argv:
         print(made)
         return 0
-    print("\n".join(wrong) or f"{len(there)} calls: each is used in {', '.join(WRAPPERS)}, or it is said why not")
+    told = f"{len(there)} calls: each is used in {', '.join(WRAPPERS)}, or it is said why not; so is each code raised by a shared case"
+    print("\n".join(wrong) or told)
     return 1 if wrong else 0
 
 
