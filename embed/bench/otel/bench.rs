@@ -54,6 +54,9 @@ fn main() -> Result<(), Box<dyn std::error::Error>> {
     if provider.refused() != 0 || !table.trim_end().ends_with(&wanted) {
         return Err(format!("not {wanted}:\n{table}").into());
     }
-    println!("{:<55} {least:7.1}", format!("Rust: u64_counter, {threads} threads"));
+    println!(
+        "{:<55} {least:7.1}",
+        format!("Rust: u64_counter, {threads} threads")
+    );
     Ok(())
 }
