@@ -4,9 +4,10 @@
     otel.py FOLDER [TURNS]        FOLDER is what embed/build made
 
 A counter is incremented at one set of four attributes, which each recording gives anew as its language gives them: by one thread, on one
-processor, and by four. Programs of one language run in turn, TURNS times (7), and a program tells the least of its rounds (3). Each line
-is the least of the turns, in nanoseconds for each recording of all threads together, and in parentheses the median. A round of the kit's
-ends with a collection, and at its end the total is compared with what was recorded.
+processor, and by four. Programs of one language run in turn, TURNS times (7), and a program tells the least of its rounds (5). Each line
+is the least of the turns, in nanoseconds for each recording of all threads together, and in parentheses the median: by the clock; then the
+least and the median of what processors ran, which other work on the machine changes less. A round of the kit's ends with a collection, and
+at its end the total is compared with what was recorded.
 
 Beside them run, where Debian's packages are there, client_golang (golang-github-prometheus-client-golang-dev), python3-prometheus-client
 under Debian's own Python, prometheus-cpp (prometheus-cpp-dev) and the crate `prometheus` (librust-prometheus-dev), each by the quicker of
@@ -25,9 +26,9 @@ EMBED, OTEL = HERE.parent, HERE / "otel"
 CRATES, GOCODE = pathlib.Path("/usr/share/cargo/registry"), pathlib.Path("/usr/share/gocode")
 # (Debian's library for Python is of Debian's Python)
 PYTHON = "/usr/bin/python3"
-ROUNDS, TURNS, FOUR = "3", 7, "4"
+ROUNDS, TURNS, FOUR = "5", 7, "4"
 ONE = {max(os.sched_getaffinity(0))}
-LINE = re.compile(r"(.{55}) *([\d.]+)\n")
+LINE = re.compile(r"(.{55}) *([\d.]+) +([\d.]+)\n")
 
 
 def run(*command, **given):
@@ -51,7 +52,7 @@ def rust(kit, room):
         shutil.copytree(HERE / "prometheus", room / "prometheus")
         there = ["--config", 'source.crates-io.replace-with="debian"', "--config", f'source.debian.directory="{CRATES}"']
         run("cargo", "build", "-q", "--release", "--offline", *there, cwd=room / "prometheus", env=given)
-        yield [room / "rust/release/bench-prometheus"], {"beside": "looked up"}
+        yield [room / "rust/release/bench-prometheus"], {"words": ["beside"]}
 
 
 def go(kit, room):
@@ -64,7 +65,7 @@ def go(kit, room):
     if (GOCODE / "src/github.com/prometheus").is_dir():
         given = {**os.environ, "GO111MODULE": "off", "GOPATH": str(GOCODE), "GOCACHE": f"{room}/cache"}
         run("go", "build", "-o", room / "client_golang", ".", cwd=HERE / "go", env=given)
-        yield [room / "client_golang"], {"beside": "looked up"}
+        yield [room / "client_golang"], {"words": ["beside"]}
 
 
 def python(kit, _room):
@@ -74,14 +75,12 @@ def python(kit, _room):
         yield [PYTHON, OTEL / "prometheus.py"], {}
 
 
-def told(command, threads, beside=None, **given):
-    """What a program tells: names, each with its nanoseconds. The programs of run.py tell of threads by a word, and of much else."""
-    words = [ROUNDS, threads] if not beside else [ROUNDS, "threads"] if threads == FOUR else [ROUNDS]
+def told(command, threads, words=(), **given):
+    """What a program tells: names, each with its nanoseconds by the clock and of processors."""
     pinned = {} if threads == FOUR else {"preexec_fn": lambda: os.sched_setaffinity(0, ONE)}
-    done = subprocess.run([str(it) for it in command] + words, stdin=subprocess.DEVNULL, stdout=subprocess.PIPE, text=True, check=True,
-                          **pinned, **given)
-    found = {name.strip(): float(each) for name, each in LINE.findall(done.stdout)}
-    return {name: each for name, each in found.items() if not beside or beside in name and "histogram" not in name}
+    command = [*map(str, command), ROUNDS, *words, threads]
+    done = subprocess.run(command, stdin=subprocess.DEVNULL, stdout=subprocess.PIPE, text=True, check=True, **pinned, **given)
+    return {name.strip(): (float(clock), float(processor)) for name, clock, processor in LINE.findall(done.stdout)}
 
 
 def by_turns(programs, turns):
@@ -93,7 +92,8 @@ def by_turns(programs, turns):
                 for name, each in told(command, threads, **how).items():
                     figures.setdefault(name, []).append(each)
     for name, all_told in figures.items():
-        print(f"{name:<55} {min(all_told):7.1f} ({statistics.median(all_told):.1f})", flush=True)
+        clock, processor = (f"{min(it):7.1f} ({statistics.median(it):.1f})" for it in zip(*all_told))
+        print(f"{name:<55} {clock}, {processor}", flush=True)
 
 
 def main():

@@ -245,7 +245,7 @@ class Bounds(unittest.TestCase):
         for turn in range(3):
             for number in range(100):
                 requests.add(1, {"n": number})
-        self.assertLessEqual(len(requests._held), 10)
+        self.assertLessEqual(len(requests._texts) + len(requests._held), 10)
         self.assertEqual(totals(it), [({"n": number}, 3) for number in range(100)])
 
     def test_sets_beyond_the_limit(self):
