@@ -45,8 +45,8 @@ PIPE, BROKER = TOP / "examples" / "pipe", TOP / "examples" / "broker"
 C = ["-std=c11", "-Wall", "-Wextra", "-Werror"]
 CPP = ["-std=c++17", "-Wall", "-Wextra", "-Werror"]
 ASAN = ["-g", "-fsanitize=address,undefined", "-fno-sanitize-recover=all", "-fno-omit-frame-pointer"]
-# How long a command may take: some take a minute alone, and more beside proofs.
-SECONDS = 600
+# How long a command may take: some take a minute alone, and ten times as long beside proofs on few processors.
+SECONDS = 3600
 FEW = ("2000", "50000")
 FEW_LISTS = ("1000",)
 FEW_POINTS = ("1024",)

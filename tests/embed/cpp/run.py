@@ -23,7 +23,7 @@ ASAN = ["-O0", "-fsanitize=address,undefined", "-fno-sanitize-recover=all", "-fn
 TSAN = ["-fsanitize=thread"]
 THREADED = ("otel_cases", "otel", "readers")
 WORDS = {it: [str(HERE.parent / f"{it}.json")] for it in ("cases", "otel_cases")}
-SECONDS = 500
+SECONDS = 1800
 
 
 def done(*command):

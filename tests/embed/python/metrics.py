@@ -508,7 +508,7 @@ class Page(unittest.TestCase):
             it = MeterProvider({"service.name": service}, [reader(HttpExporter(f"{url}/v1/metrics"), on_failed=lambda fault: None)],
                                shutdown_on_exit=False)
             it.get_meter("app").create_counter("requests").add(7)
-            for _ in range(200):
+            for _ in range(2000):
                 try:
                     it.force_flush()
                     break
@@ -617,7 +617,7 @@ requests = it.get_meter("app").create_counter("requests")
 """
             for last in ("requests.add(7)", "atexit.register(requests.add, 7)"):
                 command = [sys.executable, "-B", "-c", script + last]
-                done = subprocess.run(command, cwd=EMBED / "python", capture_output=True, check=True, timeout=60)
+                done = subprocess.run(command, cwd=EMBED / "python", capture_output=True, check=True, timeout=600)
                 told = rows_of(Export.decode(pathlib.Path(room, "file").read_bytes()), Ask.sum("app", "requests", ""))
                 self.assertEqual(told, [({}, 7)], done.stderr)
                 pathlib.Path(room, "file").unlink()
