@@ -18,6 +18,8 @@ sys.path.insert(0, str(TOP / "embed"))
 import exports
 
 PAGE, HEADING = TOP / "docs" / "EMBEDDING.md", "## What each language has"
+# Why a language has not what the last rows are of, as the page says it below the table. The cells of all others say yes.
+WHY_NOT = {"C": "C has none of the last five rows: OpenTelemetry has no API of C, and threads, timers and sockets are the host's there."}
 # Of each language the files where it calls the library. C is the header itself.
 WRAPPERS = {"C++": "cpp/**/*.hpp", "Rust": "rust/kotskhin/src/**/*.rs", "Go": "go/**/*.go", "Python": "python/kotskhin/**/*.py"}
 # How a wrapper makes a call. In C++ and Rust comments are left out, and a name that is imported is used, or a compiler says so.
@@ -114,10 +116,13 @@ def main():
         if words and not calls:
             continue
         row = [f"| {what} | {'yes' if words else 'no'} |"]
+        told = {"C": bool(words)}
         for language, text in texts.items():
             missing = {it for it in calls & lacks[language] if (language, it) not in WITHOUT}
             is_there = not missing and (not word or re.search(word, text, re.I))
             row.append(f" {'yes' if is_there else 'part' if calls - missing and words else 'no'} |")
+            told[language] = is_there
+        wrong += [f"{language} has not: {what}, and WHY_NOT does not say why" for language, it in told.items() if not it and language not in WHY_NOT]
         table.append("".join(row))
     wrong += [f"FEATURES has no row of {it}" for it in sorted(there - covered)]
     for language, calls in lacks.items():
@@ -127,6 +132,8 @@ def main():
     head = [f"| What | C | {' | '.join(WRAPPERS)} |", f"|{'---|' * (len(WRAPPERS) + 2)}"]
     made = "\n".join([*head, *table])
     page = PAGE.read_text(encoding="utf-8")
+    said = " ".join(page.split())
+    wrong += [f"{PAGE.name}: below the table it is not said: {it}" for it in WHY_NOT.values() if it not in said]
     if HEADING in page and made not in page:
         wrong.append(f"{PAGE.name}: the table is not what features.py --table prints")
     if "--table" in sys.argv:
