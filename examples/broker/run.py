@@ -12,6 +12,7 @@ and the messages by which gateways tell each other come twice and out of order. 
 their total what the workers counted."""
 import contextlib
 import pathlib
+import random
 import shutil
 import signal
 import socket
@@ -33,9 +34,11 @@ class BrokerEnded(Exception):
 
 
 def free_port():
-    with socket.socket() as found:
-        found.bind(("127.0.0.1", 0))
-        return found.getsockname()[1]
+    """A port that is free, below those that the system gives to who asks for any: so nobody gets it until it is used."""
+    while True:
+        with socket.socket() as found, contextlib.suppress(OSError):
+            found.bind(("127.0.0.1", random.randrange(20_000, 32_000)))
+            return found.getsockname()[1]
 
 
 @contextlib.contextmanager

@@ -5,6 +5,7 @@ import io
 import logging
 import os
 import pathlib
+import random
 import re
 import socket
 import subprocess
@@ -487,15 +488,21 @@ class Exporters(unittest.TestCase):
         self.assertEqual(out.getvalue(), "app requests 1\nattributes  points  conflicts  total\n{}               1          0  7\n")
 
 
+def free_port():
+    """A port that is free, below those that the system gives to who asks for any: so nobody gets it until it is used."""
+    while True:
+        with socket.socket() as found, contextlib.suppress(OSError):
+            found.bind(("127.0.0.1", random.randrange(20_000, 32_000)))
+            return found.getsockname()[1]
+
+
 class Page(unittest.TestCase):
     """The gateway of docs/PYTHON.md, in a process of its own."""
 
     def test_a_gateway_that_is_posted_to(self):
         page = (EMBED.parent / "docs" / "PYTHON.md").read_text(encoding="utf-8")
         script = re.search(r"^```python\n(import http\.server\n.*?)^```$", page, re.M | re.S)[1]
-        with socket.socket() as free:
-            free.bind(("127.0.0.1", 0))
-            port = free.getsockname()[1]
+        port = free_port()
         command = [sys.executable, "-B", "-c", script.replace("9464", str(port))]
         with subprocess.Popen(command, cwd=EMBED / "python", stderr=subprocess.DEVNULL) as server:
             try:
