@@ -12,6 +12,7 @@ and the messages by which gateways tell each other come twice and out of order. 
 their total what the workers counted."""
 import contextlib
 import pathlib
+import random
 import shutil
 import signal
 import socket
@@ -28,10 +29,16 @@ HERE = pathlib.Path(__file__).resolve().parent
 WORKERS, LATE_WORKER, KILLED, RISEN = (1, 2, 3, 4), 3, 3, 4
 
 
+class BrokerEnded(Exception):
+    """The broker ended at once, as it does where another process took its port."""
+
+
 def free_port():
-    with socket.socket() as found:
-        found.bind(("127.0.0.1", 0))
-        return found.getsockname()[1]
+    """A port that is free, below those that the system gives to who asks for any: so nobody gets it until it is used."""
+    while True:
+        with socket.socket() as found, contextlib.suppress(OSError):
+            found.bind(("127.0.0.1", random.randrange(20_000, 32_000)))
+            return found.getsockname()[1]
 
 
 @contextlib.contextmanager
@@ -45,18 +52,17 @@ def broker():
             yield port, client(port, server)
         finally:
             server.terminate()
-            server.wait(10)
+            server.wait(SECONDS)
 
 
 def client(port, server):
     """A client, once the server takes one."""
-    for _ in range(500):
-        if server.poll() is not None:
-            break
+    end = time.monotonic() + SECONDS
+    while server.poll() is None and time.monotonic() < end:
         with contextlib.suppress(ConnectionRefusedError):
             return Redis(port, SECONDS)
         time.sleep(0.01)
-    raise SystemExit("the broker does not start")
+    raise BrokerEnded("the broker does not start")
 
 
 class Processes:
@@ -109,12 +115,18 @@ def tables(port, redis):
         return {it: ended(gateway) for it, gateway in gateways.items()}
 
 
+def told():
+    """What each gateway printed at the end, and what each incarnation counted. A port that was free may be taken once it is used."""
+    for _ in range(5):
+        with contextlib.suppress(BrokerEnded), broker() as (port, redis):
+            return tables(port, redis), [int(it.split()[1]) for it in redis("HGETALL", COUNTED)[1::2]]
+    raise SystemExit("the broker does not start")
+
+
 def main():
     if not shutil.which("redis-server"):
         raise SystemExit("there is no redis-server")
-    with broker() as (port, redis):
-        printed = tables(port, redis)
-        counted = [int(told.split()[1]) for told in redis("HGETALL", COUNTED)[1::2]]
+    printed, counted = told()
     table, *others = printed.values()
     print(table, end="")
     if any(other != table for other in others):

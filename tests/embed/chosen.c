@@ -168,7 +168,7 @@ static const struct form A_MESSAGE = {message_encoded, message_decoded};
 /* Microseconds. */
 static double now(void) {
     struct timespec at;
-    clock_gettime(CLOCK_MONOTONIC, &at);
+    clock_gettime(CLOCK_PROCESS_CPUTIME_ID, &at);
     return (double)at.tv_sec * 1e6 + (double)at.tv_nsec / 1e3;
 }
 

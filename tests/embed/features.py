@@ -4,8 +4,11 @@
     features.py              checks: each export is used by each wrapper, or stands in WITHOUT with a sentence that says why not
     features.py --table      prints the table, as docs/EMBEDDING.md has it below HEADING
 
+Each code of refusals is raised by a case that all languages share (cases.json), or stands in UNRAISED with a sentence that says why not.
+
 Each export stands in a row of FEATURES. A wrapper has a row where it uses all calls of it, and where it has its word. The table of the
 page, where it has one, is the one that is printed. This ends with a status other than 0 where one of these does not hold."""
+import json
 import pathlib
 import re
 import sys
@@ -15,6 +18,8 @@ sys.path.insert(0, str(TOP / "embed"))
 import exports
 
 PAGE, HEADING = TOP / "docs" / "EMBEDDING.md", "## What each language has"
+# Why a language has not what the last rows are of, as the page says it below the table. The cells of all others say yes.
+WHY_NOT = {"C": "C has none of the last five rows: OpenTelemetry has no API of C, and threads, timers and sockets are the host's there."}
 # Of each language the files where it calls the library. C is the header itself.
 WRAPPERS = {"C++": "cpp/**/*.hpp", "Rust": "rust/kotskhin/src/**/*.rs", "Go": "go/**/*.go", "Python": "python/kotskhin/**/*.py"}
 # How a wrapper makes a call. In C++ and Rust comments are left out, and a name that is imported is used, or a compiler says so.
@@ -26,6 +31,15 @@ WITHOUT = {
     ("Rust", "kit_version"): "kotskhin-sys tells the version of the header that it was made with",
     ("Rust", "kit_code_text"): "the texts stand in the sources that are made",
     ("Go", "kit_code_text"): "the texts stand in declared.go, which is made",
+}
+CASES = pathlib.Path(__file__).resolve().parent / "cases.json"
+# Codes that no shared case raises, and why not. The tests in C raise each, but for the last (refusals.c, formats.c).
+UNRAISED = {
+    "WRONG_KIND": "a handle of another kind is given by a cast in C alone: the wrappers' types tell kinds apart",
+    "FULL": "a wrapper fills handles that it has just made",
+    "BUSY": "it takes two calls at once: the threads of the case with seats go on where it is raised, which no test can force",
+    "EXHAUSTED": "it takes 2^62 changes",
+    "TOO_LONG": "it takes a request of 2 GiB",
 }
 # A row: what it is, its calls (a * at the end stands for what follows), and a word that a wrapper has beside them, where it has it.
 FEATURES = [
@@ -72,6 +86,25 @@ def of_row(words, there):
     return {it for word in words.split() for it in there if it == word or word.endswith("*") and it.startswith(word[:-1])}
 
 
+def raised(of):
+    """The codes of steps that are refused, as cases.json writes them."""
+    if isinstance(of, list):
+        return {code for it in of for code in raised(it)}
+    if not isinstance(of, dict):
+        return set()
+    told = of.get("refused")
+    return raised(list(of.values())) | ({told["code"]} if isinstance(told, dict) else set())
+
+
+def unraised():
+    """What does not hold of the codes that shared cases raise."""
+    codes = {it.name for it in exports.codes() if it.number}
+    told = raised(json.loads(CASES.read_text(encoding="utf-8"))["cases"])
+    yield from (f"no shared case raises {it}, and UNRAISED does not say why" for it in sorted(codes - told - set(UNRAISED)))
+    yield from (f"a shared case raises {it}, and UNRAISED says that none does" for it in sorted(told & set(UNRAISED)))
+    yield from (f"{it} is no code" for it in sorted((told | set(UNRAISED)) - codes))
+
+
 def main():
     there = {it.name for it in exports.exports()}
     texts = {language: sources(pattern) for language, pattern in WRAPPERS.items()}
@@ -83,24 +116,31 @@ def main():
         if words and not calls:
             continue
         row = [f"| {what} | {'yes' if words else 'no'} |"]
+        told = {"C": bool(words)}
         for language, text in texts.items():
             missing = {it for it in calls & lacks[language] if (language, it) not in WITHOUT}
             is_there = not missing and (not word or re.search(word, text, re.I))
             row.append(f" {'yes' if is_there else 'part' if calls - missing and words else 'no'} |")
+            told[language] = is_there
+        wrong += [f"{language} has not: {what}, and WHY_NOT does not say why" for language, it in told.items() if not it and language not in WHY_NOT]
         table.append("".join(row))
     wrong += [f"FEATURES has no row of {it}" for it in sorted(there - covered)]
     for language, calls in lacks.items():
         wrong += [f"{language} does not use {it}, and WITHOUT does not say why" for it in sorted(calls) if (language, it) not in WITHOUT]
+    wrong += unraised()
     wrong += [f"{language} uses {it}, and WITHOUT says that it does not" for language, it in WITHOUT if it in there - lacks[language]]
     head = [f"| What | C | {' | '.join(WRAPPERS)} |", f"|{'---|' * (len(WRAPPERS) + 2)}"]
     made = "\n".join([*head, *table])
     page = PAGE.read_text(encoding="utf-8")
+    said = " ".join(page.split())
+    wrong += [f"{PAGE.name}: below the table it is not said: {it}" for it in WHY_NOT.values() if it not in said]
     if HEADING in page and made not in page:
         wrong.append(f"{PAGE.name}: the table is not what features.py --table prints")
     if "--table" in sys.argv:
         print(made)
         return 0
-    print("\n".join(wrong) or f"{len(there)} calls: each is used in {', '.join(WRAPPERS)}, or it is said why not")
+    told = f"{len(there)} calls: each is used in {', '.join(WRAPPERS)}, or it is said why not; so is each code raised by a shared case"
+    print("\n".join(wrong) or told)
     return 1 if wrong else 0
 
 

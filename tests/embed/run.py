@@ -16,7 +16,7 @@ A handle of each kind in the place of each other is refused by each compiler of 
 and callers in C and Rust that misuse the library must not compile. The shared library has its name, and gives the calls of the header alone.
 Then exports between processes: examples/pipe, a writer in C and a gateway in Rust, and examples/broker, where there is a redis-server.
 
-In Go and Python the wrappers perform the cases that all languages share (cases.json), the wheel is put into a fresh environment, and the first
+In Go and Python the wrappers perform the cases that all languages share (cases.json, otel_cases.json), the wheel is put into a fresh environment, and the first
 programs of docs/GO.md and docs/PYTHON.md print what these say.
 
 In C++ and Rust they perform the cases, too (cpp/run.py, and a test of the crates). cpp/run.py and rust/run.py do what else is of one of
@@ -45,8 +45,8 @@ PIPE, BROKER = TOP / "examples" / "pipe", TOP / "examples" / "broker"
 C = ["-std=c11", "-Wall", "-Wextra", "-Werror"]
 CPP = ["-std=c++17", "-Wall", "-Wextra", "-Werror"]
 ASAN = ["-g", "-fsanitize=address,undefined", "-fno-sanitize-recover=all", "-fno-omit-frame-pointer"]
-# How long a command may take: some take a minute alone, and more beside proofs.
-SECONDS = 600
+# How long a command may take: some take a minute alone, and ten times as long beside proofs on few processors.
+SECONDS = 3600
 FEW = ("2000", "50000")
 FEW_LISTS = ("1000",)
 FEW_POINTS = ("1024",)
@@ -184,7 +184,7 @@ class Run:
             for how, flags in (("", ["-O2"]), (" under sanitizers", ASAN)):
                 self.compiled(f"C++, {compiler}{how}: the first script", compiler, EMBED / "cpp" / "first.cpp", CPP + flags, WANTED)
                 self.compiled(f"C++, {compiler}{how}: recorders", compiler, HERE / "recorders.cpp", CPP + flags)
-        for what in ("cases", "kit", "otel", "readers", "page"):
+        for what in ("cases", "otel_cases", "kit", "otel", "readers", "page"):
             self.run(f"C++: {what}", sys.executable, "-B", HERE / "cpp" / "run.py", self.kit, what)
 
     def rust(self):
@@ -244,7 +244,8 @@ class Run:
             return
         given = {**os.environ, "KOTSKHIN_SO": str(shared)}
         self.run("Python: the first script", sys.executable, "-B", EMBED / "python" / "first.py", prints=WANTED, env=given)
-        for what, name in (("the shared cases", "cases"), ("the kit", "kit"), ("OpenTelemetry's names", "metrics"), ("the wheel", "package")):
+        tests = (("the shared cases", "cases"), ("the shared cases of OpenTelemetry's names", "otel_cases"), ("the kit", "kit"))
+        for what, name in (*tests, ("OpenTelemetry's names", "metrics"), ("the wheel", "package")):
             self.run(f"Python: {what}", sys.executable, "-B", HERE / "python" / f"{name}.py", env=given)
         self.broker(given)
 

@@ -1,14 +1,16 @@
 // What a recording costs with client_golang, whose labels are its attributes; and what points as bytes cost in the protobuf of
 // client_model: a family of 100,000 counters of 4 labels, each counter with a time, beside a plain copy of as many bytes.
 //
-//	bench ROUNDS [threads|bytes]
+//	bench ROUNDS [threads|bytes|beside THREADS]
 package main
 
 import (
 	"fmt"
+	"math"
 	"os"
 	"strconv"
 	"sync"
+	"syscall"
 	"time"
 
 	"github.com/golang/protobuf/proto"
@@ -85,6 +87,11 @@ func main() {
 	requests := prometheus.NewCounterVec(prometheus.CounterOpts{Name: "requests"}, keys)
 	sizes := prometheus.NewHistogramVec(prometheus.HistogramOpts{Name: "sizes", Buckets: prometheus.ExponentialBuckets(1, 2, 15)}, keys)
 	bound := requests.WithLabelValues(values...)
+	if what == "beside" {
+		hands, _ := strconv.Atoi(os.Args[3])
+		beside(requests, values, hands)
+		return
+	}
 	if what == "threads" {
 		byThreads(requests, values)
 		return
@@ -120,4 +127,36 @@ func byThreads(requests *prometheus.CounterVec, values []string) {
 		}
 		hands.Wait()
 	})
+}
+
+// ran is how long processors ran this process so far, in nanoseconds.
+func ran() int64 {
+	var told syscall.Rusage
+	if err := syscall.Getrusage(syscall.RUSAGE_SELF, &told); err != nil {
+		panic(err)
+	}
+	return told.Utime.Nano() + told.Stime.Nano()
+}
+
+// By so many goroutines, as otel.py asks: by the clock, and of processors.
+func beside(requests *prometheus.CounterVec, values []string, many int) {
+	least, processor := 1e18, 1e18
+	for i := 0; i < rounds; i++ {
+		began, from := time.Now(), ran()
+		var hands sync.WaitGroup
+		for i := 0; i < many; i++ {
+			hands.Add(1)
+			go func() {
+				defer hands.Done()
+				for i := 0; i < times; i++ {
+					requests.WithLabelValues(values...).Inc()
+				}
+			}()
+		}
+		hands.Wait()
+		recordings := float64(many * times)
+		least = math.Min(least, float64(time.Since(began).Nanoseconds())/recordings)
+		processor = math.Min(processor, float64(ran()-from)/recordings)
+	}
+	fmt.Printf("%-55s %7.1f %7.1f\n", fmt.Sprintf("client_golang: WithLabelValues, %d threads", many), least, processor)
 }

@@ -166,7 +166,9 @@ func TestAnExportThatTakesTooLong(t *testing.T) {
 	}), WithTimeout(10*time.Millisecond), WithInterval(5*time.Millisecond), WithOnFailed(func(error) {}))
 	p, requests := counting(t, reader)
 	requests.Add(ctx, 7)
-	time.Sleep(60 * time.Millisecond)
+	for began := time.Now(); reader.Failed() == 0 && time.Since(began) < time.Minute; {
+		time.Sleep(time.Millisecond)
+	}
 	short, cancel := context.WithTimeout(ctx, 20*time.Millisecond)
 	defer cancel()
 	if err := p.ForceFlush(short); !errors.Is(err, context.DeadlineExceeded) {

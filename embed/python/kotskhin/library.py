@@ -170,6 +170,14 @@ calls = {name: it for name, (_, it) in _made.items()}
 free = calls["kit_free"]
 
 
+def as_they_are(name):
+    """A call that answers its code and takes things of ctypes alone, which are of its types: none is looked at."""
+    library = ctypes.PyDLL(KEEPING._name)
+    function = getattr(library, name)
+    function.restype = C_TYPES[CALLS[name][0]]
+    return function if has_own_lock else _locked(function)
+
+
 def text(of):
     """A text as C takes it. (surrogates are no UTF-8, and the library says so)"""
     if not isinstance(of, str):

@@ -1,9 +1,9 @@
 #!/usr/bin/env python3
 """The C++ wrapper: one of its programs, compiled and run in each way that the machine has.
 
-    run.py FOLDER WHAT      FOLDER is what embed/build made; WHAT is cases, kit, otel, readers or page
+    run.py FOLDER WHAT      FOLDER is what embed/build made; WHAT is cases, otel_cases, kit, otel, readers or page
 
-cases performs the list that all languages share. kit is what C++ has words of its own for, otel OpenTelemetry's names, readers the periodic
+cases and otel_cases perform the lists that all languages share. kit is what C++ has words of its own for, otel OpenTelemetry's names, readers the periodic
 readers and exporters, with libcurl where it is. Each is compiled by g++ under AddressSanitizer and UBSan, and by clang++ plainly; those
 with threads of their own are run under ThreadSanitizer, too. page is the first program of docs/CPP.md, which prints what that page says.
 
@@ -21,9 +21,9 @@ TOP = HERE.parents[2]
 FLAGS = ["-std=c++17", "-Wall", "-Wextra", "-Wpedantic", "-Werror", "-g", "-O1"]
 ASAN = ["-O0", "-fsanitize=address,undefined", "-fno-sanitize-recover=all", "-fno-omit-frame-pointer"]
 TSAN = ["-fsanitize=thread"]
-THREADED = ("otel", "readers")
-WORDS = {"cases": [str(HERE.parent / "cases.json")]}
-SECONDS = 500
+THREADED = ("otel_cases", "otel", "readers")
+WORDS = {it: [str(HERE.parent / f"{it}.json")] for it in ("cases", "otel_cases")}
+SECONDS = 1800
 
 
 def done(*command):

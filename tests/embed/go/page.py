@@ -1,7 +1,9 @@
 #!/usr/bin/env python3
 """The programs of docs/GO.md, each in a module of its own as the page has it. The first one prints what the page says; the second one is
 posted to by a service, and gives the page for Prometheus. Go's files are as gofmt has them."""
+import contextlib
 import pathlib
+import random
 import re
 import socket
 import subprocess
@@ -41,7 +43,7 @@ func main() {
 
 def done(room, *command):
     """What a command prints."""
-    made = subprocess.run(command, cwd=room, capture_output=True, text=True, timeout=600, check=False)
+    made = subprocess.run(command, cwd=room, capture_output=True, text=True, timeout=1800, check=False)
     if made.returncode:
         sys.exit(f"{' '.join(command)}: {made.stdout}{made.stderr}")
     return made.stdout
@@ -63,7 +65,7 @@ def built(room, name, program):
 
 def answered(url, body=None):
     """The status and the body of an answer, once there is one."""
-    for _ in range(200):
+    for _ in range(2000):
         try:
             with urllib.request.urlopen(urllib.request.Request(url, body), timeout=60) as answer:
                 return answer.status, answer.read().decode()
@@ -75,12 +77,18 @@ def answered(url, body=None):
     sys.exit(f"{url} does not answer")
 
 
+def free_port():
+    """A port that is free, below those that the system gives to who asks for any: so nobody gets it until it is used."""
+    while True:
+        with socket.socket() as found, contextlib.suppress(OSError):
+            found.bind(("127.0.0.1", random.randrange(20_000, 32_000)))
+            return found.getsockname()[1]
+
+
 def posted(room, gateway):
     """Services post to the gateway: one that it knows, and one that it does not."""
     service = built(room, "service", SERVICE)
-    with socket.socket() as free:
-        free.bind(("127.0.0.1", 0))
-        port = free.getsockname()[1]
+    port = free_port()
     url = f"http://127.0.0.1:{port}"
     with subprocess.Popen([built(room, "gateway", gateway.replace("9464", str(port)))]) as server:
         try:

@@ -18,7 +18,7 @@ import tempfile
 TOP = pathlib.Path(__file__).resolve().parents[3]
 EMBED = TOP / "embed"
 FIRST = (TOP / "examples" / "first.out").read_text(encoding="utf-8")
-SECONDS = 500
+SECONDS = 1800
 PROJECT = """cmake_minimum_required(VERSION 3.16)
 project(shop LANGUAGES {languages})
 find_package(kotskhin 0.1 REQUIRED{components})

@@ -27,7 +27,7 @@ class Wheel(unittest.TestCase):
         self.addCleanup(shutil.rmtree, self.room)
 
     def run_in(self, *command, **given):
-        done = subprocess.run([str(it) for it in command], cwd=self.room, capture_output=True, text=True, timeout=300, check=False, **given)
+        done = subprocess.run([str(it) for it in command], cwd=self.room, capture_output=True, text=True, timeout=1800, check=False, **given)
         self.assertEqual(done.returncode, 0, done.stdout + done.stderr)
         return done.stdout
 

@@ -4,6 +4,7 @@
 //! case about a thing that was moved. A number that is none of its type is refused by `parse`, as it is by a program that has it.
 #![forbid(unsafe_code)]
 mod json;
+mod otel_cases;
 mod told;
 
 use json::Json;

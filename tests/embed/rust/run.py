@@ -16,7 +16,7 @@ import tempfile
 
 TOP = pathlib.Path(__file__).resolve().parents[3]
 RUST = TOP / "embed" / "rust"
-SECONDS = 500
+SECONDS = 1800
 
 
 class Crates:

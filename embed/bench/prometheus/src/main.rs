@@ -1,6 +1,6 @@
 //! The same of the crate `prometheus`, whose labels are its attributes.
 //!
-//!     bench-prometheus ROUNDS [threads]
+//!     bench-prometheus ROUNDS [threads|beside THREADS]
 use prometheus::{
     exponential_buckets, HistogramOpts, HistogramVec, IntCounter, IntCounterVec, Opts,
 };
@@ -37,6 +37,10 @@ fn main() -> prometheus::Result<()> {
         requests.with_label_values(&VALUES),
         sizes.with_label_values(&VALUES),
     );
+    if let Some(threads) = env::args().nth(3) {
+        beside(&requests, threads.parse().unwrap_or(1));
+        return Ok(());
+    }
     if env::args().len() > 2 {
         by_threads(&requests, &bound);
         return Ok(());
@@ -93,4 +97,31 @@ fn by_threads(requests: &IntCounterVec, bound: &IntCounter) {
             },
         );
     }
+}
+
+extern "C" {
+    /// How long processors ran this process so far, in microseconds.
+    fn clock() -> i64;
+}
+
+/// By so many threads, as otel.py asks: by the clock, and of processors.
+fn beside(requests: &IntCounterVec, threads: usize) {
+    let (mut least, mut processor) = (f64::MAX, f64::MAX);
+    for _ in 0..rounds() {
+        let (began, from) = (Instant::now(), unsafe { clock() });
+        thread::scope(|scope| {
+            for _ in 0..threads {
+                scope.spawn(|| {
+                    for _ in 0..TIMES {
+                        requests.with_label_values(black_box(&VALUES)).inc();
+                    }
+                });
+            }
+        });
+        let recordings = (threads * TIMES) as f64;
+        least = least.min(began.elapsed().as_nanos() as f64 / recordings);
+        processor = processor.min((unsafe { clock() } - from) as f64 * 1e3 / recordings);
+    }
+    let name = format!("prometheus: with_label_values, {threads} threads");
+    println!("{name:<55} {least:7.1} {processor:7.1}");
 }

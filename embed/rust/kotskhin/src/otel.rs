@@ -26,6 +26,7 @@
 
 mod exporters;
 pub mod global;
+mod hashing;
 mod instruments;
 mod key_value;
 mod logs;

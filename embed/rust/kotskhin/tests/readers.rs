@@ -98,11 +98,18 @@ impl Failed {
 
     /// Once something was told.
     fn first(&self) -> String {
+        self.once("");
+        self.list().first().cloned().unwrap_or_default()
+    }
+
+    /// Whether something is told, soon or late, that has these words.
+    fn once(&self, words: &str) -> bool {
         let began = Instant::now();
-        while self.list().is_empty() && began.elapsed() < LONG {
+        let is_told = || self.list().iter().any(|it| it.contains(words));
+        while !is_told() && began.elapsed() < LONG {
             thread::sleep(SHORT);
         }
-        self.list().first().cloned().unwrap_or_default()
+        is_told()
     }
 }
 
@@ -236,14 +243,10 @@ fn an_export_that_takes_too_long_is_told() -> Done {
         began.elapsed() < LONG,
         "a flush waits no longer than it says"
     );
+    assert!(failed.once("goes on"), "{:?}", failed.list());
     // (once the call ends, the next one is made)
     drop(go);
     let _ = provider.force_flush();
-    assert!(
-        failed.list().iter().any(|it| it.contains("goes on")),
-        "{:?}",
-        failed.list()
-    );
     Ok(())
 }
 

@@ -3,9 +3,26 @@ use crate::attributes::AttributeValue;
 use std::borrow::Cow;
 use std::fmt;
 
+/// Whether texts are equal. One text in two places of a program most often is one piece of memory, which is not read then.
+#[inline]
+fn is_same(one: &str, other: &str) -> bool {
+    one.len() == other.len() && (one.as_ptr() == other.as_ptr() || one == other)
+}
+
 /// The key of an attribute.
-#[derive(Clone, PartialEq, Eq, PartialOrd, Ord, Hash)]
+#[derive(Clone, Eq, PartialOrd, Ord, Hash)]
+#[expect(
+    clippy::derived_hash_with_manual_eq,
+    reason = "equal texts are those that derived equality has"
+)]
 pub struct Key(Cow<'static, str>);
+
+impl PartialEq for Key {
+    #[inline]
+    fn eq(&self, other: &Key) -> bool {
+        is_same(&self.0, &other.0)
+    }
+}
 
 impl Key {
     pub fn new(key: impl Into<Key>) -> Key {
@@ -40,12 +57,28 @@ impl fmt::Debug for Key {
 }
 
 /// The value of an attribute.
-#[derive(Clone, Debug, PartialEq, Eq, Hash)]
+#[derive(Clone, Debug, Eq, Hash)]
+#[expect(
+    clippy::derived_hash_with_manual_eq,
+    reason = "equal texts are those that derived equality has"
+)]
 #[non_exhaustive]
 pub enum Value {
     Bool(bool),
     I64(i64),
     String(Cow<'static, str>),
+}
+
+impl PartialEq for Value {
+    #[inline]
+    fn eq(&self, other: &Value) -> bool {
+        match (self, other) {
+            (Value::Bool(one), Value::Bool(other)) => one == other,
+            (Value::I64(one), Value::I64(other)) => one == other,
+            (Value::String(one), Value::String(other)) => is_same(one, other),
+            _ => false,
+        }
+    }
 }
 
 impl From<bool> for Value {

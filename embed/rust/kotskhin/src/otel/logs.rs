@@ -1,4 +1,5 @@
 //! What threads note, each in a log of its own.
+use super::hashing::Keyed;
 use super::key_value::KeyValue;
 use super::shared::{Core, Shared, locked, take_in_of_ending_thread};
 use crate::attributes::Attributes;
@@ -12,7 +13,7 @@ use std::sync::{Arc, Mutex, RwLock, TryLockError, Weak};
 /// The numbers of instruments at sets, by the instrument: as they were written down, so that one set may stand here in several orders. What
 /// was written down is kept once, by the cache and by threads.
 #[derive(Default)]
-pub(super) struct Numbers(Vec<HashMap<Arc<[KeyValue]>, HeldNumber>>);
+pub(super) struct Numbers(Vec<HashMap<Arc<[KeyValue]>, HeldNumber, Keyed>>);
 
 impl Numbers {
     fn find(&self, instrument: usize, attributes: &[KeyValue]) -> Option<HeldNumber> {
@@ -30,7 +31,7 @@ impl Numbers {
 
     fn keep(&mut self, instrument: usize, attributes: Arc<[KeyValue]>, number: HeldNumber) {
         if self.0.len() <= instrument {
-            self.0.resize_with(instrument + 1, HashMap::new);
+            self.0.resize_with(instrument + 1, HashMap::default);
         }
         if let Some(numbers) = self.0.get_mut(instrument) {
             numbers.insert(attributes, number);
@@ -189,21 +190,26 @@ thread_local! {
     static OWN: RefCell<Vec<Own>> = const { RefCell::new(Vec::new()) };
 }
 
-/// The log of this thread, which it is given where it has none. `None` where the thread is ending. Refused: as `Shared::new_slot` is.
-pub(super) fn of_this_thread(shared: &Arc<Shared>) -> Option<Result<Slot, Error>> {
+/// Does something with the log of this thread, which it is given where it has none. `None` where the thread is ending. Refused: as
+/// `Shared::new_slot` is. What is done calls nothing of the host's, which might record.
+pub(super) fn with_own<T>(
+    shared: &Arc<Shared>,
+    call: impl FnOnce(&Slot) -> T,
+) -> Option<Result<T, Error>> {
     OWN.try_with(|own| {
-        let mut own = own.borrow_mut();
-        if let Some(there) = own.iter().find(|it| it.provider == shared.number()) {
-            return Ok(Arc::clone(&there.slot));
+        let is_there = |it: &&Own| it.provider == shared.number();
+        if let Some(there) = own.borrow().iter().find(is_there) {
+            return Ok(call(&there.slot));
         }
         let slot = shared.new_slot()?;
+        let mut own = own.borrow_mut();
         own.retain(|it| it.shared.strong_count() > 0);
         own.push(Own {
             provider: shared.number(),
             shared: Arc::downgrade(shared),
             slot: Arc::clone(&slot),
         });
-        Ok(slot)
+        Ok(call(&slot))
     })
     .ok()
 }

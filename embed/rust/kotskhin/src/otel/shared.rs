@@ -271,24 +271,27 @@ impl Shared {
         value: i64,
     ) -> Result<(), Error> {
         let started = self.start()?;
-        let Some(slot) = logs::of_this_thread(self) else {
+        let at = (&started.core, &started.cache);
+        let note = || {
+            logs::with_own(self, |slot| {
+                locked(slot).note(at, instrument, attributes, value)
+            })
+        };
+        let Some(noted) = note() else {
             let set = Attributes::new(attributes.iter().map(KeyValue::pair))?;
             return locked(&started.core)
                 .writer
                 .measure(instrument, &set, value);
         };
-        let slot = slot?;
-        let at = (&started.core, &started.cache);
-        match locked(&slot).note(at, instrument, attributes, value) {
+        match noted? {
             Err(Error::RecorderFull) => (),
             noted => return noted,
         }
-        let taken = {
-            let mut core = locked(&started.core);
-            started.take_in(&mut core, &slot)
-        };
-        self.refuse_all(taken);
-        match locked(&slot).note(at, instrument, attributes, value) {
+        let taken = logs::with_own(self, |slot| {
+            started.take_in(&mut locked(&started.core), slot)
+        });
+        self.refuse_all(taken.and_then(Result::ok).flatten());
+        match note().unwrap_or(Err(Error::NoMemory))? {
             // (what was taken in left no room, since memory was wanting)
             Err(Error::RecorderFull) => Err(Error::NoMemory),
             noted => noted,
