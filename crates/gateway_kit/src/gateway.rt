@@ -299,6 +299,7 @@ impl Gateway {
         let growth = merge_in(
             &mut self.incarnations,
             self.len,
+            self.conflicts,
             number,
             other.incarnations.as_slice(),
         )?;

@@ -1,5 +1,5 @@
 //! What is held of one incarnation of a writer.
-ghost use Rattle.std.specs.Prelude.{◌≡◌, ◌^◌, IsTrue, IfOk, OnOk, OnErr, map, [], ◌≤◌, ◌+◌, option_copied, ◌<◌, length, IsSome, IsOk, ◌∷◌};
+ghost use Rattle.std.specs.Prelude.{◌≡◌, ◌%◌, ◌^◌, IsTrue, IfOk, OnOk, OnErr, map, [], ◌≤◌, ◌+◌, option_copied, ◌<◌, length, IsSome, IsOk, ◌∷◌};
 ghost use Rattle.std.specs.FinMap as finite;
 ghost use Rattle.std.specs.FinMap.{entries, from_sorted};
 ghost use Rattle.std.specs.FinMap.Entries.{is_sorted, find};
@@ -228,6 +228,20 @@ impl Incarnation {
         );
         self.number = self.number.max(number);
         self.bounds.complete(number, self.items.as_slice());
+    }
+
+    /// Makes the changes as `install` does. Of a count of conflicts, these among them, it makes the one after.
+    pub(crate) fn install_among(&mut self, conflicts: u64, number: u64, changes: Changes) -> u64
+        ensures conflicts { (result + incarnation_conflicts self.old) % 2 ^ 64 ≡ (conflicts + incarnation_conflicts self.new) % 2 ^ 64 }
+        ensures cells { keyed_cells self.new
+            ≡ ((self.old.writer, self.old.start), from_sorted (after_growth (entries self.old.cells) changes)) }
+        ensures moves { IncarnationMoves number self.old self.new }
+    {
+        let before = self.conflicts();
+        self.install(number, changes);
+        conflicts
+            .wrapping_sub(before)
+            .wrapping_add(self.conflicts())
     }
 
     // Joins a cell into the one at a place. Takes no memory.
