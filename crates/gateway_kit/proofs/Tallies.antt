@@ -1,5 +1,5 @@
 -- How many conflicts there are, as items and incarnations change.
-use Rattle.std.proofs.Common.{◌≡◌, ℕ, zero, suc, ◌+◌, ◌-◌, ◌<◌, ◌≤◌, ◌^◌, true, cond, Result, Ok, Err, IfOk, List, [], ◌∷◌, ◌++◌, map, take, length, get_or, refl, sym, ap, subst, ◌∙◌, arith, count_by}
+use Rattle.std.proofs.Common.{◌≡◌, ℕ, zero, suc, ◌+◌, ◌-◌, ◌%◌, ◌<◌, ◌≤◌, ◌^◌, true, cond, Result, Ok, Err, IfOk, List, [], ◌∷◌, ◌++◌, map, take, length, get_or, refl, sym, ap, subst, ◌∙◌, arith, count_by}
 use Rattle.std.specs.Prelude.{slice_set}
 use Rattle.std.specs.List.{insert, sum_by}
 use Rattle.std.specs.FinMap.{entries}
@@ -115,6 +115,12 @@ tells_set olds place incarnation new before after within is b a =
 
     ap_le : incarnation_conflicts incarnation ≤ conflicts_of olds → before ≤ conflicts_of olds
     ap_le h = omega (arith, h, b)
+
+-- a count of all conflicts, in 64 bits, as one incarnation changes
+pub among_set : (olds : List IncarnationState) (place : ℕ) (incarnation new : IncarnationState) → place < length olds → incarnation ≡ get_or olds place incarnation → (told now : ℕ) → told ≡ conflicts_of olds % 2 ^ 64 → (now + incarnation_conflicts incarnation) % 2 ^ 64 ≡ (told + incarnation_conflicts new) % 2 ^ 64 → now < 2 ^ 64 → now ≡ conflicts_of (slice_set olds place new) % 2 ^ 64
+among_set olds place incarnation new within is told now was moved small =
+    let all = (tells_set olds place incarnation new (incarnation_conflicts incarnation) (incarnation_conflicts new) within is refl refl).all in
+    omega (arith, all, was, moved, small)
 
 -- one incarnation more
 pub tells_insert : (olds : List IncarnationState) (place : ℕ) (new : IncarnationState) (after : ℕ) → after ≡ incarnation_conflicts new → Tells olds (insert olds place new) 0 after

@@ -1,9 +1,10 @@
 //! What is held of one incarnation of a writer.
-ghost use Rattle.std.specs.Prelude.{◌≡◌, ◌^◌, IsTrue, IfOk, OnOk, OnErr, map, [], ◌≤◌, ◌+◌, option_copied, ◌<◌, length, IsSome, IsOk, ◌∷◌};
+ghost use Rattle.std.specs.Prelude.{◌≡◌, ◌%◌, ◌^◌, IsTrue, IfOk, OnOk, OnErr, map, [], ◌≤◌, ◌+◌, option_copied, ◌<◌, length, IsSome, IsOk, ◌∷◌};
 ghost use Rattle.std.specs.FinMap as finite;
 ghost use Rattle.std.specs.FinMap.{entries, from_sorted};
 ghost use Rattle.std.specs.FinMap.Entries.{is_sorted, find};
 ghost use Rattle.gateway_kit.specs.Changing.{Prepares, keyed_cells_of, after_growth};
+ghost use Rattle.gateway_kit.specs.Covering.{IsUpTo};
 ghost use Rattle.gateway_kit.specs.Growth.{IncarnationJoins, Joins, JoinsAt};
 ghost use Rattle.gateway_kit.specs.Keys.{keyed_cell_of, item_cmp, incarnation_cmp};
 ghost use Rattle.gateway_kit.specs.Numbers.{IsNumbered, IncarnationMoves};
@@ -230,6 +231,20 @@ impl Incarnation {
         self.bounds.complete(number, self.items.as_slice());
     }
 
+    /// Makes the changes as `install` does. Of a count of conflicts, these among them, it makes the one after.
+    pub(crate) fn install_among(&mut self, conflicts: u64, number: u64, changes: Changes) -> u64
+        ensures conflicts { (result + incarnation_conflicts self.old) % 2 ^ 64 ≡ (conflicts + incarnation_conflicts self.new) % 2 ^ 64 }
+        ensures cells { keyed_cells self.new
+            ≡ ((self.old.writer, self.old.start), from_sorted (after_growth (entries self.old.cells) changes)) }
+        ensures moves { IncarnationMoves number self.old self.new }
+    {
+        let before = self.conflicts();
+        self.install(number, changes);
+        conflicts
+            .wrapping_sub(before)
+            .wrapping_add(self.conflicts())
+    }
+
     // Joins a cell into the one at a place. Takes no memory.
     fn join_at(&mut self, place: usize, cell: Cell) -> Growth
         requires { place < length (entries self.old.cells) }
@@ -332,6 +347,13 @@ impl Incarnation {
         ensures { IsTrue (has_cells (recent_incarnation number self.now)) → IsTrue result }
     {
         number < self.number
+    }
+
+    /// A number that none of its keys exceeds: O(1).
+    pub(crate) fn most(&self) -> u64
+        ensures { IsUpTo result self.now }
+    {
+        self.number
     }
 
     /// A copy of what is numbered above a number.
