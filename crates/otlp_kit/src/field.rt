@@ -137,7 +137,8 @@ fn push_packed(numbers: &mut Vec<u64>, list: &mut Span<'_>) -> Result<(), NoMemo
 impl<'a> Field<'a> {
     /// Puts the numbers of a repeated field, packed or not, behind those of earlier fields.
     pub(crate) fn push_eights(&self, numbers: &mut Vec<u64>) -> Result<(), RequestFault>
-        ensures ok { OnOk result (and_then (eights_in self.now) (λ more. Ok (numbers.old.items ++ more)) ≡ Ok numbers.new.items) }
+        ensures ok { OnOk result (and_then (eights_in self.now) (λ more. Ok (numbers.old.items ++ more))
+            ≡ Ok numbers.new.items) }
         ensures err { IfErr result (λ f. f ≢ faults.NoMemory → eights_in self.now ≡ Err f) }
     {
         match &self.content {

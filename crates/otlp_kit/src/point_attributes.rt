@@ -59,7 +59,8 @@ fn attribute(
     given: &KeyValue,
 ) -> Result<(Txt, AttrValue), RequestFault>
     ensures ok { IfOk result (λ pair. attribute point (not (first == place)) given.now ≡ Ok pair) }
-    ensures err { IfErr result (λ f. f ≢ RequestFault.NoMemory → attribute point (not (first == place)) given.now ≡ Err f) }
+    ensures err { IfErr result (λ f. f ≢ RequestFault.NoMemory
+        → attribute point (not (first == place)) given.now ≡ Err f) }
 {
     let key = key_of(given);
     if key.is_empty() {
@@ -81,14 +82,49 @@ fn push_pair(pairs: &mut Vec<(Txt, AttrValue)>, pair: (Txt, AttrValue)) -> Resul
     Ok(())
 }
 
+// Of so many attributes each is compared with those before it.
+const FEW: usize = 16;
+
+// The least place of an attribute with this key. O(n) comparisons.
+#[tactic(auto, using(crate::proofs::Twice::place_of_key))]
+fn first_of_key(given: &[KeyValue], key: &str) -> usize
+    ensures { result ≡ first_place (map key_of given.now) key.now }
+{
+    match given.iter().position(|other| key == key_of(other)) {
+        Some(place) => place,
+        None => 0,
+    }
+}
+
+// The pairs of few attributes. Takes no memory but theirs.
 #[tactic(auto, unfolding(crate::specs::Walks::walk))]
-fn pairs_of(
+fn pairs_of_few(
     alloc: Global,
     point: usize,
     given: &[KeyValue],
 ) -> Result<Vec<(Txt, AttrValue)>, RequestFault>
     ensures ok { IfOk result (λ pairs. walk (add_attribute point given.now) [] given.now ≡ Ok pairs.items) }
-    ensures err { IfErr result (λ f. f ≢ RequestFault.NoMemory → walk (add_attribute point given.now) [] given.now ≡ Err f) }
+    ensures err { IfErr result (λ f. f ≢ RequestFault.NoMemory
+        → walk (add_attribute point given.now) [] given.now ≡ Err f) }
+{
+    let mut pairs = Vec::with_capacity(alloc, given.len())?;
+    for (place, one) in given.iter().enumerate() {
+        let first = first_of_key(given, key_of(one));
+        let pair = attribute(alloc, point, place, first, one)?;
+        push_pair(&mut pairs, pair)?;
+    }
+    Ok(pairs)
+}
+
+#[tactic(auto, unfolding(crate::specs::Walks::walk))]
+fn pairs_of_many(
+    alloc: Global,
+    point: usize,
+    given: &[KeyValue],
+) -> Result<Vec<(Txt, AttrValue)>, RequestFault>
+    ensures ok { IfOk result (λ pairs. walk (add_attribute point given.now) [] given.now ≡ Ok pairs.items) }
+    ensures err { IfErr result (λ f. f ≢ RequestFault.NoMemory
+        → walk (add_attribute point given.now) [] given.now ≡ Err f) }
 {
     let keys = keys_of(alloc, given)?;
     let firsts = first_places(alloc, keys.as_slice())?;
@@ -98,6 +134,22 @@ fn pairs_of(
         push_pair(&mut pairs, pair)?;
     }
     Ok(pairs)
+}
+
+fn pairs_of(
+    alloc: Global,
+    point: usize,
+    given: &[KeyValue],
+) -> Result<Vec<(Txt, AttrValue)>, RequestFault>
+    ensures ok { IfOk result (λ pairs. walk (add_attribute point given.now) [] given.now ≡ Ok pairs.items) }
+    ensures err { IfErr result (λ f. f ≢ RequestFault.NoMemory
+        → walk (add_attribute point given.now) [] given.now ≡ Err f) }
+{
+    if given.len() <= FEW {
+        pairs_of_few(alloc, point, given)
+    } else {
+        pairs_of_many(alloc, point, given)
+    }
 }
 
 /// The attributes of a point as a set. O(n log n) comparisons of keys.
