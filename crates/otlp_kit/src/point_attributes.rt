@@ -1,7 +1,9 @@
 //! Attributes of a point.
 ghost use Rattle.std.specs.Prelude.{◌≡◌, ◌≢◌, ◌==◌, ◌++◌, [], ◌∷◌, not, map, Ok, Err, IfOk, IfErr, OnOk};
+ghost use Rattle.std.specs.List.{position};
+ghost use Rattle.std.specs.Str.{bytes_eq};
 ghost use Rattle.otlp_kit.specs.Reading.{value_of, content_value, key_of, attribute, attributes, add_attribute};
-ghost use Rattle.otlp_kit.specs.Walks.{walk};
+ghost use Rattle.otlp_kit.specs.Walks.{first_place, walk};
 
 use crate::RequestFault;
 use crate::first_places::first_places;
@@ -85,15 +87,19 @@ fn push_pair(pairs: &mut Vec<(Txt, AttrValue)>, pair: (Txt, AttrValue)) -> Resul
 // Of so many attributes each is compared with those before it.
 const FEW: usize = 16;
 
-// The least place of an attribute with this key. O(n) comparisons.
-#[tactic(auto, using(crate::proofs::Twice::place_of_key))]
+// The place of the first attribute with this key.
+fn place_of_key(given: &[KeyValue], key: &str) -> Option<usize>
+    ensures { result ≡ position (λ a. bytes_eq key.now (key_of a)) given.now }
+{
+    given.iter().position(|other| key == key_of(other))
+}
+
+// The same, 0 where there is none. O(n) comparisons.
+
 fn first_of_key(given: &[KeyValue], key: &str) -> usize
     ensures { result ≡ first_place (map key_of given.now) key.now }
 {
-    match given.iter().position(|other| key == key_of(other)) {
-        Some(place) => place,
-        None => 0,
-    }
+    place_of_key(given, key).unwrap_or(0)
 }
 
 // The pairs of few attributes. Takes no memory but theirs.
