@@ -5,7 +5,6 @@ use Rattle.std.specs.Option.{option_or}
 use Rattle.std.proofs.lemmas.Bool.{eqb-true, eq-eqb}
 use Rattle.std.proofs.lemmas.Iterator.Adapters.{position_from-zero}
 use Rattle.std.proofs.lemmas.List.{take_all, take_more}
-use Rattle.plan_kit.proofs.Owning.{position_append}
 
 -- none is found where none passes
 pub found_none : {A : Type 0} (t : A → Bool) (n : ℕ) (xs : List A) → is_none (position_from t n xs) ≡ not (list_any t xs)
@@ -14,6 +13,14 @@ found_none t n (x ∷ xs) = elim (t x) as (λ b. is_none (cond b (Some n) (posit
 
 pub place_none : {A : Type 0} (t : A → Bool) (xs : List A) → is_none (position t xs) ≡ not (list_any t xs)
 place_none t xs = ap is_none (position_from-zero t xs) ∙ found_none t 0 xs
+
+module _ {A : Type 0} where
+  position_append : (t : A → Bool) (n : ℕ) (xs ys : List A) → position_from t n (xs ++ ys) ≡ option_or (position_from t n xs) (position_from t (n + length xs) ys)
+  position_append t n [] ys = ap (λ (m : ℕ). position_from t m ys) (omega arith)
+  position_append t n (x ∷ xs) ys = elim (t x) as (λ b. cond b (Some n) (position_from t (n + 1) (xs ++ ys)) ≡ option_or (cond b (Some n) (position_from t (n + 1) xs)) (position_from t (n + length (x ∷ xs)) ys)) [
+    | true ↦ refl
+    | false ↦ position_append t (n + 1) xs ys ∙ ap (λ (m : ℕ). option_or (position_from t (n + 1) xs) (position_from t m ys)) (omega arith)
+  ]
 
 -- one element more
 position_more : (t : ℕ → Bool) (xs : List ℕ) (i : ℕ) (x : ℕ) → i < length xs → x ≡ get_or xs i x → position_from t 0 (take (i + 1) xs) ≡ option_or (position_from t 0 (take i xs)) (cond (t x) (Some i) None)

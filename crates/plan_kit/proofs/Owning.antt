@@ -9,7 +9,7 @@ use Rattle.plan_kit.specs.Exact.{exact_instruments}
 use Rattle.plan_kit.specs.Owners.{is_same, owner_of}
 
 module _ {A : Type 0} where
-  pub position_append : (t : A → Bool) (n : ℕ) (xs ys : List A) → position_from t n (xs ++ ys) ≡ option_or (position_from t n xs) (position_from t (n + length xs) ys)
+  position_append : (t : A → Bool) (n : ℕ) (xs ys : List A) → position_from t n (xs ++ ys) ≡ option_or (position_from t n xs) (position_from t (n + length xs) ys)
   position_append t n [] ys = ap (λ (m : ℕ). position_from t m ys) (omega arith)
   position_append t n (x ∷ xs) ys = elim (t x) as (λ b. cond b (Some n) (position_from t (n + 1) (xs ++ ys)) ≡ option_or (cond b (Some n) (position_from t (n + 1) xs)) (position_from t (n + length (x ∷ xs)) ys)) [
     | true ↦ refl
