@@ -11,6 +11,7 @@ use crate::key_value::{AnyContent, AnyValue, KeyValue};
 use attr_kit::{AttrSet, AttrValue, NoMemory, Txt};
 use std::alloc::Global;
 
+#[inline(always)]
 fn content_value(content: &Option<AnyContent>) -> Result<Option<AttrValue>, NoMemory>
     ensures { IfOk result (λ value. value ≡ content_value content.now) }
 {
@@ -23,6 +24,7 @@ fn content_value(content: &Option<AnyContent>) -> Result<Option<AttrValue>, NoMe
 }
 
 // The value of an attribute, if it is one that the kit has.
+#[inline(always)]
 fn value_of(value: &Option<AnyValue>) -> Result<Option<AttrValue>, NoMemory>
     ensures { IfOk result (λ found. found ≡ value_of value.now) }
 {
@@ -53,6 +55,7 @@ fn keys_of(alloc: Global, attributes: &[KeyValue]) -> Result<Vec<Txt>, NoMemory>
 }
 
 // The attribute of a point at a place, whose key stands first at another where it comes twice.
+#[inline(always)]
 fn attribute(
     alloc: Global,
     point: usize,
@@ -77,6 +80,7 @@ fn attribute(
     }
 }
 
+#[inline(always)]
 fn push_pair(pairs: &mut Vec<(Txt, AttrValue)>, pair: (Txt, AttrValue)) -> Result<(), NoMemory>
     ensures { OnOk result (pairs.new.items ≡ pairs.old.items ++ pair ∷ []) }
 {
@@ -88,6 +92,7 @@ fn push_pair(pairs: &mut Vec<(Txt, AttrValue)>, pair: (Txt, AttrValue)) -> Resul
 const FEW: usize = 16;
 
 // The place of the first attribute with this key.
+#[inline(always)]
 fn place_of_key(given: &[KeyValue], key: &str) -> Option<usize>
     ensures { result ≡ position (λ a. bytes_eq key.now (key_of a)) given.now }
 {
@@ -96,6 +101,7 @@ fn place_of_key(given: &[KeyValue], key: &str) -> Option<usize>
 
 // The same, 0 where there is none. O(n) comparisons.
 
+#[inline(always)]
 fn first_of_key(given: &[KeyValue], key: &str) -> usize
     ensures { result ≡ first_place (map key_of given.now) key.now }
 {

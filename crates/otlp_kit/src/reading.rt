@@ -65,6 +65,7 @@ fn whole(point: usize, value: &Option<Number>) -> Result<i64, RequestFault>
 }
 
 // A point of a number, which is a sum or a gauge.
+#[inline(always)]
 fn number_placed(
     alloc: Global,
     place: usize,
@@ -236,6 +237,7 @@ impl Reading {
         }
     }
 
+    #[inline(always)]
     fn push(&mut self, alloc: Global, point: Placed) -> Result<(), NoMemory>
         ensures { OnOk result (self.new ≡ with_point self.old point) }
     {

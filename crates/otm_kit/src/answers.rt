@@ -115,5 +115,11 @@ fn newest_line(alloc: Global, time: Option<u64>) -> Result<String, NoMemory>
 fn ask_of(alloc: Global, report: Report) -> Result<Ask, NoMemory>
     ensures { IfOk result (λ ask. ask ≡ ask_of report) }
 {
-    Ask::for_set(alloc, report.stream, report.service, &report.only, report.keep)
+    let Report {
+        stream,
+        service,
+        only,
+        keep,
+    } = report;
+    Ask::for_set(alloc, stream, service, &only, keep)
 }
