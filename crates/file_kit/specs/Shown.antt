@@ -1,23 +1,19 @@
 -- What is shown of a file.
-use Rattle.std.specs.Prelude.{◌≡◌, ℕ, ℤ, Bool, true, false, nat_le, ◌==◌, ◌||◌, ◌/◌, ◌%◌, if◌then◌else◌, List, [], ◌∷◌, ◌++◌, codes, encode_utf8, fold, Option, Some, None}
-use Rattle.std.specs.FinMap.{entries}
-use Rattle.std.specs.Fmt.{decimal, digit_glyph, signed_decimal}
+use Rattle.std.specs.Prelude.{◌≡◌, ℕ, ℤ, true, false, nat_le, ◌==◌, ◌||◌, if◌then◌else◌, List, [], ◌∷◌, ◌++◌, codes, encode_utf8, Option, Some, None}
+use Rattle.std.specs.Fmt.{decimal, signed_decimal}
 use Rattle.std.specs.List.{flat_map, join_by}
 use Rattle.std.specs.Str.{chars}
 use Rattle.uuid.specs.Text.{hyphenated_text, lower}
-use Rattle.indexmap.specs.IndexSet.{insert_key}
 use Rattle.attr_kit.specs.declared.keep.Keep.TheVariants as keeps
 use Rattle.gossip_kit.specs.Views.{MessageModel}
 use Rattle.point_kit.specs.Exports.{Points}
-use Rattle.point_kit.specs.contracts.stream.StreamPartialEq.TheImpl as streams
-use Rattle.point_kit.specs.declared.cell.Cell.{Cell}
 use Rattle.point_kit.specs.declared.export.Export.{Export}
-use Rattle.point_kit.specs.declared.key.Key.{Key}
-use Rattle.point_kit.specs.declared.payload.Payload.{Payload}
 use Rattle.point_kit.specs.declared.shape.Shape.{Shape}
 use Rattle.point_kit.specs.declared.shape.Shape.TheVariants as shapes
 use Rattle.point_kit.specs.declared.stream.Stream.{Stream}
+use Rattle.rollup_kit.specs.Quote.{hex}
 use Rattle.rollup_kit.specs.Rollups.{rollup_rows}
+use Rattle.rollup_kit.specs.Streams.{streams_held}
 use Rattle.rollup_kit.specs.TableText.{table_text}
 use Rattle.rollup_kit.specs.declared.ask.Ask.{Ask}
 use Rattle.file_kit.specs.Contents.{form, points_of}
@@ -28,7 +24,7 @@ use Rattle.file_kit.specs.declared.content.Content.TheVariants as content
 unfoldable pub escape : ℕ → List ℕ
 escape c =
     if c == 92 then 92 ∷ 92 ∷ []
-    else if nat_le c 32 || c == 127 then 92 ∷ 120 ∷ digit_glyph false (c / 16) ∷ digit_glyph false (c % 16) ∷ []
+    else if nat_le c 32 || c == 127 then hex c
     else encode_utf8 c
 
 unfoldable pub escaped : List ℕ → List ℕ
@@ -38,10 +34,6 @@ escaped text = flat_map escape (chars text)
 abbrev pub word_text : List ℕ → List ℕ
 word_text [] = 45 ∷ []
 word_text (b ∷ bs) = escaped (b ∷ bs)
-
--- what stands before the bound at this place
-abbrev pub comma_before : ℕ → List ℕ
-comma_before place = if place == 0 then [] else 44 ∷ []
 
 -- bounds with a comma between each two
 abbrev pub bounds_text : List ℤ → List ℕ
@@ -71,17 +63,6 @@ all_of stream = record { stream = stream; service = None; only = []; keep = keep
 -- a stream, and the table of its points
 unfoldable pub stream_text : Points → Stream → List ℕ
 stream_text points s = stream_line s ++ table_text (rollup_rows (all_of s) points)
-
-abbrev pub stream_eq : Stream → Stream → Bool
-stream_eq = (streams.ghosts).eq
-
--- streams, and those of points behind them, each once
-abbrev pub with_streams : List Stream → List (Key × Cell Payload) → List Stream
-with_streams ss ps = fold (λ seen e. insert_key stream_eq seen e.0.stream) ss ps
-
--- those of all points, in the order of their keys
-abbrev pub streams_held : Points → List Stream
-streams_held points = with_streams [] (entries points)
 
 abbrev pub streams_text : Points → List ℕ
 streams_text points = flat_map (stream_text points) (streams_held points)

@@ -4,7 +4,7 @@ ghost use Rattle.rollup_kit.specs.declared.ask.Ask.{Ask};
 ghost use Rattle.file_kit.specs.AskWords.{ask_line, ask_of, IsAsk};
 
 use crate::CommandFault;
-use attr_kit::{AttrSet, AttrValue, NoMemory, Seq, TryCopy, Txt};
+use attr_kit::NoMemory;
 use rollup_kit::Ask;
 use script_kit::{Line, Query, Reason, Report, Stop, explain, parse_line};
 use std::alloc::{AllocError, Global};
@@ -28,16 +28,6 @@ fn line_of(alloc: Global, words: &[&str]) -> Result<String, AllocError>
     Ok(line)
 }
 
-fn pairs_of(alloc: Global, attrs: &AttrSet) -> Result<Seq<(Txt, AttrValue)>, NoMemory>
-    ensures { IfOk result (λ pairs. pairs ≡ attrs.now) }
-{
-    let mut pairs = Vec::with_capacity(alloc, attrs.len())?;
-    for pair in attrs.pairs() {
-        pairs.push(pair.try_copy()?)?;
-    }
-    Ok(Seq::from_vec(pairs))
-}
-
 // What a report asks of a gateway.
 fn ask_of(alloc: Global, report: Report) -> Result<Ask, NoMemory>
     ensures { IfOk result (λ ask. ask ≡ ask_of report) }
@@ -48,13 +38,7 @@ fn ask_of(alloc: Global, report: Report) -> Result<Ask, NoMemory>
         only,
         keep,
     } = report;
-    let only = pairs_of(alloc, &only)?;
-    Ok(Ask {
-        stream,
-        service,
-        only,
-        keep,
-    })
+    Ask::for_set(alloc, stream, service, &only, keep)
 }
 
 // The refusal of a line, by its sentence.

@@ -1,15 +1,15 @@
 //! Streams as lines that ask for them, and their tables.
 ghost use Rattle.std.specs.Prelude.{◌≡◌, ◌++◌, IfOk, OnOk, string_bytes};
 ghost use Rattle.std.specs.List.{flat_map};
-ghost use Rattle.indexmap.specs.IndexSet.{insert_key};
-ghost use Rattle.file_kit.specs.Shown.{all_of, bounds_text, comma_before, shape_text, stream_eq, stream_line, stream_words, stream_text, streams_held, streams_text};
+ghost use Rattle.rollup_kit.specs.RowText.{comma_before};
+ghost use Rattle.file_kit.specs.Shown.{all_of, bounds_text, shape_text, stream_line, stream_words, stream_text, streams_text};
 
 use crate::word::push_spaced;
 use attr_kit::{Keep, NoMemory, Seq};
 use gateway_kit::Gateway;
 use indexmap::IndexSet;
 use point_kit::{Shape, Stream};
-use rollup_kit::{Ask, rollup, table};
+use rollup_kit::{Ask, rollup, streams_of, table};
 use std::alloc::{AllocError, Global};
 
 // What stands before the bound at this place.
@@ -92,27 +92,6 @@ fn push_table(
     Ok(())
 }
 
-// Notes a stream, once.
-fn note(seen: &mut IndexSet<Stream>, stream: &Stream) -> Result<(), NoMemory>
-    ensures { OnOk result (seen.new.keys ≡ insert_key stream_eq seen.old.keys stream.now) }
-{
-    if !seen.contains(stream) {
-        seen.insert(stream.try_copy()?)?;
-    }
-    Ok(())
-}
-
-// The streams of a gateway's points, each once.
-fn seen_in(alloc: Global, gateway: &Gateway) -> Result<IndexSet<Stream>, NoMemory>
-    ensures { IfOk result (λ seen. seen.keys ≡ streams_held gateway.now.points) }
-{
-    let mut seen = IndexSet::new(alloc);
-    for point in gateway.points() {
-        note(&mut seen, point.stream)?;
-    }
-    Ok(seen)
-}
-
 // Adds these streams, each with its table.
 fn push_all(
     text: &mut String,
@@ -138,5 +117,5 @@ pub(crate) fn push_tables(
 ) -> Result<(), NoMemory>
     ensures { OnOk result (string_bytes text.new ≡ string_bytes text.old ++ streams_text gateway.now.points) }
 {
-    push_all(text, alloc, gateway, &seen_in(alloc, gateway)?)
+    push_all(text, alloc, gateway, &streams_of(alloc, gateway)?)
 }

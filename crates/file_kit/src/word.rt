@@ -1,23 +1,9 @@
 //! Texts as words of a line.
-ghost use Rattle.std.specs.Prelude.{◌≡◌, ◌++◌, ◌<◌, false, OnOk, string_bytes};
-ghost use Rattle.std.specs.Fmt.{digit_glyph};
+ghost use Rattle.std.specs.Prelude.{◌≡◌, ◌++◌, OnOk, string_bytes};
 ghost use Rattle.file_kit.specs.Shown.{escape, escaped, spaced, word_text};
 
+use rollup_kit::push_hex;
 use std::alloc::AllocError;
-
-// A digit below 16, `a` to `f` from ten on.
-fn hex_digit(digit: u32) -> char
-    requires { digit < 16 }
-    ensures glyph { result ≡ digit_glyph false digit }
-    ensures ascii { result < 128 }
-{
-    let digit = digit as u8;
-    if digit < 10 {
-        (b'0' + digit) as char
-    } else {
-        (b'a' + (digit - 10)) as char
-    }
-}
 
 #[tactic(auto, unfolding(crate::specs::Shown::escape))]
 fn push_escaped(text: &mut String, c: char) -> Result<(), AllocError>
@@ -27,9 +13,7 @@ fn push_escaped(text: &mut String, c: char) -> Result<(), AllocError>
     if c == '\\' {
         text.push_str("\\\\")
     } else if code <= 0x20 || code == 0x7f {
-        text.push_str("\\x")?;
-        text.push(hex_digit(code / 16))?;
-        text.push(hex_digit(code % 16))
+        push_hex(text, c)
     } else {
         text.push(c)
     }

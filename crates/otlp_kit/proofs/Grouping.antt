@@ -4,10 +4,8 @@ use Rattle.std.specs.Prelude.{◌==◌, ◌&&◌}
 use Rattle.std.specs.Option.{option_map, option_or}
 use Rattle.std.proofs.lemmas.Bool.Decides.{nat_tests}
 use Rattle.std.proofs.lemmas.Cmp.{eq_by_cmp_equiv}
-use Rattle.std.specs.Cmp.{nat_cmp_total, unsigned_tied}
+use Rattle.std.specs.Cmp.{nat_cmp_total, tied_then, unsigned_tied}
 use Rattle.std.specs.Ordering.{is_eq, nat_cmp, ordering_then}
-use Rattle.std.specs.declared.cmp.Ordering.{Ordering}
-use Rattle.std.specs.declared.cmp.Ordering.TheVariants.{Less, Equal, Greater}
 use Rattle.attr_kit.specs.Exact.{first_holds, second_holds}
 use Rattle.otlp_kit.specs.Reading.{is_of, group_of, with_member, add_member}
 use Rattle.otlp_kit.specs.declared.group.Group.{Group}
@@ -81,30 +79,12 @@ module _ (w : ℕ × ℕ) where
   place_same (g ∷ gs) zero d p h = refl
   place_same (g ∷ gs) (suc i) d p h = ap (λ (o : Option ℕ). cond (has_window w g) (Some 0) (option_map (λ n. suc n) o)) (place_same gs i d p (omega arith))
 
-both_equal : (a b : Ordering) → is_eq (ordering_then a b) ≡ (is_eq b && is_eq a)
-both_equal Less Less = refl
-both_equal Less Equal = refl
-both_equal Less Greater = refl
-both_equal Equal Less = refl
-both_equal Equal Equal = refl
-both_equal Equal Greater = refl
-both_equal Greater Less = refl
-both_equal Greater Equal = refl
-both_equal Greater Greater = refl
-
-turned : (a b : Bool) → (a && b) ≡ (b && a)
-turned true true = refl
-turned true false = refl
-turned false true = refl
-turned false false = refl
-
 flip : (a b : ℕ) → is_eq (nat_cmp a b) ≡ (b == a)
 flip a b = (eq_by_cmp_equiv nat_cmp_total).symm a b ∙ unsigned_tied b a
 
 -- windows that tie are equal
 tied : (s t : ℕ) (w : ℕ × ℕ) → is_eq (ordering_then (nat_cmp s w.0) (nat_cmp t w.1)) ≡ ((w.0 == s) && (w.1 == t))
-tied s t w =
-    both_equal (nat_cmp s w.0) (nat_cmp t w.1) ∙ (λ i. flip t w.1 i && flip s w.0 i) ∙ turned (w.1 == t) (w.0 == s)
+tied s t w = sym (tied_then (nat_cmp s w.0) (nat_cmp t w.1)) ∙ (λ i. flip s w.0 i && flip t w.1 i)
 
 equal : (a b : ℕ) → (a == b) ≡ true → a ≡ b
 equal a b e = grind (arith, nat_tests)

@@ -1,5 +1,11 @@
 -- Attributes whose key an earlier one may have, and scopes whose name.
-use Rattle.std.proofs.Common.{◌≡◌, ℕ, ◌+◌, ◌<◌, Bool, true, false, List, [], ◌∷◌, ◌++◌, length, drop, get_or, map, Result, Ok, Err, sym, ap, ◌∙◌}
+use Rattle.std.proofs.Common.{◌≡◌, ℕ, ◌+◌, ◌<◌, Bool, true, false, cond, List, [], ◌∷◌, ◌++◌, length, drop, get_or, map, Some, Option, unwrap_or, Result, Ok, Err, refl, sym, ap, ◌∙◌}
+use Rattle.std.specs.List.{position, position_from}
+use Rattle.std.specs.Ordering.{is_eq}
+use Rattle.std.specs.Str.{bytes_eq}
+use Rattle.std.proofs.lemmas.Iterator.Adapters.{position_from-zero}
+use Rattle.std.proofs.lemmas.Map.Text.{is_eq-slice_cmp}
+use Rattle.attr_kit.specs.Orders.{text_cmp}
 use Rattle.std.specs.Prelude.{◌==◌, not, slice_get}
 use Rattle.std.proofs.Math.ListN.{get_or-map}
 use Rattle.std.proofs.lemmas.List.{get_or_default, length-map}
@@ -82,3 +88,11 @@ with_scopes t n = record { scopes = n; metrics = t.metrics; points = t.points; p
 
 pub one_scope_more : (t : Reading) (n : ℕ) → n ≡ t.scopes + 1 → with_scopes t n ≡ behind_scope t
 one_scope_more t n e = ap (with_scopes t) e
+
+found_at : {A : Type 0} (key : A → List ℕ) (k : List ℕ) (given : List A) (n : ℕ) → position_from (λ a. bytes_eq k (key a)) n given ≡ position_from (λ u. is_eq (text_cmp k u)) n (map key given)
+found_at key k [] n = refl
+found_at key k (a ∷ given) n = (λ i. cond (sym (is_eq-slice_cmp k (key a)) i) (Some n) (found_at key k given (n + 1) i))
+
+-- the least place of a key, found by comparing texts
+pub place_of_key : (k : List ℕ) (given : List KeyValue) → unwrap_or (position (λ a. bytes_eq k (key_of a)) given) 0 ≡ first_place (map key_of given) k
+place_of_key k given = ap (λ (o : Option ℕ). unwrap_or o 0) (position_from-zero (λ a. bytes_eq k (key_of a)) given ∙ found_at key_of k given 0)

@@ -1,13 +1,14 @@
 -- Varints, group by group, and blocks whose head is put in front.
-use Rattle.std.proofs.Common.{◌≡◌, ℕ, ℤ, zero, suc, true, false, get_or, length-drop, ◌+◌, ◌-◌, ◌/◌, ◌%◌, ◌<◌, ◌≤◌, cond, List, [], ◌∷◌, ◌++◌, length, take, drop, inl, inr, refl, sym, ap, ◌∙◌, append_assoc, arith}
+use Rattle.std.proofs.Common.{◌≡◌, ℕ, ℤ, zero, suc, true, false, get_or, length-drop, ◌+◌, ◌-◌, ◌*◌, ◌/◌, ◌%◌, ◌<◌, ◌≤◌, cond, List, [], ◌∷◌, ◌++◌, length, take, drop, inl, inr, refl, sym, ap, ◌∙◌, append_assoc, arith}
 use Rattle.std.specs.Prelude.{nat_lt, ◌==◌}
 use Rattle.std.specs.List.{flat_map}
 use Rattle.std.proofs.lemmas.Bool.{cases_lt}
 use Rattle.std.proofs.lemmas.Bool.Decides.{nat_tests}
-use Rattle.std.proofs.lemmas.List.{append-nil, take_at, drop_at, take_rest, drop_all, drop-drop, take-append-le, drop-append-le}
+use Rattle.std.proofs.lemmas.List.{append-nil, length-append, length-take-le, take_at, drop_at, take_more, drop_more, take_rest, drop_all, drop-drop, take-append-le, drop-append-le}
 use Rattle.otlp_kit.specs.Wire.{groups, varint, tag, block, eight}
 use Rattle.otlp_kit.specs.Doubles.{double}
-use Rattle.otlp_kit.specs.Request.{explicit_bounds, metric_fields, metric, scope_fields, scope_metrics, resource_metrics, request}
+use Rattle.attr_kit.specs.declared.attr_value.AttrValue.TheVariants as values
+use Rattle.otlp_kit.specs.Request.{attribute, key_value, explicit_bounds, metric_fields, metric, scope_fields, scope_metrics, resource_metrics, request}
 use Rattle.point_kit.specs.declared.export.Export.{Export}
 use Rattle.point_kit.specs.declared.stream.Stream.{Stream}
 use Rattle.point_kit.specs.declared.export_point.ExportPoint.{ExportPoint}
@@ -124,3 +125,57 @@ scope_of_first start time (q ∷ ps) p s h e f = ap (λ (x : Stream). block 2 (s
 pub request_is : (e : Export) → block 1 (resource_metrics e) ≡ request e
 unfolding request
 request_is e = refl
+
+-- a block whose tag and length are one byte each
+short_block : (field : ℕ) (bytes : List ℕ) → 8 * field + 2 < 128 → length bytes < 128 → block field bytes ≡ (8 * field + 2) ∷ length bytes ∷ bytes
+unfolding block
+short_block field bytes f n = λ i. varint_low (8 * field + 2) f i ++ (varint_low (length bytes) n i ++ bytes)
+
+abbrev pub short_head : ℕ → List ℕ → List ℕ → List ℕ
+short_head field key text = (8 * field + 2) ∷ (length key + length text + 6) ∷ 10 ∷ length key ∷ []
+
+abbrev pub short_middle : List ℕ → List ℕ
+short_middle text = 18 ∷ (length text + 2) ∷ 10 ∷ length text ∷ []
+
+short_text : (text : List ℕ) → length text < 122 → block 2 (block 1 text) ≡ short_middle text ++ text
+short_text text h =
+    let inner = 10 ∷ length text ∷ text in
+    ap (block 2) (short_block 1 text (omega arith) (omega arith)) ∙ short_block 2 inner (omega arith) (omega arith)
+    ∙ ap (λ (n : ℕ). 18 ∷ n ∷ inner) (omega arith)
+
+-- an attribute of a short text
+short_pair : (field : ℕ) (key text : List ℕ) → field < 16 → length key + length text < 122 → attribute field (key, values.Text text) ≡ short_head field key text ++ (key ++ (short_middle text ++ text))
+unfolding key_value
+short_pair field key text f h =
+    let behind = short_middle text ++ text in
+    let body = 10 ∷ length key ∷ key ++ behind in
+    let long : length body ≡ length key + length text + 6 = omega (arith, length-append key behind) in
+    ap (block field) (λ i. short_block 1 key (omega arith) (omega arith) i ++ short_text text (omega arith) i)
+    ∙ short_block field body (omega arith) (omega (arith, long))
+    ∙ ap (λ (n : ℕ). (8 * field + 2) ∷ n ∷ body) long
+
+pub short_written : (field : ℕ) (key text old new : List ℕ) → field < 16 → length key + length text < 122 → new ≡ ((old ++ short_head field key text) ++ key) ++ (short_middle text ++ text) → new ≡ old ++ attribute field (key, values.Text text)
+short_written field key text old new f h is =
+    is ∙ append_assoc (old ++ short_head field key text) key (short_middle text ++ text)
+    ∙ append_assoc old (short_head field key text) (key ++ (short_middle text ++ text))
+    ∙ ap (λ (l : List ℕ). old ++ l) (sym (short_pair field key text f h))
+
+-- one byte more is put in front
+pub turned_byte : (p part new : List ℕ) (i : ℕ) → i < length p → part ≡ drop (length p - i) p ++ take (length p - i) p → new ≡ drop (length part - 1) part ++ take (length part - 1) part → new ≡ drop (length p - (i + 1)) p ++ take (length p - (i + 1)) p
+turned_byte p part new i h is was =
+    let j = length p - (i + 1) in
+    let next : length p - i ≡ j + 1 = omega arith in
+    let within : j < length p = omega arith in
+    let x = get_or p j 0 in
+    let front = drop (j + 1) p ++ take j p in
+    let whole : part ≡ front ++ x ∷ [] =
+    is ∙ ap (λ (n : ℕ). drop n p ++ take n p) next
+    ∙ ap (λ (l : List ℕ). drop (j + 1) p ++ l) (take_more p j 0 within)
+    ∙ sym (append_assoc (drop (j + 1) p) (take j p) (x ∷ [])) in
+    let long : length front ≡ length p - 1 = omega (arith, length-append (drop (j + 1) p) (take j p), length-drop (j + 1) p, length-take-le j p (omega arith)) in
+    let all : length part ≡ length p = ap length whole ∙ length-append front (x ∷ []) ∙ omega (arith, long) in
+    was
+    ∙ ap (λ (n : ℕ). drop n part ++ take n part) (omega (arith, long, all))
+    ∙ ap (λ (l : List ℕ). drop (length front) l ++ take (length front) l) whole
+    ∙ (λ k. drop_at front (x ∷ []) (length front) refl k ++ take_at front (x ∷ []) (length front) refl k)
+    ∙ ap (λ (l : List ℕ). l ++ take j p) (sym (drop_more p j 0 within))

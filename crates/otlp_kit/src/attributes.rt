@@ -1,5 +1,6 @@
 //! Attributes, and the resource of a writer.
-ghost use Rattle.std.specs.Prelude.{◌≡◌, ◌<◌, ◌++◌, ◌^◌, OnOk};
+ghost use Rattle.std.specs.Prelude.{◌≡◌, ◌+◌, ◌<◌, ◌++◌, ◌^◌, length, OnOk};
+ghost use Rattle.attr_kit.specs.declared.attr_value.AttrValue.TheVariants as values;
 ghost use Rattle.otlp_kit.specs.Request.{any_value, key_value, attribute, attributes, instance, service, resource};
 ghost use Rattle.otlp_kit.specs.Wire.{block};
 
@@ -7,6 +8,9 @@ use crate::wire::{close_block, write_number, write_text};
 use attr_kit::{AttrValue, NoMemory, Txt};
 use point_kit::WriterId;
 use uuid::Uuid;
+
+// Below this a key and a text together leave each length that stands before them in one byte.
+const SHORT: usize = 122;
 
 // The value of an attribute: an AnyValue.
 fn write_value(value: &AttrValue, out: &mut Vec<u8>) -> Result<(), NoMemory>
@@ -35,19 +39,46 @@ fn write_key_value(key: &str, value: &AttrValue, out: &mut Vec<u8>) -> Result<()
     write_value_field(value, out)
 }
 
-// An attribute, as a field of this number.
+// An attribute of a short text, as a field of this number: each of its lengths is known, and one byte.
+fn write_short(field: u64, key: &str, text: &str, out: &mut Vec<u8>) -> Result<(), NoMemory>
+    requires field { field < 16 }
+    requires short { length key.now + length text.now < 122 }
+    ensures { OnOk result (out.new.items ≡ out.old.items ++ attribute field (key.now, values.Text text.now)) }
+{
+    let (key_len, text_len) = (key.len() as u8, text.len() as u8);
+    out.extend_from_slice(&[8 * field as u8 + 2, key_len + text_len + 6, 10, key_len])?;
+    out.extend_from_slice(key.as_bytes())?;
+    out.extend_from_slice(&[18, text_len + 2, 10, text_len])?;
+    out.extend_from_slice(text.as_bytes())?;
+    Ok(())
+}
+
+// The same of any attribute.
+fn write_any(field: u64, key: &str, value: &AttrValue, out: &mut Vec<u8>) -> Result<(), NoMemory>
+    requires { field < 2 ^ 29 }
+    ensures { OnOk result (out.new.items ≡ out.old.items ++ attribute field (key.now, value.now)) }
+{
+    let start = out.len();
+    write_key_value(key, value, out)?;
+    close_block(field, start, out)
+}
+
 fn write_attribute(
     field: u64,
     key: &str,
     value: &AttrValue,
     out: &mut Vec<u8>,
 ) -> Result<(), NoMemory>
-    requires { field < 2 ^ 29 }
-    ensures { OnOk result (out.new.items ≡ out.old.items ++ block field (key_value (key.now, value.now))) }
+    requires { field < 16 }
+    ensures { OnOk result (out.new.items ≡ out.old.items ++ attribute field (key.now, value.now)) }
 {
-    let start = out.len();
-    write_key_value(key, value, out)?;
-    close_block(field, start, out)
+    if let AttrValue::Text(text) = value {
+        let text = text.as_str();
+        if key.len() < SHORT && text.len() < SHORT - key.len() {
+            return write_short(field, key, text, out);
+        }
+    }
+    write_any(field, key, value, out)
 }
 
 /// Attributes in the order of their keys, as fields of this number.
@@ -57,7 +88,7 @@ pub(crate) fn write_attributes(
     pairs: &[(Txt, AttrValue)],
     out: &mut Vec<u8>,
 ) -> Result<(), NoMemory>
-    requires { field < 2 ^ 29 }
+    requires { field < 16 }
     ensures { OnOk result (out.new.items ≡ out.old.items ++ attributes field pairs.now) }
 {
     for (key, value) in pairs {

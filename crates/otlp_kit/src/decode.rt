@@ -28,7 +28,8 @@ fn build(
     ensures taken_at { IfOk result (λ e. e.time ≡ group.time) }
     ensures points { IfOk result (λ e. e.points ≡ group.points) }
     ensures ok { OnOk result (export_fault group.start group.time group.points ≡ None) }
-    ensures err { IfErr result (λ f. f ≢ RequestFault.NoMemory → (g : _) × (export_fault group.start group.time group.points ≡ Some g) × (f ≡ RequestFault.BadExport number g)) }
+    ensures err { IfErr result (λ f. f ≢ RequestFault.NoMemory
+        → (g : _) × (export_fault group.start group.time group.points ≡ Some g) × (f ≡ RequestFault.BadExport number g)) }
 {
     match Export::build(alloc, writer, group.start, group.time, group.points) {
         Ok(export) => Ok(export),
@@ -51,8 +52,10 @@ fn add_exports(
     groups: Vec<Group>,
     exports: &mut Vec<Export>,
 ) -> Result<(), RequestFault>
-    ensures ok { OnOk result (walk (add_export writer.now) (map said_of exports.old.items) groups.items ≡ Ok (map said_of exports.new.items)) }
-    ensures err { IfErr result (λ f. f ≢ RequestFault.NoMemory → walk (add_export writer.now) (map said_of exports.old.items) groups.items ≡ Err f) }
+    ensures ok { OnOk result (walk (add_export writer.now) (map said_of exports.old.items) groups.items
+        ≡ Ok (map said_of exports.new.items)) }
+    ensures err { IfErr result (λ f. f ≢ RequestFault.NoMemory
+        → walk (add_export writer.now) (map said_of exports.old.items) groups.items ≡ Err f) }
 {
     let mut rest = groups.into_iter();
     while let Some(group) = rest.next() {
@@ -70,8 +73,10 @@ fn add_resource(
     reading: &mut Reading,
     exports: &mut Vec<Export>,
 ) -> Result<(), RequestFault>
-    ensures ok { OnOk result (add_resource place (reading.old, map said_of exports.old.items) resource.now ≡ Ok (reading.new, map said_of exports.new.items)) }
-    ensures err { IfErr result (λ f. f ≢ RequestFault.NoMemory → add_resource place (reading.old, map said_of exports.old.items) resource.now ≡ Err f) }
+    ensures ok { OnOk result (add_resource place (reading.old, map said_of exports.old.items) resource.now
+        ≡ Ok (reading.new, map said_of exports.new.items)) }
+    ensures err { IfErr result (λ f. f ≢ RequestFault.NoMemory
+        → add_resource place (reading.old, map said_of exports.old.items) resource.now ≡ Err f) }
 {
     let writer = writer_of(place, resource_attributes(&resource.resource))?;
     reading.add_scopes(alloc, resource.scopes.as_slice())?;

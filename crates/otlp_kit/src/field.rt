@@ -47,6 +47,7 @@ fn groups(span: &mut Span<'_>, most: u32) -> Option<u64>
 
 // The number that comes next.
 #[tactic(auto, unfolding(crate::specs::Fields::varint_at))]
+#[inline(always)]
 fn varint(span: &mut Span<'_>) -> Option<u64>
     ensures some { IfSome result (λ n. varint_at span.old ≡ Some (n, span.new)) }
     ensures none { IfNone result (varint_at span.old ≡ None) }
@@ -54,6 +55,7 @@ fn varint(span: &mut Span<'_>) -> Option<u64>
     groups(span, 10)
 }
 
+#[inline(always)]
 fn varint_content<'a>(span: &mut Span<'a>) -> Result<Content<'a>, RequestFault>
     ensures ok { IfOk result (λ c. varint_content span.old (varint_at span.old) ≡ Ok (c, span.new)) }
     ensures err { IfErr result (λ f. varint_content span.old (varint_at span.old) ≡ Err f) }
@@ -65,6 +67,7 @@ fn varint_content<'a>(span: &mut Span<'a>) -> Result<Content<'a>, RequestFault>
     }
 }
 
+#[inline(always)]
 fn eight_content<'a>(at: usize, span: &mut Span<'a>) -> Result<Content<'a>, RequestFault>
     ensures ok { IfOk result (λ c. eight_content at span.old ≡ Ok (c, span.new)) }
     ensures err { IfErr result (λ f. eight_content at span.old ≡ Err f) }
@@ -76,6 +79,7 @@ fn eight_content<'a>(at: usize, span: &mut Span<'a>) -> Result<Content<'a>, Requ
 }
 
 // As many bytes as the number before them says.
+#[inline(always)]
 fn block_content<'a>(at: usize, span: &mut Span<'a>) -> Result<Content<'a>, RequestFault>
     ensures ok { IfOk result (λ c. block_content at span.old (varint_at span.old) ≡ Ok (c, span.new)) }
     ensures err { IfErr result (λ f. block_content at span.old (varint_at span.old) ≡ Err f) }
@@ -90,6 +94,7 @@ fn block_content<'a>(at: usize, span: &mut Span<'a>) -> Result<Content<'a>, Requ
     }
 }
 
+#[inline(always)]
 fn four_content<'a>(at: usize, span: &mut Span<'a>) -> Result<Content<'a>, RequestFault>
     ensures ok { IfOk result (λ c. four_content at span.old ≡ Ok (c, span.new)) }
     ensures err { IfErr result (λ f. four_content at span.old ≡ Err f) }
@@ -101,6 +106,7 @@ fn four_content<'a>(at: usize, span: &mut Span<'a>) -> Result<Content<'a>, Reque
 }
 
 #[tactic(auto, unfolding(crate::specs::Fields::content_at))]
+#[inline(always)]
 fn content_of<'a>(at: usize, wire: u64, span: &mut Span<'a>) -> Result<Content<'a>, RequestFault>
     ensures ok { IfOk result (λ c. content_at at wire span.old ≡ Ok (c, span.new)) }
     ensures err { IfErr result (λ f. content_at at wire span.old ≡ Err f) }
@@ -137,7 +143,8 @@ fn push_packed(numbers: &mut Vec<u64>, list: &mut Span<'_>) -> Result<(), NoMemo
 impl<'a> Field<'a> {
     /// Puts the numbers of a repeated field, packed or not, behind those of earlier fields.
     pub(crate) fn push_eights(&self, numbers: &mut Vec<u64>) -> Result<(), RequestFault>
-        ensures ok { OnOk result (and_then (eights_in self.now) (λ more. Ok (numbers.old.items ++ more)) ≡ Ok numbers.new.items) }
+        ensures ok { OnOk result (and_then (eights_in self.now) (λ more. Ok (numbers.old.items ++ more))
+            ≡ Ok numbers.new.items) }
         ensures err { IfErr result (λ f. f ≢ faults.NoMemory → eights_in self.now ≡ Err f) }
     {
         match &self.content {
@@ -224,6 +231,7 @@ impl<'a> Field<'a> {
 
     /// Takes the next field off, where one is left.
     #[tactic(auto, unfolding(crate::specs::Fields::next_field))]
+    #[inline(always)]
     pub(crate) fn next(span: &mut Span<'a>) -> Result<Option<Field<'a>>, RequestFault>
         ensures ok { IfOk result (λ f. next_field span.old ≡ Ok (f, span.new)) }
         ensures err { IfErr result (λ f. next_field span.old ≡ Err f) }

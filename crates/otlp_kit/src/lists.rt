@@ -6,6 +6,7 @@ use std::alloc::Global;
 use std::mem;
 
 /// Puts an item behind the others.
+#[inline(always)]
 pub(crate) fn push<T: Drop>(alloc: Global, list: &mut Seq<T>, item: T) -> Result<(), NoMemory>
     ensures { OnOk result (list.new ≡ list.old ++ item ∷ []) }
 {

@@ -1,7 +1,9 @@
 //! Attributes of a point.
 ghost use Rattle.std.specs.Prelude.{◌≡◌, ◌≢◌, ◌==◌, ◌++◌, [], ◌∷◌, not, map, Ok, Err, IfOk, IfErr, OnOk};
+ghost use Rattle.std.specs.List.{position};
+ghost use Rattle.std.specs.Str.{bytes_eq};
 ghost use Rattle.otlp_kit.specs.Reading.{value_of, content_value, key_of, attribute, attributes, add_attribute};
-ghost use Rattle.otlp_kit.specs.Walks.{walk};
+ghost use Rattle.otlp_kit.specs.Walks.{first_place, walk};
 
 use crate::RequestFault;
 use crate::first_places::first_places;
@@ -9,6 +11,7 @@ use crate::key_value::{AnyContent, AnyValue, KeyValue};
 use attr_kit::{AttrSet, AttrValue, NoMemory, Txt};
 use std::alloc::Global;
 
+#[inline(always)]
 fn content_value(content: &Option<AnyContent>) -> Result<Option<AttrValue>, NoMemory>
     ensures { IfOk result (λ value. value ≡ content_value content.now) }
 {
@@ -21,6 +24,7 @@ fn content_value(content: &Option<AnyContent>) -> Result<Option<AttrValue>, NoMe
 }
 
 // The value of an attribute, if it is one that the kit has.
+#[inline(always)]
 fn value_of(value: &Option<AnyValue>) -> Result<Option<AttrValue>, NoMemory>
     ensures { IfOk result (λ found. found ≡ value_of value.now) }
 {
@@ -51,6 +55,7 @@ fn keys_of(alloc: Global, attributes: &[KeyValue]) -> Result<Vec<Txt>, NoMemory>
 }
 
 // The attribute of a point at a place, whose key stands first at another where it comes twice.
+#[inline(always)]
 fn attribute(
     alloc: Global,
     point: usize,
@@ -59,7 +64,8 @@ fn attribute(
     given: &KeyValue,
 ) -> Result<(Txt, AttrValue), RequestFault>
     ensures ok { IfOk result (λ pair. attribute point (not (first == place)) given.now ≡ Ok pair) }
-    ensures err { IfErr result (λ f. f ≢ RequestFault.NoMemory → attribute point (not (first == place)) given.now ≡ Err f) }
+    ensures err { IfErr result (λ f. f ≢ RequestFault.NoMemory
+        → attribute point (not (first == place)) given.now ≡ Err f) }
 {
     let key = key_of(given);
     if key.is_empty() {
@@ -74,6 +80,7 @@ fn attribute(
     }
 }
 
+#[inline(always)]
 fn push_pair(pairs: &mut Vec<(Txt, AttrValue)>, pair: (Txt, AttrValue)) -> Result<(), NoMemory>
     ensures { OnOk result (pairs.new.items ≡ pairs.old.items ++ pair ∷ []) }
 {
@@ -81,14 +88,55 @@ fn push_pair(pairs: &mut Vec<(Txt, AttrValue)>, pair: (Txt, AttrValue)) -> Resul
     Ok(())
 }
 
+// Of so many attributes each is compared with those before it.
+const FEW: usize = 16;
+
+// The place of the first attribute with this key.
+#[inline(always)]
+fn place_of_key(given: &[KeyValue], key: &str) -> Option<usize>
+    ensures { result ≡ position (λ a. bytes_eq key.now (key_of a)) given.now }
+{
+    given.iter().position(|other| key == key_of(other))
+}
+
+// The same, 0 where there is none. O(n) comparisons.
+
+#[inline(always)]
+fn first_of_key(given: &[KeyValue], key: &str) -> usize
+    ensures { result ≡ first_place (map key_of given.now) key.now }
+{
+    place_of_key(given, key).unwrap_or(0)
+}
+
+// The pairs of few attributes. Takes no memory but theirs.
 #[tactic(auto, unfolding(crate::specs::Walks::walk))]
-fn pairs_of(
+fn pairs_of_few(
     alloc: Global,
     point: usize,
     given: &[KeyValue],
 ) -> Result<Vec<(Txt, AttrValue)>, RequestFault>
     ensures ok { IfOk result (λ pairs. walk (add_attribute point given.now) [] given.now ≡ Ok pairs.items) }
-    ensures err { IfErr result (λ f. f ≢ RequestFault.NoMemory → walk (add_attribute point given.now) [] given.now ≡ Err f) }
+    ensures err { IfErr result (λ f. f ≢ RequestFault.NoMemory
+        → walk (add_attribute point given.now) [] given.now ≡ Err f) }
+{
+    let mut pairs = Vec::with_capacity(alloc, given.len())?;
+    for (place, one) in given.iter().enumerate() {
+        let first = first_of_key(given, key_of(one));
+        let pair = attribute(alloc, point, place, first, one)?;
+        push_pair(&mut pairs, pair)?;
+    }
+    Ok(pairs)
+}
+
+#[tactic(auto, unfolding(crate::specs::Walks::walk))]
+fn pairs_of_many(
+    alloc: Global,
+    point: usize,
+    given: &[KeyValue],
+) -> Result<Vec<(Txt, AttrValue)>, RequestFault>
+    ensures ok { IfOk result (λ pairs. walk (add_attribute point given.now) [] given.now ≡ Ok pairs.items) }
+    ensures err { IfErr result (λ f. f ≢ RequestFault.NoMemory
+        → walk (add_attribute point given.now) [] given.now ≡ Err f) }
 {
     let keys = keys_of(alloc, given)?;
     let firsts = first_places(alloc, keys.as_slice())?;
@@ -98,6 +146,22 @@ fn pairs_of(
         push_pair(&mut pairs, pair)?;
     }
     Ok(pairs)
+}
+
+fn pairs_of(
+    alloc: Global,
+    point: usize,
+    given: &[KeyValue],
+) -> Result<Vec<(Txt, AttrValue)>, RequestFault>
+    ensures ok { IfOk result (λ pairs. walk (add_attribute point given.now) [] given.now ≡ Ok pairs.items) }
+    ensures err { IfErr result (λ f. f ≢ RequestFault.NoMemory
+        → walk (add_attribute point given.now) [] given.now ≡ Err f) }
+{
+    if given.len() <= FEW {
+        pairs_of_few(alloc, point, given)
+    } else {
+        pairs_of_many(alloc, point, given)
+    }
 }
 
 /// The attributes of a point as a set. O(n log n) comparisons of keys.

@@ -1,6 +1,6 @@
 //! Points, metrics and scopes, one after another.
 ghost use Rattle.std.specs.Prelude.{◌≡◌, ◌≢◌, ◌+◌, ◌<◌, ◌%◌, ◌==◌, ◌++◌, [], ◌∷◌, not, length, slice_get, map, Ok, Err, IfOk, IfErr, OnOk};
-ghost use Rattle.otlp_kit.specs.Reading.{text_or_empty, or_zero, recorded, started, whole, gauge_point, sum_point, histogram_point, histogram_payload, buckets_of, with_point, add_gauge_point, add_sum_point, add_histogram_point, cumulative, named, add_data, add_metric, is_alike, differs, name_of, version_of, attributes_in, scope_name, is_other, add_scope, nothing_read};
+ghost use Rattle.otlp_kit.specs.Reading.{text_or_empty, or_zero, recorded, started, whole, number_placed, gauge_point, sum_point, histogram_point, histogram_payload, buckets_of, with_point, add_gauge_point, add_sum_point, add_histogram_point, cumulative, named, add_data, add_metric, is_alike, differs, name_of, version_of, attributes_in, scope_name, is_other, add_scope, nothing_read};
 ghost use Rattle.otlp_kit.specs.Walks.{walk};
 
 use crate::RequestFault;
@@ -64,6 +64,31 @@ fn whole(point: usize, value: &Option<Number>) -> Result<i64, RequestFault>
     }
 }
 
+// A point of a number, which is a sum or a gauge.
+#[inline(always)]
+fn number_placed(
+    alloc: Global,
+    place: usize,
+    stream: &SharedStream,
+    said: &NumberPoint,
+    payload: Payload,
+) -> Result<Placed, RequestFault>
+    ensures ok { IfOk result (λ p. number_placed place stream.now said.now payload ≡ Ok p) }
+    ensures err { IfErr result (λ f. f ≢ RequestFault.NoMemory
+        → number_placed place stream.now said.now payload ≡ Err f) }
+{
+    let attrs = attributes(alloc, place, said.attributes.as_slice())?;
+    Ok(Placed {
+        start: said.start.unwrap_or(0),
+        time: said.time.unwrap_or(0),
+        point: ExportPoint {
+            stream: stream.try_copy()?,
+            attrs,
+            payload,
+        },
+    })
+}
+
 #[tactic(auto, unfolding(crate::specs::Reading::gauge_point))]
 fn gauge_point(
     alloc: Global,
@@ -76,16 +101,7 @@ fn gauge_point(
 {
     recorded(place, said.flags)?;
     let value = whole(place, &said.value)?;
-    let attrs = attributes(alloc, place, said.attributes.as_slice())?;
-    Ok(Placed {
-        start: said.start.unwrap_or(0),
-        time: said.time.unwrap_or(0),
-        point: ExportPoint {
-            stream: stream.try_copy()?,
-            attrs,
-            payload: Payload::Gauge(value),
-        },
-    })
+    number_placed(alloc, place, stream, said, Payload::Gauge(value))
 }
 
 #[tactic(auto, unfolding(crate::specs::Reading::sum_point))]
@@ -101,16 +117,7 @@ fn sum_point(
     recorded(place, said.flags)?;
     started(place, said.start)?;
     let value = whole(place, &said.value)?;
-    let attrs = attributes(alloc, place, said.attributes.as_slice())?;
-    Ok(Placed {
-        start: said.start.unwrap_or(0),
-        time: said.time.unwrap_or(0),
-        point: ExportPoint {
-            stream: stream.try_copy()?,
-            attrs,
-            payload: Payload::Sum(value),
-        },
-    })
+    number_placed(alloc, place, stream, said, Payload::Sum(value))
 }
 
 // The buckets of a histogram: one, where it has neither buckets nor bounds.
@@ -154,8 +161,10 @@ fn histogram_point(
     names: &Names<'_>,
     said: &HistogramPoint,
 ) -> Result<Placed, RequestFault>
-    ensures ok { IfOk result (λ p. histogram_point place names.now.scope.now names.now.name.now names.now.unit.now said.now ≡ Ok p) }
-    ensures err { IfErr result (λ f. f ≢ RequestFault.NoMemory → histogram_point place names.now.scope.now names.now.name.now names.now.unit.now said.now ≡ Err f) }
+    ensures ok { IfOk result (λ p. histogram_point place names.now.scope.now names.now.name.now names.now.unit.now said.now
+        ≡ Ok p) }
+    ensures err { IfErr result (λ f. f ≢ RequestFault.NoMemory
+        → histogram_point place names.now.scope.now names.now.name.now names.now.unit.now said.now ≡ Err f) }
 {
     recorded(place, said.flags)?;
     started(place, said.start)?;
@@ -228,6 +237,7 @@ impl Reading {
         }
     }
 
+    #[inline(always)]
     fn push(&mut self, alloc: Global, point: Placed) -> Result<(), NoMemory>
         ensures { OnOk result (self.new ≡ with_point self.old point) }
     {
@@ -243,7 +253,8 @@ impl Reading {
         points: &[NumberPoint],
     ) -> Result<(), RequestFault>
         ensures ok { OnOk result (walk (add_gauge_point stream.now) self.old points.now ≡ Ok self.new) }
-        ensures err { IfErr result (λ f. f ≢ RequestFault.NoMemory → walk (add_gauge_point stream.now) self.old points.now ≡ Err f) }
+        ensures err { IfErr result (λ f. f ≢ RequestFault.NoMemory
+            → walk (add_gauge_point stream.now) self.old points.now ≡ Err f) }
     {
         for point in points {
             let placed = gauge_point(alloc, self.points, stream, point)?;
@@ -260,7 +271,8 @@ impl Reading {
         points: &[NumberPoint],
     ) -> Result<(), RequestFault>
         ensures ok { OnOk result (walk (add_sum_point stream.now) self.old points.now ≡ Ok self.new) }
-        ensures err { IfErr result (λ f. f ≢ RequestFault.NoMemory → walk (add_sum_point stream.now) self.old points.now ≡ Err f) }
+        ensures err { IfErr result (λ f. f ≢ RequestFault.NoMemory
+            → walk (add_sum_point stream.now) self.old points.now ≡ Err f) }
     {
         for point in points {
             let placed = sum_point(alloc, self.points, stream, point)?;
@@ -276,8 +288,10 @@ impl Reading {
         names: &Names<'_>,
         points: &[HistogramPoint],
     ) -> Result<(), RequestFault>
-        ensures ok { OnOk result (walk (add_histogram_point names.now.scope.now names.now.name.now names.now.unit.now) self.old points.now ≡ Ok self.new) }
-        ensures err { IfErr result (λ f. f ≢ RequestFault.NoMemory → walk (add_histogram_point names.now.scope.now names.now.name.now names.now.unit.now) self.old points.now ≡ Err f) }
+        ensures ok { OnOk result (walk (add_histogram_point names.now.scope.now names.now.name.now names.now.unit.now) self.old points.now
+            ≡ Ok self.new) }
+        ensures err { IfErr result (λ f. f ≢ RequestFault.NoMemory
+            → walk (add_histogram_point names.now.scope.now names.now.name.now names.now.unit.now) self.old points.now ≡ Err f) }
     {
         for point in points {
             let placed = histogram_point(alloc, self.points, names, point)?;
@@ -288,7 +302,8 @@ impl Reading {
 
     fn add_data(&mut self, alloc: Global, scope: &str, metric: &Metric) -> Result<(), RequestFault>
         ensures ok { OnOk result (add_data scope.now metric.now self.old metric.now.kind ≡ Ok self.new) }
-        ensures err { IfErr result (λ f. f ≢ RequestFault.NoMemory → add_data scope.now metric.now self.old metric.now.kind ≡ Err f) }
+        ensures err { IfErr result (λ f. f ≢ RequestFault.NoMemory
+            → add_data scope.now metric.now self.old metric.now.kind ≡ Err f) }
     {
         let names = Names {
             scope,
@@ -326,7 +341,8 @@ impl Reading {
         metrics: &[Metric],
     ) -> Result<(), RequestFault>
         ensures ok { OnOk result (walk (add_metric scope.now) self.old metrics.now ≡ Ok self.new) }
-        ensures err { IfErr result (λ f. f ≢ RequestFault.NoMemory → walk (add_metric scope.now) self.old metrics.now ≡ Err f) }
+        ensures err { IfErr result (λ f. f ≢ RequestFault.NoMemory
+            → walk (add_metric scope.now) self.old metrics.now ≡ Err f) }
     {
         for metric in metrics {
             self.add_data(alloc, scope, metric)?;
@@ -343,7 +359,8 @@ impl Reading {
         scopes: &[ScopeMetrics],
     ) -> Result<(), RequestFault>
         ensures ok { OnOk result (walk (add_scope scopes.now) self.old scopes.now ≡ Ok self.new) }
-        ensures err { IfErr result (λ f. f ≢ RequestFault.NoMemory → walk (add_scope scopes.now) self.old scopes.now ≡ Err f) }
+        ensures err { IfErr result (λ f. f ≢ RequestFault.NoMemory
+            → walk (add_scope scopes.now) self.old scopes.now ≡ Err f) }
     {
         let names = scope_names(alloc, scopes)?;
         let firsts = first_places(alloc, names.as_slice())?;

@@ -67,6 +67,7 @@ impl<'a> Span<'a> {
     }
 
     /// The same bytes once more.
+    #[inline(always)]
     pub(crate) fn copy(&self) -> Span<'a>
         ensures { result ≡ self.now }
     {
@@ -77,6 +78,7 @@ impl<'a> Span<'a> {
     }
 
     /// Takes the first byte off.
+    #[inline(always)]
     pub(crate) fn byte(&mut self) -> Option<u8>
         ensures bytes { IfSome result (λ b. self.old.bytes ≡ b ∷ self.new.bytes) }
         ensures at { IfSome result (λ b. self.new.at ≡ self.old.at + 1) }
@@ -93,6 +95,7 @@ impl<'a> Span<'a> {
     }
 
     /// Takes off a number in eight bytes, the lowest first.
+    #[inline(always)]
     pub(crate) fn eight(&mut self) -> Option<u64>
         ensures value { IfSome result (λ n. n ≡ from_le_bytes w64 (take 8 self.old.bytes)) }
         ensures behind { IfSome result (λ n. self.new ≡ behind 8 self.old) }
@@ -106,6 +109,7 @@ impl<'a> Span<'a> {
     }
 
     /// Takes the first bytes off, so many.
+    #[inline(always)]
     pub(crate) fn take(&mut self, len: usize) -> Option<Span<'a>>
         ensures front { IfSome result (λ taken. taken ≡ front len self.old) }
         ensures behind { IfSome result (λ taken. self.new ≡ behind len self.old) }

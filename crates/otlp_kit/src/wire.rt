@@ -1,7 +1,7 @@
 //! The pieces of a message, after "Encoding" of the documentation of Protocol Buffers.
 //!
 //! The length of a block stands before its content. So the content is written first, and then the block is closed: its tag
-//! and length are put in front. Each byte is moved once for each message that it stands in.
+//! and length are put in front. Each byte is moved once for each byte of the head, or once, for each message that it stands in.
 ghost use Rattle.std.specs.Prelude.{◌≡◌, ◌<◌, ◌≤◌, ◌-◌, ◌++◌, ◌^◌, length, take, drop, OnOk};
 ghost use Rattle.otlp_kit.specs.Wire.{varint, tag, block, number, eight, fixed, text_unless_empty, fixed_unless_zero};
 
@@ -98,6 +98,33 @@ pub(crate) fn write_text_unless_empty(
     Ok(())
 }
 
+// Rows below this length are turned byte by byte: to turn one at once clears as much room on the stack.
+const ROOM: usize = 4096;
+
+// Puts the last of these in front, so many times.
+fn turn_by_bytes(part: &mut [u8], times: usize)
+    requires { times ≤ length part.old }
+    ensures value { part.new ≡ drop (length part.old - times) part.old ++ take (length part.old - times) part.old }
+    ensures len { length part.new ≡ length part.old }
+{
+    for _ in 0..times {
+        part.rotate_left(part.len() - 1);
+    }
+}
+
+// Puts what stands from this place on in front of what stands before it.
+fn turn_at(part: &mut [u8], place: usize)
+    requires { place ≤ length part.old }
+    ensures value { part.new ≡ drop place part.old ++ take place part.old }
+    ensures len { length part.new ≡ length part.old }
+{
+    if part.len() < ROOM {
+        turn_by_bytes(part, part.len() - place);
+    } else {
+        part.rotate_left(place);
+    }
+}
+
 // Puts what stands from `end` on in front of what stands from `start` on.
 fn turn(bytes: &mut [u8], start: usize, end: usize)
     requires start { start ≤ end }
@@ -105,7 +132,7 @@ fn turn(bytes: &mut [u8], start: usize, end: usize)
     ensures value { bytes.new ≡ take start bytes.old ++ (drop end bytes.old ++ take (end - start) (drop start bytes.old)) }
     ensures len { length bytes.new ≡ length bytes.old }
 {
-    bytes[start..].rotate_left(end - start);
+    turn_at(&mut bytes[start..], end - start);
 }
 
 /// Makes what was written from `start` on the content of a field.

@@ -41,13 +41,15 @@ is_asked (Some service) key = is_of service key.writer
 
 -- a key goes to the row of a metric that has these labels
 abbrev pub goes_to : Option (List ℕ) → Metric → List Label → Key → Bool
-goes_to service m labels key = is_asked service key && (eq_by_cmp metric_cmp m (metric_of key.stream) && eq_by_cmp labels_cmp labels (row_labels key))
+goes_to service m labels key =
+    is_asked service key && (eq_by_cmp metric_cmp m (metric_of key.stream) && eq_by_cmp labels_cmp labels (row_labels key))
 
 -- the values that were recorded under the keys of a row
 abbrev pub row_values : Option (List ℕ) → Metric → List Label → List (Key × ℤ) → List ℤ
 row_values service m labels values = map (λ v. v.1) (filter (λ v. goes_to service m labels v.0) values)
 
--- what the numbers of a row are, of a sum and of a histogram: the values added up, how many they are, and how many are not above each bound
+-- what the numbers of a row are, of a sum and of a histogram: the values added up, how many they are, and how many are
+-- not above each bound
 abbrev pub AreNumbers : Kind → List ℤ → List KeyedCell → List ℤ → Type 0
 AreNumbers Updown bounds cells values = sum_of cells ≡ total values
 AreNumbers Counter bounds cells values = sum_of cells ≡ total values
@@ -61,8 +63,12 @@ pub record IsRecorded (m : Measured) (r : List Label × List KeyedCell) (values 
   pub shown : list_any is_conflict r.1 ≡ false
   pub numbers : AreNumbers m.0.kind (row_bounds m.1 r.1) r.1 values
 
--- Where no two writers share an identity, the numbers of each row of each family on a gateway's page are those of what was recorded under the row's keys.
+-- Where no two writers share an identity, the numbers of each row of each family on a gateway's page are those of what was
+-- recorded under the row's keys.
 abbrev pub NumbersAreRecorded : Type 0
-NumbersAreRecorded = (s : Writers) → ArePlans s → AreProper s → AreTold s → (fits : ℕ → List Entry → Entry → Bool) (gateways : ℕ) (ds : List (Deed Entry)) → AreLawful fits s.starts gateways ds
-    → (h : Holder) (service : Option (List ℕ)) (m : Measured) → In m (shown_metrics (asked_cells service (state (rounding s) (taken_collections s.starts ds h))))
-    → (r : List Label × List KeyedCell) → In r (rows m.1) → IsRecorded m r (row_values service m.0 r.0 (recordings s ds h))
+NumbersAreRecorded = (s : Writers) → ArePlans s → AreProper s → AreTold s
+    → (fits : ℕ → List Entry → Entry → Bool) (gateways : ℕ) (ds : List (Deed Entry)) → AreLawful fits s.starts gateways ds
+    → (h : Holder) (service : Option (List ℕ)) (m : Measured)
+    → In m (shown_metrics (asked_cells service (state (rounding s) (taken_collections s.starts ds h))))
+    → (r : List Label × List KeyedCell) → In r (rows m.1)
+    → IsRecorded m r (row_values service m.0 r.0 (recordings s ds h))

@@ -145,20 +145,6 @@ fn push_buckets(
     Ok(())
 }
 
-// Adds the bucket of all values.
-fn push_last(
-    text: &mut String,
-    alloc: Global,
-    name: &str,
-    labels: &[Label],
-    points: &[PointRef],
-) -> Result<(), NoMemory>
-    ensures { OnOk result (string_bytes text.new ≡ string_bytes text.old
-        ++ bucket name.now labels.now (codes "+Inf") (count_of (cells points.now))) }
-{
-    push_bucket(text, alloc, name, labels, "+Inf", count_of(points))
-}
-
 /// Adds a sample of the sum of all.
 pub(crate) fn push_sum(
     text: &mut String,
@@ -177,23 +163,6 @@ pub(crate) fn push_sum(
     Ok(())
 }
 
-// Adds a sample of the number of their values.
-fn push_count(
-    text: &mut String,
-    alloc: Global,
-    name: &str,
-    labels: &[Label],
-    points: &[PointRef],
-) -> Result<(), NoMemory>
-    ensures { OnOk result (string_bytes text.new ≡ string_bytes text.old
-        ++ sample (name.now ++ codes "_count") labels.now (decimal (count_of (cells points.now)))) }
-{
-    let count = count_of(points);
-    let number = format!(in alloc; "{count}")?;
-    push_sample(text, name, "_count", labels, number.as_str())?;
-    Ok(())
-}
-
 /// The samples of a row: its buckets, its sum and its count.
 #[tactic(auto, unfolding(crate::specs::Rows::histogram))]
 pub(crate) fn push_histogram(
@@ -207,7 +176,10 @@ pub(crate) fn push_histogram(
     ensures { OnOk result (string_bytes text.new ≡ string_bytes text.old ++ histogram name.now labels.now bounds.now (cells points.now)) }
 {
     push_buckets(text, alloc, name, labels, bounds, points)?;
-    push_last(text, alloc, name, labels, points)?;
+    let count = count_of(points);
+    push_bucket(text, alloc, name, labels, "+Inf", count)?;
     push_sum(text, alloc, name, "_sum", labels, points)?;
-    push_count(text, alloc, name, labels, points)
+    let number = format!(in alloc; "{count}")?;
+    push_sample(text, name, "_count", labels, number.as_str())?;
+    Ok(())
 }

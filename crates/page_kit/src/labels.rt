@@ -9,7 +9,7 @@ ghost use Rattle.page_kit.specs.Views.{lists};
 
 use crate::groups::put;
 use crate::metric::Metric;
-use crate::names::{led, line};
+use crate::names::{led_string, line};
 use attr_kit::{AttrSet, AttrValue, NoMemory, Seq, Txt};
 use gateway_kit::PointRef;
 use std::alloc::Global;
@@ -52,6 +52,17 @@ fn joined(alloc: Global, texts: &[Txt]) -> Result<String, NoMemory>
     Ok(text)
 }
 
+// The same as a text: one as it is.
+#[tactic(auto, using(crate::proofs::Joined::joined_one))]
+fn joined_text(alloc: Global, texts: &[Txt]) -> Result<Txt, NoMemory>
+    ensures { IfOk result (λ text. text ≡ joined texts.now) }
+{
+    match texts {
+        [one] => one.try_copy(),
+        _ => Ok(Txt::from_string(joined(alloc, texts)?)),
+    }
+}
+
 // Adds a label, if its text is not empty.
 fn push_label(labels: &mut Vec<Label>, name: Txt, value: Txt) -> Result<(), NoMemory>
     ensures { OnOk result (labels.new.items ≡ labels.old.items ++ filter has_value (record { name = name; value = value } ∷ [])) }
@@ -69,8 +80,8 @@ fn labels_of(alloc: Global, texts: BTreeMap<Txt, Vec<Txt>>) -> Result<Seq<Label>
 {
     let mut labels = Vec::with_capacity(alloc, texts.len())?;
     for (name, values) in texts {
-        let value = joined(alloc, values.as_slice())?;
-        push_label(&mut labels, name, Txt::from_string(value))?;
+        let value = joined_text(alloc, values.as_slice())?;
+        push_label(&mut labels, name, value)?;
     }
     Ok(Seq::from_vec(labels))
 }
@@ -102,8 +113,7 @@ fn is_reserved(name: &str) -> bool
 fn label_name(alloc: Global, key: &str) -> Result<Txt, NoMemory>
     ensures { IfOk result (λ name. name ≡ label_name key.now) }
 {
-    let name = line(alloc, key.as_bytes())?;
-    let name = led(alloc, "key", name.as_str())?;
+    let name = led_string(alloc, "key", line(alloc, key.as_bytes())?)?;
     if !is_reserved(name.as_str()) {
         return Ok(Txt::from_string(name));
     }

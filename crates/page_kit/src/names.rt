@@ -67,6 +67,17 @@ pub(crate) fn led(alloc: Global, word: &str, name: &str) -> Result<String, NoMem
     Ok(text)
 }
 
+/// The same of a name that is no longer wanted: as it is where it begins with a letter.
+#[tactic(auto, unfolding(crate::specs::Names::led))]
+pub(crate) fn led_string(alloc: Global, word: &str, name: String) -> Result<String, NoMemory>
+    ensures { IfOk result (λ text. string_bytes text ≡ led word.now (string_bytes name)) }
+{
+    if first_byte(name.as_bytes()).is_ascii_alphabetic() {
+        return Ok(name);
+    }
+    led(alloc, word, name.as_str())
+}
+
 /// A text without this at its end, where it stands there.
 pub(crate) fn without_suffix<'a>(text: &'a str, suffix: &str) -> &'a str
     ensures { result.now ≡ without_suffix suffix.now text.now }

@@ -5,7 +5,7 @@ ghost use Rattle.gateway_kit.specs.Walks.{keyed_cell_of_ref};
 ghost use Rattle.page_kit.specs.Bounds.{AreBounds, HaveBounds};
 ghost use Rattle.page_kit.specs.Lines.{metadata, help_of};
 ghost use Rattle.page_kit.specs.Metrics.{unit_of};
-ghost use Rattle.page_kit.specs.Rows.{gauge, row_bounds, samples, row, rows, named_text, family_text};
+ghost use Rattle.page_kit.specs.Rows.{gauge, row_bounds, row, rows, named_text, family_text};
 ghost use Rattle.page_kit.specs.Totals.{KeyedCell};
 ghost use Rattle.page_kit.specs.Views.{cells, cell_lists};
 
@@ -89,28 +89,7 @@ struct Family<'a> {
     bounds: &'a BTreeMap<Txt, Vec<i64>>,
 }
 
-fn push_samples(
-    text: &mut String,
-    alloc: Global,
-    family: Family<'_>,
-    labels: &[Label],
-    points: &[PointRef],
-) -> Result<(), NoMemory>
-    ensures { OnOk result ((all : List KeyedCell) → HaveBounds family.entry.kind (λ v. v.items) all family.entry.bounds.now.entries
-        → string_bytes text.new ≡ string_bytes text.old
-        ++ samples family.entry.kind family.entry.name.now all labels.now (cells points.now)) }
-{
-    match family.kind {
-        Kind::Updown => push_sum(text, alloc, family.name, "", labels, points),
-        Kind::Counter => push_sum(text, alloc, family.name, "_total", labels, points),
-        Kind::Gauge => push_gauge(text, alloc, family.name, labels, newest_of(points)),
-        Kind::Histogram => {
-            let bounds = bounds_of_row(family.bounds, points);
-            push_histogram(text, alloc, family.name, labels, bounds, points)
-        }
-    }
-}
-
+// A row of a family; one in which some key holds a conflict is not shown.
 #[tactic(auto, unfolding(crate::specs::Rows::row))]
 fn push_row(
     text: &mut String,
@@ -126,7 +105,15 @@ fn push_row(
     if has_conflict(points) {
         return Ok(());
     }
-    push_samples(text, alloc, family, labels, points)
+    match family.kind {
+        Kind::Updown => push_sum(text, alloc, family.name, "", labels, points),
+        Kind::Counter => push_sum(text, alloc, family.name, "_total", labels, points),
+        Kind::Gauge => push_gauge(text, alloc, family.name, labels, newest_of(points)),
+        Kind::Histogram => {
+            let bounds = bounds_of_row(family.bounds, points);
+            push_histogram(text, alloc, family.name, labels, bounds, points)
+        }
+    }
 }
 
 fn push_rows(

@@ -10,7 +10,7 @@ pub mod FedPast
 pub mod Filtered
 pub mod Fleets
 pub mod Indexed
-mod Joined
+pub mod Joined
 pub mod Missing
 pub mod NamedValues
 pub mod NamesMixed

@@ -1,10 +1,11 @@
 //! What is asked of a gateway.
-ghost use Rattle.std.specs.Prelude.{◌≡◌};
+ghost use Rattle.std.specs.Prelude.{◌≡◌, IfOk};
 ghost use Rattle.std.specs.List.{list_all};
 ghost use Rattle.rollup_kit.specs.Asks.{is_of_service, has_pair, has_pairs};
 
-use attr_kit::{AttrSet, AttrValue, Keep, Seq, Txt};
+use attr_kit::{AttrSet, AttrValue, Keep, NoMemory, Seq, TryCopy, Txt};
 use point_kit::{Stream, WriterId};
+use std::alloc::Global;
 
 /// What is asked of a gateway: which of its points, and how they are grouped.
 #[derive(Debug, PartialEq, Eq, Drop)]
@@ -18,7 +19,38 @@ pub struct Ask {
     pub keep: Keep,
 }
 
+fn pairs_of(alloc: Global, attrs: &AttrSet) -> Result<Seq<(Txt, AttrValue)>, NoMemory>
+    ensures { IfOk result (λ pairs. pairs ≡ attrs.now) }
+{
+    let mut pairs = Vec::with_capacity(alloc, attrs.len())?;
+    for pair in attrs.pairs() {
+        pairs.push(pair.try_copy()?)?;
+    }
+    Ok(Seq::from_vec(pairs))
+}
+
 impl Ask {
+    /// An ask for the points of a stream whose attributes have all pairs of a set.
+    ///
+    /// Refused: `NoMemory`. O(pairs), and memory for copies of them.
+    pub fn for_set(
+        alloc: Global,
+        stream: Stream,
+        service: Option<Txt>,
+        attrs: &AttrSet,
+        keep: Keep,
+    ) -> Result<Ask, NoMemory>
+        ensures { IfOk result (λ ask. ask ≡ record { stream = stream; service = service; only = attrs.now; keep = keep }) }
+    {
+        let only = pairs_of(alloc, attrs)?;
+        Ok(Ask {
+            stream,
+            service,
+            only,
+            keep,
+        })
+    }
+
     /// Whether the points of a writer are asked for.
     pub(crate) fn is_of(&self, writer: &WriterId) -> bool
         ensures { result ≡ is_of_service self.now.service writer.now }

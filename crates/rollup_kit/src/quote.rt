@@ -1,7 +1,7 @@
 //! Texts in quotes.
 ghost use Rattle.std.specs.Prelude.{◌≡◌, ◌++◌, ◌∷◌, [], ◌<◌, false, OnOk, string_bytes};
 ghost use Rattle.std.specs.Fmt.{digit_glyph};
-ghost use Rattle.rollup_kit.specs.Quote.{escape, quotation};
+ghost use Rattle.rollup_kit.specs.Quote.{escape, hex, quotation};
 
 use std::alloc::AllocError;
 
@@ -19,6 +19,19 @@ fn hex_digit(digit: u32) -> char
     }
 }
 
+/// Adds a character below 256 as `\x` and the two hexadecimal digits of its number.
+///
+/// Refused: `AllocError`.
+pub fn push_hex(text: &mut String, c: char) -> Result<(), AllocError>
+    requires { c < 256 }
+    ensures { OnOk result (string_bytes text.new ≡ string_bytes text.old ++ hex c) }
+{
+    let code = c as u32;
+    text.push_str("\\x")?;
+    text.push(hex_digit(code / 16))?;
+    text.push(hex_digit(code % 16))
+}
+
 #[tactic(auto, unfolding(crate::specs::Quote::escape))]
 fn push_escaped(text: &mut String, c: char) -> Result<(), AllocError>
     ensures { OnOk result (string_bytes text.new ≡ string_bytes text.old ++ escape c) }
@@ -29,9 +42,7 @@ fn push_escaped(text: &mut String, c: char) -> Result<(), AllocError>
     } else if c == '\\' {
         text.push_str("\\\\")
     } else if code < 0x20 || code == 0x7f {
-        text.push_str("\\x")?;
-        text.push(hex_digit(code / 16))?;
-        text.push(hex_digit(code % 16))
+        push_hex(text, c)
     } else {
         text.push(c)
     }

@@ -1,7 +1,8 @@
 use Rattle.std.proofs.Common.{◌≡◌, ◌∙◌, ◌++◌, ℕ, List, Some, ap, sym, slice_get, string_bytes, arith}
 use Rattle.point_kit.specs.declared.stream.Stream.{Stream}
 use Rattle.file_kit.specs.Shown.{stream_text}
-use Rattle.file_kit.proofs.Pieces.{mapped_step, past_end}
+use Rattle.rollup_kit.proofs.Joined.{past_end}
+use Rattle.file_kit.proofs.Pieces.{mapped_step}
 use Rattle.file_kit.proofs.streams.push_all.Goals as goal
 use Rattle.file_kit.proofs.streams.push_all.Goals.{in-Some+in_ok-push_table, in_default}
 

@@ -1,7 +1,7 @@
 use Rattle.std.proofs.Common.{rules, append_assoc, pos}
 use Rattle.std.specs.Fmt.{signed_decimal}
 use Rattle.std.proofs.lemmas.Option.{slice_get-get_or}
-use Rattle.file_kit.proofs.Pieces.{join_step}
+use Rattle.rollup_kit.proofs.Joined.{join_step}
 use Rattle.file_kit.proofs.streams.push_bounds.Goals as goal
 
 pub loop-place-preserved : goal.loop-place-preserved

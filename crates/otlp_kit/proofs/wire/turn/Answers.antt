@@ -7,4 +7,4 @@ returns-clause-value c =
     let bytes = c.args.bytes.now in
     let start = c.args.start in
     turned_part start c.args.end bytes (take (length bytes - start) (drop start bytes)) _ c.requires.start c.requires.end refl
-    (ap (λ (l : List _). take start bytes ++ (l ++ drop (length bytes - start) (drop start bytes))) c.rotate_left.ensures.after)
+    (ap (λ (l : List _). take start bytes ++ (l ++ drop (length bytes - start) (drop start bytes))) c.turn_at.ensures.value)

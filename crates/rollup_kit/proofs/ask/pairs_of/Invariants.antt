@@ -1,5 +1,5 @@
 use Rattle.std.proofs.Common.{◌≡◌, take}
-use Rattle.file_kit.proofs.ask_words.pairs_of.Given as goal
+use Rattle.rollup_kit.proofs.ask.pairs_of.Given as goal
 
 abbrev pub invariant-loop-pair : goal.invariant-loop-pair
 invariant-loop-pair l = l.pairs.items ≡ take l.pair-index l.pair-items

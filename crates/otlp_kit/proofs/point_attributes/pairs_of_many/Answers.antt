@@ -1,7 +1,7 @@
 use Rattle.std.proofs.Common.{◌≡◌, ◌<◌, length, get_or, arith, rules}
 use Rattle.std.proofs.lemmas.Result.{err_from_is_err_and}
 use Rattle.otlp_kit.proofs.Twice.{pair_on, pair_refused}
-use Rattle.otlp_kit.proofs.point_attributes.pairs_of.Goals as goal
+use Rattle.otlp_kit.proofs.point_attributes.pairs_of_many.Goals as goal
 
 pub returns-in_err-pair-clause-err : goal.returns-in_err-pair-clause-err
 returns-in_err-pair-clause-err c =
