@@ -7,6 +7,7 @@ pub mod Inserts
 pub mod Limits
 pub mod Measured
 pub mod OneFeed
+pub mod OwnPoint
 pub mod Parts
 pub mod Payloads
 pub mod Points

@@ -51,6 +51,15 @@ all_short w e r f is open_ short =
     inner : measure.Refused f ≡ no_memory → f ≡ tallies.NoMemory
     inner same = cc
 
+-- the same of what a writer is seen as
+pub told_as : {R : Type 0} (w x : Written) (e : Recording) (r : Result R measures.MeasureFault) (f : TallyFault) → w ≡ x → r ≡ Err (measure.Refused f) → w.closed ≡ false
+    → (f ≢ tallies.NoMemory → fault_at w.tally e ≡ Some f) → IfErr r (λ g. g ≢ no_memory → fault_now x e ≡ Some g)
+told_as w x e r f seen is open_ told = subst (λ (y : Written). IfErr r (λ g. g ≢ no_memory → fault_now y e ≡ Some g)) seen (all_told w e r f is open_ told)
+
+pub short_as : {R : Type 0} (w x : Written) (e : Recording) (r : Result R measures.MeasureFault) (f : TallyFault) → w ≡ x → r ≡ Err (measure.Refused f) → w.closed ≡ false
+    → (f ≡ tallies.NoMemory → early_fault_at w.tally e ≡ None) → IfErr r (λ g. g ≡ no_memory → early_fault x e ≡ None)
+short_as w x e r f seen is open_ short = subst (λ (y : Written). IfErr r (λ g. g ≡ no_memory → early_fault y e ≡ None)) seen (all_short w e r f is open_ short)
+
 pub none_told : {R F : Type 0} (r : Result R F) (x : R) (P : F → Type 0) → r ≡ Ok x → IfErr r P
 none_told r x P is = subst (λ y. IfErr y P) (sym is) tt
 
