@@ -25,6 +25,7 @@ pub mod Rollups
 pub mod RowText
 pub mod Extents
 pub mod Standing
+pub mod Streams
 pub mod TableText
 pub mod Walks
 pub mod Writers

@@ -29,6 +29,7 @@ mod quote;
 mod row;
 mod row_text;
 mod rows;
+mod streams;
 mod table_text;
 #[cfg(test)]
 mod tests;
@@ -38,4 +39,5 @@ pub use ask::Ask;
 pub use laws::{fleets_answer_for_jobs, points_add_up, rows_are_recorded, rows_go_by_entries};
 pub use query::rollup;
 pub use row::{Row, Total};
+pub use streams::streams_of;
 pub use table_text::table;

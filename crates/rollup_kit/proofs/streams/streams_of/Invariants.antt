@@ -1,7 +1,7 @@
 use Rattle.std.proofs.Common.{◌≡◌}
 use Rattle.gateway_kit.specs.Walks.{points_left}
-use Rattle.kit_c.specs.Streams.{streams_held, with_streams}
-use Rattle.kit_c.proofs.streams.seen_in.Given as goal
+use Rattle.rollup_kit.specs.Streams.{streams_held, with_streams}
+use Rattle.rollup_kit.proofs.streams.streams_of.Given as goal
 
 abbrev pub invariant-loop-point : goal.invariant-loop-point
 invariant-loop-point l =

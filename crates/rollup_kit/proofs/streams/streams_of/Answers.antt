@@ -4,8 +4,8 @@ use Rattle.point_kit.specs.declared.cell.Cell.{Cell}
 use Rattle.point_kit.specs.declared.key.Key.{Key}
 use Rattle.point_kit.specs.declared.payload.Payload.{Payload}
 use Rattle.point_kit.specs.declared.stream.Stream.{Stream}
-use Rattle.kit_c.specs.Streams.{with_streams}
-use Rattle.kit_c.proofs.streams.seen_in.Goals as goal
+use Rattle.rollup_kit.specs.Streams.{with_streams}
+use Rattle.rollup_kit.proofs.streams.streams_of.Goals as goal
 
 pub loop-point-preserved : goal.loop-point-preserved
 loop-point-preserved c = (
