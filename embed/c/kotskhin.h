@@ -906,7 +906,7 @@ KIT_CHECKED int32_t kit_ask_stream(kit_ask *ask, KIT_READS kit_streams *streams,
  * (OpenTelemetry Metrics SDK, "Explicit Bucket Histogram Aggregation"). */
 KIT_CALL size_t kit_default_bounds(int64_t *into, size_t room);
 
-/* Incarnations: of whom a gateway holds points, or a message carries some. */
+/* Incarnations and services: of whom a gateway holds points, or a message carries some. */
 
 /* The incarnations of which a gateway, which stays, holds points: each once, by service, instance and start. All of a service are side by
  * side.
@@ -938,6 +938,13 @@ KIT_CHECKED int32_t kit_incarnations_read(KIT_READS kit_incarnations *incarnatio
  * Refused, in this order: KIT_NOTHING; KIT_NO_ITEM where there is no incarnation of this number. Takes no memory. */
 KIT_CHECKED int32_t kit_incarnations_service(KIT_READS kit_incarnations *incarnations, size_t number, uint8_t *into, size_t room,
                                              size_t *len);
+
+/* Copies the front of a service that has room, of those of which a gateway holds points, and tells in len how many bytes it has, in UTF-8
+ * and with no 0 at its end. They are numbered from 0, each once, in order.
+ *
+ * Refused, in this order: KIT_NOTHING; KIT_NO_ITEM where there is no service of this number: so whoever wants all reads on until then. O(m)
+ * of m incarnations, takes no memory. */
+KIT_CHECKED int32_t kit_gateway_service(KIT_READS kit_gateway *gateway, size_t number, uint8_t *into, size_t room, size_t *len);
 
 /* Rows as numbers. */
 

@@ -259,6 +259,7 @@ CALL(message_incarnations, AS(message, 0), AS(incarnations, 1))
 CALL(incarnations_len, AS(incarnations, 0), &size)
 CALL(incarnations_read, AS(incarnations, 0), 0, &place, &second, &third, &fourth, &size)
 CALL(incarnations_service, AS(incarnations, 0), 0, room, sizeof room, &size)
+CALL(gateway_service, AS(gateway, 0), 0, room, sizeof room, &size)
 
 #define ROW(name, ...) {#name, name, {__VA_ARGS__}}
 static const struct row CALLS[] = {
@@ -302,6 +303,7 @@ static const struct row CALLS[] = {
     ROW(gateway_openmetrics, {READ, GATEWAY}, {FILLED, TOLD_TEXT}), ROW(gateway_prometheus, {READ, GATEWAY}, {FILLED, TOLD_TEXT}),
     ROW(gateway_incarnations, {READ, GATEWAY}, {FILLED, INCARNATIONS}), ROW(message_incarnations, {READ, MESSAGE}, {FILLED, INCARNATIONS}),
     ROW(incarnations_len, {READ, INCARNATIONS}), ROW(incarnations_read, {READ, INCARNATIONS}), ROW(incarnations_service, {READ, INCARNATIONS}),
+    ROW(gateway_service, {READ, GATEWAY}),
 };
 
 static bool is_read(struct hand hand) { return hand.part == READ || hand.part == MAY_READ; }

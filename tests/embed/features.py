@@ -54,7 +54,7 @@ FEATURES = [
     ("gateways, merged and compared", "kit_gateway_open kit_gateway_take kit_gateway_merge kit_gateway_same kit_gateway_conflicts", ""),
     ("whether a collection came", "kit_gateway_newest", ""),
     ("whose an export is; a gateway's id and size", "kit_export_read kit_export_service kit_gateway_read kit_message_read", ""),
-    ("of whom there are points", "kit_gateway_incarnations kit_message_incarnations kit_incarnations_*", ""),
+    ("of whom there are points", "kit_gateway_incarnations kit_message_incarnations kit_incarnations_* kit_gateway_service", ""),
     ("asks of each shape, of a service, by keys", "kit_ask_*", ""),
     ("streams of a plan and of a gateway", "kit_plan_streams kit_gateway_streams kit_streams_* kit_default_bounds", ""),
     ("tables", "kit_gateway_rows kit_rows_table kit_text_copy", ""),

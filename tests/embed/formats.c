@@ -1,5 +1,5 @@
 /* What others read: an export as OTLP, byte by byte as any library for Protocol Buffers makes it, and read again; pages for Prometheus; and of which
- * incarnations a gateway holds points and a message carries some. Each refusal of these calls is raised once, and each of their growths is
+ * incarnations and services a gateway holds points and a message carries some. Each refusal of these calls is raised once, and each of their growths is
  * refused in turn (linked with --wrap=malloc,--wrap=realloc); KIT_TOO_LONG wants an export of 2 GiB and is not. Prints the first check that
  * does not hold and exits with 1, or exits with 0. */
 #include "growths.h"
@@ -271,6 +271,20 @@ static void incarnations(kit_gateway *gateway) {
     for (size_t i = 0; i < sizeof all / sizeof *all; i++) kit_free(all[i]);
 }
 
+/* The services of a gateway: each once, however many of its instances and starts there are. */
+static void services(kit_gateway *gateway) {
+    kit_gateway nothing = KIT_EMPTY, none = KIT_EMPTY;
+    uint8_t text[64] = {0};
+    size_t len = 77;
+    CHECK(!kit_gateway_open(&none, 2) && kit_gateway_service(&nothing, 0, text, sizeof text, &len) == KIT_NOTHING);
+    CHECK(kit_gateway_service(&none, 0, text, sizeof text, &len) == KIT_NO_ITEM && kit_gateway_service(gateway, 2, text, sizeof text, &len) == KIT_NO_ITEM);
+    CHECK(kit_gateway_service(gateway, SIZE_MAX, text, sizeof text, &len) == KIT_NO_ITEM && len == 77 && !text[0]);
+    CHECK(!kit_gateway_service(gateway, 0, text, 4, &len) && len == 35 && !memcmp(text, "a se", 4) && !text[4]);
+    CHECK(!kit_gateway_service(gateway, 0, text, sizeof text, &len) && is(text, len, "a service of more than thirty bytes"));
+    CHECK(!kit_gateway_service(gateway, 1, text, sizeof text, &len) && is(text, len, "shop"));
+    kit_gateway_free(&none);
+}
+
 int main(void) {
     const int64_t bounds[] = {10, 20};
     kit_gateway gateway = KIT_EMPTY;
@@ -286,6 +300,7 @@ int main(void) {
         kit_export_free(&taken[i]);
     }
     incarnations(&gateway);
+    services(&gateway);
     pages(&gateway);
     kit_gateway_free(&gateway);
     return 0;

@@ -21,6 +21,7 @@ pub mod Places
 pub mod Plans
 pub mod Recorders
 pub mod Rows
+pub mod Services
 pub mod Streams
 pub mod Takings
 pub mod Texts

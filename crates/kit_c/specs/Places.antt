@@ -1,5 +1,5 @@
 -- What refusals carry: the place, or the time, that they are about.
-use Rattle.std.specs.Prelude.{ℕ, Option, Some, None}
+use Rattle.std.specs.Prelude.{◌≡◌, ◌≢◌, ℕ, ℤ, Option, Some, None}
 use Rattle.std.specs.Option.{unwrap_or}
 use Rattle.agg_kit.specs.declared.fault.TallyFault.TheVariants as tallies
 use Rattle.attr_kit.specs.declared.error.AttrFault.TheVariants as sets
@@ -14,6 +14,7 @@ use Rattle.plan_kit.specs.declared.fault.PlanFault.TheVariants as plans
 use Rattle.writer_kit.specs.declared.fault.CollectFault.TheVariants as collections
 use Rattle.writer_kit.specs.declared.fault.MeasureFault.TheVariants as recordings
 use Rattle.writer_kit.specs.declared.fault.RestartFault.TheVariants as restarts
+use Rattle.kit_c.specs.Codes.{no_memory}
 use Rattle.kit_c.specs.declared.fault.Fault.{Fault}
 use Rattle.kit_c.specs.declared.fault.Fault.TheVariants as faults
 
@@ -93,3 +94,10 @@ place_after (Some f) before = unwrap_or (place_of f) before
 abbrev pub second_after : Option Fault → ℕ → ℕ
 second_after None before = before
 second_after (Some f) before = unwrap_or (second_of f) before
+
+-- what a call that answers a code tells: the place of its refusal, and of want of memory none
+abbrev pub TellsPlace : ℤ → Option Fault → ℕ → ℕ → Type 0
+TellsPlace code refusal before told = (code ≢ no_memory → told ≡ place_after refusal before) × (code ≡ no_memory → told ≡ before)
+
+abbrev pub TellsSecond : ℤ → Option Fault → ℕ → ℕ → Type 0
+TellsSecond code refusal before told = (code ≢ no_memory → told ≡ second_after refusal before) × (code ≡ no_memory → told ≡ before)

@@ -1,13 +1,6 @@
 -- Streams, read by numbers.
-use Rattle.std.specs.Prelude.{ℕ, ℤ, Bool, ◌==◌, cond, nat_le, true, false, List, [], ◌∷◌, fold, slice_get, Option, Some, None}
-use Rattle.std.specs.FinMap.{entries}
-use Rattle.indexmap.specs.IndexSet.{insert_key}
+use Rattle.std.specs.Prelude.{ℕ, ℤ, ◌==◌, cond, nat_le, true, false, List, [], ◌∷◌, Option}
 use Rattle.attr_kit.specs.Refusing.{first, when}
-use Rattle.point_kit.specs.Exports.{Points}
-use Rattle.point_kit.specs.contracts.stream.StreamPartialEq.TheImpl as streams
-use Rattle.point_kit.specs.declared.cell.Cell.{Cell}
-use Rattle.point_kit.specs.declared.key.Key.{Key}
-use Rattle.point_kit.specs.declared.payload.Payload.{Payload}
 use Rattle.point_kit.specs.declared.shape.Shape.{Shape}
 use Rattle.point_kit.specs.declared.shape.Shape.TheVariants as shapes
 use Rattle.point_kit.specs.declared.stream.Stream.{Stream}
@@ -34,14 +27,3 @@ shape_number (shapes.Histogram bounds) = 3
 abbrev pub bounds_of : Shape → List ℤ
 bounds_of (shapes.Histogram bounds) = bounds
 bounds_of other = []
-
-abbrev pub stream_eq : Stream → Stream → Bool
-stream_eq = (streams.ghosts).eq
-
--- streams, and those of points behind them, each once
-abbrev pub with_streams : List Stream → List (Key × Cell Payload) → List Stream
-with_streams ss ps = fold (λ seen e. insert_key stream_eq seen e.0.stream) ss ps
-
--- those of a gateway's points, in the order of their keys
-abbrev pub streams_held : Points → List Stream
-streams_held points = with_streams [] (entries points)

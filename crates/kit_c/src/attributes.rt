@@ -7,7 +7,7 @@ ghost use Rattle.kit_c.specs.Calls.{code_for, full_fault};
 ghost use Rattle.kit_c.specs.Codes.{no_memory};
 ghost use Rattle.kit_c.specs.Faults.{set_fault, text_fault};
 ghost use Rattle.kit_c.specs.Held.{attributes_of, pairs_of};
-ghost use Rattle.kit_c.specs.Places.{place_after};
+ghost use Rattle.kit_c.specs.Places.{TellsPlace};
 
 use crate::content::Content;
 use crate::fault::{FULL, Fault, NO_MEMORY, OK, WRONG_KIND, code_with_place};
@@ -87,9 +87,8 @@ pub extern "C" fn kit_attributes_make(
     ensures code { result ≢ no_memory
         → result ≡ code_for (first (full_fault (attributes_of attributes.old) ∷ set_fault (pairs_of pairs.old) ∷ [])) }
     ensures value { result ≡ pos 0 → attributes_of attributes.new ≡ Some (set_of (pairs_of pairs.old)) }
-    ensures place { result ≢ no_memory → place.new
-        ≡ place_after (first (full_fault (attributes_of attributes.old) ∷ set_fault (pairs_of pairs.old) ∷ [])) place.old }
-    ensures no_memory { result ≡ no_memory → place.new ≡ place.old }
+    ensures place { TellsPlace result (first (full_fault (attributes_of attributes.old) ∷ set_fault (pairs_of pairs.old) ∷ []))
+        place.old place.new }
     ensures unchanged { result ≢ pos 0 → attributes_of attributes.new ≡ attributes_of attributes.old }
     ensures kept { pairs_of pairs.new ≡ pairs_of pairs.old }
 {

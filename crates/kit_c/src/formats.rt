@@ -10,7 +10,7 @@ ghost use Rattle.kit_c.specs.Codes.{no_memory};
 ghost use Rattle.kit_c.specs.Faults.{text_fault};
 ghost use Rattle.kit_c.specs.Formats.{asked_service, request_fault};
 ghost use Rattle.kit_c.specs.Held.{bytes_of, export_of, gateway_of, text_of as text_in};
-ghost use Rattle.kit_c.specs.Places.{place_after};
+ghost use Rattle.kit_c.specs.Places.{TellsPlace};
 
 use crate::content::Content;
 use crate::fault::{FULL, Fault, NO_MEMORY, NOTHING, OK, WRONG_KIND, code_with_place};
@@ -37,9 +37,8 @@ pub extern "C" fn kit_export_otlp(
     ensures code { result ≢ no_memory
         → result ≡ code_for (first (full_fault (bytes_of bytes.old) ∷ of_one (export_of export.old) request_fault ∷ [])) }
     ensures value { result ≡ pos 0 → bytes_of bytes.new ≡ option_map (λ e. request e) (export_of export.old) }
-    ensures place { result ≢ no_memory → place.new
-        ≡ place_after (first (full_fault (bytes_of bytes.old) ∷ of_one (export_of export.old) request_fault ∷ [])) place.old }
-    ensures no_memory { result ≡ no_memory → place.new ≡ place.old }
+    ensures place { TellsPlace result (first (full_fault (bytes_of bytes.old) ∷ of_one (export_of export.old) request_fault ∷ []))
+        place.old place.new }
     ensures unchanged { result ≢ pos 0 → bytes_of bytes.new ≡ bytes_of bytes.old }
     ensures kept { export_of export.new ≡ export_of export.old }
 {

@@ -5,7 +5,7 @@ ghost use Rattle.kit_c.specs.Calls.{code_for};
 ghost use Rattle.kit_c.specs.Codes.{code_of, no_memory};
 ghost use Rattle.kit_c.specs.Held.{instruments_of, plan_of, views_of};
 ghost use Rattle.kit_c.specs.Kinds.{kind_fault, numbered_kind};
-ghost use Rattle.kit_c.specs.Places.{place_after, second_after};
+ghost use Rattle.kit_c.specs.Places.{TellsPlace, TellsSecond};
 ghost use Rattle.kit_c.specs.Plans.{instrument_of, instruments_fault, planning_fault, plans_fault};
 
 use crate::content::Content;
@@ -133,14 +133,12 @@ pub extern "C" fn kit_plan_build(
     ensures code { result ≢ no_memory
         → result ≡ code_for (planning_fault (plan_of plan.old) (instruments_of instruments.old) (views_of views.old) limit) }
     ensures value { result ≡ pos 0 → plan_of plan.new ≡ Some (planned (instruments_of instruments.old) (views_of views.old) limit) }
-    ensures place { result ≢ no_memory → place.new
-        ≡ place_after (planning_fault (plan_of plan.old) (instruments_of instruments.old) (views_of views.old) limit) place.old }
-    ensures second { result ≢ no_memory → second.new
-        ≡ second_after (planning_fault (plan_of plan.old) (instruments_of instruments.old) (views_of views.old) limit) second.old }
-    ensures no_memory { result ≡ no_memory → (place.new ≡ place.old) × (second.new ≡ second.old) }
+    ensures place { TellsPlace result (planning_fault (plan_of plan.old) (instruments_of instruments.old) (views_of views.old) limit)
+        place.old place.new }
+    ensures second { TellsSecond result (planning_fault (plan_of plan.old) (instruments_of instruments.old) (views_of views.old) limit)
+        second.old second.new }
     ensures unchanged { result ≢ pos 0 → plan_of plan.new ≡ plan_of plan.old }
-    ensures instruments { instruments_of instruments.new ≡ instruments_of instruments.old }
-    ensures views { views_of views.new ≡ views_of views.old }
+    ensures kept { (instruments_of instruments.new ≡ instruments_of instruments.old) × (views_of views.new ≡ views_of views.old) }
 {
     if plan.handle.full {
         return FULL;

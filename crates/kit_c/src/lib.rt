@@ -56,6 +56,7 @@ mod recorders;
 mod requests;
 mod rows;
 mod seats;
+mod services;
 mod sets;
 mod streams;
 mod taken;

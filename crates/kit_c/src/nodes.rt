@@ -182,8 +182,7 @@ pub extern "C" fn kit_node_hand(
     ensures value { result ≡ pos 0 → HasHeard (node_of node.old) (message_of message.old) (node_of node.new) }
     ensures answer { result ≡ pos 0 → message_of answer.new ≡ answer_in (node_of node.old) (message_of message.old) }
     ensures answered { result ≡ pos 0 → answered.new ≡ is_some (answer_in (node_of node.old) (message_of message.old)) }
-    ensures unchanged { result ≢ pos 0 → node_of node.new ≡ node_of node.old }
-    ensures answer_kept { result ≢ pos 0 → message_of answer.new ≡ message_of answer.old }
+    ensures unchanged { result ≢ pos 0 → (node_of node.new ≡ node_of node.old) × (message_of answer.new ≡ message_of answer.old) }
     ensures told { result ≢ pos 0 → answered.new ≡ answered.old }
     ensures kept { message_of message.new ≡ message_of message.old }
 {

@@ -6,7 +6,7 @@ ghost use Rattle.kit_c.specs.Codes.{code_of, no_memory};
 ghost use Rattle.kit_c.specs.Formats.{HasBrought, reading_fault};
 ghost use Rattle.kit_c.specs.Held.{export_of, exports_of};
 ghost use Rattle.kit_c.specs.Items.{item_fault};
-ghost use Rattle.kit_c.specs.Places.{place_after};
+ghost use Rattle.kit_c.specs.Places.{TellsPlace};
 ghost use Rattle.kit_c.specs.Typed.{exports_in, is_exports};
 
 use crate::content::Content;
@@ -46,9 +46,7 @@ pub extern "C" fn kit_exports_of_otlp(
     ensures code { result ≢ no_memory
         → result ≡ code_for (first (full_fault (exports_of exports.old) ∷ reading_fault bytes.now ∷ [])) }
     ensures value { result ≡ pos 0 → HasBrought bytes.now (exports_of exports.new) }
-    ensures place { result ≢ no_memory → place.new
-        ≡ place_after (first (full_fault (exports_of exports.old) ∷ reading_fault bytes.now ∷ [])) place.old }
-    ensures no_memory { result ≡ no_memory → place.new ≡ place.old }
+    ensures place { TellsPlace result (first (full_fault (exports_of exports.old) ∷ reading_fault bytes.now ∷ [])) place.old place.new }
     ensures unchanged { result ≢ pos 0 → exports_of exports.new ≡ exports_of exports.old }
 {
     if exports.handle.full {

@@ -1,7 +1,6 @@
 //! Streams of plans and of gateways, read by their numbers.
 ghost use Rattle.std.specs.Prelude.{◌≡◌, ◌≢◌, ◌++◌, ◌∷◌, [], pos, length, slice_get, None, Some, IfSome, OnOk, OnErr, IfErr, IfOk};
 ghost use Rattle.std.specs.Option.{option_map};
-ghost use Rattle.indexmap.specs.IndexSet.{insert_key};
 ghost use Rattle.attr_kit.specs.Refusing.{first};
 ghost use Rattle.plan_kit.specs.Bounds.{default_bounds};
 ghost use Rattle.kit_c.specs.Asks.{all_of};
@@ -9,7 +8,8 @@ ghost use Rattle.kit_c.specs.Calls.{code_for, filled, full_fault, if_any, of_one
 ghost use Rattle.kit_c.specs.Codes.{code_of, no_memory};
 ghost use Rattle.kit_c.specs.Held.{ask_of, gateway_of, plan_of, streams_of};
 ghost use Rattle.kit_c.specs.Items.{item_fault};
-ghost use Rattle.kit_c.specs.Streams.{bounds_of, part_fault, shape_number, stream_eq, streams_held, text_part};
+ghost use Rattle.kit_c.specs.Streams.{bounds_of, part_fault, shape_number, text_part};
+ghost use Rattle.rollup_kit.specs.Streams.{streams_held};
 
 use crate::ask::all;
 use crate::content::Content;
@@ -68,27 +68,6 @@ pub extern "C" fn kit_plan_streams(
     }
 }
 
-// Notes a stream, once.
-fn note(seen: &mut IndexSet<Stream>, stream: &Stream) -> Result<(), NoMemory>
-    ensures { OnOk result (seen.new.keys ≡ insert_key stream_eq seen.old.keys stream.now) }
-{
-    if !seen.contains(stream) {
-        seen.insert(stream.try_copy()?)?;
-    }
-    Ok(())
-}
-
-// The streams of a gateway's points, each once.
-fn seen_in(alloc: Global, gateway: &Gateway) -> Result<IndexSet<Stream>, NoMemory>
-    ensures { IfOk result (λ seen. seen.keys ≡ streams_held gateway.now.points) }
-{
-    let mut seen = IndexSet::new(alloc);
-    for point in gateway.points() {
-        note(&mut seen, point.stream)?;
-    }
-    Ok(seen)
-}
-
 fn copies_of(alloc: Global, seen: &IndexSet<Stream>) -> Result<Seq<Stream>, NoMemory>
     ensures { IfOk result (λ copies. copies ≡ seen.now.keys) }
 {
@@ -104,7 +83,7 @@ fn copies_of(alloc: Global, seen: &IndexSet<Stream>) -> Result<Seq<Stream>, NoMe
 fn held_streams(alloc: Global, gateway: &Gateway) -> Result<Seq<Stream>, NoMemory>
     ensures { IfOk result (λ copies. copies ≡ streams_held gateway.now.points) }
 {
-    copies_of(alloc, &seen_in(alloc, gateway)?)
+    copies_of(alloc, &rollup_kit::streams_of(alloc, gateway)?)
 }
 
 /// The streams of which a gateway, which stays, holds points: each once, in the order in which the points' keys name them first.

@@ -6,7 +6,7 @@ ghost use Rattle.kit_c.specs.Codes.{code_of, no_memory};
 ghost use Rattle.kit_c.specs.Faults.{text_fault};
 ghost use Rattle.kit_c.specs.Held.{attributes_of, export_of, plan_of, recorder_of, writer_of};
 ghost use Rattle.kit_c.specs.Holding.{after_holding, number_after};
-ghost use Rattle.kit_c.specs.Places.{place_after};
+ghost use Rattle.kit_c.specs.Places.{TellsPlace};
 ghost use Rattle.kit_c.specs.Takings.{HasTakenIn, taking_fault};
 ghost use Rattle.kit_c.specs.Typed.{export_in, is_export};
 ghost use Rattle.kit_c.specs.Writers.{HasCollected, HasExport, HasNumberedPoints, HasPoints, HasStarted, IsPairHeld, Starts, by_set, collecting_fault, early_recording_fault, holding_fault, instance_of, recording_fault, restarting_fault};
@@ -96,9 +96,8 @@ pub extern "C" fn kit_writer_measure(
     ensures short { result ≡ no_memory → of_two (writer_of writer.old) (attributes_of attributes.old)
         (λ w a. early_recording_fault (by_set instrument value a) w) ≡ None }
     ensures held { HasPoints instrument value (writer_of writer.old) (attributes_of attributes.old) → result ≢ no_memory }
-    ensures place { result ≢ no_memory → place.new ≡ place_after (of_two (writer_of writer.old) (attributes_of attributes.old)
-        (λ w a. recording_fault (by_set instrument value a) w)) place.old }
-    ensures no_memory { result ≡ no_memory → place.new ≡ place.old }
+    ensures place { TellsPlace result (of_two (writer_of writer.old) (attributes_of attributes.old)
+        (λ w a. recording_fault (by_set instrument value a) w)) place.old place.new }
     ensures unchanged { result ≢ pos 0 → writer_of writer.new ≡ writer_of writer.old }
     ensures kept { attributes_of attributes.new ≡ attributes_of attributes.old }
 {
@@ -182,9 +181,7 @@ pub extern "C" fn kit_writer_measure_held(
     ensures value { result ≡ pos 0 → writer_of writer.new ≡ in_one (λ w. after_record w (ByNumber number value)) (writer_of writer.old) }
     ensures short { result ≡ no_memory → of_one (writer_of writer.old) (early_recording_fault (ByNumber number value)) ≡ None }
     ensures held { HasNumberedPoints number value (writer_of writer.old) → result ≢ no_memory }
-    ensures place { result ≢ no_memory
-        → place.new ≡ place_after (of_one (writer_of writer.old) (recording_fault (ByNumber number value))) place.old }
-    ensures no_memory { result ≡ no_memory → place.new ≡ place.old }
+    ensures place { TellsPlace result (of_one (writer_of writer.old) (recording_fault (ByNumber number value))) place.old place.new }
     ensures unchanged { result ≢ pos 0 → writer_of writer.new ≡ writer_of writer.old }
 {
     match with!(alloc, writer => Writer(held), held.measure_held(number, value)) {
@@ -270,11 +267,9 @@ pub extern "C" fn kit_writer_collect(
     ensures value { result ≡ pos 0 → writer_of writer.new ≡ in_one (λ w. after_collect w time false) (writer_of writer.old) }
     ensures export { result ≡ pos 0 → HasCollected time (writer_of writer.old) (export_of export.new) }
     ensures short { result ≡ no_memory → collecting_fault time (writer_of writer.old) (export_of export.old) ≡ None }
-    ensures place { result ≢ no_memory
-        → place.new ≡ place_after (collecting_fault time (writer_of writer.old) (export_of export.old)) place.old }
-    ensures no_memory { result ≡ no_memory → place.new ≡ place.old }
-    ensures unchanged { result ≢ pos 0 → writer_of writer.new ≡ writer_of writer.old }
-    ensures export_kept { result ≢ pos 0 → export_of export.new ≡ export_of export.old }
+    ensures place { TellsPlace result (collecting_fault time (writer_of writer.old) (export_of export.old)) place.old place.new }
+    ensures unchanged { result ≢ pos 0
+        → (writer_of writer.new ≡ writer_of writer.old) × (export_of export.new ≡ export_of export.old) }
 {
     if export.handle.full {
         return FULL;
@@ -304,11 +299,9 @@ pub extern "C" fn kit_writer_shutdown(
     ensures value { result ≡ pos 0 → writer_of writer.new ≡ in_one (λ w. after_collect w time true) (writer_of writer.old) }
     ensures export { result ≡ pos 0 → HasCollected time (writer_of writer.old) (export_of export.new) }
     ensures short { result ≡ no_memory → collecting_fault time (writer_of writer.old) (export_of export.old) ≡ None }
-    ensures place { result ≢ no_memory
-        → place.new ≡ place_after (collecting_fault time (writer_of writer.old) (export_of export.old)) place.old }
-    ensures no_memory { result ≡ no_memory → place.new ≡ place.old }
-    ensures unchanged { result ≢ pos 0 → writer_of writer.new ≡ writer_of writer.old }
-    ensures export_kept { result ≢ pos 0 → export_of export.new ≡ export_of export.old }
+    ensures place { TellsPlace result (collecting_fault time (writer_of writer.old) (export_of export.old)) place.old place.new }
+    ensures unchanged { result ≢ pos 0
+        → (writer_of writer.new ≡ writer_of writer.old) × (export_of export.new ≡ export_of export.old) }
 {
     if export.handle.full {
         return FULL;
@@ -337,9 +330,7 @@ pub extern "C" fn kit_writer_restart(
     ensures code { result ≢ no_memory → result ≡ code_for (of_one (writer_of writer.old) (restarting_fault start)) }
     ensures value { result ≡ pos 0 → writer_of writer.new ≡ in_one (λ w. after_restart w start) (writer_of writer.old) }
     ensures short { result ≡ no_memory → of_one (writer_of writer.old) (restarting_fault start) ≡ None }
-    ensures place { result ≢ no_memory
-        → place.new ≡ place_after (of_one (writer_of writer.old) (restarting_fault start)) place.old }
-    ensures no_memory { result ≡ no_memory → place.new ≡ place.old }
+    ensures place { TellsPlace result (of_one (writer_of writer.old) (restarting_fault start)) place.old place.new }
     ensures unchanged { result ≢ pos 0 → writer_of writer.new ≡ writer_of writer.old }
 {
     match with!(alloc, writer => Writer(held), held.restart(start)) {

@@ -149,6 +149,7 @@ CALLS = {
     "kit_seat_take_in": ("int32_t", ("kit_seat *seat", "kit_recorder *recorder", "size_t most", "kit_taken *taken")),
     "kit_seat_split": ("int32_t", ("kit_seat *seat", "kit_seat *made")),
     "kit_seat_collect": ("int32_t", ("kit_seat *seat", "uint64_t time", "kit_export *export_", "uint64_t *place")),
+    "kit_gateway_service": ("int32_t", ("KIT_READS kit_gateway *gateway", "size_t number", "uint8_t *into", "size_t room", "size_t *len")),
     "kit_attributes_len": ("int32_t", ("KIT_READS kit_attributes *attributes", "size_t *count")),
     "kit_attributes_key": ("int32_t", ("KIT_READS kit_attributes *attributes", "size_t number", "uint8_t *into", "size_t room", "size_t *len")),
     "kit_attributes_value": ("int32_t", ("KIT_READS kit_attributes *attributes", "size_t number", "uint8_t *kind", "int64_t *whole")),

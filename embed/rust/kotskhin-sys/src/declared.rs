@@ -647,6 +647,13 @@ unsafe extern "C" {
         export_: *mut Export,
         place: *mut u64,
     ) -> i32;
+    pub fn kit_gateway_service(
+        gateway: *mut Gateway,
+        number: usize,
+        into: *mut u8,
+        room: usize,
+        len: *mut usize,
+    ) -> i32;
     pub fn kit_attributes_len(
         attributes: *mut Attributes,
         count: *mut usize,

@@ -1,9 +1,0 @@
-use Rattle.std.proofs.Common.{◌≡◌}
-use Rattle.gateway_kit.specs.Walks.{points_left}
-use Rattle.kit_c.specs.Streams.{streams_held, with_streams}
-use Rattle.kit_c.proofs.streams.seen_in.Given as goal
-
-abbrev pub invariant-loop-point : goal.invariant-loop-point
-invariant-loop-point l =
-    (goal.iterator-loop-point).can_next l.point-iterator × (goal.iterator-loop-point).is_finite l.point-iterator
-    × (with_streams l.seen.keys (points_left l.point-iterator) ≡ streams_held l.gateway.points)
