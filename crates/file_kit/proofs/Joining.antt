@@ -1,12 +1,12 @@
 -- Files joined one after the other.
-use Rattle.std.proofs.Common.{◌≡◌, ◌≢◌, ◌∙◌, ◌<◌, ◌+◌, ℕ, List, [], ◌∷◌, ◌++◌, Some, map, take, length, get_or, ap, sym, refl, true, false, subst}
-use Rattle.std.specs.Prelude.{slice_get, fold}
+use Rattle.std.proofs.Common.{◌≡◌, ◌∙◌, ◌<◌, ◌+◌, ℕ, List, [], ◌∷◌, ◌++◌, Some, map, take, length, get_or, ap, sym, subst}
+use Rattle.std.specs.Prelude.{slice_get}
 use Rattle.std.specs.FinMap.{empty}
 use Rattle.std.proofs.lemmas.List.{take_more, take-map, map-append, get_or-map, length-map}
 use Rattle.std.proofs.lemmas.List.Sums.{fold-append}
-use Rattle.std.proofs.lemmas.Option.{slice_get-map, slice_get-get_or}
+use Rattle.std.proofs.lemmas.Option.{slice_get-get_or}
 use Rattle.point_kit.specs.Exports.{Points, join_points}
-use Rattle.file_kit.specs.Contents.{form, joined, points_of, IsNone, IsFirstNone, IsRefused, IsRefusedAt, JoinsAt, Says}
+use Rattle.file_kit.specs.Contents.{form, points_of, IsRefused, IsRefusedAt, JoinsAt, Says}
 use Rattle.file_kit.specs.declared.content.Content.{Content}
 use Rattle.file_kit.specs.declared.fault.FileFault.{FileFault}
 use Rattle.file_kit.specs.declared.fault.FileFault.TheVariants as file

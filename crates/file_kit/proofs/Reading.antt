@@ -1,10 +1,9 @@
 -- What bytes of a message, and of an export, are read as.
-use Rattle.std.proofs.Common.{◌≡◌, ◌≢◌, ◌∙◌, ℕ, Bool, List, Ok, Err, ap, sym, subst, refl, true, false}
+use Rattle.std.proofs.Common.{◌≡◌, ◌≢◌, ◌∙◌, ℕ, Bool, List, ap, sym, subst, refl, true, false}
 use Rattle.bytes_kit.specs.Explaining as explaining
-use Rattle.bytes_kit.specs.Faults.{GivesBack}
 use Rattle.bytes_kit.specs.Fits.{IsExport}
 use Rattle.bytes_kit.specs.Format.{bytes_of, with_checksum}
-use Rattle.bytes_kit.specs.MessageFits.{GivesMessage, IsMessage, IsSoundPoints}
+use Rattle.bytes_kit.specs.MessageFits.{IsMessage, IsSoundPoints}
 use Rattle.bytes_kit.specs.Messages.{bytes_of_message}
 use Rattle.bytes_kit.specs.declared.fault.DecodeFault.{DecodeFault}
 use Rattle.bytes_kit.specs.declared.fault.DecodeFault.TheVariants as faults

@@ -1,5 +1,5 @@
 -- The program's command, and what its matches give.
-use Rattle.std.proofs.Common.{◌≡◌, ◌∙◌, List, Option, Some, None, Result, Ok, Err, Bool, refl, true, false, sym, ap, map, take, drop, codes, subst}
+use Rattle.std.proofs.Common.{◌≡◌, ◌∙◌, List, Option, Some, Result, Ok, Err, Bool, refl, true, false, sym, ap, map, take, drop, codes, subst}
 use Rattle.std.proofs.lemmas.List.{drop-map, take-map}
 use Rattle.std.specs.Prelude.{IfOk, OnOk}
 use Rattle.std.specs.Option.{option_map}

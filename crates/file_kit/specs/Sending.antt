@@ -5,11 +5,9 @@ use Rattle.bytes_kit.specs.Explaining.{Explains}
 use Rattle.bytes_kit.specs.Fits.{IsExport}
 use Rattle.bytes_kit.specs.Format.{bytes_of}
 use Rattle.bytes_kit.specs.Messages.{bytes_of_message}
-use Rattle.bytes_kit.specs.declared.fault.DecodeFault.{DecodeFault}
 use Rattle.gossip_kit.specs.Views.{MessageModel}
 use Rattle.otlp_kit.specs.Refusals.{otlp_fault}
 use Rattle.otlp_kit.specs.Request.{request}
-use Rattle.otlp_kit.specs.declared.fault.OtlpFault.{OtlpFault}
 use Rattle.point_kit.specs.Exports.{Points}
 use Rattle.point_kit.specs.declared.export.Export.{Export}
 use Rattle.file_kit.specs.Contents.{Says}

@@ -1,7 +1,5 @@
-use Rattle.std.proofs.Common.{◌≡◌, ◌∙◌, ap, List}
-use Rattle.rollup_kit.specs.Rollups.{rollup_rows}
+use Rattle.std.proofs.Common.{◌∙◌, ap}
 use Rattle.rollup_kit.specs.TableText.{table_text}
-use Rattle.rollup_kit.specs.declared.row.Row.{Row}
 use Rattle.file_kit.proofs.answers.report.Goals as goal
 
 pub returns-clause-value : goal.returns-clause-value

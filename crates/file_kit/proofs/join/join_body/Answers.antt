@@ -1,4 +1,4 @@
-use Rattle.std.proofs.Common.{◌≡◌, ◌∙◌, ap, sym}
+use Rattle.std.proofs.Common.{◌∙◌, ap, sym}
 use Rattle.gateway_kit.proofs.Merged.{joined_empty}
 use Rattle.gossip_kit.specs.Bodies.{cells_of}
 use Rattle.gossip_kit.specs.declared.message.Body.{Body}

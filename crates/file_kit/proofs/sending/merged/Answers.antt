@@ -1,4 +1,4 @@
-use Rattle.std.proofs.Common.{◌≡◌, ◌∙◌, ℕ, List, None, ap}
+use Rattle.std.proofs.Common.{◌≡◌, ◌∙◌, ℕ, None, ap}
 use Rattle.bytes_kit.specs.Messages.{bytes_of_message}
 use Rattle.gossip_kit.specs.Views.{MessageModel}
 use Rattle.file_kit.specs.Sending.{state_of}

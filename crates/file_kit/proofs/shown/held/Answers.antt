@@ -1,4 +1,4 @@
-use Rattle.std.proofs.Common.{◌≡◌, ◌∙◌, ap}
+use Rattle.std.proofs.Common.{◌∙◌, ap}
 use Rattle.gossip_kit.proofs.Changes.{alone}
 use Rattle.point_kit.specs.Exports.{Points, join_points}
 use Rattle.file_kit.specs.Contents.{points_of}
