@@ -189,9 +189,18 @@ def blocks():
             yield shlex.split(words), shown.encode()
 
 
+def helps(program, folder):
+    """Whether `otm --help` lists each command of the page, with the first line of the command's own help."""
+    listed = ran(program, folder, ["--help"])[2].decode()
+    for name in re.findall(r"^\| `otm (\w+) ", PAGE.read_text(), re.M):
+        about = ran(program, folder, ["help", name])[2].decode().splitlines()[0]
+        yield f"{name} in otm --help", "" if f"  {name:<6}  {about}\n" in listed else f"{listed!r} has no {about!r}"
+
+
 def cases(program, folder):
     for name, (words, given, *wanted) in ROWS.items():
         yield name, differs(ran(program, folder, words, given), wanted)
+    yield from helps(program, folder)
     yield from pages(program, folder)
     yield from requests(program, folder)
     yield from states(program, folder)

@@ -5,7 +5,7 @@ ghost use Rattle.otm_kit.specs.Standing.{Prints, Runs};
 ghost use Rattle.script_kit.specs.declared.line.Query.TheVariants as query;
 
 use crate::running::Running;
-use attr_kit::{AttrSet, AttrValue, NoMemory, Seq, TryCopy, Txt};
+use attr_kit::{NoMemory, Txt};
 use gateway_kit::Gateway;
 use rollup_kit::{Ask, rollup, table};
 use script_kit::{Query, Reason, Report, Stop};
@@ -121,21 +121,5 @@ fn ask_of(alloc: Global, report: Report) -> Result<Ask, NoMemory>
         only,
         keep,
     } = report;
-    let only = pairs_of(alloc, &only)?;
-    Ok(Ask {
-        stream,
-        service,
-        only,
-        keep,
-    })
-}
-
-fn pairs_of(alloc: Global, attrs: &AttrSet) -> Result<Seq<(Txt, AttrValue)>, NoMemory>
-    ensures { IfOk result (λ pairs. pairs ≡ attrs.now) }
-{
-    let mut pairs = Vec::with_capacity(alloc, attrs.len())?;
-    for pair in attrs.pairs() {
-        pairs.push(pair.try_copy()?)?;
-    }
-    Ok(Seq::from_vec(pairs))
+    Ask::for_set(alloc, stream, service, &only, keep)
 }

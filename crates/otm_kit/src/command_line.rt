@@ -13,6 +13,14 @@ use std::convert::AsStr;
 // The version that the program prints when asked.
 const VERSION: &str = "0.1.0";
 
+// The commands on files, which are read by file_kit.
+const ON_FILES: &str = "Commands on files:
+  show    Print what files are of, and their points
+  merge   Write one state of what files say, joined
+  report  Print a table of what files say, joined
+  expose  Print what files say, joined, as a page for Prometheus
+  otlp    Write the OTLP request of files of exports";
+
 // An option whose value is a number from 1 to 8, or 2 where it is left out.
 #[tactic(auto)]
 fn count<'a>(alloc: Global, name: &'a str, help: &'a str) -> Arg<'a>
@@ -75,6 +83,7 @@ fn command<'a>(alloc: Global) -> Result<Command<'a>, AllocError>
     Command::new(alloc, "otm")
         .version(VERSION)
         .about("Metrics by scripts and by fleets of threads, with totals that are proved")
+        .after_help(ON_FILES)
         .subcommand_required(true)
         .subcommand(run(alloc))?
         .subcommand(fleet(alloc)?)
