@@ -118,7 +118,7 @@ class Fleet:
         """What the workers counted, once they end."""
         total = 0
         for it in self.workers:
-            printed, _ = it.communicate(timeout=120)
+            printed, _ = it.communicate(timeout=600)
             if it.returncode:
                 raise Fault(f"a worker ended with status {it.returncode}")
             print(f"  {printed.strip()}")

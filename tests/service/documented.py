@@ -48,7 +48,7 @@ def commands(program, room, kit):
 def fleet(_, room, kit):
     """The example's workers are counted by each gateway, and Prometheus says so."""
     words = [sys.executable, "-B", str(TOP / "examples" / "fleet" / "run.py"), str(kit), "go", "python"]
-    done = subprocess.run(words, stdin=subprocess.DEVNULL, capture_output=True, text=True, timeout=PATIENCE, check=False)
+    done = subprocess.run(words, stdin=subprocess.DEVNULL, capture_output=True, text=True, timeout=3 * PATIENCE, check=False)
     if done.returncode or not done.stdout.endswith("each of 3 gateways says what 4 workers counted: 12000\n"):
         raise Fault(f"status {done.returncode}\n{done.stdout[-3000:]}{done.stderr[-3000:]}")
 
