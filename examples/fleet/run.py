@@ -1,11 +1,11 @@
 #!/usr/bin/env python3
 """Three gateways that tell each other, a Prometheus that scrapes all three, and workers in Go, Python and Rust: a fleet without Docker.
 
-    run.py FOLDER          FOLDER is what embed/build made
+    run.py FOLDER [LANGUAGE..]      FOLDER is what embed/build made; go, python and rust where no language is named
 
 While the workers count one gateway is killed and comes back, another is asked to end and comes back, and a worker is started once more.
 Each worker pushes to the first gateway that takes what it has. In the end Prometheus is asked, and must answer what the workers counted.
-All of it runs on 127.0.0.1, on free ports, and in a folder that is removed. Without cargo there is no worker in Rust."""
+All of it runs on 127.0.0.1, on free ports, and in a folder that is removed. Without cargo no worker is in Rust."""
 import contextlib
 import os
 import pathlib
@@ -53,7 +53,7 @@ def free_ports(count):
         return [it.getsockname()[1] for it in sockets]
 
 
-def built(kit, room):
+def built(kit, room, languages):
     """The gateway, and what starts a worker in each language."""
     go = {**os.environ, "PKG_CONFIG_PATH": f"{kit}/lib/pkgconfig", "GOFLAGS": "-mod=mod -buildvcs=false", "GOPROXY": "off"}
     gateway, folder = room / "kotskhin-gateway", room / "go"
@@ -63,8 +63,8 @@ def built(kit, room):
     (folder / "go.mod").write_text(GO.format(TOP / "embed" / "go"))
     subprocess.run(["go", "build", "-o", "worker", "."], cwd=folder, env=go, check=True)
     workers = {"go": [folder / "worker"], "python": [sys.executable, "-B", HERE / "worker.py"]}
-    if not shutil.which("cargo"):
-        print("there is no cargo, so no worker is in Rust")
+    if "rust" not in languages or not shutil.which("cargo"):
+        print("no worker is in Rust")
         return gateway, workers
     folder = room / "rust"
     folder.mkdir()
@@ -118,7 +118,7 @@ class Fleet:
         """What the workers counted, once they end."""
         total = 0
         for it in self.workers:
-            printed, _ = it.communicate(timeout=120)
+            printed, _ = it.communicate(timeout=600)
             if it.returncode:
                 raise Fault(f"a worker ended with status {it.returncode}")
             print(f"  {printed.strip()}")
@@ -157,12 +157,12 @@ def answered(scrapes):
 
 
 def main():
-    if len(sys.argv) != 2 or not shutil.which("go") or not shutil.which("prometheus"):
+    if len(sys.argv) < 2 or not shutil.which("go") or not shutil.which("prometheus"):
         raise SystemExit(f"{__doc__}\nIt wants a folder, Go and Prometheus.")
     kit = pathlib.Path(sys.argv[1]).resolve()
     with tempfile.TemporaryDirectory() as made:
         room = pathlib.Path(made)
-        program, commands = built(kit, room)
+        program, commands = built(kit, room, sys.argv[2:] or ("go", "python", "rust"))
         with Fleet(kit, program, commands, room) as fleet:
             fleet.ready()
             with prometheus.running(room / "prometheus", fleet.targets, ADDRESS, fleet.scraper) as scrapes:

@@ -6,8 +6,9 @@ import shlex
 import shutil
 import signal
 import subprocess
+import sys
 
-from fleet import Fault, Gateway, until
+from fleet import PATIENCE, Fault, Gateway, until
 
 TOP = pathlib.Path(__file__).resolve().parents[2]
 PAGE = (TOP / "docs" / "SERVICE.md").read_text(encoding="utf-8")
@@ -42,6 +43,14 @@ def commands(program, room, kit):
     finally:
         os.killpg(process.pid, signal.SIGKILL)
         process.wait()
+
+
+def fleet(_, room, kit):
+    """The example's workers are counted by each gateway, and Prometheus says so."""
+    words = [sys.executable, "-B", str(TOP / "examples" / "fleet" / "run.py"), str(kit), "go", "python"]
+    done = subprocess.run(words, stdin=subprocess.DEVNULL, capture_output=True, text=True, timeout=3 * PATIENCE, check=False)
+    if done.returncode or not done.stdout.endswith("each of 3 gateways says what 4 workers counted: 12000\n"):
+        raise Fault(f"status {done.returncode}\n{done.stdout[-3000:]}{done.stderr[-3000:]}")
 
 
 def flags(program, *_):
@@ -97,8 +106,7 @@ def paths(program, room, _):
 
 
 def trials(program, room, kit, is_alone):
-    return [
-        (what, lambda call=call: call(program, room, kit))
-        for what, call in (("the flags", flags), ("how it ends", ends), ("the paths", paths), ("README's commands", commands))
-        if is_alone or call != commands
-    ]
+    calls = [("the flags", flags), ("how it ends", ends), ("the paths", paths), ("examples/fleet", fleet)]
+    if is_alone:
+        calls.append(("README's commands", commands))
+    return [(what, lambda call=call: call(program, room, kit)) for what, call in calls]
