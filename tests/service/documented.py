@@ -106,7 +106,7 @@ def paths(program, room, _):
 
 
 def trials(program, room, kit, is_alone):
-    calls = [("the flags", flags), ("how it ends", ends), ("the paths", paths), ("examples/fleet", fleet)]
+    calls = [("the flags", flags), ("how it ends", ends), ("the paths", paths)]
     if is_alone:
         calls.append(("README's commands", commands))
     return [(what, lambda call=call: call(program, room, kit)) for what, call in calls]

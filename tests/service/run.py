@@ -4,6 +4,7 @@
     run.py [FOLDER]                            the short form, as the gate runs it
     run.py --seeds 200 [--first 1] [FOLDER]    the chaos test alone, of so many seeds
     run.py --bad 10000 [FOLDER]                bad input alone, so many bodies to each path
+    run.py --fleet [FOLDER]                    examples/fleet alone, which builds a worker and takes longer
     run.py --load [FOLDER]                     how much one gateway takes, beside a Pushgateway
 
 FOLDER is what embed/build made; where none is given it is made of crates/kit_c/out/libkit_c.a, as in tests/embed. Nothing is proved here.
@@ -51,6 +52,7 @@ def asked():
     parser.add_argument("--first", type=int, default=1)
     parser.add_argument("--seconds", type=float, default=SECONDS)
     parser.add_argument("--bad", type=int, default=0)
+    parser.add_argument("--fleet", action="store_true")
     parser.add_argument("--load", action="store_true")
     return parser.parse_args()
 
@@ -191,7 +193,11 @@ def main():
             import load
 
             return load.main(run.program, room)
-        is_whole = not given.seeds and not given.bad
+        is_whole = not given.seeds and not given.bad and not given.fleet
+        if given.fleet:
+            import documented
+
+            run.try_it("docs: examples/fleet", lambda: documented.fleet(run.program, room, kit))
         if is_whole or given.bad:
             run.bad(given.bad or BAD)
         if is_whole:
