@@ -182,6 +182,13 @@ func (r *run) formats(it step) (any, error) {
 			})
 		}
 		return made, err
+	case "services":
+		list, err := r.things[it["of"].(string)].(Gateway).Services()
+		made := []any{}
+		for _, one := range list {
+			made = append(made, one)
+		}
+		return made, err
 	case "otlp":
 		made, err := r.things[it["of"].(string)].(Export).OTLP()
 		return r.keep(it, made, err)

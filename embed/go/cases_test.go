@@ -375,7 +375,7 @@ func (r *run) do(it step) (any, error) {
 		return r.gossip(it)
 	case "encode", "decode", "bytes", "bytes_are", "decode_often":
 		return r.encoding(it)
-	case "incarnations", "otlp", "of_otlp", "page":
+	case "incarnations", "services", "otlp", "of_otlp", "page":
 		return r.formats(it)
 	case "close":
 		return nil, thing("of").(interface{ Close() error }).Close()

@@ -2,6 +2,7 @@ package kotskhin
 
 // #include "kotskhin.h"
 import "C"
+import "errors"
 
 // Incarnation is of whom there are points: a service, an instance and a start, the greatest time of its points, and how many there are.
 type Incarnation struct {
@@ -16,6 +17,25 @@ func (g Gateway) Incarnations() ([]Incarnation, error) {
 	return incarnationsIn(func(list *C.kit_incarnations) error {
 		return reading(g.h, func(gateway *C.kit_gateway) error { return answered(C.kit_gateway_incarnations(gateway, list)) })
 	})
+}
+
+// Services are those of which the gateway holds points, each once.
+func (g Gateway) Services() ([]string, error) {
+	services := []string{}
+	for number := C.size_t(0); ; number++ {
+		service, err := copied(func(room *C.uint8_t, size C.size_t, length *C.size_t) error {
+			return reading(g.h, func(gateway *C.kit_gateway) error {
+				return answered(C.kit_gateway_service(gateway, number, room, size, length))
+			})
+		})
+		if errors.Is(err, ErrNoItem) {
+			return services, nil
+		}
+		if err != nil {
+			return nil, err
+		}
+		services = append(services, string(service))
+	}
 }
 
 // Incarnations tells of whom the message carries points: what a receiver compares with those of whom its sender may speak.

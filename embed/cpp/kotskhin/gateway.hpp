@@ -77,6 +77,15 @@ public:
         checked(kit_gateway_incarnations(handle.lent().at(), list.at()));
         return detail::incarnations(list);
     }
+    // The services of which it holds points, each once.
+    std::vector<std::string> services() const {
+        std::vector<std::string> all;
+        try {
+            for (;;) all.push_back(detail::text([&](auto... room) { return kit_gateway_service(handle.lent().at(), all.size(), room...); }));
+        } catch (const NoItem &) {
+            return all;
+        }
+    }
     // The page of what it holds, in OpenMetrics 1.0: of one service, or of all where none is said. It answers a request that accepts
     // application/openmetrics-text, with Content-Type: application/openmetrics-text; version=1.0.0; charset=utf-8.
     std::string openmetrics(std::optional<std::string_view> service = {}) const { return page(service, kit_gateway_openmetrics); }

@@ -1,4 +1,5 @@
 """Gateways, what is asked of them, and their answers."""
+import contextlib
 import dataclasses
 import itertools
 import typing
@@ -6,7 +7,7 @@ from collections.abc import Iterable, Sequence
 from ctypes import byref, c_bool, c_int64, c_size_t, c_uint32, c_uint64
 
 from kotskhin.attributes import Attributes, Pairs, Value, keys_of, written
-from kotskhin.errors import NoBucket, NoPoint, WrongShape
+from kotskhin.errors import NoBucket, NoItem, NoPoint, WrongShape
 from kotskhin.export import Export, encoded
 from kotskhin.handle import Handle, LockedHandle, both
 from kotskhin.library import calls, copied, default_bounds, halves, integers, text
@@ -279,6 +280,15 @@ class Gateway(LockedHandle):
     def incarnations(self) -> list[Incarnation]:
         """Of whom it holds points, by service, instance and start."""
         return incarnations_of("kit_gateway_incarnations", self)
+
+    def services(self) -> list[str]:
+        """The services of which it holds points, each once."""
+        services = []
+        with contextlib.suppress(NoItem):
+            while True:
+                with self._lock:
+                    services.append(copied("kit_gateway_service", self, len(services)).decode())
+        return services
 
     def openmetrics(self, service: str | None = None) -> str:
         """The page of what it holds, of one service or of all, in OpenMetrics 1.0. Its type is OPENMETRICS_TYPE."""

@@ -506,6 +506,7 @@ std::map<std::string, Run::Step> Run::all_steps() {
          })},
         {"incarnations",
          [this](const Json &it) { return by<Gateway, Message>(it["of"], [](auto &thing) { return told(thing.incarnations()); }); }},
+        {"services", [this](const Json &it) { return told(the<Gateway>(it["of"]).services()); }},
         {"otlp", done([this](const Json &it) { make(it, bytes_of(the<Export>(it["of"]).otlp())); })},
         {"of_otlp", [this](const Json &it) { return of_otlp(it); }},
         {"page", done([this](const Json &it) { page(it); })},

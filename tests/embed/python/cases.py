@@ -188,6 +188,9 @@ class Run:
     def incarnations(self, it):
         return [one._asdict() for one in self.things[it["of"]].incarnations()]
 
+    def services(self, it):
+        return self.things[it["of"]].services()
+
     def otlp(self, it):
         self.make(it, self.things[it["of"]].otlp())
 

@@ -631,6 +631,10 @@ impl Run {
                 let list = the!(self, by("of"), Gateway | Message, it => it.incarnations())?;
                 Ok(Json::List(list.iter().map(told::incarnation).collect()))
             }
+            "services" => {
+                let list = the!(self, by("of"), Gateway, it => it.services())?;
+                Ok(Json::List(list.into_iter().map(Json::Text).collect()))
+            }
             "otlp" => {
                 let made = the!(self, by("of"), Export, it => it.otlp())?;
                 self.make(it, Thing::Bytes(made))

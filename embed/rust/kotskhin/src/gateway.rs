@@ -1,7 +1,7 @@
 //! Gateways.
 use crate::ask::Ask;
 use crate::error::{Error, checked};
-use crate::export::{Export, copied, text_in};
+use crate::export::{Export, copied, copied_by, text_in};
 use crate::handle::Handle;
 use crate::incarnations::{Incarnation, incarnations_in};
 use crate::node::Message;
@@ -11,7 +11,7 @@ use kotskhin_sys::{
     self as sys, kit_gateway_conflicts, kit_gateway_encode, kit_gateway_incarnations,
     kit_gateway_merge, kit_gateway_newest, kit_gateway_open, kit_gateway_openmetrics,
     kit_gateway_prometheus, kit_gateway_read, kit_gateway_rows, kit_gateway_same,
-    kit_gateway_streams, kit_gateway_take,
+    kit_gateway_service, kit_gateway_streams, kit_gateway_take,
 };
 use std::ptr;
 
@@ -69,6 +69,23 @@ impl Gateway {
         // SAFETY: the gateway is lent, and the list is ours alone.
         checked(unsafe { kit_gateway_incarnations(self.0.read().at(), list.change()) })?;
         incarnations_in(&list)
+    }
+
+    /// The services of which it holds points, each once. Refused: `Nothing`, where it is none.
+    pub fn services(&self) -> Result<Vec<String>, Error> {
+        let mut services = Vec::new();
+        loop {
+            // SAFETY: the gateway is lent, and the room is a slice's.
+            let service = copied_by(|room, len| unsafe {
+                let (into, size) = (room.as_mut_ptr(), room.len());
+                kit_gateway_service(self.0.read().at(), services.len(), into, size, len)
+            });
+            match service {
+                Ok(service) => services.push(String::from_utf8_lossy(&service).into_owned()),
+                Err(Error::NoItem) => return Ok(services),
+                Err(other) => return Err(other),
+            }
+        }
     }
 
     /// The page of what it holds, in OpenMetrics 1.0: of one service, or of all where none is said. It answers a request that accepts
