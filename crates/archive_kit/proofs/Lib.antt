@@ -1,0 +1,12 @@
+pub mod Archived
+pub mod Counting
+pub mod Exact
+pub mod Headline
+pub mod Hiding
+pub mod Lists
+pub mod Once
+pub mod Payloads
+pub mod Rest
+pub mod Showing
+pub mod Stories
+pub mod Tombstones

@@ -1,0 +1,170 @@
+//! What is true of states that do not show what their tombstones name, and of archives.
+ghost use Rattle.std.specs.Prelude.{◌≡◌, ℕ, Bool, true, false, not, cond, pos, List, [], filter, Option, Some};
+ghost use Rattle.std.specs.List.{filter_map};
+ghost use Rattle.std.specs.Cmp.{IsTotalOrder, IsEquivalence};
+ghost use Rattle.std.specs.FinMap.{FinMap, IsAntisymmetric, get};
+ghost use Rattle.std.specs.declared.cmp.Ordering.{Ordering};
+ghost use Rattle.attr_kit.specs.Exact.{IsExact};
+ghost use Rattle.point_kit.specs.Exports.{Points, join_points};
+ghost use Rattle.point_kit.specs.Join.{IsCommutative, IsAssociative, IsIdempotent};
+ghost use Rattle.point_kit.specs.Payload as sound;
+ghost use Rattle.point_kit.specs.States.{join_maps};
+ghost use Rattle.point_kit.specs.declared.cell.Cell.{Cell};
+ghost use Rattle.point_kit.specs.declared.key.Key.{Key};
+ghost use Rattle.point_kit.specs.declared.payload.Payload.{Payload};
+ghost use Rattle.point_kit.specs.declared.shape.Shape.{Shape};
+ghost use Rattle.schedule_kit.specs.Deeds.{Deed, Holder, made, first, entries_at, AreLawful, IsTold};
+ghost use Rattle.schedule_kit.specs.Members.{In};
+ghost use Rattle.schedule_kit.specs.Rounds.{Rounding, IsSound, state};
+ghost use Rattle.schedule_kit.specs.Rows.{IsAdded, rollup, recorded, in_row, values_fed, keys_fed};
+ghost use Rattle.schedule_kit.specs.Schedule.{Act, entries_of, AreAccepted};
+ghost use Rattle.schedule_kit.specs.Taken.{taken_collections, recorded_up_to, incarnations};
+ghost use Rattle.schedule_kit.specs.Totals.{total_where};
+ghost use Rattle.archive_kit.specs.Adding.{add_payloads};
+ghost use Rattle.archive_kit.specs.Adopting.{Archiving, Counted, AreTombstones, AreArchives, is_adopted, adoptees, counted, values_counted, EachOnce, RefusesAgain, AdoptMade};
+ghost use Rattle.archive_kit.specs.Showing.{hides, shown, join_shown, IsShownBelow, NamesNoNamer};
+ghost use Rattle.archive_kit.specs.Stories.{Story, SameTaken, taken, held, state_of_taken, IsHeard};
+ghost use Rattle.archive_kit.specs.Tombstones.{names_key};
+
+/// What states show, joined, shows what the states joined show, wherever what is named names nothing itself: so joining what
+/// is shown is commutative, associative, and what comes again changes nothing. States that show the same may stand for one
+/// another in a join. So it is of the points of gateways, whatever they hold.
+#[tactic(auto, using(crate::proofs::Showing::shown_join, crate::proofs::Showing::shown_commute, crate::proofs::Showing::shown_associate, crate::proofs::Showing::shown_idempotent, crate::proofs::Showing::shown_twice, crate::proofs::Showing::shown_congruent))]
+pub fn shown_states_join<K, V>()
+    ensures joined { (R : K → K → Ordering) → IsTotalOrder R → IsAntisymmetric R → (names : K → K → Bool) → NamesNoNamer names
+        → (join : V → V → V) (a b : FinMap R V) → join_shown names join (shown names a) (shown names b) ≡ join_shown names join a b }
+    ensures commutative { (R : K → K → Ordering) → IsTotalOrder R → IsAntisymmetric R → (names : K → K → Bool) → NamesNoNamer names
+        → (join : V → V → V) → IsCommutative join → IsCommutative (λ (a b : FinMap R V). join_shown names join a b) }
+    ensures associative { (R : K → K → Ordering) → IsTotalOrder R → IsAntisymmetric R → (names : K → K → Bool) → NamesNoNamer names
+        → (join : V → V → V) → IsAssociative join → IsAssociative (λ (a b : FinMap R V). join_shown names join a b) }
+    ensures idempotent { (R : K → K → Ordering) → IsTotalOrder R → IsAntisymmetric R → (names : K → K → Bool) → NamesNoNamer names
+        → (join : V → V → V) → IsIdempotent join → (a : FinMap R V) → join_shown names join a a ≡ shown names a }
+    ensures again { (R : K → K → Ordering) → IsTotalOrder R → IsAntisymmetric R → (names : K → K → Bool) → NamesNoNamer names
+        → (a : FinMap R V) → shown names (shown names a) ≡ shown names a }
+    ensures congruent { (R : K → K → Ordering) → IsTotalOrder R → IsAntisymmetric R → (names : K → K → Bool) → NamesNoNamer names
+        → (join : V → V → V) (a b c d : FinMap R V) → shown names a ≡ shown names c → shown names b ≡ shown names d
+        → join_shown names join a b ≡ join_shown names join c d }
+{}
+
+/// What a state hides may come again, and changes nothing of what is shown: so it may be left out.
+#[tactic(auto, using(crate::proofs::Showing::skipped))]
+pub fn hidden_points_may_be_skipped<K, V>()
+    ensures { (R : K → K → Ordering) → IsTotalOrder R → IsAntisymmetric R → (names : K → K → Bool) → NamesNoNamer names
+        → (join : V → V → V) (a b : FinMap R V) → ((q : K) (v : V) → get b q ≡ Some v → hides names a q ≡ true)
+        → join_shown names join a b ≡ shown names a }
+{}
+
+/// A delta that brings what its receiver once had to what its sender has, in what is shown, brings as much to a receiver
+/// that shows all that it had then, whatever either forgot since.
+#[tactic(auto, using(crate::proofs::Showing::delta_brings))]
+pub fn deltas_bring<K, V>()
+    ensures { (R : K → K → Ordering) → IsTotalOrder R → IsAntisymmetric R → (names : K → K → Bool) → NamesNoNamer names
+        → (join : V → V → V) → IsAssociative join → (receiver once delta sender : FinMap R V)
+        → join_shown names join receiver once ≡ shown names receiver
+        → join_shown names join once delta ≡ join_shown names join once sender
+        → join_shown names join receiver delta ≡ join_shown names join receiver sender }
+{}
+
+/// What is shown is ordered as states are, whatever was forgotten on either side: what is at or below what is at or below a
+/// third is at or below it; what a state shows is at or below it; and what brings as much to a state brings as much to
+/// a greater one.
+#[tactic(auto, using(crate::proofs::Showing::shown_trans, crate::proofs::Showing::shown_forgets, crate::proofs::Showing::shown_part, crate::proofs::Showing::shown_brings_more))]
+pub fn shown_states_are_ordered<K, V>()
+    ensures through { (R : K → K → Ordering) → IsTotalOrder R → IsAntisymmetric R → (names : K → K → Bool) → NamesNoNamer names
+        → (join : V → V → V) → IsAssociative join → (a b c : FinMap R V)
+        → IsShownBelow names join a b → IsShownBelow names join b c → IsShownBelow names join a c }
+    ensures forgets { (R : K → K → Ordering) → IsTotalOrder R → IsAntisymmetric R → (names : K → K → Bool) → NamesNoNamer names
+        → (join : V → V → V) (a b : FinMap R V) → IsShownBelow names join a b → IsShownBelow names join (shown names a) (shown names b) }
+    ensures part { (R : K → K → Ordering) → IsTotalOrder R → IsAntisymmetric R → (names : K → K → Bool) → NamesNoNamer names
+        → (join : V → V → V) → IsIdempotent join → (a : FinMap R V) → IsShownBelow names join (shown names a) a }
+    ensures brings { (R : K → K → Ordering) → IsTotalOrder R → IsAntisymmetric R → (names : K → K → Bool) → NamesNoNamer names
+        → (join : V → V → V) → IsCommutative join → IsAssociative join → (r q c t : FinMap R V) → IsShownBelow names join r q
+        → join_shown names join r c ≡ join_shown names join r t → join_shown names join q c ≡ join_shown names join q t }
+{}
+
+/// Gateways that took the same exports, by themselves, by merges or by mails, in any order and with repeats, and forgot at any
+/// time what they hid, show the same: what the state of these exports shows. Each mail is to be as a node promises.
+#[tactic(auto, using(crate::proofs::Stories::held_shows, crate::proofs::Stories::same_shown))]
+pub fn same_exports_show_the_same<E, K, P>()
+    ensures held { (R : K → K → Ordering) → IsTotalOrder R → IsAntisymmetric R → (eq : P → P → Bool) → IsEquivalence eq → IsExact eq
+        → (names : K → K → Bool) → NamesNoNamer names → (points : E → List (K × (ℕ × P))) → (s : Story E (FinMap R (Cell P)))
+        → IsHeard R eq names points s → shown names (held R eq names points s) ≡ shown names (state_of_taken R eq names points (taken s)) }
+    ensures same { (R : K → K → Ordering) → IsTotalOrder R → IsAntisymmetric R → (eq : P → P → Bool) → IsEquivalence eq → IsExact eq
+        → (names : K → K → Bool) → NamesNoNamer names → (points : E → List (K × (ℕ × P))) → (s t : Story E (FinMap R (Cell P)))
+        → IsHeard R eq names points s → IsHeard R eq names points t → SameTaken s t
+        → shown names (held R eq names points s) ≡ shown names (held R eq names points t) }
+{}
+
+/// A tombstone names the keys of the incarnation that its attributes tell, but no tombstone: so none names another.
+#[tactic(auto, using(crate::proofs::Tombstones::names_no_tombstone))]
+pub fn tombstones_name_no_tombstone()
+    ensures { NamesNoNamer names_key }
+{}
+
+/// An archivist that takes no adoption of an incarnation that it adopted has each in its entries once.
+#[tactic(auto, using(crate::proofs::Once::adopts_once))]
+pub fn archivists_adopt_once<N>()
+    ensures { (adopts : N → Option (Counted N)) (fits : List N → N → Bool) → RefusesAgain adopts fits → (first : ℕ)
+        → (acts : List (Act N)) → AreAccepted fits first acts → (start : ℕ) → EachOnce (filter_map adopts (entries_of first acts start)) }
+{}
+
+/// Where archives are among the writers, the roll-up of what a gateway shows is that of recordings, each value added up by
+/// itself: of each incarnation that an archive adopted, those up to its adopted collection; of each other that is no
+/// archive's, those up to its newest collection that the gateway took. Where no two adoptions are of one incarnation, each
+/// counts at most once.
+#[tactic(auto, using(crate::proofs::Headline::shown_answers, crate::proofs::Headline::counted_once))]
+pub fn roll_ups_count_adopted_once<N, K, I, X, P, V, G>()
+    ensures exact { (r : Rounding N K I X P) → IsSound r → (fits : ℕ → List N → N → Bool) (starts : List ℕ) (gateways : ℕ)
+        → IsTold r.who starts → (ds : List (Deed N)) → AreLawful fits starts gateways ds → (h : Holder)
+        → (zero : V) (plus : V → V → V) (reads : P → V) (fed : ℕ → List N → List (X × V))
+        → (Rg : G → G → Ordering) → IsTotalOrder Rg → IsAntisymmetric Rg
+        → (asks : K → Bool) (group : K → G) → IsAdded r zero plus reads fed asks
+        → (how : Archiving N K I X) → AreTombstones r how → AreArchives r how fed asks group
+        → rollup Rg zero plus asks group reads (shown how.names (state r (taken_collections starts ds h)))
+        ≡ recorded Rg zero plus asks group
+        (values_counted r fed (counted r how (is_adopted r how (taken_collections starts ds h)) (recorded_up_to starts ds h) (incarnations starts ds)))
+        (keys_fed r (λ i. cond (is_adopted r how (taken_collections starts ds h) (r.who i.0) i.1) [] (recorded_up_to starts ds h i)) (incarnations starts ds)) }
+    ensures once { (r : Rounding N K I X P) → IsSound r → (fits : ℕ → List N → N → Bool) (starts : List ℕ) (gateways : ℕ)
+        → IsTold r.who starts → (ds : List (Deed N)) → AreLawful fits starts gateways ds → (h : Holder)
+        → (how : Archiving N K I X) → AreTombstones r how
+        → EachOnce (adoptees r how (recorded_up_to starts ds h) (incarnations starts ds))
+        → EachOnce (counted r how (is_adopted r how (taken_collections starts ds h)) (recorded_up_to starts ds h) (incarnations starts ds)) }
+{}
+
+/// Where each adoption is of a made collection, what counts of what was adopted is what the incarnation recorded up to that
+/// collection, and it is an incarnation of the history.
+#[tactic(auto, using(crate::proofs::Headline::adopted_recorded, crate::proofs::Headline::adopted_there))]
+pub fn adopted_are_recorded<N>()
+    ensures recorded { (starts : List ℕ) (ds : List (Deed N)) (fits : ℕ → List N → N → Bool) (gateways : ℕ) → AreLawful fits starts gateways ds
+        → (cs : List (Counted N)) → AdoptMade (made starts ds) cs → (c : Counted N) → In c cs → (n : ℕ) × (c.1 ≡ entries_at starts (first n ds) c.0.0 c.0.1) }
+    ensures there { (starts : List ℕ) (ds : List (Deed N)) (fits : ℕ → List N → N → Bool) (gateways : ℕ) → AreLawful fits starts gateways ds
+        → (cs : List (Counted N)) → AdoptMade (made starts ds) cs → (c : Counted N) → In c cs → In {A = ℕ × ℕ} c.0 (incarnations starts ds) }
+{}
+
+/// Where besides each adopted collection, and each newest one of an incarnation that was not adopted, has all that is to
+/// count of its incarnation, the totals are those of a kit without archives.
+#[tactic(auto, using(crate::proofs::Headline::none_changes))]
+pub fn archives_change_no_total<N, K, I, X, P, V, G>()
+    ensures { (r : Rounding N K I X P) → IsSound r → (fits : ℕ → List N → N → Bool) (starts : List ℕ) (gateways : ℕ)
+        → IsTold r.who starts → (ds : List (Deed N)) → AreLawful fits starts gateways ds → (h : Holder)
+        → (zero : V) (plus : V → V → V) (reads : P → V) (fed : ℕ → List N → List (X × V))
+        → (Rg : G → G → Ordering) → (asks : K → Bool) (group : K → G) → IsAdded r zero plus reads fed asks
+        → (how : Archiving N K I X) → AreTombstones r how → AreArchives r how fed asks group
+        → (whole : ℕ × ℕ → List N)
+        → EachOnce (adoptees r how (recorded_up_to starts ds h) (incarnations starts ds))
+        → ((c : Counted N) → In c (adoptees r how (recorded_up_to starts ds h) (incarnations starts ds)) → In c.0 (incarnations starts ds))
+        → ((i : ℕ × ℕ) → In i (incarnations starts ds) → how.is_archive (r.who i.0) ≡ false
+        → is_adopted r how (taken_collections starts ds h) (r.who i.0) i.1 ≡ false → recorded_up_to starts ds h i ≡ whole i)
+        → ((c : Counted N) → In c (adoptees r how (recorded_up_to starts ds h) (incarnations starts ds)) → c.1 ≡ whole c.0)
+        → (g : G)
+        → total_where zero plus (λ p. in_row Rg zero plus asks group g p.0) (λ p. p.1)
+        (values_counted r fed (counted r how (is_adopted r how (taken_collections starts ds h)) (recorded_up_to starts ds h) (incarnations starts ds)))
+        ≡ total_where zero plus (λ p. in_row Rg zero plus asks group g p.0) (λ p. p.1)
+        (values_fed r whole (filter (λ i. not (how.is_archive (r.who i.0))) (incarnations starts ds)) fed) }
+{}
+
+/// Payloads that are sound in a stream of sums or of histograms are sound there added up.
+#[tactic(auto, using(crate::proofs::Payloads::both_sound))]
+pub fn sums_are_sound()
+    ensures { (shape : Shape) (p q : Payload) → sound.IsSound shape p → sound.IsSound shape q → sound.IsSound shape (add_payloads p q) }
+{}
