@@ -37,7 +37,7 @@ COPIED = "first"
 # Names in code letters that are none of the kit's.
 FOREIGN = {"arrayvec::ArrayString", "Equivalent", "clap", "HANDLES"}
 # Libraries whose pages show no caller: laws without calls, and the callers themselves.
-PAGES_ALONE = {"schedule_kit", "uses"}
+PAGES_ALONE = {"archive_kit", "schedule_kit", "uses"}
 # The public types, by their crates, that contracts speak of and that no code makes.
 OF_CONTRACTS = {"gateway_kit": {"GatewayChange"}, "writer_kit": {"WriterChange"}}
 # Those that are for other crates of the kit alone, or a part of one of OF_CONTRACTS.
