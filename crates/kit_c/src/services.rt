@@ -14,7 +14,6 @@ use gateway_kit::Gateway;
 use std::alloc::Global;
 
 // The service of a number.
-#[tactic(auto, using(crate::proofs::Listed::nth_service))]
 fn service(gateway: &Gateway, number: usize) -> Option<&str>
     ensures { option_map (λ s. s.now) result ≡ service_of number gateway.now }
 {
