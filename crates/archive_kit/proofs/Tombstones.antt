@@ -6,7 +6,6 @@ use Rattle.std.specs.Prelude.{unwrap_or}
 use Rattle.attr_kit.specs.declared.attr_set.AttrSet.{AttrSet}
 use Rattle.attr_kit.specs.declared.attr_value.AttrValue.{AttrValue}
 use Rattle.attr_kit.specs.declared.attr_value.AttrValue.TheVariants as values
-use Rattle.point_kit.specs.declared.key.Key.{Key}
 use Rattle.point_kit.specs.declared.writer_id.WriterId.{WriterId}
 use Rattle.uuid.specs.Text.{hyphenated_text, lower, parsed_hyphenated}
 use Rattle.uuid.proofs.RoundTrips.{parses_hyphenated_text}
