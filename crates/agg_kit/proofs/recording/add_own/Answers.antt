@@ -43,7 +43,7 @@ returns-then-not-try_add-clause-err c =
     let was = c.index_mut-points.ensures.value in
     let at = placed p a ss points c.args.stream c.args.place c.requires.stream was c.requires.at in
     let out = told_there p a c.args.value points c.args.stream c.args.place c.shape_of-shape.result.now true at c.shape_of-shape.ensures.value
-        ((simp to_z-of_z at c.try_add.ensures.fits) ∙ ap not c.if-not-try_add.true) in
+    ((simp to_z-of_z at c.try_add.ensures.fits) ∙ ap not c.if-not-try_add.true) in
     first-here p a c.args.value (entries_of ss) (whole_feed c.args.stream) [] (leaves-here p (whole_feed c.args.stream) a c.args.value ss points c.requires.stream was ∙ out)
 
 pub returns-then-not-try_add-clause-unchanged : goal.returns-then-not-try_add-clause-unchanged
@@ -72,6 +72,6 @@ returns-clause-ok c =
     let points = c.index_mut-points.result.now in
     let at = placed c.args.plan.now c.args.attrs.now c.args.series.now.items points c.args.stream c.args.place c.requires.stream c.index_mut-points.ensures.value c.requires.at in
     let ok = told_there c.args.plan.now c.args.attrs.now c.args.value points c.args.stream c.args.place c.shape_of-shape.result.now false at
-        c.shape_of-shape.ensures.value ((simp to_z-of_z at c.try_add.ensures.fits) ∙ ap not c.if-not-try_add.false) in
+    c.shape_of-shape.ensures.value ((simp to_z-of_z at c.try_add.ensures.fits) ∙ ap not c.if-not-try_add.false) in
     first-kept c.args.plan.now c.args.attrs.now c.args.value c.args.series.now.items points (whole_feed c.args.stream) [] (whole_feed c.args.stream ∷ []) refl
     c.requires.stream c.index_mut-points.ensures.value ok
