@@ -7,17 +7,7 @@ use std::alloc::Global;
 use std::test::Fail;
 use uuid::Uuid;
 
-// What pages tell: the families of metrics, and the rows of the kit's own.
-#[derive(Clone, Copy)]
-struct Page<'a> {
-    families: &'a [&'a str],
-    conflicts: &'a str,
-    keys: &'a str,
-    left_out: &'a str,
-    newest: &'a str,
-}
-
-// The metadata of the kit's own families.
+// The metadata of the kit's own families. A page is a list of parts, one behind the other.
 const CONFLICTS: &str = "# TYPE kotskhin_conflicts gauge
 # HELP kotskhin_conflicts Keys that hold a conflict. A row that has one is not shown.
 ";
@@ -75,33 +65,46 @@ const FIRST_NEWEST: &str = "kotskhin_newest_seconds{service_name=\"shop\"} 0.000
 kotskhin_newest_seconds{service_name=\"till\"} 1700000060.123456789
 ";
 
-const FIRST: Page = Page {
-    families: &[REQUESTS, FIRST_ROWS],
-    conflicts: "",
-    keys: FIRST_KEYS,
-    left_out: "",
-    newest: FIRST_NEWEST,
-};
+const FIRST: [&str; 11] = [
+    REQUESTS,
+    FIRST_ROWS,
+    CONFLICTS,
+    KEYS,
+    FIRST_KEYS,
+    LEFT_OUT,
+    NEWEST,
+    NEWEST_UNIT,
+    NEWEST_HELP,
+    FIRST_NEWEST,
+    END,
+];
 
-const FIRST_AS_TEXT: Page = Page {
-    families: &[REQUESTS_AS_TEXT, FIRST_ROWS],
-    conflicts: "",
-    keys: FIRST_KEYS,
-    left_out: "",
-    newest: FIRST_NEWEST,
-};
+const FIRST_AS_TEXT: [&str; 9] = [
+    REQUESTS_AS_TEXT,
+    FIRST_ROWS,
+    CONFLICTS,
+    KEYS,
+    FIRST_KEYS,
+    LEFT_OUT,
+    NEWEST,
+    NEWEST_HELP,
+    FIRST_NEWEST,
+];
 
 // Nothing is held.
 const NO_KEYS: &str = "kotskhin_keys 0
 ";
 
-const NOTHING: Page = Page {
-    families: &[],
-    conflicts: "",
-    keys: NO_KEYS,
-    left_out: "",
-    newest: "",
-};
+const NOTHING: [&str; 8] = [
+    CONFLICTS,
+    KEYS,
+    NO_KEYS,
+    LEFT_OUT,
+    NEWEST,
+    NEWEST_UNIT,
+    NEWEST_HELP,
+    END,
+];
 
 // Conflicts: of counters, of a gauge, and of a histogram beside a row of it that has none.
 const TORN_ROWS: &str = "requests_total{k=\"v\",otel_scope_name=\"app\",service_name=\"shop\"} 7
@@ -132,13 +135,23 @@ const TORN_NEWEST: &str = "kotskhin_newest_seconds{service_name=\"shop\"} 0.0000
 kotskhin_newest_seconds{service_name=\"till\"} 0.000000200
 ";
 
-const TORN: Page = Page {
-    families: &[REQUESTS, TORN_ROWS, SIZE, TORN_SIZES, TEMP],
-    conflicts: TORN_CONFLICTS,
-    keys: TORN_KEYS,
-    left_out: "",
-    newest: TORN_NEWEST,
-};
+const TORN: [&str; 15] = [
+    REQUESTS,
+    TORN_ROWS,
+    SIZE,
+    TORN_SIZES,
+    TEMP,
+    CONFLICTS,
+    TORN_CONFLICTS,
+    KEYS,
+    TORN_KEYS,
+    LEFT_OUT,
+    NEWEST,
+    NEWEST_UNIT,
+    NEWEST_HELP,
+    TORN_NEWEST,
+    END,
+];
 
 // A gateway's life, which tests/interop/live.py serves to a Prometheus: two workers count.
 const BEGUN_QUEUE: &str = "queue{otel_scope_name=\"app\",service_name=\"shop\"} 5
@@ -160,13 +173,23 @@ const BEGUN_KEYS: &str = "kotskhin_keys 4
 const BEGUN_NEWEST: &str = "kotskhin_newest_seconds{service_name=\"shop\"} 0.000000200
 ";
 
-const LIFE_BEGUN: Page = Page {
-    families: &[QUEUE, BEGUN_QUEUE, REQUESTS, BEGUN_ROWS, SIZE, BEGUN_SIZES],
-    conflicts: "",
-    keys: BEGUN_KEYS,
-    left_out: "",
-    newest: BEGUN_NEWEST,
-};
+const LIFE_BEGUN: [&str; 15] = [
+    QUEUE,
+    BEGUN_QUEUE,
+    REQUESTS,
+    BEGUN_ROWS,
+    SIZE,
+    BEGUN_SIZES,
+    CONFLICTS,
+    KEYS,
+    BEGUN_KEYS,
+    LEFT_OUT,
+    NEWEST,
+    NEWEST_UNIT,
+    NEWEST_HELP,
+    BEGUN_NEWEST,
+    END,
+];
 
 // A conflict came: two totals of one worker at one time.
 const TWICE_CONFLICTS: &str =
@@ -176,13 +199,23 @@ const TWICE_CONFLICTS: &str =
 const TWICE_NEWEST: &str = "kotskhin_newest_seconds{service_name=\"shop\"} 0.000000300
 ";
 
-const LIFE_TWICE: Page = Page {
-    families: &[QUEUE, BEGUN_QUEUE, REQUESTS, SIZE, BEGUN_SIZES],
-    conflicts: TWICE_CONFLICTS,
-    keys: BEGUN_KEYS,
-    left_out: "",
-    newest: TWICE_NEWEST,
-};
+const LIFE_TWICE: [&str; 15] = [
+    QUEUE,
+    BEGUN_QUEUE,
+    REQUESTS,
+    SIZE,
+    BEGUN_SIZES,
+    CONFLICTS,
+    TWICE_CONFLICTS,
+    KEYS,
+    BEGUN_KEYS,
+    LEFT_OUT,
+    NEWEST,
+    NEWEST_UNIT,
+    NEWEST_HELP,
+    TWICE_NEWEST,
+    END,
+];
 
 // It went: a later total of that worker.
 const LATER_ROWS: &str = "requests_total{otel_scope_name=\"app\",service_name=\"shop\"} 109
@@ -191,13 +224,23 @@ const LATER_ROWS: &str = "requests_total{otel_scope_name=\"app\",service_name=\"
 const LATER_NEWEST: &str = "kotskhin_newest_seconds{service_name=\"shop\"} 0.000000400
 ";
 
-const LIFE_LATER: Page = Page {
-    families: &[QUEUE, BEGUN_QUEUE, REQUESTS, LATER_ROWS, SIZE, BEGUN_SIZES],
-    conflicts: "",
-    keys: BEGUN_KEYS,
-    left_out: "",
-    newest: LATER_NEWEST,
-};
+const LIFE_LATER: [&str; 15] = [
+    QUEUE,
+    BEGUN_QUEUE,
+    REQUESTS,
+    LATER_ROWS,
+    SIZE,
+    BEGUN_SIZES,
+    CONFLICTS,
+    KEYS,
+    BEGUN_KEYS,
+    LEFT_OUT,
+    NEWEST,
+    NEWEST_UNIT,
+    NEWEST_HELP,
+    LATER_NEWEST,
+    END,
+];
 
 // The other worker restarted: it counts from 0 again, in a new incarnation.
 const AGAIN_ROWS: &str = "requests_total{otel_scope_name=\"app\",service_name=\"shop\"} 110
@@ -216,13 +259,23 @@ const AGAIN_KEYS: &str = "kotskhin_keys 6
 const AGAIN_NEWEST: &str = "kotskhin_newest_seconds{service_name=\"shop\"} 0.000000600
 ";
 
-const LIFE_AGAIN: Page = Page {
-    families: &[QUEUE, BEGUN_QUEUE, REQUESTS, AGAIN_ROWS, SIZE, AGAIN_SIZES],
-    conflicts: "",
-    keys: AGAIN_KEYS,
-    left_out: "",
-    newest: AGAIN_NEWEST,
-};
+const LIFE_AGAIN: [&str; 15] = [
+    QUEUE,
+    BEGUN_QUEUE,
+    REQUESTS,
+    AGAIN_ROWS,
+    SIZE,
+    AGAIN_SIZES,
+    CONFLICTS,
+    KEYS,
+    AGAIN_KEYS,
+    LEFT_OUT,
+    NEWEST,
+    NEWEST_UNIT,
+    NEWEST_HELP,
+    AGAIN_NEWEST,
+    END,
+];
 
 // It restarted with another plan: the histogram has one bound more, and the queue is a sum, which replaces the gauge.
 const OTHER_QUEUE: &str = "queue{otel_scope_name=\"app\",service_name=\"shop\"} 3
@@ -247,38 +300,39 @@ const OTHER_LEFT_OUT: &str = "kotskhin_left_out{kind=\"gauge\",name=\"queue\"} 1
 const OTHER_NEWEST: &str = "kotskhin_newest_seconds{service_name=\"shop\"} 0.000000800
 ";
 
-const LIFE_OTHER: Page = Page {
-    families: &[QUEUE, OTHER_QUEUE, REQUESTS, OTHER_ROWS, SIZE, OTHER_SIZES],
-    conflicts: "",
-    keys: OTHER_KEYS,
-    left_out: OTHER_LEFT_OUT,
-    newest: OTHER_NEWEST,
-};
+const LIFE_OTHER: [&str; 16] = [
+    QUEUE,
+    OTHER_QUEUE,
+    REQUESTS,
+    OTHER_ROWS,
+    SIZE,
+    OTHER_SIZES,
+    CONFLICTS,
+    KEYS,
+    OTHER_KEYS,
+    LEFT_OUT,
+    OTHER_LEFT_OUT,
+    NEWEST,
+    NEWEST_UNIT,
+    NEWEST_HELP,
+    OTHER_NEWEST,
+    END,
+];
 
-const LIFE: [Page; 5] = [LIFE_BEGUN, LIFE_TWICE, LIFE_LATER, LIFE_AGAIN, LIFE_OTHER];
+const LIFE: [&[&str]; 5] = [
+    &LIFE_BEGUN,
+    &LIFE_TWICE,
+    &LIFE_LATER,
+    &LIFE_AGAIN,
+    &LIFE_OTHER,
+];
 
-fn push_all(text: &mut String, parts: &[&str]) -> Result<(), NoMemory> {
+fn joined(alloc: Global, parts: &[&str]) -> Result<String, NoMemory> {
+    let mut text = String::new(alloc);
     for part in parts {
         text.push_str(part)?;
     }
-    Ok(())
-}
-
-// The page with the unit of the newest points, and what ends it: OpenMetrics alone has these.
-fn page_of(alloc: Global, page: Page<'_>, unit: &str, end: &str) -> Result<String, NoMemory> {
-    let mut text = String::new(alloc);
-    push_all(&mut text, page.families)?;
-    push_all(&mut text, &[CONFLICTS, page.conflicts, KEYS, page.keys])?;
-    push_all(
-        &mut text,
-        &[LEFT_OUT, page.left_out, NEWEST, unit, NEWEST_HELP],
-    )?;
-    push_all(&mut text, &[page.newest, end])?;
     Ok(text)
-}
-
-fn as_openmetrics(alloc: Global, page: Page<'_>) -> Result<String, NoMemory> {
-    page_of(alloc, page, NEWEST_UNIT, END)
 }
 
 fn text(alloc: Global, bytes: &str) -> Result<Txt, NoMemory> {
@@ -424,12 +478,9 @@ fn the_first_page(rt: HostRuntime) -> Result<(), Fail> {
     count_of(alloc, &mut gateway, shop(1, 100), route, one)?;
     count_of(alloc, &mut gateway, shop(2, 100), route, two)?;
     let page = openmetrics(alloc, &gateway, None)?;
-    assert_eq!(rt; page.as_str(), as_openmetrics(alloc, FIRST)?.as_str());
+    assert_eq!(rt; page.as_str(), joined(alloc, &FIRST)?.as_str());
     let page = prometheus(alloc, &gateway, None)?;
-    assert_eq!(rt;
-        page.as_str(),
-        page_of(alloc, FIRST_AS_TEXT, "", "")?.as_str()
-    );
+    assert_eq!(rt; page.as_str(), joined(alloc, &FIRST_AS_TEXT)?.as_str());
     Ok(())
 }
 
@@ -439,7 +490,7 @@ fn the_page_of_nothing(rt: HostRuntime) -> Result<(), Fail> {
     let mut gateway = Gateway::new(alloc, 1);
     count(alloc, &mut gateway, shop(1, 100), 200, 7)?;
     let page = openmetrics(alloc, &gateway, Some("till"))?;
-    assert_eq!(rt; page.as_str(), as_openmetrics(alloc, NOTHING)?.as_str());
+    assert_eq!(rt; page.as_str(), joined(alloc, &NOTHING)?.as_str());
     Ok(())
 }
 
@@ -488,7 +539,7 @@ fn rows_with_conflicts_are_not_shown(rt: HostRuntime) -> Result<(), Fail> {
     )?;
     hold(alloc, &mut gateway, size("", 100), shape, by_k("v"), one)?;
     let page = openmetrics(alloc, &gateway, None)?;
-    assert_eq!(rt; page.as_str(), as_openmetrics(alloc, TORN)?.as_str());
+    assert_eq!(rt; page.as_str(), joined(alloc, &TORN)?.as_str());
     Ok(())
 }
 
@@ -564,10 +615,10 @@ fn live(alloc: Global, gateway: &mut Gateway, step: usize) -> Result<(), NoMemor
 fn a_life_resets_nothing(rt: HostRuntime) -> Result<(), Fail> {
     let alloc = rt.alloc();
     let mut gateway = Gateway::new(alloc, 1);
-    for (step, expected) in LIFE.iter().enumerate() {
+    for (step, parts) in LIFE.iter().enumerate() {
         live(alloc, &mut gateway, step)?;
         let page = openmetrics(alloc, &gateway, None)?;
-        assert_eq!(rt; page.as_str(), as_openmetrics(alloc, *expected)?.as_str());
+        assert_eq!(rt; page.as_str(), joined(alloc, parts)?.as_str());
     }
     Ok(())
 }

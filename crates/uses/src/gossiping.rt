@@ -1,5 +1,5 @@
 //! Gateways that tell each other what they hold.
-ghost use Rattle.std.specs.Prelude.{◌≡◌, true, IfOk, OnOk};
+ghost use Rattle.std.specs.Prelude.{◌≡◌, true, IfOk, IfSome, OnOk};
 ghost use Rattle.std.specs.FinMap as finite;
 ghost use Rattle.gossip_kit.specs.Gossip.{acknowledged};
 ghost use Rattle.point_kit.specs.Exports.{join_points};
@@ -7,10 +7,22 @@ ghost use Rattle.point_kit.specs.Join.{IsAtOrBelow};
 
 use gossip_kit::{Body, Message, Node};
 
+// Hands the answer to a message back, where there is one. It carries no points.
+#[tactic(auto, using(crate::proofs::Gossiped::kept_all))]
+fn hear_back(node: &mut Node, answer: Option<Message>) -> anyhow::Result<()>
+    requires { IfSome answer (λ m. m.points ≡ finite.empty) }
+    ensures { node.new.gateway.points ≡ node.old.gateway.points }
+{
+    if let Some(answer) = answer {
+        node.hand(&answer)?;
+    }
+    Ok(())
+}
+
 /// Tells `to` what `from` holds, and hands the answer back. `to` then holds what both held, and `from` what it did.
 ///
 /// The message carries only what changed since `to` last acknowledged, which `to` must still hold.
-#[tactic(auto, using(crate::proofs::Gossiped::told_all, crate::proofs::Gossiped::answer_empty, crate::proofs::Gossiped::kept_all, crate::proofs::Gossiped::same_acked))]
+#[tactic(auto, using(crate::proofs::Gossiped::told_all, crate::proofs::Gossiped::answer_empty, crate::proofs::Gossiped::same_acked))]
 pub fn tell(from: &mut Node, to: &mut Node) -> anyhow::Result<()>
     requires { IsAtOrBelow join_points (acknowledged from.old to.old.gateway.id) to.old.gateway.points }
     ensures told { OnOk result (to.new.gateway.points ≡ join_points to.old.gateway.points from.old.gateway.points) }
@@ -18,10 +30,8 @@ pub fn tell(from: &mut Node, to: &mut Node) -> anyhow::Result<()>
     ensures acked { OnOk result (to.new.acked ≡ to.old.acked) }
 {
     let message: Message = from.send(to.gateway().id())?;
-    if let Some(answer) = to.hand(&message)? {
-        from.hand(&answer)?;
-    }
-    Ok(())
+    let answer = to.hand(&message)?;
+    hear_back(from, answer)
 }
 
 /// Whether two gateways that nobody has acknowledged anything to hold the same once each told the other: they always do.

@@ -1,17 +1,14 @@
-use Rattle.std.proofs.Common.{◌∙◌, ap, sym}
-use Rattle.gossip_kit.specs.Views.{NodeModel}
-use Rattle.uses.proofs.Gossiped.{answer_empty, kept_all}
+use Rattle.std.proofs.Common.{◌∙◌, Result, Ok, Err, OnOk, ap}
+use Rattle.gateway_kit.specs.GatewayState.{GatewayState}
+use Rattle.uses.proofs.Gossiped.{told_all}
 use Rattle.uses.proofs.gossiping.tell.Goals as goal
-use Rattle.uses.proofs.gossiping.tell.Goals.{in-Some+in_ok-hand+in-Whole-1, in-Some+in_ok-hand+in-Delta-1, in-Some+in_ok-hand+in-Ack-1, in_default}
 
-pub returns-clause-kept : goal.returns-clause-kept
-returns-clause-kept c =
-    let to = c.args.to.now in
-    let message = c.in_ok-message.message in
-    let answered = c.in_ok-answer.ensures.answer in
-    elim c.match-branch-3.branch [
-      | in-Some+in_ok-hand+in-Whole-1 w ↦ ap (λ (n : NodeModel). n.gateway.points) w.from-is ∙ kept_all _ _ _ w.in_ok-hand.ensures.value (answer_empty to message _ (sym w.in-Some.is ∙ answered))
-      | in-Some+in_ok-hand+in-Delta-1 w ↦ ap (λ (n : NodeModel). n.gateway.points) w.from-is ∙ kept_all _ _ _ w.in_ok-hand.ensures.value (answer_empty to message _ (sym w.in-Some.is ∙ answered))
-      | in-Some+in_ok-hand+in-Ack-1 w ↦ ap (λ (n : NodeModel). n.gateway.points) w.from-is ∙ kept_all _ _ _ w.in_ok-hand.ensures.value (answer_empty to message _ (sym w.in-Some.is ∙ answered))
-      | in_default w ↦ ap (λ (n : NodeModel). n.gateway.points) w.from-is
-    ]
+always : {R F P : Type 0} (r : Result R F) → P → OnOk r P
+always (Ok x) p = p
+always (Err e) p = tt
+
+pub returns-clause-told : goal.returns-clause-told
+returns-clause-told c =
+    always c.hear_back.result
+    (told_all c.args.from.now c.args.to.now c.in_ok-message.message c.id.result c.hand.new.self.gateway.points c.in_ok-answer.ensures.value
+    c.in_ok-message.ensures.carries c.in_ok-message.ensures.brings (c.id.ensures.value ∙ ap (λ (g : GatewayState). g.id) c.gateway.ensures.value) c.requires)

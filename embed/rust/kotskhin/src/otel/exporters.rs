@@ -355,7 +355,11 @@ impl PushExporter for FirstOf {
     }
 
     fn shutdown(&mut self) -> Result<(), ExportError> {
-        let ended = self.exporters.iter_mut().map(|it| it.shutdown());
-        ended.fold(Ok(()), |before, now| before.and(now))
+        // (each is ended, also behind one that fails)
+        let mut ended = Ok(());
+        for exporter in &mut self.exporters {
+            ended = ended.and(exporter.shutdown());
+        }
+        ended
     }
 }
