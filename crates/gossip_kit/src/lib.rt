@@ -9,9 +9,8 @@
 //! A caller, from `crates/uses/src/gossiping.rt`:
 //!
 //!     let message: Message = from.send(to.gateway().id())?;
-//!     if let Some(answer) = to.hand(&message)? {
-//!         from.hand(&answer)?;
-//!     }
+//!     let answer = to.hand(&message)?;
+//!     hear_back(from, answer)
 //!
 //! What a message carries is held by its sender. Joined into anything that has what the receiver acknowledged, it brings that to or
 //! above the sender's state. So a message may be lost, doubled, or come late: handing it again changes nothing, and until an Ack is
