@@ -1,6 +1,5 @@
 pub mod Bounded
 pub mod Counting
-pub mod Covered
 pub mod Drafting
 pub mod Entries
 pub mod ExportEntries
