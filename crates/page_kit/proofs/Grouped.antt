@@ -4,7 +4,7 @@ use Rattle.std.specs.BTreeMap.{insert_entry, is_at}
 use Rattle.std.specs.Cmp.{IsTotalOrder}
 use Rattle.std.specs.List.{flat_map}
 use Rattle.std.specs.List.Sorted.{IsStrictlySortedBy}
-use Rattle.std.specs.Map.{keys_of, lookup, set_value}
+use Rattle.std.specs.Map.{keys_of, lookup}
 use Rattle.std.specs.Ordering.{is_eq, match_ordering}
 use Rattle.std.specs.declared.cmp.Ordering.{Ordering}
 use Rattle.std.specs.declared.cmp.Ordering.TheVariants.{Less, Equal, Greater}
@@ -23,8 +23,8 @@ module _ {K X A : Type 0} {R : K → K → Ordering} (o : IsTotalOrder R) (f : X
   -- a value put behind those that a look-up found
   found_at : (r : Ordering) (k : K) (a : A) (v w : X) (e : K × X) (es : List (K × X)) → (is_none : r ≡ Less → lookup (is_at (R k)) (e ∷ es) ≡ None) → R k e.0 ≡ r
       → cond (is_eq r) (Some e.1) (lookup (is_at (R k)) es) ≡ Some v → f w ≡ f v ++ a ∷ []
-      → (lookup (is_at (R k)) es ≡ Some v → shown (set_value (is_at (R k)) es w) ≡ put R (shown es) (k, a))
-      → shown (cond (is_eq r) ((e.0, w) ∷ es) (e ∷ set_value (is_at (R k)) es w)) ≡ match_ordering r ((k, a ∷ []) ∷ shown (e ∷ es)) ((e.0, f e.1 ++ a ∷ []) ∷ shown es) ((e.0, f e.1) ∷ put R (shown es) (k, a))
+      → (lookup (is_at (R k)) es ≡ Some v → shown (insert_entry R es k w) ≡ put R (shown es) (k, a))
+      → shown (match_ordering r ((k, w) ∷ e ∷ es) ((e.0, w) ∷ es) (e ∷ insert_entry R es k w)) ≡ match_ordering r ((k, a ∷ []) ∷ shown (e ∷ es)) ((e.0, f e.1 ++ a ∷ []) ∷ shown es) ((e.0, f e.1) ∷ put R (shown es) (k, a))
   found_at Less k a v w e es none is found more rest =
       let here : lookup (is_at (R k)) (e ∷ es) ≡ Some v = ap (λ r. cond (is_eq r) (Some e.1) (lookup (is_at (R k)) es)) is ∙ found in
       let not_here = none refl in
@@ -35,7 +35,7 @@ module _ {K X A : Type 0} {R : K → K → Ordering} (o : IsTotalOrder R) (f : X
   found_at Greater k a v w e es none is found more rest = ap (λ l. (e.0, f e.1) ∷ l) (rest found)
 
   pub put_found : (k : K) (a : A) (v w : X) (es : List (K × X)) → IsStrictlySortedBy R (keys_of es) → lookup (is_at (R k)) es ≡ Some v → f w ≡ f v ++ a ∷ []
-      → shown (set_value (is_at (R k)) es w) ≡ put R (shown es) (k, a)
+      → shown (insert_entry R es k w) ≡ put R (shown es) (k, a)
   put_found k a v w [] up found more = cc
   put_found k a v w (e ∷ es) up found more =
       found_at (R k e.0) k a v w e es (λ less. lookup-none (is_at (R k)) (e ∷ es) (none_below_head o k e es up less)) refl found more

@@ -7,6 +7,7 @@ ghost use Rattle.page_kit.specs.Views.{lists};
 use attr_kit::NoMemory;
 use std::alloc::Global;
 use std::collections::BTreeMap;
+use std::collections::btree_map::Entry;
 
 /// Puts a value behind the others of its key.
 pub(crate) fn put<K: Ord + Drop, T: Drop>(
@@ -18,13 +19,14 @@ pub(crate) fn put<K: Ord + Drop, T: Drop>(
     ensures { OnOk result (lists groups.new.entries
         ≡ put K.cmp (lists groups.old.entries) (key, value)) }
 {
-    if let Some(values) = groups.get_mut(&key) {
-        values.push(value)?;
-        return Ok(());
+    match groups.entry(key)? {
+        Entry::Occupied(entry) => entry.into_mut().push(value)?,
+        Entry::Vacant(entry) => {
+            let mut values = Vec::with_capacity(alloc, 1)?;
+            values.push(value)?;
+            entry.insert(values);
+        }
     }
-    let mut values = Vec::with_capacity(alloc, 1)?;
-    values.push(value)?;
-    groups.insert(key, values)?;
     Ok(())
 }
 
