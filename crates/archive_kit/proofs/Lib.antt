@@ -3,10 +3,12 @@ pub mod Counting
 pub mod Exact
 pub mod Headline
 pub mod Hiding
+pub mod Kept
 pub mod Lists
 pub mod Once
 pub mod Payloads
 pub mod Rest
 pub mod Showing
+pub mod Steps
 pub mod Stories
 pub mod Tombstones

@@ -1,18 +1,36 @@
-//! Archives: writers that adopt ended incarnations of others, so that what a state shows can leave these out. Definitions and
-//! laws alone: no code yet.
+//! Archives: writers that adopt ended incarnations of others, so that what a state shows can leave these out.
 //!
-//! - A state shows its points but for those that a tombstone names. What is shown joins as states do ([`shown_states_join`],
-//!   [`hidden_points_may_be_skipped`], [`deltas_bring`], [`shown_states_are_ordered`], [`same_exports_show_the_same`]).
-//! - Roll-ups of what is shown count each adopted incarnation once ([`roll_ups_count_adopted_once`], [`adopted_are_recorded`],
-//!   [`archives_change_no_total`], [`archivists_adopt_once`]).
-//! - Tombstones name no tombstone ([`tombstones_name_no_tombstone`]), and payloads added up stay sound ([`sums_are_sound`]).
+//! - An [`Archive`] adopts an incarnation that a gateway holds (`adopt`): it adds the sums and histograms to its own, or says in an
+//!   [`AdoptFault`] why not. Its exports (`export`) have these totals and a tombstone for each incarnation that it adopted, or an
+//!   [`ExportRefusal`] comes. Under a later start it begins anew (`seal`).
+//! - A state shows its points but for those that a tombstone names. Laws say that what is shown joins as states do
+//!   ([`shown_states_join`], [`deltas_bring`], [`same_exports_show_the_same`]), and that roll-ups of it count each adopted
+//!   incarnation once ([`roll_ups_count_adopted_once`], [`archives_change_no_total`]).
 //!
-//! What contracts cite stands in `specs/`: `Showing` and `Stories` (what is shown), `Tombstones`, `Adopting` and `Archived` (what
-//! counts) and `Adding` (payloads added up).
+//! A caller (`crates/archive_kit/src/tests.rt`):
+//!
+//!     archive.adopt(&gateway, &writer(alloc, "shop", 1)?, 100)?;
+//!     let made = archive.export(2000)?;
+//!
+//! What contracts cite stands in `specs/`: `Archive` (what contracts see of one, its refusals and exports), `Totals` and `Adding`
+//! (what is added up), `Tombstones`, `Showing` and `Stories` (what is shown), `Adopting` and `Archived` (what counts).
 #![tactic(auto)]
 
+mod adding;
+mod adopt_fault;
+mod archive;
+mod early;
+mod export_refusal;
+mod held;
 mod laws;
+#[cfg(test)]
+mod tests;
+mod tombstone;
+mod totals;
 
+pub use adopt_fault::AdoptFault;
+pub use archive::Archive;
+pub use export_refusal::ExportRefusal;
 pub use laws::{
     adopted_are_recorded, archives_change_no_total, archivists_adopt_once, deltas_bring,
     hidden_points_may_be_skipped, roll_ups_count_adopted_once, same_exports_show_the_same,

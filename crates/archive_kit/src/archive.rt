@@ -1,0 +1,250 @@
+//! An archive: a writer whose points are those of incarnations that it adopted, added up.
+ghost use Rattle.std.specs.Prelude.{◌≡◌, ◌≢◌, ◌<◌, ◌≤◌, ◌-◌, IfOk, IfErr, OnOk, OnErr, None, Some, length, false};
+ghost use Rattle.attr_kit.specs.Refusing.{first};
+ghost use Rattle.gateway_kit.specs.Queries.{incarnation_points, part_points};
+ghost use Rattle.archive_kit.specs.Archive.{adopt_fault, adopted, begun_anew, early_faults, exported_points, fresh, is_of_archive, late_faults, points_held, time_of, tombstone_of, was_adopted};
+ghost use Rattle.archive_kit.specs.Tombstones.{is_tombstone};
+ghost use Rattle.std.specs.List.{list_any};
+ghost use Rattle.archive_kit.specs.Totals.{add_totals};
+
+use crate::early::{Early, first_fault};
+use crate::held::{has_conflict, has_other_time, has_stream, last_export, time_of};
+use crate::tombstone::{tombstone_of, tombstones};
+use crate::totals::{add_totals, has_key, push};
+use crate::{AdoptFault, ExportRefusal};
+use attr_kit::{NoMemory, Seq, copy_all};
+use gateway_kit::{Gateway, PartItem};
+use point_kit::{Export, ExportPoint, SharedStream, WriterId};
+use std::alloc::Global;
+use std::marker::Model;
+
+/// The greatest number that a tombstone tells.
+const LAST_TOLD: u64 = 9223372036854775807;
+
+/// A writer that adopts ended incarnations of its service: it adds their last points into its own, and its exports have beside
+/// these a tombstone for each. A gateway that holds such an export need not show the points of what it names.
+///
+/// Sums and histograms are adopted, and gauges are not: nobody's gauge is its last value once others go on, so those of an
+/// adopted incarnation are no longer shown.
+#[derive(Debug, Drop)]
+pub struct Archive {
+    writer: WriterId,
+    stream: SharedStream,
+    start: u64,
+    exported: u64,
+    limit: usize,
+    totals: Vec<ExportPoint>,
+    tombstones: Vec<ExportPoint>,
+    sealed: usize,
+}
+
+impl Model for Archive {
+    ghost use Rattle.archive_kit.specs.Archive.{ArchiveState, AreKept};
+
+    ghost Value = { ArchiveState };
+
+    ghost view = { λ a. record { writer = a.writer; start = a.start; exported = a.exported; limit = a.limit; totals = a.totals.items; tombstones = a.tombstones.items; sealed = a.sealed } };
+
+    ghost invariant = { λ a. AreKept a.stream a.start a.exported a.totals.items a.tombstones.items a.sealed };
+}
+
+impl Archive {
+    /// An archive that adopted nothing, of an identity and a start that no other writer has, archives among them. It has at most
+    /// so many totals.
+    pub fn begin(
+        alloc: Global,
+        writer: WriterId,
+        start: u64,
+        limit: usize,
+    ) -> Result<Archive, NoMemory>
+        ensures value { IfOk result (λ archive. archive ≡ fresh writer start limit) }
+    {
+        Ok(Archive {
+            writer,
+            stream: tombstones(alloc)?,
+            start,
+            exported: start,
+            limit,
+            totals: Vec::new(alloc),
+            tombstones: Vec::new(alloc),
+            sealed: 0,
+        })
+    }
+
+    pub fn writer(&self) -> &WriterId
+        ensures value { result.now ≡ self.now.writer }
+    {
+        &self.writer
+    }
+
+    /// When this incarnation of it began, in nanoseconds since the Unix epoch.
+    pub fn start(&self) -> u64
+        ensures value { result ≡ self.now.start }
+    {
+        self.start
+    }
+
+    /// How many incarnations this incarnation of it adopted: what an export has tombstones of.
+    pub fn adopted_len(&self) -> usize
+        ensures value { result ≡ length self.now.tombstones - self.now.sealed }
+    {
+        self.tombstones.len() - self.sealed
+    }
+
+    // Whether an incarnation is an archive's.
+    fn is_of_archive(&self, writer: &WriterId, start: u64, items: &[PartItem]) -> bool
+        ensures { result ≡ is_of_archive self.now writer.now (part_points writer.now start items.now) }
+    {
+        self.writer == *writer || has_stream(items, &self.stream)
+    }
+
+    // The first refusal that needs no copies.
+    fn early_fault(
+        &self,
+        writer: &WriterId,
+        start: u64,
+        items: &[PartItem],
+        tombstone: &ExportPoint,
+    ) -> Option<AdoptFault>
+        requires { (time : _) × (tombstone.now ≡ tombstone_of writer.now start time) }
+        ensures { result ≡ first (early_faults self.now writer.now start (part_points writer.now start items.now)) }
+    {
+        first_fault(Early {
+            other_service: self.writer.service != writer.service,
+            of_archive: self.is_of_archive(writer, start, items),
+            adopted: has_key(self.tombstones.as_slice(), tombstone),
+            nothing: items.is_empty(),
+            conflict: has_conflict(items),
+            torn: has_other_time(items, time_of(items)),
+        })
+    }
+
+    // The totals with what is held of an incarnation.
+    fn totals_with(
+        &self,
+        writer: &WriterId,
+        start: u64,
+        items: &[PartItem],
+    ) -> Result<Vec<ExportPoint>, AdoptFault>
+        ensures ok { OnOk result (first (late_faults self.now writer.now start (part_points writer.now start items.now)) ≡ None) }
+        ensures value { IfOk result (λ totals. totals.items ≡ add_totals self.now.totals (points_held (part_points writer.now start items.now))) }
+        ensures err { IfErr result (λ f. f ≢ AdoptFault.NoMemory → first (late_faults self.now writer.now start (part_points writer.now start items.now)) ≡ Some f) }
+    {
+        let alloc = *self.totals.allocator();
+        let export = last_export(alloc, items, writer, start)?;
+        if start >= LAST_TOLD || export.time() >= LAST_TOLD {
+            return Err(AdoptFault::OutOfRange);
+        }
+        let mut totals = copy_all(&self.totals)?;
+        if !add_totals(alloc, &mut totals, export.points())? {
+            return Err(AdoptFault::OutOfRange);
+        }
+        if totals.len() > self.limit {
+            return Err(AdoptFault::SetLimit);
+        }
+        Ok(totals)
+    }
+
+    // Adds what is held of an incarnation to the totals, and notes its tombstone.
+    fn add(
+        &mut self,
+        writer: &WriterId,
+        start: u64,
+        items: &[PartItem],
+        tombstone: ExportPoint,
+    ) -> Result<(), AdoptFault>
+        requires tombstone { tombstone ≡ tombstone_of writer.now start (time_of (part_points writer.now start items.now)) }
+        requires plain { list_any (λ e. is_tombstone e.0) (part_points writer.now start items.now) ≡ false }
+        requires fresh { was_adopted self.old writer.now start ≡ false }
+        ensures ok { OnOk result (first (late_faults self.old writer.now start (part_points writer.now start items.now)) ≡ None) }
+        ensures value { OnOk result (self.new ≡ adopted self.old writer.now start (part_points writer.now start items.now)) }
+        ensures err { IfErr result (λ f. f ≢ AdoptFault.NoMemory → first (late_faults self.old writer.now start (part_points writer.now start items.now)) ≡ Some f) }
+        ensures unchanged { OnErr result (self.new ≡ self.old) }
+    {
+        match self.totals_with(writer, start, items) {
+            Ok(totals) => {
+                push(&mut self.tombstones, tombstone)?;
+                self.totals = totals;
+                Ok(())
+            }
+            Err(fault) => Err(fault),
+        }
+    }
+
+    /// Adopts an incarnation of a writer: adds the sums and histograms that a gateway holds of it to the archive's own, by stream
+    /// and attributes, and notes its tombstone.
+    ///
+    /// It is for incarnations that have ended: what one exports later is not counted. Refused as [`AdoptFault`] says, each where
+    /// none before it fits. `NoMemory` comes where a growth was refused; whether another fits is then open. O(n + k) copies and
+    /// O(n k + t) comparisons of hashes, of the archive's n totals and t tombstones and of k points.
+    pub fn adopt(
+        &mut self,
+        gateway: &Gateway,
+        writer: &WriterId,
+        start: u64,
+    ) -> Result<(), AdoptFault>
+        ensures ok { OnOk result (adopt_fault self.old writer.now start (incarnation_points writer.now start gateway.now.points) ≡ None) }
+        ensures value { OnOk result (self.new ≡ adopted self.old writer.now start (incarnation_points writer.now start gateway.now.points)) }
+        ensures err { IfErr result (λ f. f ≢ AdoptFault.NoMemory → adopt_fault self.old writer.now start (incarnation_points writer.now start gateway.now.points) ≡ Some f) }
+        ensures unchanged { OnErr result (self.new ≡ self.old) }
+    {
+        let items = gateway.part(writer, start);
+        let alloc = *self.totals.allocator();
+        let tombstone = tombstone_of(alloc, &self.stream, writer, start, time_of(items))?;
+        match self.early_fault(writer, start, items, &tombstone) {
+            Some(fault) => Err(fault),
+            None => self.add(writer, start, items, tombstone),
+        }
+    }
+
+    // The export of a time.
+    fn collect(&self, time: u64) -> Result<Export, NoMemory>
+        requires { self.now.start < time }
+        ensures writer { IfOk result (λ e. e.writer ≡ self.now.writer) }
+        ensures start { IfOk result (λ e. e.start ≡ self.now.start) }
+        ensures taken_at { IfOk result (λ e. e.time ≡ time) }
+        ensures points { IfOk result (λ e. e.points ≡ exported_points self.now) }
+    {
+        let mut points = copy_all(&self.totals)?;
+        for tombstone in &self.tombstones.as_slice()[self.sealed..] {
+            points.push(tombstone.try_copy()?)?;
+        }
+        let writer = self.writer.try_copy()?;
+        Ok(Export::from_sound(writer, self.start, time, Seq::from_vec(points)))
+    }
+
+    /// The points of this incarnation: all totals, and a tombstone for each incarnation that it adopted. All of them in each
+    /// export, so that a lost one costs nothing. The time is to be later than that of the export before.
+    ///
+    /// Refused, in this order: [`ExportRefusal::TimeNotLater`]; [`ExportRefusal::NoMemory`], where a growth was refused.
+    pub fn export(&mut self, time: u64) -> Result<Export, ExportRefusal>
+        ensures writer { IfOk result (λ e. e.writer ≡ self.old.writer) }
+        ensures start { IfOk result (λ e. e.start ≡ self.old.start) }
+        ensures taken_at { IfOk result (λ e. e.time ≡ time) }
+        ensures points { IfOk result (λ e. e.points ≡ exported_points self.old) }
+        ensures ok { OnOk result ((self.old.exported < time) × (self.new ≡ record self.old { exported = time })) }
+        ensures err { IfErr result (λ f. f ≢ ExportRefusal.NoMemory → (f ≡ ExportRefusal.TimeNotLater) × (time ≤ self.old.exported)) }
+        ensures no_memory { IfErr result (λ f. f ≡ ExportRefusal.NoMemory → self.old.exported < time) }
+        ensures unchanged { OnErr result (self.new ≡ self.old) }
+    {
+        if time <= self.exported {
+            return Err(ExportRefusal::TimeNotLater);
+        }
+        let export = self.collect(time)?;
+        self.exported = time;
+        Ok(export)
+    }
+
+    /// Seals this incarnation of the archive and begins it anew under a later start, without totals. What it exported stays as it
+    /// is, wherever it was taken. What it adopted it does not adopt again, so export first: what it adopted since its last export
+    /// no tombstone will ever name. Takes no memory.
+    pub fn seal(&mut self, start: u64)
+        requires { self.old.start < start }
+        ensures value { self.new ≡ begun_anew self.old start }
+    {
+        self.start = start;
+        self.exported = start;
+        self.totals = Vec::new(*self.totals.allocator());
+        self.sealed = self.tombstones.len();
+    }
+}
