@@ -252,8 +252,10 @@ class Run:
         given = {**os.environ, "KOTSKHIN_SO": str(shared)}
         self.run("Python: the first script", sys.executable, "-B", EMBED / "python" / "first.py", prints=WANTED, env=given)
         tests = (("the shared cases", "cases"), ("the shared cases of OpenTelemetry's names", "otel_cases"), ("the kit", "kit"))
-        for what, name in (*tests, ("OpenTelemetry's names", "metrics"), ("the wheel", "package")):
+        for what, name in (*tests, ("OpenTelemetry's names", "metrics")):
             self.run(f"Python: {what}", sys.executable, "-B", HERE / "python" / f"{name}.py", env=given)
+        if there.has("Python: the wheel", "python3-ensurepip"):
+            self.run("Python: the wheel", sys.executable, "-B", HERE / "python" / "package.py", env=given)
         self.broker(given)
 
     def broker(self, given):

@@ -3,6 +3,7 @@ tried each language."""
 import os
 import shutil
 import subprocess
+import sys
 
 
 class Lacking(Exception):
@@ -15,7 +16,9 @@ def left_out():
 
 
 def is_there(name):
-    """Whether a program answers, or pkg-config knows a library."""
+    """Whether a program answers, pkg-config knows a library, or Python has a module, as the gate names it: python3-ensurepip."""
+    if name.startswith("python3-"):
+        return not subprocess.run([sys.executable, "-c", f"import {name[8:]}"], capture_output=True, check=False).returncode
     if name.startswith("lib"):
         return is_there("pkg-config") and not subprocess.run(["pkg-config", "--exists", name], check=False).returncode
     if name == "valgrind" or not shutil.which(name):

@@ -91,7 +91,7 @@ class Package:
         text = (self.folder / "README.md").read_text(encoding="utf-8")
         for turn, (name, commands) in enumerate(re.findall(r"^```sh (\w+)\n(.*?)^```$", text, re.M | re.S)):
             program, wanted = wants[name]
-            if not there.has(name, program, "pkg-config"):
+            if not there.has(name, program, "pkg-config", *(["python3-ensurepip"] if name == "python" else [])):
                 continue
             folder = self.fresh(name if not (self.room / name).exists() else f"{name}{turn}")
             self.ran(f"{name}, by README.md", folder, commands, wanted)
