@@ -1,5 +1,5 @@
 #!/usr/bin/env python3
-"""The kit in other languages: every caller, in each language that the machine has.
+"""The kit in other languages: every caller, in each language.
 
     run.py [FOLDER]      FOLDER is what embed/build made; it is made in a folder of this run where none is given
 
@@ -23,7 +23,10 @@ In C++ and Rust they perform the cases, too (cpp/run.py, and a test of the crate
 these alone; package/run.py uses what embed/package/make packs, in each language by two commands.
 
 The lines that docs/EMBEDDING.md has one type are run twice over one folder, and each wrapper has each call, or it is said why not
-(features.py). What the machine has not is told and passed over.
+(features.py).
+
+A language that this machine lacks is a failure, and so is what else is wanted and not there, unless GATE_WITHOUT names it (there.py):
+GATE_WITHOUT=go,redis-server leaves these out, and says so.
 
 This ends with a status other than 0 where one fails or differs. It leaves nothing in the tree but what lies in out/."""
 import os
@@ -35,9 +38,13 @@ import sys
 import tempfile
 import time
 
+sys.dont_write_bytecode = True
 TOP = pathlib.Path(__file__).resolve().parents[2]
 EMBED = TOP / "embed"
 HERE = TOP / "tests" / "embed"
+sys.path.insert(0, str(HERE))
+import there
+
 ARCHIVE = TOP / "crates" / "kit_c" / "out" / "libkit_c.a"
 WANTED = (TOP / "examples" / "first.out").read_bytes()
 EXPORTED = (HERE / "exporter.out").read_bytes()
@@ -108,11 +115,19 @@ class Run:
         raised = {it for name in ("refusals.c", "formats.c") for it in re.findall(r"== (KIT_\w+)", (HERE / name).read_text(encoding="utf-8"))}
         self.say("C: each code is raised", f"not {sorted(codes - raised)}" if codes - raised else None)
 
+    def lacking(self):
+        """What is not there is a fault, so that no language is left out unseen."""
+        try:
+            there.has("None", "no-such-program")
+        except there.Lacking:
+            self.say("What is not there is a fault", None)
+        else:
+            self.say("What is not there is a fault", "it is passed over")
+
     def c(self):
         self.covered()
         for compiler in ("gcc", "clang"):
-            if not shutil.which(compiler):
-                print(f"C: there is no {compiler}")
+            if not there.has("C", compiler):
                 continue
             self.run(f"C, {compiler}: a kind in the place of another", sys.executable, "-B", HERE / "kinds.py", self.kit / "include", compiler)
             for how, flags in (("", ["-O2"]), (" under sanitizers", ASAN)):
@@ -133,9 +148,8 @@ class Run:
 
     def watched(self):
         """Under valgrind, which sees into the archive where sanitizers do not: every refusal, and threads that read."""
-        compiler = next((it for it in ("gcc", "clang") if shutil.which(it)), None)
-        if not compiler or not shutil.which("valgrind"):
-            print("C: there is no valgrind, or no compiler")
+        compiler = self.compiler()
+        if not there.has("C", "valgrind", compiler):
             return
         program, libraries = self.room / "program", [it for it in self.linked if not it.startswith("-I")]
         for what, source, flags, tool in (
@@ -166,8 +180,7 @@ class Run:
 
     def installed(self, compiler):
         """The same by pkg-config, as a service is built."""
-        if not shutil.which("pkg-config"):
-            print("C: there is no pkg-config")
+        if not there.has("C", "pkg-config"):
             return
         given = {**os.environ, "PKG_CONFIG_PATH": f"{self.kit}/lib/pkgconfig"}
         told = subprocess.run(["pkg-config", "--cflags", "--libs", "kotskhin"], capture_output=True, text=True, env=given, check=False).stdout
@@ -177,8 +190,7 @@ class Run:
 
     def cpp(self):
         for compiler in ("g++", "clang++"):
-            if not shutil.which(compiler):
-                print(f"C++: there is no {compiler}")
+            if not there.has("C++", compiler):
                 continue
             self.run(f"C++, {compiler}: a kind in the place of another", sys.executable, "-B", HERE / "kinds.py", self.kit / "include", compiler)
             for how, flags in (("", ["-O2"]), (" under sanitizers", ASAN)):
@@ -188,8 +200,7 @@ class Run:
             self.run(f"C++: {what}", sys.executable, "-B", HERE / "cpp" / "run.py", self.kit, what)
 
     def rust(self):
-        if not self.works("cargo"):
-            print("Rust: there is no cargo")
+        if not there.has("Rust", "cargo"):
             return
         target = self.room / "rust"
         given = {**os.environ, "KOTSKHIN_LIB": f"{self.kit}/lib", "CARGO_TARGET_DIR": str(target), "RUSTFLAGS": "-D warnings"}
@@ -212,8 +223,7 @@ class Run:
         self.say(f"Rust: refused: {caller.stem}", None if done.returncode and told == [wanted] else f"not {wanted} alone\n{done.stderr}")
 
     def go(self):
-        if not shutil.which("go"):
-            print("Go: there is no go")
+        if not there.has("Go", "go", "pkg-config"):
             return
         given = {"PKG_CONFIG_PATH": f"{self.kit}/lib/pkgconfig", "GOCACHE": f"{self.room}/go", "GOFLAGS": "-mod=mod", "GOPROXY": "off"}
         program = self.room / "program"
@@ -227,9 +237,6 @@ class Run:
     def shared(self):
         """The shared library has its name, and gives the calls of the header and nothing else."""
         shared = self.kit / "shared" / "libkotskhin.so.0"
-        if not shared.is_file():
-            print("There is no shared library, which embed/build makes where there is a compiler")
-            return
         told = subprocess.run(["nm", "-D", "--defined-only", str(shared)], capture_output=True, text=True, check=False).stdout
         header = (self.kit / "include" / "kotskhin.h").read_text(encoding="utf-8")
         wanted = set(re.findall(r"^KIT_(?:CALL|CHECKED) \w+ (kit_\w+)\(", header, re.M))
@@ -241,28 +248,27 @@ class Run:
     def python(self):
         shared = self.kit / "shared" / "libkotskhin.so.0"
         if not shared.is_file():
-            return
+            raise there.Lacking("there is no shared library, which embed/build makes by a compiler of C")
         given = {**os.environ, "KOTSKHIN_SO": str(shared)}
         self.run("Python: the first script", sys.executable, "-B", EMBED / "python" / "first.py", prints=WANTED, env=given)
         tests = (("the shared cases", "cases"), ("the shared cases of OpenTelemetry's names", "otel_cases"), ("the kit", "kit"))
-        for what, name in (*tests, ("OpenTelemetry's names", "metrics"), ("the wheel", "package")):
+        for what, name in (*tests, ("OpenTelemetry's names", "metrics")):
             self.run(f"Python: {what}", sys.executable, "-B", HERE / "python" / f"{name}.py", env=given)
+        if there.has("Python: the wheel", "python3-ensurepip"):
+            self.run("Python: the wheel", sys.executable, "-B", HERE / "python" / "package.py", env=given)
         self.broker(given)
 
     def broker(self, given):
         """Workers and gateways, each a process, over a broker: it compares what the gateways say with what the workers counted."""
-        if not shutil.which("redis-server"):
-            print("Broker: there is no redis-server")
+        if not there.has("Broker", "redis-server"):
             return
         wanted = (BROKER / "broker.out").read_bytes()
         self.run("Broker: workers and gateways", sys.executable, "-B", BROKER / "run.py", prints=wanted, env=given)
 
     def pipe(self):
         """A writer in C, a pipe, and a gateway in Rust, whose total is what the writer counted."""
-        compiler = next((it for it in ("cc", "gcc", "clang") if shutil.which(it)), None)
-        gateway = self.room / "rust" / "debug" / "examples" / "pipe"
-        if not compiler or not gateway.is_file():
-            print("Pipe: there is no compiler of C, or none of Rust")
+        compiler, gateway = self.compiler(), self.room / "rust" / "debug" / "examples" / "pipe"
+        if not there.has("Pipe", compiler, "cargo"):
             return
         writer, libraries = self.room / "writer", self.linked[1:]
         if not self.run("Pipe: the writer compiled", compiler, *C, "-O2", self.linked[0], PIPE / "writer.c", *libraries, "-o", writer):
@@ -289,21 +295,18 @@ class Run:
         shutil.copytree(self.kit, folder, symlinks=True)
         page = (TOP / "docs" / "EMBEDDING.md").read_text(encoding="utf-8")
         lines = re.search(r"^```sh\nK=.*?\n(.*?)^```$", page, re.M | re.S)[1].splitlines()
-        wanted = [it for it in lines if all(map(self.works, re.findall(r"\b(cc|c\+\+|pkg-config|cargo|go|python3)(?= )", it)))]
-        for it in set(lines) - set(wanted):
-            print(f"Docs: this machine has not what this wants: {it}")
+        wants = re.compile(r"\b(cc|c\+\+|pkg-config|cargo|go|python3)(?= )")
+        wanted = [it for it in lines if there.has("Docs", *wants.findall(it))]
         given = {**os.environ, "K": str(folder), "PYTHONDONTWRITEBYTECODE": "1"}
         given |= {"CARGO_NET_OFFLINE": "true", "GOCACHE": f"{self.room}/go", "GOPROXY": "off"}
         for turn in ("once", "twice"):
             many = len([it for it in wanted if "first" in it])
             self.run(f"Docs: the first scripts, {turn}", "sh", "-ec", "\n".join(wanted), prints=WANTED * many, cwd=TOP, env=given)
 
-    def works(self, command):
-        """Whether a command is there and answers."""
-        asked = "version" if command == "go" else "--version"
-        if not shutil.which(command):
-            return False
-        return not subprocess.run([command, asked], capture_output=True, stdin=subprocess.DEVNULL, check=False).returncode
+    @staticmethod
+    def compiler():
+        """A compiler of C that is not left out."""
+        return next((it for it in ("gcc", "clang") if it not in there.left_out()), "gcc")
 
 
 def laid_out(kit):
@@ -323,8 +326,12 @@ def main():
         if len(sys.argv) < 2 and not laid_out(kit):
             return 1
         run = Run(kit, room)
-        for language in (run.c, run.watched, run.cpp, run.rust, run.pipe, run.go, run.shared, run.python, run.package, run.documented):
-            language()
+        in_c, others = (run.c, run.watched, run.shared), (run.cpp, run.rust, run.pipe, run.go, run.python)
+        for tried in (run.lacking, *in_c, *others, run.package, run.documented):
+            try:
+                tried()
+            except there.Lacking as fault:
+                run.say(tried.__name__, str(fault))
     print(f"{run.passed} passed, {run.failed} failed, in {time.time() - began:.0f} s")
     return 1 if run.failed else 0
 

@@ -1,6 +1,7 @@
 """Bad input: random and changed bodies to each path, cut bodies, slow senders, wrong tokens. Nothing is taken, and nothing grows."""
 import gzip
 import random
+import signal
 import socket
 import threading
 import time
@@ -186,6 +187,33 @@ def tokens(program, room, count):
         it.unchanged()
 
 
+def changed_tokens(program, room, count):
+    """Tokens are read again on SIGHUP, and once the file changes; a bad file is told, and changes nothing."""
+    with Trial(program, room) as it:
+        good, later = seeds_of(it.identity)["/v1/exports"], "later-0123456789abcdef"
+
+        def put(words):
+            beside = it.tokens.with_name("tokens.new")
+            beside.write_text(words)
+            beside.replace(it.tokens)
+
+        def are(known, unknown):
+            return [it.post("/v1/exports", good, token)[0] for token in (known, unknown)] == [200, 401]
+
+        put(TOKENS.replace(WRITES, later))
+        it.gateway.signal(signal.SIGHUP)
+        until(lambda: are(later, WRITES), "a signal has no token read again")
+        put("short write shop\n")
+        it.gateway.signal(signal.SIGHUP)
+        until(lambda: "the tokens were not read again" in it.gateway.tail(), "a bad file is not told")
+        if not are(later, WRITES):
+            raise Fault("a bad file changes tokens")
+        put(TOKENS)
+        until(lambda: are(WRITES, later), "a change is not seen")
+        if page_of(it.gateway) != it.page:
+            raise Fault("something else was taken")
+
+
 def opened(head=b""):
     made = socket.create_connection((ADDRESS, PORT), timeout=ANSWER)
     made.sendall(head)
@@ -269,7 +297,8 @@ def trials(program, room, count):
     return [
         (what, lambda call=call: call(program, room, count))
         for what, call in (
-            (f"{count} bodies to each path", bodies), (f"{count} queries", queries), ("wrong tokens", tokens), ("bodies that are cut", cut),
+            (f"{count} bodies to each path", bodies), (f"{count} queries", queries), ("wrong tokens", tokens),
+            ("tokens that change", changed_tokens), ("bodies that are cut", cut),
             ("slow senders", slow), ("too many connections", connections),
         )
     ]

@@ -81,7 +81,8 @@ public:
     std::vector<std::string> services() const {
         std::vector<std::string> all;
         try {
-            for (;;) all.push_back(detail::text([&](auto... room) { return kit_gateway_service(handle.lent().at(), all.size(), room...); }));
+            for (;;)
+                all.push_back(detail::text([&](auto... room) { return kit_gateway_service(handle.lent().at(), all.size(), room...); }));
         } catch (const NoItem &) {
             return all;
         }

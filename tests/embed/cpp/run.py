@@ -5,19 +5,25 @@
 
 cases and otel_cases perform the lists that all languages share. kit is what C++ has words of its own for, otel OpenTelemetry's names, readers the periodic
 readers and exporters, with libcurl where it is. Each is compiled by g++ under AddressSanitizer and UBSan, and by clang++ plainly; those
-with threads of their own are run under ThreadSanitizer, too. page is the first program of docs/CPP.md, which prints what that page says.
+with threads of their own are run under ThreadSanitizer, too. page is the programs of docs/CPP.md: the first one prints what that page says,
+the second one, with libcurl, pushes to the first of several places that takes what it has.
 
-Headers come from FOLDER/include. It ends with a status other than 0 where one fails."""
+Headers come from FOLDER/include. It ends with a status other than 0 where one fails, or where something is not there that GATE_WITHOUT
+does not name."""
 import os
 import pathlib
 import re
-import shutil
 import subprocess
 import sys
 import tempfile
 
+sys.dont_write_bytecode = True
 HERE = pathlib.Path(__file__).resolve().parent
 TOP = HERE.parents[2]
+sys.path.insert(0, str(HERE.parent))
+import posted
+import there
+
 FLAGS = ["-std=c++17", "-Wall", "-Wextra", "-Wpedantic", "-Werror", "-g", "-O1"]
 ASAN = ["-O0", "-fsanitize=address,undefined", "-fno-sanitize-recover=all", "-fno-omit-frame-pointer"]
 TSAN = ["-fsanitize=thread"]
@@ -38,29 +44,44 @@ def done(*command):
 
 def curl():
     """The flags of libcurl, where it is."""
-    if not shutil.which("pkg-config") or subprocess.run(["pkg-config", "--exists", "libcurl"], check=False).returncode:
+    if not there.has("C++", "pkg-config", "libcurl"):
         return []
     told = subprocess.run(["pkg-config", "--cflags", "--libs", "libcurl"], capture_output=True, text=True, check=True).stdout
     return ["-DWITH_CURL", *told.split()]
 
 
+def built(kit, room, compiler, source, flags):
+    """A program, compiled over the kit."""
+    program = room / "program"
+    more = curl() if source.stem in ("readers", "first_of") else []
+    done(compiler, *FLAGS, *flags, f"-I{kit}/include", source, f"-L{kit}/lib", "-lkotskhin", "-pthread", *more, "-o", program)
+    return program
+
+
 def ran(kit, room, compiler, source, flags, words=()):
     """What a program prints that is compiled over the kit."""
-    program = room / "program"
-    more = curl() if source.stem == "readers" else []
-    done(compiler, *FLAGS, *flags, f"-I{kit}/include", source, f"-L{kit}/lib", "-lkotskhin", "-pthread", *more, "-o", program)
-    return done(program, *words)
+    return done(built(kit, room, compiler, source, flags), *words)
 
 
 def page(kit, room, compiler):
-    """The first program of docs/CPP.md, and what it prints."""
+    """The programs of docs/CPP.md, and what the first one prints."""
     text = (TOP / "docs" / "CPP.md").read_text(encoding="utf-8")
-    program, printed = (re.search(rf"^```{kind}\n(.*?)^```$", text, re.M | re.S)[1] for kind in ("cpp", "text"))
-    (room / "page.cpp").write_text(program, encoding="utf-8")
-    if program != (TOP / "embed" / "cpp" / "otel.cpp").read_text(encoding="utf-8").split("\n", 1)[1]:
-        sys.exit("docs/CPP.md: its first program is not embed/cpp/otel.cpp")
-    if (told := ran(kit, room, compiler, room / "page.cpp", [])) != printed:
+    printed = re.search(r"^```text\n(.*?)^```$", text, re.M | re.S)[1]
+    sources = [TOP / "embed" / "cpp" / f"{name}.cpp" for name in ("otel", "first_of")]
+    for source, program in zip(sources, re.findall(r"^```cpp\n(.*?)^```$", text, re.M | re.S), strict=True):
+        if program != source.read_text(encoding="utf-8").split("\n", 1)[1]:
+            sys.exit(f"docs/CPP.md: a program is not {source.relative_to(TOP)}")
+    if (told := ran(kit, room, compiler, sources[0], [])) != printed:
         sys.exit(f"docs/CPP.md: its first program prints\n{told}")
+    if not there.has("C++", "pkg-config", "libcurl"):
+        return
+    program = built(kit, room, compiler, sources[1], [])
+
+    def run(*words):
+        return subprocess.run([program, *words], stdin=subprocess.DEVNULL, capture_output=True, timeout=SECONDS, check=False).returncode
+
+    if fault := posted.first_of(run):
+        sys.exit(f"docs/CPP.md: its second program: {fault}")
 
 
 def main():
@@ -69,9 +90,9 @@ def main():
     with tempfile.TemporaryDirectory() as made:
         room = pathlib.Path(made)
         for compiler, flags in ways:
-            if not shutil.which(compiler):
-                print(f"there is no {compiler}")
-            elif what == "page":
+            if not there.has("C++", compiler):
+                continue
+            if what == "page":
                 page(kit, room, compiler)
             else:
                 print(compiler, *flags, ran(kit, room, compiler, HERE / f"{what}.cpp", flags, WORDS.get(what, ())).strip())
@@ -79,4 +100,7 @@ def main():
 
 
 if __name__ == "__main__":
-    sys.exit(main())
+    try:
+        sys.exit(main())
+    except there.Lacking as fault:
+        sys.exit(str(fault))

@@ -4,8 +4,8 @@
     run.py FOLDER      FOLDER is what embed/build made
 
 The commands are those of the package's README.md, which are run as they stand. Then a project of CMake in C and one in C++, and the same
-package once more, which must be the same bytes. What the machine has not is told and passed over. It ends with a status other than 0
-where one fails or prints other than it should."""
+package once more, which must be the same bytes. It ends with a status other than 0 where one fails or prints other than it should, or
+where something is not there that GATE_WITHOUT does not name."""
 import hashlib
 import os
 import pathlib
@@ -15,7 +15,11 @@ import subprocess
 import sys
 import tempfile
 
+sys.dont_write_bytecode = True
 TOP = pathlib.Path(__file__).resolve().parents[3]
+sys.path.insert(0, str(TOP / "tests" / "embed"))
+import there
+
 EMBED = TOP / "embed"
 FIRST = (TOP / "examples" / "first.out").read_text(encoding="utf-8")
 SECONDS = 1800
@@ -83,34 +87,25 @@ class Package:
 
     def by_readme(self):
         """Each language, as README.md has it."""
-        wants = {"c": ("cc", FIRST), "cpp": ("c++", shop()), "rust": ("cargo", shop()), "go": ("go", FIRST), "python": ("pip", FIRST)}
-        has_wheel = any((self.folder / "python").glob("*.whl"))
-        asks = any("pkg-config: kotskhin" in it.read_text(encoding="utf-8") for it in (self.folder / "go").glob("*.go"))
+        wants = {"c": ("cc", FIRST), "cpp": ("c++", shop()), "rust": ("cargo", shop()), "go": ("go", FIRST), "python": ("python3", FIRST)}
         text = (self.folder / "README.md").read_text(encoding="utf-8")
         for turn, (name, commands) in enumerate(re.findall(r"^```sh (\w+)\n(.*?)^```$", text, re.M | re.S)):
             program, wanted = wants[name]
-            if not shutil.which(program) or not shutil.which("pkg-config"):
-                print(f"{name}: the machine has no {program}, or no pkg-config")
-                continue
-            if not {"python": has_wheel, "go": asks}.get(name, True):
-                print(f"{name}: the package has no wheel, or its module does not ask pkg-config")
+            if not there.has(name, program, "pkg-config", *(["python3-ensurepip"] if name == "python" else [])):
                 continue
             folder = self.fresh(name if not (self.room / name).exists() else f"{name}{turn}")
             self.ran(f"{name}, by README.md", folder, commands, wanted)
 
     def by_cmake(self):
-        if not shutil.which("cmake"):
-            print("the machine has no cmake")
+        if not there.has("CMake", "cmake"):
             return
-        has_curl = not subprocess.run(["pkg-config", "--exists", "libcurl"], check=False).returncode
         for name, languages, source, target, components, wanted in (
             ("C", "C", "first.c", "kotskhin::kotskhin", "", FIRST),
             ("C, shared", "C", "first.c", "kotskhin::shared", "", FIRST),
             ("C++", "CXX", "shop.cpp", "kotskhin::cpp", "", shop()),
             ("C++ with libcurl", "C CXX", "shop.cpp", "kotskhin::http", " COMPONENTS http", shop()),
         ):
-            if "libcurl" in name and not has_curl:
-                print("the machine has no libcurl")
+            if "libcurl" in name and not there.has(name, "pkg-config", "libcurl"):
                 continue
             folder = self.room / f"cmake {name}"
             folder.mkdir()
@@ -130,4 +125,7 @@ def main():
 
 
 if __name__ == "__main__":
-    sys.exit(main())
+    try:
+        sys.exit(main())
+    except there.Lacking as fault:
+        sys.exit(str(fault))

@@ -334,6 +334,28 @@ class Lives(unittest.TestCase):
             gateway.take(writer.collect(200))
             self.assertEqual([row.attributes for row in gateway.rows(Ask.sum("app", "requests", "1"))], [{"route": "/"}])
 
+    def test_threads_record_while_another_is_in_a_long_call(self):
+        """A call that takes long lets go of Python's lock, and of none that a recording wants."""
+        writer, none, ended = Writer(Plan(INSTRUMENTS, limit=50_000), "shop", 1, 100), Attributes(), threading.Event()
+        for number in range(20_000):
+            writer.measure(0, Attributes({"n": number}), 1)
+        bytes_ = writer.collect(200).encode()
+        recorder, during, often = Recorder(1 << 20), [], 20
+
+        def work():
+            for _ in range(often):
+                before = len(recorder)
+                Export.decode(bytes_).close()
+                during.append(len(recorder) - before)
+            ended.set()
+
+        thread = threading.Thread(target=work)
+        thread.start()
+        while not ended.is_set() and len(recorder) < 1 << 20:
+            recorder.measure(0, none, 1)
+        thread.join()
+        self.assertGreater(sorted(during)[often // 2], 10, during)
+
     def test_many_threads_ask_and_take(self):
         """Gateways are merged into each other from threads, which ask them meanwhile."""
         writer, gateways, failed = Writer(Plan(INSTRUMENTS), "shop", 1, 100), [Gateway(1), Gateway(2)], []

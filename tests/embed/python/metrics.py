@@ -246,7 +246,7 @@ class Bounds(unittest.TestCase):
         for turn in range(3):
             for number in range(100):
                 requests.add(1, {"n": number})
-        self.assertLessEqual(len(requests._texts) + len(requests._held), 10)
+        self.assertEqual(len(requests._texts) + len(requests._held), 10)
         self.assertEqual(totals(it), [({"n": number}, 3) for number in range(100)])
 
     def test_sets_beyond_the_limit(self):
@@ -534,11 +534,13 @@ class Page(unittest.TestCase):
     def test_a_gateway_that_is_posted_to(self):
         page = (EMBED.parent / "docs" / "PYTHON.md").read_text(encoding="utf-8")
         script = re.search(r"^```python\n(import http\.server\n.*?)^```$", page, re.M | re.S)[1]
+        first_of = re.search(r"^```python\n([^`]*\nexporter = FirstOf\([^`]*)^```$", page, re.M | re.S)[1]
         port = free_port()
         command = [sys.executable, "-B", "-c", script.replace("9464", str(port))]
         with subprocess.Popen(command, cwd=EMBED / "python", stderr=subprocess.DEVNULL) as server:
             try:
                 self.post(f"http://127.0.0.1:{port}")
+                self.post_to_the_first(first_of, port)
             finally:
                 server.terminate()
 
@@ -564,6 +566,17 @@ class Page(unittest.TestCase):
         self.assertNotIn("thief", told)
         with self.assertRaisesRegex(urllib.error.HTTPError, "MALFORMED"):
             urllib.request.urlopen(urllib.request.Request(url, b"\n\5", method="POST"), timeout=60)
+
+
+    def post_to_the_first(self, script, port):
+        """The page's worker, of whose two gateways the first is away."""
+        with socket.socket() as nobody:
+            nobody.bind(("127.0.0.1", 0))
+            for said, used in (("9465", nobody.getsockname()[1]), ("9464", port)):
+                script = script.replace(f"127.0.0.1:{said}", f"127.0.0.1:{used}")
+            subprocess.run([sys.executable, "-B", "-c", script], cwd=EMBED / "python", check=True, timeout=600)
+        with urllib.request.urlopen(f"http://127.0.0.1:{port}", timeout=60) as answer:
+            self.assertIn('transfers_total{otel_scope_name="bank.tills",service_name="bank"} 1\n', answer.read().decode())
 
 
 class Processes(unittest.TestCase):

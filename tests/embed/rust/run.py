@@ -4,8 +4,8 @@
     run.py FOLDER TARGET WHAT     FOLDER is what embed/build made, TARGET a folder for cargo; WHAT is clean, package or page
 
 clean: `cargo fmt`, `cargo clippy` where they are, and `cargo doc` say nothing. package: `cargo package` packs both crates, and builds
-what it packed. page: the first program of docs/RUST.md is the crate's example, and prints what that page says. It ends with a status
-other than 0 where one does not hold."""
+what it packed. page: the programs of docs/RUST.md are the crate's examples. The first one prints what that page says; the second one
+pushes to the first of several places that takes what it has. It ends with a status other than 0 where one does not hold."""
 import os
 import pathlib
 import re
@@ -14,7 +14,11 @@ import subprocess
 import sys
 import tempfile
 
+sys.dont_write_bytecode = True
 TOP = pathlib.Path(__file__).resolve().parents[3]
+sys.path.insert(0, str(TOP / "tests" / "embed"))
+import posted
+
 RUST = TOP / "embed" / "rust"
 SECONDS = 1800
 
@@ -51,11 +55,20 @@ class Crates:
 
     def page(self):
         text = (TOP / "docs" / "RUST.md").read_text(encoding="utf-8")
-        program, printed = (re.search(rf"^```{kind}\n(.*?)^```$", text, re.M | re.S)[1] for kind in ("rust", "text"))
-        if program != (RUST / "kotskhin" / "examples" / "otel.rs").read_text(encoding="utf-8").split("\n", 1)[1]:
-            sys.exit("docs/RUST.md: its first program is not embed/rust/kotskhin/examples/otel.rs")
+        printed = re.search(r"^```text\n(.*?)^```$", text, re.M | re.S)[1]
+        for name, program in zip(("otel", "first_of"), re.findall(r"^```rust\n(.*?)^```$", text, re.M | re.S), strict=True):
+            if program != (RUST / "kotskhin" / "examples" / f"{name}.rs").read_text(encoding="utf-8").split("\n", 1)[1]:
+                sys.exit(f"docs/RUST.md: a program is not embed/rust/kotskhin/examples/{name}.rs")
         if (told := self.cargo("run", "-q", "--offline", "--locked", "--example", "otel")) != printed:
             sys.exit(f"docs/RUST.md: its first program prints\n{told}")
+        self.cargo("build", "-q", "--offline", "--locked", "--example", "first_of")
+        program = pathlib.Path(self.env["CARGO_TARGET_DIR"]) / "debug" / "examples" / "first_of"
+
+        def run(*words):
+            return subprocess.run([program, *words], stdin=subprocess.DEVNULL, capture_output=True, timeout=SECONDS, check=False).returncode
+
+        if fault := posted.first_of(run):
+            sys.exit(f"docs/RUST.md: its second program: {fault}")
 
 
 def main():

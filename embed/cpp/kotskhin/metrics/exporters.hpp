@@ -40,8 +40,8 @@ public:
     void Export(const kotskhin::Export &given) override { call(given); }
 };
 
-// Brings each export by one of several exporters, as to gateways of which any may take it: by the one that took the last one, and where that
-// fails by the next. It fails where all did. Each bounds the time of its own calls.
+// Brings each export by one of several exporters, as to gateways of which any may take it: by the one that took the last one, and where
+// that fails by the next. It fails where all did. Each bounds the time of its own calls.
 class FirstOf : public PushMetricExporter {
     std::vector<std::unique_ptr<PushMetricExporter>> exporters;
     size_t last = 0;

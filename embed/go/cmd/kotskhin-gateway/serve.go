@@ -12,6 +12,8 @@ import (
 	"net"
 	"net/http"
 	"os"
+	"os/signal"
+	"syscall"
 	"time"
 
 	"kotskhin"
@@ -27,6 +29,9 @@ import (
 
 // How long the end may take that waits for requests under way, and for peers that are told the last of it.
 const patience = 10 * time.Second
+
+// How often is looked whether the file of tokens changed. What changed is read at the second look that finds it so.
+const tokenLooks = time.Second
 
 // A running gateway.
 type running struct {
@@ -45,6 +50,7 @@ func serve(ctx context.Context, it *settings.Settings, log *logs.Logger) error {
 	if err != nil {
 		return err
 	}
+	defer r.readAgainAndAgain(known)()
 	// (what is damaged or taken is told before the state is read, which may take long)
 	listener, err := net.Listen("tcp", it.Listen)
 	if err != nil {
@@ -61,7 +67,8 @@ func serve(ctx context.Context, it *settings.Settings, log *logs.Logger) error {
 	}
 	r.gossip = &gossip.Gossip{
 		Held: r.held, Log: log, Process: process, Peers: it.Peers, Interval: it.GossipInterval, LongestPause: it.GossipLongestPause,
-		Timeout: it.GossipTimeout, Refresh: it.PeerRefresh, Token: known.PeerToken(), TLS: towardsPeers(speaks),
+		Timeout: it.GossipTimeout, Refresh: it.PeerRefresh, TLS: towardsPeers(speaks),
+		Token: func() string { return known.Now().PeerToken() },
 	}
 	r.server = &server.Server{
 		Held: r.held, Store: r.store, Gossip: r.gossip, Tokens: known, Figures: r.figures, Log: log, Process: process,
@@ -84,10 +91,10 @@ func newID() (uint32, error) {
 }
 
 // security is who may do what, and how TLS is spoken; nil where it is not.
-func (r *running) security() (known *tokens.Tokens, speaks *tls.Config, err error) {
+func (r *running) security() (known *tokens.File, speaks *tls.Config, err error) {
 	it := r.settings
 	if it.TokenFile != "" {
-		if known, err = tokens.Load(it.TokenFile); err != nil {
+		if known, err = tokens.Open(it.TokenFile); err != nil {
 			return nil, nil, err
 		}
 	}
@@ -112,6 +119,29 @@ func (r *running) security() (known *tokens.Tokens, speaks *tls.Config, err erro
 	}
 	speaks.ClientAuth = tls.RequireAndVerifyClientCert
 	return known, speaks, nil
+}
+
+// readAgainAndAgain reads the file of tokens once it changes, and at each SIGHUP, until what it gives is called. Where there is no file a
+// SIGHUP ends the process, as it ends others.
+func (r *running) readAgainAndAgain(known *tokens.File) (end func()) {
+	if known == nil {
+		return func() {}
+	}
+	signals := make(chan os.Signal, 1)
+	signal.Notify(signals, syscall.SIGHUP)
+	ctx, cancel := context.WithCancel(context.Background())
+	ended := make(chan struct{})
+	go func() {
+		defer close(ended)
+		known.Watch(ctx, signals, tokenLooks, func(err error) {
+			if err != nil {
+				r.log.Error("the tokens were not read again, and are what they were", "why", err)
+			} else {
+				r.log.Info("the tokens were read again", "file", r.settings.TokenFile)
+			}
+		})
+	}()
+	return func() { signal.Stop(signals); cancel(); <-ended }
 }
 
 // towardsPeers is how TLS is spoken to peers: with the same certificate, and they may be certified by the same.

@@ -18,6 +18,7 @@ import (
 	"os"
 	"path/filepath"
 	"strings"
+	"syscall"
 	"testing"
 	"time"
 
@@ -183,6 +184,65 @@ func TestTwoByNameWithTLSAndTokens(t *testing.T) {
 	until(t, "it comes back without what it held", holds(1))
 	if err := alone(); err != nil {
 		t.Fatal(err)
+	}
+}
+
+// replaced puts a whole file in the place of another, as an operator does.
+func replaced(t *testing.T, name, content string) {
+	t.Helper()
+	if err := os.Rename(write(t, name+".new", []byte(content)), name); err != nil {
+		t.Fatal(err)
+	}
+}
+
+// The tokens of two gateways are changed while they run: each is asked by a signal, and sees it by itself. A bad file changes nothing.
+func TestTokensAreReadAgain(t *testing.T) {
+	room := t.TempDir()
+	tokens := write(t, filepath.Join(room, "tokens"), []byte(rights))
+	ports := []string{freePort(t), freePort(t)}
+	var ends []func() error
+	for number, port := range ports {
+		ends = append(ends, begun(t, "--listen", "127.0.0.1:"+port, "--token-file", tokens, "--gossip-interval", "20ms",
+			"--gossip-longest-pause", "100ms", "--peer", "http://127.0.0.1:"+ports[1-number]))
+	}
+	client := &http.Client{Timeout: 30 * time.Second}
+	url := func(number int, path string) string { return "http://127.0.0.1:" + ports[number] + path }
+	posted := func(number int, token string) int {
+		status, _ := asked(client, "POST", url(number, "/v1/exports"), token, exported(t, 7))
+		return status
+	}
+	const first, second, third = "shop-0123456789abcdef", "next-0123456789abcdef", "last-0123456789abcdef"
+	until(t, "it is not ready", func() bool { return posted(0, second) == 401 })
+	replaced(t, tokens, second+" write shop\npeer-fedcba9876543210 peer *\n")
+	if err := syscall.Kill(os.Getpid(), syscall.SIGHUP); err != nil {
+		t.Fatal(err)
+	}
+	until(t, "another token is not taken", func() bool { return posted(0, second) == 200 })
+	if status := posted(0, first); status != 401 {
+		t.Fatal(status)
+	}
+	// (what one took the other is told by the other token alone, since the earlier one is not known any more)
+	until(t, "they do not speak by another token", func() bool {
+		_, told := asked(client, "GET", url(1, "/v1/table"), "", nil)
+		return strings.HasSuffix(told, "  7\n")
+	})
+	replaced(t, tokens, "short write shop\n")
+	if err := syscall.Kill(os.Getpid(), syscall.SIGHUP); err != nil {
+		t.Fatal(err)
+	}
+	time.Sleep(2 * tokenLooks)
+	if status := posted(0, second); status != 200 {
+		t.Fatal(status)
+	}
+	replaced(t, tokens, third+" write shop\n")
+	until(t, "a change is not seen", func() bool { return posted(0, third) == 200 && posted(1, third) == 200 })
+	if status := posted(1, second); status != 401 {
+		t.Fatal(status)
+	}
+	for _, end := range ends {
+		if err := end(); err != nil {
+			t.Fatal(err)
+		}
 	}
 }
 

@@ -26,7 +26,8 @@ type Gossip struct {
 	// Peers are URLs, and names with a port, which are looked up again and again: each address is a peer then.
 	Peers                                    []string
 	Interval, LongestPause, Timeout, Refresh time.Duration
-	Token                                    string
+	// Token is what this gateway shows to peers now; empty, and nil, is none.
+	Token func() string
 	// TLS says how to speak to peers that are looked up, and to those by https; nil without TLS.
 	TLS *tls.Config
 

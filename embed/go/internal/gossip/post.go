@@ -69,8 +69,10 @@ func (g *Gossip) ask(ctx context.Context, p *peer, method, path string, body []b
 	if body != nil {
 		request.Header.Set("Content-Type", MessageType)
 	}
-	if g.Token != "" {
-		request.Header.Set("Authorization", "Bearer "+g.Token)
+	if g.Token != nil {
+		if token := g.Token(); token != "" {
+			request.Header.Set("Authorization", "Bearer "+token)
+		}
 	}
 	got, err := p.client.Do(request)
 	if err != nil {

@@ -2,6 +2,8 @@ package held
 
 import (
 	"errors"
+	"fmt"
+	"os"
 	"strings"
 	"sync"
 	"testing"
@@ -165,6 +167,42 @@ func TestNodesTellEachOther(t *testing.T) {
 	if _, err := small.Hand(to3); !errors.Is(err, ErrFull) || held(t, small) != 0 {
 		t.Fatal(err)
 	}
+}
+
+// A peer that does not answer has nothing kept for it, however often it is told, and by how many ids it was known.
+func TestNothingGrowsForWhoIsAway(t *testing.T) {
+	own := opened(t, 1, wide)
+	if err := take(t, own, export(t, "requests", 1, 500, 200)); err != nil {
+		t.Fatal(err)
+	}
+	told := func(times int, id func(turn int) uint32) {
+		for turn := 0; turn < times; turn++ {
+			if _, err := own.Tell(id(turn)); err != nil {
+				t.Fatal(err)
+			}
+		}
+	}
+	one := func(int) uint32 { return 2 }
+	first := must[[]byte](t)(own.Tell(2))
+	told(200, one)
+	before := resident(t)
+	told(5000, one)
+	if again := must[[]byte](t)(own.Tell(2)); len(again) != len(first) {
+		t.Fatalf("a message has %d bytes, and %d once more", len(first), len(again))
+	}
+	told(2000, func(turn int) uint32 { return uint32(3 + turn) })
+	if grown := resident(t) - before; grown > 16<<20 {
+		t.Fatalf("it grew by %d bytes", grown)
+	}
+}
+
+func resident(t *testing.T) int {
+	t.Helper()
+	var size, pages int
+	if _, err := fmt.Sscan(string(must[[]byte](t)(os.ReadFile("/proc/self/statm"))), &size, &pages); err != nil {
+		t.Fatal(err)
+	}
+	return pages * os.Getpagesize()
 }
 
 // Some take while others look.

@@ -33,7 +33,7 @@ type Server struct {
 	Held    *held.Held
 	Store   *store.Store
 	Gossip  *gossip.Gossip
-	Tokens  *tokens.Tokens
+	Tokens  *tokens.File
 	Figures *figures.Figures
 	Log     *logs.Logger
 	Limits  Limits
@@ -145,7 +145,7 @@ func (s *Server) answer(to *answer, request *http.Request, it *route) error {
 	grant := tokens.Everything
 	if it.right != "" {
 		var err error
-		if grant, err = s.Tokens.Of(request, it.right); err != nil {
+		if grant, err = s.Tokens.Now().Of(request, it.right); err != nil {
 			return err
 		}
 	}

@@ -8,6 +8,8 @@ import (
 	"io"
 	"net/http"
 	"net/http/httptest"
+	"os"
+	"path/filepath"
 	"strings"
 	"testing"
 	"time"
@@ -159,7 +161,11 @@ func TestExportsAreTakenAndShown(t *testing.T) {
 
 // What is refused has its status, and nothing of it is taken.
 func TestRefusals(t *testing.T) {
-	s, url := served(t, 1, func(s *Server) { s.Tokens = must[*tokens.Tokens](t)(tokens.Parse(strings.NewReader(rights))) })
+	file := filepath.Join(t.TempDir(), "tokens")
+	if err := os.WriteFile(file, []byte(rights), 0o600); err != nil {
+		t.Fatal(err)
+	}
+	s, url := served(t, 1, func(s *Server) { s.Tokens = must[*tokens.File](t)(tokens.Open(file)) })
 	shop, peer, lame := "Bearer shop-0123456789abcdef", "Bearer peer-0123456789abcdef", "Bearer lame-0123456789abcdef"
 	good := encoded(t, "shop", 1, 3)
 	other := must[*held.Held](t)(held.New(2, must[kotskhin.Gateway](t)(kotskhin.OpenGateway(2)), held.Limits{Points: 9, Streams: 9}))

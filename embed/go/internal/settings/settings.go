@@ -138,7 +138,8 @@ func flagsOf(it *Settings, out io.Writer) *flag.FlagSet {
 	flags.DurationVar(&it.WriteTimeout, "write-timeout", 60*time.Second, "how long a request may take from its head to the end of its answer")
 	flags.DurationVar(&it.IdleTimeout, "idle-timeout", 120*time.Second, "how long a connection may be idle")
 	flags.DurationVar(&it.Drain, "drain", 0, "how long /readyz refuses before it ends")
-	flags.StringVar(&it.TokenFile, "token-file", "", "`FILE` with lines of a token, a right (write, peer or read) and services")
+	flags.StringVar(&it.TokenFile, "token-file", "", "`FILE` with lines of a token, a right (write, peer or read) and services; it is "+
+		"read again once it changes, and on SIGHUP")
 	flags.StringVar(&it.TLSCert, "tls-cert", "", "`FILE` with its certificate, also towards peers")
 	flags.StringVar(&it.TLSKey, "tls-key", "", "`FILE` with the key of its certificate")
 	flags.StringVar(&it.ClientCA, "client-ca", "", "`FILE` with certificates of who may certify senders and peers; others are refused then")

@@ -203,8 +203,9 @@ class MeterProvider:
     def _may_hold(self) -> bool:
         """Whether one more set may be held; then it is."""
         with self._lock:
-            self._held_count += self._held_count < self._most_held
-            return self._held_count < self._most_held
+            may = self._held_count < self._most_held
+            self._held_count += may
+            return may
 
     def _refused(self, refusal: Refusal) -> None:
         with self._lock:

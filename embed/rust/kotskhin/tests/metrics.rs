@@ -68,6 +68,31 @@ fn a_value_without_room_is_told_as_a_value() -> Result<(), Error> {
     requests.add((1 << 63) - 1, &none)
 }
 
+/// Kilobytes of memory that the process has.
+fn resident() -> usize {
+    let told = std::fs::read_to_string("/proc/self/status").unwrap_or_default();
+    let line = told.lines().find_map(|it| it.strip_prefix("VmRSS:"));
+    line.and_then(|it| it.trim().strip_suffix(" kB")?.parse().ok())
+        .expect("the system tells it")
+}
+
+/// `with` may stand where a request is served: the same set has one number, and nothing is kept for each call.
+#[test]
+fn the_same_set_again_takes_no_memory() -> Result<(), Error> {
+    let (_meter, requests) = Meter::start("shop", 1, "app", 100, requests)?;
+    let served = || requests.with(&Attributes::new([("route", "/")])?)?.add(1);
+    for _ in 0..1000 {
+        served()?;
+    }
+    let before = resident();
+    for _ in 0..200_000 {
+        served()?;
+    }
+    let grown = resident().saturating_sub(before);
+    assert!(grown < 8192, "it grew by {grown} kB");
+    Ok(())
+}
+
 #[test]
 fn instances_are_drawn_anew() -> std::io::Result<()> {
     let drawn: HashSet<u128> = (0..8)

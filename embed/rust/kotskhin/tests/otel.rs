@@ -379,6 +379,55 @@ fn sets_without_end_take_memory_that_has_one() -> Done {
     Ok(())
 }
 
+/// A text is told by its content, wherever it is: texts of the program, whose places are remembered, and others.
+#[test]
+fn texts_count_by_their_content_and_not_by_their_place() -> Done {
+    let provider = SdkMeterProvider::builder().build();
+    let (requests, whole) = (requests(&provider), "route/pay");
+    let (front, leaked): (_, &str) = (&whole[..5], Box::leak("route".to_owned().into_boxed_str()));
+    for _ in 0..9 {
+        for text in ["route", front, leaked] {
+            requests.add(1, &[KeyValue::new(text, "/")]);
+            requests.add(10, &[KeyValue::new("key", text)]);
+        }
+        requests.add(1, &[KeyValue::new("route".to_owned(), "/".to_owned())]);
+        requests.add(10, &[KeyValue::new("key", "route".to_owned())]);
+        requests.add(100, &[KeyValue::new("key", whole)]);
+        requests.add(1000, &[KeyValue::new("key", true)]);
+        requests.add(2000, &[KeyValue::new("key", 1)]);
+        requests.add(4000, &[]);
+    }
+    let told = rows(&provider, &of_requests()?)?;
+    let mut totals: Vec<i128> = told
+        .iter()
+        .map(|it| total(std::slice::from_ref(it)))
+        .collect();
+    totals.sort_unstable();
+    assert_eq!(totals, [36, 360, 900, 9000, 18000, 36000]);
+    assert_eq!(provider.refused(), 0);
+    Ok(())
+}
+
+/// More sets than a thread remembers the places of.
+#[test]
+fn sets_that_share_what_a_thread_remembers_are_as_exact() -> Done {
+    let provider = SdkMeterProvider::builder().build();
+    let (requests, meter) = (requests(&provider), provider.meter("app"));
+    let orders = meter.u64_counter("orders").with_unit("1").build();
+    for _ in 0..7 {
+        for number in 0..1500 {
+            requests.add(1, &[KeyValue::new("number", number)]);
+            orders.add(2, &[KeyValue::new("number", number)]);
+        }
+    }
+    let told = rows(&provider, &of_requests()?)?;
+    assert_eq!((total(&told), told.len()), (7 * 1500, 1500));
+    assert!(told.iter().all(|it| total(std::slice::from_ref(it)) == 7));
+    let told = rows(&provider, &Ask::sum("app", "orders", "1", true)?)?;
+    assert!(told.len() == 1500 && told.iter().all(|it| total(std::slice::from_ref(it)) == 14));
+    Ok(())
+}
+
 /// One set in two orders has one number: what is held does not grow by it, beyond the cache.
 #[test]
 fn the_order_of_attributes_is_none_of_the_sets() -> Done {

@@ -320,6 +320,18 @@ impl PushExporter for HttpExporter {
 
 /// Brings each export by one of several exporters, as to gateways of which any may take it: by the one that took the last one, and where
 /// that fails by the next. It fails where all did. Each bounds the time of its own calls.
+///
+/// ```
+/// use kotskhin::otel::{FirstOf, HttpExporter, PeriodicReader, PushExporter};
+///
+/// let mut gateways: Vec<Box<dyn PushExporter>> = Vec::new();
+/// for host in ["gateway-1", "gateway-2"] {
+///     let url = format!("http://{host}:9464/v1/metrics");
+///     gateways.push(Box::new(HttpExporter::new(&url)?));
+/// }
+/// let reader = PeriodicReader::builder(FirstOf::new(gateways)).build();
+/// # Ok::<(), std::io::Error>(())
+/// ```
 pub struct FirstOf {
     exporters: Vec<Box<dyn PushExporter>>,
     last: usize,

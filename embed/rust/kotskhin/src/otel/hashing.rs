@@ -5,7 +5,7 @@
 use std::hash::{BuildHasher, Hasher, RandomState};
 
 /// An odd number whose bits are of no order: that of the golden section.
-const MIXER: u64 = 0x9e37_79b9_7f4a_7c15;
+pub(super) const MIXER: u64 = 0x9e37_79b9_7f4a_7c15;
 
 /// Makes hashers of one pair of keys.
 #[derive(Clone)]

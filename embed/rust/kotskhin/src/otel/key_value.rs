@@ -2,6 +2,7 @@
 use crate::attributes::AttributeValue;
 use std::borrow::Cow;
 use std::fmt;
+use std::ptr;
 
 /// Whether texts are equal. One text in two places of a program most often is one piece of memory, which is not read then.
 #[inline]
@@ -118,6 +119,33 @@ impl KeyValue {
             key: key.into(),
             value: value.into(),
         }
+    }
+
+    /// Whether its texts are of the program itself, and stay where they are as long as that runs.
+    pub(super) fn stays(&self) -> bool {
+        !matches!(self.key.0, Cow::Owned(_)) && !matches!(self.value, Value::String(Cow::Owned(_)))
+    }
+
+    /// Where its value is, where that is a text; else the value.
+    #[inline]
+    pub(super) fn word(&self) -> u64 {
+        match &self.value {
+            Value::String(text) => text.as_ptr() as u64,
+            Value::I64(number) => *number as u64,
+            Value::Bool(truth) => u64::from(*truth),
+        }
+    }
+
+    /// Whether the other one has its texts in the very places of this one. Where those of this one stay, it then has its content, too.
+    #[inline]
+    pub(super) fn is_in_place_of(&self, other: &KeyValue) -> bool {
+        let is_value = match (&self.value, &other.value) {
+            (Value::String(one), Value::String(other)) => ptr::eq::<str>(&**one, &**other),
+            (Value::I64(one), Value::I64(other)) => one == other,
+            (Value::Bool(one), Value::Bool(other)) => one == other,
+            _ => false,
+        };
+        is_value && ptr::eq::<str>(&*self.key.0, &*other.key.0)
     }
 
     /// As sets of the kit have it.

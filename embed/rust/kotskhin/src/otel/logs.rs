@@ -1,5 +1,5 @@
 //! What threads note, each in a log of its own.
-use super::hashing::Keyed;
+use super::hashing::{Keyed, MIXER};
 use super::key_value::KeyValue;
 use super::shared::{Core, Shared, locked, take_in_of_ending_thread};
 use crate::attributes::Attributes;
@@ -80,11 +80,82 @@ impl Cache {
     }
 }
 
+/// How often another pair is looked for in a room before it is given that room.
+const PATIENCE: u8 = 4;
+const ROOMS: usize = 256;
+
+/// A pair that was recorded at.
+struct Known {
+    instrument: usize,
+    attributes: Box<[KeyValue]>,
+    number: HeldNumber,
+    missed: u8,
+}
+
+impl Known {
+    #[inline]
+    fn is(&self, instrument: usize, attributes: &[KeyValue]) -> bool {
+        let mut pairs = self.attributes.iter().zip(attributes);
+        self.instrument == instrument
+            && self.attributes.len() == attributes.len()
+            && pairs.all(|(known, it)| known.is_in_place_of(it))
+    }
+}
+
+/// Pairs whose texts are of the program itself, found by where these are: none is read. What is not here is found by its content.
+struct Places(Vec<Option<Known>>);
+
+impl Places {
+    fn new() -> Places {
+        Places((0..ROOMS).map(|_| None).collect())
+    }
+
+    /// The room of a pair. (keys are most often those of others at its instrument, so they are left out)
+    #[inline]
+    fn room_of(instrument: usize, attributes: &[KeyValue]) -> usize {
+        let mixed = attributes.iter().fold(instrument as u64, |mixed, it| {
+            (mixed.rotate_left(26) ^ it.word()).wrapping_mul(MIXER)
+        });
+        (mixed >> 32) as usize % ROOMS
+    }
+
+    #[inline]
+    fn find(&self, room: usize, instrument: usize, attributes: &[KeyValue]) -> Option<HeldNumber> {
+        let known = self.0.get(room)?.as_ref()?;
+        known.is(instrument, attributes).then_some(known.number)
+    }
+
+    /// Keeps a pair in its room, unless another has it that is found there often enough.
+    fn keep(
+        &mut self,
+        room: usize,
+        instrument: usize,
+        attributes: &[KeyValue],
+        number: HeldNumber,
+    ) {
+        let Some(there) = self.0.get_mut(room) else {
+            return;
+        };
+        if let Some(known) = there.as_mut().filter(|it| it.missed < PATIENCE) {
+            known.missed += 1;
+        } else if attributes.iter().all(KeyValue::stays) {
+            *there = Some(Known {
+                instrument,
+                attributes: attributes.into(),
+                number,
+                missed: 0,
+            });
+        }
+    }
+}
+
 /// A thread's log. The thread has its lock while it notes, and who collects while it takes the log in.
 pub(super) struct Log {
     pub recorder: Recorder,
     /// What this thread knows of the cache.
     numbers: Numbers,
+    /// Of these, what is found without being read.
+    places: Places,
     /// Nothing is taken in any more: the provider was shut down.
     pub is_closed: bool,
 }
@@ -100,6 +171,7 @@ impl Log {
         Ok(Log {
             recorder: Recorder::new(capacity)?,
             numbers: Numbers::default(),
+            places: Places::new(),
             is_closed: false,
         })
     }
@@ -115,12 +187,32 @@ impl Log {
         if self.is_closed {
             return Err(Error::Closed);
         }
+        let room = Places::room_of(instrument, attributes);
+        match self.places.find(room, instrument, attributes) {
+            Some(number) => self.recorder.measure_held(number, value),
+            None => self.note_read(at, room, instrument, attributes, value),
+        }
+    }
+
+    /// The same, where texts have to be read.
+    #[inline(never)]
+    fn note_read(
+        &mut self,
+        at: (&Mutex<Core>, &RwLock<Cache>),
+        room: usize,
+        instrument: usize,
+        attributes: &[KeyValue],
+        value: i64,
+    ) -> Result<(), Error> {
         let way = match self.numbers.find(instrument, attributes) {
             Some(number) => Way::Number(number),
             None => self.way(at, instrument, attributes)?,
         };
         match way {
-            Way::Number(number) => self.recorder.measure_held(number, value),
+            Way::Number(number) => {
+                self.places.keep(room, instrument, attributes, number);
+                self.recorder.measure_held(number, value)
+            }
             Way::Set(set) => self.recorder.measure(instrument, &set, value),
         }
     }
@@ -192,6 +284,7 @@ thread_local! {
 
 /// Does something with the log of this thread, which it is given where it has none. `None` where the thread is ending. Refused: as
 /// `Shared::new_slot` is. What is done calls nothing of the host's, which might record.
+#[inline]
 pub(super) fn with_own<T>(
     shared: &Arc<Shared>,
     call: impl FnOnce(&Slot) -> T,
@@ -201,17 +294,23 @@ pub(super) fn with_own<T>(
         if let Some(there) = own.borrow().iter().find(is_there) {
             return Ok(call(&there.slot));
         }
-        let slot = shared.new_slot()?;
-        let mut own = own.borrow_mut();
-        own.retain(|it| it.shared.strong_count() > 0);
-        own.push(Own {
-            provider: shared.number(),
-            shared: Arc::downgrade(shared),
-            slot: Arc::clone(&slot),
-        });
+        let slot = new_own(shared, own)?;
         Ok(call(&slot))
     })
     .ok()
+}
+
+#[cold]
+fn new_own(shared: &Arc<Shared>, own: &RefCell<Vec<Own>>) -> Result<Slot, Error> {
+    let slot = shared.new_slot()?;
+    let mut own = own.borrow_mut();
+    own.retain(|it| it.shared.strong_count() > 0);
+    own.push(Own {
+        provider: shared.number(),
+        shared: Arc::downgrade(shared),
+        slot: Arc::clone(&slot),
+    });
+    Ok(slot)
 }
 
 /// Whether no thread notes in it any more. It is asked of the one that the provider has.

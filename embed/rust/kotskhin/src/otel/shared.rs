@@ -224,7 +224,16 @@ impl Shared {
     }
 
     /// Starts, where that was not done. Refused: `Closed`, `NoMemory`, `BadLimit`.
+    #[inline]
     pub fn start(&self) -> Result<&Started, Error> {
+        match self.started.get() {
+            Some(Ok(started)) => Ok(started),
+            _ => self.start_now(),
+        }
+    }
+
+    #[cold]
+    fn start_now(&self) -> Result<&Started, Error> {
         if self.started.get().is_none() {
             let declaring = locked(&self.declaring);
             if self.started.get().is_none() {
@@ -271,31 +280,40 @@ impl Shared {
         value: i64,
     ) -> Result<(), Error> {
         let started = self.start()?;
-        let at = (&started.core, &started.cache);
-        let note = || {
-            logs::with_own(self, |slot| {
-                locked(slot).note(at, instrument, attributes, value)
-            })
-        };
-        let Some(noted) = note() else {
-            let set = Attributes::new(attributes.iter().map(KeyValue::pair))?;
-            return locked(&started.core)
-                .writer
-                .measure(instrument, &set, value);
-        };
-        match noted? {
-            Err(Error::RecorderFull) => (),
-            noted => return noted,
+        match self.note(started, instrument, attributes, value) {
+            Some(Err(Error::RecorderFull)) => (),
+            Some(noted) => return noted,
+            None => {
+                let set = Attributes::new(attributes.iter().map(KeyValue::pair))?;
+                let mut core = locked(&started.core);
+                return core.writer.measure(instrument, &set, value);
+            }
         }
         let taken = logs::with_own(self, |slot| {
             started.take_in(&mut locked(&started.core), slot)
         });
         self.refuse_all(taken.and_then(Result::ok).flatten());
-        match note().unwrap_or(Err(Error::NoMemory))? {
+        match self.note(started, instrument, attributes, value) {
             // (what was taken in left no room, since memory was wanting)
-            Err(Error::RecorderFull) => Err(Error::NoMemory),
-            noted => noted,
+            Some(Err(Error::RecorderFull)) | None => Err(Error::NoMemory),
+            Some(noted) => noted,
         }
+    }
+
+    /// The same, where this thread's log has room; `None` of an ending thread.
+    #[inline]
+    fn note(
+        self: &Arc<Self>,
+        started: &Started,
+        instrument: usize,
+        attributes: &[KeyValue],
+        value: i64,
+    ) -> Option<Result<(), Error>> {
+        let at = (&started.core, &started.cache);
+        let noted = logs::with_own(self, |slot| {
+            locked(slot).note(at, instrument, attributes, value)
+        })?;
+        Some(noted.and_then(|it| it))
     }
 
     /// A log for a thread. Refused: `Closed`, `NoMemory`.
