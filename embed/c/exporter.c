@@ -1,4 +1,4 @@
-/* A generic exporter: of a gateway, whose bytes (kit_gateway_encode) it reads, it prints each stream, and of each every row with its labels.
+/* A generic exporter: of a gateway whose bytes (kit_gateway_encode) it reads, it prints each stream, and of each every row with its labels.
  * It knows no name beforehand. */
 #include <inttypes.h>
 #include <kotskhin.h>
