@@ -18,6 +18,8 @@ fenced, and a word that can't be parted. No cell of a table is wider than MOST_I
 The page of each library, the first comment of its lib.rt, names the file of its caller, whose lines it shows; but for PAGES_ALONE. Each name that it
 links stands in the crate, and each file of specs/ that it names.
 
+Each text that a must-fail edit replaces stands once in its file, where the edit's earlier texts are replaced.
+
 Each public type of a library that Rattle calls is imported by a caller in crates/uses, but for those of OF_THE_KIT. Of those of OF_CONTRACTS no value is made, so
 a clause of a caller names them. GUIDE names each caller.
 
@@ -307,6 +309,23 @@ class Docs:
             for file in sorted(there ^ set(spans(listed))):
                 self.fault(page, f"{file} {'names' if file in there else 'does not name'} {word}, and is {'not ' if file in there else ''}among its rooms")
 
+    def check_edits(self):
+        """Whether each must-fail edit fits the code of today."""
+        for edit in sorted(TOP.glob("crates/*/must-fail/*.edit")):
+            texts, name, old = {}, None, None
+            for line in text_of(edit).splitlines():
+                if line.startswith("file: "):
+                    name = line.removeprefix("file: ").strip()
+                    file = edit.parents[1] / name
+                    texts.setdefault(name, text_of(file) if file.is_file() else "")
+                elif line.startswith("old: "):
+                    old = line.removeprefix("old: ")
+                elif line.startswith("new:") and name and old is not None:
+                    self.claims += 1
+                    if texts[name].count(old) != 1:
+                        self.fault(edit.relative_to(TOP), f"stands {texts[name].count(old)} times in {name}: {old.strip()}")
+                    texts[name], old = texts[name].replace(old, line.removeprefix("new:").removeprefix(" "), 1), None
+
     def check_callers(self):
         """What a library re-exports in its lib.rt and defines as a type has a caller: one that imports it, or whose clauses name it."""
         texts = [text_of(it) for it in TOP.glob("crates/uses/src/**/*.rt")]
@@ -342,6 +361,7 @@ class Docs:
         self.check_copied()
         self.check_library_pages()
         self.check_rooms()
+        self.check_edits()
         self.check_callers()
 
 

@@ -351,8 +351,12 @@ def shown():
 
 
 def texts_of(file):
-    """The texts of more than a word in a file of a crate."""
-    return [it for it in re.findall(r'"([^"]*)"', (TOP / file).read_text()) if " " in it]
+    """The texts of more than a word in a file of a crate, with those of its constants where they stand in others."""
+    text = (TOP / file).read_text()
+    constant = r'^const ([A-Z_]+): &str =\s*"([^"]*)";$'
+    named = dict(re.findall(constant, text, re.M))
+    texts = [it for it in re.findall(r'"([^"]*)"', re.sub(constant, "", text, flags=re.M)) if " " in it]
+    return [re.sub(r"{([A-Z_]+)}", lambda gap: named[gap[1]], it) for it in texts]
 
 
 def listed_below(heading):

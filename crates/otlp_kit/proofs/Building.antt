@@ -6,7 +6,6 @@ use Rattle.std.proofs.lemmas.List.{map-append, length-map}
 use Rattle.point_kit.specs.ExportFaults.{export_fault}
 use Rattle.point_kit.specs.declared.export.Export.{Export}
 use Rattle.point_kit.specs.declared.export_fault.ExportFault.{ExportFault}
-use Rattle.point_kit.specs.declared.export_point.ExportPoint.{ExportPoint}
 use Rattle.point_kit.specs.declared.writer_id.WriterId.{WriterId}
 use Rattle.otlp_kit.specs.Fields.{and_then}
 use Rattle.otlp_kit.specs.Reading.{Said, said_of, built, add_export}

@@ -1,7 +1,7 @@
 -- A request without bytes.
-use Rattle.std.proofs.Common.{◌≡◌, ℕ, List, [], Ok, map, refl, ap, ◌∙◌, sym}
+use Rattle.std.proofs.Common.{◌≡◌, ℕ, List, [], Ok, refl, ap, ◌∙◌}
 use Rattle.otlp_kit.specs.Fields.{message}
-use Rattle.otlp_kit.specs.Reading.{Said, exports_in, exports_read}
+use Rattle.otlp_kit.specs.Reading.{exports_in, exports_read}
 use Rattle.otlp_kit.specs.Walks.{walk}
 
 nothing_said : exports_read [] ≡ Ok []

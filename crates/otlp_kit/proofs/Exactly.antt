@@ -1,9 +1,9 @@
 -- Whole numbers below 2 ^ 53 in size come back from their doubles, and numbers from their eight bytes.
-use Rattle.std.proofs.Common.{◌≡◌, ℕ, zero, suc, ◌+◌, ◌-◌, ◌*◌, ◌/◌, ◌%◌, ◌^◌, ◌<◌, ◌≤◌, cond, Bool, true, false, List, [], ◌∷◌, ◌++◌, length, take, drop, map, Result, Ok, Err, ℤ, pos, refl, sym, ap, subst, ◌∙◌, arith}
+use Rattle.std.proofs.Common.{◌≡◌, ℕ, zero, suc, ◌+◌, ◌-◌, ◌*◌, ◌/◌, ◌%◌, ◌^◌, ◌<◌, ◌≤◌, cond, Bool, true, false, List, [], ◌∷◌, ◌++◌, length, map, Result, Ok, Err, ℤ, pos, refl, ap, ◌∙◌, arith}
 use Rattle.std.specs.Prelude.{negsuc, neg_ℤ, ◌==◌, ◌&&◌, ◌||◌, nat_lt, nat_le}
-use Rattle.std.specs.Int.{leading_zeros, from_le_bytes, to_le_bytes, w64}
+use Rattle.std.specs.Int.{from_le_bytes, to_le_bytes, w64}
 use Rattle.std.specs.List.{AllByRecursion, flat_map}
-use Rattle.std.proofs.Math.Nat.{pow-le-pow_right, mul-div_cancel, mul-add-mod_self_right, le_trans}
+use Rattle.std.proofs.Math.Nat.{pow-le-pow_right, mul-div_cancel, mul-add-mod_self_right}
 use Rattle.std.proofs.lemmas.Bool.Decides.{nat_tests}
 use Rattle.std.proofs.lemmas.List.{take_at, drop_at, length-append}
 use Rattle.std.proofs.lemmas.Nat.{leading_top, pow_pos, pow-add, from_le_bytes-to_le_bytes_8}
@@ -16,7 +16,7 @@ use Rattle.otlp_kit.specs.Wire.{eight}
 use Rattle.otlp_kit.specs.declared.field.Content.TheVariants as contents
 use Rattle.otlp_kit.specs.declared.request_fault.RequestFault.{RequestFault}
 use Rattle.otlp_kit.specs.declared.request_fault.RequestFault.TheVariants as faults
-use Rattle.otlp_kit.proofs.Doubled.{Digits, digits_at}
+use Rattle.otlp_kit.proofs.Doubled.{digits_at}
 use Rattle.otlp_kit.proofs.Wiring.{span}
 
 is_less : (a b : ℕ) → a < b → nat_lt a b ≡ true

@@ -1,25 +1,19 @@
 -- What the crate's own messages say: attributes and points.
-use Rattle.std.proofs.Common.{◌≡◌, ℕ, zero, suc, ◌+◌, ◌*◌, ◌/◌, ◌%◌, ◌<◌, ◌≤◌, ◌^◌, cond, Bool, true, false, List, [], ◌∷◌, ◌++◌, length, map, take, drop, Option, Some, None, Result, Ok, Err, ℤ, pos, negsuc, refl, sym, ap, ◌∙◌, subst, arith}
-use Rattle.std.specs.Prelude.{◌==◌, nat_lt, codes}
-use Rattle.std.specs.Int.{cast_signed, cast_unsigned, from_le_bytes, w64}
+use Rattle.std.proofs.Common.{◌≡◌, ℕ, ◌<◌, ◌≤◌, ◌^◌, cond, Bool, true, false, List, [], ◌∷◌, ◌++◌, map, Option, Some, None, Result, Ok, Err, ℤ, refl, ap, arith}
+use Rattle.std.specs.Int.{cast_unsigned, w64}
 use Rattle.std.specs.List.{AllByRecursion, flat_map}
 use Rattle.std.specs.Str.{IsUtf8}
 use Rattle.std.proofs.Math.Facts.{Fits-of_z}
-use Rattle.std.proofs.lemmas.Bool.Decides.{nat_tests}
 use Rattle.std.proofs.lemmas.Int.{to_z-of_z}
-use Rattle.std.proofs.lemmas.List.{length-append, take_at, drop_at}
-use Rattle.std.proofs.lemmas.Nat.{from_le_bytes-to_le_bytes_8}
 use Rattle.std.proofs.lemmas.Str.{is_utf8-from_IsUtf8}
 use Rattle.attr_kit.specs.declared.attr_value.AttrValue.{AttrValue}
 use Rattle.attr_kit.specs.declared.attr_value.AttrValue.TheVariants as values
-use Rattle.otlp_kit.specs.Wire.{block, number, eight, fixed, fixed_unless_zero, text_unless_empty}
+use Rattle.otlp_kit.specs.Wire.{block, fixed, fixed_unless_zero}
 use Rattle.otlp_kit.specs.Request.{any_value, key_value, attribute, attributes, window, number_point}
-use Rattle.otlp_kit.specs.Fields.{and_then, message}
+use Rattle.otlp_kit.specs.Fields.{and_then}
 use Rattle.otlp_kit.specs.Contents.{text_of}
 use Rattle.otlp_kit.specs.Messages.{any_step, no_value, key_value_step, no_key_value, number_point_step, no_number_point}
 use Rattle.otlp_kit.specs.Sent.{IsNumber, IsInteger, IsValue, IsPair}
-use Rattle.otlp_kit.specs.declared.field.Content.TheVariants as contents
-use Rattle.otlp_kit.specs.declared.field.Field.{Field}
 use Rattle.otlp_kit.specs.declared.key_value.AnyContent.{AnyContent}
 use Rattle.otlp_kit.specs.declared.key_value.AnyContent.TheVariants as anys
 use Rattle.otlp_kit.specs.declared.key_value.AnyValue.{AnyValue}
@@ -30,7 +24,7 @@ use Rattle.otlp_kit.specs.declared.number_point.NumberPoint.{NumberPoint}
 use Rattle.otlp_kit.specs.declared.request_fault.RequestFault.{RequestFault}
 use Rattle.otlp_kit.specs.declared.request_fault.RequestFault.TheVariants as faults
 use Rattle.otlp_kit.proofs.Wiring.{span, IsFieldNumber}
-use Rattle.otlp_kit.proofs.Saying.{IsShort, short_front, short_behind, short_block, Says, says_nothing, says_then, says_number, says_fixed, says_block, says_whole, says_message, says_messages, says_fixed_unless_zero, given_number}
+use Rattle.otlp_kit.proofs.Saying.{IsShort, short_front, short_behind, short_block, Says, says_then, says_number, says_fixed, says_block, says_message, says_messages, says_fixed_unless_zero, given_number}
 
 pub numbered : (field : ℕ) → 1 ≤ field → field ≤ 12 → IsFieldNumber field
 numbered field some few = record { least = some; most = omega arith }

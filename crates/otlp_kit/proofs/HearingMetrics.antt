@@ -1,6 +1,5 @@
 -- What the crate's own messages say: metrics, scopes, the resource and the whole request.
-use Rattle.std.proofs.Common.{◌≡◌, ℕ, zero, suc, ◌+◌, ◌<◌, ◌≤◌, ◌^◌, Bool, true, false, List, [], ◌∷◌, ◌++◌, length, map, Option, Some, None, Result, Ok, Err, ℤ, pos, refl, sym, ap, ◌∙◌, subst, append-nil, arith}
-use Rattle.std.specs.Prelude.{codes}
+use Rattle.std.proofs.Common.{◌≡◌, ℕ, Bool, true, false, List, [], ◌∷◌, ◌++◌, map, Option, Some, None, Result, Ok, ℤ, pos, refl, sym, ap, subst, arith}
 use Rattle.std.specs.List.{AllByRecursion, flat_map}
 use Rattle.std.specs.Str.{IsUtf8}
 use Rattle.attr_kit.specs.declared.attr_value.AttrValue.{AttrValue}
@@ -13,11 +12,11 @@ use Rattle.point_kit.specs.declared.shape.Shape.{Shape}
 use Rattle.point_kit.specs.declared.shape.Shape.TheVariants as shapes
 use Rattle.point_kit.specs.declared.stream.Stream.{Stream}
 use Rattle.point_kit.specs.declared.writer_id.WriterId.{WriterId}
-use Rattle.otlp_kit.specs.Wire.{block, number, text_unless_empty}
+use Rattle.otlp_kit.specs.Wire.{block, text_unless_empty}
 use Rattle.otlp_kit.specs.Request.{key_value, attribute, instance, service, resource, number_point, point_fields, fields_of, point, points_of, cumulative, is_monotonic, sum_fields, metric_data, metric_fields, metric, metrics, scope_fields, scope_metrics, scopes, of_one_stream, of_one_scope, resource_metrics, request}
 use Rattle.otlp_kit.specs.Request as requests
 use Rattle.otlp_kit.specs.Runs.{runs}
-use Rattle.otlp_kit.specs.Fields.{and_then, message}
+use Rattle.otlp_kit.specs.Fields.{and_then}
 use Rattle.otlp_kit.specs.Messages.{key_value_step, no_key_value, number_point_step, no_number_point, histogram_point_step, no_histogram_point, gauge_step, no_gauge, sum_step, no_sum, histogram_step, no_histogram, metric_step, no_metric, scope_step, no_scope, scope_metrics_step, no_scope_metrics, resource_step, no_resource, resource_metrics_step, no_resource_metrics, request_step, no_request, request_said}
 use Rattle.otlp_kit.specs.Sent.{IsNumber, IsPair, IsStream}
 use Rattle.otlp_kit.proofs.Sendable.{IsPayload, IsSent}

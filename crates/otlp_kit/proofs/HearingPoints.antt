@@ -1,28 +1,21 @@
 -- What the crate's own messages say: histograms, and points of each kind.
-use Rattle.std.proofs.Common.{◌≡◌, ℕ, zero, suc, ◌+◌, ◌<◌, ◌≤◌, ◌^◌, List, [], ◌∷◌, ◌++◌, length, map, Option, Some, None, Result, Ok, Err, ℤ, pos, refl, sym, ap, ◌∙◌, subst, arith}
-use Rattle.std.specs.Int.{cast_unsigned, w64}
+use Rattle.std.proofs.Common.{ℕ, List, [], ◌∷◌, ◌++◌, map, Option, Some, None, Result, Ok, ℤ, refl, ap, ◌∙◌, arith}
 use Rattle.std.specs.List.{AllByRecursion, flat_map}
 use Rattle.attr_kit.specs.declared.attr_value.AttrValue.{AttrValue}
-use Rattle.point_kit.specs.Orders.{bounds_of}
-use Rattle.point_kit.specs.declared.export_point.ExportPoint.{ExportPoint}
-use Rattle.point_kit.specs.declared.payload.Payload.{Payload}
-use Rattle.point_kit.specs.declared.payload.Payload.TheVariants as payloads
-use Rattle.point_kit.specs.declared.shape.Shape.{Shape}
-use Rattle.point_kit.specs.declared.shape.Shape.TheVariants as shapes
-use Rattle.otlp_kit.specs.Wire.{block, number, eight, fixed, fixed_unless_zero}
+use Rattle.otlp_kit.specs.Wire.{block, eight, fixed, fixed_unless_zero}
 use Rattle.otlp_kit.specs.Doubles.{double}
-use Rattle.otlp_kit.specs.Request.{key_value, attribute, attributes, window, number_point, explicit_bounds, range_fields, counts, point_fields}
-use Rattle.otlp_kit.specs.Fields.{and_then, message}
-use Rattle.otlp_kit.specs.Messages.{key_value_step, no_key_value, number_point_step, no_number_point, histogram_point_step, no_histogram_point}
-use Rattle.otlp_kit.specs.Sent.{IsNumber, IsInteger, IsExact, IsPair, IsExactRange}
-use Rattle.otlp_kit.proofs.Sendable.{IsHistogram, IsPayload}
+use Rattle.otlp_kit.specs.Request.{key_value, attributes, window, explicit_bounds, range_fields, counts}
+use Rattle.otlp_kit.specs.Fields.{and_then}
+use Rattle.otlp_kit.specs.Messages.{key_value_step, no_key_value, histogram_point_step, no_histogram_point}
+use Rattle.otlp_kit.specs.Sent.{IsNumber, IsExact, IsPair, IsExactRange}
+use Rattle.otlp_kit.proofs.Sendable.{IsHistogram}
 use Rattle.otlp_kit.specs.declared.field.Content.TheVariants as contents
 use Rattle.otlp_kit.specs.declared.histogram_point.HistogramPoint.{HistogramPoint}
 use Rattle.otlp_kit.specs.declared.key_value.KeyValue.{KeyValue}
 use Rattle.otlp_kit.specs.declared.request_fault.RequestFault.{RequestFault}
 use Rattle.otlp_kit.proofs.Exactly.{double_fits, packed, bounds_packed, all_doubles}
 use Rattle.otlp_kit.proofs.Hearing.{numbered, heard_pair, all_pairs}
-use Rattle.otlp_kit.proofs.Saying.{IsShort, short_front, short_behind, short_block, Says, says_nothing, says_then, says_number, says_fixed, says_block, says_messages, says_fixed_unless_zero, given_number}
+use Rattle.otlp_kit.proofs.Saying.{IsShort, short_front, short_behind, short_block, Says, says_nothing, says_then, says_fixed, says_block, says_messages, says_fixed_unless_zero, given_number}
 
 abbrev pub histogram_with : Option ℕ → Option ℕ → Option ℕ → Option ℕ → List ℕ → List ℕ → List KeyValue → Option ℕ → Option ℕ → HistogramPoint
 histogram_with start time count sum buckets bounds attrs least greatest =

@@ -1,10 +1,10 @@
 -- Attributes and points come back from what a request says of them.
-use Rattle.std.proofs.Common.{◌≡◌, ℕ, zero, suc, ◌+◌, ◌<◌, ◌≤◌, ◌^◌, cond, Bool, true, false, List, [], ◌∷◌, ◌++◌, length, map, Option, Some, None, Result, Ok, Err, ℤ, pos, refl, sym, ap, ◌∙◌, subst, append_assoc, append-nil, arith}
+use Rattle.std.proofs.Common.{◌≡◌, ℕ, zero, suc, ◌+◌, ◌<◌, cond, Bool, true, false, List, [], ◌∷◌, ◌++◌, length, map, Option, Some, None, Result, Ok, Err, ℤ, refl, sym, ap, ◌∙◌, subst, append_assoc, append-nil, arith}
 use Rattle.std.specs.Prelude.{◌==◌, ◌&&◌, not, IsTrue}
 use Rattle.std.specs.Cmp.{nat_cmp_total}
 use Rattle.std.specs.Cmp.Lexicographic.{slice_cmp, lists_total}
 use Rattle.std.specs.FinMap.Entries.{is_sorted, below_all}
-use Rattle.std.specs.Int.{cast_signed, cast_unsigned, w64}
+use Rattle.std.specs.Int.{w64}
 use Rattle.std.specs.List.{AllByRecursion, list_all, position_from}
 use Rattle.std.specs.Option.{unwrap_or}
 use Rattle.std.specs.Ordering.{is_eq, is_lt, nat_cmp, ordering_reverse}
@@ -29,12 +29,11 @@ use Rattle.point_kit.specs.declared.stream.Stream.{Stream}
 use Rattle.otlp_kit.specs.Doubles.{double}
 use Rattle.otlp_kit.specs.Exact.{exact}
 use Rattle.otlp_kit.specs.Fields.{and_then}
-use Rattle.otlp_kit.specs.Reading.{refuse_when, or_zero, content_value, value_of, key_of, pair_of, attribute, is_twice, add_attribute, attributes, placed, number_placed, gauge_point, sum_point, whole, add_bound, bounds_of, range_of, buckets_of, named, histogram_payload, histogram_point}
+use Rattle.otlp_kit.specs.Reading.{refuse_when, or_zero, content_value, key_of, pair_of, attribute, is_twice, add_attribute, attributes, placed, number_placed, gauge_point, sum_point, whole, add_bound, bounds_of, range_of, buckets_of, named, histogram_payload, histogram_point}
 use Rattle.otlp_kit.specs.Refusals.{rises}
-use Rattle.otlp_kit.specs.Sent.{IsInteger, IsExact, IsPair, IsSet, IsExactRange}
+use Rattle.otlp_kit.specs.Sent.{IsInteger, IsExact, IsExactRange}
 use Rattle.otlp_kit.proofs.Sendable.{IsHistogram}
-use Rattle.otlp_kit.specs.Walks.{walk, walk_from, first_place}
-use Rattle.otlp_kit.specs.declared.key_value.KeyValue.{KeyValue}
+use Rattle.otlp_kit.specs.Walks.{walk, walk_from}
 use Rattle.otlp_kit.specs.declared.placed.Placed.{Placed}
 use Rattle.otlp_kit.specs.declared.request_fault.RequestFault.{RequestFault}
 use Rattle.otlp_kit.specs.declared.request_fault.RequestFault.TheVariants as faults

@@ -1,6 +1,6 @@
 -- An export comes back from its request.
-use Rattle.std.proofs.Common.{◌≡◌, ℕ, zero, suc, ◌+◌, ◌-◌, ◌<◌, ◌≤◌, ◌^◌, cond, Bool, true, false, List, [], ◌∷◌, ◌++◌, length, map, fold, All, Option, Some, None, Result, Ok, Err, ℤ, pos, inl, refl, sym, ap, ◌∙◌, subst, append_assoc, append-nil, arith}
-use Rattle.std.specs.Prelude.{◌==◌, ◌&&◌, nat_lt, not, codes, slice_get, slice_index}
+use Rattle.std.proofs.Common.{◌≡◌, ℕ, zero, suc, ◌+◌, ◌<◌, ◌≤◌, cond, Bool, true, false, List, [], ◌∷◌, ◌++◌, length, map, fold, All, Option, Some, None, Result, Ok, ℤ, inl, refl, sym, ap, ◌∙◌, subst, append_assoc, append-nil, arith}
+use Rattle.std.specs.Prelude.{◌&&◌, nat_lt, not, codes, slice_get, slice_index}
 use Rattle.std.specs.List.{AllByRecursion, flat_map, list_all, position_from}
 use Rattle.std.specs.Option.{option_map, option_or}
 use Rattle.std.specs.Str.{IsUtf8}
@@ -12,11 +12,9 @@ use Rattle.std.proofs.lemmas.Option.{slice_get-map}
 use Rattle.std.proofs.lemmas.Str.{IsUtf8-from_ascii}
 use Rattle.attr_kit.specs.Attributes.{AreAttributes}
 use Rattle.attr_kit.specs.Exact.{exact_texts, first_holds, second_holds}
-use Rattle.attr_kit.specs.Refusing.{first, when, wherever}
-use Rattle.attr_kit.specs.declared.attr_value.AttrValue.{AttrValue}
+use Rattle.attr_kit.specs.Refusing.{when}
 use Rattle.point_kit.proofs.Sound.{sound_points}
 use Rattle.point_kit.specs.Exact.{exact_streams}
-use Rattle.point_kit.specs.ExportFaults.{export_fault}
 use Rattle.point_kit.specs.Orders.{bounds_of}
 use Rattle.point_kit.specs.Payload.{IsSound, IsSoundHistogram}
 use Rattle.point_kit.specs.declared.export.Export.{Export}
@@ -28,7 +26,7 @@ use Rattle.point_kit.specs.declared.shape.Shape.{Shape}
 use Rattle.point_kit.specs.declared.shape.Shape.TheVariants as shapes
 use Rattle.point_kit.specs.declared.stream.Stream.{Stream}
 use Rattle.point_kit.specs.declared.writer_id.WriterId.{WriterId}
-use Rattle.uuid.specs.Text.{parsed_hyphenated, hyphenated_text, lower}
+use Rattle.uuid.specs.Text.{hyphenated_text, lower}
 use Rattle.uuid.proofs.RoundTrips.{parses_hyphenated_text}
 use Rattle.uuid.proofs.TextLemmas.{hyphenated_ascii}
 use Rattle.otlp_kit.specs.Fields.{and_then}
@@ -37,22 +35,19 @@ use Rattle.otlp_kit.specs.Reading as readings
 use Rattle.otlp_kit.specs.Refusals.{rises, has_bad_bounds, most_bytes, bounds_fault, length_fault, otlp_fault}
 use Rattle.otlp_kit.specs.Request.{instance, service, of_one_stream, of_one_scope, request}
 use Rattle.otlp_kit.specs.Runs.{runs}
-use Rattle.otlp_kit.specs.Sent.{IsPair, IsWriter, IsExport, IsSaid}
+use Rattle.otlp_kit.specs.Sent.{IsWriter, IsExport, IsSaid}
 use Rattle.otlp_kit.proofs.Sendable.{IsPayload, IsStarted, IsSent, all_sent}
 use Rattle.otlp_kit.specs.Walks.{walk, walk_from, first_place}
 use Rattle.otlp_kit.specs.declared.fault.OtlpFault.{OtlpFault}
 use Rattle.otlp_kit.specs.declared.fault.OtlpFault.TheVariants as otlp
 use Rattle.otlp_kit.specs.declared.group.Group.{Group}
-use Rattle.otlp_kit.specs.declared.metric.Metric.{Metric}
 use Rattle.otlp_kit.specs.declared.placed.Placed.{Placed}
 use Rattle.otlp_kit.specs.declared.reading.Reading.{Reading}
 use Rattle.otlp_kit.specs.declared.request_fault.RequestFault.{RequestFault}
 use Rattle.otlp_kit.specs.declared.request_fault.RequestFault.TheVariants as faults
 use Rattle.otlp_kit.specs.declared.resource.Request.{Request}
-use Rattle.otlp_kit.specs.declared.scope.ScopeMetrics.{ScopeMetrics}
 use Rattle.otlp_kit.proofs.Hearing.{heard_pair, heard_number}
-use Rattle.otlp_kit.proofs.HearingPoints.{heard_histogram}
-use Rattle.otlp_kit.proofs.HearingMetrics.{value_in, heard_number_of, heard_payload, heard_histogram_of, given_monotonic, heard_data, heard_fields, heard_metric, heard_scope, heard_scope_fields, heard_resource_metrics, heard_request, IsStreamRun, IsScopeRun, request_heard}
+use Rattle.otlp_kit.proofs.HearingMetrics.{value_in, heard_number_of, heard_payload, heard_histogram_of, given_monotonic, heard_data, heard_fields, heard_metric, heard_scope, heard_request, IsScopeRun, request_heard}
 use Rattle.otlp_kit.proofs.Parting.{IsRun, all_of, runs_hold, rejoined}
 use Rattle.otlp_kit.proofs.Regained.{Pairs, equal_self, point_with, placed_with, gauge_back, sum_back, histogram_back}
 use Rattle.otlp_kit.proofs.Saying.{IsShort, given_text}

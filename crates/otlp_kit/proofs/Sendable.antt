@@ -1,8 +1,7 @@
 -- Exports that come back, with what is known of each of their points at hand.
-use Rattle.std.proofs.Common.{◌≡◌, ℕ, ◌<◌, true, false, ℤ, List, [], ◌∷◌, length, Option}
+use Rattle.std.proofs.Common.{ℕ, ◌<◌, true, false, ℤ, List, [], ◌∷◌, Option}
 use Rattle.std.specs.List.{AllByRecursion}
 use Rattle.point_kit.specs.Payload.{IsSound}
-use Rattle.point_kit.specs.declared.export.Export.{Export}
 use Rattle.point_kit.specs.declared.export_point.ExportPoint.{ExportPoint}
 use Rattle.point_kit.specs.declared.payload.Payload.{Payload}
 use Rattle.point_kit.specs.declared.payload.Payload.TheVariants as payloads

@@ -1,18 +1,17 @@
 -- Attributes whose key an earlier one may have, and scopes whose name.
-use Rattle.std.proofs.Common.{◌≡◌, ℕ, ◌+◌, ◌<◌, Bool, true, false, cond, List, [], ◌∷◌, ◌++◌, length, drop, get_or, map, Some, Option, unwrap_or, Result, Ok, Err, refl, sym, ap, ◌∙◌}
+use Rattle.std.proofs.Common.{◌≡◌, ℕ, ◌+◌, ◌<◌, Bool, true, false, cond, List, [], ◌∷◌, length, drop, get_or, map, Some, Option, unwrap_or, Result, Ok, Err, inl, inr, refl, sym, ap, ◌∙◌, arith}
 use Rattle.std.specs.List.{position, position_from}
 use Rattle.std.specs.Ordering.{is_eq}
 use Rattle.std.specs.Str.{bytes_eq}
 use Rattle.std.proofs.lemmas.Iterator.Adapters.{position_from-zero}
 use Rattle.std.proofs.lemmas.Map.Text.{is_eq-slice_cmp}
 use Rattle.attr_kit.specs.Orders.{text_cmp}
-use Rattle.std.specs.Prelude.{◌==◌, not, slice_get}
+use Rattle.std.specs.Prelude.{slice_get}
 use Rattle.std.proofs.Math.ListN.{get_or-map}
 use Rattle.std.proofs.lemmas.List.{get_or_default, length-map}
-use Rattle.attr_kit.specs.declared.attr_value.AttrValue.{AttrValue}
 use Rattle.otlp_kit.specs.Fields.{and_then}
-use Rattle.otlp_kit.specs.Reading.{refuse_when, key_of, attribute, add_attribute, scope_name, is_other, differs, add_metric, behind_scope, add_scope}
-use Rattle.otlp_kit.specs.Walks.{walk, walk_from, first_place}
+use Rattle.otlp_kit.specs.Reading.{refuse_when, key_of, scope_name, differs, add_metric, behind_scope, add_scope}
+use Rattle.otlp_kit.specs.Walks.{AreFirsts, StandsAt, walk, walk_from, first_place}
 use Rattle.otlp_kit.specs.declared.key_value.KeyValue.{KeyValue}
 use Rattle.otlp_kit.specs.declared.metric.Metric.{Metric}
 use Rattle.otlp_kit.specs.declared.reading.Reading.{Reading}
@@ -37,23 +36,10 @@ module _ {A : Type 0} (key : A → List ℕ) (given : List A) (keys seen : List 
       within : i < length given → i < length (map (first_place (map key given)) (map key given))
       within h = rw (length-map, length-map) h
 
-abbrev Pairs : Type 0
-Pairs = List (List ℕ × AttrValue)
-
-module _ (point : ℕ) (given : List KeyValue) (keys seen : List (List ℕ)) (firsts : List ℕ) (keys_are : keys ≡ map key_of given) (seen_are : seen ≡ keys) (firsts_are : firsts ≡ map (first_place seen) seen) where
-  added : (i first : ℕ) (a : KeyValue) (pairs : Pairs) (r : Result (List ℕ × AttrValue) RequestFault) → i < length given → first ≡ get_or firsts i first → a ≡ get_or given i a → attribute point (not (first == i)) a ≡ r → add_attribute point given i pairs (get_or given i a) ≡ and_then r (λ p. Ok (pairs ++ p ∷ []))
-  added i first a pairs r h at is e =
-      ap (add_attribute point given i pairs) (sym is)
-      ∙ ap (λ (n : ℕ). and_then (attribute point (not (n == i)) a) (λ (p : List ℕ × AttrValue). Ok (pairs ++ p ∷ []))) (sym (first_is key_of given keys seen firsts keys_are seen_are firsts_are i first a h at is))
-      ∙ ap (λ (x : Result (List ℕ × AttrValue) RequestFault). and_then x (λ (p : List ℕ × AttrValue). Ok (pairs ++ p ∷ []))) e
-
-  pub pair_on : (whole : Result Pairs RequestFault) (i first : ℕ) (a : KeyValue) (pairs new : Pairs) (p : List ℕ × AttrValue) → i < length given → first ≡ get_or firsts i first → a ≡ get_or given i a → walk_from (add_attribute point given) i pairs (drop i given) ≡ whole → attribute point (not (first == i)) a ≡ Ok p → new ≡ pairs ++ p ∷ [] → walk_from (add_attribute point given) (i + 1) new (drop (i + 1) given) ≡ whole
-  pair_on whole i first a pairs new p h at is inv e n =
-      walk_on (add_attribute point given) whole i pairs new given a h inv (added i first a pairs (Ok p) h at is e ∙ ap (λ (l : Pairs). Ok l) (sym n))
-
-  pub pair_refused : (whole : Result Pairs RequestFault) (i first : ℕ) (a : KeyValue) (pairs : Pairs) (f : RequestFault) → i < length given → first ≡ get_or firsts i first → a ≡ get_or given i a → walk_from (add_attribute point given) i pairs (drop i given) ≡ whole → attribute point (not (first == i)) a ≡ Err f → whole ≡ Err f
-  pair_refused whole i first a pairs f h at is inv e =
-      walk_refused (add_attribute point given) whole i pairs f given a h inv (added i first a pairs (Err f) h at is e)
+-- the first place that was kept
+pub kept_first : (given : List KeyValue) (firsts : List ℕ) (i first : ℕ) (a : KeyValue) → AreFirsts (map key_of given) firsts → StandsAt given i a → i < length firsts → first ≡ get_or firsts i first → first ≡ first_place (map key_of given) (key_of a)
+kept_first given firsts i first a (inl none) stands within at = absurd (omega (arith, ap length none))
+kept_first given firsts i first a (inr all) stands within at = first_is key_of given (map key_of given) (map key_of given) firsts refl refl all i first a stands.0 at stands.1
 
 module _ (given : List ScopeMetrics) (keys seen : List (List ℕ)) (firsts : List ℕ) (keys_are : keys ≡ map scope_name given) (seen_are : seen ≡ keys) (firsts_are : firsts ≡ map (first_place seen) seen) where
   -- a scope is told apart from the first of its name

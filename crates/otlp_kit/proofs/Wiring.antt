@@ -1,5 +1,5 @@
 -- What is read of the pieces of a message, where they are what the crate writes.
-use Rattle.std.proofs.Common.{◌≡◌, ℕ, zero, suc, ◌+◌, ◌-◌, ◌*◌, ◌/◌, ◌%◌, ◌^◌, ◌<◌, ◌≤◌, cond, Bool, true, false, List, [], ◌∷◌, ◌++◌, length, take, drop, Option, Some, None, Result, Ok, Err, refl, sym, ap, ◌∙◌, subst, append_assoc, arith}
+use Rattle.std.proofs.Common.{◌≡◌, ℕ, zero, suc, ◌+◌, ◌-◌, ◌*◌, ◌/◌, ◌%◌, ◌^◌, ◌<◌, ◌≤◌, cond, Bool, true, false, List, [], ◌∷◌, ◌++◌, length, take, Option, Some, None, Result, Ok, Err, refl, sym, ap, ◌∙◌, subst, append_assoc, arith}
 use Rattle.std.specs.Prelude.{◌==◌, ◌||◌, nat_lt, nat_le}
 use Rattle.std.specs.Int.{from_le_bytes, to_le_bytes, w64}
 use Rattle.std.proofs.lemmas.Bool.Decides.{nat_tests}
@@ -7,7 +7,7 @@ use Rattle.std.proofs.lemmas.List.{take_at, drop_at, length-append}
 use Rattle.std.proofs.lemmas.Nat.{from_le_bytes-to_le_bytes_8}
 use Rattle.otlp_kit.specs.Wire.{groups, varint, tag, block, number, eight, fixed}
 use Rattle.otlp_kit.specs.Spans.{Span, front, behind}
-use Rattle.otlp_kit.specs.Fields.{and_then, group_below, groups_at, varint_at, Found, varint_content, eight_content, block_content, content_at, tagged, next_field}
+use Rattle.otlp_kit.specs.Fields.{and_then, group_below, groups_at, varint_at, Found, varint_content, block_content, content_at, tagged, next_field}
 use Rattle.otlp_kit.specs.declared.field.Content.{Content}
 use Rattle.otlp_kit.specs.declared.field.Content.TheVariants as contents
 use Rattle.otlp_kit.specs.declared.field.Field.{Field}

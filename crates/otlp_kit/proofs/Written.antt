@@ -111,16 +111,21 @@ unfolding explicit_bounds
 some_bounds [] e = absurd (omega (arith, some 0 e))
 some_bounds (b ∷ bs) e = refl
 
--- of points, of which the first is read
-pub metric_of_first : (start time : ℕ) (ps : List ExportPoint) (p : ExportPoint) (s : Stream) → 0 < length ps → p ≡ get_or ps 0 p → s ≡ p.stream → block 2 (metric_fields start time s ps) ≡ metric start time ps
-unfolding metric
-metric_of_first start time [] p s h e f = absurd (omega arith)
-metric_of_first start time (q ∷ ps) p s h e f = ap (λ (x : Stream). block 2 (metric_fields start time x (q ∷ ps))) (f ∙ ap (λ (x : ExportPoint). x.stream) e)
+-- what is written of points by the stream of the first, and closed
+pub closed_of_first : (fields : Stream → List ExportPoint → List ℕ) (whole : List ExportPoint → List ℕ) → ((p : ExportPoint) (ps : List ExportPoint) → whole (p ∷ ps) ≡ block 2 (fields p.stream (p ∷ ps))) → (ps : List ExportPoint) (p : ExportPoint) (s : Stream) (start : ℕ) (old mid new : List ℕ) → 0 < length ps → p ≡ get_or ps 0 p → s ≡ p.stream → start ≡ length old → mid ≡ old ++ fields s ps → new ≡ take start mid ++ block 2 (drop start mid) → new ≡ old ++ whole ps
+closed_of_first fields whole is [] p s start old mid new h e f at written closes = absurd (omega arith)
+closed_of_first fields whole is (q ∷ ps) p s start old mid new h e f at written closes =
+    closed 2 start old mid new (fields s (q ∷ ps)) at written closes
+    ∙ ap (λ (x : Stream). old ++ block 2 (fields x (q ∷ ps))) (f ∙ ap (λ (x : ExportPoint). x.stream) e)
+    ∙ ap (λ (l : List ℕ). old ++ l) (sym (is q ps))
 
-pub scope_of_first : (start time : ℕ) (ps : List ExportPoint) (p : ExportPoint) (s : Stream) → 0 < length ps → p ≡ get_or ps 0 p → s ≡ p.stream → block 2 (scope_fields start time s.scope ps) ≡ scope_metrics start time ps
+pub metric_by_first : (start time : ℕ) (p : ExportPoint) (ps : List ExportPoint) → metric start time (p ∷ ps) ≡ block 2 (metric_fields start time p.stream (p ∷ ps))
+unfolding metric
+metric_by_first start time p ps = refl
+
+pub scope_by_first : (start time : ℕ) (p : ExportPoint) (ps : List ExportPoint) → scope_metrics start time (p ∷ ps) ≡ block 2 (scope_fields start time p.stream.scope (p ∷ ps))
 unfolding scope_metrics
-scope_of_first start time [] p s h e f = absurd (omega arith)
-scope_of_first start time (q ∷ ps) p s h e f = ap (λ (x : Stream). block 2 (scope_fields start time x.scope (q ∷ ps))) (f ∙ ap (λ (x : ExportPoint). x.stream) e)
+scope_by_first start time p ps = refl
 
 pub request_is : (e : Export) → block 1 (resource_metrics e) ≡ request e
 unfolding request

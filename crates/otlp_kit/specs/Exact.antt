@@ -1,5 +1,5 @@
 -- Whole numbers of doubles, after IEEE 754: binary64.
-use Rattle.std.specs.Prelude.{ℕ, ℤ, pos, neg_ℤ, ◌+◌, ◌-◌, ◌/◌, ◌%◌, ◌^◌, ◌==◌, ◌&&◌, ◌||◌, nat_lt, nat_le, if◌then◌else◌, Bool, Result, Ok, Err}
+use Rattle.std.specs.Prelude.{ℕ, ℤ, pos, neg_ℤ, ◌+◌, ◌-◌, ◌/◌, ◌%◌, ◌^◌, ◌==◌, ◌&&◌, ◌||◌, nat_lt, nat_le, if◌then◌else◌, Result, Ok, Err}
 use Rattle.otlp_kit.specs.Doubles.{sign_bit}
 use Rattle.otlp_kit.specs.Fields.{and_then}
 use Rattle.otlp_kit.specs.declared.request_fault.RequestFault.{RequestFault}

@@ -1,5 +1,5 @@
 -- What the fields of each message are, by the numbers that opentelemetry-proto gives them. Others are passed over.
-use Rattle.std.specs.Prelude.{ℕ, ◌==◌, ◌||◌, nat_lt, if◌then◌else◌, Bool, List, [], ◌∷◌, ◌++◌, not, Option, Some, None, Result, Ok, Err}
+use Rattle.std.specs.Prelude.{ℕ, ◌==◌, ◌||◌, nat_lt, if◌then◌else◌, Bool, List, [], ◌∷◌, ◌++◌, not, Option, Some, None, Result, Ok}
 use Rattle.std.specs.Int.{cast_signed, w64}
 use Rattle.otlp_kit.specs.Contents.{block_in, eights_in, once, number_once, eight_once, text_once}
 use Rattle.otlp_kit.specs.Fields.{and_then, message}
@@ -15,7 +15,6 @@ use Rattle.otlp_kit.specs.declared.metric.Gauge.{Gauge}
 use Rattle.otlp_kit.specs.declared.metric.Histogram.{Histogram}
 use Rattle.otlp_kit.specs.declared.metric.Metric.{Metric}
 use Rattle.otlp_kit.specs.declared.metric.Sum.{Sum}
-use Rattle.otlp_kit.specs.declared.number_point.Number.{Number}
 use Rattle.otlp_kit.specs.declared.number_point.Number.TheVariants as numbers
 use Rattle.otlp_kit.specs.declared.number_point.NumberPoint.{NumberPoint}
 use Rattle.otlp_kit.specs.declared.request_fault.RequestFault.{RequestFault}

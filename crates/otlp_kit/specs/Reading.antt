@@ -3,7 +3,7 @@ use Rattle.std.specs.Prelude.{ℕ, ℤ, ◌+◌, ◌%◌, ◌==◌, ◌&&◌, na
 use Rattle.std.specs.Cmp.Lexicographic.{pointwise}
 use Rattle.std.specs.Int.{cast_signed, w64}
 use Rattle.std.specs.List.{list_any, position}
-use Rattle.std.specs.Option.{unwrap_or, option_map}
+use Rattle.std.specs.Option.{unwrap_or}
 use Rattle.attr_kit.specs.Putting.{attributes_of}
 use Rattle.attr_kit.specs.declared.attr_value.AttrValue.{AttrValue}
 use Rattle.attr_kit.specs.declared.attr_value.AttrValue.TheVariants as values

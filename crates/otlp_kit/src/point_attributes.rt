@@ -3,7 +3,7 @@ ghost use Rattle.std.specs.Prelude.{◌≡◌, ◌≢◌, ◌==◌, ◌++◌, []
 ghost use Rattle.std.specs.List.{position};
 ghost use Rattle.std.specs.Str.{bytes_eq};
 ghost use Rattle.otlp_kit.specs.Reading.{value_of, content_value, key_of, attribute, attributes, add_attribute};
-ghost use Rattle.otlp_kit.specs.Walks.{first_place, walk};
+ghost use Rattle.otlp_kit.specs.Walks.{AreFirsts, StandsAt, first_place, walk};
 
 use crate::RequestFault;
 use crate::first_places::first_places;
@@ -100,7 +100,6 @@ fn place_of_key(given: &[KeyValue], key: &str) -> Option<usize>
 }
 
 // The same, 0 where there is none. O(n) comparisons.
-
 #[inline(always)]
 fn first_of_key(given: &[KeyValue], key: &str) -> usize
     ensures { result ≡ first_place (map key_of given.now) key.now }
@@ -108,46 +107,31 @@ fn first_of_key(given: &[KeyValue], key: &str) -> usize
     place_of_key(given, key).unwrap_or(0)
 }
 
-// The pairs of few attributes. Takes no memory but theirs.
-#[tactic(auto, unfolding(crate::specs::Walks::walk))]
-fn pairs_of_few(
-    alloc: Global,
-    point: usize,
-    given: &[KeyValue],
-) -> Result<Vec<(Txt, AttrValue)>, RequestFault>
-    ensures ok { IfOk result (λ pairs. walk (add_attribute point given.now) [] given.now ≡ Ok pairs.items) }
-    ensures err { IfErr result (λ f. f ≢ RequestFault.NoMemory
-        → walk (add_attribute point given.now) [] given.now ≡ Err f) }
+// The places where the keys of many attributes stand first; none of few, which takes no memory.
+fn firsts_of(alloc: Global, given: &[KeyValue]) -> Result<Vec<usize>, NoMemory>
+    ensures { IfOk result (λ firsts. AreFirsts (map key_of given.now) firsts.items) }
 {
-    let mut pairs = Vec::with_capacity(alloc, given.len())?;
-    for (place, one) in given.iter().enumerate() {
-        let first = first_of_key(given, key_of(one));
-        let pair = attribute(alloc, point, place, first, one)?;
-        push_pair(&mut pairs, pair)?;
+    if given.len() <= FEW {
+        return Ok(Vec::new(alloc));
     }
-    Ok(pairs)
-}
-
-#[tactic(auto, unfolding(crate::specs::Walks::walk))]
-fn pairs_of_many(
-    alloc: Global,
-    point: usize,
-    given: &[KeyValue],
-) -> Result<Vec<(Txt, AttrValue)>, RequestFault>
-    ensures ok { IfOk result (λ pairs. walk (add_attribute point given.now) [] given.now ≡ Ok pairs.items) }
-    ensures err { IfErr result (λ f. f ≢ RequestFault.NoMemory
-        → walk (add_attribute point given.now) [] given.now ≡ Err f) }
-{
     let keys = keys_of(alloc, given)?;
-    let firsts = first_places(alloc, keys.as_slice())?;
-    let mut pairs = Vec::with_capacity(alloc, given.len())?;
-    for place in 0..given.len() {
-        let pair = attribute(alloc, point, place, firsts[place], &given[place])?;
-        push_pair(&mut pairs, pair)?;
-    }
-    Ok(pairs)
+    first_places(alloc, keys.as_slice())
 }
 
+// The place where the key of an attribute stands first: as it was found, or by comparing.
+#[inline(always)]
+fn first_of(given: &[KeyValue], firsts: &[usize], place: usize, one: &KeyValue) -> usize
+    requires firsts { AreFirsts (map key_of given.now) firsts.now }
+    requires one { StandsAt given.now place one.now }
+    ensures { result ≡ first_place (map key_of given.now) (key_of one.now) }
+{
+    match firsts.get(place) {
+        Some(first) => *first,
+        None => first_of_key(given, key_of(one)),
+    }
+}
+
+#[tactic(auto, unfolding(crate::specs::Walks::walk))]
 fn pairs_of(
     alloc: Global,
     point: usize,
@@ -157,11 +141,14 @@ fn pairs_of(
     ensures err { IfErr result (λ f. f ≢ RequestFault.NoMemory
         → walk (add_attribute point given.now) [] given.now ≡ Err f) }
 {
-    if given.len() <= FEW {
-        pairs_of_few(alloc, point, given)
-    } else {
-        pairs_of_many(alloc, point, given)
+    let firsts = firsts_of(alloc, given)?;
+    let mut pairs = Vec::with_capacity(alloc, given.len())?;
+    for (place, one) in given.iter().enumerate() {
+        let first = first_of(given, firsts.as_slice(), place, one);
+        let pair = attribute(alloc, point, place, first, one)?;
+        push_pair(&mut pairs, pair)?;
     }
+    Ok(pairs)
 }
 
 /// The attributes of a point as a set. O(n log n) comparisons of keys.

@@ -11,6 +11,32 @@ use attr_kit::NoMemory;
 use std::alloc::Global;
 use std::fmt;
 
+// What a line has, and what a word of each kind is.
+const BYTES: &str = "only spaces and visible ASCII characters";
+
+const SPACES: &str = "one space between two words, and none at its ends";
+
+const LABEL: &str = "a label has at most 16 of a to z and 0 to 9";
+
+const KIND: &str = "a kind is counter, updown, gauge or histogram";
+
+const KIND_ASKED: &str = "a kind is counter, updown, gauge, histogram, or * for any";
+
+const UUID: &str = "a UUID has 32 hexadecimal digits, with hyphens or without";
+
+const NUMBER: &str = "a number has digits alone, and no leading zero";
+
+const VALUE: &str = "a value is a whole number of 64 bits, with no plus sign and no leading zero";
+
+const SHAPE: &str = "a shape is sum+, sum, gauge, hist, or hist: and values with commas between";
+
+const ATTRIBUTES: &str = "a list is -, or pairs of a key, = and a value, with commas between";
+
+const KEYS: &str = "a list is *, -, or keys with commas between";
+
+const AGGREGATION: &str =
+    "an aggregation is default, sum, last, drop, or buckets: and values with commas between";
+
 /// A word as it is told: a front of it, and what stands for the rest.
 #[derive(Clone, Copy)]
 struct ShortWord<'a> {
@@ -95,61 +121,25 @@ impl fmt::Display for Sentence<'_> {
             Reason::Cut => write!(f, "a line ends with a line feed"),
             Reason::Bytes => {
                 let odd = OddByte { byte };
-                write!(
-                    f,
-                    "a line has only spaces and visible ASCII characters{odd}"
-                )
+                write!(f, "a line has {BYTES}{odd}")
             }
-            Reason::Spaces => write!(
-                f,
-                "a line has one space between two words, and none at its ends"
-            ),
+            Reason::Spaces => write!(f, "a line has {SPACES}"),
             Reason::Unknown => write!(f, "no line begins with '{word}'"),
             Reason::Count(form) => write!(f, "'{word}' wants {form}"),
             Reason::Label(_) => {
                 let odd = OddCharacter { byte };
-                write!(
-                    f,
-                    "'{word}' is no label: a label has at most 16 of a to z and 0 to 9{odd}"
-                )
+                write!(f, "'{word}' is no label: {LABEL}{odd}")
             }
-            Reason::Kind(_) => write!(
-                f,
-                "no kind is called '{word}': a kind is counter, updown, gauge or histogram"
-            ),
-            Reason::KindAsked(_) => write!(
-                f,
-                "no kind is called '{word}': a kind is counter, updown, gauge, histogram, or * for any"
-            ),
-            Reason::Uuid(_) => write!(
-                f,
-                "'{word}' is no UUID: a UUID has 32 hexadecimal digits, with hyphens or without"
-            ),
-            Reason::NoNumber(_) => write!(
-                f,
-                "'{word}' is no number: a number has digits alone, and no leading zero"
-            ),
+            Reason::Kind(_) => write!(f, "no kind is called '{word}': {KIND}"),
+            Reason::KindAsked(_) => write!(f, "no kind is called '{word}': {KIND_ASKED}"),
+            Reason::Uuid(_) => write!(f, "'{word}' is no UUID: {UUID}"),
+            Reason::NoNumber(_) => write!(f, "'{word}' is no number: {NUMBER}"),
             Reason::TooGreat(_, noun) => write!(f, "{word} is too great for {noun}"),
-            Reason::Value(_) => write!(
-                f,
-                "'{word}' is no value: a value is a whole number of 64 bits, with no plus sign and no leading zero"
-            ),
-            Reason::Shape(_) => write!(
-                f,
-                "'{word}' is no shape: a shape is sum+, sum, gauge, hist, or hist: and values with commas between"
-            ),
-            Reason::Attributes(_) => write!(
-                f,
-                "'{word}' lists no attributes: a list is -, or pairs of a key, = and a value, with commas between"
-            ),
-            Reason::Keep(_) => write!(
-                f,
-                "'{word}' lists no keys: a list is *, -, or keys with commas between"
-            ),
-            Reason::Aggregation(_) => write!(
-                f,
-                "'{word}' is no aggregation: an aggregation is default, sum, last, drop, or buckets: and values with commas between"
-            ),
+            Reason::Value(_) => write!(f, "'{word}' is no value: {VALUE}"),
+            Reason::Shape(_) => write!(f, "'{word}' is no shape: {SHAPE}"),
+            Reason::Attributes(_) => write!(f, "'{word}' lists no attributes: {ATTRIBUTES}"),
+            Reason::Keep(_) => write!(f, "'{word}' lists no keys: {KEYS}"),
+            Reason::Aggregation(_) => write!(f, "'{word}' is no aggregation: {AGGREGATION}"),
             Reason::Late => write!(f, "'{word}' wants no 'begin' before it"),
             Reason::Early => write!(f, "'{word}' wants a 'begin' before it"),
             Reason::Taken(_) => write!(f, "'{word}' was declared before"),

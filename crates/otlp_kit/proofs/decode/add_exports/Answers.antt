@@ -1,10 +1,9 @@
-use Rattle.std.proofs.Common.{◌≡◌, ◌+◌, ◌∙◌, ℕ, List, map, length, Err, sym, ap, rules, arith}
+use Rattle.std.proofs.Common.{◌≡◌, ◌+◌, ◌∙◌, map, length, Err, sym, ap, rules, arith}
 use Rattle.std.proofs.lemmas.Result.{err_from_is_err_and}
 use Rattle.std.specs.Vec.{vec_len}
 use Rattle.std.specs.Vec.Iter.{into_iter_items, into_iter_len}
 use Rattle.otlp_kit.specs.Reading.{add_export, said_of}
 use Rattle.otlp_kit.specs.Walks.{walk, walk_from}
-use Rattle.otlp_kit.specs.declared.group.Group.{Group}
 use Rattle.otlp_kit.proofs.Building.{says, built_on, built_refused, nothing_left}
 use Rattle.otlp_kit.proofs.decode.add_exports.Goals as goal
 

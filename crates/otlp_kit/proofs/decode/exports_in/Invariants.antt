@@ -1,4 +1,4 @@
-use Rattle.std.proofs.Common.{◌≡◌, ◌++◌, ◌/◌, ◌-◌, [], drop, take, map, length}
+use Rattle.std.proofs.Common.{◌≡◌, [], drop, map}
 use Rattle.otlp_kit.specs.Walks.{walk, walk_from}
 use Rattle.otlp_kit.specs.Reading.{add_resource, said_of, nothing_read}
 use Rattle.otlp_kit.proofs.decode.exports_in.Given as goal

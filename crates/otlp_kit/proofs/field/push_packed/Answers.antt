@@ -1,4 +1,4 @@
-use Rattle.std.proofs.Common.{◌≡◌, ◌+◌, ◌-◌, ◌/◌, List, ℕ, length, drop, length-drop, ap, arith}
+use Rattle.std.proofs.Common.{◌≡◌, ◌+◌, ◌-◌, ◌/◌, length, drop, length-drop, ap, arith}
 use Rattle.otlp_kit.specs.Spans.{Span}
 use Rattle.otlp_kit.proofs.Packed.{packed_on}
 use Rattle.otlp_kit.proofs.field.push_packed.Goals as goal

@@ -1,4 +1,4 @@
-use Rattle.std.proofs.Common.{◌≡◌, ◌-◌, ◌∙◌, arith}
+use Rattle.std.proofs.Common.{◌-◌, ◌∙◌, arith}
 use Rattle.std.specs.BTreeMap as tree
 use Rattle.attr_kit.specs.Orders.{text_cmp}
 use Rattle.otlp_kit.proofs.FirstPlaces.{place_back}

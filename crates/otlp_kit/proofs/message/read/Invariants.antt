@@ -1,4 +1,4 @@
-use Rattle.std.proofs.Common.{◌≡◌, ◌-◌, length}
+use Rattle.std.proofs.Common.{◌≡◌, ◌-◌}
 use Rattle.otlp_kit.specs.Fields.{fields_from, message}
 use Rattle.otlp_kit.proofs.message.read.Given as goal
 

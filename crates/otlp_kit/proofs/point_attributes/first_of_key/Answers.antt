@@ -1,4 +1,4 @@
-use Rattle.std.proofs.Common.{◌≡◌, ℕ, Option, unwrap_or, ap, ◌∙◌}
+use Rattle.std.proofs.Common.{ℕ, Option, unwrap_or, ap, ◌∙◌}
 use Rattle.otlp_kit.proofs.Twice.{place_of_key}
 use Rattle.otlp_kit.proofs.point_attributes.first_of_key.Goals as goal
 

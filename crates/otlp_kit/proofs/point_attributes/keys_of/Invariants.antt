@@ -1,4 +1,4 @@
-use Rattle.std.proofs.Common.{◌≡◌, ◌++◌, ◌/◌, ◌-◌, [], drop, take, map, length}
+use Rattle.std.proofs.Common.{◌≡◌, take, map}
 use Rattle.otlp_kit.specs.Reading.{key_of}
 use Rattle.otlp_kit.proofs.point_attributes.keys_of.Given as goal
 

@@ -1,4 +1,4 @@
-use Rattle.std.proofs.Common.{◌≡◌, ◌++◌, ◌/◌, ◌-◌, [], drop, take, map, length}
+use Rattle.std.proofs.Common.{◌≡◌, take, map}
 use Rattle.otlp_kit.specs.Reading.{scope_name}
 use Rattle.otlp_kit.proofs.reading.scope_names.Given as goal
 

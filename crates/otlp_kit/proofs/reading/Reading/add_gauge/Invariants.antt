@@ -1,4 +1,4 @@
-use Rattle.std.proofs.Common.{◌≡◌, ◌++◌, ◌/◌, ◌-◌, [], drop, take, map, length}
+use Rattle.std.proofs.Common.{◌≡◌, drop}
 use Rattle.otlp_kit.specs.Walks.{walk, walk_from}
 use Rattle.otlp_kit.specs.Reading.{add_gauge_point}
 use Rattle.otlp_kit.proofs.reading.Reading.add_gauge.Given as goal

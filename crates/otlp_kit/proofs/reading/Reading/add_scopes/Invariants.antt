@@ -1,4 +1,4 @@
-use Rattle.std.proofs.Common.{◌≡◌, ◌++◌, ◌/◌, ◌-◌, [], drop, take, map, length}
+use Rattle.std.proofs.Common.{◌≡◌, drop}
 use Rattle.otlp_kit.specs.Walks.{walk, walk_from}
 use Rattle.otlp_kit.specs.Reading.{add_scope}
 use Rattle.otlp_kit.proofs.reading.Reading.add_scopes.Given as goal
