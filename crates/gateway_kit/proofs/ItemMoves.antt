@@ -122,3 +122,16 @@ shows_numbered number writer start items s all q =
     ap (λ (ns : List (ItemKey × ℕ)). number_in item_cmp ns q) (numbers_in (shows writer start items) writer start items s refl)
     ∙ key_and_number_all number items all q
     ∙ ap (λ (es : List KeyedCell). cond (is_some (find item_cmp q es)) number 0) (sym (cells_of (shows writer start items) writer start items s refl))
+
+-- no key of items has a number above that of all
+pub up_to_in : (n : ℕ) (items : List PartItem) → are_up_to n items ≡ true → (q : ItemKey) → number_in item_cmp (map key_and_number items) q ≤ n
+up_to_in n [] h q = omega arith
+up_to_in n (z ∷ items) h q =
+    let parts = and_parts (nat_le z.number n) (are_up_to n items) h in
+    elim (eq_by_cmp item_cmp q (key_of z)) as (λ b. unwrap_or (cond b (Some z.number) (find item_cmp q (map key_and_number items))) 0 ≤ n) [
+      | true ↦ least z.number n parts.0
+      | false ↦ up_to_in n items parts.1 q
+    ]
+  where
+    least : (a b : ℕ) → nat_le a b ≡ true → a ≤ b
+    least a b g = grind (arith, nat_tests)

@@ -1,5 +1,6 @@
 pub mod Bounded
 pub mod Counting
+pub mod Covered
 pub mod Drafting
 pub mod Entries
 pub mod ExportEntries

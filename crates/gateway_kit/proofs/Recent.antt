@@ -175,7 +175,7 @@ all_points_cons p ps =
     length-append (map (λ (t : KeyedCell). (whole_key (p.writer, p.start) t.0, t.1)) (entries p.cells)) (all_points ps)
     ∙ ap (λ (n : ℕ). n + length (all_points ps)) (length-map (entries p.cells) (λ (t : KeyedCell). (whole_key (p.writer, p.start) t.0, t.1)))
 
-retained : (m : Cells) (test : ItemKey → Bool) → entries (retain_keys m test) ≡ where_key item_cmp test (entries m)
+pub retained : (m : Cells) (test : ItemKey → Bool) → entries (retain_keys m test) ≡ where_key item_cmp test (entries m)
 retained m test = same_entries item_cmp item_total item_exact (entries (retain_keys m test)) (where_key item_cmp test (entries m)) (entries_sorted (retain_keys m test)) (is_sorted-where_key item_cmp test (entries m) (entries_sorted m)) (λ q.
     sym (get-entries (retain_keys m test) q) ∙ get-retain_keys m test q (alike q) ∙ ap (λ o. cond (test q) o None) (get-entries m q) ∙ sym (find-where_key item_cmp test q (alike q) (entries m)))
   where

@@ -5,6 +5,7 @@ pub mod Amending
 pub mod Bounding
 pub mod Bringing
 pub mod Changing
+pub mod Covering
 pub mod Growth
 pub mod Keys
 pub mod KeyOrders

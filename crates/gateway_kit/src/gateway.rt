@@ -9,8 +9,11 @@ ghost use Rattle.gateway_kit.specs.Queries.{has_conflict, incarnation_points, ne
 ghost use Rattle.gateway_kit.specs.Walks.{is_of, points_left};
 ghost use Rattle.gateway_kit.specs.Incarnations.{all_points};
 
+use crate::bounds::Bounds;
 use crate::incarnation::Incarnation;
-use crate::incarnations::{all_conflicts, all_len, all_since, incarnation_place, join_in, take_in};
+use crate::incarnations::{
+    all_conflicts, all_len, all_since, complete, incarnation_place, join_in, take_in,
+};
 use crate::listing::{Incarnations, Services};
 use crate::merging::merge_in;
 use crate::ordered::{all_same, renumber_all};
@@ -34,6 +37,8 @@ pub struct Gateway {
     pub(crate) len: usize,
     /// How many of them are conflicts.
     pub(crate) conflicts: u64,
+    /// No key of an incarnation at a place has a greater number than the bounds that are known of it.
+    pub(crate) bounds: Bounds,
 }
 
 impl Model for Gateway {
@@ -43,6 +48,7 @@ impl Model for Gateway {
     ghost use Rattle.point_kit.specs.Orders.{key_cmp};
     ghost use Rattle.gateway_kit.specs.Incarnations.{IsWhole, all_points, all_numbers};
     ghost use Rattle.gateway_kit.specs.Tallies.{conflicts_of};
+    ghost use Rattle.gateway_kit.specs.Covering.{AreCovered};
     ghost use Rattle.gateway_kit.specs.GatewayState.{GatewayState};
 
     ghost Value = { GatewayState };
@@ -51,7 +57,8 @@ impl Model for Gateway {
 
     ghost view = { λ g. record { id = g.id; points = from_sorted {R = key_cmp} (all_points g.incarnations.items); numbers = from_sorted {R = key_cmp} (all_numbers g.incarnations.items) } };
 
-    ghost invariant = { λ g. IsWhole g.incarnations.items g.len × (g.conflicts ≡ conflicts_of g.incarnations.items) };
+    ghost invariant = { λ g. IsWhole g.incarnations.items g.len × (g.conflicts ≡ conflicts_of g.incarnations.items)
+        × AreCovered g.bounds g.incarnations.items };
 }
 
 impl Gateway {
@@ -66,6 +73,7 @@ impl Gateway {
             incarnations: Vec::new(alloc),
             len: 0,
             conflicts: 0,
+            bounds: Bounds::none(alloc),
         }
     }
 
@@ -200,7 +208,9 @@ impl Gateway {
         self.take_under(0, export)
     }
 
-    /// Joins the points of an export as `take` does, at its cost, and gives each key whose cell changed this number.
+    /// Joins the points of an export as `take` does, at its cost, and gives each key whose cell changed this number. Beside that
+    /// it looks at the incarnations of which `since` has no bounds: where one is new, at those from its span of 512 on; in a
+    /// copy, at all.
     pub fn take_numbered(&mut self, export: &Export, number: u64) -> Result<u64, NoMemory>
         requires { 0 < number }
         ensures id { self.new.id ≡ self.old.id }
@@ -211,6 +221,17 @@ impl Gateway {
         ensures no_points { export.now.points ≡ [] → result ≡ Ok 0 }
     {
         self.take_under(number, export)
+    }
+
+    // Makes room for the bounds of so many incarnations more, where a change has a number.
+    fn reserve(&mut self, number: u64, more: usize) -> Result<(), NoMemory>
+        ensures { self.new ≡ self.old }
+    {
+        if number > 0 {
+            let len = self.incarnations.len();
+            self.bounds.reserve(len.saturating_add(more))?;
+        }
+        Ok(())
     }
 
     // Joins the points of an export. The keys that change get the number, of 0 they keep their own.
@@ -226,9 +247,17 @@ impl Gateway {
         if export.points().is_empty() {
             return Ok(0);
         }
-        let growth = take_in(&mut self.incarnations, self.len, number, export)?;
+        self.reserve(number, 1)?;
+        let growth = take_in(
+            &mut self.incarnations,
+            &mut self.bounds,
+            self.len,
+            number,
+            export,
+        )?;
         self.len += growth.more;
         self.conflicts = self.conflicts - growth.before + growth.after;
+        complete(&mut self.bounds, number, self.incarnations.as_slice());
         Ok(growth.changed)
     }
 
@@ -246,7 +275,13 @@ impl Gateway {
         ensures unchanged { OnErr result (self.new ≡ self.old) }
         ensures held { IsSome (finite.get self.old.points key) → IsOk result }
     {
-        let growth = join_in(&mut self.incarnations, self.len, key, cell)?;
+        let growth = join_in(
+            &mut self.incarnations,
+            &mut self.bounds,
+            self.len,
+            key,
+            cell,
+        )?;
         self.len += growth.more;
         self.conflicts = self.conflicts - growth.before + growth.after;
         Ok(growth.changed > 0)
@@ -270,7 +305,8 @@ impl Gateway {
         self.merge_under(0, other)
     }
 
-    /// Joins what another gateway holds as `merge` does, at its cost, and gives each key whose cell changed this number.
+    /// Joins what another gateway holds as `merge` does, at its cost, and gives each key whose cell changed this number. Beside
+    /// that it looks at the incarnations of which `since` has no bounds, as `take_numbered` does; where some are new, at all.
     pub fn merge_numbered(&mut self, other: &Gateway, number: u64) -> Result<u64, NoMemory>
         requires { 0 < number }
         ensures id { self.new.id ≡ self.old.id }
@@ -296,8 +332,10 @@ impl Gateway {
         if other.incarnations.is_empty() {
             return Ok(0);
         }
+        self.reserve(number, other.incarnations.len())?;
         let growth = merge_in(
             &mut self.incarnations,
+            &mut self.bounds,
             self.len,
             self.conflicts,
             number,
@@ -305,6 +343,7 @@ impl Gateway {
         )?;
         self.len += growth.more;
         self.conflicts = self.conflicts - growth.before + growth.after;
+        complete(&mut self.bounds, number, self.incarnations.as_slice());
         Ok(growth.changed)
     }
 
@@ -317,6 +356,7 @@ impl Gateway {
             incarnations: copy_all(&self.incarnations)?,
             len: self.len,
             conflicts: self.conflicts,
+            bounds: Bounds::none(*self.incarnations.allocator()),
         })
     }
 
@@ -327,22 +367,30 @@ impl Gateway {
     {
         let mut gateway = self;
         renumber_all(&mut gateway.incarnations, 0);
+        gateway.bounds.clear();
         gateway
     }
 
     /// The cells of the keys numbered above a number, as a gateway of the same id that has no numbers.
     ///
-    /// O(m + c + n / 512) of m incarnations, of c cells that are numbered so, and of n points in the incarnations that have
-    /// such cells. Others are passed over by one look, and of these each span of 512 points; in what is left each block of
-    /// 16, and only blocks with such a cell are walked over. A copy of a gateway, and an incarnation that came whole by a
-    /// merge, has no such spans until its next numbered change: there all points are looked at. Refused with `NoMemory`
-    /// where a growth was refused.
+    /// O(c + (m + n) / 512) of c cells that are numbered so, of m incarnations, and of n points in the incarnations that have
+    /// such cells. Of the incarnations each span of 512 is passed over by one look; in what is left each block of 16, and only
+    /// blocks with such a cell are looked at. So it is with the points of each that has such cells.
+    ///
+    /// Bounds are made at a numbered change. A copy has none until then, and an incarnation that came whole by a merge has none
+    /// of its points: there all are looked at. Where a change without a number brought an incarnation, those from its span on
+    /// are, and after a merge all. Refused with `NoMemory` where a growth was refused.
     pub fn since(&self, alloc: Global, number: u64) -> Result<Gateway, NoMemory>
         ensures id { IfOk result (λ recent. recent.id ≡ self.now.id) }
         ensures value { IfOk result (λ recent. recent.points ≡ retain_keys self.now.points (λ k. nat_lt number (number_of self.now k))) }
         ensures numbers { IfOk result (λ recent. recent.numbers ≡ finite.empty) }
     {
-        let mut incarnations = all_since(alloc, self.incarnations.as_slice(), number)?;
+        let mut incarnations = all_since(
+            alloc,
+            self.incarnations.as_slice(),
+            &self.bounds,
+            number,
+        )?;
         renumber_all(&mut incarnations, 0);
         let len = all_len(incarnations.as_slice());
         let conflicts = all_conflicts(incarnations.as_slice());
@@ -351,6 +399,7 @@ impl Gateway {
             incarnations,
             len,
             conflicts,
+            bounds: Bounds::none(alloc),
         })
     }
 }

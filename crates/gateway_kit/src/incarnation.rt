@@ -4,6 +4,7 @@ ghost use Rattle.std.specs.FinMap as finite;
 ghost use Rattle.std.specs.FinMap.{entries, from_sorted};
 ghost use Rattle.std.specs.FinMap.Entries.{is_sorted, find};
 ghost use Rattle.gateway_kit.specs.Changing.{Prepares, keyed_cells_of, after_growth};
+ghost use Rattle.gateway_kit.specs.Covering.{IsUpTo};
 ghost use Rattle.gateway_kit.specs.Growth.{IncarnationJoins, Joins, JoinsAt};
 ghost use Rattle.gateway_kit.specs.Keys.{keyed_cell_of, item_cmp, incarnation_cmp};
 ghost use Rattle.gateway_kit.specs.Numbers.{IsNumbered, IncarnationMoves};
@@ -346,6 +347,13 @@ impl Incarnation {
         ensures { IsTrue (has_cells (recent_incarnation number self.now)) → IsTrue result }
     {
         number < self.number
+    }
+
+    /// A number that none of its keys exceeds: O(1).
+    pub(crate) fn most(&self) -> u64
+        ensures { IsUpTo result self.now }
+    {
+        self.number
     }
 
     /// A copy of what is numbered above a number.

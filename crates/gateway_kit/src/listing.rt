@@ -53,7 +53,8 @@ impl<'a> Iterator for Incarnations<'a> {
 
 // What comes behind the incarnations of a service that others begin with.
 fn behind<'a>(service: &str, incarnations: &'a [Incarnation]) -> &'a [Incarnation]
-    ensures { dedup_from (pointwise nat_eq) service.now (map (λ p. p.writer.service) incarnations.now) ≡ service.now ∷ dedup (pointwise nat_eq) (map (λ p. p.writer.service) result.now) }
+    ensures { dedup_from (pointwise nat_eq) service.now (map (λ p. p.writer.service) incarnations.now)
+        ≡ service.now ∷ dedup (pointwise nat_eq) (map (λ p. p.writer.service) result.now) }
 {
     let mut left = incarnations;
     while let Some((incarnation, others)) = left.split_first() {

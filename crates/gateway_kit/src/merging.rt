@@ -4,6 +4,7 @@ ghost use Rattle.std.specs.FinMap.{from_sorted};
 ghost use Rattle.std.specs.FinMap.Entries.{is_sorted};
 ghost use Rattle.std.specs.List.{list_all};
 ghost use Rattle.gateway_kit.specs.Amending.{with_change, with_changes};
+ghost use Rattle.gateway_kit.specs.Covering.{AreCovered};
 ghost use Rattle.gateway_kit.specs.Growth.{GrowsBy};
 ghost use Rattle.gateway_kit.specs.Keys.{incarnation_cmp};
 ghost use Rattle.gateway_kit.specs.Merging.{cells_after, woven_incarnations};
@@ -11,6 +12,7 @@ ghost use Rattle.gateway_kit.specs.Numbers.{IncarnationsMove};
 ghost use Rattle.gateway_kit.specs.Tallies.{conflicts_of};
 ghost use Rattle.gateway_kit.specs.Incarnations.{IsWhole, all_points, keyed_cells, has_cells};
 
+use crate::bounds::Bounds;
 use crate::changes::Changes;
 use crate::growth::{Growth, MOST_POINTS};
 use crate::incarnation::Incarnation;
@@ -55,6 +57,7 @@ fn reserve_incarnations(
 // all conflicts before it makes the one after.
 fn put_incarnation(
     incarnations: &mut Vec<Incarnation>,
+    bounds: &mut Bounds,
     conflicts: u64,
     number: u64,
     place: usize,
@@ -66,8 +69,10 @@ fn put_incarnation(
         ≡ with_change cells_after (map keyed_cells incarnations.old.items) place changes }
     ensures len { vec_len incarnations.new ≡ vec_len incarnations.old }
     ensures moves { IncarnationsMove number incarnations.old.items incarnations.new.items }
+    ensures covered { AreCovered bounds.old incarnations.old.items → AreCovered bounds.new incarnations.new.items }
 {
     if place < incarnations.len() {
+        bounds.raise(place, number);
         incarnations[place].install_among(conflicts, number, changes)
     } else {
         conflicts
@@ -78,6 +83,7 @@ fn put_incarnation(
 // after.
 fn put_incarnations(
     incarnations: &mut Vec<Incarnation>,
+    bounds: &mut Bounds,
     conflicts: u64,
     number: u64,
     updates: Vec<(usize, Changes)>,
@@ -88,10 +94,11 @@ fn put_incarnations(
         ≡ with_changes cells_after (map keyed_cells incarnations.old.items) updates.items }
     ensures len { vec_len incarnations.new ≡ vec_len incarnations.old }
     ensures moves { IncarnationsMove number incarnations.old.items incarnations.new.items }
+    ensures covered { AreCovered bounds.old incarnations.old.items → AreCovered bounds.new incarnations.new.items }
 {
     let mut conflicts = conflicts;
     for (place, changes) in updates {
-        conflicts = put_incarnation(incarnations, conflicts, number, place, changes);
+        conflicts = put_incarnation(incarnations, bounds, conflicts, number, place, changes);
     }
     conflicts
 }
@@ -109,9 +116,10 @@ fn conflicts_now(incarnations: &[Incarnation], told: u64, is_told: bool) -> u64
     }
 }
 
-// Weaves new incarnations in, all keys under one number.
+// Weaves new incarnations in, all keys under one number. Places move then, so their bounds are gone.
 fn put_new(
     incarnations: &mut Vec<Incarnation>,
+    bounds: &mut Bounds,
     number: u64,
     mut fresh: Vec<Incarnation>,
     room: Vec<Incarnation>,
@@ -122,12 +130,14 @@ fn put_new(
     requires fits { (vec_len incarnations.old + vec_len fresh ≤ vec_capacity room) ⊎ (vec_len fresh ≡ 0) }
     ensures woven { map keyed_cells incarnations.new.items ≡ woven_incarnations incarnations.old.items fresh.items }
     ensures moves { IncarnationsMove number incarnations.old.items incarnations.new.items }
+    ensures covered { AreCovered bounds.old incarnations.old.items → AreCovered bounds.new incarnations.new.items }
 {
     if !fresh.is_empty() {
         renumber_all(&mut fresh, number);
         let alloc = *incarnations.allocator();
         let mine = mem::replace(incarnations, Vec::new(alloc));
         *incarnations = weave(mine, fresh, room);
+        bounds.clear();
     }
 }
 
@@ -135,6 +145,7 @@ fn put_new(
 /// that are not told of. All copies and all room come first.
 pub(crate) fn merge_in(
     incarnations: &mut Vec<Incarnation>,
+    bounds: &mut Bounds,
     len: usize,
     conflicts: u64,
     number: u64,
@@ -147,6 +158,7 @@ pub(crate) fn merge_in(
     requires few { length (all_points theirs.now) ≤ 2 ^ 62 }
     ensures grows { IfOk result (λ g. GrowsBy incarnations.old.items incarnations.new.items len (from_sorted (all_points theirs.now)) g) }
     ensures moves { OnOk result (IncarnationsMove number incarnations.old.items incarnations.new.items) }
+    ensures covered { AreCovered bounds.old incarnations.old.items → AreCovered bounds.new incarnations.new.items }
     ensures unchanged { OnErr result (incarnations.new.items ≡ incarnations.old.items) }
 {
     let alloc = *incarnations.allocator();
@@ -166,9 +178,9 @@ pub(crate) fn merge_in(
         Vec::with_capacity(alloc, incarnations.len() + fresh.len())?
     };
     reserve_incarnations(incarnations, number, &updates)?;
-    let told = put_incarnations(incarnations, conflicts, number, updates);
+    let told = put_incarnations(incarnations, bounds, conflicts, number, updates);
     let is_told = fresh.is_empty();
-    put_new(incarnations, number, fresh, room);
+    put_new(incarnations, bounds, number, fresh, room);
     Ok(Growth {
         more,
         changed,

@@ -1,10 +1,11 @@
-use Rattle.std.proofs.Common.{◌≡◌, List, [], ◌∷◌, Ok, Err, map, is_some, sym, ap, subst, ◌∙◌}
+use Rattle.std.proofs.Common.{◌≡◌, List, [], ◌∷◌, Ok, Err, map, is_some, sym, ap, subst, ◌∙◌, rules}
 use Rattle.std.specs.Prelude.{slice_set}
 use Rattle.std.specs.FinMap.{entries, from_entries, get-from_entries}
 use Rattle.std.specs.List.{insert}
 use Rattle.point_kit.proofs.OrderLaws.{key_total}
 use Rattle.std.specs.FinMap.Entries.{find}
 use Rattle.gateway_kit.specs.Changing.{KeyedCell}
+use Rattle.gateway_kit.specs.Covering.{AreCovered}
 use Rattle.gateway_kit.specs.Growth.{cells_at}
 use Rattle.gateway_kit.specs.Incarnations.{entries_at, keyed_cells}
 use Rattle.gateway_kit.specs.IncarnationState.{Cells, IncarnationState}
@@ -12,6 +13,7 @@ use Rattle.gateway_kit.specs.KeyOrders.{incarnation_total}
 use Rattle.gateway_kit.specs.Keys.{IncarnationKey, ItemKey, incarnation_cmp, item_cmp}
 use Rattle.gateway_kit.specs.Places.{IsPlace}
 use Rattle.gateway_kit.specs.Tallies.{Tells, conflicts_in}
+use Rattle.gateway_kit.proofs.Covered.{covers_zero, insert_covered, taken_covered}
 use Rattle.gateway_kit.proofs.AllMoves.{first_moves, gap_moves, held_moves}
 use Rattle.gateway_kit.proofs.Drafting.{found_place}
 use Rattle.gateway_kit.proofs.Entries.{as_T}
@@ -71,3 +73,22 @@ returns-in_ok-insert-in-Err-clause-moves c =
     let placed : IsPlace incarnation_cmp (map keyed_cells olds) (key.writer, key.start) (Err c.in-Err.place) = rw (c.as_slice.ensures.value, c.in-Err.is) at c.incarnation_place.ensures in
     rw c.in_ok-insert-in-Err.ensures.items (gap_moves 0 olds c.in-Err.place new (key.writer, key.start) (c.in_ok-growth-in-Err.ensures.same ∙ (λ j. (c.new-incarnation.ensures.writer j, c.new-incarnation.ensures.start j))) placed.none
     (first_moves 0 c.new-incarnation.result new c.new-incarnation.ensures.cells c.new-incarnation.ensures.numbers c.in_ok-growth-in-Err.ensures.moves))
+
+pub returns-in-Ok-clause-covered : goal.returns-in-Ok-clause-covered
+returns-in-Ok-clause-covered c =
+    let key = c.args.key in
+    let olds = c.args.incarnations.now.items in
+    let placed : IsPlace incarnation_cmp (map keyed_cells olds) (key.writer, key.start) (Ok c.in-Ok.place) = rw (c.as_slice.ensures.value, c.in-Ok.is) at c.incarnation_place.ensures in
+    taken_covered c.join.result c.args.bounds.now c.args.bounds.now olds c.in-Ok.place 0 c.index_mut.result.now c.join.new.self (within_at keyed_cells olds c.in-Ok.place (key.writer, key.start) placed) c.index_mut.ensures.value (λ i n covers. covers) (covers_zero c.args.bounds.now c.in-Ok.place) c.join.ensures.moves c.join.ensures.unchanged
+
+pub returns-in_ok-insert-in-Err-clause-covered : goal.returns-in_ok-insert-in-Err-clause-covered
+returns-in_ok-insert-in-Err-clause-covered c = λ covered.
+    let key = c.args.key in
+    let olds = c.args.incarnations.now.items in
+    let placed : IsPlace incarnation_cmp (map keyed_cells olds) (key.writer, key.start) (Err c.in-Err.place) = rw (c.as_slice.ensures.value, c.in-Err.is) at c.incarnation_place.ensures in
+    rw c.in_ok-insert-in-Err.ensures.items (insert_covered c.args.bounds.now c.cut.new.self olds c.in-Err.place c.join-in-Err.new.self c.cut.ensures.kept c.cut.ensures.gone placed.within covered)
+
+pub returns-in_err-insert-in-Err-clause-covered : goal.returns-in_err-insert-in-Err-clause-covered
+returns-in_err-insert-in-Err-clause-covered c = λ covered.
+    let same : c.insert.new.self.items ≡ c.args.incarnations.now.items = search rules in
+    subst (λ (ps : List IncarnationState). AreCovered c.cut.new.self ps) (sym same) (λ i x less is q. c.cut.ensures.kept i _ (covered i x less is q))

@@ -1,14 +1,16 @@
-use Rattle.std.proofs.Common.{◌≡◌, List, [], ◌∷◌, Ok, Err, map, sym, ap, subst, ◌∙◌}
+use Rattle.std.proofs.Common.{◌≡◌, List, [], ◌∷◌, Ok, Err, map, sym, ap, subst, ◌∙◌, rules}
 use Rattle.std.specs.Prelude.{slice_set}
 use Rattle.std.specs.FinMap.{entries}
 use Rattle.std.specs.List.{insert}
 use Rattle.point_kit.specs.Exports.{state}
 use Rattle.gateway_kit.specs.Changing.{KeyedCell, keyed_cells_of}
+use Rattle.gateway_kit.specs.Covering.{AreCovered}
 use Rattle.gateway_kit.specs.Incarnations.{keyed_cells}
 use Rattle.gateway_kit.specs.IncarnationState.{Cells, IncarnationState}
 use Rattle.gateway_kit.specs.Keys.{incarnation_cmp}
 use Rattle.gateway_kit.specs.Places.{IsPlace}
 use Rattle.gateway_kit.specs.Tallies.{Tells, conflicts_in}
+use Rattle.gateway_kit.proofs.Covered.{insert_covered, taken_covered}
 use Rattle.gateway_kit.proofs.AllMoves.{first_moves, gap_moves, held_moves}
 use Rattle.gateway_kit.proofs.Growing.{entries-empty, export_entry, gap_grows, held_grows, within_at}
 use Rattle.gateway_kit.proofs.Joining.{apart_entries, held_grown, one_grown, state_alone}
@@ -52,3 +54,22 @@ returns-in_ok-insert-in-Err-clause-moves c =
     let key : (keyed_cells new).0 ≡ (e.writer, e.start) = c.in_ok-growth-in-Err.ensures.same ∙ (λ j. ((c.new-incarnation.ensures.writer ∙ c.in_ok-writer-in-Err.ensures.value ∙ c.writer-in-Err.ensures.value) j, (c.new-incarnation.ensures.start ∙ c.start-in-Err.ensures.value) j)) in
     rw c.in_ok-insert-in-Err.ensures.items (gap_moves c.args.number olds c.in-Err.place new (e.writer, e.start) key placed.none
     (first_moves c.args.number c.new-incarnation.result new c.new-incarnation.ensures.cells c.new-incarnation.ensures.numbers c.in_ok-growth-in-Err.ensures.moves))
+
+pub returns-in-Ok-clause-covered : goal.returns-in-Ok-clause-covered
+returns-in-Ok-clause-covered c =
+    let e = c.args.export.now in
+    let olds = c.args.incarnations.now.items in
+    let placed : IsPlace incarnation_cmp (map keyed_cells olds) (e.writer, e.start) (Ok c.in-Ok.place) = rw (c.as_slice.ensures.value, c.writer.ensures.value, c.start.ensures.value, c.in-Ok.is) at c.incarnation_place.ensures in
+    taken_covered c.take.result c.args.bounds.now c.raise.new.self olds c.in-Ok.place c.args.number c.index_mut.result.now c.take.new.self (within_at keyed_cells olds c.in-Ok.place (e.writer, e.start) placed) c.index_mut.ensures.value c.raise.ensures.kept c.raise.ensures.here c.take.ensures.moves c.take.ensures.unchanged
+
+pub returns-in_ok-insert-in-Err-clause-covered : goal.returns-in_ok-insert-in-Err-clause-covered
+returns-in_ok-insert-in-Err-clause-covered c = λ covered.
+    let e = c.args.export.now in
+    let olds = c.args.incarnations.now.items in
+    let placed : IsPlace incarnation_cmp (map keyed_cells olds) (e.writer, e.start) (Err c.in-Err.place) = rw (c.as_slice.ensures.value, c.writer.ensures.value, c.start.ensures.value, c.in-Err.is) at c.incarnation_place.ensures in
+    rw c.in_ok-insert-in-Err.ensures.items (insert_covered c.args.bounds.now c.cut.new.self olds c.in-Err.place c.take-in-Err.new.self c.cut.ensures.kept c.cut.ensures.gone placed.within covered)
+
+pub returns-in_err-insert-in-Err-clause-covered : goal.returns-in_err-insert-in-Err-clause-covered
+returns-in_err-insert-in-Err-clause-covered c = λ covered.
+    let same : c.insert.new.self.items ≡ c.args.incarnations.now.items = search rules in
+    subst (λ (ps : List IncarnationState). AreCovered c.cut.new.self ps) (sym same) (λ i x less is q. c.cut.ensures.kept i _ (covered i x less is q))

@@ -3,6 +3,7 @@ use Rattle.std.proofs.lemmas.Grind.{common_steps}
 use Rattle.std.specs.List.{IsDistinct}
 use Rattle.std.specs.Ordering.{eq_by_cmp}
 use Rattle.gateway_kit.specs.Keys.{IncarnationKey, incarnation_cmp}
+use Rattle.gateway_kit.specs.Covering.{AreCovered}
 use Rattle.gateway_kit.specs.Merging.{MergeDrafts, cells_after}
 use Rattle.gateway_kit.specs.Amending.{with_changes}
 use Rattle.gateway_kit.specs.Numbers.{IncarnationsMove}
@@ -66,3 +67,9 @@ conflicts_now-requires-clause-told c = λ none.
     let empty : length c.in_ok-fresh.fresh.items ≡ 0 = grind (arith, common_steps) in
     let same : map keyed_cells c.put_new.new.incarnations.items ≡ map keyed_cells c.put_incarnations-told.new.incarnations.items = c.put_new.ensures.woven ∙ ap (λ l. weave (on_keys incarnation_cmp) (map keyed_cells c.put_incarnations-told.new.incarnations.items) (map keyed_cells l)) (no_items c.in_ok-fresh.fresh.items empty) ∙ weave-nil (on_keys incarnation_cmp) (map keyed_cells c.put_incarnations-told.new.incarnations.items) in
     c.put_incarnations-told.ensures.conflicts ∙ ap (λ (n : ℕ). n % 2 ^ 64) (sym (conflicts_alike c.put_incarnations-told.new.incarnations.items c.put_new.new.incarnations.items same) ∙ ap (λ (ps : List IncarnationState). conflicts_of ps) (sym c.as_slice-2.ensures.value))
+
+pub returns-clause-covered : goal.returns-clause-covered
+returns-clause-covered c = λ covered. c.put_new.ensures.covered (c.put_incarnations-told.ensures.covered (subst (λ (ps : List IncarnationState). AreCovered c.args.bounds.now ps) (sym c.reserve_incarnations.ensures) covered))
+
+pub returns-in_err-reserve_incarnations-clause-covered : goal.returns-in_err-reserve_incarnations-clause-covered
+returns-in_err-reserve_incarnations-clause-covered c = λ covered. subst (λ (ps : List IncarnationState). AreCovered c.args.bounds.now ps) (sym c.reserve_incarnations.ensures) covered

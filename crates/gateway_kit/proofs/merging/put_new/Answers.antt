@@ -7,6 +7,7 @@ use Rattle.std.specs.FinMap.Entries.{is_sorted}
 use Rattle.gateway_kit.specs.Numbers.{IncarnationsMove}
 use Rattle.gateway_kit.specs.IncarnationState.{IncarnationState}
 use Rattle.gateway_kit.proofs.AllMoves.{incarnations_stay, incarnations_woven}
+use Rattle.gateway_kit.proofs.Covered.{cleared_covered}
 use Rattle.gateway_kit.proofs.Ahead.{weave-nil}
 use Rattle.gateway_kit.proofs.Entries.{on_keys, map-weave}
 use Rattle.gateway_kit.proofs.Finishing.{no_items}
@@ -30,3 +31,6 @@ returns-else-not-is_empty-clause-woven c =
 
 pub returns-else-not-is_empty-clause-moves : goal.returns-else-not-is_empty-clause-moves
 returns-else-not-is_empty-clause-moves c = incarnations_stay c.args.number c.args.incarnations.now.items
+
+pub returns-then-not-is_empty-clause-covered : goal.returns-then-not-is_empty-clause-covered
+returns-then-not-is_empty-clause-covered c = λ covered. cleared_covered c.clear.new.self c.weave.result.items c.clear.ensures.all

@@ -1,8 +1,10 @@
-use Rattle.std.proofs.Common.{◌+◌, [], ◌∷◌, is_some, nat_lt, true≢false, sym, ap, ◌∙◌, arith, refl}
+use Rattle.std.proofs.Common.{◌≡◌, ◌+◌, List, [], ◌∷◌, is_some, nat_lt, true≢false, sym, ap, subst, ◌∙◌, arith, refl}
 use Rattle.std.specs.FinMap.{get, from_sorted, from_entries}
 use Rattle.point_kit.specs.Exports.{join_points, changed_points}
 use Rattle.point_kit.specs.Orders.{key_cmp}
-use Rattle.gateway_kit.specs.Incarnations.{all_points}
+use Rattle.gateway_kit.specs.Incarnations.{IsWhole, all_points}
+use Rattle.gateway_kit.specs.IncarnationState.{IncarnationState}
+use Rattle.gateway_kit.specs.Tallies.{conflicts_of}
 use Rattle.gateway_kit.specs.GatewayState.{GatewayState}
 use Rattle.gateway_kit.proofs.AllMoves.{numbers_left}
 use Rattle.gateway_kit.proofs.Joining.{get_points}
@@ -26,7 +28,7 @@ overflow_add-self-2 c =
     omega (arith, few)
 
 pub invariant_of-self-2 : goal.invariant_of-self-2
-invariant_of-self-2 c = (c.in_ok-growth.ensures.grows.whole, told_total c.self.inside.incarnations.items c.join_in.new.incarnations.items c.in_ok-growth.growth.before c.in_ok-growth.growth.after c.self.inside.conflicts c.self.invariant.1 c.in_ok-growth.ensures.grows.tells)
+invariant_of-self-2 c = (c.in_ok-growth.ensures.grows.whole, told_total c.self.inside.incarnations.items c.join_in.new.incarnations.items c.in_ok-growth.growth.before c.in_ok-growth.growth.after c.self.inside.conflicts c.self.invariant.1 c.in_ok-growth.ensures.grows.tells, c.in_ok-growth.ensures.covered c.self.invariant.2)
 
 pub returns-clause-ok : goal.returns-clause-ok
 returns-clause-ok c = c.in_ok-growth.ensures.grows.joins ∙ ap (λ (v : GatewayState). join_points v.points (from_entries ((c.args.key, c.args.cell) ∷ []))) c.self.view_is
@@ -36,3 +38,8 @@ returns-clause-value c = ap (nat_lt 0) (c.in_ok-growth.ensures.grows.changes ∙
 
 pub returns-clause-numbers : goal.returns-clause-numbers
 returns-clause-numbers c = numbers_left c.self.inside.id c.self.inside.id c.self.inside.incarnations.items c.join_in.new.incarnations.items c.args.self.now _ c.self.invariant.0.sorted c.in_ok-growth.ensures.grows.whole.sorted c.self.view_is refl c.in_ok-growth.ensures.moves
+
+pub invariant_of-self : goal.invariant_of-self
+invariant_of-self c =
+    let same : c.join_in.new.incarnations.items ≡ c.self.inside.incarnations.items = c.in_err-growth.ensures.unchanged in
+    (subst (λ (ps : List IncarnationState). IsWhole ps c.self.inside.len) (sym same) c.self.invariant.0, c.self.invariant.1 ∙ ap (λ (ps : List IncarnationState). conflicts_of ps) (sym same), c.in_err-growth.ensures.covered c.self.invariant.2)

@@ -1,11 +1,13 @@
 use Rattle.std.proofs.Common.{◌≡◌, ◌≤◌, ◌^◌, List, length, map, nat_lt, refl, sym, ap, subst, ◌∙◌}
 use Rattle.std.specs.FinMap.{retain_keys}
+use Rattle.gateway_kit.specs.Covering.{AreCovered}
 use Rattle.gateway_kit.specs.Numbering.{number_of}
 use Rattle.gateway_kit.specs.IncarnationState.{IncarnationState}
 use Rattle.gateway_kit.specs.Incarnations.{all_points, keyed_cells}
 use Rattle.gateway_kit.specs.Recent.{recent_incarnations}
 use Rattle.gateway_kit.specs.Tallies.{conflicts_of}
 use Rattle.gateway_kit.specs.GatewayState.{GatewayState}
+use Rattle.gateway_kit.proofs.Covered.{cleared_covered}
 use Rattle.gateway_kit.proofs.Recent.{numbers_gone, since_points, since_sorted, since_whole}
 use Rattle.gateway_kit.proofs.Tallies.{whole_few}
 use Rattle.gateway_kit.proofs.gateway.Gateway.since.Goals as goal
@@ -31,6 +33,7 @@ invariant_of-result c =
     let is : map keyed_cells news ≡ map keyed_cells (recent_incarnations c.args.number olds) = c.renumber_all.ensures.same ∙ c.in_ok-incarnations.ensures ∙ ap (λ (l : List IncarnationState). map keyed_cells (recent_incarnations c.args.number l)) c.as_slice.ensures.value in (
       since_whole c.args.number olds news c.all_len-len.result c.self.inside.len c.self.invariant.0 is (c.all_len-len.ensures ∙ ap (λ (l : List IncarnationState). length (all_points l)) c.as_slice-2.ensures.value),
       c.all_conflicts-conflicts.ensures ∙ ap (λ (l : List IncarnationState). conflicts_of l) c.as_slice-3.ensures.value,
+      cleared_covered c.none.result news c.none.ensures.all,
     )
 
 pub returns-clause-value : goal.returns-clause-value
@@ -46,3 +49,6 @@ returns-clause-numbers c =
     let news = c.renumber_all.new.values.items in
     let is : map keyed_cells news ≡ map keyed_cells (recent_incarnations c.args.number olds) = c.renumber_all.ensures.same ∙ c.in_ok-incarnations.ensures ∙ ap (λ (l : List IncarnationState). map keyed_cells (recent_incarnations c.args.number l)) c.as_slice.ensures.value in
     numbers_gone news (since_sorted c.args.number olds news c.self.invariant.0.sorted is) c.renumber_all.ensures.numbers
+
+pub all_since-requires : goal.all_since-requires
+all_since-requires c = subst (λ (l : List IncarnationState). AreCovered c.self.inside.bounds l) (sym c.as_slice.ensures.value) c.self.invariant.2

@@ -6,6 +6,7 @@ use Rattle.gateway_kit.specs.Keys.{IncarnationKey, incarnation_cmp, whole_key}
 use Rattle.gateway_kit.specs.IncarnationState.{Cells}
 use Rattle.gateway_kit.specs.Incarnations.{flatten}
 use Rattle.gateway_kit.specs.GatewayState.{GatewayState}
+use Rattle.gateway_kit.proofs.Covered.{cleared_covered}
 use Rattle.gateway_kit.proofs.Recent.{conflicts_alike, numbers_gone, whole_alike}
 use Rattle.gateway_kit.proofs.gateway.Gateway.without_numbers.Goals as goal
 
@@ -13,7 +14,7 @@ pub invariant_of-gateway : goal.invariant_of-gateway
 invariant_of-gateway c =
     let olds = c.gateway.inside.incarnations.items in
     let news = c.renumber_all.new.values.items in
-    (whole_alike olds news c.renumber_all.ensures.same c.gateway.inside.len c.gateway.invariant.0, c.gateway.invariant.1 ∙ sym (conflicts_alike olds news c.renumber_all.ensures.same))
+    (whole_alike olds news c.renumber_all.ensures.same c.gateway.inside.len c.gateway.invariant.0, c.gateway.invariant.1 ∙ sym (conflicts_alike olds news c.renumber_all.ensures.same), cleared_covered c.clear.new.self news c.clear.ensures.all)
 
 pub returns : goal.returns
 returns c =

@@ -51,7 +51,7 @@ invariant_of-self-2 c =
         newest = c.and-tally.ensures.newest ∙ ap (λ (n : ℕ). max n item.cell.time) c.self.invariant.tallied.newest ∙ sym (latest_insert items item c.args.place within) ∙ ap (λ (l : List PartItem). latest (map keyed_cell_of l)) (sym c.in_ok-insert.ensures.items);
         conflicts = c.and-tally.ensures.conflicts ∙ ap (λ (n : ℕ). n + conflict item.cell) c.self.invariant.tallied.conflicts ∙ sym (conflicts_insert items item c.args.place) ∙ ap (λ (l : List PartItem). conflicts_in (map keyed_cell_of l)) (sym c.in_ok-insert.ensures.items);
       };
-      bounded = c.clear.ensures c.insert.new.self.items;
+      bounded = c.clear.ensures.items c.insert.new.self.items;
       up_to = ap (λ (l : List PartItem). are_up_to c.self.inside.number l) c.in_ok-insert.ensures.items ∙ all_insert (λ (i : PartItem). nat_le i.number c.self.inside.number) items c.args.place item c.self.invariant.up_to (ap (λ (n : ℕ). nat_le n c.self.inside.number) c.requires.no_number ∙ le_to 0 c.self.inside.number (omega arith));
     }
 

@@ -19,7 +19,7 @@ invariant_of-result c =
     record {
       sorted = ap (λ (l : List PartItem). is_sorted item_cmp (map keyed_cell_of l)) is ∙ as_true _ (sorted_newer c.args.number items (as_T c.self.invariant.sorted));
       tallied = subst (λ (l : List PartItem). IsTally (map keyed_cell_of l) c.tally_of-tally.result) c.as_slice-2.ensures.value c.tally_of-tally.ensures;
-      bounded = c.none.ensures c.in_ok-items.items.items;
+      bounded = c.none.ensures.items c.in_ok-items.items.items;
       up_to = ap (are_up_to c.self.inside.number) is ∙ up_to_newer c.args.number c.self.inside.number items c.self.invariant.up_to;
     }
 

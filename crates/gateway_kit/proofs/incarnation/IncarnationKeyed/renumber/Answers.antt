@@ -11,7 +11,7 @@ pub invariant_of-self : goal.invariant_of-self
 invariant_of-self c = record {
   sorted = ap (is_sorted item_cmp) c.renumber_all.ensures.same ∙ c.self.invariant.sorted;
   tallied = subst (λ (es : List KeyedCell). IsTally es c.self.inside.tally) (sym c.renumber_all.ensures.same) c.self.invariant.tallied;
-  bounded = c.clear.ensures c.renumber_all.new.values.items;
+  bounded = c.clear.ensures.items c.renumber_all.new.values.items;
   up_to = all_up_to c.args.number c.renumber_all.new.values.items c.renumber_all.ensures.numbers c.args.number (omega arith);
 }
 
