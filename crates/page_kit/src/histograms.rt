@@ -126,25 +126,6 @@ fn push_bucket(
     Ok(())
 }
 
-fn push_buckets(
-    text: &mut String,
-    alloc: Global,
-    name: &str,
-    labels: &[Label],
-    bounds: &[i64],
-    points: &[PointRef],
-) -> Result<(), NoMemory>
-    ensures { OnOk result (string_bytes text.new ≡ string_bytes text.old
-        ++ flat_map (λ bound. bucket name.now labels.now (bound_text bound) (values_up_to bound (cells points.now))) bounds.now) }
-{
-    for bound in bounds {
-        let le = bound_text(alloc, *bound)?;
-        let count = values_up_to(bound, points);
-        push_bucket(text, alloc, name, labels, le.as_str(), count)?;
-    }
-    Ok(())
-}
-
 /// Adds a sample of the sum of all.
 pub(crate) fn push_sum(
     text: &mut String,
@@ -175,7 +156,11 @@ pub(crate) fn push_histogram(
 ) -> Result<(), NoMemory>
     ensures { OnOk result (string_bytes text.new ≡ string_bytes text.old ++ histogram name.now labels.now bounds.now (cells points.now)) }
 {
-    push_buckets(text, alloc, name, labels, bounds, points)?;
+    for bound in bounds {
+        let le = bound_text(alloc, *bound)?;
+        let count = values_up_to(bound, points);
+        push_bucket(text, alloc, name, labels, le.as_str(), count)?;
+    }
     let count = count_of(points);
     push_bucket(text, alloc, name, labels, "+Inf", count)?;
     push_sum(text, alloc, name, "_sum", labels, points)?;

@@ -1,5 +1,5 @@
 //! The families of the kit's own, which tell what a page leaves out.
-ghost use Rattle.std.specs.Prelude.{◌≡◌, ◌+◌, ◌/◌, ◌%◌, ◌<◌, ◌++◌, ◌∷◌, [], length, if◌then◌else◌, IfOk, OnOk, string_bytes};
+ghost use Rattle.std.specs.Prelude.{◌≡◌, ◌+◌, ◌/◌, ◌%◌, ◌<◌, ◌++◌, ◌∷◌, [], length, codes, if◌then◌else◌, IfOk, OnOk, string_bytes};
 ghost use Rattle.std.specs.Fmt.{decimal};
 ghost use Rattle.std.specs.List.{flat_map};
 ghost use Rattle.gateway_kit.specs.Walks.{keyed_cell_of_ref};
@@ -99,20 +99,20 @@ fn conflicts_of<'a>(
     list_of(alloc, groups)
 }
 
+// How many keys hold a conflict, in each row.
 fn push_lengths(
     text: &mut String,
     alloc: Global,
-    name: &str,
     rows: &[(Seq<Label>, Vec<PointRef<'_>>)],
 ) -> Result<(), NoMemory>
     ensures { OnOk result (string_bytes text.new ≡ string_bytes text.old
-        ++ flat_map (λ g. sample name.now g.0 (decimal (length g.1.items))) rows.now) }
+        ++ flat_map (λ g. sample (codes "kotskhin_conflicts") g.0 (decimal (length g.1.items))) rows.now) }
 {
     for (labels, points) in rows {
         push_number(
             text,
             alloc,
-            name,
+            "kotskhin_conflicts",
             labels.as_slice(),
             points.as_slice().len(),
         )?;
@@ -138,7 +138,7 @@ fn push_conflicts(
         "",
         "Keys that hold a conflict. A row that has one is not shown.",
     )?;
-    push_lengths(text, alloc, "kotskhin_conflicts", rows.as_slice())
+    push_lengths(text, alloc, rows.as_slice())
 }
 
 #[tactic(auto, unfolding(crate::specs::Page::keys_text))]

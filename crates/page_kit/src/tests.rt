@@ -21,13 +21,12 @@ const LEFT_OUT: &str = "# TYPE kotskhin_left_out gauge
 ";
 
 const NEWEST: &str = "# TYPE kotskhin_newest_seconds gauge
+# UNIT kotskhin_newest_seconds seconds
+# HELP kotskhin_newest_seconds Time of the newest point of a service, since the Unix epoch.
 ";
 
-const NEWEST_UNIT: &str = "# UNIT kotskhin_newest_seconds seconds
-";
-
-const NEWEST_HELP: &str =
-    "# HELP kotskhin_newest_seconds Time of the newest point of a service, since the Unix epoch.
+const NEWEST_AS_TEXT: &str = "# TYPE kotskhin_newest_seconds gauge
+# HELP kotskhin_newest_seconds Time of the newest point of a service, since the Unix epoch.
 ";
 
 const END: &str = "# EOF
@@ -65,7 +64,7 @@ const FIRST_NEWEST: &str = "kotskhin_newest_seconds{service_name=\"shop\"} 0.000
 kotskhin_newest_seconds{service_name=\"till\"} 1700000060.123456789
 ";
 
-const FIRST: [&str; 11] = [
+const FIRST: [&str; 9] = [
     REQUESTS,
     FIRST_ROWS,
     CONFLICTS,
@@ -73,21 +72,18 @@ const FIRST: [&str; 11] = [
     FIRST_KEYS,
     LEFT_OUT,
     NEWEST,
-    NEWEST_UNIT,
-    NEWEST_HELP,
     FIRST_NEWEST,
     END,
 ];
 
-const FIRST_AS_TEXT: [&str; 9] = [
+const FIRST_AS_TEXT: [&str; 8] = [
     REQUESTS_AS_TEXT,
     FIRST_ROWS,
     CONFLICTS,
     KEYS,
     FIRST_KEYS,
     LEFT_OUT,
-    NEWEST,
-    NEWEST_HELP,
+    NEWEST_AS_TEXT,
     FIRST_NEWEST,
 ];
 
@@ -95,16 +91,7 @@ const FIRST_AS_TEXT: [&str; 9] = [
 const NO_KEYS: &str = "kotskhin_keys 0
 ";
 
-const NOTHING: [&str; 8] = [
-    CONFLICTS,
-    KEYS,
-    NO_KEYS,
-    LEFT_OUT,
-    NEWEST,
-    NEWEST_UNIT,
-    NEWEST_HELP,
-    END,
-];
+const NOTHING: [&str; 6] = [CONFLICTS, KEYS, NO_KEYS, LEFT_OUT, NEWEST, END];
 
 // Conflicts: of counters, of a gauge, and of a histogram beside a row of it that has none.
 const TORN_ROWS: &str = "requests_total{k=\"v\",otel_scope_name=\"app\",service_name=\"shop\"} 7
@@ -135,7 +122,7 @@ const TORN_NEWEST: &str = "kotskhin_newest_seconds{service_name=\"shop\"} 0.0000
 kotskhin_newest_seconds{service_name=\"till\"} 0.000000200
 ";
 
-const TORN: [&str; 15] = [
+const TORN: [&str; 13] = [
     REQUESTS,
     TORN_ROWS,
     SIZE,
@@ -147,8 +134,6 @@ const TORN: [&str; 15] = [
     TORN_KEYS,
     LEFT_OUT,
     NEWEST,
-    NEWEST_UNIT,
-    NEWEST_HELP,
     TORN_NEWEST,
     END,
 ];
@@ -173,7 +158,7 @@ const BEGUN_KEYS: &str = "kotskhin_keys 4
 const BEGUN_NEWEST: &str = "kotskhin_newest_seconds{service_name=\"shop\"} 0.000000200
 ";
 
-const LIFE_BEGUN: [&str; 15] = [
+const LIFE_BEGUN: [&str; 13] = [
     QUEUE,
     BEGUN_QUEUE,
     REQUESTS,
@@ -185,8 +170,6 @@ const LIFE_BEGUN: [&str; 15] = [
     BEGUN_KEYS,
     LEFT_OUT,
     NEWEST,
-    NEWEST_UNIT,
-    NEWEST_HELP,
     BEGUN_NEWEST,
     END,
 ];
@@ -199,7 +182,7 @@ const TWICE_CONFLICTS: &str =
 const TWICE_NEWEST: &str = "kotskhin_newest_seconds{service_name=\"shop\"} 0.000000300
 ";
 
-const LIFE_TWICE: [&str; 15] = [
+const LIFE_TWICE: [&str; 13] = [
     QUEUE,
     BEGUN_QUEUE,
     REQUESTS,
@@ -211,8 +194,6 @@ const LIFE_TWICE: [&str; 15] = [
     BEGUN_KEYS,
     LEFT_OUT,
     NEWEST,
-    NEWEST_UNIT,
-    NEWEST_HELP,
     TWICE_NEWEST,
     END,
 ];
@@ -224,7 +205,7 @@ const LATER_ROWS: &str = "requests_total{otel_scope_name=\"app\",service_name=\"
 const LATER_NEWEST: &str = "kotskhin_newest_seconds{service_name=\"shop\"} 0.000000400
 ";
 
-const LIFE_LATER: [&str; 15] = [
+const LIFE_LATER: [&str; 13] = [
     QUEUE,
     BEGUN_QUEUE,
     REQUESTS,
@@ -236,8 +217,6 @@ const LIFE_LATER: [&str; 15] = [
     BEGUN_KEYS,
     LEFT_OUT,
     NEWEST,
-    NEWEST_UNIT,
-    NEWEST_HELP,
     LATER_NEWEST,
     END,
 ];
@@ -259,7 +238,7 @@ const AGAIN_KEYS: &str = "kotskhin_keys 6
 const AGAIN_NEWEST: &str = "kotskhin_newest_seconds{service_name=\"shop\"} 0.000000600
 ";
 
-const LIFE_AGAIN: [&str; 15] = [
+const LIFE_AGAIN: [&str; 13] = [
     QUEUE,
     BEGUN_QUEUE,
     REQUESTS,
@@ -271,8 +250,6 @@ const LIFE_AGAIN: [&str; 15] = [
     AGAIN_KEYS,
     LEFT_OUT,
     NEWEST,
-    NEWEST_UNIT,
-    NEWEST_HELP,
     AGAIN_NEWEST,
     END,
 ];
@@ -300,7 +277,7 @@ const OTHER_LEFT_OUT: &str = "kotskhin_left_out{kind=\"gauge\",name=\"queue\"} 1
 const OTHER_NEWEST: &str = "kotskhin_newest_seconds{service_name=\"shop\"} 0.000000800
 ";
 
-const LIFE_OTHER: [&str; 16] = [
+const LIFE_OTHER: [&str; 14] = [
     QUEUE,
     OTHER_QUEUE,
     REQUESTS,
@@ -313,8 +290,6 @@ const LIFE_OTHER: [&str; 16] = [
     LEFT_OUT,
     OTHER_LEFT_OUT,
     NEWEST,
-    NEWEST_UNIT,
-    NEWEST_HELP,
     OTHER_NEWEST,
     END,
 ];
