@@ -45,6 +45,8 @@ OF_CONTRACTS = {"gateway_kit": {"GatewayChange"}, "writer_kit": {"WriterChange"}
 # Those that are for other crates of the kit alone, or a part of one of OF_CONTRACTS.
 OF_THE_KIT = {
     "agg_kit": {"Places"},
+    # (no gateway leaves out yet what tombstones name: so an archive has no caller)
+    "archive_kit": {"Archive", "AdoptFault", "ExportRefusal"},
     "writer_kit": {"Recordings"},
     # (the program `otm` is the caller of file_kit)
     "file_kit": {"PageFormat", "FileCommand", "CommandFault", "FileFault", "SendFault"},

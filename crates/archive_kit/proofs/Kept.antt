@@ -1,12 +1,11 @@
 -- What an archive keeps of its points as others are added: no two of one stream and set, each sound, tombstones apart.
 use mathlib.Core.Bool.{true≢false}
-use Rattle.std.proofs.Common.{◌≡◌, ◌<◌, ◌≤◌, ◌+◌, ◌&&◌, ◌||◌, ◌++◌, ℕ, zero, suc, Bool, true, false, not, cond, List, [], ◌∷◌, length, drop, Option, Some, None, arith, refl, sym, ap, subst, ◌∙◌}
+use Rattle.std.proofs.Common.{◌≡◌, ◌<◌, ◌≤◌, ◌&&◌, ◌++◌, ℕ, zero, suc, Bool, true, false, not, cond, List, [], ◌∷◌, length, drop, Option, Some, None, arith, refl, sym, ap, subst, ◌∙◌}
 use Rattle.std.specs.Prelude.{IsTrue}
 use Rattle.std.proofs.lemmas.Bool.{and_parts, or_parts}
 use Rattle.std.proofs.lemmas.List.{length-append}
 use Rattle.std.proofs.lemmas.List.Elements.{All-tail}
-use Rattle.std.specs.List.{All, AllByRecursion, IsDistinct, list_any, list_all, filter_map}
-use Rattle.std.specs.Cmp.{IsEquivalence}
+use Rattle.std.specs.List.{All, AllByRecursion, IsDistinct, list_any, list_all}
 use Rattle.point_kit.proofs.Sound.{same_key_equivalence, sound_keys, sound_points, sound_builds}
 use Rattle.point_kit.specs.Exact.{exact_streams}
 use Rattle.point_kit.specs.ExportFaults.{export_fault, same_key}
@@ -17,7 +16,7 @@ use Rattle.point_kit.specs.declared.export_point.ExportPoint.{ExportPoint}
 use Rattle.point_kit.specs.declared.key.Key.{Key}
 use Rattle.point_kit.specs.declared.payload.Payload.{Payload}
 use Rattle.point_kit.specs.declared.stream.Stream.{Stream}
-use Rattle.archive_kit.specs.Archive.{ArchiveState, AreKept, adopt_fault, early_faults, is_of_archive, late_faults, payload_held, point_held, points_held, time_of, tombstone_of, was_adopted}
+use Rattle.archive_kit.specs.Archive.{ArchiveState, AreKept, adopt_fault, early_faults, is_of_archive, late_faults, payload_held, points_held, time_of, tombstone_of, was_adopted}
 use Rattle.archive_kit.specs.declared.adopt_fault.AdoptFault.{AdoptFault}
 use Rattle.archive_kit.specs.declared.adopt_fault.AdoptFault.TheVariants as faults
 use Rattle.archive_kit.proofs.Steps.{first-append}

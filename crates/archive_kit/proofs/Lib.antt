@@ -11,4 +11,5 @@ pub mod Rest
 pub mod Showing
 pub mod Steps
 pub mod Stories
+pub mod Telling
 pub mod Tombstones

@@ -4,5 +4,6 @@ pub mod Archive
 pub mod Archived
 pub mod Showing
 pub mod Stories
+pub mod Telling
 pub mod Tombstones
 pub mod Totals

@@ -1,7 +1,6 @@
 -- What an archive has of the incarnations that it adopted: for each stream and set their payloads added up.
-use Rattle.std.specs.Prelude.{ℕ, ◌+◌, ◌^◌, ◌+ℤ◌, Bool, true, false, not, ◌&&◌, ◌||◌, ◌==◌, if◌then◌else◌, nat_lt, List, [], ◌∷◌, Option, Some, None, length, position, slice_get}
-use Rattle.std.specs.Option.{option_map_or}
-use Rattle.std.specs.Prelude.{ℤ, pos, int_lt, negsuc}
+use Rattle.std.specs.Prelude.{ℕ, ◌+◌, ◌^◌, ◌+ℤ◌, Bool, true, false, ◌&&◌, if◌then◌else◌, nat_lt, List, [], ◌∷◌}
+use Rattle.std.specs.Prelude.{ℤ, pos, negsuc}
 use Rattle.point_kit.specs.ExportFaults.{same_key}
 use Rattle.point_kit.specs.declared.export_point.ExportPoint.{ExportPoint}
 use Rattle.point_kit.specs.declared.payload.Payload.{Payload}

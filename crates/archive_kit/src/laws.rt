@@ -1,10 +1,11 @@
 //! What is true of states that do not show what their tombstones name, and of archives.
-ghost use Rattle.std.specs.Prelude.{◌≡◌, ℕ, Bool, true, false, not, cond, pos, List, [], filter, Option, Some};
+ghost use Rattle.std.specs.Prelude.{◌≡◌, ℕ, ◌+◌, ◌+ℤ◌, Bool, true, false, not, cond, pos, List, [], filter, Option, Some};
 ghost use Rattle.std.specs.List.{filter_map};
 ghost use Rattle.std.specs.Cmp.{IsTotalOrder, IsEquivalence};
 ghost use Rattle.std.specs.FinMap.{FinMap, IsAntisymmetric, get};
 ghost use Rattle.std.specs.declared.cmp.Ordering.{Ordering};
 ghost use Rattle.attr_kit.specs.Exact.{IsExact};
+ghost use Rattle.attr_kit.specs.declared.attr_set.AttrSet.{AttrSet};
 ghost use Rattle.point_kit.specs.Exports.{Points, join_points};
 ghost use Rattle.point_kit.specs.Join.{IsCommutative, IsAssociative, IsIdempotent};
 ghost use Rattle.point_kit.specs.Payload as sound;
@@ -13,6 +14,8 @@ ghost use Rattle.point_kit.specs.declared.cell.Cell.{Cell};
 ghost use Rattle.point_kit.specs.declared.key.Key.{Key};
 ghost use Rattle.point_kit.specs.declared.payload.Payload.{Payload};
 ghost use Rattle.point_kit.specs.declared.shape.Shape.{Shape};
+ghost use Rattle.point_kit.specs.declared.stream.Stream.{Stream};
+ghost use Rattle.point_kit.specs.declared.writer_id.WriterId.{WriterId};
 ghost use Rattle.schedule_kit.specs.Deeds.{Deed, Holder, made, first, entries_at, AreLawful, IsTold};
 ghost use Rattle.schedule_kit.specs.Members.{In};
 ghost use Rattle.schedule_kit.specs.Rounds.{Rounding, IsSound, state};
@@ -22,8 +25,10 @@ ghost use Rattle.schedule_kit.specs.Taken.{taken_collections, recorded_up_to, in
 ghost use Rattle.schedule_kit.specs.Totals.{total_where};
 ghost use Rattle.archive_kit.specs.Adding.{add_payloads};
 ghost use Rattle.archive_kit.specs.Adopting.{Archiving, Counted, AreTombstones, AreArchives, is_adopted, adoptees, counted, values_counted, EachOnce, RefusesAgain, AdoptMade};
+ghost use Rattle.archive_kit.specs.Archive.{ArchiveState, adopted, points_held};
 ghost use Rattle.archive_kit.specs.Showing.{hides, shown, join_shown, IsShownBelow, NamesNoNamer};
 ghost use Rattle.archive_kit.specs.Stories.{Story, SameTaken, taken, held, state_of_taken, IsHeard};
+ghost use Rattle.archive_kit.specs.Telling.{bucket_told, count_told, sum_told, told_by};
 ghost use Rattle.archive_kit.specs.Tombstones.{names_key};
 
 /// What states show, joined, shows what the states joined show, wherever what is named names nothing itself: so joining what
@@ -161,6 +166,21 @@ pub fn archives_change_no_total<N, K, I, X, P, V, G>()
         (values_counted r fed (counted r how (is_adopted r how (taken_collections starts ds h)) (recorded_up_to starts ds h) (incarnations starts ds)))
         ≡ total_where zero plus (λ p. in_row Rg zero plus asks group g p.0) (λ p. p.1)
         (values_fed r whole (filter (λ i. not (how.is_archive (r.who i.0))) (incarnations starts ds)) fed) }
+{}
+
+/// An adoption adds to what an archive's totals tell just what the adopted points tell: totals, counts and how many values are in
+/// each bucket, of whatever streams and sets are asked for.
+#[tactic(auto, using(crate::proofs::Telling::sums_told, crate::proofs::Telling::counts_told))]
+pub fn adoptions_add_up()
+    ensures sums { (asks : Stream → AttrSet → Bool) (a : ArchiveState) (writer : WriterId) (start : ℕ) (cells : List (Key × Cell Payload))
+        → told_by (pos 0) ◌+ℤ◌ sum_told asks (adopted a writer start cells).totals
+        ≡ told_by (pos 0) ◌+ℤ◌ sum_told asks a.totals +ℤ told_by (pos 0) ◌+ℤ◌ sum_told asks (points_held cells) }
+    ensures counts { (asks : Stream → AttrSet → Bool) (a : ArchiveState) (writer : WriterId) (start : ℕ) (cells : List (Key × Cell Payload))
+        → told_by 0 ◌+◌ count_told asks (adopted a writer start cells).totals
+        ≡ told_by 0 ◌+◌ count_told asks a.totals + told_by 0 ◌+◌ count_told asks (points_held cells) }
+    ensures buckets { (place : ℕ) (asks : Stream → AttrSet → Bool) (a : ArchiveState) (writer : WriterId) (start : ℕ) (cells : List (Key × Cell Payload))
+        → told_by 0 ◌+◌ (bucket_told place) asks (adopted a writer start cells).totals
+        ≡ told_by 0 ◌+◌ (bucket_told place) asks a.totals + told_by 0 ◌+◌ (bucket_told place) asks (points_held cells) }
 {}
 
 /// Payloads that are sound in a stream of sums or of histograms are sound there added up.

@@ -32,7 +32,8 @@ pub use adopt_fault::AdoptFault;
 pub use archive::Archive;
 pub use export_refusal::ExportRefusal;
 pub use laws::{
-    adopted_are_recorded, archives_change_no_total, archivists_adopt_once, deltas_bring,
-    hidden_points_may_be_skipped, roll_ups_count_adopted_once, same_exports_show_the_same,
-    shown_states_are_ordered, shown_states_join, sums_are_sound, tombstones_name_no_tombstone,
+    adopted_are_recorded, adoptions_add_up, archives_change_no_total, archivists_adopt_once,
+    deltas_bring, hidden_points_may_be_skipped, roll_ups_count_adopted_once,
+    same_exports_show_the_same, shown_states_are_ordered, shown_states_join, sums_are_sound,
+    tombstones_name_no_tombstone,
 };

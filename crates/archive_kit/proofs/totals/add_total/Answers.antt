@@ -1,4 +1,4 @@
-use Rattle.std.proofs.Common.{◌≡◌, ◌∙◌, Bool, true, ◌++◌, ◌∷◌, [], List, Some, None, Option, ℕ, position, ap, sym}
+use Rattle.std.proofs.Common.{◌≡◌, ◌∙◌, Bool, ◌++◌, ◌∷◌, [], List, Some, None, position, ap, sym}
 use Rattle.point_kit.specs.ExportFaults.{same_key}
 use Rattle.point_kit.specs.declared.export_point.ExportPoint.{ExportPoint}
 use Rattle.archive_kit.proofs.Steps.{found, not_found, if_ok}

@@ -1,11 +1,10 @@
-use Rattle.std.proofs.Common.{◌≡◌, None, Some, Option, List, ap, sym, ◌∙◌}
+use Rattle.std.proofs.Common.{List, ap, sym, ◌∙◌}
 use Rattle.std.proofs.lemmas.Result.{on_ok_weaker}
-use Rattle.attr_kit.specs.Refusing.{first}
-use Rattle.gateway_kit.specs.Queries.{incarnation_points, part_points}
+use Rattle.gateway_kit.specs.Queries.{part_points}
 use Rattle.point_kit.specs.declared.cell.Cell.{Cell}
 use Rattle.point_kit.specs.declared.key.Key.{Key}
 use Rattle.point_kit.specs.declared.payload.Payload.{Payload}
-use Rattle.archive_kit.specs.Archive.{ArchiveState, adopt_fault, adopted, early_faults}
+use Rattle.archive_kit.specs.Archive.{adopt_fault, adopted}
 use Rattle.archive_kit.specs.declared.adopt_fault.AdoptFault.{AdoptFault}
 use Rattle.archive_kit.proofs.Kept.{early_first, early_new, early_plain, late_first, own_is}
 use Rattle.archive_kit.proofs.Steps.{if_err}

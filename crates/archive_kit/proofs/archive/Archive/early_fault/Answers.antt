@@ -1,4 +1,4 @@
-use Rattle.std.proofs.Common.{◌≡◌, ◌==◌, ℕ, List, Bool, [], ◌∷◌, map, not, ap, sym, ◌∙◌}
+use Rattle.std.proofs.Common.{◌≡◌, ◌==◌, ℕ, Bool, [], ◌∷◌, not, ap, sym, ◌∙◌}
 use Rattle.std.specs.List.{list_any}
 use Rattle.attr_kit.specs.Refusing.{first, when}
 use Rattle.attr_kit.specs.contracts.txt.TxtPartialEq.TheImpl as texts
@@ -10,7 +10,7 @@ use Rattle.point_kit.specs.declared.cell.Cell.{Cell}
 use Rattle.point_kit.specs.declared.export_point.ExportPoint.{ExportPoint}
 use Rattle.point_kit.specs.declared.key.Key.{Key}
 use Rattle.point_kit.specs.declared.payload.Payload.{Payload}
-use Rattle.archive_kit.specs.Archive.{ArchiveState, are_torn, is_nothing, is_of_archive, was_adopted, tombstone_of, time_of}
+use Rattle.archive_kit.specs.Archive.{ArchiveState, are_torn, is_nothing, was_adopted, time_of}
 use Rattle.archive_kit.specs.declared.adopt_fault.AdoptFault.TheVariants as faults
 use Rattle.archive_kit.proofs.Steps.{any_map, nothing_held}
 use Rattle.archive_kit.proofs.archive.Archive.early_fault.Goals as goal

@@ -1,4 +1,4 @@
-use Rattle.std.proofs.Common.{◌≡◌, ◌||◌, Bool, true, false, map, ap, sym, ◌∙◌}
+use Rattle.std.proofs.Common.{◌≡◌, ◌||◌, Bool, false, map, ap, sym, ◌∙◌}
 use Rattle.std.specs.List.{list_any}
 use Rattle.gateway_kit.specs.Keys.{keyed_cell_of, whole_key}
 use Rattle.gateway_kit.specs.declared.part_item.PartItem.{PartItem}
