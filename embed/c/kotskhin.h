@@ -696,6 +696,11 @@ KIT_CHECKED int32_t kit_node_open(kit_node *node, KIT_READS kit_gateway *gateway
  * Refused, in this order: KIT_FULL; KIT_NOTHING; KIT_NO_MEMORY. O(size of the points). */
 KIT_CHECKED int32_t kit_node_gateway(KIT_READS kit_node *node, kit_gateway *gateway);
 
+/* Tells the id of a node, and how many points it holds, without a copy of them.
+ *
+ * Refused: KIT_NOTHING. O(1), takes no memory. */
+KIT_CHECKED int32_t kit_node_read(KIT_READS kit_node *node, uint32_t *id, size_t *points);
+
 /* Joins the points of an export, which stays, and tells the number of keys whose points changed: later messages carry them.
  *
  * Refused, in this order: KIT_NOTHING of the node, then of the export; KIT_NO_MEMORY. */

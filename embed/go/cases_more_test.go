@@ -115,8 +115,8 @@ func (r *run) gateways(it step) (any, error) {
 		}
 		made, err := OpenGateway(uint32(id))
 		return r.keep(it, made, err)
-	case "gateway_read":
-		id, points, err := thing("of").(Gateway).Head()
+	case "gateway_read", "node_read":
+		id, points, err := thing("of").(interface{ Head() (uint32, int, error) }).Head()
 		return map[string]any{"id": id, "points": points}, err
 	case "take":
 		return one(thing("by").(takes).Take(thing("export").(Export)))

@@ -66,6 +66,14 @@ func (n Node) Gateway() (Gateway, error) {
 	return Gateway{h}, err
 }
 
+// Head tells the id of the node, and how many points it holds.
+func (n Node) Head() (id uint32, points int, err error) {
+	var i C.uint32_t
+	var p C.size_t
+	err = reading(n.h, func(node *C.kit_node) error { return answered(C.kit_node_read(node, &i, &p)) })
+	return uint32(i), int(p), err
+}
+
 // Take joins the points of an export, and tells how many keys changed: later messages carry them.
 func (n Node) Take(e Export) (uint64, error) {
 	var changed C.uint64_t

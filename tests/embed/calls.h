@@ -206,6 +206,7 @@ CALL(gateway_newest, AS(gateway, 0), TEXT("shop"), 0, 1, 100, &place)
 CALL(gateway_same, AS(gateway, 0), AS(gateway, 1), &truth)
 CALL(node_open, AS(node, 0), AS(gateway, 1))
 CALL(node_gateway, AS(node, 0), AS(gateway, 1))
+CALL(node_read, AS(node, 0), &id, &size)
 CALL(node_take, AS(node, 0), AS(export, 1), &place)
 CALL(node_merge, AS(node, 0), AS(gateway, 1), &place)
 CALL(node_send, AS(node, 0), 5, AS(message, 1))
@@ -282,7 +283,7 @@ static const struct row CALLS[] = {
     ROW(gateway_open, {FILLED, GATEWAY}), ROW(gateway_take, {THERE, GATEWAY}, {READ, EXPORT}),
     ROW(gateway_merge, {THERE, GATEWAY}, {READ, GATEWAY}), ROW(gateway_conflicts, {READ, GATEWAY}), ROW(gateway_newest, {READ, GATEWAY}),
     ROW(gateway_same, {READ, GATEWAY}, {READ, GATEWAY}), ROW(node_open, {FILLED, NODE}, {READ, GATEWAY}),
-    ROW(node_gateway, {READ, NODE}, {FILLED, GATEWAY}), ROW(node_take, {THERE, NODE}, {READ, EXPORT}),
+    ROW(node_gateway, {READ, NODE}, {FILLED, GATEWAY}), ROW(node_read, {READ, NODE}), ROW(node_take, {THERE, NODE}, {READ, EXPORT}),
     ROW(node_merge, {THERE, NODE}, {READ, GATEWAY}), ROW(node_send, {READ, NODE}, {FILLED, MESSAGE}),
     ROW(node_hand, {THERE, NODE}, {READ, MESSAGE}, {FILLED, MESSAGE}), ROW(message_read, {READ, MESSAGE}),
     ROW(message_encode, {READ, MESSAGE}, {FILLED, BYTES}), ROW(message_decode, {FILLED, MESSAGE}), ROW(ask_sum, {FILLED, ASK}),

@@ -392,6 +392,13 @@ static bool holds(kit_node *node, const char *want) {
     return fits;
 }
 
+/* A node tells this id, and so many points. */
+static bool reads(kit_node *node, uint32_t id, size_t points) {
+    uint32_t told = 77;
+    size_t len = 77;
+    return !kit_node_read(node, &told, &len) && told == id && len == points;
+}
+
 static void nodes(kit_plan *plan, kit_attributes *none) {
     kit_gateway gateway = KIT_EMPTY, far = KIT_EMPTY;
     kit_node one = KIT_EMPTY, other = KIT_EMPTY;
@@ -406,14 +413,15 @@ static void nodes(kit_plan *plan, kit_attributes *none) {
     CHECK(!kit_writer_collect(&writer, 200, &collected, &place));
     CHECK(!kit_gateway_open(&gateway, 1) && !kit_gateway_open(&far, 2));
     CHECK(kit_node_open(&one, &nothing) == KIT_NOTHING && !one.handle.full);
+    CHECK(kit_node_read(&one, &from, &points) == KIT_NOTHING && from == 77 && points == 77);
     EACH_GROWTH(kit_node_open(&one, &gateway), !one.handle.full && gateway.handle.full);
     CHECK(kit_node_open(&one, &gateway) == KIT_FULL && !kit_node_open(&other, &far));
 
     CHECK(kit_node_take((void *)&nothing, &collected, &changed) == KIT_NOTHING && kit_node_take(&one, (void *)&nothing, &changed) == KIT_NOTHING);
     CHECK(kit_node_take(&one, (void *)&one, &changed) != KIT_OK && one.handle.full); /* one handle given twice */
     changed = 77;
-    EACH_GROWTH(kit_node_take(&one, &collected, &changed), changed == 77 && holds(&one, NO_ROWS));
-    CHECK(changed == 1 && holds(&one, SEVEN) && !kit_node_take(&one, &collected, &changed) && changed == 0);
+    EACH_GROWTH(kit_node_take(&one, &collected, &changed), changed == 77 && holds(&one, NO_ROWS) && reads(&one, 1, 0));
+    CHECK(changed == 1 && reads(&one, 1, 1) && holds(&one, SEVEN) && !kit_node_take(&one, &collected, &changed) && changed == 0);
 
     CHECK(kit_node_send(&one, 2, (void *)&writer) == KIT_FULL && !sent.handle.full);
     EACH_GROWTH(kit_node_send(&one, 2, &sent), !sent.handle.full && one.handle.full);
@@ -423,7 +431,7 @@ static void nodes(kit_plan *plan, kit_attributes *none) {
     CHECK(kit_node_hand(&other, &sent, (void *)&writer, &answered) == KIT_FULL);
     answered = false;
     EACH_GROWTH(kit_node_hand(&other, &sent, &answer, &answered), !answer.handle.full && !answered && holds(&other, NO_ROWS));
-    CHECK(answer.handle.full && answered && sent.handle.full && holds(&other, SEVEN));
+    CHECK(answer.handle.full && answered && sent.handle.full && holds(&other, SEVEN) && reads(&other, 2, 1));
     CHECK(!kit_message_read(&answer, &from, &to, &points) && from == 2 && to == 1 && points == 0);
     kit_message_free(&sent);
     EACH_GROWTH(kit_node_hand(&one, &answer, &sent, &answered), !sent.handle.full && answered);

@@ -91,12 +91,24 @@ class Run:
         self.say(what, fault)
         return not fault
 
+    def built(self, what, compiler, source, flags, program):
+        """Compiles one file over the kit."""
+        libraries = [it for it in self.linked if not it.startswith("-I")]
+        return self.run(f"{what}: compiled", compiler, *flags, self.linked[0], source, *libraries, "-o", program)
+
     def compiled(self, what, compiler, source, flags, prints=None, words=()):
         """Compiles one file over the kit, and runs it."""
         program = self.room / "program"
-        libraries = [it for it in self.linked if not it.startswith("-I")]
-        if self.run(f"{what}: compiled", compiler, *flags, self.linked[0], source, *libraries, "-o", program):
+        if self.built(what, compiler, source, flags, program):
             self.run(what, program, *words, prints=prints, env={**os.environ, "ASAN_OPTIONS": "detect_leaks=1"})
+
+    def exporter(self, what, compiler, flags):
+        """The exporter prints all that a gateway holds, whose bytes another program makes."""
+        made, program = self.room / "made", self.room / "program"
+        are_built = self.built(f"{what}: its gateway", compiler, HERE / "exported.c", flags, made)
+        if are_built and self.built(what, compiler, EMBED / "c" / "exporter.c", flags, program):
+            env = {**os.environ, "ASAN_OPTIONS": "detect_leaks=1"}
+            self.run(what, "sh", "-ec", '"$0" > "$0.bytes"; "$1" < "$0.bytes"', made, program, prints=EXPORTED, env=env)
 
     def covered(self):
         """Whether calls.h has a row for each call that the header has, which reads what it says, and refusals.c and formats.c raise each code,
@@ -132,7 +144,7 @@ class Run:
             self.run(f"C, {compiler}: a kind in the place of another", sys.executable, "-B", HERE / "kinds.py", self.kit / "include", compiler)
             for how, flags in (("", ["-O2"]), (" under sanitizers", ASAN)):
                 self.compiled(f"C, {compiler}{how}: the first script", compiler, EMBED / "c" / "first.c", C + flags, WANTED)
-                self.compiled(f"C, {compiler}{how}: an exporter", compiler, EMBED / "c" / "exporter.c", C + flags, EXPORTED)
+                self.exporter(f"C, {compiler}{how}: an exporter", compiler, C + flags)
                 self.compiled(f"C, {compiler}{how}: refusals", compiler, HERE / "refusals.c", C + flags + WRAPPED + FREED)
                 self.compiled(f"C, {compiler}{how}: other formats, and incarnations", compiler, HERE / "formats.c", C + flags + WRAPPED)
                 self.compiled(f"C, {compiler}{how}: handles", compiler, HERE / "handles.c", C + flags + WRAPPED)

@@ -1,5 +1,6 @@
 //! Nodes: gateways that tell each other what changed, by messages.
 ghost use Rattle.std.specs.Prelude.{◌≡◌, ◌≢◌, ◌∷◌, [], pos, true, None, Some, IfSome, OnOk, OnErr, IfErr, IfOk};
+ghost use Rattle.std.specs.FinMap as finite;
 ghost use Rattle.std.specs.Option.{is_some, option_map};
 ghost use Rattle.attr_kit.specs.Refusing.{first};
 ghost use Rattle.gossip_kit.specs.Gossip.{answer_of, first_node};
@@ -63,6 +64,28 @@ pub extern "C" fn kit_node_gateway(
         Ok(copy) => gateway.handle.fill(alloc, Content::Gateway(copy)),
         Err(_) => NO_MEMORY,
     }
+}
+
+/// Tells the id of a node, and how many points it holds, without a copy of them.
+///
+/// Refused: `NOTHING`. O(1), takes no memory.
+#[unsafe(no_mangle)]
+pub extern "C" fn kit_node_read(
+    alloc: Global,
+    node: &mut KitNode,
+    id: &mut u32,
+    points: &mut usize,
+) -> i32
+    ensures code { result ≡ code_for (of_one (node_of node.old) if_any) }
+    ensures id { result ≡ pos 0 → IfSome (node_of node.old) (λ n. id.new ≡ n.gateway.id) }
+    ensures points { result ≡ pos 0 → IfSome (node_of node.old) (λ n. points.new ≡ finite.len n.gateway.points) }
+    ensures told { result ≢ pos 0 → (id.new ≡ id.old) × (points.new ≡ points.old) }
+    ensures kept { node_of node.new ≡ node_of node.old }
+{
+    let (told, len) = with!(alloc, node => Node(held), (held.gateway().id(), held.gateway().len()));
+    *id = told;
+    *points = len;
+    OK
 }
 
 /// Joins the points of an export, which stays, and tells the number of keys whose points changed: later messages carry them.

@@ -59,6 +59,12 @@ public:
         checked(kit_node_gateway(handle.lent().at(), made.at()));
         return Gateway(std::move(made));
     }
+    // Its id, and how many points it holds.
+    GatewayHead head() const {
+        GatewayHead told{};
+        checked(kit_node_read(handle.lent().at(), &told.id, &told.points));
+        return told;
+    }
     uint64_t take(const Export &given) {
         uint64_t changed = 0;
         checked(kit_node_take(handle.at(), given.raw().lent().at(), &changed));

@@ -124,6 +124,7 @@ CALLS = {
     "kit_gateway_encode": ("int32_t", ("KIT_READS kit_gateway *gateway", "kit_bytes *bytes")),
     "kit_node_open": ("int32_t", ("kit_node *node", "KIT_READS kit_gateway *gateway")),
     "kit_node_gateway": ("int32_t", ("KIT_READS kit_node *node", "kit_gateway *gateway")),
+    "kit_node_read": ("int32_t", ("KIT_READS kit_node *node", "uint32_t *id", "size_t *points")),
     "kit_node_take": ("int32_t", ("kit_node *node", "KIT_READS kit_export *export_", "uint64_t *changed")),
     "kit_node_merge": ("int32_t", ("kit_node *node", "KIT_READS kit_gateway *gateway", "uint64_t *changed")),
     "kit_node_send": ("int32_t", ("KIT_READS kit_node *node", "uint32_t to", "kit_message *message")),

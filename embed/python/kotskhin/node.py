@@ -64,6 +64,13 @@ class Node(LockedHandle):
             calls["kit_node_gateway"](self, made)
         return made
 
+    def head(self) -> tuple[int, int]:
+        """Its id, and how many points it holds."""
+        id, points = c_uint32(), c_size_t()
+        with self._lock:
+            calls["kit_node_read"](self, byref(id), byref(points))
+        return id.value, points.value
+
     def take(self, export: Export) -> int:
         """Joins the points of an export, and tells how many keys changed: later messages carry them."""
         changed = c_uint64()

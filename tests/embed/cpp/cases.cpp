@@ -455,6 +455,11 @@ std::map<std::string, Run::Step> Run::all_steps() {
              GatewayHead head = the<Gateway>(it["of"]).head();
              return Json().with("id", told(head.id)).with("points", told(head.points));
          }},
+        {"node_read",
+         [this](const Json &it) {
+             GatewayHead head = the<Node>(it["of"]).head();
+             return Json().with("id", told(head.id)).with("points", told(head.points));
+         }},
         {"take",
          [this](const Json &it) {
              return by<Gateway, Node>(it["by"], [&](auto &thing) { return told(thing.take(the<Export>(it["export"]))); });

@@ -147,6 +147,8 @@ class Run:
     def gateway_read(self, it):
         return dict(zip(("id", "points"), self.things[it["of"]].head()))
 
+    node_read = gateway_read
+
     def take(self, it):
         return self.things[it["by"]].take(self.things[it["export"]])
 

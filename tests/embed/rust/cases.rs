@@ -560,8 +560,8 @@ impl Run {
                 let made = Gateway::open(number(by("id"))?)?;
                 self.make(it, Thing::Gateway(made))
             }
-            "gateway_read" => {
-                let (id, points) = the!(self, by("of"), Gateway, it => it.head())?;
+            "gateway_read" | "node_read" => {
+                let (id, points) = the!(self, by("of"), Gateway | Node, it => it.head())?;
                 Ok(Json::fields([
                     ("id", Json::number(id)),
                     ("points", Json::number(points)),

@@ -22,18 +22,13 @@ type writer struct {
 
 func writerOf(it kotskhin.Incarnation) writer { return writer{it.Service, it.Instance, it.Start} }
 
-// counts are what is known of how much is held. A node does not tell how many points it has, so between two looks at a copy there is a
-// number that it has at least, and one that it has at most.
+// counts are what is known of whose points are held, and of which streams. How many points there are in all, the node tells.
 type counts struct {
 	limits Limits
 
 	lock    sync.Mutex
 	of      map[writer]int
 	streams map[string]bool
-	least   int
-	// All points that could be new, ever; and how many there are at most.
-	added uint64
-	most  int
 }
 
 func newCounts(limits Limits) *counts {
@@ -50,20 +45,13 @@ func (c *counts) grows(of []kotskhin.Incarnation) (points int) {
 	return points
 }
 
-// needsLook tells whether so much may have come since the last look that nobody knows whether there is room.
-func (c *counts) needsLook() bool {
-	c.lock.Lock()
-	defer c.lock.Unlock()
-	return c.most > c.limits.Points+c.limits.Points/8
-}
-
-// admits tells whether there is room for points of these, and whether they may have streams that are not known.
-func (c *counts) admits(of []kotskhin.Incarnation) (isNew bool, err error) {
+// admits tells whether there is room for points of these where so many are held, and whether they may have streams that are not known.
+func (c *counts) admits(held int, of []kotskhin.Incarnation) (isNew bool, err error) {
 	c.lock.Lock()
 	defer c.lock.Unlock()
 	more := c.grows(of)
-	if more > 0 && c.least+more > c.limits.Points || c.most > c.limits.Points+c.limits.Points/8 {
-		return false, fmt.Errorf("%w: it holds %d points and may hold %d", ErrFull, c.least, c.limits.Points)
+	if more > 0 && held+more > c.limits.Points || held > c.limits.Points+c.limits.Points/8 {
+		return false, fmt.Errorf("%w: it holds %d points and may hold %d", ErrFull, held, c.limits.Points)
 	}
 	return more > 0, nil
 }
@@ -91,52 +79,25 @@ func (c *counts) admitsStreams(streams []kotskhin.Stream) error {
 	return nil
 }
 
-// took notes what was taken: of whom, of which streams where some may be new, and how many keys changed at most.
-func (c *counts) took(of []kotskhin.Incarnation, streams []kotskhin.Stream, changed int) {
+// know notes that there are so many points at least of each of these, and streams that are held.
+func (c *counts) know(of []kotskhin.Incarnation, streams []kotskhin.Stream) {
 	c.lock.Lock()
 	defer c.lock.Unlock()
-	c.raise(of)
-	c.know(streams)
-	c.added += uint64(changed)
-	c.most += changed
-}
-
-func (c *counts) raise(of []kotskhin.Incarnation) {
 	for _, it := range of {
-		if more := it.Points - c.of[writerOf(it)]; more > 0 {
-			c.of[writerOf(it)] += more
-			c.least += more
+		if it.Points > c.of[writerOf(it)] {
+			c.of[writerOf(it)] = it.Points
 		}
 	}
-}
-
-func (c *counts) know(streams []kotskhin.Stream) {
 	for _, it := range streams {
 		c.streams[nameOf(it)] = true
 	}
 }
 
-// soFar is how many points could be new so far: looked wants it of before the copy.
-func (c *counts) soFar() uint64 {
+// knownStreams tells how many streams are known to be held.
+func (c *counts) knownStreams() int {
 	c.lock.Lock()
 	defer c.lock.Unlock()
-	return c.added
-}
-
-// looked notes what a copy has that was made after so many could be new.
-func (c *counts) looked(of []kotskhin.Incarnation, streams []kotskhin.Stream, points int, before uint64) {
-	c.lock.Lock()
-	defer c.lock.Unlock()
-	c.raise(of)
-	c.know(streams)
-	c.most = points + int(c.added-before)
-}
-
-// now tells how many points and streams are known to be held.
-func (c *counts) now() (points, streams int) {
-	c.lock.Lock()
-	defer c.lock.Unlock()
-	return c.least, len(c.streams)
+	return len(c.streams)
 }
 
 func nameOf(it kotskhin.Stream) string {

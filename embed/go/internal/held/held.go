@@ -44,8 +44,12 @@ func (h *Held) ID() uint32 { return h.id }
 // Changes tells how often something changed so far.
 func (h *Held) Changes() uint64 { return atomic.LoadUint64(&h.changes) }
 
-// Counts tells how many points and streams are known to be held.
-func (h *Held) Counts() (points, streams int) { return h.counts.now() }
+// Counts tells how many points are held, and how many streams are known to be.
+func (h *Held) Counts() (points, streams int) {
+	// (nothing is refused of a node that nobody closes)
+	_, points, _ = h.node.Head()
+	return points, h.counts.knownStreams()
+}
 
 // Admit tells whether there is room for what a request brings. It takes nothing. What comes at the same time is not seen, so that a limit
 // may be left by what is under way at once.
@@ -62,24 +66,20 @@ func (h *Held) Admit(it *Brought) error {
 }
 
 func (h *Held) hasRoom(of []kotskhin.Incarnation) (isNew bool, err error) {
-	if h.counts.needsLook() {
-		look, err := h.Look()
-		if err != nil {
-			return false, err
-		}
-		look.Done()
+	_, points, err := h.node.Head()
+	if err != nil {
+		return false, err
 	}
-	return h.counts.admits(of)
+	return h.counts.admits(points, of)
 }
 
 // Take takes what a request brings, whole or not at all.
 func (h *Held) Take(it *Brought) error {
-	var changed uint64
 	var err error
 	if it.joined != nil {
-		changed, err = h.node.Merge(*it.joined)
+		_, err = h.node.Merge(*it.joined)
 	} else {
-		changed, err = h.node.Take(*it.export)
+		_, err = h.node.Take(*it.export)
 	}
 	if err != nil {
 		return err
@@ -90,7 +90,7 @@ func (h *Held) Take(it *Brought) error {
 		// (what can't be listed for want of memory is listed at the next look)
 		streams, _ = it.streams()
 	}
-	h.counts.took(it.Of, streams, int(changed))
+	h.counts.know(it.Of, streams)
 	return nil
 }
 
@@ -122,11 +122,7 @@ func (h *Held) Hand(message kotskhin.Message) (answer []byte, err error) {
 	defer made.Close()
 	if len(of) > 0 {
 		h.changed()
-		points := 0
-		for _, it := range of {
-			points += it.Points
-		}
-		h.counts.took(of, nil, points)
+		h.counts.know(of, nil)
 	}
 	if !isAnswered {
 		return nil, nil

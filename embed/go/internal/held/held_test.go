@@ -107,7 +107,7 @@ func TestAFullGatewayTakesWhatItHolds(t *testing.T) {
 	}
 }
 
-// What has other points under a writer that is known is seen by a look, and then nothing more is taken.
+// Other points under a writer that is known are counted once they are taken, and then nothing more is.
 func TestPointsThatComeUnseen(t *testing.T) {
 	h := opened(t, 1, Limits{Points: 8, Streams: 100})
 	refused := 0
@@ -118,8 +118,8 @@ func TestPointsThatComeUnseen(t *testing.T) {
 			t.Fatal(err)
 		}
 	}
-	if found := held(t, h); refused == 0 || found > 10 {
-		t.Fatal(refused, found)
+	if points, _ := h.Counts(); refused != 3 || points != 10 || held(t, h) != 10 {
+		t.Fatal(refused, points, held(t, h))
 	}
 }
 

@@ -46,7 +46,7 @@ func (h *Held) Look() (*Look, error) {
 }
 
 func (h *Held) look() (*Look, error) {
-	changes, before := h.Changes(), h.counts.soFar()
+	changes := h.Changes()
 	gateway, err := h.node.Gateway()
 	if err != nil {
 		return nil, err
@@ -63,7 +63,7 @@ func (h *Held) look() (*Look, error) {
 		gateway.Close()
 		return nil, err
 	}
-	h.counts.looked(of, made.Streams, made.Points, before)
+	h.counts.know(of, made.Streams)
 	return made, nil
 }
 

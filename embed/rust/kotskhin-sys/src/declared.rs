@@ -518,6 +518,11 @@ unsafe extern "C" {
         node: *mut Node,
         gateway: *mut Gateway,
     ) -> i32;
+    pub fn kit_node_read(
+        node: *mut Node,
+        id: *mut u32,
+        points: *mut usize,
+    ) -> i32;
     pub fn kit_node_take(
         node: *mut Node,
         export_: *mut Export,

@@ -7,7 +7,7 @@ use crate::incarnations::{Incarnation, incarnations_in};
 use kotskhin_sys::{
     self as sys, kit_message_decode, kit_message_encode, kit_message_gateway,
     kit_message_incarnations, kit_message_read, kit_node_gateway, kit_node_hand, kit_node_merge,
-    kit_node_open, kit_node_send, kit_node_take,
+    kit_node_open, kit_node_read, kit_node_send, kit_node_take,
 };
 
 /// A gateway that sends messages and takes them in. The ids of nodes that exchange messages are distinct.
@@ -41,6 +41,14 @@ impl Node {
         // SAFETY: the node is lent, and the gateway is ours alone; they are two.
         checked(unsafe { kit_node_gateway(self.0.read().at(), gateway.change()) })?;
         Ok(Gateway(gateway))
+    }
+
+    /// Its id, and how many points it holds.
+    pub fn head(&self) -> Result<(u32, usize), Error> {
+        let (mut id, mut points) = (0, 0);
+        // SAFETY: the node is lent.
+        checked(unsafe { kit_node_read(self.0.read().at(), &mut id, &mut points) })?;
+        Ok((id, points))
     }
 
     /// Takes an export, and answers the number of keys whose points changed. Refused: `NoMemory`.
