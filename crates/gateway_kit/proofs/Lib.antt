@@ -20,6 +20,7 @@ pub mod Queried
 pub mod Same
 pub mod Seeking
 pub mod Served
+pub mod ServiceRuns
 pub mod Sorting
 pub mod Tallies
 pub mod Times

@@ -43,7 +43,7 @@ module _ {A K V : Type 0} {R : K → K → Ordering} (o : IsTotalOrder R) (anti 
   below_at k (x ∷ xs) (suc j) d b h = below_at k xs j d (second _ _ b) (omega arith)
 
   -- neighbours rise
-  rises : (xs : List A) (k : ℕ) (d : A) → T (is_sorted R (map f xs)) → k + 1 < length xs → is_lt (R (f (get_or xs (suc k) d)).0 (f (get_or xs k d)).0) ≡ false
+  pub rises : (xs : List A) (k : ℕ) (d : A) → T (is_sorted R (map f xs)) → k + 1 < length xs → is_lt (R (f (get_or xs (suc k) d)).0 (f (get_or xs k d)).0) ≡ false
   rises [] k d s h = absurd (omega arith)
   rises (x ∷ xs) zero d s h = ap is_lt (turned_greater o (f x).0 (f (get_or xs 0 d)).0 (below_at (f x).0 xs 0 d (first _ _ s) (omega arith)))
   rises (x ∷ xs) (suc k) d s h = rises xs k d (second _ _ s) (omega arith)

@@ -18,6 +18,7 @@ pub mod Incarnations
 pub mod Places
 pub mod Queries
 pub mod Recent
+pub mod Serving
 pub mod Shared
 pub mod Tallies
 pub mod Times

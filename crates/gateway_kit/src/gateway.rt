@@ -12,7 +12,8 @@ ghost use Rattle.gateway_kit.specs.Incarnations.{all_points};
 use crate::bounds::Bounds;
 use crate::incarnation::Incarnation;
 use crate::incarnations::{
-    all_conflicts, all_len, all_since, complete, incarnation_place, join_in, take_in,
+    all_conflicts, all_len, all_since, complete, incarnation_place, incarnations_of, join_in,
+    take_in,
 };
 use crate::listing::{Incarnations, Services};
 use crate::merging::merge_in;
@@ -113,14 +114,14 @@ impl Gateway {
         }
     }
 
-    /// The points whose writer is of a service, in the order of their keys. Takes no memory; O(n + m) for the n points of the
-    /// service and all m incarnations: those of other services are passed over whole.
+    /// The points whose writer is of a service, in the order of their keys. Takes no memory; O(log m) of all m incarnations to
+    /// begin, and O(n + k) for the n points of the service's k incarnations: those of other services are not looked at.
     pub fn points_of<'a>(&'a self, service: &'a str) -> Points<'a>
         ensures value { points_left result ≡ filter (λ e. is_of service.now e.0.writer) (entries self.now.points) }
     {
         Points {
             here: None,
-            ahead: self.incarnations.as_slice(),
+            ahead: incarnations_of(self.incarnations.as_slice(), service),
             service: Some(service),
         }
     }

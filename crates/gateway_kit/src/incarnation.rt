@@ -10,6 +10,7 @@ ghost use Rattle.gateway_kit.specs.Keys.{keyed_cell_of, item_cmp, incarnation_cm
 ghost use Rattle.gateway_kit.specs.Numbers.{IsNumbered, IncarnationMoves};
 ghost use Rattle.gateway_kit.specs.Incarnations.{keyed_cells, has_cells};
 ghost use Rattle.gateway_kit.specs.Places.{IsGap};
+ghost use Rattle.gateway_kit.specs.Serving.{begins, ends};
 ghost use Rattle.gateway_kit.specs.Tallies.{incarnation_conflicts};
 ghost use Rattle.gateway_kit.specs.Times.{latest};
 ghost use Rattle.std.specs.declared.cmp.Ordering.{Ordering};
@@ -87,6 +88,26 @@ impl Incarnation {
         ensures { result ≡ incarnation_cmp (self.now.writer, self.now.start) (writer.now, start) }
     {
         self.writer.cmp(writer).then(self.start.cmp(&start))
+    }
+
+    /// How it stands to where the incarnations of a service begin: before it, or not.
+    pub(crate) fn begin_order(&self, service: &str) -> Ordering
+        ensures { result ≡ begins service.now self.now }
+    {
+        match self.writer.service.as_str().cmp(service) {
+            Ordering::Less => Ordering::Less,
+            _ => Ordering::Greater,
+        }
+    }
+
+    /// And to where they end.
+    pub(crate) fn end_order(&self, service: &str) -> Ordering
+        ensures { result ≡ ends service.now self.now }
+    {
+        match self.writer.service.as_str().cmp(service) {
+            Ordering::Greater => Ordering::Greater,
+            _ => Ordering::Less,
+        }
     }
 
     pub(crate) fn items(&self) -> &[PartItem]

@@ -1,5 +1,5 @@
 //! The incarnations of a gateway, in the order of their keys.
-ghost use Rattle.std.specs.Prelude.{◌≡◌, ◌≢◌, ◌<◌, ◌≤◌, ◌+◌, ◌++◌, ◌^◌, IsTrue, IfOk, OnOk, OnErr, map, [], ◌∷◌, length, IsSome, IsOk};
+ghost use Rattle.std.specs.Prelude.{◌≡◌, ◌≢◌, ◌<◌, ◌≤◌, ◌+◌, ◌++◌, ◌^◌, IsTrue, IfOk, OnOk, OnErr, map, filter, [], ◌∷◌, length, slice_index_or, IsSome, IsOk, ℕ, false};
 ghost use Rattle.std.specs.FinMap.{from_entries};
 ghost use Rattle.std.specs.FinMap.Entries.{is_sorted, find};
 ghost use Rattle.point_kit.specs.Exports.{state};
@@ -8,9 +8,11 @@ ghost use Rattle.gateway_kit.specs.Growth.{GrowsBy, cells_at};
 ghost use Rattle.gateway_kit.specs.Keys.{incarnation_cmp, item_cmp};
 ghost use Rattle.gateway_kit.specs.Numbers.{IncarnationsMove};
 ghost use Rattle.gateway_kit.specs.Incarnations.{IsWhole, keyed_cells, all_points};
+ghost use Rattle.gateway_kit.specs.IncarnationState.{IncarnationState};
 ghost use Rattle.gateway_kit.specs.Places.{IsPlace};
 ghost use Rattle.gateway_kit.specs.Tallies.{conflicts_of};
 ghost use Rattle.gateway_kit.specs.Recent.{recent_incarnations};
+ghost use Rattle.gateway_kit.specs.Walks.{is_of};
 
 use crate::bounds::Bounds;
 use crate::growth::Growth;
@@ -29,6 +31,47 @@ pub(crate) fn incarnation_place(
     ensures { IsPlace incarnation_cmp (map keyed_cells incarnations.now) (writer.now, start) result }
 {
     incarnations.binary_search_by(|incarnation| incarnation.order(writer, start))
+}
+
+// Where the incarnations of a service begin: O(log n). No answer is `Equal`, so the search finds none.
+fn service_begin(incarnations: &[Incarnation], service: &str) -> usize
+    requires { IsTrue (is_sorted incarnation_cmp (map keyed_cells incarnations.now)) }
+    ensures { (k : ℕ) (d : IncarnationState) → k < result → is_of service.now (slice_index_or incarnations.now k d).writer ≡ false }
+{
+    let found = incarnations.binary_search_by(|incarnation| incarnation.begin_order(service));
+    match found {
+        Ok(_) => 0,
+        Err(place) => place,
+    }
+}
+
+// Where they end: O(log n), likewise.
+fn service_end(incarnations: &[Incarnation], service: &str) -> usize
+    requires { IsTrue (is_sorted incarnation_cmp (map keyed_cells incarnations.now)) }
+    ensures within { result ≤ length incarnations.now }
+    ensures behind { (k : ℕ) (d : IncarnationState) → result ≤ k → k < length incarnations.now
+        → is_of service.now (slice_index_or incarnations.now k d).writer ≡ false }
+{
+    let found = incarnations.binary_search_by(|incarnation| incarnation.end_order(service));
+    match found {
+        Ok(_) => incarnations.len(),
+        Err(place) => place,
+    }
+}
+
+/// The incarnations of a service: O(log n).
+pub(crate) fn incarnations_of<'a>(
+    incarnations: &'a [Incarnation],
+    service: &str,
+) -> &'a [Incarnation]
+    requires { IsTrue (is_sorted incarnation_cmp (map keyed_cells incarnations.now)) }
+    ensures { filter (λ e. is_of service.now e.0.writer) (all_points result.now)
+        ≡ filter (λ e. is_of service.now e.0.writer) (all_points incarnations.now) }
+{
+    let (front, _) = incarnations.split_at(service_end(incarnations, service));
+    let begin = service_begin(incarnations, service).min(front.len());
+    let (_, own) = front.split_at(begin);
+    own
 }
 
 /// How many cells all incarnations have: one walk over the incarnations.

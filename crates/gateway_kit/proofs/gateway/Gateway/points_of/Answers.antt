@@ -10,7 +10,8 @@ pub returns : goal.returns
 returns c =
     record {
       value =
-          ap (filter (λ e. is_of c.args.service.now e.0.writer))
+          c.incarnations_of.ensures
+          ∙ ap (filter (λ e. is_of c.args.service.now e.0.writer))
           (ap all_points c.as_slice.ensures.value
           ∙ sym (entries_points c.self.inside.incarnations.items c.self.invariant.0.sorted)
           ∙ ap (λ (v : GatewayState). entries v.points) c.self.view_is);
