@@ -39,11 +39,6 @@ abbrev pub fleet_tasks : ℕ → ℕ → ℕ → List Task
 fleet_tasks zero recorders each = []
 fleet_tasks (suc n) recorders each = fleet_tasks n recorders each ++ replicate recorders (fleet_task each n)
 
--- the place of its writer for each of these jobs
-abbrev pub job_places : ℕ → ℕ → List ℕ
-job_places zero recorders = []
-job_places (suc n) recorders = job_places n recorders ++ replicate recorders n
-
 -- the writer at a place: its service is `fleet`, its instance the place and 1, and it starts at 1
 abbrev pub fleet_writer : ℕ → WriterId × Planned × ℕ
 fleet_writer place = (record { service = codes "fleet"; instance = to_be_bytes w128 (place + 1) }, fleet_plan, 1)

@@ -67,7 +67,7 @@ fn totals_of_run<R: Threads + Wait + Sync>(
     ensures fault { (f : FleetFault) → IsErrOf result (FleetEnd.Fleet f) → IsToldFault writers recorders each gateways f }
     ensures unwritten { IsErrOf result FleetEnd.WriteFault → ⊥ }
 {
-    let setup = setup(rt, alloc, writers, recorders, each, gateways)?;
+    let setup = setup(alloc, writers, recorders, each, gateways)?;
     let gateways = run_fleet(rt, alloc, setup, &Open)?;
     let ask = ask(alloc)?;
     Ok(lines(alloc, gateways.as_slice(), &ask)?)

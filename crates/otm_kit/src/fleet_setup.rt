@@ -1,7 +1,7 @@
 //! The setup of the program's fleet.
 ghost use Rattle.std.specs.Prelude.{◌≡◌, ◌++◌, IfOk, OnOk, map, replicate};
 ghost use Rattle.fleet_kit.specs.Jobs.{task_of};
-ghost use Rattle.otm_kit.specs.FleetSetups.{IsFleetSetup, fleet_ask, fleet_plan, fleet_task, fleet_tasks, fleet_writer, fleet_writers, job_places};
+ghost use Rattle.otm_kit.specs.FleetSetups.{IsFleetSetup, fleet_ask, fleet_plan, fleet_task, fleet_tasks, fleet_writer, fleet_writers};
 ghost use Rattle.otm_kit.specs.FleetTexts.{fleet_ids};
 
 use attr_kit::{AllowList, AttrSet, Keep, NoMemory, Seq, Txt};
@@ -10,8 +10,6 @@ use plan_kit::{DEFAULT_LIMIT, Instrument, Kind, Plan};
 use point_kit::{Shape, Stream, WriterId};
 use rollup_kit::Ask;
 use std::alloc::Global;
-use std::thread;
-use std::thread::Threads;
 use uuid::Uuid;
 
 // The plan of every writer. It has no fault, so that only memory can be wanting.
@@ -64,51 +62,30 @@ fn job(alloc: Global, writer: usize, each: u64) -> Result<Job, NoMemory>
     Ok(Job { writer, entries })
 }
 
-// Adds the place of a writer, once for each of its jobs.
-fn add_places(
-    places: &mut Vec<usize>,
+// Adds the jobs of a writer.
+fn add_jobs(
+    jobs: &mut Vec<Job>,
+    alloc: Global,
     writer: usize,
     recorders: u8,
+    each: u64,
 ) -> Result<(), NoMemory>
-    ensures { OnOk result (places.new.items ≡ places.old.items ++ replicate recorders writer) }
+    ensures { OnOk result (map task_of jobs.new.items ≡ map task_of jobs.old.items ++ replicate recorders (fleet_task each writer)) }
 {
     for _recorder in 0..recorders {
-        places.push(writer)?;
+        jobs.push(job(alloc, writer, each)?)?;
     }
     Ok(())
 }
 
-// The place of its writer for each job.
-fn places(alloc: Global, writers: u8, recorders: u8) -> Result<Vec<usize>, NoMemory>
-    ensures { IfOk result (λ places. places.items ≡ job_places writers recorders) }
-{
-    let mut places = Vec::new(alloc);
-    for writer in 0..writers {
-        add_places(&mut places, usize::from(writer), recorders)?;
-    }
-    Ok(places)
-}
-
-// The jobs, each made in a thread of its own where one can be made: to write a million entries into new pages takes longer than to
-// record them.
-fn jobs<R: Threads + Sync>(
-    rt: &R,
-    alloc: Global,
-    writers: u8,
-    recorders: u8,
-    each: u64,
-) -> Result<Vec<Job>, NoMemory>
+fn jobs(alloc: Global, writers: u8, recorders: u8, each: u64) -> Result<Vec<Job>, NoMemory>
     ensures { IfOk result (λ jobs. map task_of jobs.items ≡ fleet_tasks writers recorders each) }
 {
-    let places = places(alloc, writers, recorders)?;
-    let made = thread::map_vec(
-        rt,
-        places,
-        &|writer: usize| -> Result<Job, NoMemory>
-            ensures { IfOk result (λ job. task_of job ≡ fleet_task each.entry writer.entry) }
-        { job(alloc, writer, each) },
-    );
-    made?.into_iter().try_collect(alloc)
+    let mut jobs = Vec::new(alloc);
+    for writer in 0..writers {
+        add_jobs(&mut jobs, alloc, usize::from(writer), recorders, each)?;
+    }
+    Ok(jobs)
 }
 
 fn ids(alloc: Global, count: u8) -> Result<Vec<u32>, NoMemory>
@@ -123,8 +100,7 @@ fn ids(alloc: Global, count: u8) -> Result<Vec<u32>, NoMemory>
 
 /// The setup of a fleet: writers of the service `fleet` with the instances 1, 2 and so on, which start at 1; for each of
 /// them so many jobs of so many recordings of 1, without attributes; and gateways with the ids 1, 2 and so on. It ends at 2.
-pub(crate) fn setup<R: Threads + Sync>(
-    rt: &R,
+pub(crate) fn setup(
     alloc: Global,
     writer_count: u8,
     recorders: u8,
@@ -135,7 +111,7 @@ pub(crate) fn setup<R: Threads + Sync>(
 {
     Ok(FleetSetup {
         writers: writers(alloc, writer_count)?,
-        jobs: jobs(rt, alloc, writer_count, recorders, each)?,
+        jobs: jobs(alloc, writer_count, recorders, each)?,
         gateways: ids(alloc, gateways)?,
         end: 2,
     })
