@@ -340,19 +340,22 @@ class Lives(unittest.TestCase):
         for number in range(20_000):
             writer.measure(0, Attributes({"n": number}), 1)
         bytes_ = writer.collect(200).encode()
-        recorder, during, often = Recorder(1 << 20), [], 20
+        recorder, noted, during, often = Recorder(1000), [0], [], 20
 
         def work():
             for _ in range(often):
-                before = len(recorder)
+                before = noted[0]
                 Export.decode(bytes_).close()
-                during.append(len(recorder) - before)
+                during.append(noted[0] - before)
             ended.set()
 
         thread = threading.Thread(target=work)
         thread.start()
-        while not ended.is_set() and len(recorder) < 1 << 20:
+        while not ended.is_set():
+            if noted[0] % 1000 == 0:
+                recorder.clear()
             recorder.measure(0, none, 1)
+            noted[0] += 1
         thread.join()
         self.assertGreater(sorted(during)[often // 2], 10, during)
 
