@@ -79,7 +79,8 @@ class Trial:
         self.gateway.start()
         until(self.gateway.is_ready, lambda: f"it is not ready\n{self.gateway.tail()}")
         self.identity = self.gateway.json("/v1/peers")["id"]
-        status, told = self.post("/v1/exports", seeds_of(self.identity)["/v1/exports"], WRITES)
+        self.good = seeds_of(self.identity)["/v1/exports"]
+        status, told = self.post("/v1/exports", self.good, WRITES)
         if status != 200:
             raise Fault(f"a good export is answered {status}: {told}")
         self.page, self.kept = page_of(self.gateway), self.on_disk()
@@ -190,7 +191,7 @@ def tokens(program, room, count):
 def changed_tokens(program, room, count):
     """Tokens are read again on SIGHUP, and once the file changes; a bad file is told, and changes nothing."""
     with Trial(program, room) as it:
-        good, later = seeds_of(it.identity)["/v1/exports"], "later-0123456789abcdef"
+        later = "later-0123456789abcdef"
 
         def put(words):
             beside = it.tokens.with_name("tokens.new")
@@ -198,7 +199,8 @@ def changed_tokens(program, room, count):
             beside.replace(it.tokens)
 
         def are(known, unknown):
-            return [it.post("/v1/exports", good, token)[0] for token in (known, unknown)] == [200, 401]
+            # (what was taken before: it changes nothing)
+            return [it.post("/v1/exports", it.good, token)[0] for token in (known, unknown)] == [200, 401]
 
         put(TOKENS.replace(WRITES, later))
         it.gateway.signal(signal.SIGHUP)
