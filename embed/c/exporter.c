@@ -15,38 +15,29 @@ static void must(int32_t code) {
 /* Prints up to 256 bytes of what a call copies out: its room and its length stand last among the call's parameters. */
 #define PRINT(call, ...) (must(call(__VA_ARGS__, text, sizeof text, &len)), fwrite(text, 1, len < sizeof text ? len : sizeof text, stdout))
 
-static void print_labels(kit_rows *rows, size_t row) {
+/* A row's labels and its value. Shapes: 0 a sum that only rises, 1 a sum, 2 a gauge, 3 a histogram. */
+static void print_row(kit_rows *rows, size_t row, uint8_t shape) {
     kit_attributes set = KIT_EMPTY;
-    size_t count = 0;
-    must(kit_rows_attributes(rows, row, &set));
-    must(kit_attributes_len(&set, &count));
-    for (size_t i = 0; i < count; i++) {
-        uint8_t kind = 0;
-        int64_t whole = 0;
-        putchar(i ? ',' : '{'), PRINT(kit_attributes_key, &set, i);
-        must(kit_attributes_value(&set, i, &kind, &whole));
-        if (kind == 0) printf("=\""), PRINT(kit_attributes_text, &set, i), putchar('"');
-        if (kind == 1) printf("=%" PRId64, whole);
-        if (kind == 2) printf(whole ? "=true" : "=false");
-    }
-    printf(count ? "}" : "{}");
-    kit_attributes_free(&set);
-}
-
-/* 0 a sum that only rises, 1 a sum, 2 a gauge, 3 a histogram. */
-static void print_value(kit_rows *rows, size_t row, uint8_t shape) {
+    size_t labels = 0, buckets = 0;
     uint64_t count = 0, time = 0;
     int64_t value = 0;
-    size_t buckets = 0;
+    must(kit_rows_attributes(rows, row, &set));
+    must(kit_attributes_len(&set, &labels));
+    for (size_t i = 0; i < labels; i++) {
+        uint8_t kind = 0;
+        putchar(i ? ',' : '{'), PRINT(kit_attributes_key, &set, i), putchar('=');
+        must(kit_attributes_value(&set, i, &kind, &value));
+        if (kind == 0) putchar('"'), PRINT(kit_attributes_text, &set, i), putchar('"');
+        if (kind == 1) printf("%" PRId64, value);
+        if (kind == 2) printf(value ? "true" : "false");
+    }
     if (shape < 2) must(kit_rows_sum(rows, row, &value));
     if (shape == 2) must(kit_rows_gauge(rows, row, &time, &value));
     if (shape == 3) must(kit_rows_histogram(rows, row, &count, &value, &buckets));
-    printf(" %" PRId64, value);
-    for (size_t i = 0; i < buckets; i++) {
-        must(kit_rows_bucket(rows, row, i, &count));
-        printf(i ? " %" PRIu64 : " in buckets %" PRIu64, count);
-    }
-    putchar('\n');
+    printf("%s %" PRId64, labels ? "}" : "{}", value);
+    for (size_t i = 0; i < buckets; i++)
+        must(kit_rows_bucket(rows, row, i, &count)), printf(i ? " %" PRIu64 : " in buckets %" PRIu64, count);
+    putchar('\n'), kit_attributes_free(&set);
 }
 
 static void print_stream(kit_gateway *gateway, kit_streams *streams, size_t stream) {
@@ -60,7 +51,7 @@ static void print_stream(kit_gateway *gateway, kit_streams *streams, size_t stre
     must(kit_rows_len(&rows, &count));
     for (size_t row = 0; row < count; row++) {
         for (uint8_t part = 0; part < 3; part++) PRINT(kit_streams_text, streams, stream, part), putchar(' ');
-        print_labels(&rows, row), print_value(&rows, row, shape);
+        print_row(&rows, row, shape);
     }
     kit_ask_free(&ask), kit_rows_free(&rows);
 }
@@ -76,5 +67,4 @@ int main(void) {
     must(kit_streams_len(&streams, &count));
     for (size_t i = 0; i < count; i++) print_stream(&gateway, &streams, i);
     kit_message_free(&message), kit_gateway_free(&gateway), kit_streams_free(&streams);
-    return 0;
 }

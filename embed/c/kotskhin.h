@@ -3,7 +3,7 @@
  * Made by embed/declarations.py of what crates/kit_c exports: change it there.
  *
  * A handle has one thing of its kind, or nothing. Begin with KIT_EMPTY, and give back what it has by kit_writer_free and its like.
- * - What a call reads (KIT_READS) stays; what it makes goes into an empty handle; what it changes is its first handle.
+ * - What a call reads (KIT_READS) stays; what it makes goes into an empty handle; what it changes is its first handle, and a log taken in.
  * - A call answers KIT_OK, or why it is refused: what stands first in the order of its page. A refused call leaves every handle as it was,
  *   and what it was to tell, too, but for the place that some refusals tell (see the codes).
  * - KIT_NO_MEMORY stands last in each order, and may come before. KIT_WRONG_KIND stands in none: it is of handles that are cast.
@@ -264,6 +264,7 @@ enum {
     KIT_ATTRIBUTE_TWICE = 102,      /* two attributes of a point have one key: * the point */
     KIT_ATTRIBUTE_VALUE = 103,      /* the value of an attribute is of a kind that is not known: * the point */
     KIT_NO_EXPORT = 104,            /* what a request says together makes no export: * the export */
+    KIT_REPEATS = 105,              /* a text of more than 1024 bytes is repeated too often */
 };
 
 /* Kinds of instruments. */
@@ -353,6 +354,7 @@ static inline const char *kit_code_name(int32_t code) {
     case KIT_ATTRIBUTE_TWICE: return "KIT_ATTRIBUTE_TWICE";
     case KIT_ATTRIBUTE_VALUE: return "KIT_ATTRIBUTE_VALUE";
     case KIT_NO_EXPORT: return "KIT_NO_EXPORT";
+    case KIT_REPEATS: return "KIT_REPEATS";
     default: return "no code";
     }
 }
@@ -603,7 +605,7 @@ KIT_CHECKED int32_t kit_seat_measure_held(kit_seat *seat, size_t number, int64_t
  * was split from. Of such a pair nothing changes, no memory is taken and the writer is not asked for.
  *
  * Refused, in this order: KIT_NOTHING of the seat, then of the attributes; of a pair that the seat does not know KIT_NO_MEMORY; KIT_BUSY
- * where another thread's call has the writer; KIT_EXHAUSTED where it accepted 2^62 changes; KIT_NO_INSTRUMENT; KIT_NO_MEMORY. */
+ * where another thread's call has the writer; KIT_EXHAUSTED where it accepted 2^62 changes; KIT_CLOSED; KIT_NO_INSTRUMENT; KIT_NO_MEMORY. */
 KIT_CHECKED int32_t kit_seat_hold(kit_seat *seat, size_t instrument, kit_attributes *attributes, size_t *number);
 
 /* Takes in at most so many recordings of a log by a seat, from its front, as kit_writer_take_in does: by one change, so that others see all
@@ -803,7 +805,7 @@ KIT_CHECKED int32_t kit_gateway_prometheus(KIT_READS kit_gateway *gateway, bool 
  *
  * Refused, in this order: KIT_FULL; then for the first thing that is wrong with the bytes, with its place: KIT_MALFORMED, KIT_NOT_TEXT;
  * then for the first that they say and that no export has, in the order of the request, with the place of the resource, scope, metric,
- * point or export: KIT_NO_SERVICE to KIT_NO_EXPORT; KIT_NO_MEMORY. */
+ * point or export: KIT_NO_SERVICE to KIT_NO_EXPORT, and without a place KIT_REPEATS; KIT_NO_MEMORY. */
 KIT_CHECKED int32_t kit_exports_of_otlp(kit_exports *exports, const uint8_t *bytes, size_t bytes_len, uint64_t *place);
 
 /* Tells how many exports there are: they are numbered from 0.

@@ -67,6 +67,7 @@ const (
 	ErrAttributeTwice       Code = 102
 	ErrAttributeValue       Code = 103
 	ErrNoExport             Code = 104
+	ErrRepeats              Code = 105
 )
 
 // The name of each code, what it says, and the words for the places that it tells.
@@ -138,4 +139,5 @@ var codes = map[Code]struct {
 	ErrAttributeTwice:       {"ATTRIBUTE_TWICE", "two attributes of a point have one key", []string{"point"}},
 	ErrAttributeValue:       {"ATTRIBUTE_VALUE", "the value of an attribute is of a kind that is not known", []string{"point"}},
 	ErrNoExport:             {"NO_EXPORT", "what a request says together makes no export", []string{"export"}},
+	ErrRepeats:              {"REPEATS", "a text of more than 1024 bytes is repeated too often", nil},
 }

@@ -5,6 +5,7 @@ import (
 	"math"
 	"reflect"
 	"runtime"
+	"runtime/debug"
 	"strings"
 	"sync"
 	"testing"
@@ -396,6 +397,28 @@ func TestWhatIsForgottenIsGivenUp(t *testing.T) {
 		}
 	}
 	if grown := resident() - before; grown > 64 {
+		t.Fatalf("the process grew by %d MB", grown)
+	}
+}
+
+// What is closed is given up at once: no collection comes meanwhile, so no finalizer does.
+func TestWhatIsClosedIsGivenUpAtOnce(t *testing.T) {
+	w := newWriter(t, 1)
+	for n := 0; n < 1000; n++ {
+		if err := w.Measure(0, must[Attributes](t)(NewAttributes(attribute.Int("n", n))), 1); err != nil {
+			t.Fatal(err)
+		}
+	}
+	bytes := must[[]byte](t)(must[Export](t)(w.Collect(200)).Encode())
+	runtime.GC()
+	defer debug.SetGCPercent(debug.SetGCPercent(-1))
+	before := resident()
+	for turn := 0; turn < 200; turn++ {
+		if err := must[Export](t)(DecodeExport(bytes)).Close(); err != nil {
+			t.Fatal(err)
+		}
+	}
+	if grown := resident() - before; grown > 16 {
 		t.Fatalf("the process grew by %d MB", grown)
 	}
 }

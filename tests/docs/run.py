@@ -38,15 +38,16 @@ MOST_WORDS, MOST_WIDE, MOST_IN_CELL = 29, 140, 200
 COPIED = "first"
 # Names in code letters that are none of the kit's.
 FOREIGN = {"arrayvec::ArrayString", "Equivalent", "clap", "HANDLES"}
-# Libraries whose pages show no caller: laws without calls, and the callers themselves.
-PAGES_ALONE = {"archive_kit", "schedule_kit", "uses"}
+# Libraries whose pages show no caller: laws without calls, what is for the kit alone, and the callers themselves.
+PAGES_ALONE = {"archive_kit", "schedule_kit", "shelf_kit", "uses"}
 # The public types, by their crates, that contracts speak of and that no code makes.
 OF_CONTRACTS = {"gateway_kit": {"GatewayChange"}, "writer_kit": {"WriterChange"}}
 # Those that are for other crates of the kit alone, or a part of one of OF_CONTRACTS.
 OF_THE_KIT = {
     "agg_kit": {"Places"},
-    # (no gateway leaves out yet what tombstones name: so an archive has no caller)
-    "archive_kit": {"Archive", "AdoptFault", "ExportRefusal"},
+    # (archives and keepers are in no guide yet)
+    "archive_kit": {"Archive", "AdoptFault", "ExportRefusal", "SealRefusal", "Keeper", "Taking"},
+    "shelf_kit": {"Shelves", "Target", "Walk"},
     "writer_kit": {"Recordings"},
     # (the program `otm` is the caller of file_kit)
     "file_kit": {"PageFormat", "FileCommand", "CommandFault", "FileFault", "SendFault"},

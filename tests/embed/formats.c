@@ -70,7 +70,7 @@ static void otlp(void) {
 }
 
 /* Bytes of Protocol Buffers, piece by piece. */
-typedef struct piece { uint8_t at[600]; size_t len; } piece;
+typedef struct piece { uint8_t at[1600]; size_t len; } piece;
 
 static piece raw(const void *at, size_t len) {
     piece made = {.len = len};
@@ -131,6 +131,14 @@ static piece two_versions(void) {
     return field(0x0a, and(field(0x0a, RAW(WHO)), and(field(0x12, app), field(0x12, other))));
 }
 
+/* A histogram with a long name, whose points differ in their bounds. */
+static piece two_bounds(void) {
+    char name[1025];
+    memset(name, 'm', sizeof name);
+    piece points = and(field(0x0a, RAW("\x39\0\0\0\0\0\0\0\0")), field(0x0a, RAW("")));
+    return of(RAW(WHO), and(field(0x0a, raw(name, sizeof name)), field(0x4a, and(points, RAW("\x10\x02")))));
+}
+
 /* An attribute of a point: its key, and the field of its value. */
 static piece with(const char *key, piece value) { return field(0x3a, and(field(0x0a, raw(key, strlen(key))), field(0x12, value))); }
 
@@ -156,6 +164,7 @@ static void requests(void) {
     CHECK(answer(sum(and(seven, with("", truth)))) == KIT_NO_KEY && place == 0);
     CHECK(answer(sum(and(seven, and(with("k", truth), with("k", truth))))) == KIT_ATTRIBUTE_TWICE && place == 0);
     CHECK(answer(sum(and(seven, with("k", RAW("\x21\0\0\0\0\0\0\xf0\x3f"))))) == KIT_ATTRIBUTE_VALUE && place == 0);
+    CHECK(answer(two_bounds()) == KIT_REPEATS && place == 77);
     CHECK(answer(metric(field(0x3a, and(point, and(point, RAW(CUMULATIVE)))))) == KIT_NO_EXPORT && place == 0);
 }
 

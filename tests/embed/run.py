@@ -23,7 +23,8 @@ In C++ and Rust they perform the cases, too (cpp/run.py, and a test of the crate
 these alone; package/run.py uses what embed/package/make packs, in each language by two commands.
 
 The lines that docs/EMBEDDING.md has one type are run twice over one folder, and each wrapper has each call, or it is said why not
-(features.py).
+(features.py). The first programs of the languages' pages are short, and print one thing (pages.py). Bugs that the wrappers once had are
+brought back, one after the other, and a test must see each (bugs.py).
 
 A language that this machine lacks is a failure, and so is what else is wanted and not there, unless GATE_WITHOUT names it (there.py):
 GATE_WITHOUT=go,redis-server leaves these out, and says so.
@@ -300,9 +301,15 @@ class Run:
         """What embed/package/make packs, unpacked into a fresh folder."""
         self.run("Package: two commands in each language", sys.executable, "-B", HERE / "package" / "run.py", self.kit)
 
+    def bugs(self):
+        """Bugs of the wrappers, each brought back."""
+        self.run("Bugs brought back: a test sees each", sys.executable, "-B", HERE / "bugs.py", self.kit,
+                 env={**os.environ, "GOCACHE": f"{self.room}/go"})
+
     def documented(self):
         """The lines of docs/EMBEDDING.md, twice over one folder: what the first turn leaves must not stand in the way of the second."""
         self.run("Docs: what each language has", sys.executable, "-B", HERE / "features.py")
+        self.run("Docs: first programs of at most ten lines, which print one thing", sys.executable, "-B", HERE / "pages.py")
         folder = self.room / "documented"
         shutil.copytree(self.kit, folder, symlinks=True)
         page = (TOP / "docs" / "EMBEDDING.md").read_text(encoding="utf-8")
@@ -339,7 +346,7 @@ def main():
             return 1
         run = Run(kit, room)
         in_c, others = (run.c, run.watched, run.shared), (run.cpp, run.rust, run.pipe, run.go, run.python)
-        for tried in (run.lacking, *in_c, *others, run.package, run.documented):
+        for tried in (run.lacking, *in_c, *others, run.bugs, run.package, run.documented):
             try:
                 tried()
             except there.Lacking as fault:

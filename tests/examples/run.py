@@ -15,6 +15,10 @@ What PAGES quote of the crates must stand there: a comment `<!-- FILE: fn NAME -
 `otm --version` COMMANDS_PAGE shows what these print, below SENTENCES_HEADING each text of SENTENCES and of NAMES, and no other, and
 below NOTES_HEADING each text of NOTES, and no other. Some bad line or some row gets each of them here.
 
+    tests/examples/run.py --quote
+
+This only writes each quotation of the crates into PAGES anew.
+
 This ends with a status other than 0 where one differs, or where there is no program or no script."""
 import os
 import pathlib
@@ -26,6 +30,7 @@ TOP = pathlib.Path(__file__).resolve().parents[2]
 ROWS = pathlib.Path(__file__).resolve().parent / "rows"
 BAD_END = re.compile(rb"(?:.*\n)?line [0-9]+\n", re.S)
 BUILDS = ("otm", "otm.by-rattle")
+QUOTED = re.compile(r"^(<!-- (\S+): ([\w<> ]+)(, body)? -->\n\n?```rust\n)(.*?)^```$", re.S | re.M)
 SECONDS = 60
 PAGES = ("README.md", "docs/GUIDE.md", "docs/SCRIPTS.md")
 COMMANDS_PAGE = "docs/SCRIPTS.md"
@@ -334,12 +339,18 @@ def quotes():
     """Each quotation of a page, and what is wrong with it, or an empty text."""
     for page in PAGES:
         text = (TOP / page).read_text()
-        marks = re.findall(r"^<!-- (\S+): ([\w<> ]+)(, body)? -->\n\n?```rust\n(.*?)^```$", text, re.S | re.M)
+        marks = QUOTED.findall(text)
         if len(marks) != text.count("```rust"):
             yield page, "a quotation that names no function"
-        for file, name, body, quoted in marks:
+        for _, file, name, body, quoted in marks:
             stands = function_of((TOP / file).read_text(), name, bool(body))
             yield f"{page}: {name}", "" if stands == quoted else f"{file} has {stands!r}"
+
+
+def quote():
+    """Writes each quotation of a page anew."""
+    for page in map(TOP.joinpath, PAGES):
+        page.write_text(QUOTED.sub(lambda it: it[1] + (function_of((TOP / it[2]).read_text(), it[3], bool(it[4])) or it[5]) + "```", page.read_text()))
 
 
 def shown():
@@ -442,6 +453,8 @@ def cases(program):
 
 
 def main():
+    if sys.argv[1:] == ["--quote"]:
+        return quote()
     programs = [path for path in (TOP / "crates" / "otm" / "out" / name for name in BUILDS) if path.is_file()]
     failed = not list((TOP / "examples").glob("*.otm")) or not list(ROWS.glob("*.otm")) or not any(path.name == BUILDS[0] for path in programs)
     if failed:

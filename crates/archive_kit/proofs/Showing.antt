@@ -51,7 +51,7 @@ module _ {K V : Type 0} {R : K → K → Ordering} (o : IsTotalOrder R) (anti : 
         let s = namer m t h in
         true≢false (sym n ∙ none s.0 t k s.3)))
 
-    shown-hides : (m : FinMap R V) (k : K) → hides names (shown names m) k ≡ hides names m k
+    pub shown-hides : (m : FinMap R V) (k : K) → hides names (shown names m) k ≡ hides names m k
     shown-hides m k = same_bool _ _
         (λ h. let s = namer (shown names m) k h in hidden_by m k s.0 s.1 (sym (namer_shown m s.0 k s.3) ∙ s.2) s.3)
         (λ h. let s = namer m k h in hidden_by (shown names m) k s.0 s.1 (namer_shown m s.0 k s.3 ∙ s.2) s.3)

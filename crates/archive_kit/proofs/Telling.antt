@@ -57,10 +57,10 @@ module _ {V : Type 0} (none : V) (plus : V → V → V) (is : IsSum none plus) (
     | false ↦ λ _. all_told (add_total qs p) ps ∙ ap (λ v. plus v (told ps)) (one_more qs p) ∙ is.assoc (told qs) (one p) (told ps)
   ] refl
 
-whole_sum : IsSum (pos 0) ◌+ℤ◌
+pub whole_sum : IsSum (pos 0) ◌+ℤ◌
 whole_sum = record { assoc = λ a b c. omega (arith, ints); comm = λ a b. omega (arith, ints); zero_left = λ a. omega (arith, ints) }
 
-sums_add : (p q : Payload) → sum_told (add_payloads p q) ≡ sum_told p +ℤ sum_told q
+pub sums_add : (p q : Payload) → sum_told (add_payloads p q) ≡ sum_told p +ℤ sum_told q
 sums_add (payloads.Sum a) (payloads.Sum b) = refl
 sums_add (payloads.Sum a) (payloads.Gauge v) = omega (arith, ints)
 sums_add (payloads.Sum a) (payloads.Hist d t m q) = refl
@@ -69,7 +69,7 @@ sums_add (payloads.Hist c s l r) (payloads.Sum b) = refl
 sums_add (payloads.Hist c s l r) (payloads.Gauge v) = omega (arith, ints)
 sums_add (payloads.Hist c s l r) (payloads.Hist d t m q) = refl
 
-counts_add : (p q : Payload) → count_told (add_payloads p q) ≡ count_told p + count_told q
+pub counts_add : (p q : Payload) → count_told (add_payloads p q) ≡ count_told p + count_told q
 counts_add (payloads.Sum a) (payloads.Sum b) = omega arith
 counts_add (payloads.Sum a) (payloads.Gauge v) = omega arith
 counts_add (payloads.Sum a) (payloads.Hist d t m q) = omega arith
@@ -84,7 +84,7 @@ side_by_side (x ∷ l) [] k = omega arith
 side_by_side (x ∷ l) (y ∷ m) zero = refl
 side_by_side (x ∷ l) (y ∷ m) (suc k) = side_by_side l m k
 
-buckets_add : (k : ℕ) (p q : Payload) → bucket_told k (add_payloads p q) ≡ bucket_told k p + bucket_told k q
+pub buckets_add : (k : ℕ) (p q : Payload) → bucket_told k (add_payloads p q) ≡ bucket_told k p + bucket_told k q
 buckets_add k (payloads.Sum a) (payloads.Sum b) = omega arith
 buckets_add k (payloads.Sum a) (payloads.Gauge v) = omega arith
 buckets_add k (payloads.Sum a) (payloads.Hist d t m q) = sym (count_sum.zero_left (get_or m k 0))

@@ -28,15 +28,15 @@ abbrev number : AttrValue → ℕ
 number (values.Whole (pos n)) = n
 number v = 0
 
-abbrev first_text : AttrSet → List ℕ
+abbrev pub first_text : AttrSet → List ℕ
 first_text [] = []
 first_text (p ∷ ps) = text p.1
 
-abbrev second_text : AttrSet → List ℕ
+abbrev pub second_text : AttrSet → List ℕ
 second_text [] = []
 second_text (p ∷ ps) = first_text ps
 
-abbrev third_number : AttrSet → ℕ
+abbrev pub third_number : AttrSet → ℕ
 third_number (p ∷ q ∷ r ∷ ps) = number r.1
 third_number ps = 0
 

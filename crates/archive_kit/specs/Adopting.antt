@@ -23,15 +23,18 @@ module _ {N K I X P : Type 0} (r : Rounding N K I X P) (how : Archiving N K I X)
   -- tombstones are lawful
   pub record AreTombstones : Type 0 where
     -- a key names the keys of the incarnation whose tombstone its name is, but no tombstones
-    pub tells : (v : I) (w t s : ℕ) (x y : X) → how.names (r.key v t x) (r.key (r.who w) s y) ≡ (r.same_name x (how.tombstone (r.who w) s) && not (how.is_tombstone y))
+    pub tells : (v : I) (w t s : ℕ) (x y : X)
+        → how.names (r.key v t x) (r.key (r.who w) s y) ≡ (r.same_name x (how.tombstone (r.who w) s) && not (how.is_tombstone y))
     pub are : (w s : ℕ) → how.is_tombstone (how.tombstone (r.who w) s) ≡ true
     -- archives alone write them, one for each incarnation that they adopted
     pub only : (w : ℕ) (h : List N) (x : X) → In x (r.names w h) → how.is_tombstone x ≡ true → how.is_archive (r.who w) ≡ true
-    pub each : (a : ℕ) (h : List N) (c : Counted N) → how.is_archive (r.who a) ≡ true → In c (how.adoptions a h) → In (how.tombstone (r.who c.0.0) c.0.1) (r.names a h)
+    pub each : (a : ℕ) (h : List N) (c : Counted N) → how.is_archive (r.who a) ≡ true → In c (how.adoptions a h)
+        → In (how.tombstone (r.who c.0.0) c.0.1) (r.names a h)
     pub of_adopted : (a w : ℕ) (h : List N) (s : ℕ) → how.is_archive (r.who a) ≡ true → In (how.tombstone (r.who w) s) (r.names a h)
         → (c : Counted N) × In c (how.adoptions a h) × (r.who c.0.0 ≡ r.who w) × (c.0.1 ≡ s)
     -- no archive is adopted
-    pub never : (a : ℕ) (h : List N) (c : Counted N) → how.is_archive (r.who a) ≡ true → In c (how.adoptions a h) → how.is_archive (r.who c.0.0) ≡ false
+    pub never : (a : ℕ) (h : List N) (c : Counted N) → how.is_archive (r.who a) ≡ true → In c (how.adoptions a h)
+        → how.is_archive (r.who c.0.0) ≡ false
 
   -- some collection has a tombstone of the incarnation
   abbrev pub is_adopted : List (Made N) → I → ℕ → Bool
@@ -48,11 +51,13 @@ module _ {N K I X P : Type 0} (r : Rounding N K I X P) (how : Archiving N K I X)
 
   -- what counts: of each incarnation that is no archive's and was not adopted its entries
   abbrev pub own : (I → ℕ → Bool) → (ℕ × ℕ → List N) → List (ℕ × ℕ) → List (Counted N)
-  own adopted entries_of incarnations = map (λ i. (i, entries_of i)) (filter (λ i. not (how.is_archive (r.who i.0)) && not (adopted (r.who i.0) i.1)) incarnations)
+  own adopted entries_of incarnations =
+      map (λ i. (i, entries_of i)) (filter (λ i. not (how.is_archive (r.who i.0)) && not (adopted (r.who i.0) i.1)) incarnations)
 
   -- and of what the archives adopted the entries of the adopted collections
   abbrev pub adoptees : (ℕ × ℕ → List N) → List (ℕ × ℕ) → List (Counted N)
-  adoptees entries_of incarnations = flat_map (λ i. how.adoptions i.0 (entries_of i)) (filter (λ i. how.is_archive (r.who i.0)) incarnations)
+  adoptees entries_of incarnations =
+      flat_map (λ i. how.adoptions i.0 (entries_of i)) (filter (λ i. how.is_archive (r.who i.0)) incarnations)
 
   abbrev pub counted : (I → ℕ → Bool) → (ℕ × ℕ → List N) → List (ℕ × ℕ) → List (Counted N)
   counted adopted entries_of incarnations = own adopted entries_of incarnations ++ adoptees entries_of incarnations
@@ -77,7 +82,8 @@ EachOnce {N} cs = Once {A = ℕ × ℕ} (map (λ c. c.0) cs)
 
 -- an archivist takes no adoption of an incarnation that its own adopted; `adopts` tells what an entry adopts
 abbrev pub RefusesAgain : {N : Type 0} → (N → Option (Counted N)) → (List N → N → Bool) → Type 0
-RefusesAgain {N} adopts fits = (h : List N) (e : N) (c : Counted N) → fits h e ≡ true → adopts e ≡ Some c → In {A = ℕ × ℕ} c.0 (map (λ c. c.0) (filter_map adopts h)) → ⊥
+RefusesAgain {N} adopts fits = (h : List N) (e : N) (c : Counted N)
+    → fits h e ≡ true → adopts e ≡ Some c → In {A = ℕ × ℕ} c.0 (map (λ c. c.0) (filter_map adopts h)) → ⊥
 
 -- what was adopted is what collections have: each of some made collection
 abbrev pub AdoptMade : {N : Type 0} → List (Made N) → List (Counted N) → Type 0

@@ -1,5 +1,6 @@
 -- An archive: what contracts see of it, why it adopts no incarnation, and what adopting, exporting and sealing make of it.
-use Rattle.std.specs.Prelude.{◌≡◌, ℕ, ◌-◌, ◌≤◌, ◌^◌, pos, Bool, true, false, not, ◌||◌, ◌==◌, if◌then◌else◌, nat_lt, nat_le, IsTrue, List, [], ◌∷◌, ◌++◌, Option, Some, None, length, drop}
+use Rattle.std.specs.Prelude.{◌≡◌, ℕ, ◌-◌, ◌≤◌, ◌^◌, pos, Bool, true, false, not, ◌||◌, ◌==◌, if◌then◌else◌, nat_lt, nat_le, IsTrue}
+use Rattle.std.specs.Prelude.{List, [], ◌∷◌, ◌++◌, Option, Some, None, length, drop}
 use Rattle.std.specs.List.{list_any, list_all, filter_map}
 use Rattle.std.specs.Option.{is_some, option_map}
 use Rattle.attr_kit.specs.Refusing.{first, when}
@@ -18,11 +19,14 @@ use Rattle.point_kit.specs.declared.writer_id.WriterId.{WriterId}
 use Rattle.gateway_kit.specs.Queries.{has_conflict}
 use Rattle.archive_kit.specs.declared.adopt_fault.AdoptFault.{AdoptFault}
 use Rattle.archive_kit.specs.declared.adopt_fault.AdoptFault.TheVariants as faults
+use Rattle.archive_kit.specs.declared.seal_refusal.SealRefusal.{SealRefusal}
+use Rattle.archive_kit.specs.declared.seal_refusal.SealRefusal.TheVariants as refusals
 use Rattle.archive_kit.specs.Tombstones.{tombstones, incarnation_attrs, is_tombstone, stream_eq}
 use Rattle.archive_kit.specs.Totals.{add_totals, fit_totals}
 
 -- whose it is, when this incarnation of it began and exported last (the start before the first), how many totals it may have, these,
--- and the tombstones of all that it adopted, of which so many are of incarnations of it that are sealed
+-- the tombstones of all that it adopted, of which so many are of incarnations of it that are sealed, and whether it adopted since its
+-- last export
 pub record ArchiveState : Type 0 where
   pub writer : WriterId
   pub start : ℕ
@@ -31,10 +35,20 @@ pub record ArchiveState : Type 0 where
   pub totals : List ExportPoint
   pub tombstones : List ExportPoint
   pub sealed : ℕ
+  pub unexported : Bool
 
 -- an archive that adopted nothing
 abbrev pub fresh : WriterId → ℕ → ℕ → ArchiveState
-fresh writer start limit = record { writer = writer; start = start; exported = start; limit = limit; totals = []; tombstones = []; sealed = 0 }
+fresh writer start limit = record {
+  writer = writer;
+  start = start;
+  exported = start;
+  limit = limit;
+  totals = [];
+  tombstones = [];
+  sealed = 0;
+  unexported = false;
+}
 
 -- the greatest number that an attribute or a gauge can tell
 abbrev pub last_told : ℕ
@@ -45,7 +59,11 @@ told n = if nat_le last_told n then last_told else n
 
 -- the tombstone of an incarnation, adopted at a collection of this time
 abbrev pub tombstone_of : WriterId → ℕ → ℕ → ExportPoint
-tombstone_of writer start time = record { stream = tombstones; attrs = incarnation_attrs writer (told start); payload = Gauge (pos (told time)) }
+tombstone_of writer start time = record {
+  stream = tombstones;
+  attrs = incarnation_attrs writer (told start);
+  payload = Gauge (pos (told time));
+}
 
 -- the points of cells: of each that is no conflict its payload
 abbrev pub payload_held : Held Payload → Option Payload
@@ -82,6 +100,7 @@ abbrev pub adopted : ArchiveState → WriterId → ℕ → List (Key × Cell Pay
 adopted a writer start cells = record a {
   totals = add_totals a.totals (points_held cells);
   tombstones = a.tombstones ++ tombstone_of writer start (time_of cells) ∷ [];
+  unexported = true;
 }
 
 -- the refusals that are looked for before points are copied
@@ -95,16 +114,26 @@ early_faults a writer start cells =
     ∷ when (are_torn cells) faults.Torn
     ∷ []
 
+abbrev pub early_fault : ArchiveState → WriterId → ℕ → List (Key × Cell Payload) → Option AdoptFault
+early_fault a writer start cells = first (early_faults a writer start cells)
+
+-- whether no export has these points
+abbrev pub is_unsound : ℕ → List (Key × Cell Payload) → Bool
+is_unsound start cells = is_some (export_fault start (time_of cells) (points_held cells))
+
 -- whether numbers leave their ranges
 abbrev pub out_of_range : ArchiveState → ℕ → List (Key × Cell Payload) → Bool
 out_of_range a start cells = nat_le last_told start || (nat_le last_told (time_of cells) || not (fit_totals a.totals (points_held cells)))
 
 abbrev pub late_faults : ArchiveState → WriterId → ℕ → List (Key × Cell Payload) → List (Option AdoptFault)
 late_faults a writer start cells =
-    when (is_some (export_fault start (time_of cells) (points_held cells))) faults.Unsound
+    when (is_unsound start cells) faults.Unsound
     ∷ when (out_of_range a start cells) faults.OutOfRange
     ∷ when (nat_lt a.limit (length (add_totals a.totals (points_held cells)))) faults.SetLimit
     ∷ []
+
+abbrev pub late_fault : ArchiveState → WriterId → ℕ → List (Key × Cell Payload) → Option AdoptFault
+late_fault a writer start cells = first (late_faults a writer start cells)
 
 -- the first refusal that fits
 abbrev pub adopt_fault : ArchiveState → WriterId → ℕ → List (Key × Cell Payload) → Option AdoptFault
@@ -113,6 +142,14 @@ adopt_fault a writer start cells = first (early_faults a writer start cells ++ l
 -- the points of an export: all totals, and the tombstone of each incarnation that this incarnation of the archive adopted
 abbrev pub exported_points : ArchiveState → List ExportPoint
 exported_points a = a.totals ++ drop a.sealed a.tombstones
+
+-- the archive after an export of this time
+abbrev pub exported_at : ArchiveState → ℕ → ArchiveState
+exported_at a time = record a { exported = time; unexported = false }
+
+-- why it is not sealed, if so
+abbrev pub seal_refusal : ArchiveState → ℕ → Option SealRefusal
+seal_refusal a start = first (when (nat_le start a.exported) refusals.StartNotLater ∷ when a.unexported refusals.Unexported ∷ [])
 
 -- the archive begun anew under another start: what it exported stays as it is, and what it adopted it does not adopt again
 abbrev pub begun_anew : ArchiveState → ℕ → ArchiveState

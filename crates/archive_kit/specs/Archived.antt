@@ -51,7 +51,8 @@ module _ {N K I X P : Type 0} (r : Rounding N K I X P) (by : Archivists K I X P)
   -- under a name the payloads of all that was adopted, added up
   abbrev pub added_up : X → List (Counted N) → P
   added_up x [] = by.nothing
-  added_up x (c ∷ cs) = if list_any (r.same_name x) (r.names c.0.0 c.1) then by.add (r.payload c.0.0 c.1 x) (added_up x cs) else added_up x cs
+  added_up x (c ∷ cs) =
+      if list_any (r.same_name x) (r.names c.0.0 c.1) then by.add (r.payload c.0.0 c.1 x) (added_up x cs) else added_up x cs
 
   -- the writers with archives among them
   abbrev pub archived : Rounding (Entry N) K I X P
@@ -61,7 +62,8 @@ module _ {N K I X P : Type 0} (r : Rounding N K I X P) (by : Archivists K I X P)
     same_name = r.same_name;
     key = r.key;
     who = r.who;
-    names = λ w h. if by.is_archive (r.who w) then distinct_of r.same_name (archive_names (adopted_by by.may w h)) else r.names w (recordings h);
+    names = λ w h.
+        if by.is_archive (r.who w) then distinct_of r.same_name (archive_names (adopted_by by.may w h)) else r.names w (recordings h);
     payload = λ w h x. if by.is_archive (r.who w) then added_up x (adopted_by by.may w h) else r.payload w (recordings h) x;
   }
 
@@ -90,7 +92,8 @@ module _ {N K I X P : Type 0} (r : Rounding N K I X P) (by : Archivists K I X P)
     pub injective : (v w s t : ℕ) → by.tombstone (r.who v) s ≡ by.tombstone (r.who w) t → (r.who v ≡ r.who w) × (s ≡ t)
     pub are : (w s : ℕ) → by.is_tombstone (by.tombstone (r.who w) s) ≡ true
     pub plain : (w : ℕ) (h : List N) (x : X) → In x (r.names w h) → by.is_tombstone x ≡ false
-    pub tells : (v : I) (w t s : ℕ) (x y : X) → by.names (r.key v t x) (r.key (r.who w) s y) ≡ (r.same_name x (by.tombstone (r.who w) s) && not (by.is_tombstone y))
+    pub tells : (v : I) (w t s : ℕ) (x y : X)
+        → by.names (r.key v t x) (r.key (r.who w) s y) ≡ (r.same_name x (by.tombstone (r.who w) s) && not (by.is_tombstone y))
     pub own : (a w : ℕ) → by.may a w ≡ true → by.is_archive (r.who w) ≡ false
     pub asked : (a w s t : ℕ) (x : X) → by.may a w ≡ true → asks (r.key (r.who a) s x) ≡ asks (r.key (r.who w) t x)
     pub grouped : (a w s t : ℕ) (x : X) → by.may a w ≡ true → group (r.key (r.who a) s x) ≡ group (r.key (r.who w) t x)

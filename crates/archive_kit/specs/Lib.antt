@@ -2,8 +2,12 @@ pub mod Adding
 pub mod Adopting
 pub mod Archive
 pub mod Archived
+pub mod Driving
+pub mod Keeping
+pub mod Named
 pub mod Showing
 pub mod Stories
 pub mod Telling
 pub mod Tombstones
 pub mod Totals
+pub mod Written

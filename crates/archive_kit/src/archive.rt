@@ -1,8 +1,8 @@
 //! An archive: a writer whose points are those of incarnations that it adopted, added up.
 ghost use Rattle.std.specs.Prelude.{◌≡◌, ◌≢◌, ◌<◌, ◌≤◌, ◌-◌, IfOk, IfErr, OnOk, OnErr, None, Some, length, false};
-ghost use Rattle.attr_kit.specs.Refusing.{first};
 ghost use Rattle.gateway_kit.specs.Queries.{incarnation_points, part_points};
-ghost use Rattle.archive_kit.specs.Archive.{adopt_fault, adopted, begun_anew, early_faults, exported_points, fresh, is_of_archive, late_faults, points_held, time_of, tombstone_of, was_adopted};
+ghost use Rattle.archive_kit.specs.Archive.{adopt_fault, early_fault, late_fault, is_of_archive, was_adopted, seal_refusal};
+ghost use Rattle.archive_kit.specs.Archive.{adopted, begun_anew, exported_at, exported_points, fresh, points_held, time_of, tombstone_of};
 ghost use Rattle.archive_kit.specs.Tombstones.{is_tombstone};
 ghost use Rattle.std.specs.List.{list_any};
 ghost use Rattle.archive_kit.specs.Totals.{add_totals};
@@ -11,7 +11,7 @@ use crate::early::{Early, first_fault};
 use crate::held::{has_conflict, has_other_time, has_stream, last_export, time_of};
 use crate::tombstone::{tombstone_of, tombstones};
 use crate::totals::{add_totals, has_key, push};
-use crate::{AdoptFault, ExportRefusal};
+use crate::{AdoptFault, ExportRefusal, SealRefusal};
 use attr_kit::{NoMemory, Seq, copy_all};
 use gateway_kit::{Gateway, PartItem};
 use point_kit::{Export, ExportPoint, SharedStream, WriterId};
@@ -36,6 +36,7 @@ pub struct Archive {
     totals: Vec<ExportPoint>,
     tombstones: Vec<ExportPoint>,
     sealed: usize,
+    unexported: bool,
 }
 
 impl Model for Archive {
@@ -43,7 +44,16 @@ impl Model for Archive {
 
     ghost Value = { ArchiveState };
 
-    ghost view = { λ a. record { writer = a.writer; start = a.start; exported = a.exported; limit = a.limit; totals = a.totals.items; tombstones = a.tombstones.items; sealed = a.sealed } };
+    ghost view = { λ a. record {
+      writer = a.writer;
+      start = a.start;
+      exported = a.exported;
+      limit = a.limit;
+      totals = a.totals.items;
+      tombstones = a.tombstones.items;
+      sealed = a.sealed;
+      unexported = a.unexported;
+    } };
 
     ghost invariant = { λ a. AreKept a.stream a.start a.exported a.totals.items a.tombstones.items a.sealed };
 }
@@ -68,6 +78,7 @@ impl Archive {
             totals: Vec::new(alloc),
             tombstones: Vec::new(alloc),
             sealed: 0,
+            unexported: false,
         })
     }
 
@@ -107,7 +118,7 @@ impl Archive {
         tombstone: &ExportPoint,
     ) -> Option<AdoptFault>
         requires { (time : _) × (tombstone.now ≡ tombstone_of writer.now start time) }
-        ensures { result ≡ first (early_faults self.now writer.now start (part_points writer.now start items.now)) }
+        ensures { result ≡ early_fault self.now writer.now start (part_points writer.now start items.now) }
     {
         first_fault(Early {
             other_service: self.writer.service != writer.service,
@@ -126,9 +137,11 @@ impl Archive {
         start: u64,
         items: &[PartItem],
     ) -> Result<Vec<ExportPoint>, AdoptFault>
-        ensures ok { OnOk result (first (late_faults self.now writer.now start (part_points writer.now start items.now)) ≡ None) }
-        ensures value { IfOk result (λ totals. totals.items ≡ add_totals self.now.totals (points_held (part_points writer.now start items.now))) }
-        ensures err { IfErr result (λ f. f ≢ AdoptFault.NoMemory → first (late_faults self.now writer.now start (part_points writer.now start items.now)) ≡ Some f) }
+        ensures ok { OnOk result (late_fault self.now writer.now start (part_points writer.now start items.now) ≡ None) }
+        ensures value { IfOk result (λ totals. totals.items
+            ≡ add_totals self.now.totals (points_held (part_points writer.now start items.now))) }
+        ensures err { IfErr result (λ f. f ≢ AdoptFault.NoMemory
+            → late_fault self.now writer.now start (part_points writer.now start items.now) ≡ Some f) }
     {
         let alloc = *self.totals.allocator();
         let export = last_export(alloc, items, writer, start)?;
@@ -156,15 +169,17 @@ impl Archive {
         requires tombstone { tombstone ≡ tombstone_of writer.now start (time_of (part_points writer.now start items.now)) }
         requires plain { list_any (λ e. is_tombstone e.0) (part_points writer.now start items.now) ≡ false }
         requires fresh { was_adopted self.old writer.now start ≡ false }
-        ensures ok { OnOk result (first (late_faults self.old writer.now start (part_points writer.now start items.now)) ≡ None) }
+        ensures ok { OnOk result (late_fault self.old writer.now start (part_points writer.now start items.now) ≡ None) }
         ensures value { OnOk result (self.new ≡ adopted self.old writer.now start (part_points writer.now start items.now)) }
-        ensures err { IfErr result (λ f. f ≢ AdoptFault.NoMemory → first (late_faults self.old writer.now start (part_points writer.now start items.now)) ≡ Some f) }
+        ensures err { IfErr result (λ f. f ≢ AdoptFault.NoMemory
+            → late_fault self.old writer.now start (part_points writer.now start items.now) ≡ Some f) }
         ensures unchanged { OnErr result (self.new ≡ self.old) }
     {
         match self.totals_with(writer, start, items) {
             Ok(totals) => {
                 push(&mut self.tombstones, tombstone)?;
                 self.totals = totals;
+                self.unexported = true;
                 Ok(())
             }
             Err(fault) => Err(fault),
@@ -183,9 +198,12 @@ impl Archive {
         writer: &WriterId,
         start: u64,
     ) -> Result<(), AdoptFault>
-        ensures ok { OnOk result (adopt_fault self.old writer.now start (incarnation_points writer.now start gateway.now.points) ≡ None) }
-        ensures value { OnOk result (self.new ≡ adopted self.old writer.now start (incarnation_points writer.now start gateway.now.points)) }
-        ensures err { IfErr result (λ f. f ≢ AdoptFault.NoMemory → adopt_fault self.old writer.now start (incarnation_points writer.now start gateway.now.points) ≡ Some f) }
+        ensures ok { OnOk result (
+            adopt_fault self.old writer.now start (incarnation_points writer.now start gateway.now.points) ≡ None) }
+        ensures value { OnOk result (
+            self.new ≡ adopted self.old writer.now start (incarnation_points writer.now start gateway.now.points)) }
+        ensures err { IfErr result (λ f. f ≢ AdoptFault.NoMemory
+            → adopt_fault self.old writer.now start (incarnation_points writer.now start gateway.now.points) ≡ Some f) }
         ensures unchanged { OnErr result (self.new ≡ self.old) }
     {
         let items = gateway.part(writer, start);
@@ -222,7 +240,8 @@ impl Archive {
         ensures start { IfOk result (λ e. e.start ≡ self.old.start) }
         ensures taken_at { IfOk result (λ e. e.time ≡ time) }
         ensures points { IfOk result (λ e. e.points ≡ exported_points self.old) }
-        ensures ok { OnOk result ((self.old.exported < time) × (self.new ≡ record self.old { exported = time })) }
+        ensures ok { OnOk result (self.old.exported < time) }
+        ensures value { OnOk result (self.new ≡ exported_at self.old time) }
         ensures err { IfErr result (λ f. f ≢ ExportRefusal.NoMemory → (f ≡ ExportRefusal.TimeNotLater) × (time ≤ self.old.exported)) }
         ensures no_memory { IfErr result (λ f. f ≡ ExportRefusal.NoMemory → self.old.exported < time) }
         ensures unchanged { OnErr result (self.new ≡ self.old) }
@@ -232,19 +251,31 @@ impl Archive {
         }
         let export = self.collect(time)?;
         self.exported = time;
+        self.unexported = false;
         Ok(export)
     }
 
-    /// Seals this incarnation of the archive and begins it anew under a later start, without totals. What it exported stays as it
-    /// is, wherever it was taken. What it adopted it does not adopt again, so export first: what it adopted since its last export
-    /// no tombstone will ever name. Takes no memory.
-    pub fn seal(&mut self, start: u64)
-        requires { self.old.start < start }
-        ensures value { self.new ≡ begun_anew self.old start }
+    /// Seals this incarnation of the archive and begins it anew under a later start, without totals. What it adopted it does not
+    /// adopt again. What it exported stays as it is, wherever it was taken, and is exported no more: so keep its last export until
+    /// it has come where it is to. Takes no memory.
+    ///
+    /// Refused, in this order: [`SealRefusal::StartNotLater`]; [`SealRefusal::Unexported`]. A refusal changes nothing.
+    pub fn seal(&mut self, start: u64) -> Result<(), SealRefusal>
+        ensures ok { OnOk result (seal_refusal self.old start ≡ None) }
+        ensures value { OnOk result (self.new ≡ begun_anew self.old start) }
+        ensures err { IfErr result (λ f. seal_refusal self.old start ≡ Some f) }
+        ensures unchanged { OnErr result (self.new ≡ self.old) }
     {
+        if start <= self.exported {
+            return Err(SealRefusal::StartNotLater);
+        }
+        if self.unexported {
+            return Err(SealRefusal::Unexported);
+        }
         self.start = start;
         self.exported = start;
         self.totals = Vec::new(*self.totals.allocator());
         self.sealed = self.tombstones.len();
+        Ok(())
     }
 }

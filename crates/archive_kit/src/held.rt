@@ -1,11 +1,9 @@
 //! What a gateway holds of an incarnation.
 ghost use Rattle.std.specs.Prelude.{◌≡◌, ◌≢◌, ◌==◌, ◌++◌, ◌∷◌, [], not, IfOk, OnOk, IfErr, true, false};
 ghost use Rattle.std.specs.List.{list_any};
-ghost use Rattle.std.specs.Option.{is_some};
 ghost use Rattle.gateway_kit.specs.Queries.{has_conflict, part_points};
-ghost use Rattle.point_kit.specs.ExportFaults.{export_fault};
 ghost use Rattle.archive_kit.specs.Tombstones.{stream_eq};
-ghost use Rattle.archive_kit.specs.Archive.{points_held, time_of};
+ghost use Rattle.archive_kit.specs.Archive.{is_unsound, points_held, time_of};
 
 use crate::AdoptFault;
 use attr_kit::{NoMemory, Seq};
@@ -46,7 +44,8 @@ pub(crate) fn has_other_time(items: &[PartItem], time: u64) -> bool
 
 // Copies the payload of a point that is no conflict.
 fn push_point(points: &mut Vec<ExportPoint>, item: &PartItem) -> Result<(), NoMemory>
-    ensures { (writer : _) (start : _) → OnOk result (points.new.items ≡ points.old.items ++ points_held (part_points writer start (item.now ∷ []))) }
+    ensures { (writer : _) (start : _) → OnOk result (
+        points.new.items ≡ points.old.items ++ points_held (part_points writer start (item.now ∷ []))) }
 {
     if let Held::One(payload) = &item.cell.held {
         points.push(ExportPoint {
@@ -78,9 +77,9 @@ pub(crate) fn last_export(
 ) -> Result<Export, AdoptFault>
     ensures time { IfOk result (λ e. e.time ≡ time_of (part_points writer.now start items.now)) }
     ensures points { IfOk result (λ e. e.points ≡ points_held (part_points writer.now start items.now)) }
-    ensures ok { OnOk result (is_some (export_fault start (time_of (part_points writer.now start items.now)) (points_held (part_points writer.now start items.now))) ≡ false) }
-    ensures err { IfErr result (λ f. f ≢ AdoptFault.NoMemory → (f ≡ AdoptFault.Unsound)
-        × (is_some (export_fault start (time_of (part_points writer.now start items.now)) (points_held (part_points writer.now start items.now))) ≡ true)) }
+    ensures ok { OnOk result (is_unsound start (part_points writer.now start items.now) ≡ false) }
+    ensures err { IfErr result (λ f. f ≢ AdoptFault.NoMemory
+        → (f ≡ AdoptFault.Unsound) × (is_unsound start (part_points writer.now start items.now) ≡ true)) }
 {
     let points = Seq::from_vec(points_held(alloc, items)?);
     let id = writer.try_copy()?;

@@ -1,5 +1,5 @@
 //! An archive at work: what its exports have, and each refusal.
-use crate::{AdoptFault, Archive, ExportRefusal};
+use crate::{AdoptFault, Archive, ExportRefusal, SealRefusal};
 use attr_kit::{AttrSet, AttrValue, Seq, Txt};
 use gateway_kit::Gateway;
 use point_kit::{Export, ExportPoint, Payload, Shape, SharedStream, Stream, WriterId};
@@ -104,11 +104,11 @@ fn tombstones_tell_incarnations(rt: HostRuntime) -> Result<(), Fail> {
 #[test]
 fn a_sealed_archive_begins_anew(rt: HostRuntime) -> Result<(), Fail> {
     let mut archive = both_adopted(rt.alloc())?;
+    assert_eq!(rt; archive.seal(3000), Err(SealRefusal::Unexported));
     assert_eq!(rt; archive.export(2000)?.points().len(), 4);
     assert_eq!(rt; archive.export(2000), Err(ExportRefusal::TimeNotLater));
-    if archive.start() < 3000 {
-        archive.seal(3000);
-    }
+    assert_eq!(rt; archive.seal(2000), Err(SealRefusal::StartNotLater));
+    archive.seal(3000)?;
     assert_eq!(rt; archive.start(), 3000);
     assert_eq!(rt; archive.adopted_len(), 0);
     assert_eq!(rt; archive.export(4000)?.points().len(), 0);

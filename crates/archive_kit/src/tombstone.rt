@@ -33,8 +33,8 @@ pub(crate) fn told(number: u64) -> i64
     }
 }
 
-// The instance of an identity as a text.
-fn instance_text(alloc: Global, instance: &Uuid) -> Result<Txt, NoMemory>
+/// The instance of an identity as a text.
+pub(crate) fn instance_text(alloc: Global, instance: &Uuid) -> Result<Txt, NoMemory>
     ensures { IfOk result (λ text. text ≡ hyphenated_text lower instance.now) }
 {
     let mut buffer = Uuid::encode_buffer();
@@ -42,9 +42,18 @@ fn instance_text(alloc: Global, instance: &Uuid) -> Result<Txt, NoMemory>
     Txt::from_str(alloc, id.encode_lower(&mut buffer))
 }
 
-// The three attributes.
-fn attrs_of(alloc: Global, instance: Txt, service: Txt, start: i64) -> Result<AttrSet, NoMemory>
-    ensures { IfOk result (λ attrs. attrs ≡ (codes "instance", values.Text instance) ∷ (codes "service", values.Text service) ∷ (codes "start", values.Whole start) ∷ []) }
+/// The three attributes.
+pub(crate) fn attrs_of(
+    alloc: Global,
+    instance: Txt,
+    service: Txt,
+    start: i64,
+) -> Result<AttrSet, NoMemory>
+    ensures { IfOk result (λ attrs. attrs
+        ≡ (codes "instance", values.Text instance)
+        ∷ (codes "service", values.Text service)
+        ∷ (codes "start", values.Whole start)
+        ∷ []) }
 {
     let mut pairs = Vec::with_capacity(alloc, 3)?;
     pairs.push((Txt::from_str(alloc, "instance")?, AttrValue::Text(instance)))?;

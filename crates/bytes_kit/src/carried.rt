@@ -1,5 +1,5 @@
 //! What a message carries, as it is written and read.
-ghost use Rattle.std.specs.Prelude.{◌≡◌, ◌≢◌, ◌++◌, ◌∷◌, true, IfErr, IfOk, OnOk};
+ghost use Rattle.std.specs.Prelude.{◌≡◌, ◌++◌, true, IfErr, IfOk, OnOk};
 ghost use Rattle.std.specs.FinMap.{entries, from_entries};
 ghost use Rattle.std.specs.FinMap.Entries.{is_sorted};
 ghost use Rattle.gossip_kit.specs.Bodies.{cells_of, delta_of, ack_of};

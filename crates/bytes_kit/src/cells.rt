@@ -4,7 +4,6 @@ ghost use Rattle.std.specs.FinMap.Entries.{is_sorted};
 ghost use Rattle.gateway_kit.specs.Walks.{keyed_cell_of_ref, points_left};
 ghost use Rattle.point_kit.specs.Orders.{key_cmp};
 ghost use Rattle.bytes_kit.specs.Explaining.{IsReadFault};
-ghost use Rattle.bytes_kit.specs.Fits.{IsPayload, IsNumber};
 ghost use Rattle.bytes_kit.specs.KeyForms.{IsKeyRest, key_at, key_before};
 ghost use Rattle.bytes_kit.specs.MessageFits.{IsCell, IsCells, IsEntry, IsHeld, IsListed};
 ghost use Rattle.bytes_kit.specs.MessageLaws.{cell_code, cell_bytes, payload_or_conflict_code, payload_or_conflict_bytes};

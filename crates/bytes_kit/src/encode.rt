@@ -1,7 +1,7 @@
 //! The bytes of an export.
 ghost use Rattle.std.specs.Prelude.{◌≡◌, ◌++◌, [], IfOk, OnOk, OnErr};
 ghost use Rattle.bytes_kit.specs.Fits.{IsExport};
-ghost use Rattle.bytes_kit.specs.Format.{fields_of, fields, head, bytes_of, with_checksum};
+ghost use Rattle.bytes_kit.specs.Format.{fields_of, fields, bytes_of, with_checksum};
 
 use crate::checksum::checksum;
 use crate::history::History;

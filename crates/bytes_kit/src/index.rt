@@ -1,7 +1,7 @@
 //! How a text's place among others is found: by its hash, or by its order where the hash leads nowhere.
 ghost use Rattle.std.specs.Prelude.{◌≡◌, ◌<◌, ◌+◌, ◌++◌, ◌∷◌, [], length, IfOk, None, OnErr, OnOk};
 ghost use Rattle.bytes_kit.specs.Past.{place_of};
-ghost use Rattle.bytes_kit.specs.Index.{text_hash, seek, seek_from, placed_at, IsIndexOf};
+ghost use Rattle.bytes_kit.specs.Index.{text_hash, seek, seek_from, IsIndexOf};
 
 use attr_kit::{NoMemory, Txt};
 use std::alloc::Global;

@@ -7,7 +7,7 @@ ghost use Rattle.bytes_kit.specs.Laws.{varint_code, varint_bytes};
 ghost use Rattle.bytes_kit.specs.Past.{place_of, past_text};
 ghost use Rattle.bytes_kit.specs.PastFits.{IsNewText};
 ghost use Rattle.bytes_kit.specs.PastLaws.{text_behind_code, text_behind_bytes, pair_behind_code, pair_behind_bytes, list_behind_code, list_behind_bytes};
-ghost use Rattle.bytes_kit.specs.Reading.{Reads, NoneAt};
+ghost use Rattle.bytes_kit.specs.Reading.{NoneAt};
 ghost use Rattle.bytes_kit.specs.declared.fault.DecodeFault.TheVariants as faults;
 
 use crate::DecodeFault;

@@ -1,5 +1,5 @@
 //! The forms of numbers, texts, pairs and lists.
-ghost use Rattle.std.specs.Prelude.{◌≡◌, ◌++◌, ◌≢◌, [], IfErr, ◌<◌, ◌≤◌, ℕ, length, IfOk};
+ghost use Rattle.std.specs.Prelude.{◌≡◌, ◌++◌, ◌≢◌, [], IfErr, ◌<◌, ◌≤◌, length, IfOk};
 ghost use Rattle.bytes_kit.specs.Explaining.{IsReadFault};
 ghost use Rattle.bytes_kit.specs.Fits.{IsCounted, IsNumber, IsInteger, IsText, IsPair, IsList};
 ghost use Rattle.bytes_kit.specs.Format.{varint, groups, zigzag, integer, text, pair_of, list_of};

@@ -1,6 +1,5 @@
 -- What bytes of a message, and of an export, are read as.
-use Rattle.std.proofs.Common.{◌≡◌, ◌≢◌, ◌∙◌, ℕ, Bool, List, ap, sym, subst, refl, true, false}
-use Rattle.bytes_kit.specs.Explaining as explaining
+use Rattle.std.proofs.Common.{◌≡◌, ◌∙◌, ℕ, List, ap, sym, refl, true, false}
 use Rattle.bytes_kit.specs.Fits.{IsExport}
 use Rattle.bytes_kit.specs.Format.{bytes_of, with_checksum}
 use Rattle.bytes_kit.specs.MessageFits.{IsMessage, IsSoundPoints}
@@ -9,7 +8,7 @@ use Rattle.bytes_kit.specs.declared.fault.DecodeFault.{DecodeFault}
 use Rattle.bytes_kit.specs.declared.fault.DecodeFault.TheVariants as faults
 use Rattle.gossip_kit.specs.Views.{MessageModel}
 use Rattle.point_kit.specs.declared.export.Export.{Export}
-use Rattle.file_kit.specs.Contents.{form, is_message, Explains, ExplainsAs, IsContent, IsNone}
+use Rattle.file_kit.specs.Contents.{form, is_message, IsContent}
 use Rattle.file_kit.specs.declared.content.Content.{Content}
 use Rattle.file_kit.specs.declared.content.Content.TheVariants as content
 
@@ -44,13 +43,3 @@ module _ (bytes : List ℕ) where
       → (c : Content) → IsContent c → bytes ≡ form c → f ≡ faults.NoMemory
   export_unread letter f found (content.Export e) fits is = found e fits is
   export_unread letter f found (content.Message k) fits is = let bad : false ≡ true = sym letter ∙ ap is_message is ∙ message_letter k in cc
-
-  pub message_explained : is_message bytes ≡ true → (f : DecodeFault) → explaining.ExplainsMessage bytes f → Explains bytes f
-  message_explained letter f h = subst (λ (b : Bool). ExplainsAs b bytes f) (sym letter) h
-
-  pub export_explained : is_message bytes ≡ false → (f : DecodeFault) → explaining.Explains bytes f → Explains bytes f
-  export_explained letter f h = subst (λ (b : Bool). ExplainsAs b bytes f) (sym letter) h
-
-  -- a fault other than want of memory: no content has these bytes
-  pub is_none : (f : DecodeFault) → f ≢ faults.NoMemory → Explains bytes f → ((c : Content) → IsContent c → bytes ≡ form c → f ≡ faults.NoMemory) → IsNone bytes f
-  is_none f other explains found = record { none = λ c fits is. other (found c fits is); explains = explains }

@@ -1,5 +1,6 @@
 -- The program's command, and what its matches give.
-use Rattle.std.proofs.Common.{◌≡◌, ◌∙◌, List, Option, Some, Result, Ok, Err, Bool, refl, true, false, sym, ap, map, take, drop, codes, subst}
+use Rattle.std.proofs.Common.{◌≡◌, ◌∙◌, List, [], Option, Some, Result, Ok, Err, refl, true, false, sym, ap, map, take, drop, codes, subst}
+use Rattle.std.proofs.lemmas.Bool.{false_from_ne_true}
 use Rattle.std.proofs.lemmas.List.{drop-map, take-map}
 use Rattle.std.specs.Prelude.{IfOk, OnOk}
 use Rattle.std.specs.Option.{option_map}
@@ -7,11 +8,11 @@ use Rattle.std.specs.Borrow.{Bor}
 use Rattle.clap.proofs.OnLiterals.{clap_on_literals}
 use Rattle.clap.proofs.WalkLemmas.{first_value-rows, one_text-rows, raw_values-rows}
 use Rattle.clap.specs.Matches.{first_value, matched_of, one_text, raw_values}
-use Rattle.clap.specs.Words.{Row, Text, all_of, first_of, one_of, is_simple, is_simple_and_free, rows_of}
+use Rattle.clap.specs.Words.{App, Row, Text, all_of, fault_of, first_of, one_of, is_simple, is_simple_and_free, rows_of, subcommand_of, takes}
 use Rattle.clap.specs.declared.parser.matches.Found.{Found}
 use Rattle.rollup_kit.specs.declared.ask.Ask.{Ask}
 use Rattle.file_kit.specs.AskWords.{IsAsk}
-use Rattle.file_kit.specs.Commands.{otm, otm_asking, otm_keeping, Asks, HasFiles, HasNoAsk, HasWords}
+use Rattle.file_kit.specs.Commands.{otm, otm_asking, otm_keeping, named_by, Asks, HasFiles, HasNoAsk, HasWords}
 use Rattle.file_kit.specs.declared.command.FileCommand.TheVariants as command
 
 pub otm_is_simple : is_simple otm ≡ true
@@ -26,10 +27,18 @@ pub on_ok : {A E : Type 0} (r : Result A E) (P : Type 0) → P → OnOk r P
 on_ok (Ok a) P p = p
 on_ok (Err e) P p = tt
 
--- words of which it is wrong that they are taken
-pub not_taken : (b : Bool) → (b ≡ true → ⊥) → b ≡ false
-not_taken true wrong = absurd (wrong refl)
-not_taken false wrong = refl
+-- what the matches of the program's command name is what the words name
+pub named_is : (a : App) (words : List Text) (found : Option (Text × List Row)) → a ≡ otm → (is_simple a ≡ true → found ≡ subcommand_of a words) → found ≡ named_by words
+unfolding named_by
+named_is a words found is gives = gives (ap is_simple is ∙ otm_is_simple) ∙ ap (λ (b : App). subcommand_of b words) is
+
+-- nothing is wrong with words of which nothing is wrong for the program's command
+pub nothing_wrong : (a : App) (words : List Text) → a ≡ otm → (is_simple_and_free a ≡ true → fault_of a words ≡ []) → fault_of otm words ≡ []
+nothing_wrong a words is gives = sym (ap (λ (b : App). fault_of b words) is) ∙ gives (ap is_simple_and_free is ∙ otm_is_free)
+
+-- words are not taken where it is wrong that they are
+pub not_taken : (a : App) (words : List Text) → a ≡ otm → (takes a words ≡ true → ⊥) → takes otm words ≡ false
+not_taken a words is wrong = false_from_ne_true (takes otm words) (λ taken. wrong (ap (λ (b : App). takes b words) is ∙ taken))
 
 -- the values that are lent are those of the matches
 pub lent : (f : Found) (id : Text) (o : Option (Bor (List (Bor Text)))) (s : Bor (List (Bor Text)))

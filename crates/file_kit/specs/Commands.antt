@@ -1,8 +1,8 @@
 -- The commands on files, and what a command line asks for.
-use Rattle.std.specs.Prelude.{◌≡◌, ◌||◌, ℕ, Bool, true, List, [], take, drop, Option, Some, codes, if◌then◌else◌, slice_index_or}
+use Rattle.std.specs.Prelude.{◌≡◌, ◌||◌, ◌⊎◌, ℕ, Bool, false, true, List, [], take, drop, Option, Some, codes, if◌then◌else◌, slice_index_or}
 use Rattle.std.specs.Str.{bytes_eq}
 use Rattle.clap.specs.Lexer.{usize_max}
-use Rattle.clap.specs.Words.{App, Kinds, Row, Rule, Text, all_of, fault_of, first_of, new_app, new_rule, one_of, subcommand_of, takes, with_rule, with_subcommand}
+use Rattle.clap.specs.Words.{App, Row, Rule, Text, all_of, first_of, new_app, new_rule, one_of, subcommand_of, takes, with_rule, with_subcommand}
 use Rattle.clap.specs.declared.builder.action.ArgAction.TheVariants.{SetTrue}
 use Rattle.rollup_kit.specs.declared.ask.Ask.{Ask}
 use Rattle.file_kit.specs.AskWords.{IsAsk}
@@ -57,14 +57,6 @@ otm = with_subcommand otm_asking (on_files (codes "otlp")).top
 unfoldable pub named_by : List Text → Option (Text × List Row)
 named_by words = subcommand_of otm words
 
--- the words are none that the program refuses
-unfoldable pub is_taken : List Text → Bool
-is_taken words = takes otm words
-
--- what the program finds wrong with the words: the kinds of refusal that may come, none where it takes them
-unfoldable pub faults_of : List Text → Kinds
-faults_of words = fault_of otm words
-
 -- the files that are named
 abbrev pub HasFiles : List Row → List Text → Type 0
 HasFiles rows files = all_of (codes "files") rows ≡ Some files
@@ -93,6 +85,10 @@ Asks found (command.Otlp files) = (rows : List Row) × (found ≡ Some (codes "o
 -- a report's words ask for none
 abbrev pub HasNoAsk : Option (Text × List Row) → Type 0
 HasNoAsk found = (words : List Text) × HasWords found words × ((ask : Ask) → IsAsk (take 7 words) ask → ⊥)
+
+-- the program does not take the words, or they are a report's and ask for none
+abbrev pub AsksNothing : List Text → Type 0
+AsksNothing words = (takes otm words ≡ false) ⊎ HasNoAsk (named_by words)
 
 abbrev pub is_command : Text → Bool
 is_command word = bytes_eq word (codes "show") || (bytes_eq word (codes "merge") || (bytes_eq word (codes "report") || (bytes_eq word (codes "expose") || bytes_eq word (codes "otlp"))))

@@ -1,6 +1,6 @@
 //! What files answer.
 ghost use Rattle.std.specs.Option.{option_map};
-ghost use Rattle.std.specs.Prelude.{◌≡◌, map, IfErr, IfOk, string_bytes};
+ghost use Rattle.std.specs.Prelude.{map, IfErr, IfOk, string_bytes};
 ghost use Rattle.file_kit.specs.Answers.{IsPage, IsReport};
 ghost use Rattle.file_kit.specs.Contents.{IsRefused};
 

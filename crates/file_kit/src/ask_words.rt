@@ -32,13 +32,8 @@ fn line_of(alloc: Global, words: &[&str]) -> Result<String, AllocError>
 fn ask_of(alloc: Global, report: Report) -> Result<Ask, NoMemory>
     ensures { IfOk result (λ ask. ask ≡ ask_of report) }
 {
-    let Report {
-        stream,
-        service,
-        only,
-        keep,
-    } = report;
-    Ask::for_set(alloc, stream, service, &only, keep)
+    let keep = report.keep;
+    Ask::for_set(alloc, report.stream, report.service, &report.only, keep)
 }
 
 // The refusal of a line, by its sentence.

@@ -1,8 +1,8 @@
 //! What the words of a command line on files ask for.
-ghost use Rattle.clap.specs.Words.{app_of, found_of, rows_of, rule_of, subcommand_rows_of, is_broken, kind_of, first_of};
+ghost use Rattle.clap.specs.Words.{app_of, fault_of, found_of, rows_of, rule_of, subcommand_rows_of, is_broken, kind_of, first_of};
 ghost use Rattle.clap.specs.declared.builder.command.Command.TheViews.{out-Command};
-ghost use Rattle.std.specs.Prelude.{◌≡◌, ◌⊎◌, [], None, Some, codes, false, true, IfOk, IfSome, IsErrOf, OnOk, map};
-ghost use Rattle.file_kit.specs.Commands.{otm, otm_keeping, otm_asking, on_files, merge, report, expose, files_rule, words_rule, openmetrics_rule, service_rule, word_at, faults_of, is_command, is_of_files, is_taken, named_by, Asks, GivesFormat, HasFiles, HasNoAsk};
+ghost use Rattle.std.specs.Prelude.{◌≡◌, [], None, Some, codes, false, true, IfOk, IsErrOf, OnOk, map};
+ghost use Rattle.file_kit.specs.Commands.{otm, otm_keeping, otm_asking, on_files, merge, report, expose, files_rule, words_rule, openmetrics_rule, service_rule, word_at, is_command, is_of_files, named_by, Asks, AsksNothing, GivesFormat, HasFiles, HasNoAsk};
 
 use crate::ask_words::read_ask;
 use crate::{CommandFault, FileCommand, PageFormat};
@@ -281,9 +281,8 @@ fn read(alloc: Global, matches: &ArgMatches<'_>) -> Result<FileCommand, CommandF
 /// none, with the text to show; then [`CommandFault::NoMemory`].
 pub fn read_command<S: AsStr>(alloc: Global, words: &[S]) -> Result<FileCommand, CommandFault>
     ensures ok { IfOk result (Asks (named_by (map S.text words.now))) }
-    ensures taken { OnOk result (faults_of (map S.text words.now) ≡ []) }
-    ensures bad_words { (text : _) → IsErrOf result (CommandFault.BadWords text)
-        → (is_taken (map S.text words.now) ≡ false) ⊎ HasNoAsk (named_by (map S.text words.now)) }
+    ensures taken { OnOk result (fault_of otm (map S.text words.now) ≡ []) }
+    ensures bad_words { (text : _) → IsErrOf result (CommandFault.BadWords text) → AsksNothing (map S.text words.now) }
 {
     let Ok(command) = command(alloc) else {
         return Err(CommandFault::NoMemory);

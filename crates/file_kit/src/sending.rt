@@ -1,5 +1,5 @@
 //! What files of exports are sent as.
-ghost use Rattle.std.specs.Prelude.{◌≡◌, ◌++◌, map, IfErr, IfOk, OnOk};
+ghost use Rattle.std.specs.Prelude.{◌≡◌, map, IfErr, IfOk};
 ghost use Rattle.file_kit.specs.Contents.{IsRefused};
 ghost use Rattle.file_kit.specs.Sending.{AreRequests, IsRequest, IsState, IsUnsaid, IsUnsent, IsUnsentAt};
 ghost use Rattle.otlp_kit.specs.Request.{request};

@@ -2,7 +2,7 @@
 //!
 //! A thread notes its recordings in a log, each once the gate let it pass, and its writer takes the log in whenever it is full. So
 //! the turn is asked for once for many recordings, and is not held while the gate is asked.
-ghost use Rattle.std.specs.Prelude.{◌≡◌, ◌+◌, ◌<◌, ◌≤◌, ◌^◌, ◌++◌, ◌⊎◌, ℕ, [], List, None, Some, IfErr, IfOk, IfSome, IfNone, All, length, map, slice_get};
+ghost use Rattle.std.specs.Prelude.{◌≡◌, ◌+◌, ◌<◌, ◌^◌, ◌⊎◌, ℕ, [], List, None, Some, IfErr, IfOk, IfSome, IfNone, All, length, map, slice_get};
 ghost use Rattle.agg_kit.specs.Entries.{Entry};
 ghost use Rattle.turn_kit.specs.History.{flat};
 ghost use Rattle.turn_kit.specs.Public.{made, mine, joined};

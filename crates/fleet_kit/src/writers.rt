@@ -1,5 +1,5 @@
 //! The writers of a fleet, each shared by its recorders and collected once.
-ghost use Rattle.std.specs.Prelude.{◌≡◌, ◌⊎◌, ◌<◌, ℕ, List, [], IfErr, IfOk, length, map};
+ghost use Rattle.std.specs.Prelude.{◌≡◌, ◌⊎◌, ◌<◌, List, [], IfErr, IfOk, length, map};
 ghost use Rattle.agg_kit.specs.Entries.{Entry};
 ghost use Rattle.point_kit.specs.declared.export.Export.{Export};
 ghost use Rattle.rollup_kit.specs.Fleets.{entries_of};

@@ -5,8 +5,8 @@ use Rattle.std.proofs.lemmas.Bool.{cases_eq}
 use Rattle.std.proofs.lemmas.List.{take_all, get_or-set_same, get_or-set_other}
 use Rattle.std.proofs.Math.ListN.{length-set}
 use Rattle.std.proofs.Math.Seq.{take-nil}
-use Rattle.std.specs.Prelude.{slice_index, slice_set, ◌/◌}
-use Rattle.gateway_kit.specs.Bounding.{AreBounds, Covers, CoversBy}
+use Rattle.std.specs.Prelude.{slice_set}
+use Rattle.gateway_kit.specs.Bounding.{AreBounds, Covers}
 use Rattle.gateway_kit.specs.Numbers.{number_after}
 use Rattle.gateway_kit.specs.Recent.{newer}
 use Rattle.gateway_kit.specs.declared.bounds.Bounds.{Bounds}
@@ -57,25 +57,3 @@ put_bounded old new items place number y now within lent told rise here bounded 
           (subst (λ (m : ℕ). Covers new place m) (sym (ap (λ (p : PartItem). p.number) x_is ∙ told)) (covers_given new place number y.number here (rise place y.number (bounded place y within lent))))
       | inr other ↦ rise i x.number (bounded i x (subst (λ (l : ℕ). i < l) (length-set items place now) less) (is ∙ get_or-set_other items place i now x other))
     ]
-
--- ---- fewer bounds
-
-within_cut : (xs : List ℕ) (k j : ℕ) → j < length (take k xs) → (j < length xs) × (slice_index (take k xs) j ≡ slice_index xs j)
-within_cut [] k j h = absurd (let none = ap length (take-nil {A = ℕ} k) in omega (arith, h, none))
-within_cut (x ∷ xs) zero j h = absurd (omega arith)
-within_cut (x ∷ xs) (suc k) zero h = (omega arith, refl)
-within_cut (x ∷ xs) (suc k) (suc j) h = let rest = within_cut xs k j (omega arith) in (omega (arith, rest.0), rest.1)
-
-pub cut_by : (width : ℕ) (bounds : List ℕ) (k i n : ℕ) → CoversBy width bounds i n → CoversBy width (take k bounds) i n
-cut_by width bounds k i n covers h = let found = within_cut bounds k (i / width) h in subst (λ (m : ℕ). n ≤ m) (sym found.1) (covers found.0)
-
-pub few_taken : (xs : List ℕ) (k : ℕ) → length (take k xs) ≤ k
-few_taken [] k = let none = ap length (take-nil {A = ℕ} k) in omega (arith, none)
-few_taken (x ∷ xs) zero = omega arith
-few_taken (x ∷ xs) (suc k) = let rest = few_taken xs k in omega (arith, rest)
-
-pub taken_at : (xs : List ℕ) (k j : ℕ) → j < k → slice_index (take k xs) j ≡ slice_index xs j
-taken_at [] k j h = ap (λ (l : List ℕ). slice_index l j) (take-nil k)
-taken_at (x ∷ xs) zero j h = absurd (omega (arith, h))
-taken_at (x ∷ xs) (suc k) zero h = refl
-taken_at (x ∷ xs) (suc k) (suc j) h = taken_at xs k j (omega (arith, h))

@@ -1,24 +1,23 @@
--- Bounds of places, and the incarnations that they are of.
-use Rattle.std.proofs.Common.{◌≡◌, ◌<◌, ◌≤◌, ◌+◌, inl, inr, ℕ, zero, suc, Bool, false, cond, nat_lt, List, [], ◌∷◌, map, take, length, get_or, Result, Ok, Err, refl, sym, ap, subst, ◌∙◌, arith}
+-- Bounds by place, and the incarnations that they are of.
+use Rattle.std.proofs.Common.{◌≡◌, ◌<◌, ◌≤◌, ◌+◌, inl, inr, ℕ, zero, suc, Bool, true, false, cond, nat_lt, List, [], ◌∷◌, take, length, get_or, None, Result, Ok, Err, refl, sym, ap, subst, ◌∙◌, arith}
 use Rattle.std.proofs.lemmas.Bool.{cases_eq}
 use Rattle.std.proofs.lemmas.Bool.Decides.{nat_tests}
-use Rattle.std.proofs.lemmas.List.{length-map, get_or-set_same, get_or-set_other}
+use Rattle.std.proofs.lemmas.List.{get_or-set_same, get_or-set_other}
+use Rattle.std.proofs.lemmas.List.Edits.{get_or-insert_above, get_or-insert_at, get_or-insert_below, get_or-remove_above, get_or-remove_below, length-insert, length-remove}
 use Rattle.std.proofs.Math.ListN.{length-set}
 use Rattle.std.proofs.Math.Seq.{take-nil}
 use Rattle.std.specs.Prelude.{filter, slice_set, OnOk, OnErr, ◌⊎◌}
-use Rattle.std.specs.List.{insert}
+use Rattle.std.specs.List.{insert, remove}
 use Rattle.std.specs.FinMap.{entries}
-use Rattle.gateway_kit.specs.Bounding.{Covers}
+use Rattle.std.specs.FinMap.Entries.{find}
+use Rattle.shelf_kit.specs.Shelving.{AreAtMost}
 use Rattle.gateway_kit.specs.Changing.{KeyedCell}
-use Rattle.gateway_kit.specs.Covering.{AreCovered, AreCoveredBefore, IsCovered, IsUpTo}
+use Rattle.gateway_kit.specs.Covering.{AreCovered, IsUpTo}
 use Rattle.gateway_kit.specs.Keys.{ItemKey, item_cmp}
-use Rattle.gateway_kit.specs.Numbers.{Moves, IncarnationMoves, number_in}
+use Rattle.gateway_kit.specs.Numbers.{AllAre, IncarnationMoves, IsNumbered, Moves, number_after, number_in}
 use Rattle.gateway_kit.specs.IncarnationState.{IncarnationState}
-use Rattle.gateway_kit.specs.Incarnations.{has_cells, has_some, keyed_cells}
+use Rattle.gateway_kit.specs.Incarnations.{has_cells, has_some}
 use Rattle.gateway_kit.specs.Recent.{recent_incarnation, recent_incarnations}
-use Rattle.gateway_kit.specs.declared.bounds.Bounds.{Bounds}
-use Rattle.gateway_kit.proofs.Bounded.{covers_given}
-use Rattle.gateway_kit.proofs.Moved.{same_at}
 use Rattle.gateway_kit.proofs.Movement.{Held}
 use Rattle.gateway_kit.proofs.Recent.{retained}
 
@@ -47,71 +46,116 @@ recent_passed number (z ∷ xs) (suc i) (suc n) h few =
 
 -- ---- bounds of incarnations
 
-covers_less : (b : Bounds) (place n m : ℕ) → m ≤ n → Covers b place n → Covers b place m
-covers_less b place n m h c = record {
-  blocks = λ within. let most = c.blocks within in omega (arith, h, most);
-  spans = λ within. let most = c.spans within in omega (arith, h, most);
-}
-
-pub covers_zero : (b : Bounds) (place : ℕ) → Covers b place 0
-covers_zero b place = record { blocks = λ within. omega arith; spans = λ within. omega arith }
-
--- the bounds of one place more
-pub covered_more : (old new : Bounds) (ps : List IncarnationState) (place most : ℕ) (y : IncarnationState) → place < length ps → y ≡ get_or ps place y → ((i n : ℕ) → Covers old i n → Covers new i n) → Covers new place most → IsUpTo most y → AreCoveredBefore old place ps → AreCoveredBefore new (place + 1) ps
-covered_more old new ps place most y within lent rise here up before i x less is q =
-    elim (cases_eq i place) [
-      | inl same ↦
-          let one : x ≡ y = same_at ps place x y within (is ∙ ap (λ (k : ℕ). get_or ps k x) same) lent in
-          subst (λ (k : ℕ). Covers new k (number_in item_cmp (entries x.numbers) q)) (sym same)
-          (subst (λ (z : IncarnationState). Covers new place (number_in item_cmp (entries z.numbers) q)) (sym one) (covers_less new place most _ (up q) here))
-      | inr other ↦ rise i _ (before i x (omega (arith, less, other)) is q)
-    ]
+-- bounds that rise
+pub raised_covered : (old new : List ℕ) (ps : List IncarnationState) → AreAtMost old new → AreCovered old ps → AreCovered new ps
+raised_covered old new ps rise covered i p less is q =
+    let up = rise i in
+    let most = covered i p less is q in
+    omega (arith, up, most)
 
 -- an incarnation that moves by a change of a number
-pub moved_covered : (old new : Bounds) (place number : ℕ) (p now : IncarnationState) → ((i n : ℕ) → Covers old i n → Covers new i n) → Covers new place number → IncarnationMoves number p now → IsCovered old place p → IsCovered new place now
-moved_covered old new place number p now rise here moves was q = go _ _ _ _ (rise place _ (was q)) (moves q)
+pub moved_up : (number n : ℕ) (p now : IncarnationState) → number ≤ n → IncarnationMoves number p now → IsUpTo n p → IsUpTo n now
+moved_up number n p now here moves was q = go _ _ _ _ (was q) (moves q)
   where
-    go : (a b : Held) (n m : ℕ) → Covers new place n → Moves number a b n m → Covers new place m
-    go a b n m g (inl l) = subst (λ (k : ℕ). Covers new place k) (sym l.1) g
-    go a b n m g (inr r) = subst (λ (k : ℕ). Covers new place k) (sym r.1) (covers_given new place number n here g)
+    given : (k : ℕ) → k ≤ n → number_after number k ≤ n
+    given k h = elim (nat_lt 0 number) as (λ t. cond t number k ≤ n) [ true ↦ here | false ↦ h ]
+
+    go : (a b : Held) (k m : ℕ) → k ≤ n → Moves number a b k m → m ≤ n
+    go a b k m h (inl l) = subst (λ (j : ℕ). j ≤ n) (sym l.1) h
+    go a b k m h (inr r) = subst (λ (j : ℕ). j ≤ n) (sym r.1) (given k h)
+
+-- one that comes by it
+pub first_up : (number : ℕ) (now : IncarnationState) → ((q : ItemKey) → Moves number None (find item_cmp q (entries now.cells)) 0 (number_in item_cmp (entries now.numbers) q)) → IsUpTo number now
+first_up number now moves q = go _ _ (moves q)
+  where
+    given : number_after number 0 ≤ number
+    given = elim (nat_lt 0 number) as (λ t. cond t number 0 ≤ number) [ true ↦ omega arith | false ↦ omega arith ]
+
+    go : (b : Held) (m : ℕ) → Moves number None b 0 m → m ≤ number
+    go b m (inl l) = subst (λ (j : ℕ). j ≤ number) (sym l.1) (omega arith)
+    go b m (inr r) = subst (λ (j : ℕ). j ≤ number) (sym r.1) given
 
 -- one in place of another
-pub set_covered : (old new : Bounds) (ps : List IncarnationState) (place : ℕ) (p now : IncarnationState) → place < length ps → p ≡ get_or ps place p → ((i n : ℕ) → Covers old i n → Covers new i n) → (IsCovered old place p → IsCovered new place now) → AreCovered old ps → AreCovered new (slice_set ps place now)
-set_covered old new ps place p now within lent rise here covered i x less is q =
+pub set_covered : (b : List ℕ) (ps : List IncarnationState) (place : ℕ) (p now : IncarnationState) → place < length ps → p ≡ get_or ps place p → (IsUpTo (get_or b place 0) p → IsUpTo (get_or b place 0) now) → AreCovered b ps → AreCovered b (slice_set ps place now)
+set_covered b ps place p now within lent here covered i x less is q =
     elim (cases_eq i place) [
       | inl same ↦
           let x_is : x ≡ now = is ∙ ap (λ (k : ℕ). get_or (slice_set ps place now) k x) same ∙ get_or-set_same ps place now x within in
-          subst (λ (k : ℕ). Covers new k (number_in item_cmp (entries x.numbers) q)) (sym same)
-          (subst (λ (z : IncarnationState). Covers new place (number_in item_cmp (entries z.numbers) q)) (sym x_is) (here (covered place p within lent) q))
-      | inr other ↦ rise i _ (covered i x (subst (λ (l : ℕ). i < l) (length-set ps place now) less) (is ∙ get_or-set_other ps place i now x other) q)
+          subst (λ (k : ℕ). number_in item_cmp (entries x.numbers) q ≤ get_or b k 0) (sym same)
+          (subst (λ (z : IncarnationState). number_in item_cmp (entries z.numbers) q ≤ get_or b place 0) (sym x_is) (here (covered place p within lent) q))
+      | inr other ↦ covered i x (subst (λ (l : ℕ). i < l) (length-set ps place now) less) (is ∙ get_or-set_other ps place i now x other) q
     ]
 
 -- of a call that may be refused, which then changes nothing
-pub taken_covered : {G E : Type 0} (r : Result G E) (old new : Bounds) (ps : List IncarnationState) (place number : ℕ) (p now : IncarnationState) → place < length ps → p ≡ get_or ps place p → ((i n : ℕ) → Covers old i n → Covers new i n) → Covers new place number → OnOk r (IncarnationMoves number p now) → OnErr r (now ≡ p) → AreCovered old ps → AreCovered new (slice_set ps place now)
-taken_covered (Ok g) old new ps place number p now within lent rise here moves same = set_covered old new ps place p now within lent rise (moved_covered old new place number p now rise here moves)
-taken_covered (Err e) old new ps place number p now within lent rise here moves same = set_covered old new ps place p now within lent rise (λ was q. subst (λ (z : IncarnationState). Covers new place (number_in item_cmp (entries z.numbers) q)) (sym same) (rise place _ (was q)))
+pub taken_covered : {G E : Type 0} (r : Result G E) (b : List ℕ) (ps : List IncarnationState) (place number : ℕ) (p now : IncarnationState) → place < length ps → p ≡ get_or ps place p → number ≤ get_or b place 0 → OnOk r (IncarnationMoves number p now) → OnErr r (now ≡ p) → AreCovered b ps → AreCovered b (slice_set ps place now)
+taken_covered (Ok g) b ps place number p now within lent here moves same = set_covered b ps place p now within lent (moved_up number (get_or b place 0) p now here moves)
+taken_covered (Err e) b ps place number p now within lent here moves same = set_covered b ps place p now within lent (λ was. subst (λ (z : IncarnationState). IsUpTo (get_or b place 0) z) (sym same) was)
 
--- one more, where the places from its own on have no bounds
-pub insert_covered : (old new : Bounds) (ps : List IncarnationState) (place : ℕ) (p : IncarnationState) → ((i n : ℕ) → Covers old i n → Covers new i n) → ((i n : ℕ) → place ≤ i → Covers new i n) → place ≤ length (map keyed_cells ps) → AreCovered old ps → AreCovered new (insert ps place p)
-insert_covered old new ps place p rise gone gap covered i x less is q =
-    let long = length-map ps keyed_cells in
-    let within : place ≤ length ps = omega (arith, gap, long) in
-    elim (split i place) [
-      | inl before ↦ rise i _ (covered i x (omega (arith, before, within)) (is ∙ front ps place i p x before within) q)
-      | inr behind ↦ gone i _ behind
-    ]
+trichotomy : (i n : ℕ) → (i < n) ⊎ ((i ≡ n) ⊎ (n < i))
+trichotomy zero zero = inr (inl refl)
+trichotomy zero (suc n) = inl (omega arith)
+trichotomy (suc i) zero = inr (inr (omega arith))
+trichotomy (suc i) (suc n) = elim (trichotomy i n) [ inl h ↦ inl (omega (arith, h)) | inr r ↦ elim r [ inl e ↦ inr (inl (omega (arith, e))) | inr h ↦ inr (inr (omega (arith, h))) ] ]
+
+before : (i n : ℕ) → n < i → (j : ℕ) × (i ≡ j + 1)
+before zero n h = absurd (omega (arith, h))
+before (suc j) n h = (j, omega arith)
+
+-- one more
+pub insert_covered : (old new : List ℕ) (ps : List IncarnationState) (place number : ℕ) (p : IncarnationState) → AreAtMost (insert old place number) new → length old ≡ length ps → place ≤ length ps → IsUpTo number p → AreCovered old ps → AreCovered new (insert ps place p)
+insert_covered old new ps place number p rise long within up covered = raised_covered (insert old place number) new (insert ps place p) rise put
   where
-    split : (i n : ℕ) → (i < n) ⊎ (n ≤ i)
-    split i zero = inr (omega arith)
-    split zero (suc n) = inl (omega arith)
-    split (suc i) (suc n) = elim (split i n) [ inl h ↦ inl (omega (arith, h)) | inr h ↦ inr (omega (arith, h)) ]
+    room : place ≤ length old
+    room = omega (arith, long, within)
 
-    front : (ps : List IncarnationState) (place i : ℕ) (p d : IncarnationState) → i < place → place ≤ length ps → get_or (insert ps place p) i d ≡ get_or ps i d
-    front ps zero i p d h w = absurd (omega (arith, h))
-    front [] (suc place) i p d h w = absurd (omega arith)
-    front (z ∷ ps) (suc place) zero p d h w = refl
-    front (z ∷ ps) (suc place) (suc i) p d h w = front ps place i p d (omega (arith, h)) (omega arith)
+    put : AreCovered (insert old place number) (insert ps place p)
+    put i x less is q = elim (trichotomy i place) [
+      | inl h ↦
+          let few = covered i x (omega (arith, h, within)) (is ∙ get_or-insert_below ps place p x i h within) q in
+          let same = get_or-insert_below old place number 0 i h room in
+          omega (arith, few, same)
+      | inr r ↦ elim r [
+        | inl e ↦
+            let one : x ≡ p = is ∙ ap (λ (k : ℕ). get_or (insert ps place p) k x) e ∙ get_or-insert_at ps place p x within in
+            let bound : get_or (insert old place number) i 0 ≡ number = ap (λ (k : ℕ). get_or (insert old place number) k 0) e ∙ get_or-insert_at old place number 0 room in
+            let few : number_in item_cmp (entries x.numbers) q ≤ number = subst (λ (z : IncarnationState). number_in item_cmp (entries z.numbers) q ≤ number) (sym one) (up q) in
+            omega (arith, few, bound)
+        | inr h ↦
+            let j = (before i place h).0 in
+            let e : i ≡ j + 1 = (before i place h).1 in
+            let far : place ≤ j = omega (arith, h, e) in
+            let same : get_or (insert ps place p) i x ≡ get_or ps j x = ap (λ (k : ℕ). get_or (insert ps place p) k x) e ∙ get_or-insert_above ps place p x j far within in
+            let bound : get_or (insert old place number) i 0 ≡ get_or old j 0 = ap (λ (k : ℕ). get_or (insert old place number) k 0) e ∙ get_or-insert_above old place number 0 j far room in
+            let longer = length-insert ps place p within in
+            let few = covered j x (omega (arith, less, longer, e)) (is ∙ same) q in
+            omega (arith, few, bound)
+      ]
+    ]
 
--- where all places lack bounds
-pub cleared_covered : (new : Bounds) (ps : List IncarnationState) → ((i n : ℕ) → Covers new i n) → AreCovered new ps
-cleared_covered new ps gone i x less is q = gone i _
+pub split : (i n : ℕ) → (i < n) ⊎ (n ≤ i)
+split i zero = inr (omega arith)
+split zero (suc n) = inl (omega arith)
+split (suc i) (suc n) = elim (split i n) [ inl h ↦ inl (omega (arith, h)) | inr h ↦ inr (omega (arith, h)) ]
+
+-- one less
+pub remove_covered : (old : List ℕ) (ps : List IncarnationState) (place : ℕ) → length old ≡ length ps → place < length ps → AreCovered old ps → AreCovered (remove old place) (remove ps place)
+remove_covered old ps place long within covered i x less is q =
+    let shorter = length-remove ps place within in
+    elim (split i place) [
+      | inl h ↦
+          let few = covered i x (omega (arith, h, within)) (is ∙ get_or-remove_below ps place x i h within) q in
+          let same = get_or-remove_below old place 0 i h (omega (arith, long, within)) in
+          omega (arith, few, same)
+      | inr h ↦
+          let few = covered (i + 1) x (omega (arith, less, shorter)) (is ∙ get_or-remove_above ps place x i h within) q in
+          let same = get_or-remove_above old place 0 i h (omega (arith, long, within)) in
+          omega (arith, few, same)
+    ]
+
+-- where no key is numbered any bounds are
+pub unnumbered_covered : (b : List ℕ) (ps : List IncarnationState) → AllAre (IsNumbered 0) ps → AreCovered b ps
+unnumbered_covered b ps none i x less is q = subst (λ (n : ℕ). n ≤ get_or b i 0) (sym (none i x less is q ∙ either 0 _)) (omega arith)
+  where
+    either : (n : ℕ) (t : Bool) → cond t n n ≡ n
+    either n true = refl
+    either n false = refl

@@ -148,6 +148,11 @@ module _ {K : Type 0} {R : K → K → Ordering} (o : IsTotalOrder R) where
     above_at x (f ∷ fs) zero e h is = ap (λ (p : K × V). R x p.0) (sym (same_Some is)) ∙ less _ (first _ _ h)
     above_at x (f ∷ fs) (suc i) e h is = above_at x fs i e (second _ _ h) is
 
+    pub key_above : (x k : K) (es : List (K × V)) (i : ℕ) → T (below_all R x es) → slice_get (map (λ e. e.0) es) i ≡ Some k → R x k ≡ Less
+    key_above x k [] i h is = absurd (not_None is)
+    key_above x k (e ∷ es) zero h is = ap (R x) (sym (same_Some is)) ∙ less _ (first _ _ h)
+    key_above x k (e ∷ es) (suc i) h is = key_above x k es i (second _ _ h) is
+
     -- what stands at a place is found under its key
     pub find_at : (es : List (K × V)) (i : ℕ) (e : K × V) → T (is_sorted R es) → slice_get es i ≡ Some e → find R e.0 es ≡ Some e.1
     find_at [] i e h is = absurd (not_None is)
@@ -189,11 +194,6 @@ module _ {K : Type 0} {R : K → K → Ordering} (o : IsTotalOrder R) where
     pub with_changes-push : (es : List (K × V)) (us : List (ℕ × C)) (i : ℕ) (c : C) → with_changes made es (us ++ (i, c) ∷ []) ≡ with_change made (with_changes made es us) i c
     with_changes-push es [] i c = refl
     with_changes-push es (u ∷ us) i c = with_changes-push (with_change made es u.0 u.1) us i c
-
-    key_above : (x k : K) (es : List (K × V)) (i : ℕ) → T (below_all R x es) → slice_get (map (λ e. e.0) es) i ≡ Some k → R x k ≡ Less
-    key_above x k [] i h is = absurd (not_None is)
-    key_above x k (e ∷ es) zero h is = ap (R x) (sym (same_Some is)) ∙ less _ (first _ _ h)
-    key_above x k (e ∷ es) (suc i) h is = key_above x k es i (second _ _ h) is
 
     swapped : (a b : Bool) (x : Option V) (y z : Option V) → (a ≡ true → b ≡ false) → cond a x (cond b y z) ≡ cond b y (cond a x z)
     swapped true true x y z apart = absurd (true≢false (apart refl))

@@ -5,7 +5,9 @@ pub mod Drafting
 pub mod Entries
 pub mod ExportEntries
 pub mod Finishing
+pub mod Forgotten
 pub mod Growing
+pub mod Inserted
 pub mod Joining
 pub mod Listed
 pub mod MergeDrafts

@@ -52,7 +52,7 @@ module _ {A K V : Type 0} {R : K → K → Ordering} (o : IsTotalOrder R) (anti 
   pub does_not_fall : (q : K) (xs : List A) → T (is_sorted R (map f xs)) → IsNonDecreasingBy (λ y. ordering_index (R (f y).0 q)) xs
   does_not_fall q xs s = searchable_from_sorted o (λ y. (f y).0) xs q (λ k d _ l. rw (add-one k) (rises xs k d s l))
 
-  found : (q : K) (xs : List A) (i : ℕ) (d : A) → i < length xs → R (f (get_or xs i d)).0 q ≡ Equal → IsAt R (map f xs) q i
+  pub found : (q : K) (xs : List A) (i : ℕ) (d : A) → i < length xs → R (f (get_or xs i d)).0 q ≡ Equal → IsAt R (map f xs) q i
   found q [] i d h e = absurd (omega arith)
   found q (x ∷ xs) zero d h e = ap Some (anti (f x).0 q e)
   found q (x ∷ xs) (suc i) d h e = found q xs i d (omega arith) e

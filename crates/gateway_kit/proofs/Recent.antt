@@ -170,7 +170,7 @@ filled_recent number (p ∷ ps) =
       | false ↦ λ t. rest
     ] refl
 
-all_points_cons : (p : IncarnationState) (ps : List IncarnationState) → length (all_points (p ∷ ps)) ≡ length (entries p.cells) + length (all_points ps)
+pub all_points_cons : (p : IncarnationState) (ps : List IncarnationState) → length (all_points (p ∷ ps)) ≡ length (entries p.cells) + length (all_points ps)
 all_points_cons p ps =
     length-append (map (λ (t : KeyedCell). (whole_key (p.writer, p.start) t.0, t.1)) (entries p.cells)) (all_points ps)
     ∙ ap (λ (n : ℕ). n + length (all_points ps)) (length-map (entries p.cells) (λ (t : KeyedCell). (whole_key (p.writer, p.start) t.0, t.1)))

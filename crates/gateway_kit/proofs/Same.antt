@@ -24,7 +24,7 @@ use Rattle.gateway_kit.proofs.Joining.{entries_points, under}
 use Rattle.gateway_kit.specs.KeyOrders.{incarnation_total, incarnation_exact}
 use Rattle.gateway_kit.proofs.Queried.{listed_incarnation}
 
-map_itself : {A : Type 0} (xs : List A) → map (λ x. x) xs ≡ xs
+pub map_itself : {A : Type 0} (xs : List A) → map (λ x. x) xs ≡ xs
 map_itself [] = refl
 map_itself (x ∷ xs) = ap (λ l. x ∷ l) (map_itself xs)
 

@@ -6,6 +6,8 @@ use Rattle.point_kit.specs.declared.cell.Cell.{Cell}
 use Rattle.point_kit.specs.declared.key.Key.{Key}
 use Rattle.point_kit.specs.declared.payload.Payload.{Payload}
 use Rattle.point_kit.specs.declared.writer_id.WriterId.{WriterId}
+use Rattle.shelf_kit.specs.Walks.{walk_left}
+use Rattle.shelf_kit.specs.declared.walk.Walk.{Walk}
 use Rattle.gateway_kit.specs.Changing.{KeyedCell}
 use Rattle.std.proofs.Common.{Option, Some, Bor}
 use Rattle.gateway_kit.specs.declared.part_item.PartItem.{PartItem}
@@ -34,11 +36,11 @@ filter_all [] = refl
 filter_all (x ∷ xs) = ap (λ l. x ∷ l) (filter_all xs)
 
 -- an incarnation is passed on to
-pub passed : (old : Points) (here : Option (Bor IncarnationState × Bor (List PartItem))) (first : IncarnationState) (others : Bor (List IncarnationState)) → items_left old.here ≡ [] → old.ahead.now ≡ first ∷ others.now → items_left here ≡ cond (is_asked old.service first.writer) (map (λ e. (whole_key (first.writer, first.start) e.0, e.1)) (entries first.cells)) [] → points_left old ≡ points_left (record { here = here; ahead = others; service = old.service })
+pub passed : (old : Points) (here : Option (Bor IncarnationState × Bor (List PartItem))) (first : IncarnationState) (others : Walk IncarnationState) → items_left old.here ≡ [] → walk_left old.ahead ≡ first ∷ walk_left others → items_left here ≡ cond (is_asked old.service first.writer) (map (λ e. (whole_key (first.writer, first.start) e.0, e.1)) (entries first.cells)) [] → points_left old ≡ points_left (record { here = here; ahead = others; service = old.service })
 passed old here first others none ahead now =
     (λ i. none i ++ filter (λ e. is_asked old.service e.0.writer) (all_points (ahead i)))
-    ∙ filter_incarnation (is_asked old.service) (first.writer, first.start) (entries first.cells) (all_points others.now)
-    ∙ ap (λ l. l ++ filter (λ e. is_asked old.service e.0.writer) (all_points others.now)) (sym now)
+    ∙ filter_incarnation (is_asked old.service) (first.writer, first.start) (entries first.cells) (all_points (walk_left others))
+    ∙ ap (λ l. l ++ filter (λ e. is_asked old.service e.0.writer) (all_points (walk_left others))) (sym now)
 
 -- the items of an incarnation, as points under their whole keys
 pub items_under : (a : IncarnationKey) (items : List PartItem) (es : List KeyedCell) → map keyed_cell_of items ≡ es → part_points a.0 a.1 items ≡ map (λ e. (whole_key a e.0, e.1)) es

@@ -7,6 +7,7 @@ pub mod Bringing
 pub mod Changing
 pub mod Covering
 pub mod Growth
+pub mod Inserting
 pub mod Keys
 pub mod KeyOrders
 pub mod IncarnationState

@@ -7,6 +7,7 @@ use Rattle.std.specs.Ordering.{eq_by_cmp}
 use Rattle.point_kit.specs.Exports.{Points}
 use Rattle.point_kit.specs.declared.key.Key.{Key}
 use Rattle.point_kit.specs.declared.writer_id.WriterId.{WriterId}
+use Rattle.shelf_kit.specs.Walks.{walk_left}
 use Rattle.gateway_kit.specs.Keys.{IncarnationKey, incarnation_cmp}
 use Rattle.gateway_kit.specs.IncarnationState.{IncarnationState}
 use Rattle.gateway_kit.specs.Queries.{incarnation_points}
@@ -48,8 +49,8 @@ held_of_ref r = record { writer = r.writer.now; start = r.start; newest = r.newe
 
 -- what is left to be listed
 abbrev pub incarnations_left : Incarnations → List HeldIncarnation
-incarnations_left i = map held_as_kept i.ahead.now
+incarnations_left i = map held_as_kept (walk_left i.ahead)
 
 -- of services
 abbrev pub services_left : Services → List (List ℕ)
-services_left s = dedup (pointwise nat_eq) (map (λ p. p.writer.service) s.ahead.now)
+services_left s = dedup (pointwise nat_eq) (map (λ p. p.writer.service) (walk_left s.ahead))

@@ -1,20 +1,27 @@
 -- How the incarnations of two gateways become those of one.
-use Rattle.std.specs.Prelude.{◌≡◌, ℕ, ◌-◌, ◌^◌, min, IsTrue, List, [], ◌∷◌, ◌++◌, map, None, count_by}
+use Rattle.std.specs.Prelude.{◌≡◌, ℕ, ◌+◌, ◌-◌, ◌^◌, min, IsTrue, List, [], ◌∷◌, ◌++◌, map, None, count_by}
 use Rattle.std.specs.FinMap.{entries, from_sorted}
 use Rattle.std.specs.FinMap.Entries.{find, is_sorted}
-use Rattle.std.specs.List.{list_all}
+use Rattle.std.specs.List.{insert, list_all}
 use Rattle.point_kit.specs.Equality.{payload_eq, cell_eq}
 use Rattle.point_kit.specs.Join.{join_cells, join_options}
 use Rattle.point_kit.specs.Orders.{key_cmp}
 use Rattle.point_kit.specs.States.{join_maps}
 use Rattle.gateway_kit.specs.Bringing.{Brings, is_new, is_change}
 use Rattle.gateway_kit.specs.Changing.{after_growth}
+use Rattle.gateway_kit.specs.Inserting.{AllPart, AreSpread, Parts, inserted}
 use Rattle.gateway_kit.specs.Keys.{IncarnationKey, incarnation_cmp}
+use Rattle.gateway_kit.specs.Numbers.{IncarnationsMove}
+use Rattle.gateway_kit.specs.Places.{IsGap}
+use Rattle.gateway_kit.specs.Tallies.{conflicts_of}
 use Rattle.gateway_kit.specs.IncarnationState.{IncarnationState, Cells}
 use Rattle.gateway_kit.specs.Incarnations.{all_points, keyed_cells, has_cells}
 use Rattle.gateway_kit.specs.Weave.{weave}
 use Rattle.gateway_kit.specs.declared.changes.Changes.{Changes}
 use Rattle.gateway_kit.specs.declared.merge_draft.MergeDraft.{MergeDraft}
+
+abbrev pub key_of : IncarnationState → IncarnationKey
+key_of p = (p.writer, p.start)
 
 -- the cells of one incarnation from two gateways
 abbrev pub join_cell_maps : Cells → Cells → Cells
@@ -48,6 +55,23 @@ abbrev pub TakesIncarnation : List IncarnationState → IncarnationState → Mer
 TakesIncarnation olds incarnation old new =
     (came : List IncarnationState) → find incarnation_cmp (incarnation.writer, incarnation.start) (map keyed_cells came) ≡ None → IsDraftOf olds came old
     → IsDraftOf olds (came ++ incarnation ∷ []) new
+
+-- an incarnation was put where it belongs, behind those that came before it
+pub record PutsOne (olds news : List IncarnationState) (before after : List ℕ) (one : IncarnationState) : Type 0 where
+  pub place : ℕ
+  pub told : after ≡ before ++ place ∷ []
+  pub put : news ≡ insert olds place one
+  pub gap : IsGap incarnation_cmp (map keyed_cells olds) (key_of one) place
+  pub parts : Parts incarnation_cmp (map key_of olds) place (key_of one)
+  pub spread : AreSpread before → AreSpread after
+
+-- new incarnations were put where they belong, under one number
+pub record PutsAll (number : ℕ) (olds news : List IncarnationState) (places : List ℕ) (fresh : List IncarnationState) : Type 0 where
+  pub parts : AllPart incarnation_cmp (map key_of olds) places (map key_of fresh)
+  pub put : map keyed_cells news ≡ inserted (map keyed_cells olds) places (map keyed_cells fresh)
+  pub spread : AreSpread places
+  pub counted : conflicts_of news ≡ conflicts_of olds + conflicts_of fresh
+  pub moves : IncarnationsMove number olds news
 
 -- each incarnation is joined with the one of its key
 pub record Merges (olds news theirs : List IncarnationState) (more changed : ℕ) : Type 0 where

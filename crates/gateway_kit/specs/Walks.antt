@@ -6,6 +6,7 @@ use Rattle.point_kit.specs.declared.cell.Cell.{Cell}
 use Rattle.point_kit.specs.declared.key.Key.{Key}
 use Rattle.point_kit.specs.declared.payload.Payload.{Payload}
 use Rattle.point_kit.specs.declared.writer_id.WriterId.{WriterId}
+use Rattle.shelf_kit.specs.Walks.{walk_left}
 use Rattle.gateway_kit.specs.declared.part_item.PartItem.{PartItem}
 use Rattle.gateway_kit.specs.declared.points.PointRef.{PointRef}
 use Rattle.gateway_kit.specs.declared.points.Points.{Points}
@@ -33,4 +34,4 @@ items_left (Some here) = part_points here.0.now.writer here.0.now.start here.1.n
 
 -- what is left to be lent, in the order of the keys
 abbrev pub points_left : Points → List (Key × Cell Payload)
-points_left p = items_left p.here ++ filter (λ e. is_asked p.service e.0.writer) (all_points p.ahead.now)
+points_left p = items_left p.here ++ filter (λ e. is_asked p.service e.0.writer) (all_points (walk_left p.ahead))

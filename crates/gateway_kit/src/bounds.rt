@@ -13,9 +13,6 @@ const BLOCK: usize = 16;
 /// How many places a span of blocks has.
 const SPAN: usize = 512;
 
-/// How many blocks a span has.
-const BLOCKS: usize = SPAN / BLOCK;
-
 /// For each block of places, and for each span of blocks, a number that no item's there exceeds. Places past a list have no
 /// bound in it: so a list may be cut short wherever memory is wanting, and an empty one says nothing.
 #[derive(Debug, Drop)]
@@ -57,22 +54,10 @@ fn reset(bounds: &mut Vec<u64>, count: usize) {
     let _ = bounds.resize(count, 0);
 }
 
-// Cuts bounds to some that there are, and begins others behind them with 0. Where memory for them is refused none are left.
-fn regrow(bounds: &mut Vec<u64>, whole: usize, count: usize)
-    requires { whole ≤ vec_len bounds.old }
-    ensures { (k : ℕ) → k < whole → k < length bounds.new.items → slice_index bounds.new.items k ≡ slice_index bounds.old.items k }
-{
-    bounds.truncate(whole);
-    if bounds.resize(count, 0).is_err() {
-        bounds.clear();
-    }
-}
-
 impl Bounds {
     /// No bounds. Takes no memory.
     pub(crate) fn none(alloc: Global) -> Bounds
         ensures items { (items : List PartItem) → AreBounds result items }
-        ensures all { (i n : ℕ) → Covers result i n }
     {
         Bounds {
             blocks: Vec::new(alloc),
@@ -83,36 +68,14 @@ impl Bounds {
     /// Forgets all bounds. Takes no memory.
     pub(crate) fn clear(&mut self)
         ensures items { (items : List PartItem) → AreBounds self.new items }
-        ensures all { (i n : ℕ) → Covers self.new i n }
     {
         self.blocks.clear();
         self.spans.clear();
     }
 
-    /// Forgets the bounds of the places from one on, and of others of their blocks. Takes no memory.
-    pub(crate) fn cut(&mut self, place: usize)
-        ensures kept { (i n : ℕ) → Covers self.old i n → Covers self.new i n }
-        ensures gone { (i n : ℕ) → place ≤ i → Covers self.new i n }
-    {
-        self.blocks.truncate(place / BLOCK);
-        self.spans.truncate(place / SPAN);
-    }
-
-    /// Keeps the bounds of whole spans, and begins those of the others of so many places with 0, or has none of them where memory
-    /// is refused. Those of the places from the result on are to be raised.
-    pub(crate) fn extend(&mut self, len: usize) -> usize
-        ensures { (i n : ℕ) → i < result → Covers self.old i n → Covers self.new i n }
-    {
-        let whole = self.spans.len().min(self.blocks.len() / BLOCKS);
-        regrow(&mut self.spans, whole, len / SPAN + 1);
-        regrow(&mut self.blocks, whole * BLOCKS, len / BLOCK + 1);
-        whole.saturating_mul(SPAN)
-    }
-
     /// Makes room for the bounds of so many items, and changes none.
     pub(crate) fn reserve(&mut self, len: usize) -> Result<(), NoMemory>
         ensures items { (items : List PartItem) → AreBounds self.old items → AreBounds self.new items }
-        ensures all { (i n : ℕ) → Covers self.old i n → Covers self.new i n }
     {
         reserve_all(&mut self.blocks, len / BLOCK + 1)?;
         reserve_all(&mut self.spans, len / SPAN + 1)
@@ -128,7 +91,7 @@ impl Bounds {
     }
 
     /// Whether some of so many places have no bound.
-    pub(crate) fn lack(&self, len: usize) -> bool {
+    fn lack(&self, len: usize) -> bool {
         self.blocks.len() <= len / BLOCK || self.spans.len() <= len / SPAN
     }
 

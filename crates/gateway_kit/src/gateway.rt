@@ -1,27 +1,26 @@
 //! A gateway: the newest point of every key that it was told of.
-ghost use Rattle.std.specs.Prelude.{IsOk, IsSome, nat_lt, ◌≡◌, ◌<◌, ◌≤◌, ◌^◌, IfOk, OnOk, OnErr, Ok, [], ◌∷◌, ◌↔◌, IsTrue, count_by, filter, length, option_copied};
+ghost use Rattle.std.specs.Prelude.{IsOk, IsSome, nat_lt, ◌≡◌, ◌<◌, ◌≤◌, ◌^◌, IfOk, OnOk, OnErr, Ok, [], ◌∷◌, ◌↔◌, IsTrue, count_by, filter, length, not, option_copied};
 ghost use Rattle.std.specs.FinMap as finite;
 ghost use Rattle.point_kit.specs.Exports.{state, join_points, changed_points};
 ghost use Rattle.gateway_kit.specs.Numbering.{IsNumberedBy, GatewayMoves, number_of};
 ghost use Rattle.std.specs.FinMap.{entries, retain_keys};
 ghost use Rattle.gateway_kit.specs.Listing.{held_incarnations, held_services, incarnations_left, services_left};
-ghost use Rattle.gateway_kit.specs.Queries.{has_conflict, incarnation_points, newest_time, part_points};
+ghost use Rattle.gateway_kit.specs.Queries.{has_conflict, incarnation_points, is_of_incarnation, newest_time, part_points};
 ghost use Rattle.gateway_kit.specs.Walks.{is_of, points_left};
 ghost use Rattle.gateway_kit.specs.Incarnations.{all_points};
 
-use crate::bounds::Bounds;
 use crate::incarnation::Incarnation;
 use crate::incarnations::{
-    all_conflicts, all_len, all_since, complete, incarnation_place, incarnations_of, join_in,
-    take_in,
+    all, all_conflicts, all_len, all_since, copy_incarnations, incarnation_place, incarnations_of,
+    join_in, same_incarnations, take_in, without_numbers,
 };
 use crate::listing::{Incarnations, Services};
 use crate::merging::merge_in;
-use crate::ordered::{all_same, renumber_all};
 use crate::part_item::PartItem;
 use crate::points::Points;
-use attr_kit::{NoMemory, copy_all};
+use attr_kit::NoMemory;
 use point_kit::{Cell, Export, Key, WriterId};
+use shelf_kit::Shelves;
 use std::alloc::Global;
 use std::marker::Model;
 
@@ -33,13 +32,12 @@ use std::marker::Model;
 #[derive(Debug, Drop)]
 pub struct Gateway {
     pub(crate) id: u32,
-    pub(crate) incarnations: Vec<Incarnation>,
+    /// No key of an incarnation has a greater number than the bound at its place.
+    pub(crate) incarnations: Shelves<Incarnation>,
     /// The number of points.
     pub(crate) len: usize,
     /// How many of them are conflicts.
     pub(crate) conflicts: u64,
-    /// No key of an incarnation at a place has a greater number than the bounds that are known of it.
-    pub(crate) bounds: Bounds,
 }
 
 impl Model for Gateway {
@@ -59,7 +57,7 @@ impl Model for Gateway {
     ghost view = { λ g. record { id = g.id; points = from_sorted {R = key_cmp} (all_points g.incarnations.items); numbers = from_sorted {R = key_cmp} (all_numbers g.incarnations.items) } };
 
     ghost invariant = { λ g. IsWhole g.incarnations.items g.len × (g.conflicts ≡ conflicts_of g.incarnations.items)
-        × AreCovered g.bounds g.incarnations.items };
+        × AreCovered g.incarnations.bounds g.incarnations.items };
 }
 
 impl Gateway {
@@ -71,10 +69,9 @@ impl Gateway {
     {
         Gateway {
             id,
-            incarnations: Vec::new(alloc),
+            incarnations: Shelves::new(alloc),
             len: 0,
             conflicts: 0,
-            bounds: Bounds::none(alloc),
         }
     }
 
@@ -97,8 +94,8 @@ impl Gateway {
     pub fn find(&self, key: &Key) -> Option<&Cell>
         ensures value { option_copied result ≡ finite.get self.now.points key.now }
     {
-        match incarnation_place(self.incarnations.as_slice(), &key.writer, key.start) {
-            Ok(place) => self.incarnations[place].find(&key.stream, &key.attrs),
+        match incarnation_place(&self.incarnations, &key.writer, key.start) {
+            Ok(place) => self.incarnations.get(place).find(&key.stream, &key.attrs),
             Err(_) => None,
         }
     }
@@ -109,7 +106,7 @@ impl Gateway {
     {
         Points {
             here: None,
-            ahead: self.incarnations.as_slice(),
+            ahead: all(&self.incarnations),
             service: None,
         }
     }
@@ -121,7 +118,7 @@ impl Gateway {
     {
         Points {
             here: None,
-            ahead: incarnations_of(self.incarnations.as_slice(), service),
+            ahead: incarnations_of(&self.incarnations, service),
             service: Some(service),
         }
     }
@@ -131,8 +128,8 @@ impl Gateway {
     pub fn part(&self, writer: &WriterId, start: u64) -> &[PartItem]
         ensures value { part_points writer.now start result.now ≡ incarnation_points writer.now start self.now.points }
     {
-        match incarnation_place(self.incarnations.as_slice(), writer, start) {
-            Ok(place) => self.incarnations[place].items(),
+        match incarnation_place(&self.incarnations, writer, start) {
+            Ok(place) => self.incarnations.get(place).items(),
             Err(_) => &[],
         }
     }
@@ -142,8 +139,8 @@ impl Gateway {
     pub fn newest(&self, writer: &WriterId, start: u64) -> Option<u64>
         ensures value { result ≡ newest_time writer.now start self.now.points }
     {
-        match incarnation_place(self.incarnations.as_slice(), writer, start) {
-            Ok(place) => Some(self.incarnations[place].newest()),
+        match incarnation_place(&self.incarnations, writer, start) {
+            Ok(place) => Some(self.incarnations.get(place).newest()),
             Err(_) => None,
         }
     }
@@ -154,7 +151,7 @@ impl Gateway {
         ensures value { incarnations_left result ≡ held_incarnations self.now.points }
     {
         Incarnations {
-            ahead: self.incarnations.as_slice(),
+            ahead: all(&self.incarnations),
         }
     }
 
@@ -162,7 +159,7 @@ impl Gateway {
     pub fn incarnations_len(&self) -> usize
         ensures value { result ≡ length (held_incarnations self.now.points) }
     {
-        self.incarnations.as_slice().len()
+        self.incarnations.len()
     }
 
     /// The services of which points are held, each once, in order. Takes no memory; O(1) to begin, and O(m) for all of m
@@ -171,7 +168,7 @@ impl Gateway {
         ensures value { services_left result ≡ held_services self.now.points }
     {
         Services {
-            ahead: self.incarnations.as_slice(),
+            ahead: all(&self.incarnations),
         }
     }
 
@@ -186,8 +183,7 @@ impl Gateway {
     pub fn same(&self, other: &Gateway) -> bool
         ensures value { IsTrue result ↔ (self.now.points ≡ other.now.points) }
     {
-        self.len == other.len
-            && all_same(self.incarnations.as_slice(), other.incarnations.as_slice())
+        self.len == other.len && same_incarnations(&self.incarnations, &other.incarnations)
     }
 
     /// Joins the points of an export, and answers the number of keys whose cell changed, the new ones among them.
@@ -195,9 +191,9 @@ impl Gateway {
     /// Of k points into an incarnation of n, where all keys are held: no key is copied, nothing moves, and each point is found
     /// by one comparison, O(k), where the points come in the order of the incarnation's last export, whatever that order
     /// was. A point that comes in another is searched for, O(log n), and the next export finds it by one. Where keys are
-    /// new: O(n + k log k). No other incarnation is touched. Refused with `NoMemory`, with nothing changed, where a growth
-    /// was refused, or where the gateway would come to hold more than 2^62 points. An export without points changes nothing
-    /// and takes no memory.
+    /// new: O(n + k log k). The incarnation is found by O(log m) comparisons of m; a new one moves at most 256 others, and m / 128
+    /// indexes. Refused with `NoMemory`, with nothing changed, where a growth was refused, or where the gateway would come to hold
+    /// more than 2^62 points. An export without points changes nothing and takes no memory.
     pub fn take(&mut self, export: &Export) -> Result<u64, NoMemory>
         ensures id { self.new.id ≡ self.old.id }
         ensures ok { OnOk result (self.new.points ≡ join_points self.old.points (state (export.now ∷ []))) }
@@ -209,9 +205,7 @@ impl Gateway {
         self.take_under(0, export)
     }
 
-    /// Joins the points of an export as `take` does, at its cost, and gives each key whose cell changed this number. Beside that
-    /// it looks at the incarnations of which `since` has no bounds: where one is new, at those from its span of 512 on; in a
-    /// copy, at all.
+    /// Joins the points of an export as `take` does, at its cost, and gives each key whose cell changed this number.
     pub fn take_numbered(&mut self, export: &Export, number: u64) -> Result<u64, NoMemory>
         requires { 0 < number }
         ensures id { self.new.id ≡ self.old.id }
@@ -222,17 +216,6 @@ impl Gateway {
         ensures no_points { export.now.points ≡ [] → result ≡ Ok 0 }
     {
         self.take_under(number, export)
-    }
-
-    // Makes room for the bounds of so many incarnations more, where a change has a number.
-    fn reserve(&mut self, number: u64, more: usize) -> Result<(), NoMemory>
-        ensures { self.new ≡ self.old }
-    {
-        if number > 0 {
-            let len = self.incarnations.len();
-            self.bounds.reserve(len.saturating_add(more))?;
-        }
-        Ok(())
     }
 
     // Joins the points of an export. The keys that change get the number, of 0 they keep their own.
@@ -248,17 +231,9 @@ impl Gateway {
         if export.points().is_empty() {
             return Ok(0);
         }
-        self.reserve(number, 1)?;
-        let growth = take_in(
-            &mut self.incarnations,
-            &mut self.bounds,
-            self.len,
-            number,
-            export,
-        )?;
+        let growth = take_in(&mut self.incarnations, self.len, number, export)?;
         self.len += growth.more;
         self.conflicts = self.conflicts - growth.before + growth.after;
-        complete(&mut self.bounds, number, self.incarnations.as_slice());
         Ok(growth.changed)
     }
 
@@ -276,13 +251,7 @@ impl Gateway {
         ensures unchanged { OnErr result (self.new ≡ self.old) }
         ensures held { IsSome (finite.get self.old.points key) → IsOk result }
     {
-        let growth = join_in(
-            &mut self.incarnations,
-            &mut self.bounds,
-            self.len,
-            key,
-            cell,
-        )?;
+        let growth = join_in(&mut self.incarnations, self.len, key, cell)?;
         self.len += growth.more;
         self.conflicts = self.conflicts - growth.before + growth.after;
         Ok(growth.changed > 0)
@@ -291,10 +260,11 @@ impl Gateway {
     /// Joins what another gateway holds, key by key, and answers the number of keys whose cell changed, the new ones
     /// among them.
     ///
-    /// One walk over both: O(k log (n / k)) comparisons where the other's k points are few and their keys are held, and O(n + k)
-    /// where some are new; no key that is held is copied. Refused with `NoMemory`, with nothing changed, where a
-    /// growth was refused, or where the gateway would come to hold more than 2^62 points. An empty gateway changes nothing
-    /// and takes no memory.
+    /// Each of the other's incarnations is found by one comparison where it follows the last, else by O(log m) of m. Of k points
+    /// into one of n it takes O(k log (n / k)) comparisons where all keys are held, and O(n + k) where some are new; no key that is
+    /// held is copied. A new incarnation moves at most 256 others, and m / 128 indexes. Refused with `NoMemory`, with nothing
+    /// changed, where a growth was refused, or where the gateway would come to hold more than 2^62 points. An empty gateway
+    /// changes nothing and takes no memory.
     pub fn merge(&mut self, other: &Gateway) -> Result<u64, NoMemory>
         ensures id { self.new.id ≡ self.old.id }
         ensures ok { OnOk result (self.new.points ≡ join_points self.old.points other.now.points) }
@@ -306,8 +276,7 @@ impl Gateway {
         self.merge_under(0, other)
     }
 
-    /// Joins what another gateway holds as `merge` does, at its cost, and gives each key whose cell changed this number. Beside
-    /// that it looks at the incarnations of which `since` has no bounds, as `take_numbered` does; where some are new, at all.
+    /// Joins what another gateway holds as `merge` does, at its cost, and gives each key whose cell changed this number.
     pub fn merge_numbered(&mut self, other: &Gateway, number: u64) -> Result<u64, NoMemory>
         requires { 0 < number }
         ensures id { self.new.id ≡ self.old.id }
@@ -333,19 +302,40 @@ impl Gateway {
         if other.incarnations.is_empty() {
             return Ok(0);
         }
-        self.reserve(number, other.incarnations.len())?;
         let growth = merge_in(
             &mut self.incarnations,
-            &mut self.bounds,
             self.len,
             self.conflicts,
             number,
-            other.incarnations.as_slice(),
+            &other.incarnations,
         )?;
         self.len += growth.more;
         self.conflicts = self.conflicts - growth.before + growth.after;
-        complete(&mut self.bounds, number, self.incarnations.as_slice());
         Ok(growth.changed)
+    }
+
+    /// Drops the points of one incarnation of a writer with their numbers, and says how many there were: 0 where it is not held.
+    /// What comes of it later is taken as new.
+    ///
+    /// Takes no memory; O(log m) of m incarnations where it is not held. Else n points go, and as where one is new at most 256
+    /// incarnations move, and m / 128 indexes.
+    pub fn forget(&mut self, writer: &WriterId, start: u64) -> u64
+        ensures id { self.new.id ≡ self.old.id }
+        ensures value { self.new.points ≡ retain_keys self.old.points (λ k. not (is_of_incarnation writer.now start k)) }
+        ensures numbers { self.new.numbers ≡ retain_keys self.old.numbers (λ k. not (is_of_incarnation writer.now start k)) }
+        ensures dropped { result ≡ length (incarnation_points writer.now start self.old.points) }
+    {
+        match incarnation_place(&self.incarnations, writer, start) {
+            Ok(place) => {
+                self.incarnations.bounds_match();
+                let gone = self.incarnations.remove(place);
+                let dropped = gone.items().len();
+                self.len -= dropped;
+                self.conflicts -= gone.conflicts();
+                dropped as u64
+            }
+            Err(_) => 0,
+        }
     }
 
     /// An equal gateway, with the same id and numbers: O(n).
@@ -354,10 +344,9 @@ impl Gateway {
     {
         Ok(Gateway {
             id: self.id,
-            incarnations: copy_all(&self.incarnations)?,
+            incarnations: copy_incarnations(&self.incarnations)?,
             len: self.len,
             conflicts: self.conflicts,
-            bounds: Bounds::none(*self.incarnations.allocator()),
         })
     }
 
@@ -367,40 +356,32 @@ impl Gateway {
         ensures value { result ≡ record self { numbers = finite.empty } }
     {
         let mut gateway = self;
-        renumber_all(&mut gateway.incarnations, 0);
-        gateway.bounds.clear();
+        without_numbers(&mut gateway.incarnations);
         gateway
     }
 
     /// The cells of the keys numbered above a number, as a gateway of the same id that has no numbers.
     ///
-    /// O(c + (m + n) / 512) of c cells that are numbered so, of m incarnations, and of n points in the incarnations that have
-    /// such cells. Of the incarnations each span of 512 is passed over by one look; in what is left each block of 16, and only
-    /// blocks with such a cell are looked at. So it is with the points of each that has such cells.
+    /// O(c + m / 128 + n / 512) of c cells that are numbered so, of m incarnations, and of n points in the incarnations that have
+    /// such cells. Up to 256 incarnations that stand side by side are passed over by one look, where no change of them had a
+    /// greater number; of others each is looked at. In those with such cells blocks of points are passed over likewise.
     ///
-    /// Bounds are made at a numbered change. A copy has none until then, and an incarnation that came whole by a merge has none
-    /// of its points: there all are looked at. Where a change without a number brought an incarnation, those from its span on
-    /// are, and after a merge all. Refused with `NoMemory` where a growth was refused.
+    /// Bounds of points are made at a numbered change. A copy has none until then, and an incarnation that came whole by a merge
+    /// has none of its points: there all are looked at. Refused with `NoMemory` where a growth was refused.
     pub fn since(&self, alloc: Global, number: u64) -> Result<Gateway, NoMemory>
         ensures id { IfOk result (λ recent. recent.id ≡ self.now.id) }
         ensures value { IfOk result (λ recent. recent.points ≡ retain_keys self.now.points (λ k. nat_lt number (number_of self.now k))) }
         ensures numbers { IfOk result (λ recent. recent.numbers ≡ finite.empty) }
     {
-        let mut incarnations = all_since(
-            alloc,
-            self.incarnations.as_slice(),
-            &self.bounds,
-            number,
-        )?;
-        renumber_all(&mut incarnations, 0);
-        let len = all_len(incarnations.as_slice());
-        let conflicts = all_conflicts(incarnations.as_slice());
+        let mut incarnations = all_since(alloc, &self.incarnations, number)?;
+        without_numbers(&mut incarnations);
+        let len = all_len(&incarnations);
+        let conflicts = all_conflicts(&incarnations);
         Ok(Gateway {
             id: self.id(),
             incarnations,
             len,
             conflicts,
-            bounds: Bounds::none(alloc),
         })
     }
 }

@@ -42,6 +42,7 @@ mod part_item;
 mod points;
 mod shared;
 mod tally;
+mod targets;
 #[cfg(test)]
 mod tests;
 mod trail;

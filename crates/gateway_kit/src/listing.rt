@@ -5,9 +5,11 @@ ghost use Rattle.std.specs.Iterator.{YieldsFirstBy, item_count};
 ghost use Rattle.std.specs.List.{dedup, dedup_from};
 ghost use Rattle.std.specs.Borrow.{Bor};
 ghost use Rattle.gateway_kit.specs.Listing.{held_of_ref, incarnations_left, services_left};
+ghost use Rattle.shelf_kit.specs.Walks.{walk_left};
 
 use crate::incarnation::Incarnation;
 use point_kit::WriterId;
+use shelf_kit::Walk;
 
 /// An incarnation of which a gateway holds points.
 #[derive(Clone, Copy, Debug)]
@@ -23,13 +25,13 @@ pub struct IncarnationRef<'a> {
 /// The incarnations of which a gateway holds points, each once, in the order of their keys. Takes no memory.
 #[derive(Clone, Copy, Debug)]
 pub struct Incarnations<'a> {
-    pub(crate) ahead: &'a [Incarnation],
+    pub(crate) ahead: Walk<'a, Incarnation>,
 }
 
 /// The services of which a gateway holds points, each once, in order. Takes no memory.
 #[derive(Clone, Copy, Debug)]
 pub struct Services<'a> {
-    pub(crate) ahead: &'a [Incarnation],
+    pub(crate) ahead: Walk<'a, Incarnation>,
 }
 
 impl<'a> Iterator for Incarnations<'a> {
@@ -40,8 +42,7 @@ impl<'a> Iterator for Incarnations<'a> {
     ghost remaining = { item_count incarnations_left };
 
     fn next(&mut self) -> Option<IncarnationRef<'a>> {
-        let (incarnation, others) = self.ahead.split_first()?;
-        self.ahead = others;
+        let incarnation = self.ahead.next()?;
         Some(IncarnationRef {
             writer: &incarnation.writer,
             start: incarnation.start,
@@ -52,16 +53,17 @@ impl<'a> Iterator for Incarnations<'a> {
 }
 
 // What comes behind the incarnations of a service that others begin with.
-fn behind<'a>(service: &str, incarnations: &'a [Incarnation]) -> &'a [Incarnation]
-    ensures { dedup_from (pointwise nat_eq) service.now (map (λ p. p.writer.service) incarnations.now)
-        ≡ service.now ∷ dedup (pointwise nat_eq) (map (λ p. p.writer.service) result.now) }
+fn behind<'a>(service: &str, incarnations: Walk<'a, Incarnation>) -> Walk<'a, Incarnation>
+    ensures { dedup_from (pointwise nat_eq) service.now (map (λ p. p.writer.service) (walk_left incarnations.entry))
+        ≡ service.now ∷ dedup (pointwise nat_eq) (map (λ p. p.writer.service) (walk_left result)) }
 {
     let mut left = incarnations;
-    while let Some((incarnation, others)) = left.split_first() {
+    let mut ahead = left;
+    while let Some(incarnation) = ahead.next() {
         if service != incarnation.writer.service.as_str() {
             break;
         }
-        left = others;
+        left = ahead;
     }
     left
 }
@@ -74,9 +76,9 @@ impl<'a> Iterator for Services<'a> {
     ghost remaining = { item_count services_left };
 
     fn next(&mut self) -> Option<&'a str> {
-        let (incarnation, others) = self.ahead.split_first()?;
+        let incarnation = self.ahead.next()?;
         let service = incarnation.writer.service.as_str();
-        self.ahead = behind(service, others);
+        self.ahead = behind(service, self.ahead);
         Some(service)
     }
 }

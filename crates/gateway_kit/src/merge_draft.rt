@@ -10,8 +10,10 @@ ghost use Rattle.gateway_kit.specs.Places.{IsPlace};
 
 use crate::changes::Changes;
 use crate::incarnation::Incarnation;
-use crate::ordered::{after, place_from};
+use crate::incarnations::place_near;
+use crate::ordered::after;
 use attr_kit::{NoMemory, TryCopy};
+use shelf_kit::Shelves;
 use std::alloc::{AllocError, AllocFailed, Global};
 
 /// What a gateway's incarnations are to be changed by, in the making.
@@ -43,19 +45,19 @@ impl MergeDraft {
     // there: so many keys are refused.
     fn bring(
         &mut self,
-        mine: &[Incarnation],
+        mine: &Shelves<Incarnation>,
         place: Result<usize, usize>,
         theirs: &Incarnation,
     ) -> Result<(), NoMemory>
-        requires sorted { IsTrue (is_sorted incarnation_cmp (map keyed_cells mine.now)) }
-        requires placed { IsPlace incarnation_cmp (map keyed_cells mine.now) (theirs.now.writer, theirs.now.start) place }
+        requires sorted { IsTrue (is_sorted incarnation_cmp (map keyed_cells mine.now.items)) }
+        requires placed { IsPlace incarnation_cmp (map keyed_cells mine.now.items) (theirs.now.writer, theirs.now.start) place }
         requires filled { IsTrue (has_cells theirs.now) }
-        ensures { OnOk result (TakesIncarnation mine.now theirs.now self.old self.new) }
+        ensures { OnOk result (TakesIncarnation mine.now.items theirs.now self.old self.new) }
     {
         match place {
             Ok(place) => {
                 let alloc = *self.updates.allocator();
-                let changes = mine[place].changes_with(alloc, theirs)?;
+                let changes = mine.get(place).changes_with(alloc, theirs)?;
                 let more = changes.fresh.len();
                 let changed = (changes.updates.len() + more) as u64;
                 self.updates.push((place, changes))?;
@@ -75,18 +77,19 @@ impl MergeDraft {
     /// Brings in all incarnations of another gateway: one walk over both.
     pub(crate) fn of(
         alloc: Global,
-        mine: &[Incarnation],
-        theirs: &[Incarnation],
+        mine: &Shelves<Incarnation>,
+        theirs: &Shelves<Incarnation>,
     ) -> Result<MergeDraft, NoMemory>
-        requires sorted { IsTrue (is_sorted incarnation_cmp (map keyed_cells mine.now)) }
-        requires theirs_sorted { IsTrue (is_sorted incarnation_cmp (map keyed_cells theirs.now)) }
-        requires theirs_filled { IsTrue (list_all has_cells theirs.now) }
-        ensures { IfOk result (λ d. IsDraftOf mine.now theirs.now d) }
+        requires sorted { IsTrue (is_sorted incarnation_cmp (map keyed_cells mine.now.items)) }
+        requires theirs_sorted { IsTrue (is_sorted incarnation_cmp (map keyed_cells theirs.now.items)) }
+        requires theirs_filled { IsTrue (list_all has_cells theirs.now.items) }
+        ensures { IfOk result (λ d. IsDraftOf mine.now.items theirs.now.items d) }
     {
         let mut draft = MergeDraft::new(alloc);
         let mut hint = 0;
-        for incarnation in theirs {
-            let place = place_from(mine, hint, incarnation);
+        for index in 0..theirs.len() {
+            let incarnation = theirs.get(index);
+            let place = place_near(mine, hint, incarnation);
             hint = after(place);
             draft.bring(mine, place, incarnation)?;
         }

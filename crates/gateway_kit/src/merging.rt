@@ -1,51 +1,53 @@
 //! How a gateway's incarnations are merged with another's.
-ghost use Rattle.std.specs.Prelude.{◌≡◌, ◌≤◌, ◌+◌, ◌%◌, ◌^◌, ◌⊎◌, [], IfOk, OnOk, OnErr, IsTrue, map, length, vec_len, vec_capacity};
+ghost use Rattle.std.specs.Prelude.{◌≡◌, ◌≤◌, ◌<◌, ◌+◌, ◌-◌, ◌%◌, ◌^◌, ℕ, IfOk, OnOk, OnErr, IsTrue, false, map, min, length, slice_index};
 ghost use Rattle.std.specs.FinMap.{from_sorted};
 ghost use Rattle.std.specs.FinMap.Entries.{is_sorted};
 ghost use Rattle.std.specs.List.{list_all};
 ghost use Rattle.gateway_kit.specs.Amending.{with_change, with_changes};
 ghost use Rattle.gateway_kit.specs.Covering.{AreCovered};
 ghost use Rattle.gateway_kit.specs.Growth.{GrowsBy};
+ghost use Rattle.gateway_kit.specs.Inserting.{AreSpread, moved_to, moving, taken_out};
 ghost use Rattle.gateway_kit.specs.Keys.{incarnation_cmp};
-ghost use Rattle.gateway_kit.specs.Merging.{cells_after, woven_incarnations};
+ghost use Rattle.gateway_kit.specs.Merging.{PutsAll, PutsOne, cells_after};
 ghost use Rattle.gateway_kit.specs.Numbers.{IncarnationsMove};
 ghost use Rattle.gateway_kit.specs.Tallies.{conflicts_of};
 ghost use Rattle.gateway_kit.specs.Incarnations.{IsWhole, all_points, keyed_cells, has_cells};
 
-use crate::bounds::Bounds;
 use crate::changes::Changes;
 use crate::growth::{Growth, MOST_POINTS};
 use crate::incarnation::Incarnation;
-use crate::incarnations::all_conflicts;
+use crate::incarnations::conflicts_among;
 use crate::merge_draft::MergeDraft;
 use crate::ordered::{in_order, renumber_all};
-use crate::weave::weave;
+use crate::targets::IncarnationTarget;
 use attr_kit::NoMemory;
+use shelf_kit::Shelves;
 use std::alloc::AllocError;
-use std::mem;
 
 // Makes room for the bounds of so many items more of the incarnation at a place; past the end none.
 fn reserve_incarnation(
-    incarnations: &mut Vec<Incarnation>,
+    incarnations: &mut Shelves<Incarnation>,
     number: u64,
     place: usize,
     more: usize,
 ) -> Result<(), NoMemory>
-    ensures { incarnations.new.items ≡ incarnations.old.items }
+    ensures items { incarnations.new.items ≡ incarnations.old.items }
+    ensures bounds { incarnations.new.bounds ≡ incarnations.old.bounds }
 {
     if place < incarnations.len() {
-        incarnations[place].reserve(number, more)?;
+        incarnations.get_mut(place).reserve(number, more)?;
     }
     Ok(())
 }
 
 // Makes room for the bounds of the items of all incarnations that are to change.
 fn reserve_incarnations(
-    incarnations: &mut Vec<Incarnation>,
+    incarnations: &mut Shelves<Incarnation>,
     number: u64,
     updates: &[(usize, Changes)],
 ) -> Result<(), NoMemory>
-    ensures { incarnations.new.items ≡ incarnations.old.items }
+    ensures items { incarnations.new.items ≡ incarnations.old.items }
+    ensures bounds { incarnations.new.bounds ≡ incarnations.old.bounds }
 {
     for (place, changes) in updates {
         reserve_incarnation(incarnations, number, *place, changes.fresh.len())?;
@@ -56,8 +58,7 @@ fn reserve_incarnations(
 // Makes the changes of the incarnation at a place, and numbers the keys that change; past the end nothing. Of the count of
 // all conflicts before it makes the one after.
 fn put_incarnation(
-    incarnations: &mut Vec<Incarnation>,
-    bounds: &mut Bounds,
+    incarnations: &mut Shelves<Incarnation>,
     conflicts: u64,
     number: u64,
     place: usize,
@@ -67,124 +68,204 @@ fn put_incarnation(
     ensures conflicts { result ≡ conflicts_of incarnations.new.items % 2 ^ 64 }
     ensures change { map keyed_cells incarnations.new.items
         ≡ with_change cells_after (map keyed_cells incarnations.old.items) place changes }
-    ensures len { vec_len incarnations.new ≡ vec_len incarnations.old }
+    ensures few { length incarnations.old.items < 2 ^ 64 }
     ensures moves { IncarnationsMove number incarnations.old.items incarnations.new.items }
-    ensures covered { AreCovered bounds.old incarnations.old.items → AreCovered bounds.new incarnations.new.items }
+    ensures covered { AreCovered incarnations.old.bounds incarnations.old.items
+        → AreCovered incarnations.new.bounds incarnations.new.items }
 {
     if place < incarnations.len() {
-        bounds.raise(place, number);
-        incarnations[place].install_among(conflicts, number, changes)
+        incarnations.raise(place, number);
+        incarnations
+            .get_mut(place)
+            .install_among(conflicts, number, changes)
     } else {
         conflicts
     }
 }
 
-// Makes all changes at their places, and numbers the keys that change. Of the count of all conflicts before it makes the one
-// after.
+// Whether the one of some places is reached by a place that moved by those before it.
+fn is_reached(places: &[usize], at: usize, place: usize) -> bool
+    requires { at < length places.now }
+    ensures yes { IsTrue result → slice_index places.now at ≤ place + at }
+    ensures no { result ≡ false → place + at < slice_index places.now at }
+{
+    places[at] <= place.saturating_add(at)
+}
+
+// Where a place is once new ones came to theirs, which rise: O(log n) of n new ones.
+fn place_after(places: &[usize], place: usize) -> usize
+    requires { AreSpread places.now }
+    ensures { result ≡ min (moved_to places.now place) (2 ^ 64 - 1) }
+{
+    let mut low = 0;
+    let mut high = places.len();
+    'halve: while low < high {
+        let middle = low + (high - low) / 2;
+        if is_reached(places, middle, place) {
+            low = middle + 1;
+        } else {
+            high = middle;
+        }
+    }
+    place.saturating_add(low)
+}
+
+// Makes all changes, and numbers the keys that change. Their places are those before new incarnations came to others. Of the count
+// of all conflicts before it makes the one after.
 fn put_incarnations(
-    incarnations: &mut Vec<Incarnation>,
-    bounds: &mut Bounds,
+    incarnations: &mut Shelves<Incarnation>,
     conflicts: u64,
     number: u64,
     updates: Vec<(usize, Changes)>,
+    places: &[usize],
 ) -> u64
-    requires { conflicts ≡ conflicts_of incarnations.old.items % 2 ^ 64 }
+    requires spread { AreSpread places.now }
+    requires counted { conflicts ≡ conflicts_of incarnations.old.items % 2 ^ 64 }
     ensures conflicts { result ≡ conflicts_of incarnations.new.items % 2 ^ 64 }
     ensures changes { map keyed_cells incarnations.new.items
-        ≡ with_changes cells_after (map keyed_cells incarnations.old.items) updates.items }
-    ensures len { vec_len incarnations.new ≡ vec_len incarnations.old }
+        ≡ with_changes cells_after (map keyed_cells incarnations.old.items) (map (moving (moved_to places.now)) updates.items) }
     ensures moves { IncarnationsMove number incarnations.old.items incarnations.new.items }
-    ensures covered { AreCovered bounds.old incarnations.old.items → AreCovered bounds.new incarnations.new.items }
+    ensures covered { AreCovered incarnations.old.bounds incarnations.old.items
+        → AreCovered incarnations.new.bounds incarnations.new.items }
 {
     let mut conflicts = conflicts;
     for (place, changes) in updates {
-        conflicts = put_incarnation(incarnations, bounds, conflicts, number, place, changes);
+        let place = place_after(places, place);
+        conflicts = put_incarnation(incarnations, conflicts, number, place, changes);
     }
     conflicts
 }
 
-// How many conflicts there are: what is told where nothing came beside it, else one walk over the incarnations.
-fn conflicts_now(incarnations: &[Incarnation], told: u64, is_told: bool) -> u64
-    requires few { conflicts_of incarnations.now ≤ 2 ^ 62 }
-    requires told { IsTrue is_told → told ≡ conflicts_of incarnations.now % 2 ^ 64 }
-    ensures { result ≡ conflicts_of incarnations.now }
+// Takes the incarnations at places out, the last one first; past the end none.
+fn take_out(incarnations: &mut Shelves<Incarnation>, places: Vec<usize>)
+    ensures items { incarnations.new.items ≡ taken_out incarnations.old.items places.items }
+    ensures covered { AreCovered incarnations.old.bounds incarnations.old.items
+        → AreCovered incarnations.new.bounds incarnations.new.items }
 {
-    if is_told {
-        told
-    } else {
-        all_conflicts(incarnations)
+    let mut places = places;
+    while let Some(place) = places.pop() {
+        if place < incarnations.len() {
+            incarnations.bounds_match();
+            let _ = incarnations.remove(place);
+        }
     }
 }
 
-// Weaves new incarnations in, all keys under one number. Places move then, so their bounds are gone.
+// Whether a place is behind the last of some.
+fn is_behind(places: &[usize], place: usize) -> bool
+    ensures { IsTrue result → (i : ℕ) → i + 1 ≡ length places.now → slice_index places.now i < place }
+{
+    let count = places.len();
+    count == 0 || places[count - 1] < place
+}
+
+// Puts a new incarnation where it belongs, and notes its place. One that is held, or belongs before the last place, would be
+// refused; what comes in order and is not held is neither.
+fn put_one(
+    incarnations: &mut Shelves<Incarnation>,
+    places: &mut Vec<usize>,
+    incarnation: Incarnation,
+) -> Result<(), NoMemory>
+    requires sorted { IsTrue (is_sorted incarnation_cmp (map keyed_cells incarnations.old.items)) }
+    ensures ok { OnOk result (PutsOne incarnations.old.items incarnations.new.items places.old.items places.new.items incarnation) }
+    ensures covered { OnOk result (AreCovered incarnations.old.bounds incarnations.old.items
+        → AreCovered incarnations.new.bounds incarnations.new.items) }
+    ensures unchanged { OnErr result (incarnations.new ≡ incarnations.old) }
+    ensures same { OnErr result (places.new.items ≡ places.old.items) }
+{
+    let target = IncarnationTarget {
+        writer: &incarnation.writer,
+        start: incarnation.start,
+    };
+    let Err(place) = incarnations.search(&target) else {
+        return Err(NoMemory);
+    };
+    if !is_behind(places.as_slice(), place) {
+        return Err(NoMemory);
+    }
+    places.reserve(1)?;
+    let most = incarnation.most();
+    incarnations.bounds_match();
+    incarnations.insert(place, incarnation, most)?;
+    let _ = places.push(place);
+    Ok(())
+}
+
+// Puts new incarnations where they belong, all keys under one number, and tells their places. Where memory is refused those that
+// were put in are taken out again.
 fn put_new(
-    incarnations: &mut Vec<Incarnation>,
-    bounds: &mut Bounds,
+    incarnations: &mut Shelves<Incarnation>,
     number: u64,
-    mut fresh: Vec<Incarnation>,
-    room: Vec<Incarnation>,
-)
-    requires empty { room.items ≡ [] }
+    fresh: Vec<Incarnation>,
+) -> Result<Vec<usize>, NoMemory>
     requires sorted { IsTrue (is_sorted incarnation_cmp (map keyed_cells incarnations.old.items)) }
     requires fresh_sorted { IsTrue (is_sorted incarnation_cmp (map keyed_cells fresh.items)) }
-    requires fits { (vec_len incarnations.old + vec_len fresh ≤ vec_capacity room) ⊎ (vec_len fresh ≡ 0) }
-    ensures woven { map keyed_cells incarnations.new.items ≡ woven_incarnations incarnations.old.items fresh.items }
-    ensures moves { IncarnationsMove number incarnations.old.items incarnations.new.items }
-    ensures covered { AreCovered bounds.old incarnations.old.items → AreCovered bounds.new incarnations.new.items }
+    ensures ok { IfOk result (λ places. PutsAll number incarnations.old.items incarnations.new.items places.items fresh.items) }
+    ensures covered { AreCovered incarnations.old.bounds incarnations.old.items
+        → AreCovered incarnations.new.bounds incarnations.new.items }
+    ensures unchanged { OnErr result (incarnations.new.items ≡ incarnations.old.items) }
 {
-    if !fresh.is_empty() {
-        renumber_all(&mut fresh, number);
-        let alloc = *incarnations.allocator();
-        let mine = mem::replace(incarnations, Vec::new(alloc));
-        *incarnations = weave(mine, fresh, room);
-        bounds.clear();
+    let mut fresh = fresh;
+    renumber_all(&mut fresh, number);
+    let mut places = Vec::new(incarnations.allocator());
+    for incarnation in fresh {
+        match put_one(incarnations, &mut places, incarnation) {
+            Ok(()) => {}
+            Err(fault) => {
+                take_out(incarnations, places);
+                return Err(fault);
+            }
+        }
     }
+    Ok(places)
 }
 
 /// Merges the incarnations of another gateway in, and numbers the keys that change: one walk over both, which passes over those
 /// that are not told of. All copies and all room come first.
 pub(crate) fn merge_in(
-    incarnations: &mut Vec<Incarnation>,
-    bounds: &mut Bounds,
+    incarnations: &mut Shelves<Incarnation>,
     len: usize,
     conflicts: u64,
     number: u64,
-    theirs: &[Incarnation],
+    theirs: &Shelves<Incarnation>,
 ) -> Result<Growth, NoMemory>
     requires whole { IsWhole incarnations.old.items len }
     requires counted { conflicts ≡ conflicts_of incarnations.old.items }
-    requires theirs_sorted { IsTrue (is_sorted incarnation_cmp (map keyed_cells theirs.now)) }
-    requires theirs_filled { IsTrue (list_all has_cells theirs.now) }
-    requires few { length (all_points theirs.now) ≤ 2 ^ 62 }
-    ensures grows { IfOk result (λ g. GrowsBy incarnations.old.items incarnations.new.items len (from_sorted (all_points theirs.now)) g) }
+    requires theirs_sorted { IsTrue (is_sorted incarnation_cmp (map keyed_cells theirs.now.items)) }
+    requires theirs_filled { IsTrue (list_all has_cells theirs.now.items) }
+    requires few { length (all_points theirs.now.items) ≤ 2 ^ 62 }
+    ensures grows { IfOk result (λ g. GrowsBy incarnations.old.items incarnations.new.items len
+        (from_sorted (all_points theirs.now.items)) g) }
     ensures moves { OnOk result (IncarnationsMove number incarnations.old.items incarnations.new.items) }
-    ensures covered { AreCovered bounds.old incarnations.old.items → AreCovered bounds.new incarnations.new.items }
+    ensures covered { AreCovered incarnations.old.bounds incarnations.old.items
+        → AreCovered incarnations.new.bounds incarnations.new.items }
     ensures unchanged { OnErr result (incarnations.new.items ≡ incarnations.old.items) }
 {
-    let alloc = *incarnations.allocator();
+    let alloc = incarnations.allocator();
     let MergeDraft {
         updates,
         fresh,
         more,
         changed,
-    } = MergeDraft::of(alloc, incarnations.as_slice(), theirs)?;
+    } = MergeDraft::of(alloc, incarnations, theirs)?;
     if more > MOST_POINTS - len {
         return Err(NoMemory);
     }
     let fresh = in_order(fresh)?;
-    let room = if fresh.is_empty() {
-        Vec::new(alloc)
-    } else {
-        Vec::with_capacity(alloc, incarnations.len() + fresh.len())?
-    };
     reserve_incarnations(incarnations, number, &updates)?;
-    let told = put_incarnations(incarnations, bounds, conflicts, number, updates);
-    let is_told = fresh.is_empty();
-    put_new(incarnations, bounds, number, fresh, room);
+    let more_conflicts = conflicts_among(fresh.as_slice());
+    let places = put_new(incarnations, number, fresh)?;
+    let after = put_incarnations(
+        incarnations,
+        conflicts.wrapping_add(more_conflicts),
+        number,
+        updates,
+        places.as_slice(),
+    );
     Ok(Growth {
         more,
         changed,
         before: conflicts,
-        after: conflicts_now(incarnations.as_slice(), told, is_told),
+        after,
     })
 }

@@ -159,8 +159,8 @@ pub(crate) fn in_order<T: Keyed>(values: Vec<T>) -> Result<Vec<T>, NoMemory>
     Ok(values)
 }
 
-// Whether two have equal keys, and equal values under them.
-fn same<T: Keyed>(mine: &T, theirs: &T) -> bool
+/// Whether two have equal keys, and equal values under them.
+pub(crate) fn same<T: Keyed>(mine: &T, theirs: &T) -> bool
     ensures { IsTrue result ↔ (T.entry mine.now ≡ T.entry theirs.now) }
 {
     match mine.order(theirs) {

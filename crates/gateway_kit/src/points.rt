@@ -7,6 +7,7 @@ use crate::incarnation::Incarnation;
 use crate::part_item::PartItem;
 use attr_kit::AttrSet;
 use point_kit::{Cell, Stream, WriterId};
+use shelf_kit::Walk;
 
 /// A point of a gateway: what it is of, and what is held.
 #[derive(Clone, Copy, Debug)]
@@ -23,7 +24,7 @@ pub struct PointRef<'a> {
 pub struct Points<'a> {
     /// The incarnation whose items are lent, and those that are left of them.
     pub(crate) here: Option<(&'a Incarnation, &'a [PartItem])>,
-    pub(crate) ahead: &'a [Incarnation],
+    pub(crate) ahead: Walk<'a, Incarnation>,
     pub(crate) service: Option<&'a str>,
 }
 
@@ -69,8 +70,7 @@ impl<'a> Iterator for Points<'a> {
             if let Some(point) = self.next_here() {
                 return Some(point);
             }
-            let (incarnation, others) = self.ahead.split_first()?;
-            self.ahead = others;
+            let incarnation = self.ahead.next()?;
             self.here = if is_asked(self.service, &incarnation.writer) {
                 Some((incarnation, incarnation.items()))
             } else {

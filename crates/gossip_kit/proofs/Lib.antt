@@ -1,4 +1,5 @@
 pub mod Carrying
 pub mod Changes
+pub mod Forgetting
 pub mod Kept
 pub mod Sending

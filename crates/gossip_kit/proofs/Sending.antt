@@ -20,7 +20,7 @@ use Rattle.gateway_kit.proofs.Entries.{not_None}
 use Rattle.gossip_kit.specs.Gossip.{CarriesHeld, Brings, acknowledged, carried_to, recent_to, numbered_above, numbered_to, number_of, delta_to, last_number}
 use Rattle.gossip_kit.specs.Views.{NodeModel}
 
-abbrev Held : Type 0
+abbrev pub Held : Type 0
 Held = Option (Cell Payload)
 
 abbrev J : Held → Held → Held

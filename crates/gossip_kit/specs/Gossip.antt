@@ -7,9 +7,12 @@ use Rattle.attr_kit.specs.Refusing.{first, when}
 use Rattle.point_kit.specs.declared.cell.Cell.{Cell}
 use Rattle.point_kit.specs.declared.key.Key.{Key}
 use Rattle.point_kit.specs.declared.payload.Payload.{Payload}
+use Rattle.point_kit.specs.declared.writer_id.WriterId.{WriterId}
 use Rattle.point_kit.specs.Exports.{Points, join_points}
 use Rattle.point_kit.specs.Join.{IsAtOrBelow}
+use Rattle.point_kit.specs.Orders.{key_cmp}
 use Rattle.gateway_kit.specs.GatewayState.{GatewayState}
+use Rattle.gateway_kit.specs.Queries.{is_of_incarnation}
 use Rattle.gossip_kit.specs.Views.{MessageModel, NodeModel}
 use Rattle.gossip_kit.specs.declared.fault.HandFault.{HandFault}
 use Rattle.gossip_kit.specs.declared.fault.HandFault.TheVariants.{NotAddressed}
@@ -72,6 +75,10 @@ raised_to acked id n = insert acked id (max (unwrap_or (get acked id) 0) n)
 -- what peers have acknowledged after a message was handed: an Ack alone raises what its sender acknowledged
 abbrev pub acked_after : NodeModel → MessageModel → FinMap nat_cmp ℕ
 acked_after node message = option_map_or (raised_to node.acked message.from) message.ack node.acked
+
+-- what is kept under all keys but those of one incarnation of a writer
+abbrev pub without_incarnation : {V : Type 0} → WriterId → ℕ → FinMap key_cmp V → FinMap key_cmp V
+without_incarnation writer start m = retain_keys m (λ k. not (is_of_incarnation writer start k))
 
 -- each cell that is carried is held under the same key
 abbrev pub CarriesHeld : Points → Points → Type 0

@@ -1,5 +1,5 @@
 //! What each peer of a node acknowledged.
-ghost use Rattle.std.specs.Prelude.{◌≡◌, ◌∷◌, [], IsOk, IsSome, OnOk, OnErr, None, Some};
+ghost use Rattle.std.specs.Prelude.{◌≡◌, IsOk, IsSome, OnOk, OnErr};
 ghost use Rattle.std.specs.FinMap as finite;
 ghost use Rattle.gossip_kit.specs.Gossip.{raised_to};
 

@@ -1,5 +1,5 @@
 //! Messages between gateways.
-ghost use Rattle.std.specs.Prelude.{◌≡◌, Some, None};
+ghost use Rattle.std.specs.Prelude.{◌≡◌};
 ghost use Rattle.std.specs.FinMap as finite;
 ghost use Rattle.gossip_kit.specs.Bodies.{cells_of, delta_of, ack_of};
 

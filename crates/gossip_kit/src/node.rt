@@ -1,15 +1,16 @@
 //! Gateways that send and take messages.
-ghost use Rattle.std.specs.Prelude.{◌≡◌, ◌≢◌, ◌≤◌, nat_lt, if◌then◌else◌, IsSome, List, [], ◌∷◌, Ok, OnOk, OnErr, IfOk, IfErr, Some, None};
+ghost use Rattle.std.specs.Prelude.{◌≡◌, ◌≢◌, ◌≤◌, nat_lt, if◌then◌else◌, IsSome, [], ◌∷◌, length, Ok, OnOk, OnErr, IfOk, IfErr, Some, None, ℕ};
 ghost use Rattle.std.specs.FinMap as finite;
 ghost use Rattle.point_kit.specs.Exports.{join_points, changed_points, state};
-ghost use Rattle.gossip_kit.specs.Gossip.{acknowledged, acked_after, answer_of, first_node, carried_to, delta_to, hand_fault, last_number, next_number, recent_to, Brings, CarriesHeld, Renumbers};
+ghost use Rattle.gateway_kit.specs.Queries.{incarnation_points};
+ghost use Rattle.gossip_kit.specs.Gossip.{acknowledged, acked_after, answer_of, first_node, carried_to, delta_to, hand_fault, last_number, next_number, recent_to, Brings, CarriesHeld, Renumbers, without_incarnation};
 
 use crate::books::Books;
 use crate::message::Body;
 use crate::{HandFault, Message};
 use attr_kit::NoMemory;
 use gateway_kit::Gateway;
-use point_kit::Export;
+use point_kit::{Export, WriterId};
 use std::alloc::Global;
 use std::marker::Model;
 
@@ -103,6 +104,22 @@ impl Node {
         Ok(changed)
     }
 
+    /// Drops the points of one incarnation of a writer with their numbers, and says how many there were: what
+    /// `Gateway::forget` does, at its cost. The change number and what peers acknowledged stay, so what `send` owes each of
+    /// them is as before, without these points. What comes of them later, as from a peer that holds them, is taken as new.
+    pub fn forget(&mut self, writer: &WriterId, start: u64) -> u64
+        ensures id { self.new.gateway.id ≡ self.old.gateway.id }
+        ensures value { self.new.gateway.points ≡ without_incarnation writer.now start self.old.gateway.points }
+        ensures numbers { self.new.gateway.numbers ≡ without_incarnation writer.now start self.old.gateway.numbers }
+        ensures change { self.new.change ≡ self.old.change }
+        ensures acked { self.new.acked ≡ self.old.acked }
+        ensures dropped { result ≡ length (incarnation_points writer.now start self.old.gateway.points) }
+        ensures acknowledged { (to : ℕ) → acknowledged self.new to ≡ without_incarnation writer.now start (acknowledged self.old to) }
+        ensures carried { (to : ℕ) → carried_to self.new to ≡ without_incarnation writer.now start (carried_to self.old to) }
+    {
+        self.gateway.forget(writer, start)
+    }
+
     // The number of the next change.
     fn next(&self) -> u64
         ensures { result ≡ next_number self.now.change }
@@ -139,9 +156,9 @@ impl Node {
     ///
     /// It is a delta: it carries the cells of the keys numbered above the greatest number that that node acknowledged, or
     /// all where it acknowledged none, and asks for an Ack of the change number of this node. Where numbers ended it
-    /// carries all and asks for none. A delta costs what `Gateway::since` does: a copy of each cell that it carries and a
-    /// walk over that cell's block, a look at each incarnation, and one for each 512 keys of those in which a key changed
-    /// since. Else all cells are copied.
+    /// carries all and asks for none. A delta costs what `Gateway::since` does: a copy of each cell that it carries, a walk
+    /// over the cell's block of 16 keys and over the shelf of up to 256 incarnations on which its own stands, and a look for each
+    /// shelf and for each 512 keys of incarnations in which a key changed since. Else all cells are copied.
     pub fn send(&self, to: u32) -> Result<Message, NoMemory>
         ensures from { IfOk result (λ message. message.from ≡ self.now.gateway.id) }
         ensures to { IfOk result (λ message. message.to ≡ to) }

@@ -31,8 +31,8 @@ fn time_changes<R: Threads + Wait + Sync + Clock + Eprint + AllocGlobal>(
 ) -> anyhow::Result<()> {
     let start = Instant::now(rt)?;
     let count = match lock {
-        Lock::Mutex => mutexes::race(rt, rt.alloc(), threads, times)?,
-        Lock::Turn => turns::race(rt, rt.alloc(), threads, times)?,
+        Lock::Mutex => mutexes::race(rt, threads, times)?,
+        Lock::Turn => turns::race(rt, threads, times)?,
     };
     let took = start.elapsed(rt)?;
     eprint!(rt; "threads: {threads}, ")?;

@@ -1,5 +1,5 @@
 //! The counter that both locks are put round.
-ghost use Rattle.std.specs.Prelude.{◌≡◌, ℕ, ◌+◌, ◌<◌, ◌≤◌, MatchBool};
+ghost use Rattle.std.specs.Prelude.{◌≡◌, ℕ, ◌+◌, ◌<◌, ◌≤◌, false, true};
 ghost use Rattle.kit_bench.specs.Counting.{count_after};
 
 use std::marker::Model;
@@ -36,8 +36,8 @@ impl Counter {
 
     /// Adds, where the count is then not too high, and says whether it did.
     pub fn add(&mut self, by: u64) -> bool
-        ensures { MatchBool result ((self.new ≡ self.old + by) × (self.old + by ≤ 1000000000))
-            ((self.new ≡ self.old) × (1000000000 < self.old + by)) }
+        ensures added { result ≡ true → (self.new ≡ self.old + by) × (self.old + by ≤ 1000000000) }
+        ensures refused { result ≡ false → (self.new ≡ self.old) × (1000000000 < self.old + by) }
     {
         if by > MOST || self.count + by > MOST {
             return false;

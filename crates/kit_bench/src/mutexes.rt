@@ -1,6 +1,5 @@
 //! A counter behind `std`'s `Mutex`.
 use crate::counter::Counter;
-use std::alloc::Global;
 use std::sync::{Mutex, Wait};
 use std::thread;
 use std::thread::Threads;
@@ -12,13 +11,17 @@ fn add_many<R: Wait>(rt: &R, lock: &Mutex<Counter>, times: u64) {
 }
 
 /// Each thread adds 1 so many times. The count at the end.
-pub fn race<R: Threads + Wait + Sync>(
+pub fn race<R: Threads + Wait + Sync + AllocGlobal>(
     rt: &R,
-    alloc: Global,
     threads: usize,
     times: u64,
 ) -> anyhow::Result<u64> {
     let lock = Mutex::new(Counter::new());
-    thread::map_indices(rt, alloc, threads, &|_: usize| add_many(rt, &lock, times))?;
+    thread::map_indices(
+        rt,
+        rt.alloc(),
+        threads,
+        &|_: usize| add_many(rt, &lock, times),
+    )?;
     Ok(lock.into_inner().count())
 }

@@ -1,22 +1,15 @@
 //! A page for Prometheus, beside the roll-up of the rows that it shows.
 use crate::clock::tell;
 use crate::gateways::{Keys, Sets, Times, holding, requests};
+use crate::rollups::time_rollup;
 use attr_kit::{Keep, Seq};
 use gateway_kit::Gateway;
 use page_kit::openmetrics;
-use rollup_kit::{Ask, rollup};
+use rollup_kit::Ask;
 use std::time::{Duration, Instant};
 
 // Of so many times the least is told.
 const ROUNDS: u32 = 5;
-
-fn time_rollup(rt: &HostRuntime, gateway: &Gateway, ask: &Ask) -> anyhow::Result<Duration> {
-    let start = Instant::now(rt)?;
-    let rows = rollup(rt.alloc(), gateway, ask)?;
-    let took = start.elapsed(rt)?;
-    drop(rows);
-    Ok(took)
-}
 
 fn time_page(rt: &HostRuntime, gateway: &Gateway) -> anyhow::Result<Duration> {
     let start = Instant::now(rt)?;

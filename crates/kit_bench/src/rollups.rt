@@ -60,7 +60,8 @@ fn time_plain(rt: &HostRuntime, gateway: &Gateway, ask: &Ask) -> anyhow::Result<
     Ok(took)
 }
 
-fn time_rollup(rt: &HostRuntime, gateway: &Gateway, ask: &Ask) -> anyhow::Result<Duration> {
+/// How long a roll-up takes.
+pub fn time_rollup(rt: &HostRuntime, gateway: &Gateway, ask: &Ask) -> anyhow::Result<Duration> {
     let start = Instant::now(rt)?;
     let rows = rollup(rt.alloc(), gateway, ask)?;
     let took = start.elapsed(rt)?;

@@ -78,17 +78,16 @@ fn adders<'a, R: Wait>(
 }
 
 /// Each thread adds 1 so many times. The count at the end.
-pub fn race<R: Threads + Wait + Sync>(
+pub fn race<R: Threads + Wait + Sync + AllocGlobal>(
     rt: &R,
-    alloc: Global,
     threads: usize,
     times: u64,
 ) -> anyhow::Result<u64> {
-    let (turn, mut first) = match Turn::new(alloc, Counter::new(), LIMIT) {
+    let (turn, mut first) = match Turn::new(rt.alloc(), Counter::new(), LIMIT) {
         Ok(made) => made,
         Err((_machine, fault)) => return Err(anyhow::Error::from(fault)),
     };
-    let all = adders(rt, alloc, &turn, &mut first, threads)?;
+    let all = adders(rt, rt.alloc(), &turn, &mut first, threads)?;
     thread::map_vec(rt, all, &|adder: Adder| run(rt, adder, times))?;
     Ok(turn.look(rt, &mut first, Read))
 }

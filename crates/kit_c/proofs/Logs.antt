@@ -1,5 +1,5 @@
 -- When a log has room.
-use Rattle.std.proofs.Common.{◌≡◌, ◌<◌, ◌≤◌, ◌^◌, ℕ, Bool, true, false, None, Some, length, arith, refl}
+use Rattle.std.proofs.Common.{◌≡◌, ◌<◌, ◌≤◌, ◌^◌, ℕ, Bool, true, false, None, Some, length, refl}
 use Rattle.std.specs.Prelude.{nat_le, ◌||◌}
 use Rattle.attr_kit.specs.Refusing.{when}
 use Rattle.std.proofs.lemmas.Bool.{le-leb, lt-leb}

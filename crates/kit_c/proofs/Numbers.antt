@@ -1,9 +1,8 @@
 -- Pairs that are found, noted and copied.
-use Rattle.std.proofs.Common.{◌≡◌, ◌≢◌, ◌∙◌, ◌<◌, ◌≤◌, ◌+◌, ℕ, suc, zero, Bool, true, false, cond, not, List, [], ◌∷◌, ◌++◌, Option, None, Some, length, slice_get, position, take, drop, map, arith, Result, Ok, Err, IsOk, OnOk, refl, sym, ap, subst, is_some, true≢false, if◌then◌else◌}
-use Rattle.std.specs.Prelude.{nat_lt, ◌==◌, ◌&&◌}
+use Rattle.std.proofs.Common.{◌≡◌, ◌≢◌, ◌∙◌, ◌<◌, ◌+◌, ℕ, suc, zero, Bool, true, false, cond, not, List, [], ◌∷◌, ◌++◌, Option, None, Some, length, slice_get, position, take, drop, arith, Result, Ok, Err, IsOk, OnOk, refl, sym, ap, subst, is_some, true≢false, if◌then◌else◌}
+use Rattle.std.specs.Prelude.{nat_lt}
 use Rattle.std.specs.List.{position_or_len, IsDistinct}
 use Rattle.std.specs.Map.{keys_of, lookup}
-use Rattle.std.specs.Option.{option_map_or, unwrap_or}
 use Rattle.indexmap.specs.IndexMap.{insert_entry}
 use Rattle.indexmap.proofs.MapLemmas.{absent_before, absent_from_lookup, insert_entry-absent}
 use Rattle.attr_kit.specs.Exact.{IsExact, exact_lists, exact_pairs, exact_texts, exact_through, exact_unsigned, exact_values}

@@ -1,5 +1,5 @@
 -- Asks.
-use Rattle.std.specs.Prelude.{ℕ, ℤ, Bool, List, [], ◌∷◌, Option, None}
+use Rattle.std.specs.Prelude.{ℕ, List, [], ◌∷◌, Option, None}
 use Rattle.attr_kit.specs.Refusing.{first}
 use Rattle.attr_kit.specs.declared.keep.Keep.TheVariants as keeps
 use Rattle.plan_kit.specs.Names.{lower}

@@ -128,6 +128,7 @@ request_code (requests.HalfRange point) = pos 100
 request_code (requests.EmptyKey point) = no_key
 request_code (requests.AttributeTwice point) = pos 102
 request_code (requests.AttributeValue point) = pos 103
+request_code requests.Repeats = pos 105
 request_code (requests.BadExport export fault) = no_export
 request_code requests.NoMemory = no_memory
 

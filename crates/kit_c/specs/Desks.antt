@@ -4,7 +4,7 @@ use Rattle.std.specs.Arc.{arc_value}
 use Rattle.std.specs.Option.{unwrap_or}
 use Rattle.attr_kit.specs.declared.attr_set.AttrSet.{AttrSet}
 use Rattle.point_kit.specs.declared.export.Export.{Export}
-use Rattle.recorder_kit.specs.Log.{ByNumber, Logged, Recording}
+use Rattle.recorder_kit.specs.Log.{Logged, Recording}
 use Rattle.recorder_kit.specs.declared.taken.Taken.{Taken}
 use Rattle.turn_kit.specs.Public.{IsFirst, IsFull, IsLeft, Splits}
 use Rattle.writer_kit.specs.Shared.{Accepts, Adds, IsExhausted, IsRefused, MayRefuse, MayRefuseHold, MayRefuseRound, StandsForSet, first_of, most_of}

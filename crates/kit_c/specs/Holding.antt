@@ -1,5 +1,5 @@
 -- Writers that hold each pair of an instrument and a set once.
-use Rattle.std.specs.Prelude.{ℕ, length, Option, Some, None}
+use Rattle.std.specs.Prelude.{ℕ, length, Option, None}
 use Rattle.std.specs.Option.{option_map_or, unwrap_or}
 use Rattle.attr_kit.specs.declared.attr_set.AttrSet.{AttrSet}
 use Rattle.writer_kit.specs.Recording.{after_hold}

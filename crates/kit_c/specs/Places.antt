@@ -65,6 +65,7 @@ request_place (requests.HalfRange point) = Some point
 request_place (requests.EmptyKey point) = Some point
 request_place (requests.AttributeTwice point) = Some point
 request_place (requests.AttributeValue point) = Some point
+request_place requests.Repeats = None
 request_place (requests.BadExport export fault) = Some export
 request_place requests.NoMemory = None
 

@@ -1,5 +1,5 @@
 -- Instruments, views and plans.
-use Rattle.std.specs.Prelude.{ℕ, List, [], ◌∷◌, Option, Some, None}
+use Rattle.std.specs.Prelude.{ℕ, List, [], ◌∷◌, Option}
 use Rattle.std.specs.Option.{option_map}
 use Rattle.attr_kit.specs.Refusing.{first}
 use Rattle.plan_kit.specs.PlanFaults.{plan_fault}

@@ -1,5 +1,5 @@
 -- Logs of recorders that writers take in.
-use Rattle.std.specs.Prelude.{◌≡◌, ℕ, pos, Option, Some, None}
+use Rattle.std.specs.Prelude.{◌≡◌, ℕ, pos, Option, Some}
 use Rattle.std.specs.Option.{option_map_or, unwrap_or}
 use Rattle.attr_kit.specs.Refusing.{when}
 use Rattle.agg_kit.specs.declared.fault.TallyFault.{TallyFault}

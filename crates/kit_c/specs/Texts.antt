@@ -87,7 +87,8 @@ third_texts n =
     cond (n == 102) (codes "two attributes of a point have one key") (
     cond (n == 103) (codes "the value of an attribute is of a kind that is not known") (
     cond (n == 104) (codes "what a request says together makes no export") (
-    [])))))))))))))))))))))))))
+    cond (n == 105) (codes "a text of more than 1024 bytes is repeated too often") (
+    []))))))))))))))))))))))))))
 
 unfoldable pub third_text : ℤ → List ℕ
 third_text (pos n) = third_texts n

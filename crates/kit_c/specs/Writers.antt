@@ -1,5 +1,5 @@
 -- What calls make of writers, and why they are refused.
-use Rattle.std.specs.Prelude.{◌≡◌, ◌≢◌, ◌+◌, ◌*◌, ◌^◌, ℕ, ℤ, List, [], ◌∷◌, Bool, Option, Some, None}
+use Rattle.std.specs.Prelude.{◌≡◌, ◌≢◌, ◌+◌, ◌*◌, ◌^◌, ℕ, ℤ, List, [], ◌∷◌, Option, Some, None}
 use Rattle.std.specs.Int.{to_be_bytes, w128}
 use Rattle.std.specs.Option.{option_map}
 use Rattle.agg_kit.specs.Entries.{entry_of}
@@ -11,7 +11,6 @@ use Rattle.point_kit.specs.declared.writer_id.WriterId.{WriterId}
 use Rattle.recorder_kit.specs.Log.{ByName, ByNumber, Recording, TakesNoMemory}
 use Rattle.round_kit.specs.Rounds.{points_of}
 use Rattle.writer_kit.specs.Following.{Follows}
-use Rattle.writer_kit.specs.Recording.{after_record}
 use Rattle.writer_kit.specs.Refusals.{collect_fault, early_fault, fault_now, restart_fault}
 use Rattle.writer_kit.specs.Written.{Written}
 use Rattle.kit_c.specs.Calls.{full_fault, of_one}

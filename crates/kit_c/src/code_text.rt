@@ -96,6 +96,7 @@ fn third_text(code: i32) -> &'static str
         102 => "two attributes of a point have one key",
         103 => "the value of an attribute is of a kind that is not known",
         104 => "what a request says together makes no export",
+        105 => "a text of more than 1024 bytes is repeated too often",
         _ => "",
     }
 }

@@ -1,5 +1,5 @@
 //! Exports, read by those who take them in from others.
-ghost use Rattle.std.specs.Prelude.{◌≡◌, ◌≢◌, ◌/◌, ◌%◌, ◌^◌, pos, length, None, Some, IfSome};
+ghost use Rattle.std.specs.Prelude.{◌≡◌, ◌≢◌, pos, length, IfSome};
 ghost use Rattle.kit_c.specs.Calls.{code_for, filled, if_any, of_one};
 ghost use Rattle.kit_c.specs.Exports.{Reads};
 ghost use Rattle.kit_c.specs.Held.{export_of};

@@ -1,5 +1,5 @@
 //! Why calls are refused, and the codes that say so.
-ghost use Rattle.std.specs.Prelude.{◌≡◌, ◌≢◌, pos, None, OnOk, OnErr, IfErr, IfOk};
+ghost use Rattle.std.specs.Prelude.{◌≡◌, ◌≢◌, pos, None};
 ghost use Rattle.std.specs.Option.{unwrap_or};
 ghost use Rattle.kit_c.specs.Codes.{code_of, recording_code, record_code, collection_code, restart_code, attributes_code, plan_code, handing_code, decoding_code, otlp_code, request_code, no_memory};
 ghost use Rattle.kit_c.specs.Places.{decoding_place, otlp_place, place_of, request_place, plan_place, second_of};
@@ -262,6 +262,7 @@ fn of_request(fault: &RequestFault) -> i32
         RequestFault::EmptyKey(_) => 101,
         RequestFault::AttributeTwice(_) => 102,
         RequestFault::AttributeValue(_) => 103,
+        RequestFault::Repeats => 105,
         RequestFault::BadExport(_, _) => 104,
         RequestFault::NoMemory => 1,
     }
@@ -406,6 +407,7 @@ fn request_place(fault: &RequestFault) -> Option<u64>
         RequestFault::EmptyKey(at) => Some(*at as u64),
         RequestFault::AttributeTwice(at) => Some(*at as u64),
         RequestFault::AttributeValue(at) => Some(*at as u64),
+        RequestFault::Repeats => None,
         RequestFault::BadExport(at, _) => Some(*at as u64),
         RequestFault::NoMemory => None,
     }

@@ -1,14 +1,13 @@
 //! What others read: exports as OTLP, and what gateways hold as pages for Prometheus.
 ghost use Rattle.std.specs.Option.{option_map};
-ghost use Rattle.std.specs.Prelude.{◌≡◌, ◌≢◌, ◌∷◌, [], pos, OnOk, IfErr, IfOk};
+ghost use Rattle.std.specs.Prelude.{◌≡◌, ◌≢◌, ◌∷◌, [], pos};
 ghost use Rattle.attr_kit.specs.Refusing.{first};
 ghost use Rattle.otlp_kit.specs.Request.{request};
 ghost use Rattle.page_kit.specs.Page.{asked_cells};
 ghost use Rattle.page_kit.specs.Pages.{openmetrics_page, prometheus_page};
-ghost use Rattle.kit_c.specs.Calls.{code_for, full_fault, if_any, of_one};
+ghost use Rattle.kit_c.specs.Calls.{code_for, full_fault, of_one};
 ghost use Rattle.kit_c.specs.Codes.{no_memory};
-ghost use Rattle.kit_c.specs.Faults.{text_fault};
-ghost use Rattle.kit_c.specs.Formats.{asked_service, request_fault};
+ghost use Rattle.kit_c.specs.Formats.{asked_service, page_fault, request_fault};
 ghost use Rattle.kit_c.specs.Held.{bytes_of, export_of, gateway_of, text_of as text_in};
 ghost use Rattle.kit_c.specs.Places.{TellsPlace};
 
@@ -73,8 +72,7 @@ pub extern "C" fn kit_gateway_openmetrics(
     service: &[u8],
     text: &mut KitText,
 ) -> i32
-    ensures code { result ≢ no_memory → result ≡ code_for
-        (first (full_fault (text_in text.old) ∷ text_fault service.now ∷ of_one (gateway_of gateway.old) if_any ∷ [])) }
+    ensures code { result ≢ no_memory → result ≡ code_for (page_fault (text_in text.old) service.now (gateway_of gateway.old)) }
     ensures value { result ≡ pos 0 → text_in text.new
         ≡ option_map (λ g. openmetrics_page (asked_cells (asked_service only service.now) g.points)) (gateway_of gateway.old) }
     ensures unchanged { result ≢ pos 0 → text_in text.new ≡ text_in text.old }
@@ -104,8 +102,7 @@ pub extern "C" fn kit_gateway_prometheus(
     service: &[u8],
     text: &mut KitText,
 ) -> i32
-    ensures code { result ≢ no_memory → result ≡ code_for
-        (first (full_fault (text_in text.old) ∷ text_fault service.now ∷ of_one (gateway_of gateway.old) if_any ∷ [])) }
+    ensures code { result ≢ no_memory → result ≡ code_for (page_fault (text_in text.old) service.now (gateway_of gateway.old)) }
     ensures value { result ≡ pos 0 → text_in text.new
         ≡ option_map (λ g. prometheus_page (asked_cells (asked_service only service.now) g.points)) (gateway_of gateway.old) }
     ensures unchanged { result ≢ pos 0 → text_in text.new ≡ text_in text.old }

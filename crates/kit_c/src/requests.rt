@@ -35,7 +35,7 @@ fn decode(alloc: Global, bytes: &[u8]) -> Result<Box<Content>, Fault>
 ///
 /// Refused, in this order: `FULL`; then for the first thing that is wrong with the bytes, with its place: `MALFORMED`, `NOT_TEXT`; then for
 /// the first that they say and that no export has, in the order of the request, with the place of the resource, scope, metric, point or
-/// export: `NO_SERVICE` to `NO_EXPORT`; `NO_MEMORY`.
+/// export: `NO_SERVICE` to `NO_EXPORT`, and without a place `REPEATS`; `NO_MEMORY`.
 #[unsafe(no_mangle)]
 pub extern "C" fn kit_exports_of_otlp(
     alloc: Global,

@@ -4,7 +4,7 @@ ghost use Rattle.std.specs.Arc.{arc_value};
 ghost use Rattle.attr_kit.specs.Refusing.{first};
 ghost use Rattle.kit_c.specs.Calls.{code_for, full_fault, if_any, of_one};
 ghost use Rattle.kit_c.specs.Codes.{no_memory};
-ghost use Rattle.kit_c.specs.Desks.{CollectRefused, HasCollectedAt, HasHeld, HasMeasured, HasMeasuredAt, HasShared, HasSplit, HasTakenInAt, HoldRefused, IsEntered, IsFirstPlace, IsHeldBy, IsSplit, IsTakenInAt, MeasureRefused, OneRefused, PlainRefused, PlainTwoRefused, RecordingRefused, SplitRefused, Stays, TakeInRefused, TwoRefused, WhyNotHeld};
+ghost use Rattle.kit_c.specs.Desks.{CollectRefused, HasCollectedAt, HasHeld, HasMeasured, HasMeasuredAt, HasShared, HasSplit, HasTakenInAt, HoldRefused, IsEntered, IsHeldBy, IsTakenInAt, MeasureRefused, OneRefused, PlainRefused, PlainTwoRefused, RecordingRefused, SplitRefused, Stays, TakeInRefused, TwoRefused, WhyNotHeld};
 ghost use Rattle.kit_c.specs.Held.{attributes_of, export_of, recorder_of, seat_of, writer_of};
 ghost use Rattle.kit_c.specs.Pairs.{number_in};
 ghost use Rattle.kit_c.specs.Typed.{export_in, is_export, is_seat, seat_in};
@@ -215,7 +215,7 @@ fn hold_at(
 /// was split from. Of such a pair nothing changes, no memory is taken and the writer is not asked for.
 ///
 /// Refused, in this order: `NOTHING` of the seat, then of the attributes; of a pair that the seat does not know `NO_MEMORY`;
-/// `BUSY` where another thread's call has the writer; `EXHAUSTED` where it accepted 2^62 changes; `NO_INSTRUMENT`; `NO_MEMORY`.
+/// `BUSY` where another thread's call has the writer; `EXHAUSTED` where it accepted 2^62 changes; `CLOSED`; `NO_INSTRUMENT`; `NO_MEMORY`.
 #[tactic(auto, using(crate::proofs::Desks::plain_two_refused))]
 #[unsafe(no_mangle)]
 pub extern "C" fn kit_seat_hold(

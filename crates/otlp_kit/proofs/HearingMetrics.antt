@@ -13,9 +13,9 @@ use Rattle.point_kit.specs.declared.shape.Shape.TheVariants as shapes
 use Rattle.point_kit.specs.declared.stream.Stream.{Stream}
 use Rattle.point_kit.specs.declared.writer_id.WriterId.{WriterId}
 use Rattle.otlp_kit.specs.Wire.{block, text_unless_empty}
-use Rattle.otlp_kit.specs.Request.{key_value, attribute, instance, service, resource, number_point, point_fields, fields_of, point, points_of, cumulative, is_monotonic, sum_fields, metric_data, metric_fields, metric, metrics, scope_fields, scope_metrics, scopes, of_one_stream, of_one_scope, resource_metrics, request}
+use Rattle.otlp_kit.specs.Request.{key_value, attribute, instance, service, resource, number_point, point_fields, fields_of, point, points_of, cumulative, is_monotonic, sum_fields, metric_data, metric_fields, metric, metrics, scope_fields, scope_metrics, scopes, of_one_stream, has_long_text, of_one_scope, resource_metrics, request}
 use Rattle.otlp_kit.specs.Request as requests
-use Rattle.otlp_kit.specs.Runs.{runs}
+use Rattle.otlp_kit.specs.Runs.{runs, parts}
 use Rattle.otlp_kit.specs.Fields.{and_then}
 use Rattle.otlp_kit.specs.Messages.{key_value_step, no_key_value, number_point_step, no_number_point, histogram_point_step, no_histogram_point, gauge_step, no_gauge, sum_step, no_sum, histogram_step, no_histogram, metric_step, no_metric, scope_step, no_scope, scope_metrics_step, no_scope_metrics, resource_step, no_resource, resource_metrics_step, no_resource_metrics, request_step, no_request, request_said}
 use Rattle.otlp_kit.specs.Sent.{IsNumber, IsPair, IsStream}
@@ -271,10 +271,10 @@ module _ (start time : ℕ) where
         says_message resource_metrics_step scope_metrics_step no_scope_metrics (heard_scope (p ∷ ps)) 2 bytes (resource_metrics_with resource bs) (λ (s : ScopeMetrics). resource_metrics_with resource (bs ++ s ∷ [])) (numbered 2 (omega arith) (omega arith)) (λ at place. refl) inner
         (says_scope_fields p.stream.scope (p ∷ ps) h.0.0.0.0.stream.0 h.0.1 inner)
 
-    pub says_scopes : (resource : Option Resource) (ps : List ExportPoint) → AllByRecursion IsScopeRun (runs of_one_scope ps) → IsShort (scopes start time ps) → Says resource_metrics_step (scopes start time ps) (resource_metrics_with resource []) (resource_metrics_with resource (map heard_scope (runs of_one_scope ps)))
+    pub says_scopes : (resource : Option Resource) (ps : List ExportPoint) → AllByRecursion IsScopeRun (parts of_one_scope has_long_text ps) → IsShort (scopes start time ps) → Says resource_metrics_step (scopes start time ps) (resource_metrics_with resource []) (resource_metrics_with resource (map heard_scope (parts of_one_scope has_long_text ps)))
     unfolding scopes
     says_scopes resource ps all short =
-        let rs = runs of_one_scope ps in
+        let rs = parts of_one_scope has_long_text ps in
         says_each resource_metrics_step (λ r. IsScopeRun r × IsShort (scope_metrics start time r)) (scope_metrics start time) heard_scope (λ (l : List ScopeMetrics). resource_metrics_with resource l) (says_scope_metrics resource) [] rs
         (both IsScopeRun (λ r. IsShort (scope_metrics start time r)) rs all (short_each (scope_metrics start time) rs short))
 
@@ -301,12 +301,12 @@ says_resource w instance_fits service_fits short =
 -- ---- the whole
 
 abbrev pub heard_resource_metrics : Export → ResourceMetrics
-heard_resource_metrics e = record { resource = Some (heard_resource e.writer); scopes = map (heard_scope e.start e.time) (runs of_one_scope e.points) }
+heard_resource_metrics e = record { resource = Some (heard_resource e.writer); scopes = map (heard_scope e.start e.time) (parts of_one_scope has_long_text e.points) }
 
 abbrev pub heard_request : Export → Request
 heard_request e = record { resources = heard_resource_metrics e ∷ [] }
 
-pub request_heard : (e : Export) → IsNumber e.start → IsNumber e.time → IsPair (instance e.writer) → IsPair (service e.writer) → AllByRecursion (IsScopeRun e.start e.time) (runs of_one_scope e.points) → IsShort (request e) → request_said (request e) ≡ Ok (heard_request e)
+pub request_heard : (e : Export) → IsNumber e.start → IsNumber e.time → IsPair (instance e.writer) → IsPair (service e.writer) → AllByRecursion (IsScopeRun e.start e.time) (parts of_one_scope has_long_text e.points) → IsShort (request e) → request_said (request e) ≡ Ok (heard_request e)
 unfolding request resource_metrics request_step resource_metrics_step
 request_heard e start_fits time_fits instance_fits service_fits all short =
     let bytes = resource_metrics e in

@@ -1,12 +1,12 @@
 -- An export comes back from its request.
 use Rattle.std.proofs.Common.{◌≡◌, ℕ, zero, suc, ◌+◌, ◌<◌, ◌≤◌, cond, Bool, true, false, List, [], ◌∷◌, ◌++◌, length, map, fold, All, Option, Some, None, Result, Ok, ℤ, inl, refl, sym, ap, ◌∙◌, subst, append_assoc, append-nil, arith}
-use Rattle.std.specs.Prelude.{◌&&◌, nat_lt, not, codes, slice_get, slice_index}
+use Rattle.std.specs.Prelude.{◌&&◌, ◌==◌, nat_lt, not, codes, slice_get, slice_index}
 use Rattle.std.specs.List.{AllByRecursion, flat_map, list_all, position_from}
 use Rattle.std.specs.Option.{option_map, option_or}
 use Rattle.std.specs.Str.{IsUtf8}
 use Rattle.std.proofs.lemmas.Bool.Decides.{nat_tests}
 use Rattle.std.proofs.lemmas.Iterator.Adapters.{position_from-zero}
-use Rattle.std.proofs.lemmas.List.{map-append}
+use Rattle.std.proofs.lemmas.List.{length-map, map-append}
 use Rattle.std.proofs.lemmas.List.Elements.{All-tail}
 use Rattle.std.proofs.lemmas.Option.{slice_get-map}
 use Rattle.std.proofs.lemmas.Str.{IsUtf8-from_ascii}
@@ -29,12 +29,13 @@ use Rattle.point_kit.specs.declared.writer_id.WriterId.{WriterId}
 use Rattle.uuid.specs.Text.{hyphenated_text, lower}
 use Rattle.uuid.proofs.RoundTrips.{parses_hyphenated_text}
 use Rattle.uuid.proofs.TextLemmas.{hyphenated_ascii}
+use Rattle.otlp_kit.specs.Doubles.{double}
 use Rattle.otlp_kit.specs.Fields.{and_then}
-use Rattle.otlp_kit.specs.Reading.{text_or_empty, or_zero, gauge_point, sum_point, histogram_point, named, with_point, add_gauge_point, add_sum_point, add_histogram_point, stream_of, add_data, behind_metric, add_metric, scope_name, is_other, differs, behind_scope, add_scope, text_under, or_refuse, writer_of, group_of, with_member, add_member, Said, said_of, built, add_export, groups_of, exports_of, Progress, add_resource, nothing_read, exports_in, exports_read}
+use Rattle.otlp_kit.specs.Reading.{text_or_empty, or_zero, gauge_point, sum_point, histogram_point, named, with_point, add_gauge_point, add_sum_point, add_histogram_point, stream_of, add_data, behind_metric, add_metric, add_metrics, held, few_points, points_in, times_held, scope_name, is_other, differs, behind_scope, add_scope, text_under, or_refuse, writer_of, group_of, with_member, add_member, Said, said_of, built, add_export, groups_of, exports_of, Progress, add_resource, nothing_read, exports_in, exports_read}
 use Rattle.otlp_kit.specs.Reading as readings
 use Rattle.otlp_kit.specs.Refusals.{rises, has_bad_bounds, most_bytes, bounds_fault, length_fault, otlp_fault}
-use Rattle.otlp_kit.specs.Request.{instance, service, of_one_stream, of_one_scope, request}
-use Rattle.otlp_kit.specs.Runs.{runs}
+use Rattle.otlp_kit.specs.Request.{instance, service, of_one_stream, is_long_stream, has_long_text, of_one_scope, request}
+use Rattle.otlp_kit.specs.Runs.{runs, parts}
 use Rattle.otlp_kit.specs.Sent.{IsWriter, IsExport, IsSaid}
 use Rattle.otlp_kit.proofs.Sendable.{IsPayload, IsStarted, IsSent, all_sent}
 use Rattle.otlp_kit.specs.Walks.{walk, walk_from, first_place}
@@ -48,9 +49,11 @@ use Rattle.otlp_kit.specs.declared.request_fault.RequestFault.TheVariants as fau
 use Rattle.otlp_kit.specs.declared.resource.Request.{Request}
 use Rattle.otlp_kit.proofs.Hearing.{heard_pair, heard_number}
 use Rattle.otlp_kit.proofs.HearingMetrics.{value_in, heard_number_of, heard_payload, heard_histogram_of, given_monotonic, heard_data, heard_fields, heard_metric, heard_scope, heard_request, IsScopeRun, request_heard}
+use Rattle.otlp_kit.proofs.Holding.{taken, held_once, few_are_taken, long_stream, long_streams, few_of_each, scope_is_held, of_one_bounds}
 use Rattle.otlp_kit.proofs.Parting.{IsRun, all_of, runs_hold, rejoined}
+use Rattle.otlp_kit.proofs.Pieces.{IsFew, parts_hold, parts_are_few, parts_joined}
 use Rattle.otlp_kit.proofs.Regained.{Pairs, equal_self, point_with, placed_with, gauge_back, sum_back, histogram_back}
-use Rattle.otlp_kit.proofs.Saying.{IsShort, given_text}
+use Rattle.otlp_kit.proofs.Saying.{IsShort, both, given_text}
 
 -- a point that comes back
 pub record IsBack (start : ℕ) (p : ExportPoint) : Type 0 where
@@ -109,6 +112,20 @@ module _ (start time : ℕ) where
       ap (λ (x : Shape). histogram_point n s.scope s.name s.unit (heard_payload start time p.attrs (bounds_of x) p.payload)) kind
       ∙ histogram_by n b s p.stream p.attrs p.payload h.1 k (subst (λ (x : Shape). IsPayload x p.payload) kind sent.payload) (subst (IsStarted start) kind sent.started) sent.attrs.1 (subst (λ (x : Shape). rises (bounds_of x) ≡ true) kind h.0.rising) (subst (λ (x : Shape). IsSound x p.payload) kind h.0.sound)
 
+  bounds_by : (b : List ℤ) (attrs : Pairs) (payload : Payload) → IsPayload (shapes.Histogram b) payload → (heard_payload start time attrs b payload).bounds ≡ map double b
+  bounds_by b attrs (payloads.Hist c t l r) fits = refl
+  bounds_by b attrs (payloads.Sum v) fits = absurd fits
+  bounds_by b attrs (payloads.Gauge v) fits = absurd fits
+
+  bounds_heard : (b : List ℤ) (s : Stream) (ps : List ExportPoint) → s.shape ≡ shapes.Histogram b → AllByRecursion (OfStreamBack s) ps → AllByRecursion (λ p. p.bounds ≡ map double b) (map (heard_histogram_of start time) ps)
+  bounds_heard b s [] k all = _
+  bounds_heard b s (p ∷ ps) k all =
+      let kind : p.stream.shape ≡ shapes.Histogram b = ap (λ (x : Stream). x.shape) all.0.1 ∙ k in (
+        ap (λ (x : Shape). (heard_payload start time p.attrs (bounds_of x) p.payload).bounds) kind
+            ∙ bounds_by b p.attrs p.payload (subst (λ (x : Shape). IsPayload x p.payload) kind all.0.0.sent.payload),
+        bounds_heard b s ps k all.1,
+      )
+
   -- ---- points, one after another
 
   record Gains (result : Result Reading RequestFault) (r : Reading) (ps : List ExportPoint) : Type 0 where
@@ -142,40 +159,71 @@ module _ (start time : ℕ) where
   stream_back : (s : Stream) (h : Shape) → s.shape ≡ h → named s.scope (text_or_empty (given_text s.name)) (text_or_empty (given_text s.unit)) h ≡ s
   stream_back s h e = λ i. named s.scope (text_back s.name i) (text_back s.unit i) (sym e i)
 
-  data_gains : (s : Stream) (h : Shape) (r : Reading) (ps : List ExportPoint) → s.shape ≡ h → AllByRecursion (OfStreamBack s) ps → Gains (add_data s.scope (heard_fields start time s ps) r (Some (heard_data start time h ps))) r ps
+  -- a stream with a long text has few points
+  abbrev HasFew : Stream → ℕ → Type 0
+  HasFew s n = is_long_stream s ≡ true → n ≤ 64
+
+  few_back : (s : Stream) (n m : ℕ) → m ≡ n → HasFew s n → few_points s.scope (text_or_empty (given_text s.name)) (text_or_empty (given_text s.unit)) m ≡ taken
+  few_back s n m e few = (λ i. few_points s.scope (text_back s.name i) (text_back s.unit i) (e i)) ∙ few_are_taken s n few
+
+  few_gain : (r : Reading) (ps : List ExportPoint) (few : Result (Unit {0}) RequestFault) (then : Result Reading RequestFault) → few ≡ taken → Gains then r ps → Gains (and_then few (λ u. then)) r ps
+  few_gain r ps few then e g = subst (λ (x : Result (Unit {0}) RequestFault). Gains (and_then x (λ (u : Unit {0}). then)) r ps) (sym e) g
+
+  data_gains : (s : Stream) (h : Shape) (r : Reading) (ps : List ExportPoint) → s.shape ≡ h → HasFew s (length ps) → AllByRecursion (OfStreamBack s) ps → Gains (add_data s.scope (heard_fields start time s ps) r (Some (heard_data start time h ps))) r ps
   unfolding walk
-  data_gains s shapes.Gauge r ps e all =
-      subst (λ (x : Stream). Gains (walk_from (add_gauge_point x) 0 r (map (heard_number_of start time) ps)) r ps) (sym (stream_back s shapes.Gauge e))
+  data_gains s shapes.Gauge r ps e few all =
+      few_gain r ps (few_points s.scope (text_or_empty (given_text s.name)) (text_or_empty (given_text s.unit)) (length (map (heard_number_of start time) ps))) _ (few_back s (length ps) _ (length-map ps (heard_number_of start time)) few)
+      (subst (λ (x : Stream). Gains (walk_from (add_gauge_point x) 0 r (map (heard_number_of start time) ps)) r ps) (sym (stream_back s shapes.Gauge e))
       (subst (λ (l : List ExportPoint). Gains (walk_from (add_gauge_point s) 0 r (map (heard_number_of start time) ps)) r l) (singles ps)
-      (walk_gains (OfStreamBack s) (add_gauge_point s) (heard_number_of start time) (λ p. p ∷ []) (λ i r p h. one_gains r p (gauge_point r.points s (heard_number_of start time p)) (gauge_of r.points s p.stream p.attrs p.payload h.1 e h.0.sent.payload h.0.sent.attrs.1)) 0 r ps all))
-  data_gains s (shapes.Sum m) r ps e all =
-      subst (λ (x : Stream). Gains (walk_from (add_sum_point x) 0 r (map (heard_number_of start time) ps)) r ps) (sym (ap (λ (b : Bool). named s.scope (text_or_empty (given_text s.name)) (text_or_empty (given_text s.unit)) (shapes.Sum b)) (monotonic_back m) ∙ stream_back s (shapes.Sum m) e))
+      (walk_gains (OfStreamBack s) (add_gauge_point s) (heard_number_of start time) (λ p. p ∷ []) (λ i r p h. one_gains r p (gauge_point r.points s (heard_number_of start time p)) (gauge_of r.points s p.stream p.attrs p.payload h.1 e h.0.sent.payload h.0.sent.attrs.1)) 0 r ps all)))
+  data_gains s (shapes.Sum m) r ps e few all =
+      few_gain r ps (few_points s.scope (text_or_empty (given_text s.name)) (text_or_empty (given_text s.unit)) (length (map (heard_number_of start time) ps))) _ (few_back s (length ps) _ (length-map ps (heard_number_of start time)) few)
+      (subst (λ (x : Stream). Gains (walk_from (add_sum_point x) 0 r (map (heard_number_of start time) ps)) r ps) (sym (ap (λ (b : Bool). named s.scope (text_or_empty (given_text s.name)) (text_or_empty (given_text s.unit)) (shapes.Sum b)) (monotonic_back m) ∙ stream_back s (shapes.Sum m) e))
       (subst (λ (l : List ExportPoint). Gains (walk_from (add_sum_point s) 0 r (map (heard_number_of start time) ps)) r l) (singles ps)
-      (walk_gains (OfStreamBack s) (add_sum_point s) (heard_number_of start time) (λ p. p ∷ []) (λ i r p h. one_gains r p (sum_point r.points s (heard_number_of start time p)) (sum_of r.points m s p.stream p.attrs p.payload h.1 e h.0.sent.payload h.0.sent.started h.0.sent.attrs.1)) 0 r ps all))
-  data_gains s (shapes.Histogram b) r ps e all =
-      subst (λ (x : List ℕ). Gains (walk_from (add_histogram_point s.scope x (text_or_empty (given_text s.unit))) 0 r (map (heard_histogram_of start time) ps)) r ps) (sym (text_back s.name))
+      (walk_gains (OfStreamBack s) (add_sum_point s) (heard_number_of start time) (λ p. p ∷ []) (λ i r p h. one_gains r p (sum_point r.points s (heard_number_of start time p)) (sum_of r.points m s p.stream p.attrs p.payload h.1 e h.0.sent.payload h.0.sent.started h.0.sent.attrs.1)) 0 r ps all)))
+  data_gains s (shapes.Histogram b) r ps e few all =
+      let name = text_or_empty (given_text s.name) in
+      let unit = text_or_empty (given_text s.unit) in
+      let heard_points = map (heard_histogram_of start time) ps in
+      few_gain r ps (few_points s.scope name unit (length heard_points)) _ (few_back s (length ps) _ (length-map ps (heard_histogram_of start time)) few)
+      (subst (λ (x : Result (Unit {0}) RequestFault). Gains (and_then x (λ (u : Unit {0}). walk_from (add_histogram_point s.scope name unit) 0 r heard_points)) r ps) (sym (of_one_bounds s.scope name unit (map double b) heard_points (bounds_heard b s ps e all)))
+      (subst (λ (x : List ℕ). Gains (walk_from (add_histogram_point s.scope x (text_or_empty (given_text s.unit))) 0 r (map (heard_histogram_of start time) ps)) r ps) (sym (text_back s.name))
       (subst (λ (x : List ℕ). Gains (walk_from (add_histogram_point s.scope s.name x) 0 r (map (heard_histogram_of start time) ps)) r ps) (sym (text_back s.unit))
       (subst (λ (l : List ExportPoint). Gains (walk_from (add_histogram_point s.scope s.name s.unit) 0 r (map (heard_histogram_of start time) ps)) r l) (singles ps)
-      (walk_gains (OfStreamBack s) (add_histogram_point s.scope s.name s.unit) (heard_histogram_of start time) (λ p. p ∷ []) (λ i r p h. one_gains r p (histogram_point r.points s.scope s.name s.unit (heard_histogram_of start time p)) (histogram_of r.points b s p h e)) 0 r ps all)))
+      (walk_gains (OfStreamBack s) (add_histogram_point s.scope s.name s.unit) (heard_histogram_of start time) (λ p. p ∷ []) (λ i r p h. one_gains r p (histogram_point r.points s.scope s.name s.unit (heard_histogram_of start time p)) (histogram_of r.points b s p h e)) 0 r ps all)))))
 
   -- ---- metrics of a scope
 
   abbrev InScope : List ℕ → ExportPoint → Type 0
   InScope name p = IsBack start p × (p.stream.scope ≡ name)
 
-  metric_gains : (name : List ℕ) (i : ℕ) (r : Reading) (run : List ExportPoint) → IsRun (InScope name) (λ p. p.stream) run → Gains (add_metric name i r (heard_metric start time run)) r run
+  abbrev IsMetricRun : List ℕ → List ExportPoint → Type 0
+  IsMetricRun name run = IsRun (InScope name) (λ p. p.stream) run × IsFew has_long_text run
+
+  metric_gains : (name : List ℕ) (i : ℕ) (r : Reading) (run : List ExportPoint) → IsMetricRun name run → Gains (add_metric name i r (heard_metric start time run)) r run
   unfolding add_metric
-  metric_gains name i r [] h = absurd h
+  metric_gains name i r [] h = absurd h.0
   metric_gains name i r (p ∷ ps) h =
       let s = p.stream in
       let m = heard_fields start time s (p ∷ ps) in
-      let g = data_gains s s.shape r (p ∷ ps) refl (all_of (λ q. InScope name q × (q.stream ≡ s)) (OfStreamBack s) (λ q x. (x.0.0, x.1)) (p ∷ ps) h) in
+      let g = data_gains s s.shape r (p ∷ ps) refl h.1 (all_of (λ q. InScope name q × (q.stream ≡ s)) (OfStreamBack s) (λ q x. (x.0.0, x.1)) (p ∷ ps) h.0) in
       record {
         reading = behind_metric g.reading;
-        so = ap (λ (n : List ℕ). and_then (add_data n m r m.kind) (λ (t : Reading). Ok (behind_metric t))) (sym h.0.0.1)
+        so = ap (λ (n : List ℕ). and_then (add_data n m r m.kind) (λ (t : Reading). Ok (behind_metric t))) (sym h.0.0.0.1)
             ∙ ap (λ (x : Result Reading RequestFault). and_then x (λ (t : Reading). Ok (behind_metric t))) g.so;
         placed_are = g.placed_are;
       }
+
+  points_heard : (h : Shape) (ps : List ExportPoint) → points_in (Some (heard_data start time h ps)) ≡ length ps
+  points_heard shapes.Gauge ps = length-map ps (heard_number_of start time)
+  points_heard (shapes.Sum m) ps = length-map ps (heard_number_of start time)
+  points_heard (shapes.Histogram b) ps = length-map ps (heard_histogram_of start time)
+
+  times_heard : (p : ExportPoint) (ps : List ExportPoint) → times_held (heard_metric start time (p ∷ ps)) ≡ length (p ∷ ps)
+  times_heard p ps = ap (λ (n : ℕ). cond (n == 0) 1 n) (points_heard p.stream.shape (p ∷ ps)) ∙ once (length (p ∷ ps)) (omega arith)
+    where
+      once : (n : ℕ) → 0 < n → cond (n == 0) 1 n ≡ n
+      once n some = grind (arith, nat_tests)
 
   -- ---- scopes of a resource
 
@@ -193,30 +241,43 @@ module _ (start time : ℕ) where
       let place = first_place (map scope_name (map (heard_scope start time) rs)) (scope_name s) in
       ap (differs s) (slice_get-map (heard_scope start time) rs place) ∙ alike run (slice_get rs place)
 
-  scope_gains : (rs : List (List ExportPoint)) (i : ℕ) (r : Reading) (run : List ExportPoint) → IsRun (IsBack start) (λ p. p.stream.scope) run → Gains (add_scope (map (heard_scope start time) rs) i r (heard_scope start time run)) r run
-  unfolding add_scope walk
-  scope_gains rs i r [] h = absurd h
+  abbrev IsRunBack : List ExportPoint → Type 0
+  IsRunBack run = IsRun (IsBack start) (λ p. p.stream.scope) run × (IsRun (IsBack start) (λ p. long_stream p.stream) run × IsFew has_long_text run)
+
+  scope_gains : (rs : List (List ExportPoint)) (i : ℕ) (r : Reading) (run : List ExportPoint) → IsRunBack run → Gains (add_scope (map (heard_scope start time) rs) i r (heard_scope start time run)) r run
+  unfolding add_scope add_metrics walk
+  scope_gains rs i r [] h = absurd h.0
   scope_gains rs i r (p ∷ ps) h =
       let name = p.stream.scope in
       let ms = runs of_one_stream (p ∷ ps) in
+      let alike = all_of (λ q. IsBack start q × (long_stream q.stream ≡ long_stream p.stream)) (λ q. long_stream q.stream ≡ long_stream p.stream) (λ q x. x.1) ps h.1.0.1 in
       let g = subst (λ (l : List ExportPoint). Gains (walk_from (add_metric name) 0 r (map (heard_metric start time) ms)) r l) (rejoined of_one_stream (p ∷ ps))
-      (walk_gains (IsRun (InScope name) (λ q. q.stream)) (add_metric name) (heard_metric start time) (λ l. l) (metric_gains name) 0 r ms
-      (runs_hold (InScope name) (λ q. q.stream) of_one_stream (λ x y e. exact_streams x.stream y.stream e) (p ∷ ps) h)) in
+      (walk_gains (IsMetricRun name) (add_metric name) (heard_metric start time) (λ l. l) (metric_gains name) 0 r ms
+      (both (IsRun (InScope name) (λ q. q.stream)) (IsFew has_long_text) ms
+      (runs_hold (InScope name) (λ q. q.stream) of_one_stream (λ x y e. exact_streams x.stream y.stream e) (p ∷ ps) h.0)
+      (few_of_each p ps alike h.1.1))) in
+      let few = scope_is_held (heard_metric start time) times_heard p ps alike h.1.1 in
       record {
         reading = behind_scope g.reading;
-        so = ap (λ (b : Bool). and_then (readings.refuse_when b (faults.ScopeTwice r.scopes)) (λ (u : Unit {0}). and_then (walk_from (add_metric (text_or_empty (given_text name))) 0 r (map (heard_metric start time) ms)) (λ (t : Reading). Ok (behind_scope t)))) (not_other rs (p ∷ ps))
-            ∙ ap (λ (n : List ℕ). and_then (walk_from (add_metric n) 0 r (map (heard_metric start time) ms)) (λ (t : Reading). Ok (behind_scope t))) (text_back name)
+        so = ap (λ (b : Bool). and_then (readings.refuse_when b (faults.ScopeTwice r.scopes)) (λ (u : Unit {0}). and_then (add_metrics (text_or_empty (given_text name)) r (map (heard_metric start time) ms)) (λ (t : Reading). Ok (behind_scope t)))) (not_other rs (p ∷ ps))
+            ∙ ap (λ (n : List ℕ). and_then (add_metrics n r (map (heard_metric start time) ms)) (λ (t : Reading). Ok (behind_scope t))) (text_back name)
+            ∙ ap (λ (x : Result (Unit {0}) RequestFault). and_then (and_then x (λ (u : Unit {0}). walk_from (add_metric name) 0 r (map (heard_metric start time) ms))) (λ (t : Reading). Ok (behind_scope t))) few
             ∙ ap (λ (x : Result Reading RequestFault). and_then x (λ (t : Reading). Ok (behind_scope t))) g.so;
         placed_are = g.placed_are;
       }
 
-  scopes_gain : (r : Reading) (ps : List ExportPoint) → AllByRecursion (IsBack start) ps → Gains (walk (add_scope (map (heard_scope start time) (runs of_one_scope ps))) r (map (heard_scope start time) (runs of_one_scope ps))) r ps
+  scopes_gain : (r : Reading) (ps : List ExportPoint) → AllByRecursion (IsBack start) ps → Gains (walk (add_scope (map (heard_scope start time) (parts of_one_scope has_long_text ps))) r (map (heard_scope start time) (parts of_one_scope has_long_text ps))) r ps
   unfolding walk
   scopes_gain r ps all =
-      let rs = runs of_one_scope ps in
-      subst (λ (l : List ExportPoint). Gains (walk_from (add_scope (map (heard_scope start time) rs)) 0 r (map (heard_scope start time) rs)) r l) (rejoined of_one_scope ps)
-      (walk_gains (IsRun (IsBack start) (λ p. p.stream.scope)) (add_scope (map (heard_scope start time) rs)) (heard_scope start time) (λ l. l) (scope_gains rs) 0 r rs
-      (runs_hold (IsBack start) (λ p. p.stream.scope) of_one_scope (λ x y e. exact_texts x.stream.scope y.stream.scope e) ps all))
+      let rs = parts of_one_scope has_long_text ps in
+      subst (λ (l : List ExportPoint). Gains (walk_from (add_scope (map (heard_scope start time) rs)) 0 r (map (heard_scope start time) rs)) r l) (parts_joined has_long_text of_one_scope ps)
+      (walk_gains IsRunBack (add_scope (map (heard_scope start time) rs)) (heard_scope start time) (λ l. l) (scope_gains rs) 0 r rs
+      (both (IsRun (IsBack start) (λ p. p.stream.scope)) (λ run. IsRun (IsBack start) (λ p. long_stream p.stream) run × IsFew has_long_text run) rs
+      (parts_hold (IsBack start) (λ p. p.stream.scope) has_long_text of_one_scope ps
+      (runs_hold (IsBack start) (λ p. p.stream.scope) of_one_scope (λ x y e. exact_texts x.stream.scope y.stream.scope (first_holds _ _ e)) ps all))
+      (both (IsRun (IsBack start) (λ p. long_stream p.stream)) (IsFew has_long_text) rs
+      (parts_hold (IsBack start) (λ p. long_stream p.stream) has_long_text of_one_scope ps (runs_hold (IsBack start) (λ p. long_stream p.stream) of_one_scope long_streams ps all))
+      (parts_are_few has_long_text of_one_scope ps))))
 
   -- ---- the group of the window
 
@@ -325,8 +386,10 @@ sent e fits said = all_sent e.start e.points (all_sound e) fits.points said.poin
 heard : (e : Export) → IsExport e → IsSaid e → otlp_fault e ≡ None → exports_read (request e) ≡ exports_in (heard_request e)
 unfolding exports_read
 heard e fits said none =
-    let runs_are = runs_hold (IsSent e.start) (λ p. p.stream.scope) of_one_scope (λ x y f. exact_texts x.stream.scope y.stream.scope f) e.points (sent e fits said) in
-    let scope_runs = all_of (IsRun (IsSent e.start) (λ p. p.stream.scope)) (IsScopeRun e.start e.time) (scope_run e.start e.time) (runs of_one_scope e.points) runs_are in
+    let parts_are =
+    parts_hold (IsSent e.start) (λ p. p.stream.scope) has_long_text of_one_scope e.points
+    (runs_hold (IsSent e.start) (λ p. p.stream.scope) of_one_scope (λ x y f. exact_texts x.stream.scope y.stream.scope (first_holds _ _ f)) e.points (sent e fits said)) in
+    let scope_runs = all_of (IsRun (IsSent e.start) (λ p. p.stream.scope)) (IsScopeRun e.start e.time) (scope_run e.start e.time) (parts of_one_scope has_long_text e.points) parts_are in
     ap (λ (r : Result Request RequestFault). and_then r exports_in)
     (request_heard e fits.start fits.time (instance_key, IsUtf8-from_ascii _ (hyphenated_ascii lower e.writer.instance (inl refl))) (service_key, fits.writer.service) scope_runs (short_request e none))
   where
@@ -343,12 +406,13 @@ read_back : (e : Export) → IsExport e → IsSaid e → otlp_fault e ≡ None �
 unfolding exports_in add_resource walk
 read_back e fits said none =
     let w = e.writer in
-    let rs = map (heard_scope e.start e.time) (runs of_one_scope e.points) in
+    let rs = map (heard_scope e.start e.time) (parts of_one_scope has_long_text e.points) in
     let g = scopes_gain e.start e.time nothing_read e.points (all_back e.start e.points (sent e fits said) (no_bad_bounds e none) (all_sound e)) in
     let reading = g.reading in
     ap (λ (x : Result WriterId RequestFault). and_then (and_then (and_then x (λ (v : WriterId). and_then (walk (add_scope rs) nothing_read rs) (λ (r : Reading). exports_of v [] r))) (λ (p : Progress). Ok p)) (λ (p : Progress). Ok p.1)) (writer_back 0 w fits.writer)
     ∙ ap (λ (x : Result Reading RequestFault). and_then (and_then (and_then x (λ (r : Reading). exports_of w [] r)) (λ (p : Progress). Ok p)) (λ (p : Progress). Ok p.1)) g.so
-    ∙ ap (λ (gs : List Group). and_then (and_then (and_then (walk (add_export w) [] gs) (λ (more : List Said). Ok (left_of reading, more))) (λ (p : Progress). Ok p)) (λ (p : Progress). Ok p.1)) (ap groups_of g.placed_are ∙ one_group e.start e.time e.points said.some)
+    ∙ ap (λ (gs : List Group). and_then (and_then (and_then (held w.service (length gs)) (λ (u : Unit {0}). and_then (walk (add_export w) [] gs) (λ (more : List Said). Ok (left_of reading, more)))) (λ (p : Progress). Ok p)) (λ (p : Progress). Ok p.1)) (ap groups_of g.placed_are ∙ one_group e.start e.time e.points said.some)
+    ∙ ap (λ (x : Result (Unit {0}) RequestFault). and_then (and_then (and_then x (λ (u : Unit {0}). and_then (walk (add_export w) [] (group_with e.start e.time e.points ∷ [])) (λ (more : List Said). Ok (left_of reading, more)))) (λ (p : Progress). Ok p)) (λ (p : Progress). Ok p.1)) (held_once w.service)
     ∙ ap (λ (o : Option ExportFault). and_then (and_then (and_then (and_then (and_then (built 0 (said_of e) o) (λ (s : Said). Ok (s ∷ []))) (λ (l : List Said). Ok l)) (λ (more : List Said). Ok (left_of reading, more))) (λ (p : Progress). Ok p)) (λ (p : Progress). Ok p.1)) e.sound
 
 pub comes_back : (e : Export) → IsExport e → IsSaid e → otlp_fault e ≡ None → exports_read (request e) ≡ Ok (said_of e ∷ [])

@@ -10,8 +10,8 @@ use Rattle.std.specs.Prelude.{slice_get}
 use Rattle.std.proofs.Math.ListN.{get_or-map}
 use Rattle.std.proofs.lemmas.List.{get_or_default, length-map}
 use Rattle.otlp_kit.specs.Fields.{and_then}
-use Rattle.otlp_kit.specs.Reading.{refuse_when, key_of, scope_name, differs, add_metric, behind_scope, add_scope}
-use Rattle.otlp_kit.specs.Walks.{AreFirsts, StandsAt, walk, walk_from, first_place}
+use Rattle.otlp_kit.specs.Reading.{refuse_when, key_of, scope_name, differs, add_metrics, behind_scope, add_scope}
+use Rattle.otlp_kit.specs.Walks.{AreFirsts, StandsAt, walk_from, first_place}
 use Rattle.otlp_kit.specs.declared.key_value.KeyValue.{KeyValue}
 use Rattle.otlp_kit.specs.declared.metric.Metric.{Metric}
 use Rattle.otlp_kit.specs.declared.reading.Reading.{Reading}
@@ -43,10 +43,10 @@ kept_first given firsts i first a (inr all) stands within at = first_is key_of g
 
 module _ (given : List ScopeMetrics) (keys seen : List (List ℕ)) (firsts : List ℕ) (keys_are : keys ≡ map scope_name given) (seen_are : seen ≡ keys) (firsts_are : firsts ≡ map (first_place seen) seen) where
   -- a scope is told apart from the first of its name
-  scope_added : (i first : ℕ) (a : ScopeMetrics) (r : Reading) (other : Bool) → i < length given → first ≡ get_or firsts i first → a ≡ get_or given i a → other ≡ differs a (slice_get given first) → add_scope given i r (get_or given i a) ≡ and_then (refuse_when other (faults.ScopeTwice r.scopes)) (λ u. and_then (walk (add_metric (scope_name a)) r a.metrics) (λ t. Ok (behind_scope t)))
+  scope_added : (i first : ℕ) (a : ScopeMetrics) (r : Reading) (other : Bool) → i < length given → first ≡ get_or firsts i first → a ≡ get_or given i a → other ≡ differs a (slice_get given first) → add_scope given i r (get_or given i a) ≡ and_then (refuse_when other (faults.ScopeTwice r.scopes)) (λ u. and_then (add_metrics (scope_name a) r a.metrics) (λ t. Ok (behind_scope t)))
   unfolding add_scope
   scope_added i first a r other h at is e =
-      let later = λ (b : Bool). and_then (refuse_when b (faults.ScopeTwice r.scopes)) (λ (u : Unit {0}). and_then (walk (add_metric (scope_name a)) r a.metrics) (λ (t : Reading). Ok (behind_scope t))) in
+      let later = λ (b : Bool). and_then (refuse_when b (faults.ScopeTwice r.scopes)) (λ (u : Unit {0}). and_then (add_metrics (scope_name a) r a.metrics) (λ (t : Reading). Ok (behind_scope t))) in
       ap (add_scope given i r) (sym is)
       ∙ ap (λ (n : ℕ). later (differs a (slice_get given n))) (sym (first_is scope_name given keys seen firsts keys_are seen_are firsts_are i first a h at is))
       ∙ ap later (sym e)
@@ -55,17 +55,17 @@ module _ (given : List ScopeMetrics) (keys seen : List (List ℕ)) (firsts : Lis
   scope_refused whole i first a r other h at is inv e t =
       walk_refused (add_scope given) whole i r (faults.ScopeTwice r.scopes) given a h inv (scope_added i first a r true h at is (sym t ∙ e))
 
-  metrics_added : (i first : ℕ) (a : ScopeMetrics) (r : Reading) (other : Bool) (name : List ℕ) (ms : List Metric) (result : Result Reading RequestFault) → i < length given → first ≡ get_or firsts i first → a ≡ get_or given i a → other ≡ differs a (slice_get given first) → other ≡ false → name ≡ scope_name a → ms ≡ a.metrics → walk (add_metric name) r ms ≡ result → add_scope given i r (get_or given i a) ≡ and_then result (λ t. Ok (behind_scope t))
+  metrics_added : (i first : ℕ) (a : ScopeMetrics) (r : Reading) (other : Bool) (name : List ℕ) (ms : List Metric) (result : Result Reading RequestFault) → i < length given → first ≡ get_or firsts i first → a ≡ get_or given i a → other ≡ differs a (slice_get given first) → other ≡ false → name ≡ scope_name a → ms ≡ a.metrics → add_metrics name r ms ≡ result → add_scope given i r (get_or given i a) ≡ and_then result (λ t. Ok (behind_scope t))
   metrics_added i first a r other name ms result h at is e t n m w =
       scope_added i first a r false h at is (sym t ∙ e)
-      ∙ (λ j. and_then (walk (add_metric (sym n j)) r (sym m j)) (λ (t : Reading). Ok (behind_scope t)))
+      ∙ (λ j. and_then (add_metrics (sym n j) r (sym m j)) (λ (t : Reading). Ok (behind_scope t)))
       ∙ ap (λ (x : Result Reading RequestFault). and_then x (λ (t : Reading). Ok (behind_scope t))) w
 
-  pub metrics_refused : (whole : Result Reading RequestFault) (i first : ℕ) (a : ScopeMetrics) (r : Reading) (other : Bool) (name : List ℕ) (ms : List Metric) (f : RequestFault) → i < length given → first ≡ get_or firsts i first → a ≡ get_or given i a → walk_from (add_scope given) i r (drop i given) ≡ whole → other ≡ differs a (slice_get given first) → other ≡ false → name ≡ scope_name a → ms ≡ a.metrics → walk (add_metric name) r ms ≡ Err f → whole ≡ Err f
+  pub metrics_refused : (whole : Result Reading RequestFault) (i first : ℕ) (a : ScopeMetrics) (r : Reading) (other : Bool) (name : List ℕ) (ms : List Metric) (f : RequestFault) → i < length given → first ≡ get_or firsts i first → a ≡ get_or given i a → walk_from (add_scope given) i r (drop i given) ≡ whole → other ≡ differs a (slice_get given first) → other ≡ false → name ≡ scope_name a → ms ≡ a.metrics → add_metrics name r ms ≡ Err f → whole ≡ Err f
   metrics_refused whole i first a r other name ms f h at is inv e t n m w =
       walk_refused (add_scope given) whole i r f given a h inv (metrics_added i first a r other name ms (Err f) h at is e t n m w)
 
-  pub scope_on : (whole : Result Reading RequestFault) (i first : ℕ) (a : ScopeMetrics) (r new : Reading) (other : Bool) (name : List ℕ) (ms : List Metric) (t : Reading) → i < length given → first ≡ get_or firsts i first → a ≡ get_or given i a → walk_from (add_scope given) i r (drop i given) ≡ whole → other ≡ differs a (slice_get given first) → other ≡ false → name ≡ scope_name a → ms ≡ a.metrics → walk (add_metric name) r ms ≡ Ok t → new ≡ behind_scope t → walk_from (add_scope given) (i + 1) new (drop (i + 1) given) ≡ whole
+  pub scope_on : (whole : Result Reading RequestFault) (i first : ℕ) (a : ScopeMetrics) (r new : Reading) (other : Bool) (name : List ℕ) (ms : List Metric) (t : Reading) → i < length given → first ≡ get_or firsts i first → a ≡ get_or given i a → walk_from (add_scope given) i r (drop i given) ≡ whole → other ≡ differs a (slice_get given first) → other ≡ false → name ≡ scope_name a → ms ≡ a.metrics → add_metrics name r ms ≡ Ok t → new ≡ behind_scope t → walk_from (add_scope given) (i + 1) new (drop (i + 1) given) ≡ whole
   scope_on whole i first a r new other name ms t h at is inv e f n m w k =
       walk_on (add_scope given) whole i r new given a h inv (metrics_added i first a r other name ms (Ok t) h at is e f n m w ∙ ap (λ (x : Reading). Ok x) (sym k))
 

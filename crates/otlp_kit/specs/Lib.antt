@@ -1,4 +1,5 @@
 pub mod Contents
+pub mod Copies
 pub mod Doubles
 pub mod Exact
 pub mod Fields

@@ -1,8 +1,8 @@
 -- The exports that a request brings, or why it brings none. Places are counted through the whole request.
-use Rattle.std.specs.Prelude.{ℕ, ℤ, ◌+◌, ◌%◌, ◌==◌, ◌&&◌, nat_eq, not, if◌then◌else◌, Bool, true, false, List, [], ◌∷◌, ◌++◌, length, map, fold, drop, slice_get, codes, Option, Some, None, Result, Ok, Err}
+use Rattle.std.specs.Prelude.{ℕ, ℤ, ◌+◌, ◌%◌, ◌==◌, ◌&&◌, nat_eq, nat_lt, not, if◌then◌else◌, Bool, true, false, List, [], ◌∷◌, ◌++◌, length, map, fold, drop, slice_get, codes, Option, Some, None, Result, Ok, Err}
 use Rattle.std.specs.Cmp.Lexicographic.{pointwise}
 use Rattle.std.specs.Int.{cast_signed, w64}
-use Rattle.std.specs.List.{list_any, position}
+use Rattle.std.specs.List.{list_all, list_any, position, sum_by}
 use Rattle.std.specs.Option.{unwrap_or}
 use Rattle.attr_kit.specs.Putting.{attributes_of}
 use Rattle.attr_kit.specs.declared.attr_value.AttrValue.{AttrValue}
@@ -18,6 +18,7 @@ use Rattle.point_kit.specs.declared.shape.Shape.TheVariants as shapes
 use Rattle.point_kit.specs.declared.stream.Stream.{Stream}
 use Rattle.point_kit.specs.declared.writer_id.WriterId.{WriterId}
 use Rattle.uuid.specs.Text.{parsed_hyphenated}
+use Rattle.otlp_kit.specs.Copies.{is_long, any_long}
 use Rattle.otlp_kit.specs.Exact.{exact}
 use Rattle.otlp_kit.specs.Fields.{and_then}
 use Rattle.otlp_kit.specs.Messages.{request_said}
@@ -48,6 +49,10 @@ use Rattle.otlp_kit.specs.declared.scope.ScopeMetrics.{ScopeMetrics}
 abbrev pub refuse_when : Bool → RequestFault → Result (Unit {0}) RequestFault
 refuse_when true f = Err f
 refuse_when false f = Ok _
+
+-- a long text is held or looked at 64 times at most
+abbrev pub held : List ℕ → ℕ → Result (Unit {0}) RequestFault
+held text times = refuse_when (is_long (length text) && nat_lt 64 times) faults.Repeats
 
 -- a text that is left out is empty, a number 0
 abbrev pub text_or_empty : Option (List ℕ) → List ℕ
@@ -120,7 +125,8 @@ gauge_point n stream p =
 
 unfoldable pub sum_point : ℕ → Stream → NumberPoint → Result Placed RequestFault
 sum_point n stream p =
-    and_then (recorded n p.flags) (λ _. and_then (started n p.start) (λ _. and_then (whole n p.value) (λ v. number_placed n stream p (payloads.Sum v))))
+    and_then (recorded n p.flags) (λ _. and_then (started n p.start) (λ _. and_then (whole n p.value) (λ v.
+    number_placed n stream p (payloads.Sum v))))
 
 abbrev pub sum_of : ℕ → Option ℕ → Result ℤ RequestFault
 sum_of n None = Err (faults.NoSum n)
@@ -154,7 +160,8 @@ histogram_payload n p =
 
 unfoldable pub histogram_point : ℕ → List ℕ → List ℕ → List ℕ → HistogramPoint → Result Placed RequestFault
 histogram_point n scope name unit p =
-    and_then (recorded n p.flags) (λ _. and_then (started n p.start) (λ _. and_then (histogram_payload n p) (λ h. and_then (attributes n p.attributes) (λ attrs.
+    and_then (recorded n p.flags) (λ _. and_then (started n p.start) (λ _. and_then (histogram_payload n p) (λ h.
+    and_then (attributes n p.attributes) (λ attrs.
     Ok (placed p.start p.time (named scope name unit (shapes.Histogram h.0)) attrs h.1)))))
 
 -- ---- metrics
@@ -177,6 +184,26 @@ cumulative m temporality =
     if or_zero temporality == 1 then Err (faults.Delta m)
     else refuse_when (not (or_zero temporality == 2)) (faults.NoTemporality m)
 
+-- whether points of a histogram have the bounds of the first of them
+abbrev pub bounds_in : Option HistogramPoint → List ℕ
+bounds_in None = []
+bounds_in (Some p) = p.bounds
+
+abbrev pub has_bounds : List ℕ → HistogramPoint → Bool
+has_bounds bounds p = pointwise nat_eq p.bounds bounds
+
+abbrev pub have_one_bounds : List HistogramPoint → Bool
+have_one_bounds ps = list_all (has_bounds (bounds_in (slice_get ps 0))) ps
+
+-- where one of their texts is long, points of a histogram have the same bounds, and so one stream
+abbrev pub one_stream : List ℕ → List ℕ → List ℕ → List HistogramPoint → Result (Unit {0}) RequestFault
+one_stream scope name unit ps =
+    refuse_when (any_long scope name unit && not (have_one_bounds ps)) faults.Repeats
+
+-- and no stream more than 64 points: each of them has it compared
+abbrev pub few_points : List ℕ → List ℕ → List ℕ → ℕ → Result (Unit {0}) RequestFault
+few_points scope name unit count = refuse_when (any_long scope name unit && nat_lt 64 count) faults.Repeats
+
 abbrev pub stream_of : List ℕ → Metric → Shape → Stream
 stream_of scope m shape = named scope (text_or_empty m.name) (text_or_empty m.unit) shape
 
@@ -184,11 +211,18 @@ abbrev pub is_monotonic : Option ℕ → Bool
 is_monotonic n = not (or_zero n == 0)
 
 abbrev pub add_data : List ℕ → Metric → Reading → Option Data → Result Reading RequestFault
-add_data scope m r (Some (kinds.Gauge g)) = walk (add_gauge_point (stream_of scope m shapes.Gauge)) r g.points
+add_data scope m r (Some (kinds.Gauge g)) =
+    and_then (few_points scope (text_or_empty m.name) (text_or_empty m.unit) (length g.points)) (λ _.
+    walk (add_gauge_point (stream_of scope m shapes.Gauge)) r g.points)
 add_data scope m r (Some (kinds.Sum s)) =
-    and_then (cumulative r.metrics s.temporality) (λ _. walk (add_sum_point (stream_of scope m (shapes.Sum (is_monotonic s.monotonic)))) r s.points)
+    and_then (cumulative r.metrics s.temporality) (λ _.
+    and_then (few_points scope (text_or_empty m.name) (text_or_empty m.unit) (length s.points)) (λ _.
+    walk (add_sum_point (stream_of scope m (shapes.Sum (is_monotonic s.monotonic)))) r s.points))
 add_data scope m r (Some (kinds.Histogram h)) =
-    and_then (cumulative r.metrics h.temporality) (λ _. walk (add_histogram_point scope (text_or_empty m.name) (text_or_empty m.unit)) r h.points)
+    and_then (cumulative r.metrics h.temporality) (λ _.
+    and_then (few_points scope (text_or_empty m.name) (text_or_empty m.unit) (length h.points)) (λ _.
+    and_then (one_stream scope (text_or_empty m.name) (text_or_empty m.unit) h.points) (λ _.
+    walk (add_histogram_point scope (text_or_empty m.name) (text_or_empty m.unit)) r h.points)))
 add_data scope m r (Some kinds.ExponentialHistogram) = Err (faults.ExponentialHistogram r.metrics)
 add_data scope m r (Some kinds.Summary) = Err (faults.Summary r.metrics)
 add_data scope m r None = Err (faults.NoData r.metrics)
@@ -198,6 +232,21 @@ behind_metric r = record { scopes = r.scopes; metrics = r.metrics + 1; points = 
 
 unfoldable pub add_metric : List ℕ → ℕ → Reading → Metric → Result Reading RequestFault
 add_metric scope i r m = and_then (add_data scope m r m.kind) (λ s. Ok (behind_metric s))
+
+-- how often a metric has its scope: for each point, and once where there is none
+abbrev pub points_in : Option Data → ℕ
+points_in (Some (kinds.Gauge g)) = length g.points
+points_in (Some (kinds.Sum s)) = length s.points
+points_in (Some (kinds.Histogram h)) = length h.points
+points_in (Some kinds.ExponentialHistogram) = 0
+points_in (Some kinds.Summary) = 0
+points_in None = 0
+
+abbrev pub times_held : Metric → ℕ
+times_held m = if points_in m.kind == 0 then 1 else points_in m.kind
+
+unfoldable pub add_metrics : List ℕ → Reading → List Metric → Result Reading RequestFault
+add_metrics scope r ms = and_then (held scope (sum_by times_held ms)) (λ _. walk (add_metric scope) r ms)
 
 -- ---- scopes
 
@@ -218,7 +267,8 @@ scope_name s = name_of s.scope
 
 abbrev pub is_alike : ScopeMetrics → ScopeMetrics → Bool
 is_alike s t =
-    pointwise nat_eq (version_of s.scope) (version_of t.scope) && pointwise (pointwise nat_eq) (attributes_in s.scope) (attributes_in t.scope)
+    pointwise nat_eq (version_of s.scope) (version_of t.scope)
+    && pointwise (pointwise nat_eq) (attributes_in s.scope) (attributes_in t.scope)
 
 abbrev pub differs : ScopeMetrics → Option ScopeMetrics → Bool
 differs s None = false
@@ -233,7 +283,8 @@ behind_scope r = record { scopes = r.scopes + 1; metrics = r.metrics; points = r
 
 unfoldable pub add_scope : List ScopeMetrics → ℕ → Reading → ScopeMetrics → Result Reading RequestFault
 add_scope scopes i r s =
-    and_then (refuse_when (is_other scopes s) (faults.ScopeTwice r.scopes)) (λ _. and_then (walk (add_metric (scope_name s)) r s.metrics) (λ t. Ok (behind_scope t)))
+    and_then (refuse_when (is_other scopes s) (faults.ScopeTwice r.scopes)) (λ _.
+    and_then (add_metrics (scope_name s) r s.metrics) (λ t. Ok (behind_scope t)))
 
 -- ---- resources
 
@@ -308,15 +359,19 @@ built k said (Some f) = Err (faults.BadExport k f)
 
 abbrev pub add_export : WriterId → ℕ → List Said → Group → Result (List Said) RequestFault
 add_export writer i exports g =
-    and_then (built (length exports) (record { writer = writer; start = g.start; time = g.time; points = g.points }) (export_fault g.start g.time g.points))
+    and_then
+    (built (length exports) (record { writer = writer; start = g.start; time = g.time; points = g.points }) (export_fault g.start g.time g.points))
     (λ said. Ok (exports ++ said ∷ []))
 
 abbrev pub groups_of : List Placed → List Group
 groups_of ps = fold add_member [] ps
 
+-- the service is held for each export
 abbrev pub exports_of : WriterId → List Said → Reading → Result (Reading × List Said) RequestFault
 exports_of writer exports r =
-    and_then (walk (add_export writer) exports (groups_of r.placed)) (λ more. Ok (record { scopes = r.scopes; metrics = r.metrics; points = r.points; placed = [] }, more))
+    and_then (held writer.service (length (groups_of r.placed))) (λ _.
+    and_then (walk (add_export writer) exports (groups_of r.placed)) (λ more.
+    Ok (record { scopes = r.scopes; metrics = r.metrics; points = r.points; placed = [] }, more)))
 
 -- the places that the next messages have, and the exports so far
 abbrev pub Progress : Type 0

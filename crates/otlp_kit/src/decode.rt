@@ -1,10 +1,11 @@
 //! The exports that a request brings.
 ghost use Rattle.std.specs.Prelude.{◌≡◌, ◌≢◌, ◌++◌, [], ◌∷◌, length, map, Ok, Err, Some, None, IfOk, IfErr, OnOk};
 ghost use Rattle.point_kit.specs.ExportFaults.{export_fault};
-ghost use Rattle.otlp_kit.specs.Reading.{Said, said_of, built, add_export, groups_of, exports_of, add_resource, exports_in, exports_read, nothing_read};
+ghost use Rattle.otlp_kit.specs.Reading.{Said, said_of, built, add_export, groups_of, exports_of, held, add_resource, exports_in, exports_read, nothing_read};
 ghost use Rattle.otlp_kit.specs.Walks.{walk};
 
 use crate::RequestFault;
+use crate::copies::held;
 use crate::group::{Group, groups_of};
 use crate::message::read;
 use crate::reading::Reading;
@@ -65,6 +66,13 @@ fn add_exports(
     Ok(())
 }
 
+// That each export may have its service.
+fn service_held(writer: &WriterId, groups: &[Group]) -> Result<(), RequestFault>
+    ensures { result ≡ held writer.now.service (length groups.now) }
+{
+    held(writer.service.as_str(), groups.len())
+}
+
 #[tactic(auto, unfolding(crate::specs::Reading::add_resource))]
 fn add_resource(
     alloc: Global,
@@ -82,6 +90,7 @@ fn add_resource(
     reading.add_scopes(alloc, resource.scopes.as_slice())?;
     let placed = mem::replace(&mut reading.placed, Seq::new(alloc));
     let groups = groups_of(alloc, placed)?;
+    service_held(&writer, groups.as_slice())?;
     add_exports(alloc, &writer, groups, exports)
 }
 
@@ -107,12 +116,17 @@ fn exports_in(alloc: Global, request: &Request) -> Result<Vec<Export>, RequestFa
 ///
 /// Refused as [`RequestFault`] tells: first what is wrong with the bytes, at the least place, and then, in the order of the
 /// request, what they say; of one message in the order of the variants. docs/INTEROP.md has the whole. `NoMemory` may come at
-/// any place of bytes that are not empty. O(n log n) comparisons of the keys of a point, the scopes of a resource and its
-/// windows, and O(n) in the bytes beside. A length is compared with the bytes that are left before it is used.
+/// any place of bytes that are not empty. A length is compared with the bytes that are left before it is used.
 ///
-/// Memory is O(n) in the bytes, but for streams: each gauge and sum, and each point of a histogram, has one of its own, with
-/// copies of its scope's name, its name and its unit. A text of more than 30 bytes takes memory in each copy: n bytes of a
-/// stranger can so ask for some n^2 / 60. Whoever takes requests of strangers bounds their length first.
+/// Time is O(n log n) in the bytes. They are read once. The keys of a point, the scopes of a resource, its windows and the
+/// hashes of an export's points are sorted: O(n log n) comparisons, of which one takes no more steps than the text whose place
+/// is sought has bytes.
+///
+/// Memory is O(n). Each stream has copies of its scope's name, its name and its unit, and each export one of its service.
+/// Where two points of an export share a hash, the texts of each point's stream are hashed once more. A text of more than
+/// 1,024 bytes stands at most for 64: `Repeats` refuses more points of a scope or a stream, more exports of a service, and
+/// points of a histogram that differ in their bounds. A shorter one stands for what has 15 bytes and more of its own. So the
+/// copies come to at most some 160 bytes for each byte, and so does what is hashed.
 #[tactic(auto, using(crate::proofs::Empty::no_exports), unfolding(crate::specs::Reading::exports_read))]
 pub fn decode_otlp(alloc: Global, bytes: &[u8]) -> Result<Vec<Export>, RequestFault>
     ensures value { IfOk result (λ exports. exports_read bytes.now ≡ Ok (map said_of exports.items)) }

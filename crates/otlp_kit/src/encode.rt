@@ -49,7 +49,9 @@ fn write_request(export: &Export, out: &mut Vec<u8>) -> Result<(), NoMemory>
 /// any library for Protocol Buffers makes them. They are the body of a POST to `/v1/metrics` of a Collector, with
 /// `Content-Type: application/x-protobuf`.
 ///
-/// Points keep their order, and neighbours share a ScopeMetrics where their scope is one, and a Metric where their stream is.
+/// Points keep their order, and neighbours share a ScopeMetrics where their scope is one, and a Metric where their stream is. A
+/// stream whose scope, name or unit has more than 1,024 bytes has a ScopeMetrics of its own for each 64 points, so that who
+/// reads them need not look at such a text more often.
 /// The writer is the resource, as `service.instance.id` and `service.name`. Sums and histograms are cumulative. Start and
 /// time are nanoseconds since the Unix epoch; a start of 0 is left out, and readers take it for unknown. A histogram's sum,
 /// range and bounds are doubles: each is exact up to 2^53, and beyond the nearest double. All else is exact.

@@ -10,15 +10,16 @@
 //!
 //!     encode_otlp(alloc, export)
 //!
-//! What contracts cite stands in `specs/`. Of writing: `Wire` (the pieces of a message of Protocol Buffers), `Doubles` (whole
-//! numbers as binary64), `Runs` (neighbours that share a message), `Request` (each message and its fields, by the numbers that
-//! opentelemetry-proto gives them) and `Refusals`. Of reading: `Spans`, `Fields` and `Contents` (bytes, and the fields that they
-//! are), `Messages` (what the fields of each message say), `Exact` (whole numbers of doubles), `Walks` (lists that are gone
-//! through), `Places`, and `Reading` (the exports of a request, or its first refusal). `Sent` says which exports come back, by
-//! the law [`comes_back`].
+//! What contracts cite stands in `specs/`. `Copies` says which texts are long. Of writing: `Wire` (the pieces of a message of
+//! Protocol Buffers), `Doubles` (whole numbers as binary64), `Runs` (neighbours that share a message), `Request` (each message
+//! and its fields, by the numbers that opentelemetry-proto gives them) and `Refusals`. Of reading: `Spans`, `Fields` and
+//! `Contents` (bytes, and the fields that they are), `Messages` (what the fields of each message say), `Exact` (whole numbers of
+//! doubles), `Walks` (lists that are gone through), `Places`, and `Reading` (the exports of a request, or its first refusal).
+//! `Sent` says which exports come back, by the law [`comes_back`].
 #![tactic(auto)]
 
 mod attributes;
+mod copies;
 mod decode;
 mod doubles;
 mod encode;
@@ -42,6 +43,8 @@ mod points;
 mod read_tests;
 mod reading;
 mod refusals;
+#[cfg(test)]
+mod repeat_tests;
 mod request_fault;
 mod resource;
 mod runs;

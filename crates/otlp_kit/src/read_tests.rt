@@ -15,7 +15,7 @@ const SERVICE: [u8; 24] = [
     104, 111, 112,
 ];
 
-const INSTANCE: [u8; 63] = [
+pub(crate) const INSTANCE: [u8; 63] = [
     10, 61, 10, 19, 115, 101, 114, 118, 105, 99, 101, 46, 105, 110, 115, 116, 97, 110, 99, 101, 46,
     105, 100, 18, 38, 10, 36, 48, 48, 48, 48, 48, 48, 48, 48, 45, 48, 48, 48, 48, 45, 48, 48, 48,
     48, 45, 48, 48, 48, 48, 45, 48, 48, 48, 48, 48, 48, 48, 48, 48, 48, 48, 49,
@@ -318,7 +318,7 @@ const NO_UUID: [u8; 32] = [
 ];
 
 // A message of these parts, as field 1.
-fn field(alloc: Global, parts: &[&[u8]]) -> Result<Vec<u8>, Fail> {
+pub(crate) fn field(alloc: Global, parts: &[&[u8]]) -> Result<Vec<u8>, Fail> {
     let mut bytes = Vec::new(alloc);
     for part in parts {
         bytes.extend_from_slice(part)?;
@@ -328,12 +328,12 @@ fn field(alloc: Global, parts: &[&[u8]]) -> Result<Vec<u8>, Fail> {
 }
 
 // A request of one resource with these attributes, and what stands behind it.
-fn request(alloc: Global, attributes: &[&[u8]], behind: &[u8]) -> Result<Vec<u8>, Fail> {
+pub(crate) fn request(alloc: Global, attributes: &[&[u8]], behind: &[u8]) -> Result<Vec<u8>, Fail> {
     field(alloc, &[field(alloc, attributes)?.as_slice(), behind])
 }
 
 // The request that this crate makes of such an export.
-fn own(alloc: Global, behind: &[u8]) -> Result<Vec<u8>, Fail> {
+pub(crate) fn own(alloc: Global, behind: &[u8]) -> Result<Vec<u8>, Fail> {
     request(alloc, &[&INSTANCE, &SERVICE], behind)
 }
 
@@ -352,12 +352,12 @@ fn says(alloc: Global, bytes: &[u8], said: &[&[u8]]) -> Result<bool, Fail> {
 }
 
 // The same of one resource that brings one export, as others write it.
-fn says_one(alloc: Global, behind: &[u8], said: &[u8]) -> Result<bool, Fail> {
+pub(crate) fn says_one(alloc: Global, behind: &[u8], said: &[u8]) -> Result<bool, Fail> {
     let bytes = request(alloc, &[&SERVICE, &INSTANCE], behind)?;
     says(alloc, bytes.as_slice(), &[own(alloc, said)?.as_slice()])
 }
 
-fn fault(alloc: Global, bytes: &[u8]) -> Option<RequestFault> {
+pub(crate) fn fault(alloc: Global, bytes: &[u8]) -> Option<RequestFault> {
     decode_otlp(alloc, bytes).err()
 }
 
@@ -367,7 +367,7 @@ fn fault_of(alloc: Global, attributes: &[&[u8]]) -> Result<Option<RequestFault>,
 }
 
 // Why one is with this behind a good resource.
-fn fault_behind(alloc: Global, behind: &[u8]) -> Result<Option<RequestFault>, Fail> {
+pub(crate) fn fault_behind(alloc: Global, behind: &[u8]) -> Result<Option<RequestFault>, Fail> {
     Ok(fault(alloc, own(alloc, behind)?.as_slice()))
 }
 

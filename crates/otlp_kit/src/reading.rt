@@ -1,9 +1,11 @@
 //! Points, metrics and scopes, one after another.
-ghost use Rattle.std.specs.Prelude.{◌≡◌, ◌≢◌, ◌+◌, ◌<◌, ◌%◌, ◌==◌, ◌++◌, [], ◌∷◌, not, length, slice_get, map, Ok, Err, IfOk, IfErr, OnOk};
-ghost use Rattle.otlp_kit.specs.Reading.{text_or_empty, or_zero, recorded, started, whole, number_placed, gauge_point, sum_point, histogram_point, histogram_payload, buckets_of, with_point, add_gauge_point, add_sum_point, add_histogram_point, cumulative, named, add_data, add_metric, is_alike, differs, name_of, version_of, attributes_in, scope_name, is_other, add_scope, nothing_read};
+ghost use Rattle.std.specs.Prelude.{◌≡◌, ◌≢◌, ◌+◌, ◌<◌, ◌%◌, ◌==◌, ◌&&◌, ◌||◌, ◌++◌, [], ◌∷◌, not, true, length, slice_get, map, Ok, Err, IfOk, IfErr, IfSome, OnOk};
+ghost use Rattle.otlp_kit.specs.Copies.{any_long};
+ghost use Rattle.otlp_kit.specs.Reading.{text_or_empty, or_zero, recorded, started, whole, number_placed, gauge_point, sum_point, histogram_point, histogram_payload, buckets_of, with_point, add_gauge_point, add_sum_point, add_histogram_point, cumulative, bounds_in, have_one_bounds, one_stream, few_points, named, add_data, add_metric, add_metrics, is_alike, differs, name_of, version_of, attributes_in, scope_name, is_other, add_scope, nothing_read};
 ghost use Rattle.otlp_kit.specs.Walks.{walk};
 
 use crate::RequestFault;
+use crate::copies::{MOST_OF_A_LONG_TEXT, any_long, scope_held};
 use crate::exact::{bounds_of, range_of, sum_of};
 use crate::first_places::first_places;
 use crate::histogram_point::HistogramPoint;
@@ -159,8 +161,12 @@ fn histogram_point(
     alloc: Global,
     place: usize,
     names: &Names<'_>,
+    last: &Option<SharedStream>,
     said: &HistogramPoint,
 ) -> Result<Placed, RequestFault>
+    requires { IfSome last.now (λ s. s ≡ named names.now.scope.now names.now.name.now names.now.unit.now s.shape) }
+    ensures stream { IfOk result (λ p. p.point.stream
+        ≡ named names.now.scope.now names.now.name.now names.now.unit.now p.point.stream.shape) }
     ensures ok { IfOk result (λ p. histogram_point place names.now.scope.now names.now.name.now names.now.unit.now said.now
         ≡ Ok p) }
     ensures err { IfErr result (λ f. f ≢ RequestFault.NoMemory
@@ -174,11 +180,36 @@ fn histogram_point(
         start: said.start.unwrap_or(0),
         time: said.time.unwrap_or(0),
         point: ExportPoint {
-            stream: names.stream(alloc, Shape::Histogram { bounds })?,
+            stream: names.stream_after(alloc, last, Shape::Histogram { bounds })?,
             attrs,
             payload,
         },
     })
+}
+
+fn first_bounds(points: &[HistogramPoint]) -> &[u64]
+    ensures { result.now ≡ bounds_in (slice_get points.now 0) }
+{
+    match points.get(0) {
+        Some(first) => first.bounds.as_slice(),
+        None => &[],
+    }
+}
+
+// Whether points of a histogram have the bounds of the first of them.
+fn have_one_bounds(points: &[HistogramPoint]) -> bool
+    ensures { result ≡ have_one_bounds points.now }
+{
+    let bounds = first_bounds(points);
+    points.iter().all(|point| point.bounds.as_slice() == bounds)
+}
+
+// Whether a stream has this shape.
+#[tactic(auto, using(point_kit::specs::Exact::exact_shapes))]
+fn has_shape(stream: &SharedStream, shape: &Shape) -> bool
+    ensures { result ≡ true → stream.now.shape ≡ shape.now }
+{
+    stream.get().shape == *shape
 }
 
 /// What the streams of a metric have in common.
@@ -210,6 +241,50 @@ impl<'a> Names<'a> {
             shape,
         };
         SharedStream::new(alloc, stream)
+    }
+
+    // The same, shared with the last point where that has this shape.
+    fn stream_after(
+        &self,
+        alloc: Global,
+        last: &Option<SharedStream>,
+        shape: Shape,
+    ) -> Result<SharedStream, NoMemory>
+        requires { IfSome last.now (λ s. s ≡ named self.now.scope.now self.now.name.now self.now.unit.now s.shape) }
+        ensures { IfOk result (λ s. s ≡ named self.now.scope.now self.now.name.now self.now.unit.now shape) }
+    {
+        if let Some(last) = last
+            && has_shape(last, &shape)
+        {
+            return last.try_copy();
+        }
+        self.stream(alloc, shape)
+    }
+
+    fn has_long_text(&self) -> bool
+        ensures { result ≡ any_long self.now.scope.now self.now.name.now self.now.unit.now }
+    {
+        any_long(self.scope, self.name, self.unit)
+    }
+
+    // That so many points do not ask for a long text to be compared too often.
+    fn few_points(&self, count: usize) -> Result<(), RequestFault>
+        ensures { result ≡ few_points self.now.scope.now self.now.name.now self.now.unit.now count }
+    {
+        if self.has_long_text() && count > MOST_OF_A_LONG_TEXT {
+            return Err(RequestFault::Repeats);
+        }
+        Ok(())
+    }
+
+    // That points of a histogram do not ask for copies of a long text.
+    fn one_stream(&self, points: &[HistogramPoint]) -> Result<(), RequestFault>
+        ensures { result ≡ one_stream self.now.scope.now self.now.name.now self.now.unit.now points.now }
+    {
+        if self.has_long_text() && !have_one_bounds(points) {
+            return Err(RequestFault::Repeats);
+        }
+        Ok(())
     }
 }
 
@@ -293,8 +368,10 @@ impl Reading {
         ensures err { IfErr result (λ f. f ≢ RequestFault.NoMemory
             → walk (add_histogram_point names.now.scope.now names.now.name.now names.now.unit.now) self.old points.now ≡ Err f) }
     {
+        let mut last = None;
         for point in points {
-            let placed = histogram_point(alloc, self.points, names, point)?;
+            let placed = histogram_point(alloc, self.points, names, &last, point)?;
+            last = Some(placed.point.stream.try_copy()?);
             self.push(alloc, placed)?;
         }
         Ok(())
@@ -312,17 +389,21 @@ impl Reading {
         };
         match &metric.kind {
             Some(Data::Gauge(gauge)) => {
+                names.few_points(gauge.points.len())?;
                 let stream = names.stream(alloc, Shape::Gauge)?;
                 self.add_gauge(alloc, &stream, gauge.points.as_slice())
             }
             Some(Data::Sum(sum)) => {
                 cumulative(self.metrics, sum.temporality)?;
+                names.few_points(sum.points.len())?;
                 let monotonic = sum.monotonic.unwrap_or(0) != 0;
                 let stream = names.stream(alloc, Shape::Sum { monotonic })?;
                 self.add_sum(alloc, &stream, sum.points.as_slice())
             }
             Some(Data::Histogram(histogram)) => {
                 cumulative(self.metrics, histogram.temporality)?;
+                names.few_points(histogram.points.len())?;
+                names.one_stream(histogram.points.as_slice())?;
                 self.add_histogram(alloc, &names, histogram.points.as_slice())
             }
             Some(Data::ExponentialHistogram) => {
@@ -333,17 +414,18 @@ impl Reading {
         }
     }
 
-    #[tactic(auto, unfolding(crate::specs::Reading::add_metric, crate::specs::Walks::walk))]
+    #[tactic(auto, unfolding(crate::specs::Reading::add_metrics, crate::specs::Reading::add_metric, crate::specs::Walks::walk))]
     fn add_metrics(
         &mut self,
         alloc: Global,
         scope: &str,
         metrics: &[Metric],
     ) -> Result<(), RequestFault>
-        ensures ok { OnOk result (walk (add_metric scope.now) self.old metrics.now ≡ Ok self.new) }
+        ensures ok { OnOk result (add_metrics scope.now self.old metrics.now ≡ Ok self.new) }
         ensures err { IfErr result (λ f. f ≢ RequestFault.NoMemory
-            → walk (add_metric scope.now) self.old metrics.now ≡ Err f) }
+            → add_metrics scope.now self.old metrics.now ≡ Err f) }
     {
+        scope_held(scope, metrics)?;
         for metric in metrics {
             self.add_data(alloc, scope, metric)?;
             self.metrics = next(self.metrics)?;

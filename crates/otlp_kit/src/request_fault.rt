@@ -8,7 +8,7 @@ use thiserror::Error;
 
 /// Why a request is not read, in the order in which it is looked for. Of [`RequestFault::Malformed`] and
 /// [`RequestFault::NotText`] the place is a byte's; of the others it is that of a message among all of its kind in the
-/// request. Both are counted from 0.
+/// request. Both are counted from 0. [`RequestFault::Repeats`] has none.
 #[derive(Clone, Copy, Debug, PartialEq, Eq, Error)]
 pub enum RequestFault {
     /// The bytes from this place on are no field, or one that its message does not have so: of another wire type, or a
@@ -81,6 +81,11 @@ pub enum RequestFault {
     /// The value of an attribute of the point is neither a text nor a truth nor a whole number.
     #[error("an attribute of point {0} has another value")]
     AttributeValue(usize),
+    /// A text of more than 1,024 bytes stands for too much. A scope of such a name has more than 64 points, where a metric
+    /// without points counts as one; a metric of such a name or unit has more than 64; a service of such a name has more than
+    /// 64 exports; or points of a histogram differ in their bounds where its scope, name or unit has more than 1,024 bytes.
+    #[error("a text of more than 1024 bytes is repeated too often")]
+    Repeats,
     /// The points of one resource, start and time make no export: its place among those that are read, and why.
     #[error("export {0}: {1}")]
     BadExport(usize, ExportFault),

@@ -4,7 +4,7 @@ use Rattle.std.specs.Prelude.{OnOk, OnErr, IfErr}
 use Rattle.script_kit.specs.Lines.{line_of}
 use Rattle.script_kit.specs.declared.line.Line.{Line}
 use Rattle.script_kit.specs.declared.reason.Reason.{Reason}
-use Rattle.otm_kit.specs.Effects.{bad, effect_of}
+use Rattle.otm_kit.specs.Effects.{bad}
 use Rattle.otm_kit.specs.Says.{piece_effect, read_effect}
 use Rattle.otm_kit.specs.Standing.{Acts, effect}
 use Rattle.otm_kit.specs.declared.desk.Desk.{Desk}

@@ -1,8 +1,8 @@
 -- What a desk stands for after one line more.
 use mathlib.Core.Bool.{true≢false}
 use Rattle.std.proofs.Common.{◌≡◌, ℕ, ◌<◌, ◌≤◌, Bool, true, false, not, List, [], ◌∷◌, ◌++◌, length, Option, Some, None, Result, Ok, Err, refl, sym, ap, ◌∙◌, subst, arith, slice_get, get_or, inl, inr}
-use Rattle.std.specs.Prelude.{if◌then◌else◌, IfSome, codes, IsTrue, ◌↔◌, ◌==◌}
-use Rattle.std.specs.Option.{is_some, option_map, option_map_or, unwrap_or}
+use Rattle.std.specs.Prelude.{if◌then◌else◌, codes, IsTrue, ◌↔◌, ◌==◌}
+use Rattle.std.specs.Option.{is_some, unwrap_or}
 use Rattle.std.proofs.lemmas.List.Elements.{filter_map-append}
 use Rattle.std.proofs.lemmas.List.Quantifiers.{position-Some}
 use Rattle.std.proofs.lemmas.List.Sums.{fold_push}

@@ -13,7 +13,7 @@ use Rattle.script_kit.specs.Words.{pieces_of, is_filled}
 use Rattle.script_kit.specs.declared.fault.ScriptFault.TheVariants as faults
 use Rattle.script_kit.specs.declared.line.Line.{Line}
 use Rattle.otm_kit.specs.Effects.{Effect, done, bad}
-use Rattle.otm_kit.specs.Says.{Output, Wrong, output_of, says, wrong_of, bad_line_of, reason_of, sentence_for, behind, then_says, piece_effect, lines_of, effect_text}
+use Rattle.otm_kit.specs.Says.{Output, Wrong, output_of, says, wrong_of, bad_line_of, sentence_for, behind, then_says, piece_effect, lines_of, effect_text}
 use Rattle.otm_kit.specs.Standing.{Does, Fails, FailsNext, IsAfter, Tells, TellsOf}
 use Rattle.otm_kit.specs.declared.desk.Desk.{Desk}
 use Rattle.otm_kit.specs.declared.ended.Ended.{Ended}

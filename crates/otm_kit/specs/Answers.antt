@@ -19,7 +19,7 @@ use Rattle.point_kit.specs.declared.writer_id.WriterId.{WriterId}
 use Rattle.std.specs.Option.{option_map}
 use Rattle.world_kit.specs.States.{state_at}
 use Rattle.otm_kit.specs.Begin.{setup_of}
-use Rattle.otm_kit.specs.Declarations.{Declared, gateway_place}
+use Rattle.otm_kit.specs.Declarations.{Declared}
 use Rattle.otm_kit.specs.Events.{gateway_at, deeds_of_commands, writer_place}
 
 -- the state of the exports that the gateway at a place took

@@ -1,6 +1,7 @@
 -- The setup of the program's fleet, and what is asked of its gateways.
-use Rattle.std.specs.Prelude.{◌≡◌, ◌≢◌, ◌⊎◌, ◌+◌, ℕ, Bool, zero, suc, pos, List, [], ◌∷◌, ◌++◌, codes, replicate, None, Some, true}
+use Rattle.std.specs.Prelude.{◌≡◌, ◌≢◌, ◌⊎◌, ◌+◌, ◌≤◌, ℕ, Bool, zero, suc, pos, List, [], ◌∷◌, ◌++◌, codes, replicate, None, Some, true}
 use Rattle.std.specs.Int.{to_be_bytes, w128}
+use Rattle.std.specs.Vec.{vec_capacity}
 use Rattle.agg_kit.specs.Entries.{Entry, entry_of}
 use Rattle.attr_kit.specs.declared.keep.Keep.TheVariants.{Only}
 use Rattle.fleet_kit.specs.Checks.{setup_fault}
@@ -9,6 +10,7 @@ use Rattle.fleet_kit.specs.Setups.{tasks_of}
 use Rattle.fleet_kit.specs.declared.fault.FleetFault.{FleetFault}
 use Rattle.fleet_kit.specs.declared.fault.FleetFault.TheVariants.{NoMemory}
 use Rattle.fleet_kit.specs.declared.setup.FleetSetup.{FleetSetup}
+use Rattle.fleet_kit.specs.declared.setup.Job.{Job}
 use Rattle.plan_kit.specs.Feeds.{plan_of}
 use Rattle.plan_kit.specs.Plans.{Planned}
 use Rattle.plan_kit.specs.declared.instrument.Instrument.{Instrument}
@@ -38,6 +40,14 @@ fleet_task each writer = record { writer = writer; entries = replicate each one 
 abbrev pub fleet_tasks : ℕ → ℕ → ℕ → List Task
 fleet_tasks zero recorders each = []
 fleet_tasks (suc n) recorders each = fleet_tasks n recorders each ++ replicate recorders (fleet_task each n)
+
+-- a job without entries has room for so many
+abbrev pub HasRoom : ℕ → Job → Type 0
+HasRoom each j = (j.entries.items ≡ []) × (each ≤ vec_capacity j.entries)
+
+-- what it brings to its writer once it has them
+abbrev pub task_once_filled : ℕ → Job → Task
+task_once_filled each j = fleet_task each j.writer
 
 -- the writer at a place: its service is `fleet`, its instance the place and 1, and it starts at 1
 abbrev pub fleet_writer : ℕ → WriterId × Planned × ℕ

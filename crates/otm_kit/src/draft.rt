@@ -23,7 +23,6 @@ pub(crate) struct Draft {
 }
 
 impl Model for Draft {
-    ghost use Rattle.std.specs.Coded.{codes};
     ghost use Rattle.otm_kit.specs.Declarations.{Declared};
     ghost use Rattle.plan_kit.specs.contracts.instrument.Instrument as instrument;
     ghost use Rattle.plan_kit.specs.contracts.view.View as view;

@@ -1,18 +1,20 @@
 //! The totals of a fleet.
-ghost use Rattle.std.specs.Prelude.{◌≡◌, ◌≤◌, IfOk, IsErrOf, OnErr, OnOk, string_bytes};
+ghost use Rattle.std.specs.Prelude.{◌≡◌, ◌≢◌, ◌≤◌, ℕ, IfOk, IsErrOf, OnErr, OnOk, string_bytes};
 ghost use Rattle.std.specs.Io.KnownBytes.{Appends, Keeps};
 ghost use Rattle.std.specs.List.{flat_map};
 ghost use Rattle.fleet_kit.specs.declared.fault.FleetFault.{FleetFault};
+ghost use Rattle.fleet_kit.specs.declared.fault.FleetFault.TheVariants as faults;
+ghost use Rattle.fleet_kit.specs.declared.setup.FleetSetup.{FleetSetup};
 ghost use Rattle.rollup_kit.specs.Rollups.{rollup_rows};
 ghost use Rattle.script_kit.specs.Bytes.{AppendsFront};
 ghost use Rattle.otm_kit.specs.Asked.{IsCount};
-ghost use Rattle.otm_kit.specs.FleetSetups.{IsToldFault};
+ghost use Rattle.otm_kit.specs.FleetSetups.{EndsBy, IsFleetSetup, IsToldFault};
 ghost use Rattle.otm_kit.specs.FleetTexts.{answer_line, report, sum_in, total_line};
 
 use crate::FleetEnd;
 use crate::fleet_setup::{ask, setup};
 use attr_kit::NoMemory;
-use fleet_kit::{Open, run_fleet};
+use fleet_kit::{FleetSetup, Open, run_fleet};
 use gateway_kit::Gateway;
 use rollup_kit::{Ask, Total, rollup};
 use script_kit::write_text;
@@ -54,20 +56,17 @@ fn lines(alloc: Global, gateways: &[Gateway], ask: &Ask) -> Result<String, NoMem
     Ok(text)
 }
 
-// Runs the fleet to its end, and tells the totals of its gateways.
+// Runs a fleet to its end, and tells the totals of its gateways.
 fn totals_of_run<R: Threads + Wait + Sync>(
     rt: &R,
     alloc: Global,
-    writers: u8,
-    recorders: u8,
-    each: u64,
-    gateways: u8,
+    setup: FleetSetup,
 ) -> Result<String, FleetEnd>
-    ensures value { IfOk result (λ text. string_bytes text ≡ report writers recorders each gateways) }
-    ensures fault { (f : FleetFault) → IsErrOf result (FleetEnd.Fleet f) → IsToldFault writers recorders each gateways f }
+    ensures value { IfOk result (λ text. (writers recorders each gateways : ℕ) → IsFleetSetup writers recorders each gateways setup
+        → string_bytes text ≡ report writers recorders each gateways) }
+    ensures fault { (f : FleetFault) → IsErrOf result (FleetEnd.Fleet f) → EndsBy setup f × (f ≢ faults.NoMemory) }
     ensures unwritten { IsErrOf result FleetEnd.WriteFault → ⊥ }
 {
-    let setup = setup(alloc, writers, recorders, each, gateways)?;
     let gateways = run_fleet(rt, alloc, setup, &Open)?;
     let ask = ask(alloc)?;
     Ok(lines(alloc, gateways.as_slice(), &ask)?)
@@ -101,7 +100,8 @@ pub fn fleet_report<R: Threads + Wait + Sync, W: Write>(
     ensures unwritten { (f : FleetFault) → IsErrOf result (FleetEnd.Fleet f) → Keeps (W.contents writer.old) (W.contents writer.new) }
     ensures no_memory { IsErrOf result FleetEnd.NoMemory → Keeps (W.contents writer.old) (W.contents writer.new) }
 {
-    let text = totals_of_run(rt, alloc, writers, recorders, each, gateways)?;
+    let setup = setup(rt, alloc, writers, recorders, each, gateways)?;
+    let text = totals_of_run(rt, alloc, setup)?;
     match write_text(writer, text.as_bytes()) {
         Ok(()) => Ok(()),
         Err(_) => Err(FleetEnd::WriteFault),

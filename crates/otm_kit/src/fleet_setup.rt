@@ -1,7 +1,7 @@
 //! The setup of the program's fleet.
-ghost use Rattle.std.specs.Prelude.{◌≡◌, ◌++◌, IfOk, OnOk, map, replicate};
+ghost use Rattle.std.specs.Prelude.{◌≡◌, ◌++◌, All, IfOk, OnOk, map, replicate};
 ghost use Rattle.fleet_kit.specs.Jobs.{task_of};
-ghost use Rattle.otm_kit.specs.FleetSetups.{IsFleetSetup, fleet_ask, fleet_plan, fleet_task, fleet_tasks, fleet_writer, fleet_writers};
+ghost use Rattle.otm_kit.specs.FleetSetups.{HasRoom, IsFleetSetup, fleet_ask, fleet_plan, fleet_task, fleet_tasks, fleet_writer, fleet_writers, task_once_filled};
 ghost use Rattle.otm_kit.specs.FleetTexts.{fleet_ids};
 
 use attr_kit::{AllowList, AttrSet, Keep, NoMemory, Seq, Txt};
@@ -10,6 +10,8 @@ use plan_kit::{DEFAULT_LIMIT, Instrument, Kind, Plan};
 use point_kit::{Shape, Stream, WriterId};
 use rollup_kit::Ask;
 use std::alloc::Global;
+use std::thread;
+use std::thread::Threads;
 use uuid::Uuid;
 
 // The plan of every writer. It has no fault, so that only memory can be wanting.
@@ -51,40 +53,80 @@ fn writers(alloc: Global, count: u8) -> Result<Vec<(WriterId, Plan, u64)>, NoMem
     Ok(writers)
 }
 
-// The job of a recorder.
-fn job(alloc: Global, writer: usize, each: u64) -> Result<Job, NoMemory>
-    ensures { IfOk result (λ job. task_of job ≡ fleet_task each writer) }
+// A job without entries, with room for them.
+fn empty_job(alloc: Global, writer: usize, each: u64) -> Result<Job, NoMemory>
+    ensures writer { IfOk result (λ job. job.writer ≡ writer) }
+    ensures room { IfOk result (HasRoom each) }
 {
-    let mut entries = Vec::new(alloc);
-    for _entry in 0..each {
-        entries.push((0, AttrSet::empty(alloc), 1))?;
-    }
+    let entries = Vec::with_capacity(alloc, each as usize)?;
     Ok(Job { writer, entries })
 }
 
-// Adds the jobs of a writer.
-fn add_jobs(
+// Adds the jobs of a writer, without entries.
+fn add_empty_jobs(
     jobs: &mut Vec<Job>,
     alloc: Global,
     writer: usize,
     recorders: u8,
     each: u64,
 ) -> Result<(), NoMemory>
-    ensures { OnOk result (map task_of jobs.new.items ≡ map task_of jobs.old.items ++ replicate recorders (fleet_task each writer)) }
+    requires { All (HasRoom each) jobs.old.items }
+    ensures tasks { OnOk result (map (task_once_filled each) jobs.new.items
+        ≡ map (task_once_filled each) jobs.old.items ++ replicate recorders (fleet_task each writer)) }
+    ensures room { All (HasRoom each) jobs.new.items }
 {
     for _recorder in 0..recorders {
-        jobs.push(job(alloc, writer, each)?)?;
+        jobs.push(empty_job(alloc, writer, each)?)?;
     }
     Ok(())
 }
 
-fn jobs(alloc: Global, writers: u8, recorders: u8, each: u64) -> Result<Vec<Job>, NoMemory>
-    ensures { IfOk result (λ jobs. map task_of jobs.items ≡ fleet_tasks writers recorders each) }
+fn empty_jobs(alloc: Global, writers: u8, recorders: u8, each: u64) -> Result<Vec<Job>, NoMemory>
+    ensures tasks { IfOk result (λ jobs. map (task_once_filled each) jobs.items ≡ fleet_tasks writers recorders each) }
+    ensures room { IfOk result (λ jobs. All (HasRoom each) jobs.items) }
 {
     let mut jobs = Vec::new(alloc);
     for writer in 0..writers {
-        add_jobs(&mut jobs, alloc, usize::from(writer), recorders, each)?;
+        add_empty_jobs(&mut jobs, alloc, usize::from(writer), recorders, each)?;
     }
+    Ok(jobs)
+}
+
+// The job with its entries.
+fn filled_job(alloc: Global, job: Job, each: u64) -> Job
+    requires { HasRoom each job }
+    ensures { task_of result ≡ task_once_filled each job }
+{
+    let Job {
+        writer,
+        mut entries,
+    } = job;
+    for _entry in 0..each {
+        entries.push_reserved((0, AttrSet::empty(alloc), 1));
+    }
+    Job { writer, entries }
+}
+
+// The jobs, each filled in a thread of its own where one can be made: to write a million entries into new pages takes longer than to
+// record them. All room is had before.
+fn jobs<R: Threads + Sync>(
+    rt: &R,
+    alloc: Global,
+    writers: u8,
+    recorders: u8,
+    each: u64,
+) -> Result<Vec<Job>, NoMemory>
+    ensures { IfOk result (λ jobs. map task_of jobs.items ≡ fleet_tasks writers recorders each) }
+{
+    let empty = empty_jobs(alloc, writers, recorders, each)?;
+    let jobs = thread::map_vec(
+        rt,
+        empty,
+        &|job: Job| -> Job
+            requires { HasRoom each job }
+            ensures { task_of result ≡ task_once_filled each job }
+        { filled_job(alloc, job, each) },
+    )?;
     Ok(jobs)
 }
 
@@ -100,7 +142,8 @@ fn ids(alloc: Global, count: u8) -> Result<Vec<u32>, NoMemory>
 
 /// The setup of a fleet: writers of the service `fleet` with the instances 1, 2 and so on, which start at 1; for each of
 /// them so many jobs of so many recordings of 1, without attributes; and gateways with the ids 1, 2 and so on. It ends at 2.
-pub(crate) fn setup(
+pub(crate) fn setup<R: Threads + Sync>(
+    rt: &R,
     alloc: Global,
     writer_count: u8,
     recorders: u8,
@@ -111,7 +154,7 @@ pub(crate) fn setup(
 {
     Ok(FleetSetup {
         writers: writers(alloc, writer_count)?,
-        jobs: jobs(alloc, writer_count, recorders, each)?,
+        jobs: jobs(rt, alloc, writer_count, recorders, each)?,
         gateways: ids(alloc, gateways)?,
         end: 2,
     })

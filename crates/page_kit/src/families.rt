@@ -1,6 +1,5 @@
 //! The metrics of points, and which of them are shown.
 ghost use Rattle.std.specs.Prelude.{◌≡◌, ◌++◌, ◌∷◌, [], if◌then◌else◌, IfOk, OnOk};
-ghost use Rattle.gateway_kit.specs.Walks.{keyed_cell_of_ref};
 ghost use Rattle.page_kit.specs.Families.{metrics_of, rank_of, ranked, by_name, own_names, IsClaimed, shown_after, hidden_after, shown_metrics, hidden_metrics};
 ghost use Rattle.page_kit.specs.Views.{cells, cell_lists, with_cells, all_measured};
 

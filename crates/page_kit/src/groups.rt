@@ -1,5 +1,5 @@
 //! Values by their keys.
-ghost use Rattle.std.specs.Prelude.{◌≡◌, IfOk, OnOk, map};
+ghost use Rattle.std.specs.Prelude.{◌≡◌, IfOk, OnOk};
 ghost use Rattle.std.specs.List.{flat_map};
 ghost use Rattle.page_kit.specs.Groups.{put};
 ghost use Rattle.page_kit.specs.Views.{lists};

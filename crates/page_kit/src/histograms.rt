@@ -1,14 +1,12 @@
 //! The samples of histograms.
-ghost use Rattle.std.specs.Prelude.{◌≡◌, ◌++◌, ◌∷◌, [], ◌+◌, ◌<◌, ◌≤◌, ◌^◌, ◌==◌, if◌then◌else◌, length, take, codes, IfOk, OnOk, string_bytes};
-ghost use Rattle.std.specs.Fmt.{decimal, signed_decimal};
-ghost use Rattle.std.specs.List.{flat_map};
+ghost use Rattle.std.specs.Prelude.{◌≡◌, ◌++◌, ◌∷◌, [], ◌+◌, ◌<◌, ◌≤◌, ◌^◌, ◌==◌, if◌then◌else◌, length, take, IfOk, OnOk, string_bytes};
+ghost use Rattle.std.specs.Fmt.{signed_decimal};
 ghost use Rattle.std.specs.Str.{IsAscii};
-ghost use Rattle.gateway_kit.specs.Walks.{keyed_cell_of_ref};
 ghost use Rattle.page_kit.specs.Bounds.{values_up_to};
 ghost use Rattle.page_kit.specs.Lines.{sample};
 ghost use Rattle.page_kit.specs.Rows.{without_zeros, point_behind, mantissa, two_digits, scientific, bound_text, le, bucket, histogram};
 ghost use Rattle.page_kit.specs.Totals.{sum_of, count_of};
-ghost use Rattle.page_kit.specs.Views.{cells};
+ghost use Rattle.page_kit.specs.Views.{Appends, cells};
 
 use crate::bounds::values_up_to;
 use crate::labels::Label;
@@ -48,7 +46,7 @@ fn point_behind(place: usize, len: usize) -> &'static str
 // Adds the first digit, and the others behind a point.
 fn push_mantissa(text: &mut String, digits: &[u8]) -> Result<(), NoMemory>
     requires { IsAscii digits.now }
-    ensures { OnOk result (string_bytes text.new ≡ string_bytes text.old ++ mantissa digits.now) }
+    ensures { OnOk result (Appends text.old text.new (mantissa digits.now)) }
 {
     for (place, digit) in digits.iter().enumerate() {
         text.push(*digit as char)?;
@@ -59,7 +57,7 @@ fn push_mantissa(text: &mut String, digits: &[u8]) -> Result<(), NoMemory>
 
 // Adds a number in at least two digits.
 fn push_two_digits(text: &mut String, number: usize) -> Result<(), NoMemory>
-    ensures { OnOk result (string_bytes text.new ≡ string_bytes text.old ++ two_digits number) }
+    ensures { OnOk result (Appends text.old text.new (two_digits number)) }
 {
     if number < 10 {
         text.push('0')?;
@@ -118,7 +116,7 @@ fn push_bucket(
     bound: &str,
     count: u128,
 ) -> Result<(), NoMemory>
-    ensures { OnOk result (string_bytes text.new ≡ string_bytes text.old ++ bucket name.now labels.now bound.now count) }
+    ensures { OnOk result (Appends text.old text.new (bucket name.now labels.now bound.now count)) }
 {
     let labels = with_bound(alloc, labels, bound)?;
     let number = format!(in alloc; "{count}")?;
@@ -135,8 +133,8 @@ pub(crate) fn push_sum(
     labels: &[Label],
     points: &[PointRef],
 ) -> Result<(), NoMemory>
-    ensures { OnOk result (string_bytes text.new ≡ string_bytes text.old
-        ++ sample (name.now ++ ending.now) labels.now (signed_decimal (sum_of (cells points.now)))) }
+    ensures { OnOk result (Appends text.old text.new
+        (sample (name.now ++ ending.now) labels.now (signed_decimal (sum_of (cells points.now))))) }
 {
     let sum = sum_of(points);
     let number = format!(in alloc; "{sum}")?;
@@ -154,7 +152,7 @@ pub(crate) fn push_histogram(
     bounds: &[i64],
     points: &[PointRef],
 ) -> Result<(), NoMemory>
-    ensures { OnOk result (string_bytes text.new ≡ string_bytes text.old ++ histogram name.now labels.now bounds.now (cells points.now)) }
+    ensures { OnOk result (Appends text.old text.new (histogram name.now labels.now bounds.now (cells points.now))) }
 {
     for bound in bounds {
         let le = bound_text(alloc, *bound)?;

@@ -1,6 +1,7 @@
 //! Names as Prometheus wants them.
 ghost use Rattle.std.specs.Prelude.{◌≡◌, ◌++◌, ◌∷◌, ℕ, List, slice_index, IfOk, OnOk, string_bytes};
 ghost use Rattle.page_kit.specs.Names.{line_from, line, lead, led, without_prefix, without_suffix, trimmed, has_part};
+ghost use Rattle.page_kit.specs.Views.{Appends};
 
 use attr_kit::NoMemory;
 use std::alloc::Global;
@@ -42,7 +43,7 @@ fn first_byte(bytes: &[u8]) -> u8
 
 // Adds what stands before a name so that it begins with a letter.
 fn push_lead(text: &mut String, word: &str, name: &str) -> Result<(), NoMemory>
-    ensures { OnOk result (string_bytes text.new ≡ string_bytes text.old ++ lead word.now name.now) }
+    ensures { OnOk result (Appends text.old text.new (lead word.now name.now)) }
 {
     let first = first_byte(name.as_bytes());
     if first.is_ascii_alphabetic() {

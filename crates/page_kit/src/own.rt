@@ -1,15 +1,14 @@
 //! The families of the kit's own, which tell what a page leaves out.
-ghost use Rattle.std.specs.Prelude.{◌≡◌, ◌+◌, ◌/◌, ◌%◌, ◌<◌, ◌++◌, ◌∷◌, [], length, codes, if◌then◌else◌, IfOk, OnOk, string_bytes};
+ghost use Rattle.std.specs.Prelude.{◌≡◌, ◌+◌, ◌/◌, ◌%◌, ◌<◌, ◌∷◌, [], length, codes, IfOk, OnOk, string_bytes};
 ghost use Rattle.std.specs.Fmt.{decimal};
 ghost use Rattle.std.specs.List.{flat_map};
-ghost use Rattle.gateway_kit.specs.Walks.{keyed_cell_of_ref};
 ghost use Rattle.page_kit.specs.Groups.{put};
-ghost use Rattle.page_kit.specs.Labels.{labels_cmp, conflict_labels};
+ghost use Rattle.page_kit.specs.Labels.{conflict_labels};
 ghost use Rattle.page_kit.specs.Families.{own_names};
 ghost use Rattle.page_kit.specs.Lines.{sample, metadata};
 ghost use Rattle.page_kit.specs.Page.{conflict_rows, service_rows, left_out_rows, conflicts_text, keys_text, left_out_text, seconds, newest_text, own_text};
 ghost use Rattle.page_kit.specs.Totals.{is_conflict, latest};
-ghost use Rattle.page_kit.specs.Views.{lists, cells, cell_lists, all_measured};
+ghost use Rattle.page_kit.specs.Views.{Appends, with_conflict, lists, cells, cell_lists, all_measured};
 
 use crate::families::Measured;
 use crate::groups::{list_of, put};
@@ -43,7 +42,7 @@ fn push_head(
     unit: &str,
     help: &str,
 ) -> Result<(), NoMemory>
-    ensures { OnOk result (string_bytes text.new ≡ string_bytes text.old ++ metadata format name.now Kind.Gauge unit.now help.now) }
+    ensures { OnOk result (Appends text.old text.new (metadata format name.now Kind.Gauge unit.now help.now)) }
 {
     let head = Head {
         name,
@@ -61,7 +60,7 @@ fn push_number(
     labels: &[Label],
     number: usize,
 ) -> Result<(), NoMemory>
-    ensures { OnOk result (string_bytes text.new ≡ string_bytes text.old ++ sample name.now labels.now (decimal number)) }
+    ensures { OnOk result (Appends text.old text.new (sample name.now labels.now (decimal number))) }
 {
     let number = format!(in alloc; "{number}")?;
     push_sample(text, name, "", labels, number.as_str())?;
@@ -74,9 +73,7 @@ fn put_conflict<'a>(
     groups: &mut BTreeMap<Seq<Label>, Vec<PointRef<'a>>>,
     point: PointRef<'a>,
 ) -> Result<(), NoMemory>
-    ensures { OnOk result (lists groups.new.entries ≡ (if is_conflict (keyed_cell_of_ref point.entry)
-        then put labels_cmp (lists groups.old.entries) (conflict_labels (keyed_cell_of_ref point.entry).0, point.entry)
-        else lists groups.old.entries)) }
+    ensures { OnOk result (lists groups.new.entries ≡ with_conflict (lists groups.old.entries) point.entry) }
 {
     if !is_conflict(point) {
         return Ok(());
@@ -105,8 +102,8 @@ fn push_lengths(
     alloc: Global,
     rows: &[(Seq<Label>, Vec<PointRef<'_>>)],
 ) -> Result<(), NoMemory>
-    ensures { OnOk result (string_bytes text.new ≡ string_bytes text.old
-        ++ flat_map (λ g. sample (codes "kotskhin_conflicts") g.0 (decimal (length g.1.items))) rows.now) }
+    ensures { OnOk result (Appends text.old text.new
+        (flat_map (λ g. sample (codes "kotskhin_conflicts") g.0 (decimal (length g.1.items))) rows.now)) }
 {
     for (labels, points) in rows {
         push_number(
@@ -127,7 +124,7 @@ fn push_conflicts(
     format: Format,
     points: &[PointRef],
 ) -> Result<(), NoMemory>
-    ensures { OnOk result (string_bytes text.new ≡ string_bytes text.old ++ conflicts_text format (cells points.now)) }
+    ensures { OnOk result (Appends text.old text.new (conflicts_text format (cells points.now))) }
 {
     let rows = conflicts_of(alloc, points)?;
     push_head(
@@ -148,7 +145,7 @@ fn push_keys(
     format: Format,
     points: &[PointRef],
 ) -> Result<(), NoMemory>
-    ensures { OnOk result (string_bytes text.new ≡ string_bytes text.old ++ keys_text format (cells points.now)) }
+    ensures { OnOk result (Appends text.old text.new (keys_text format (cells points.now))) }
 {
     push_head(
         text,
@@ -184,8 +181,7 @@ fn push_numbers(
     labels: &[Label],
     numbers: &[usize],
 ) -> Result<(), NoMemory>
-    ensures { OnOk result (string_bytes text.new ≡ string_bytes text.old
-        ++ flat_map (λ n. sample name.now labels.now (decimal n)) numbers.now) }
+    ensures { OnOk result (Appends text.old text.new (flat_map (λ n. sample name.now labels.now (decimal n)) numbers.now)) }
 {
     for number in numbers {
         push_number(text, alloc, name, labels, *number)?;
@@ -199,8 +195,7 @@ fn push_all_numbers(
     name: &str,
     rows: &[(Seq<Label>, Vec<usize>)],
 ) -> Result<(), NoMemory>
-    ensures { OnOk result (string_bytes text.new ≡ string_bytes text.old
-        ++ flat_map (λ g. flat_map (λ n. sample name.now g.0 (decimal n)) g.1.items) rows.now) }
+    ensures { OnOk result (Appends text.old text.new (flat_map (λ g. flat_map (λ n. sample name.now g.0 (decimal n)) g.1.items) rows.now)) }
 {
     for (labels, numbers) in rows {
         push_numbers(text, alloc, name, labels.as_slice(), numbers.as_slice())?;
@@ -215,8 +210,7 @@ fn push_left_out(
     format: Format,
     hidden: &[Measured],
 ) -> Result<(), NoMemory>
-    ensures { OnOk result (string_bytes text.new ≡ string_bytes text.old
-        ++ left_out_text format (all_measured hidden.now)) }
+    ensures { OnOk result (Appends text.old text.new (left_out_text format (all_measured hidden.now))) }
 {
     let rows = lengths_of(alloc, hidden)?;
     push_head(
@@ -233,7 +227,7 @@ fn push_left_out(
 // Adds the digit of a number whose place counts so much.
 fn push_digit(text: &mut String, number: u64, unit: u64) -> Result<(), NoMemory>
     requires { 0 < unit }
-    ensures { OnOk result (string_bytes text.new ≡ string_bytes text.old ++ (48 + number / unit % 10) ∷ []) }
+    ensures { OnOk result (Appends text.old text.new ((48 + number / unit % 10) ∷ [])) }
 {
     let digit = (number / unit % 10) as u8;
     text.push((b'0' + digit) as char)?;
@@ -281,8 +275,7 @@ fn push_times(
     name: &str,
     rows: &[(Seq<Label>, Vec<PointRef<'_>>)],
 ) -> Result<(), NoMemory>
-    ensures { OnOk result (string_bytes text.new ≡ string_bytes text.old
-        ++ flat_map (λ g. sample name.now g.0 (seconds (latest (cells g.1.items)))) rows.now) }
+    ensures { OnOk result (Appends text.old text.new (flat_map (λ g. sample name.now g.0 (seconds (latest (cells g.1.items)))) rows.now)) }
 {
     for (labels, points) in rows {
         let number = seconds(alloc, latest_of(points.as_slice()))?;
@@ -298,7 +291,7 @@ fn push_newest(
     format: Format,
     points: &[PointRef],
 ) -> Result<(), NoMemory>
-    ensures { OnOk result (string_bytes text.new ≡ string_bytes text.old ++ newest_text format (cells points.now)) }
+    ensures { OnOk result (Appends text.old text.new (newest_text format (cells points.now))) }
 {
     let rows = served(alloc, points)?;
     push_head(
@@ -321,8 +314,7 @@ pub(crate) fn push_own(
     points: &[PointRef],
     hidden: &[Measured],
 ) -> Result<(), NoMemory>
-    ensures { OnOk result (string_bytes text.new ≡ string_bytes text.old
-        ++ own_text format (cells points.now) (all_measured hidden.now)) }
+    ensures { OnOk result (Appends text.old text.new (own_text format (cells points.now) (all_measured hidden.now))) }
 {
     push_conflicts(text, alloc, format, points)?;
     push_keys(text, alloc, format, points)?;

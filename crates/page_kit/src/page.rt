@@ -1,12 +1,12 @@
 //! Pages.
-ghost use Rattle.std.specs.Prelude.{◌≡◌, ◌++◌, map, IfOk, OnOk, string_bytes};
+ghost use Rattle.std.specs.Prelude.{◌≡◌, IfOk, OnOk, string_bytes};
 ghost use Rattle.std.specs.List.{flat_map};
 ghost use Rattle.std.specs.Option.{option_map};
-ghost use Rattle.gateway_kit.specs.Walks.{keyed_cell_of_ref, points_left};
+ghost use Rattle.gateway_kit.specs.Walks.{points_left};
 ghost use Rattle.page_kit.specs.Page.{last_line, asked_cells, page};
 ghost use Rattle.page_kit.specs.Rows.{family_text};
 ghost use Rattle.page_kit.specs.Pages.{openmetrics_page, prometheus_page};
-ghost use Rattle.page_kit.specs.Views.{cells, all_measured};
+ghost use Rattle.page_kit.specs.Views.{Appends, cells, all_measured};
 
 use crate::families::{Measured, families_of};
 use crate::own::push_own;
@@ -41,8 +41,7 @@ fn push_families(
     format: Format,
     families: &[Measured],
 ) -> Result<(), NoMemory>
-    ensures { OnOk result (string_bytes text.new ≡ string_bytes text.old
-        ++ flat_map (family_text format) (all_measured families.now)) }
+    ensures { OnOk result (Appends text.old text.new (flat_map (family_text format) (all_measured families.now))) }
 {
     for measured in families {
         push_family(
@@ -57,7 +56,7 @@ fn push_families(
 }
 
 fn push_end(text: &mut String, format: Format) -> Result<(), AllocError>
-    ensures { OnOk result (string_bytes text.new ≡ string_bytes text.old ++ last_line format) }
+    ensures { OnOk result (Appends text.old text.new (last_line format)) }
 {
     match format {
         Format::OpenMetrics => text.push_str("# EOF\n"),

@@ -1,13 +1,12 @@
 //! The rows of a family.
-ghost use Rattle.std.specs.Prelude.{◌≡◌, ◌++◌, List, map, IfOk, OnOk, string_bytes};
+ghost use Rattle.std.specs.Prelude.{◌≡◌, List, IfOk, OnOk};
 ghost use Rattle.std.specs.List.{flat_map};
-ghost use Rattle.gateway_kit.specs.Walks.{keyed_cell_of_ref};
 ghost use Rattle.page_kit.specs.Bounds.{AreBounds, HaveBounds};
 ghost use Rattle.page_kit.specs.Lines.{metadata, help_of};
 ghost use Rattle.page_kit.specs.Metrics.{unit_of};
 ghost use Rattle.page_kit.specs.Rows.{gauge, row_bounds, row, rows, named_text, family_text};
 ghost use Rattle.page_kit.specs.Totals.{KeyedCell};
-ghost use Rattle.page_kit.specs.Views.{cells, cell_lists};
+ghost use Rattle.page_kit.specs.Views.{Appends, HasBoundsOf, row_of, cells, cell_lists};
 
 use crate::bounds::bounds_of_services;
 use crate::groups::{list_of, put};
@@ -58,7 +57,7 @@ fn push_gauge(
     labels: &[Label],
     newest: Option<i64>,
 ) -> Result<(), NoMemory>
-    ensures { OnOk result (string_bytes text.new ≡ string_bytes text.old ++ gauge name.now labels.now newest) }
+    ensures { OnOk result (Appends text.old text.new (gauge name.now labels.now newest)) }
 {
     if let Some(value) = newest {
         let number = format!(in alloc; "{value}")?;
@@ -98,9 +97,8 @@ fn push_row(
     labels: &[Label],
     points: &[PointRef],
 ) -> Result<(), NoMemory>
-    ensures { OnOk result ((all : List KeyedCell) → HaveBounds family.entry.kind (λ v. v.items) all family.entry.bounds.now.entries
-        → string_bytes text.new ≡ string_bytes text.old
-        ++ row family.entry.kind family.entry.name.now all (labels.now, cells points.now)) }
+    ensures { OnOk result ((all : List KeyedCell) → HasBoundsOf all family.entry
+        → Appends text.old text.new (row_of family.entry all (labels.now, cells points.now))) }
 {
     if has_conflict(points) {
         return Ok(());
@@ -122,9 +120,8 @@ fn push_rows(
     family: Family<'_>,
     rows: &[(Seq<Label>, Vec<PointRef<'_>>)],
 ) -> Result<(), NoMemory>
-    ensures { OnOk result ((all : List KeyedCell) → HaveBounds family.entry.kind (λ v. v.items) all family.entry.bounds.now.entries
-        → string_bytes text.new ≡ string_bytes text.old
-        ++ flat_map (λ r. row family.entry.kind family.entry.name.now all (r.0, cells r.1.items)) rows.now) }
+    ensures { OnOk result ((all : List KeyedCell) → HasBoundsOf all family.entry
+        → Appends text.old text.new (flat_map (λ r. row_of family.entry all (r.0, cells r.1.items)) rows.now)) }
 {
     for (labels, points) in rows {
         push_row(text, alloc, family, labels.as_slice(), points.as_slice())?;
@@ -140,8 +137,7 @@ fn push_head(
     metric: &Metric,
     name: &str,
 ) -> Result<(), NoMemory>
-    ensures { OnOk result (string_bytes text.new ≡ string_bytes text.old
-        ++ metadata format name.now metric.now.kind (unit_of metric.now) (help_of metric.now)) }
+    ensures { OnOk result (Appends text.old text.new (metadata format name.now metric.now.kind (unit_of metric.now) (help_of metric.now))) }
 {
     let unit = metric.unit_name(alloc)?;
     let help = help_of(alloc, metric)?;
@@ -163,7 +159,7 @@ fn push_named(
     name: &str,
     points: &[PointRef],
 ) -> Result<(), NoMemory>
-    ensures { OnOk result (string_bytes text.new ≡ string_bytes text.old ++ named_text format name.now (metric.now, cells points.now)) }
+    ensures { OnOk result (Appends text.old text.new (named_text format name.now (metric.now, cells points.now))) }
 {
     let bounds = bounds_for(alloc, metric.kind, points)?;
     let rows = rows_of(alloc, points)?;
@@ -185,7 +181,7 @@ pub(crate) fn push_family(
     metric: &Metric,
     points: &[PointRef],
 ) -> Result<(), NoMemory>
-    ensures { OnOk result (string_bytes text.new ≡ string_bytes text.old ++ family_text format (metric.now, cells points.now)) }
+    ensures { OnOk result (Appends text.old text.new (family_text format (metric.now, cells points.now))) }
 {
     let name = metric.family(alloc)?;
     push_named(text, alloc, format, metric, name.as_str(), points)

@@ -3,6 +3,7 @@ ghost use Rattle.std.specs.Prelude.{◌≡◌, ◌++◌, ◌∷◌, [], IfOk, On
 ghost use Rattle.std.specs.List.{join_by};
 ghost use Rattle.page_kit.specs.Labels.{separator};
 ghost use Rattle.page_kit.specs.Lines.{escape, escaped, label_text, labels_text, sample, total_of, type_line, has_unit_line, unit_line, has_quotes, help_line, metadata, in_brackets, help_of};
+ghost use Rattle.page_kit.specs.Views.{Appends};
 
 use crate::labels::Label;
 use crate::metric::{Kind, Metric, ends_with_unit};
@@ -43,7 +44,7 @@ impl Format {
 // Adds a character: a backslash and a line feed as two, and a quote where it is to be.
 #[tactic(auto, unfolding(crate::specs::Lines::escape))]
 fn push_escaped(text: &mut String, c: char, quotes: bool) -> Result<(), AllocError>
-    ensures { OnOk result (string_bytes text.new ≡ string_bytes text.old ++ escape quotes c) }
+    ensures { OnOk result (Appends text.old text.new (escape quotes c)) }
 {
     if c == '\\' {
         text.push_str("\\\\")
@@ -58,7 +59,7 @@ fn push_escaped(text: &mut String, c: char, quotes: bool) -> Result<(), AllocErr
 
 #[tactic(auto, unfolding(crate::specs::Lines::escaped))]
 fn push_all_escaped(text: &mut String, plain: &str, quotes: bool) -> Result<(), AllocError>
-    ensures { OnOk result (string_bytes text.new ≡ string_bytes text.old ++ escaped quotes plain.now) }
+    ensures { OnOk result (Appends text.old text.new (escaped quotes plain.now)) }
 {
     for c in plain.chars() {
         push_escaped(text, c, quotes)?;
@@ -68,7 +69,7 @@ fn push_all_escaped(text: &mut String, plain: &str, quotes: bool) -> Result<(), 
 
 #[tactic(auto, unfolding(crate::specs::Lines::label_text))]
 fn push_label(text: &mut String, label: &Label) -> Result<(), AllocError>
-    ensures { OnOk result (string_bytes text.new ≡ string_bytes text.old ++ label_text label.now) }
+    ensures { OnOk result (Appends text.old text.new (label_text label.now)) }
 {
     text.push_str(label.name.as_str())?;
     text.push_str("=\"")?;
@@ -85,7 +86,7 @@ fn separator(place: usize) -> &'static str
 
 // Adds labels with a comma between each two.
 fn push_joined(text: &mut String, labels: &[Label]) -> Result<(), AllocError>
-    ensures { OnOk result (string_bytes text.new ≡ string_bytes text.old ++ join_by label_text (44 ∷ []) labels.now) }
+    ensures { OnOk result (Appends text.old text.new (join_by label_text (44 ∷ []) labels.now)) }
 {
     for (place, label) in labels.iter().enumerate() {
         text.push_str(separator(place))?;
@@ -96,7 +97,7 @@ fn push_joined(text: &mut String, labels: &[Label]) -> Result<(), AllocError>
 
 #[tactic(auto, unfolding(crate::specs::Lines::labels_text))]
 fn push_labels(text: &mut String, labels: &[Label]) -> Result<(), AllocError>
-    ensures { OnOk result (string_bytes text.new ≡ string_bytes text.old ++ labels_text labels.now) }
+    ensures { OnOk result (Appends text.old text.new (labels_text labels.now)) }
 {
     if labels.is_empty() {
         return Ok(());
@@ -115,7 +116,7 @@ pub(crate) fn push_sample(
     labels: &[Label],
     number: &str,
 ) -> Result<(), AllocError>
-    ensures { OnOk result (string_bytes text.new ≡ string_bytes text.old ++ sample (name.now ++ ending.now) labels.now number.now) }
+    ensures { OnOk result (Appends text.old text.new (sample (name.now ++ ending.now) labels.now number.now)) }
 {
     text.push_str(name)?;
     text.push_str(ending)?;
@@ -127,7 +128,7 @@ pub(crate) fn push_sample(
 
 #[tactic(auto, unfolding(crate::specs::Lines::type_line))]
 fn push_type(text: &mut String, format: Format, name: &str, kind: Kind) -> Result<(), AllocError>
-    ensures { OnOk result (string_bytes text.new ≡ string_bytes text.old ++ type_line format name.now kind) }
+    ensures { OnOk result (Appends text.old text.new (type_line format name.now kind)) }
 {
     text.push_str("# TYPE ")?;
     text.push_str(name)?;
@@ -155,7 +156,7 @@ fn push_unit(
     name: &str,
     unit: &str,
 ) -> Result<(), NoMemory>
-    ensures { OnOk result (string_bytes text.new ≡ string_bytes text.old ++ unit_line format name.now unit.now) }
+    ensures { OnOk result (Appends text.old text.new (unit_line format name.now unit.now)) }
 {
     if !has_unit_line(alloc, format, name, unit)? {
         return Ok(());
@@ -176,7 +177,7 @@ fn push_help(
     kind: Kind,
     help: &str,
 ) -> Result<(), AllocError>
-    ensures { OnOk result (string_bytes text.new ≡ string_bytes text.old ++ help_line format name.now kind help.now) }
+    ensures { OnOk result (Appends text.old text.new (help_line format name.now kind help.now)) }
 {
     text.push_str("# HELP ")?;
     text.push_str(name)?;
@@ -203,8 +204,8 @@ pub(crate) fn push_metadata(
     format: Format,
     head: Head<'_>,
 ) -> Result<(), NoMemory>
-    ensures { OnOk result (string_bytes text.new ≡ string_bytes text.old
-        ++ metadata format head.entry.name.now head.entry.kind head.entry.unit.now head.entry.help.now) }
+    ensures { OnOk result (Appends text.old text.new
+        (metadata format head.entry.name.now head.entry.kind head.entry.unit.now head.entry.help.now)) }
 {
     push_type(text, format, head.name, head.kind)?;
     push_unit(text, alloc, format, head.name, head.unit)?;
@@ -214,7 +215,7 @@ pub(crate) fn push_metadata(
 
 // Adds a unit in brackets, if there is one.
 fn push_brackets(text: &mut String, unit: &str) -> Result<(), AllocError>
-    ensures { OnOk result (string_bytes text.new ≡ string_bytes text.old ++ in_brackets unit.now) }
+    ensures { OnOk result (Appends text.old text.new (in_brackets unit.now)) }
 {
     if unit.is_empty() {
         return Ok(());

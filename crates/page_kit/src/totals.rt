@@ -1,5 +1,5 @@
 //! What the points of a row come to.
-ghost use Rattle.std.specs.Prelude.{◌≡◌, map};
+ghost use Rattle.std.specs.Prelude.{◌≡◌};
 ghost use Rattle.std.specs.List.{list_any};
 ghost use Rattle.gateway_kit.specs.Walks.{keyed_cell_of_ref};
 ghost use Rattle.page_kit.specs.Totals.{is_conflict, sum_in, count_in, sum_of, count_of, later, newest_with, newest_of, born, latest};

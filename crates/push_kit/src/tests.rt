@@ -38,12 +38,7 @@ fn instruments(alloc: Global) -> Result<Seq<Instrument>, NoMemory> {
 
 // A writer of one counter from 0 on.
 fn counting(alloc: Global) -> Result<Writer, Fail> {
-    let plan = Plan::build(
-        alloc,
-        instruments(alloc)?,
-        Seq::from_vec(Vec::new(alloc)),
-        DEFAULT_LIMIT,
-    )?;
+    let plan = Plan::build(alloc, instruments(alloc)?, Seq::new(alloc), DEFAULT_LIMIT)?;
     let id = WriterId {
         service: Txt::from_str(alloc, "shop")?,
         instance: Uuid::from_u128(1),

@@ -60,34 +60,22 @@ enum Change<'a> {
     Merge(&'a Gateway),
 }
 
-// A change by the call that waits for nobody.
-fn try_it(
-    shared: &SharedGateway,
-    seat: &mut Seat<Gateway>,
-    change: Change<'_>,
-) -> Result<u64, ChangeFault<NoMemory>>
-    requires { IsAt shared.now seat.old }
-    ensures { IsAt shared.now seat.new }
-{
-    match change {
-        Change::Take(export) => shared.try_take(seat, export),
-        Change::Merge(other) => shared.try_merge(seat, other),
-    }
-}
-
-// A change by the call that may wait.
-fn wait_for_it(
+// A change, by the call that waits for nobody or by the one that may wait.
+fn make_change(
     rt: &impl Wait,
     shared: &SharedGateway,
     seat: &mut Seat<Gateway>,
     change: Change<'_>,
+    waits: bool,
 ) -> Result<u64, ChangeFault<NoMemory>>
     requires { IsAt shared.now seat.old }
     ensures { IsAt shared.now seat.new }
 {
-    match change {
-        Change::Take(export) => shared.take(rt, seat, export),
-        Change::Merge(other) => shared.merge(rt, seat, other),
+    match (change, waits) {
+        (Change::Take(export), false) => shared.try_take(seat, export),
+        (Change::Take(export), true) => shared.take(rt, seat, export),
+        (Change::Merge(other), false) => shared.try_merge(seat, other),
+        (Change::Merge(other), true) => shared.merge(rt, seat, other),
     }
 }
 
@@ -101,14 +89,10 @@ fn changes(
     let before = gateway.try_copy()?;
     let (shared, mut seat) = share(rt.alloc(), gateway, 1)?;
     call_begins(rt);
-    let answer = if waits {
-        wait_for_it(rt, &shared, &mut seat, change)
-    } else {
-        try_it(&shared, &mut seat, change)
-    };
+    let answer = make_change(rt, &shared, &mut seat, change, waits);
     call_ends(rt);
     let left = state(shared.look(rt, &mut seat, IsSame(&before)));
-    let again = try_it(&shared, &mut seat, change);
+    let again = make_change(rt, &shared, &mut seat, change, false);
     tell_twice(rt, &answer, left, &again)
 }
 
@@ -155,7 +139,7 @@ fn takes_last(
     let answer = shared.try_take(seat, export);
     call_ends(rt);
     let is_as_before = is_same(shared, seat, before)?;
-    let again = try_it(shared, seat, Change::Take(export));
+    let again = shared.try_take(seat, export);
     ensure!(!is_same(shared, seat, before)?, "the last take is lost");
     tell_twice(rt, &answer, state(is_as_before), &again)
 }
@@ -179,7 +163,7 @@ fn takes_first(
     ensures { IsAt shared.now seat.new }
 {
     let first = export(alloc, 1, 200)?;
-    match try_it(shared, seat, Change::Take(&first)) {
+    match shared.try_take(seat, &first) {
         Ok(3) => Ok(()),
         _ => bail!("the first is not taken"),
     }

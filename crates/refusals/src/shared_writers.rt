@@ -42,141 +42,125 @@ fn new(rt: &(impl Wait + Print + Eprint + AllocGlobal)) -> anyhow::Result<()> {
     }
 }
 
-// A shared writer that accepts so many changes, and the only seat at it. Each function below knows no more of it than that they
-// belong together.
-fn share(alloc: Global, writer: Writer, limit: u64) -> anyhow::Result<(SharedWriter, Seat<Writer>)>
-    ensures { IfOk result (λ t. IsAt t.0 t.1) }
-{
-    match SharedWriter::new(alloc, writer, limit) {
-        Ok(made) => Ok(made),
-        Err(_) => bail!("not shared"),
-    }
+// A shared writer, the only seat at it, and what the writer was before. Calls are made in the form that waits for nobody, or in the
+// one that may wait.
+#[derive(Drop)]
+struct Trial {
+    shared: SharedWriter,
+    seat: Seat<Writer>,
+    before: Writer,
+    waits: bool,
 }
 
-// A recording, by the call that waits for nobody or by the one that may wait. What it is made with is borrowed: it is dropped
-// at the exits of `measure`, and each drop at an exit is proved.
-fn measures(
-    rt: &(impl Wait + Print + Eprint),
-    shared: &SharedWriter,
-    seat: &mut Seat<Writer>,
-    before: &Writer,
-    attrs: &AttrSet,
-    waits: bool,
-) -> anyhow::Result<()>
-    requires { IsAt shared.now seat.old }
-{
-    call_begins(rt);
-    let answer = if waits {
-        shared.measure(rt, seat, 0, attrs, 5)
-    } else {
-        shared.try_measure(seat, 0, attrs, 5)
-    };
-    call_ends(rt);
-    let left = state(shared.look(rt, seat, IsSame(before)));
-    let again = shared.try_measure(seat, 0, attrs, 5);
-    tell_twice(rt, &answer, left, &again)
+// What a call is made with is borrowed: it is dropped where the trial is, and each drop at an exit is proved.
+impl Trial {
+    // Of a writer that accepts so many changes.
+    fn begin(alloc: Global, limit: u64, waits: bool) -> anyhow::Result<Trial>
+        ensures { IfOk result (λ t. IsAt t.shared t.seat) }
+    {
+        let writer = writer(alloc, 1)?;
+        let before = writer.try_copy()?;
+        match SharedWriter::new(alloc, writer, limit) {
+            Ok((shared, seat)) => Ok(Trial {
+                shared,
+                seat,
+                before,
+                waits,
+            }),
+            Err(_) => bail!("not shared"),
+        }
+    }
+
+    fn measure(&mut self, rt: &(impl Wait + Print + Eprint), attrs: &AttrSet) -> anyhow::Result<()>
+        requires { IsAt self.old.shared self.old.seat }
+    {
+        call_begins(rt);
+        let answer = if self.waits {
+            self.shared.measure(rt, &mut self.seat, 0, attrs, 5)
+        } else {
+            self.shared.try_measure(&mut self.seat, 0, attrs, 5)
+        };
+        call_ends(rt);
+        let left = state(self.shared.look(rt, &mut self.seat, IsSame(&self.before)));
+        let again = self.shared.try_measure(&mut self.seat, 0, attrs, 5);
+        tell_twice(rt, &answer, left, &again)
+    }
+
+    fn hold(&mut self, rt: &(impl Wait + Print + Eprint), attrs: &AttrSet) -> anyhow::Result<()>
+        requires { IsAt self.old.shared self.old.seat }
+    {
+        call_begins(rt);
+        let answer = if self.waits {
+            self.shared.hold(rt, &mut self.seat, 0, attrs)
+        } else {
+            self.shared.try_hold(&mut self.seat, 0, attrs)
+        };
+        call_ends(rt);
+        let left = state(self.shared.look(rt, &mut self.seat, IsSame(&self.before)));
+        let again = self.shared.try_hold(&mut self.seat, 0, attrs);
+        tell_twice(rt, &answer, left, &again)
+    }
+
+    // Of a log of one recording.
+    fn take_in(
+        &mut self,
+        rt: &(impl Wait + Print + Eprint),
+        recorder: &mut Recorder,
+    ) -> anyhow::Result<()>
+        requires { IsAt self.old.shared self.old.seat }
+    {
+        call_begins(rt);
+        let answer = if self.waits {
+            self.shared
+                .take_in(rt, &mut self.seat, recorder, usize::MAX)
+        } else {
+            self.shared
+                .try_take_in(&mut self.seat, recorder, usize::MAX)
+        };
+        call_ends(rt);
+        let is_same = self.shared.look(rt, &mut self.seat, IsSame(&self.before));
+        let left = state(is_same && !recorder.is_empty());
+        let again = self
+            .shared
+            .try_take_in(&mut self.seat, recorder, usize::MAX);
+        tell_twice(rt, &answer, left, &again)
+    }
+
+    fn collect(&mut self, rt: &(impl Wait + Print + Eprint), arena: &Bump) -> anyhow::Result<()>
+        requires { IsAt self.old.shared self.old.seat }
+    {
+        call_begins(rt);
+        let answer = if self.waits {
+            self.shared.collect(rt, &mut self.seat, arena, 200)
+        } else {
+            self.shared.try_collect(&mut self.seat, arena, 200)
+        };
+        call_ends(rt);
+        let left = state(self.shared.look(rt, &mut self.seat, IsSame(&self.before)));
+        let again = self.shared.try_collect(&mut self.seat, arena, 200);
+        tell_twice(rt, &len_of(answer), left, &len_of(again))
+    }
 }
 
 fn measure(rt: &(impl Wait + Print + Eprint + AllocGlobal), waits: bool) -> anyhow::Result<()> {
     let attrs = set(rt.alloc(), 2)?;
-    let writer = writer(rt.alloc(), 1)?;
-    let before = writer.try_copy()?;
-    let (shared, mut seat) = share(rt.alloc(), writer, 1)?;
-    measures(rt, &shared, &mut seat, &before, &attrs, waits)
-}
-
-// The same of a held point.
-fn holds(
-    rt: &(impl Wait + Print + Eprint),
-    shared: &SharedWriter,
-    seat: &mut Seat<Writer>,
-    before: &Writer,
-    attrs: &AttrSet,
-    waits: bool,
-) -> anyhow::Result<()>
-    requires { IsAt shared.now seat.old }
-{
-    call_begins(rt);
-    let answer = if waits {
-        shared.hold(rt, seat, 0, attrs)
-    } else {
-        shared.try_hold(seat, 0, attrs)
-    };
-    call_ends(rt);
-    let left = state(shared.look(rt, seat, IsSame(before)));
-    let again = shared.try_hold(seat, 0, attrs);
-    tell_twice(rt, &answer, left, &again)
+    Trial::begin(rt.alloc(), 1, waits)?.measure(rt, &attrs)
 }
 
 fn hold(rt: &(impl Wait + Print + Eprint + AllocGlobal), waits: bool) -> anyhow::Result<()> {
     let attrs = set(rt.alloc(), 2)?;
-    let writer = writer(rt.alloc(), 1)?;
-    let before = writer.try_copy()?;
-    let (shared, mut seat) = share(rt.alloc(), writer, 1)?;
-    holds(rt, &shared, &mut seat, &before, &attrs, waits)
-}
-
-// The same of a log of one recording.
-fn takes_in(
-    rt: &(impl Wait + Print + Eprint),
-    shared: &SharedWriter,
-    seat: &mut Seat<Writer>,
-    before: &Writer,
-    recorder: &mut Recorder,
-    waits: bool,
-) -> anyhow::Result<()>
-    requires { IsAt shared.now seat.old }
-{
-    call_begins(rt);
-    let answer = if waits {
-        shared.take_in(rt, seat, recorder, usize::MAX)
-    } else {
-        shared.try_take_in(seat, recorder, usize::MAX)
-    };
-    call_ends(rt);
-    let is_same = shared.look(rt, seat, IsSame(before));
-    let left = state(is_same && !recorder.is_empty());
-    let again = shared.try_take_in(seat, recorder, usize::MAX);
-    tell_twice(rt, &answer, left, &again)
+    Trial::begin(rt.alloc(), 1, waits)?.hold(rt, &attrs)
 }
 
 fn take_in(rt: &(impl Wait + Print + Eprint + AllocGlobal), waits: bool) -> anyhow::Result<()> {
     let mut recorder = Recorder::new(rt.alloc(), 1)?;
     recorder.measure(0, &set(rt.alloc(), 2)?, 5)?;
-    let writer = writer(rt.alloc(), 1)?;
-    let before = writer.try_copy()?;
-    let (shared, mut seat) = share(rt.alloc(), writer, 2)?;
-    takes_in(rt, &shared, &mut seat, &before, &mut recorder, waits)
-}
-
-// The same of a collection.
-fn collects(
-    rt: &(impl Wait + Print + Eprint + AllocGlobal),
-    shared: &SharedWriter,
-    seat: &mut Seat<Writer>,
-    before: &Writer,
-    waits: bool,
-) -> anyhow::Result<()>
-    requires { IsAt shared.now seat.old }
-{
-    let arena = Bump::new(rt.alloc());
-    call_begins(rt);
-    let answer = if waits {
-        shared.collect(rt, seat, &arena, 200)
-    } else {
-        shared.try_collect(seat, &arena, 200)
-    };
-    call_ends(rt);
-    let left = state(shared.look(rt, seat, IsSame(before)));
-    let again = shared.try_collect(seat, &arena, 200);
-    tell_twice(rt, &len_of(answer), left, &len_of(again))
+    Trial::begin(rt.alloc(), 2, waits)?.take_in(rt, &mut recorder)
 }
 
 fn collect(rt: &(impl Wait + Print + Eprint + AllocGlobal), waits: bool) -> anyhow::Result<()> {
-    let writer = writer(rt.alloc(), 1)?;
-    let before = writer.try_copy()?;
-    let (shared, mut seat) = share(rt.alloc(), writer, 1)?;
-    collects(rt, &shared, &mut seat, &before, waits)
+    let arena = Bump::new(rt.alloc());
+    Trial::begin(rt.alloc(), 1, waits)?.collect(rt, &arena)
 }
 
 /// Makes a call of a shared writer, if this is the name of one.

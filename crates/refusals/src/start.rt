@@ -1,10 +1,11 @@
 //! What the calls begin with. Texts that are too long to lie in place stand among the short ones, so that copies take memory.
-use attr_kit::{AllowList, AttrSet, AttrValue, Keep, NoMemory, Seq, Txt};
+use attr_kit::{AllowList, AttrSet, AttrValue, Keep, Seq, Txt};
 use bumpalo::Bump;
 use gateway_kit::Gateway;
-use plan_kit::{Aggregation, DEFAULT_LIMIT, Instrument, Kind, NameRule, Plan, View};
+use plan_kit::{DEFAULT_LIMIT, Instrument, Kind, Plan, View};
 use point_kit::{Export, Shape, Stream, WriterId};
 use std::alloc::Global;
+use test_kit::{instrument, view};
 use uuid::Uuid;
 use writer_kit::Writer;
 
@@ -35,41 +36,22 @@ pub fn route(alloc: Global) -> anyhow::Result<Keep> {
     Ok(Keep::Only(AllowList::from_keys(keys)?))
 }
 
-fn instrument(alloc: Global, name: &str, kind: Kind) -> Result<Instrument, NoMemory> {
-    Ok(Instrument {
-        scope: Txt::from_str(alloc, "app")?,
-        name: Txt::from_str(alloc, name)?,
-        unit: Txt::from_str(alloc, "1")?,
-        kind,
-    })
-}
-
 /// A counter of requests and a histogram of sizes.
 pub fn instruments(alloc: Global) -> anyhow::Result<Seq<Instrument>> {
     let mut instruments = Vec::new(alloc);
     for (name, kind) in [("requests", Kind::Counter), ("sizes", Kind::Histogram)] {
-        instruments.push(instrument(alloc, name, kind)?)?;
+        instruments.push(instrument(alloc, kind, "app", name, "1")?)?;
     }
     Ok(Seq::from_vec(instruments))
 }
 
-fn view(alloc: Global, rename: Option<Txt>, keep: Keep) -> Result<View, NoMemory> {
-    Ok(View {
-        name: NameRule::Exact(Txt::from_str(alloc, "requests")?),
-        kind: None,
-        scope: None,
-        rename,
-        keep,
-        aggregation: Aggregation::Default,
-    })
-}
-
 /// Requests by their routes, and all of them under a long name.
 pub fn views(alloc: Global) -> anyhow::Result<Seq<View>> {
-    let mut views = Vec::new(alloc);
-    views.push(view(alloc, None, route(alloc)?)?)?;
-    views.push(view(alloc, Some(Txt::from_str(alloc, LONG)?), Keep::All)?)?;
-    Ok(Seq::from_vec(views))
+    let mut by_route = view(alloc, "requests")?;
+    by_route.keep = route(alloc)?;
+    let mut renamed = view(alloc, "requests")?;
+    renamed.rename = Some(Txt::from_str(alloc, LONG)?);
+    Ok(Seq::from_vec(vec![in alloc; by_route, renamed]?))
 }
 
 /// The plan of these: two streams of requests, and one of sizes.

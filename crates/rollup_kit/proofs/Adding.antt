@@ -49,18 +49,3 @@ module _ {K V : Type 0} {R : K → K → Ordering} (o : IsTotalOrder R) (anti : 
   pub held_first : (z : V) (old new : K → Option V) (key : K) → is_some (old key) ≡ true → ((q : K) → new q ≡ cond (eq_by_cmp R q key) (option_map f (old q)) (old q)) → (q : K) → new q ≡ cond (eq_by_cmp R q key) (Some (f (unwrap_or (old q) z))) (old q)
   held_first z old new key there changed q =
       changed q ∙ by_key q key (option_map f (old q)) (Some (f (unwrap_or (old q) z))) (old q) (λ e. present z (old q) (ap (λ k. is_some (old k)) e ∙ there))
-
-  same_none : (old mid : K → Option V) (key : K) → is_some (old key) ≡ false → ((q : K) → mid q ≡ cond (eq_by_cmp R q key) (option_map f (old q)) (old q)) → (q : K) → mid q ≡ old q
-  same_none old mid key none changed q =
-      changed q ∙ elim (eq_by_cmp R q key) as (λ t. eq_by_cmp R q key ≡ t → cond t (option_map f (old q)) (old q) ≡ old q) [
-        | true ↦ λ t. let e : q ≡ key = anti q key ((Equal-is (R q key)).0 t) in let there : old q ≡ None = absent (old q) (ap (λ k. is_some (old k)) e ∙ none) in ap (option_map f) there ∙ sym there
-        | false ↦ λ t. refl
-      ] refl
-
-  pub none_there : (old mid : K → Option V) (key : K) → is_some (old key) ≡ false → ((q : K) → mid q ≡ cond (eq_by_cmp R q key) (option_map f (old q)) (old q)) → mid key ≡ None
-  none_there old mid key none changed = same_none old mid key none changed key ∙ absent (old key) none
-
-  -- here the second
-  pub then_started : (z : V) (old mid new : K → Option V) (key : K) → is_some (old key) ≡ false → ((q : K) → mid q ≡ cond (eq_by_cmp R q key) (option_map f (old q)) (old q))
-      → ((q : K) → new q ≡ cond (eq_by_cmp R q key) (Some (f (unwrap_or (mid q) z))) (mid q)) → (q : K) → new q ≡ cond (eq_by_cmp R q key) (Some (f (unwrap_or (old q) z))) (old q)
-  then_started z old mid new key none changed put q = put q ∙ ap (λ x. cond (eq_by_cmp R q key) (Some (f (unwrap_or x z))) x) (same_none old mid key none changed q)

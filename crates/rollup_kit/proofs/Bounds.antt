@@ -11,26 +11,11 @@ sum_above s v p h f = omega (arith, ints)
 sum_below : (s v : ℤ) (p : ℕ) → s ≤ℤ pos (p * 2 ^ 63) → FitsSigned w64 v → (s +ℤ v) ≤ℤ pos ((p + 1) * 2 ^ 63)
 sum_below s v p h f = omega (arith, ints)
 
-more_above : (s : ℤ) (p : ℕ) → (pos 0 -ℤ pos (p * 2 ^ 63)) ≤ℤ s → (pos 0 -ℤ pos ((p + 1) * 2 ^ 63)) ≤ℤ s
-more_above s p h = omega (arith, ints)
-
-more_below : (s : ℤ) (p : ℕ) → s ≤ℤ pos (p * 2 ^ 63) → s ≤ℤ pos ((p + 1) * 2 ^ 63)
-more_below s p h = omega (arith, ints)
-
-more_counts : (n p : ℕ) → n ≤ p * 2 ^ 64 → n ≤ (p + 1) * 2 ^ 64
-more_counts n p h = omega arith
-
 count_more : (n m p : ℕ) → n ≤ p * 2 ^ 64 → m < 2 ^ 64 → n + m ≤ (p + 1) * 2 ^ 64
 count_more n m p h f = omega arith
 
 pub none_bounded : (n : ℕ) → IsBounded (pos 0) 0 (counts_from 0 n (λ _. 0)) 0
 none_bounded n = record { above = omega (arith, ints); below = omega (arith, ints); counts = omega arith; each = λ place. omega (arith, get_or-no_counts 0 n place) }
-
-pub sum_bounded : (s v : ℤ) (n : ℕ) (b : List ℕ) (p : ℕ) → IsBounded s n b p → FitsSigned w64 v → IsBounded (s +ℤ v) n b (p + 1)
-sum_bounded s v n b p h f = record { above = sum_above s v p h.above f; below = sum_below s v p h.below f; counts = more_counts n p h.counts; each = λ place. more_counts _ p (h.each place) }
-
-pub value_bounded : (s : ℤ) (n : ℕ) (b : List ℕ) (p : ℕ) → IsBounded s n b p → IsBounded s n b (p + 1)
-value_bounded s n b p h = record { above = more_above s p h.above; below = more_below s p h.below; counts = more_counts n p h.counts; each = λ place. more_counts _ p (h.each place) }
 
 each_bounded : (b : List ℕ) (c : ℕ → ℕ) (p : ℕ) → ((place : ℕ) → slice_index b place ≤ p * 2 ^ 64) → ((place : ℕ) → c place < 2 ^ 64) → (place : ℕ) → slice_index (add_each 0 b c) place ≤ (p + 1) * 2 ^ 64
 each_bounded b c p h f place =

@@ -1,5 +1,5 @@
 -- Rows that are found by a hash of their sets.
-use Rattle.std.proofs.Common.{◌≡◌, ℕ, zero, suc, ◌+◌, ◌<◌, ◌≤◌, ◌^◌, Bool, true, false, cond, List, [], ◌∷◌, ◌++◌, ◌⊎◌, inl, inr, length, get_or, nat_eq, slice_get, slice_set, append_assoc, Option, Some, None, Ok, Err, is_some, refl, sym, ap, subst, ◌∙◌, arith}
+use Rattle.std.proofs.Common.{◌≡◌, ℕ, zero, suc, ◌+◌, ◌<◌, ◌^◌, Bool, true, false, cond, List, [], ◌∷◌, ◌++◌, ◌⊎◌, inl, inr, length, get_or, nat_eq, slice_get, slice_set, append_assoc, Option, Some, None, Ok, Err, is_some, refl, sym, ap, subst, ◌∙◌, arith}
 use mathlib.Core.Bool.{true≢false}
 use Rattle.std.specs.Cmp.{Equal-is, eq_by_cmp_equiv}
 use Rattle.std.specs.Prelude.{IfSome, Result, OnOk, OnErr}
@@ -10,10 +10,10 @@ use Rattle.std.specs.Ordering.{eq_by_cmp}
 use Rattle.std.proofs.lemmas.List.Edits.{insert_end, insert-append_left}
 use Rattle.std.proofs.lemmas.List.Sorted.{IsPermutation-map, IsPermutation-insert}
 use Rattle.std.proofs.lemmas.Map.{lookup-insert, none_passes_from_lookup}
-use Rattle.std.proofs.lemmas.Map.Entries.{place_from_lookup, lookup_from_place, length-keys_of}
+use Rattle.std.proofs.lemmas.Map.Entries.{place_from_lookup, lookup_from_place}
 use Rattle.std.proofs.lemmas.Map.Keys.{IsDistinct-cons, IsDistinct-IsPermutation}
 use Rattle.std.proofs.lemmas.Bool.{eqb-true, eq-eqb}
-use Rattle.std.proofs.lemmas.Option.{slice_get-map, slice_get-get_or, slice_get_past}
+use Rattle.std.proofs.lemmas.Option.{slice_get-map, slice_get-get_or}
 use Rattle.indexmap.specs.IndexMap.{set_value_at}
 use Rattle.indexmap.specs.Layout.{hash_map}
 use Rattle.attr_kit.specs.contracts.attr_set.AttrSetEq.TheImpl.Laws as set_laws
@@ -174,13 +174,6 @@ other_set rows place e set here differs there =
 
 pub set_at : (rows : Rows) (place : ℕ) (e : Attributes × Grouped) (set : Attributes) → slice_get rows place ≡ Some e → set_eq e.0 set ≡ true → slice_get (keys_of rows) place ≡ Some set
 set_at rows place e set here same = key_at rows place e.0 e.1 here ∙ ap (λ (k : Attributes). Some k) (same_set e.0 set (sym (ties e.0 set) ∙ same))
-
--- a place past the end
-pub past_end : (rows : Rows) (place : ℕ) (set : Attributes) → length rows ≤ place → slice_get (keys_of rows) place ≡ Some set → ⊥
-past_end rows place set past there =
-    let none : slice_get (keys_of rows) place ≡ None = slice_get_past (keys_of rows) place (omega (arith, length-keys_of rows)) in
-    let e : None ≡ Some set = sym none ∙ there in
-    cc
 
 module _ (rows others : Rows) (places : List (ℕ × ℕ)) (is : IsIndexed rows others places) where
   row_there : (place : ℕ) (set : Attributes) (g : Grouped) → slice_get rows place ≡ Some (set, g) → Some g ≡ group_at (rows ++ others) set

@@ -46,45 +46,24 @@ abbrev later_newest : Option (ℕ × ℤ) → ℕ → Held Payload → Option (�
 later_newest before time (One (payloads.Gauge value)) = Some (later_value before (time, value))
 later_newest before time held = before
 
+same_buckets : (n : ℕ) (buckets : ℕ → ℕ) → counts_from 0 n (λ place. buckets place + 0) ≡ counts_from 0 n buckets
+same_buckets n buckets = λ i. counts_from 0 n (λ place. same_count (buckets place) i)
+
+-- groups that agree in each part are one
+same_group : (g h : Grouped) → g.sum ≡ h.sum → g.count ≡ h.count → g.buckets ≡ h.buckets → g.span ≡ h.span → g.newest ≡ h.newest → g.points ≡ h.points → g.conflicts ≡ h.conflicts → g ≡ h
+same_group g h sum count buckets span newest points conflicts = λ i. record { sum = sum i; count = count i; buckets = buckets i; span = span i; newest = newest i; points = points i; conflicts = conflicts i }
+
 -- a row's totals with what is held under one more key
 with_one : (n : ℕ) (row : rows.Row Parts) (before after : Option (ℕ × ℤ)) (time : ℕ) (held : Held Payload) → after ≡ later_newest before time held
     → group_of n (record { total = plus_parts row.total (value_of no_parts parts_of held); points = row.points + is_one held; conflicts = row.conflicts + is_conflict held }) after ≡ with_held (group_of n row before) time held
-with_one n row before after time (One (payloads.Sum sum)) e = λ i. record {
-  sum = row.total.sum +ℤ sum;
-  count = same_count row.total.count i;
-  buckets = counts_from 0 n (λ place. same_count (row.total.buckets place) i);
-  span = same_span row.total.span i;
-  newest = e i;
-  points = row.points + 1;
-  conflicts = same_count row.conflicts i;
-}
-with_one n row before after time (One (payloads.Gauge value)) e = λ i. record {
-  sum = same_sum row.total.sum i;
-  count = same_count row.total.count i;
-  buckets = counts_from 0 n (λ place. same_count (row.total.buckets place) i);
-  span = same_span row.total.span i;
-  newest = e i;
-  points = row.points + 1;
-  conflicts = same_count row.conflicts i;
-}
-with_one n row before after time (One (payloads.Hist count sum buckets range)) e = λ i. record {
-  sum = row.total.sum +ℤ sum;
-  count = row.total.count + count;
-  buckets = sym (add_each_counts 0 n row.total.buckets (slice_index buckets)) i;
-  span = join_spans row.total.span (parts_of (payloads.Hist count sum buckets range)).span;
-  newest = e i;
-  points = row.points + 1;
-  conflicts = same_count row.conflicts i;
-}
-with_one n row before after time Conflict e = λ i. record {
-  sum = same_sum row.total.sum i;
-  count = same_count row.total.count i;
-  buckets = counts_from 0 n (λ place. same_count (row.total.buckets place) i);
-  span = same_span row.total.span i;
-  newest = e i;
-  points = same_count row.points i;
-  conflicts = row.conflicts + 1;
-}
+with_one n row before after time (One (payloads.Sum sum)) e =
+    same_group _ _ refl (same_count row.total.count) (same_buckets n row.total.buckets) (same_span row.total.span) e refl (same_count row.conflicts)
+with_one n row before after time (One (payloads.Gauge value)) e =
+    same_group _ _ (same_sum row.total.sum) (same_count row.total.count) (same_buckets n row.total.buckets) (same_span row.total.span) e refl (same_count row.conflicts)
+with_one n row before after time (One (payloads.Hist count sum buckets range)) e =
+    same_group _ _ refl refl (sym (add_each_counts 0 n row.total.buckets (slice_index buckets))) refl e refl (same_count row.conflicts)
+with_one n row before after time Conflict e =
+    same_group _ _ (same_sum row.total.sum) (same_count row.total.count) (same_buckets n row.total.buckets) (same_span row.total.span) e (same_count row.points) refl
 
 module _ (ask : Ask) (n : ℕ) (q : Attributes) where
   -- the newest value, with a cell that the row counts

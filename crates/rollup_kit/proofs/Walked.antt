@@ -60,7 +60,7 @@ module _ (ask : Ask) (q : Attributes) where
       ]
 
 -- a cell more can be counted
-pub has_room : (ask : Ask) (n : ℕ) (es : List (Key × Cell Payload)) (groups : Rows) → Stands ask n es groups → length es + 1 < 2 ^ 64 → HasRoom groups
+has_room : (ask : Ask) (n : ℕ) (es : List (Key × Cell Payload)) (groups : Rows) → Stands ask n es groups → length es + 1 < 2 ^ 64 → HasRoom groups
 has_room ask n es groups stands few q = subst (λ (o : Option Grouped). IfSome o (λ g. (g.points + 1 < 2 ^ 64) × (g.conflicts + 1 < 2 ^ 64))) (sym (stands q)) (room_at ask q n es few)
 
 -- also in the group of one set
@@ -77,17 +77,23 @@ module _ {A B : Type 0} (f : A → B) where
   one_mapped : (ys : List A) (y : A) → map f (ys ++ y ∷ []) ≡ map f ys ++ f y ∷ []
   one_mapped ys y = map-append f ys (y ∷ [])
 
-  pub more_seen : (all : List B) (ys : List A) (y : A) (left rest : List B) → all ≡ map f ys ++ left → left ≡ f y ∷ rest → all ≡ map f (ys ++ y ∷ []) ++ rest
+  more_seen : (all : List B) (ys : List A) (y : A) (left rest : List B) → all ≡ map f ys ++ left → left ≡ f y ∷ rest → all ≡ map f (ys ++ y ∷ []) ++ rest
   more_seen all ys y left rest whole next = whole ∙ ap (λ l. map f ys ++ l) next ∙ sym (append_assoc (map f ys) (f y ∷ []) rest) ∙ ap (λ l. l ++ rest) (sym (one_mapped ys y))
 
-  pub few_seen : (all : List B) (ys : List A) (y : A) (left rest : List B) → all ≡ map f ys ++ left → left ≡ f y ∷ rest → length all < 2 ^ 64 → length (map f ys) + 1 < 2 ^ 64
+  few_seen : (all : List B) (ys : List A) (y : A) (left rest : List B) → all ≡ map f ys ++ left → left ≡ f y ∷ rest → length all < 2 ^ 64 → length (map f ys) + 1 < 2 ^ 64
   few_seen all ys y left rest whole next few =
       let long : length all ≡ length (map f ys) + length (f y ∷ rest) = ap length (whole ∙ ap (λ l. map f ys ++ l) next) ∙ length-append (map f ys) (f y ∷ rest) in
       omega arith
 
--- the point that comes next stands with those before
-pub stands_next : {A : Type 0} (f : A → Key × Cell Payload) (ask : Ask) (n : ℕ) (all : List (Key × Cell Payload)) (ys : List A) (y : A) (left rest : List (Key × Cell Payload)) (old new : Rows)
-    → is_sorted key_cmp all ≡ true → all ≡ map f ys ++ left → left ≡ f y ∷ rest → Stands ask n (map f ys) old → Adds ask n (f y) old new → Stands ask n (map f (ys ++ y ∷ [])) new
-stands_next f ask n all ys y left rest old new sorted whole next stands adds =
-    let below = sorted_below (map f ys) (f y) rest (ap (is_sorted key_cmp) (sym (whole ∙ ap (λ l. map f ys ++ l) next)) ∙ sorted) in
-    subst (λ (es : List (Key × Cell Payload)). Stands ask n es new) (sym (one_mapped f ys y)) (stands_more ask n (map f ys) (f y) old new below stands adds)
+-- the point that comes next: there is room for it, and it stands with those before
+module _ {A : Type 0} (f : A → Key × Cell Payload) (ask : Ask) (n : ℕ) (all : List (Key × Cell Payload)) (ys : List A) (y : A) (left rest : List (Key × Cell Payload)) (old : Rows)
+    (whole : all ≡ map f ys ++ left) (next : left ≡ f y ∷ rest) (stands : Stands ask n (map f ys) old) where
+  pub room_next : length all < 2 ^ 64 → HasRoom old
+  room_next few = has_room ask n (map f ys) old stands (few_seen f all ys y left rest whole next few)
+
+  pub stands_next : (new : Rows) → is_sorted key_cmp all ≡ true → Adds ask n (f y) old new → (all ≡ map f (ys ++ y ∷ []) ++ rest) × Stands ask n (map f (ys ++ y ∷ [])) new
+  stands_next new sorted adds =
+      let below = sorted_below (map f ys) (f y) rest (ap (is_sorted key_cmp) (sym (whole ∙ ap (λ l. map f ys ++ l) next)) ∙ sorted) in (
+        more_seen f all ys y left rest whole next,
+        subst (λ (es : List (Key × Cell Payload)). Stands ask n es new) (sym (one_mapped f ys y)) (stands_more ask n (map f ys) (f y) old new below stands adds),
+      )

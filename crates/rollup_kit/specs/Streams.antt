@@ -1,5 +1,5 @@
 -- The streams of which points are.
-use Rattle.std.specs.Prelude.{Bool, List, [], ◌∷◌, fold}
+use Rattle.std.specs.Prelude.{Bool, List, [], fold}
 use Rattle.std.specs.FinMap.{entries}
 use Rattle.indexmap.specs.IndexSet.{insert_key}
 use Rattle.point_kit.specs.Exports.{Points}

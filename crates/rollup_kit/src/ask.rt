@@ -1,6 +1,5 @@
 //! What is asked of a gateway.
 ghost use Rattle.std.specs.Prelude.{◌≡◌, IfOk};
-ghost use Rattle.std.specs.List.{list_all};
 ghost use Rattle.rollup_kit.specs.Asks.{is_of_service, has_pair, has_pairs};
 
 use attr_kit::{AttrSet, AttrValue, Keep, NoMemory, Seq, TryCopy, Txt};

@@ -1,5 +1,5 @@
 //! What the points of one row come to so far.
-ghost use Rattle.std.specs.Prelude.{◌≡◌, ℕ, ◌+◌, ◌*◌, ◌^◌, ◌<◌, ◌≤◌, IfOk, slice_index, Some};
+ghost use Rattle.std.specs.Prelude.{◌≡◌, ◌+◌, ◌*◌, ◌^◌, ◌<◌, IfOk, Some};
 ghost use Rattle.rollup_kit.specs.Groups.{no_group, with_held, with_payload, with_sum, with_value, with_histogram, later_value};
 ghost use Rattle.rollup_kit.specs.Walks.{row_read};
 

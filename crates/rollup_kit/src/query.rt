@@ -1,12 +1,11 @@
 //! What a gateway answers.
-ghost use Rattle.std.specs.Prelude.{◌≡◌, ◌<◌, ◌≤◌, ◌^◌, ℕ, true, length, IfOk};
+ghost use Rattle.std.specs.Prelude.{◌≡◌, ◌<◌, ◌≤◌, ◌^◌, true, length, IfOk};
 ghost use Rattle.std.specs.FinMap as finite;
 ghost use Rattle.std.specs.FinMap.{entries};
 ghost use Rattle.std.specs.FinMap.Entries.{is_sorted};
 ghost use Rattle.gateway_kit.specs.Walks.{points_left};
 ghost use Rattle.point_kit.specs.Orders.{key_cmp};
 ghost use Rattle.rollup_kit.specs.Standing.{StandsFor};
-ghost use Rattle.rollup_kit.specs.Walks.{Rows};
 ghost use Rattle.rollup_kit.specs.Rollups.{rollup_rows};
 
 use crate::groups::{groups_of, in_order};

@@ -1,7 +1,7 @@
 //! The cells of a row as they are printed.
 ghost use Rattle.std.specs.Prelude.{◌≡◌, ◌++◌, OnOk, string_bytes};
 ghost use Rattle.std.specs.List.{list_all};
-ghost use Rattle.rollup_kit.specs.RowText.{is_plain, comma_before, key_text, value_text, pair_text, attributes_text, gauge_text, numbers_text, range_text, total_text};
+ghost use Rattle.rollup_kit.specs.RowText.{is_plain, comma_before, key_text, value_text, attributes_text, gauge_text, numbers_text, range_text, total_text};
 
 use crate::Total;
 use crate::quote::push_quoted;

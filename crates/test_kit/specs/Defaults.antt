@@ -1,5 +1,5 @@
 -- What a test gets where it says no more than names.
-use Rattle.std.specs.Prelude.{ℕ, List, [], ◌∷◌, None}
+use Rattle.std.specs.Prelude.{ℕ, List, [], None}
 use Rattle.attr_kit.specs.declared.keep.Keep.TheVariants as keeps
 use Rattle.plan_kit.specs.declared.instrument.Instrument.{Instrument}
 use Rattle.plan_kit.specs.declared.instrument.Kind.{Kind}

@@ -1,5 +1,5 @@
 -- What a failing exporter does with an export.
-use Rattle.std.specs.Prelude.{◌≡◌, ◌+◌, ◌==◌, ℕ, Bool, false, List, [], ◌∷◌, ◌++◌, length}
+use Rattle.std.specs.Prelude.{◌≡◌, ◌+◌, ◌==◌, ℕ, Bool, false, [], ◌∷◌, ◌++◌, length}
 use Rattle.std.specs.List.{list_any}
 use Rattle.point_kit.specs.declared.export.Export.{Export}
 use Rattle.test_kit.specs.declared.failing.FailingExporter.{FailingExporter}

@@ -1,4 +1,5 @@
 pub mod Covered
+pub mod Forgotten
 pub mod Gossiped
 pub mod Limited
 pub mod Logs

@@ -6,7 +6,7 @@ use Rattle.std.specs.FinMap.{entries, from_entries, get-from_entries, same_map}
 use Rattle.std.specs.FinMap.Entries.{find, is_sorted}
 use Rattle.std.specs.Ordering.{is_eq, is_lt, nat_cmp, ordering_then}
 use Rattle.std.specs.declared.cmp.Ordering.{Ordering}
-use Rattle.std.specs.declared.cmp.Ordering.TheVariants.{Less, Equal}
+use Rattle.std.specs.declared.cmp.Ordering.TheVariants.{Less}
 use Rattle.bytes_kit.proofs.Gathering.{gather_more, gathered}
 use Rattle.gateway_kit.proofs.Joining.{state_alone, under}
 use Rattle.gateway_kit.specs.KeyOrders.{compares}

@@ -1,8 +1,12 @@
 pub mod Commanding
 pub mod Exporting
+pub mod Fleets
+pub mod Holding
 pub mod Logs
+pub mod Passing
 pub mod Plans
 pub mod Pushing
+pub mod Scripting
 pub mod Serving
 pub mod Sharing
 pub mod Turning

@@ -3,8 +3,11 @@ use Rattle.std.specs.Prelude.{◌≡◌, ℕ, ℤ, List, [], ◌∷◌, map}
 use Rattle.agg_kit.specs.Entries.{entry_of}
 use Rattle.recorder_kit.specs.Log.{Recording, ByName}
 use Rattle.turn_kit.specs.History.{weigh, weigh_log}
-use Rattle.writer_kit.specs.Shared.{History, Serves}
+use Rattle.turn_kit.specs.Public.{mine, joined}
+use Rattle.turn_kit.specs.declared.seat.Seat.{Seat}
+use Rattle.writer_kit.specs.Shared.{History, IsAt, Serves}
 use Rattle.writer_kit.specs.Written.{Written}
+use Rattle.writer_kit.specs.declared.shared.writer.SharedWriter.{SharedWriter}
 use Rattle.writer_kit.specs.declared.shared.change.WriterChange.{WriterChange}
 use Rattle.writer_kit.specs.declared.shared.change.WriterChange.TheVariants.{Measured, TakenIn}
 use Rattle.uses.specs.declared.sharing.Way.{Way}
@@ -30,6 +33,10 @@ changes_by ByLog work = TakenIn (log_of work) ∷ []
 
 abbrev pub changes : Work → List WriterChange
 changes work = changes_by work.way work
+
+-- a seat of a shared writer that has made these changes, and has taken in no other seat
+abbrev pub HasMade : {G : Type 0} {g : _} → SharedWriter G → List WriterChange → Seat Written WriterChange g → Type 0
+HasMade shared made seat = IsAt shared seat × (mine seat ≡ made) × (joined seat ≡ [])
 
 -- A writer is what one history makes of the first one, and that history has these changes, each as often: however changes are weighed, by number, by
 -- value or by sort, it weighs what they do.

@@ -1,9 +1,8 @@
 //! A fleet of threads, and what its gateways answer.
-ghost use Rattle.std.specs.Prelude.{◌≡◌, ◌⊎◌, ◌∷◌, [], IfOk, IfSome};
-ghost use Rattle.fleet_kit.specs.Setups.{entries_recorded, writers_of};
+ghost use Rattle.std.specs.Prelude.{◌≡◌, ◌∷◌, [], IfOk, IfSome};
 ghost use Rattle.fleet_kit.specs.declared.fault.FleetFault.TheVariants as faults;
 ghost use Rattle.rollup_kit.specs.Rollups.{AddsUp};
-ghost use Rattle.rollup_kit.specs.Writers.{AllWithin, IsRegrouped, rows_of};
+ghost use Rattle.uses.specs.Fleets.{IsTold, rows_recorded};
 
 use attr_kit::{AttrSet, NoMemory, Seq};
 use fleet_kit::{FleetFault, FleetSetup, Gate, Job, Open, run_fleet};
@@ -60,8 +59,8 @@ pub fn rows_of_fleet<R: Threads + Wait + Sync>(
     setup: FleetSetup,
     ask: &Ask,
 ) -> anyhow::Result<Option<Seq<Row>>>
-    ensures rows { AddsUp ask.now.stream.shape → AllWithin (writers_of setup) (entries_recorded setup) ⊎ IsRegrouped ask.now
-        → IfOk result (λ found. IfSome found (λ rows. rows ≡ rows_of (writers_of setup) (entries_recorded setup) ask.now)) }
+    ensures rows { AddsUp ask.now.stream.shape → IsTold setup ask.now
+        → IfOk result (λ found. IfSome found (λ rows. rows ≡ rows_recorded setup ask.now)) }
 {
     let gateways = run_fleet(rt, alloc, setup, &Open)?;
     match gateways.get(0) {

@@ -1,8 +1,7 @@
 //! Held points: a set that is looked up once, and recorded under by a number.
-ghost use Rattle.std.specs.Prelude.{◌≡◌, MatchBool, IfOk, OnOk, OnErr, length};
-ghost use Rattle.agg_kit.specs.Entries.{entry_of};
-ghost use Rattle.agg_kit.specs.Measuring.{after_measure};
+ghost use Rattle.std.specs.Prelude.{◌≡◌, IfOk, OnOk, OnErr, false, length, true};
 ghost use Rattle.recorder_kit.specs.Log.{ByNumber};
+ghost use Rattle.uses.specs.Holding.{after_two};
 ghost use Rattle.writer_kit.specs.Recording.{after_record, after_restart, with_held};
 
 use agg_kit::{Places, Tally, TallyFault};
@@ -19,8 +18,8 @@ pub fn record_two(
     second: i64,
 ) -> Result<usize, MeasureFault>
     ensures number { IfOk result (λ number. number ≡ length writer.old.tally.held) }
-    ensures value { OnOk result (writer.new.tally ≡ after_measure (after_measure (with_held writer.old.tally instrument attrs.now)
-        (entry_of instrument attrs.now first)) (entry_of instrument attrs.now second)) }
+    ensures value { OnOk result
+        (writer.new.tally ≡ after_two (with_held writer.old.tally instrument attrs.now) instrument attrs.now first second) }
 {
     let number = writer.hold(instrument, attrs)?;
     writer.measure_held(number, first)?;
@@ -30,8 +29,8 @@ pub fn record_two(
 
 /// Records a value at a held point, and says whether the writer holds one of this number.
 pub fn record_if_held(writer: &mut Writer, number: usize, value: i64) -> Result<bool, MeasureFault>
-    ensures value { IfOk result (λ held. MatchBool held
-        (writer.new ≡ after_record writer.old (ByNumber number value)) (writer.new ≡ writer.old)) }
+    ensures held { IfOk result (λ held. held ≡ true → writer.new ≡ after_record writer.old (ByNumber number value)) }
+    ensures none { IfOk result (λ held. held ≡ false → writer.new ≡ writer.old) }
     ensures unchanged { OnErr result (writer.new ≡ writer.old) }
 {
     match writer.measure_held(number, value) {
@@ -60,8 +59,7 @@ pub fn record_two_by_places(
     first: i64,
     second: i64,
 ) -> Result<(), TallyFault>
-    ensures value { OnOk result (tally.new ≡ after_measure (after_measure tally.old (entry_of instrument attrs.now first))
-        (entry_of instrument attrs.now second)) }
+    ensures value { OnOk result (tally.new ≡ after_two tally.old instrument attrs.now first second) }
 {
     let mut places = Places::unknown(alloc);
     tally.measure_at(&mut places, instrument, attrs, first)?;

@@ -7,7 +7,8 @@
 //!   that is looked up once), `viewing` (views and the limit), `taking_in` (a recorder that a writer takes in), `pushing` (periodic
 //!   readers: with an exporter of one's own, into memory, over a channel, and over one that fails when told).
 //! - Who reads: `gathering` (deliver, merge, ask, print a table), `reading` (rows, rounds, points and feeds), `passing` (exports made by
-//!   hand, and as bytes), `sending` (to OpenTelemetry's Collectors), `gossiping` (two gateways that tell each other).
+//!   hand, and as bytes), `sending` (to OpenTelemetry's Collectors), `gossiping` (two gateways that tell each other),
+//!   `forgetting` (incarnations that tell nothing any more).
 //! - Threads: `sharing` (two threads at one writer, one by one and by logs), `serving` (a gateway that threads share, and what a seat
 //!   tells another), `turning` (a machine of one's own under a turn), `fleets` (threads that record, and gateways that answer).
 //! - Without threads: `replaying` (a schedule of writers and gateways), `scripting` (scripts, and lines by themselves), `commanding` (the
@@ -17,6 +18,7 @@
 pub mod attributing;
 pub mod commanding;
 pub mod fleets;
+pub mod forgetting;
 pub mod gathering;
 pub mod gossiping;
 pub mod holding;

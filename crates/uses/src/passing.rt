@@ -2,9 +2,9 @@
 ghost use Rattle.std.specs.Prelude.{◌≡◌, ◌∷◌, [], IfOk, OnOk, OnErr};
 ghost use Rattle.bytes_kit.specs.Fits.{IsExport};
 ghost use Rattle.bytes_kit.specs.Format.{bytes_of};
-ghost use Rattle.point_kit.specs.Exports.{join_points, state};
 ghost use Rattle.point_kit.specs.declared.export.Export.{Export};
 ghost use Rattle.point_kit.specs.declared.payload.Payload.TheVariants as payloads;
+ghost use Rattle.uses.specs.Passing.{with_export};
 
 use attr_kit::{AttrSet, NoMemory, Seq};
 use bytes_kit::{DecodeFault, decode_export, encode_export};
@@ -47,7 +47,7 @@ pub fn export_of_sum(
 /// Takes an export that came as bytes. Bytes of an export are taken as that export, and where bytes are refused nothing changes.
 pub fn take_bytes(alloc: Global, gateway: &mut Gateway, bytes: &[u8]) -> Result<u64, DecodeFault>
     ensures taken { (e : Export) → IsExport e → bytes.now ≡ bytes_of e
-        → OnOk result (gateway.new.points ≡ join_points gateway.old.points (state (e ∷ []))) }
+        → OnOk result (gateway.new.points ≡ with_export gateway.old.points e) }
     ensures unchanged { OnErr result (gateway.new ≡ gateway.old) }
 {
     let export = decode_export(alloc, bytes)?;

@@ -1,5 +1,5 @@
 //! A periodic reader over an exporter of one's own.
-ghost use Rattle.std.specs.Prelude.{◌≡◌, ◌≢◌, ◌<◌, MatchBool, OnOk, IfOk, Ok, length};
+ghost use Rattle.std.specs.Prelude.{◌≡◌, ◌≢◌, ◌<◌, OnOk, IfOk, Ok, false, length, true};
 ghost use Rattle.push_kit.specs.declared.periodic.Tick.TheVariants as ticks;
 ghost use Rattle.uses.specs.Pushing.{size_of, Keeps};
 
@@ -98,9 +98,9 @@ pub fn push_or_lose(
     now: u64,
 ) -> Result<bool, TickFault>
     requires room { reader.old.exporter.failures < 18446744073709551615 }
-    ensures { IfOk result (λ taken. MatchBool taken
-        (Keeps reader.old.writer now reader.old.exporter.copies.items reader.new.exporter.copies.items)
-        (reader.new.exporter.copies.items ≡ reader.old.exporter.copies.items)) }
+    ensures taken { IfOk result
+        (λ taken. taken ≡ true → Keeps reader.old.writer now reader.old.exporter.copies.items reader.new.exporter.copies.items) }
+    ensures lost { IfOk result (λ taken. taken ≡ false → reader.new.exporter.copies.items ≡ reader.old.exporter.copies.items) }
 {
     let arena = Bump::new(alloc);
     match reader.flush(&arena, now, false) {

@@ -1,5 +1,5 @@
 //! What becomes of a service where a call is refused.
-ghost use Rattle.std.specs.Prelude.{◌≡◌, ◌↔◌, ◌<◌, MatchBool, Some, None, IfOk, IfSome, IsTrue, OnOk, OnErr, false};
+ghost use Rattle.std.specs.Prelude.{◌≡◌, ◌↔◌, ◌<◌, Some, None, IfOk, IfSome, IsTrue, OnOk, OnErr, false, true};
 ghost use Rattle.agg_kit.specs.Entries.{entry_of};
 ghost use Rattle.gossip_kit.specs.Gossip.{hand_fault};
 ghost use Rattle.gossip_kit.specs.declared.fault.HandFault.TheVariants as hands;
@@ -38,8 +38,9 @@ pub fn record_if_allowed(
     attrs: &AttrSet,
     value: i64,
 ) -> Result<bool, MeasureFault>
-    ensures value { IfOk result (λ done. MatchBool done
-        (writer.new ≡ after_record writer.old (ByName (entry_of instrument attrs.now value))) (writer.new ≡ writer.old)) }
+    ensures done { IfOk result
+        (λ done. done ≡ true → writer.new ≡ after_record writer.old (ByName (entry_of instrument attrs.now value))) }
+    ensures refused { IfOk result (λ done. done ≡ false → writer.new ≡ writer.old) }
     ensures unchanged { OnErr result (writer.new ≡ writer.old) }
 {
     match writer.measure(instrument, attrs, value) {

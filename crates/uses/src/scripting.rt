@@ -1,15 +1,10 @@
 //! Scripts that a program of one's own runs.
-ghost use Rattle.std.specs.Prelude.{◌≡◌, ◌≢◌, ℕ, ℤ, [], Err, None, Some, IfOk, IfSome, IsOk, string_bytes};
-ghost use Rattle.attr_kit.specs.declared.attr_set.AttrSet.{AttrSet};
+ghost use Rattle.std.specs.Prelude.{◌≡◌, ℤ, [], Err, None, Some, IfOk, IfSome, IsOk, string_bytes};
 ghost use Rattle.otm_kit.specs.Ends.{AtBadLine};
 ghost use Rattle.otm_kit.specs.Says.{bad_line_of, says};
 ghost use Rattle.script_kit.specs.Lines.{line_of};
 ghost use Rattle.script_kit.specs.Reasons.{form_text, noun_text, reason_named, sentence_of};
-ghost use Rattle.script_kit.specs.declared.line.Command.TheVariants as commands;
-ghost use Rattle.script_kit.specs.declared.line.Declaration.TheVariants as declarations;
-ghost use Rattle.script_kit.specs.declared.line.Line.TheVariants as lines;
-ghost use Rattle.script_kit.specs.declared.line.Query.TheVariants as queries;
-ghost use Rattle.script_kit.specs.declared.line.Report.{Report};
+ghost use Rattle.uses.specs.Scripting.{Asks, Declares, Measures};
 
 use attr_kit::{NoMemory, Txt};
 use otm_kit::{Ended, run_script, run_script_told};
@@ -59,10 +54,8 @@ pub fn first_bad_line(alloc: Global, script: &[u8]) -> Result<Option<u64>, Scrip
 
 /// The label and the identity of the writer that a line declares; none where it declares none.
 pub fn writer_declared(line: &Line) -> Option<(&Txt, &WriterId)>
-    ensures some { IfSome result (λ writer. (start : ℕ)
-        × (line.now ≡ lines.Declare (declarations.Writer writer.0.now writer.1.now start))) }
-    ensures none { result ≡ None → (label : Txt) (id : WriterId) (start : ℕ)
-        → line.now ≢ lines.Declare (declarations.Writer label id start) }
+    ensures some { IfSome result (λ writer. Declares line.now writer.0.now writer.1.now) }
+    ensures none { result ≡ None → (label : Txt) (id : WriterId) → Declares line.now label id → ⊥ }
 {
     match line {
         Line::Declare(Declaration::Writer { label, id, .. }) => Some((label, id)),
@@ -72,10 +65,8 @@ pub fn writer_declared(line: &Line) -> Option<(&Txt, &WriterId)>
 
 /// The writer and the value of a recording that a line makes; none where it makes none.
 pub fn value_measured(line: &Line) -> Option<(&Txt, i64)>
-    ensures some { IfSome result (λ told. (instrument : Txt) × (attrs : AttrSet)
-        × (line.now ≡ lines.Do (commands.Measure told.0.now instrument told.1 attrs))) }
-    ensures none { result ≡ None → (writer instrument : Txt) (value : ℤ) (attrs : AttrSet)
-        → line.now ≢ lines.Do (commands.Measure writer instrument value attrs) }
+    ensures some { IfSome result (λ told. Measures line.now told.0.now told.1) }
+    ensures none { result ≡ None → (writer : Txt) (value : ℤ) → Measures line.now writer value → ⊥ }
 {
     match line {
         Line::Do(Command::Measure { writer, value, .. }) => Some((writer, *value)),
@@ -85,9 +76,8 @@ pub fn value_measured(line: &Line) -> Option<(&Txt, i64)>
 
 /// The stream that a line asks a gateway for; none where it asks for no report.
 pub fn stream_asked(line: &Line) -> Option<&Stream>
-    ensures some { IfSome result (λ stream. (gateway : ℕ) × (report : Report)
-        × (line.now ≡ lines.Ask (queries.Report gateway report)) × (report.stream ≡ stream.now)) }
-    ensures none { result ≡ None → (gateway : ℕ) (report : Report) → line.now ≢ lines.Ask (queries.Report gateway report) }
+    ensures some { IfSome result (λ stream. Asks line.now stream.now) }
+    ensures none { result ≡ None → (stream : Stream) → Asks line.now stream → ⊥ }
 {
     match line {
         Line::Ask(

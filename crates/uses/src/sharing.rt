@@ -1,11 +1,11 @@
 //! Two threads that record with one writer, one by one or by a log.
 ghost use Rattle.std.specs.Prelude.{◌≡◌, ◌∷◌, ◌++◌, [], ℕ, IfOk, IfSome, map};
 ghost use Rattle.turn_kit.specs.History.{weigh, weigh_all};
-ghost use Rattle.turn_kit.specs.Public.{family, mine, joined};
+ghost use Rattle.turn_kit.specs.Public.{family};
 ghost use Rattle.writer_kit.specs.Shared.{IsAt};
 ghost use Rattle.writer_kit.specs.declared.shared.change.WriterChange.{WriterChange};
 ghost use Rattle.writer_kit.specs.declared.shared.change.WriterChange.TheVariants.{TakenIn};
-ghost use Rattle.uses.specs.Sharing.{HasRecorded, change, changes, log_of};
+ghost use Rattle.uses.specs.Sharing.{HasMade, HasRecorded, change, changes, log_of};
 ghost use denote.Param.Send.{IsSync};
 
 use attr_kit::AttrSet;
@@ -44,10 +44,8 @@ fn record_each<R: Wait>(
     seat: Seat<Writer>,
     work: &Work,
 ) -> Option<Seat<Writer>>
-    requires at { IsAt shared.now seat }
-    requires fresh { (mine seat ≡ []) × (joined seat ≡ []) }
-    ensures at { IfSome result (λ s. IsAt shared.now s × (joined s ≡ [])) }
-    ensures all { IfSome result (λ s. mine s ≡ map (change work.now) work.now.values.items) }
+    requires { HasMade shared.now [] seat }
+    ensures { IfSome result (HasMade shared.now (map (change work.now) work.now.values.items)) }
 {
     let mut seat = seat;
     for value in &work.values {
@@ -80,10 +78,8 @@ fn record_log<R: Wait>(
     seat: Seat<Writer>,
     recorder: Recorder,
 ) -> Option<Seat<Writer>>
-    requires at { IsAt shared.now seat }
-    requires fresh { (mine seat ≡ []) × (joined seat ≡ []) }
-    ensures at { IfSome result (λ s. IsAt shared.now s × (joined s ≡ [])) }
-    ensures all { IfSome result (λ s. mine s ≡ TakenIn recorder.log ∷ []) }
+    requires { HasMade shared.now [] seat }
+    ensures { IfSome result (HasMade shared.now (TakenIn recorder.log ∷ [])) }
 {
     let mut seat = seat;
     let mut recorder = recorder;
@@ -104,10 +100,8 @@ fn record_all<R: Wait>(
     seat: Seat<Writer>,
     work: &Work,
 ) -> Option<Seat<Writer>>
-    requires at { IsAt shared.now seat }
-    requires fresh { (mine seat ≡ []) × (joined seat ≡ []) }
-    ensures at { IfSome result (λ s. IsAt shared.now s × (joined s ≡ [])) }
-    ensures all { IfSome result (λ s. mine s ≡ changes work.now) }
+    requires { HasMade shared.now [] seat }
+    ensures { IfSome result (HasMade shared.now (changes work.now)) }
 {
     match work.way {
         Way::OneByOne => record_each(rt, shared, seat, work),
@@ -126,20 +120,20 @@ fn record_both<R: Threads + Wait + Sync>(
     here: &Work,
     there: &Work,
 ) -> Option<Seat<Writer>>
-    requires first { IsAt shared.now first × (mine first ≡ []) × (joined first ≡ []) }
-    requires second { IsAt shared.now second × (mine second ≡ []) × (joined second ≡ []) }
+    requires first { HasMade shared.now [] first }
+    requires second { HasMade shared.now [] second }
     ensures at { IfSome result (λ s. IsAt shared.now s) }
     ensures all { IfSome result (λ s. (f : WriterChange → ℕ) → weigh_all f (family s) ≡ weigh f (changes here.now ++ changes there.now)) }
 {
     let (first, second) = join(
         rt,
         || -> Option<Seat<Writer>>
-            requires { IsSync R.row × IsAt shared.now first × (mine first ≡ []) × (joined first ≡ []) }
-            ensures { IfSome result (λ s. IsAt shared.entry.now s × (joined s ≡ []) × (mine s ≡ changes here.entry.now)) }
+            requires { IsSync R.row × HasMade shared.now [] first }
+            ensures { IfSome result (HasMade shared.entry.now (changes here.entry.now)) }
         { record_all(rt, alloc, shared, first, here) },
         || -> Option<Seat<Writer>>
-            requires { IsSync R.row × IsAt shared.now second × (mine second ≡ []) × (joined second ≡ []) }
-            ensures { IfSome result (λ s. IsAt shared.entry.now s × (joined s ≡ []) × (mine s ≡ changes there.entry.now)) }
+            requires { IsSync R.row × HasMade shared.now [] second }
+            ensures { IfSome result (HasMade shared.entry.now (changes there.entry.now)) }
         { record_all(rt, alloc, shared, second, there) },
     );
     let mut seat = first?;

@@ -1,13 +1,13 @@
 //! A recorder, in which a thread notes recordings, and the writer that takes it in.
-ghost use Rattle.std.specs.Prelude.{◌≡◌, ◌∷◌, ◌++◌, [], ◌≤◌, MatchBool, Some, IfOk, IfErr, OnOk, OnErr, pos};
+ghost use Rattle.std.specs.Prelude.{◌≡◌, Some, IfOk, IfErr, OnOk, OnErr, false, pos, true};
 ghost use Rattle.agg_kit.specs.Entries.{entry_of};
-ghost use Rattle.agg_kit.specs.Measuring.{after_measure};
 ghost use Rattle.agg_kit.specs.declared.fault.TallyFault.TheVariants.{Negative};
 ghost use Rattle.plan_kit.specs.Plans.{kind_of};
 ghost use Rattle.plan_kit.specs.declared.instrument.Kind.TheVariants.{Counter};
 ghost use Rattle.recorder_kit.specs.Log.{ByName, ByNumber};
 ghost use Rattle.turn_kit.specs.Public.{AtBusy};
-ghost use Rattle.uses.specs.Logs.{HasFirst, comes_to};
+ghost use Rattle.uses.specs.Holding.{after_two};
+ghost use Rattle.uses.specs.Logs.{HasFirst, comes_to, noting};
 ghost use Rattle.writer_kit.specs.Shared.{IsAt, Adds};
 ghost use Rattle.writer_kit.specs.Taking.{gone};
 ghost use Rattle.writer_kit.specs.declared.shared.change.WriterChange.TheVariants.{TakenIn};
@@ -28,9 +28,8 @@ pub fn note_if_room(
     attrs: &AttrSet,
     value: i64,
 ) -> Result<bool, RecordFault>
-    ensures { IfOk result (λ room. MatchBool room
-        (recorder.new ≡ record recorder.old { log = recorder.old.log ++ ByName (entry_of instrument attrs.now value) ∷ [] })
-        (recorder.new ≡ recorder.old)) }
+    ensures noted { IfOk result (λ room. room ≡ true → recorder.new ≡ noting recorder.old (ByName (entry_of instrument attrs.now value))) }
+    ensures full { IfOk result (λ room. room ≡ false → recorder.new ≡ recorder.old) }
 {
     match recorder.measure(instrument, attrs, value) {
         Ok(()) => Ok(true),
@@ -47,8 +46,8 @@ pub fn note_or_take_in(
     number: usize,
     value: i64,
 ) -> anyhow::Result<()>
-    ensures { OnOk result (comes_to writer.new.tally recorder.new.log
-        ≡ comes_to writer.old.tally (recorder.old.log ++ ByNumber number value ∷ [])) }
+    ensures { OnOk result
+        (comes_to writer.new.tally recorder.new.log ≡ comes_to writer.old.tally (noting recorder.old (ByNumber number value)).log) }
 {
     match recorder.measure_held(number, value) {
         Err(RecordFault::Full) => {
@@ -63,8 +62,7 @@ pub fn note_or_take_in(
 pub fn record_but_one(alloc: Global, writer: &mut Writer, attrs: &AttrSet) -> anyhow::Result<Taken>
     requires { kind_of writer.old.tally.plan 0 ≡ Some Counter }
     ensures told { IfOk result (λ told. told.recorded ≡ 2 → told.first ≡ Some (1, Negative)) }
-    ensures value { IfOk result (λ told. told.recorded ≡ 2 → writer.new.tally
-        ≡ after_measure (after_measure writer.old.tally (entry_of 0 attrs.now (pos 3))) (entry_of 0 attrs.now (pos 4))) }
+    ensures value { IfOk result (λ told. told.recorded ≡ 2 → writer.new.tally ≡ after_two writer.old.tally 0 attrs.now (pos 3) (pos 4)) }
 {
     let mut recorder = Recorder::new(alloc, 3)?;
     recorder.measure(0, attrs, 3)?;

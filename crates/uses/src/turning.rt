@@ -1,7 +1,7 @@
 //! A machine of one's own under a turn: threads share it, and each change stands in one history.
 ghost use Rattle.std.specs.Prelude.{◌≡◌, ◌≤◌, ◌<◌, ℕ, None, IfOk, IfErr, IfSome, OnOk, OnErr};
-ghost use Rattle.turn_kit.specs.Public.{IsOf, IsLeft, IsFull, Closes, Enters, Refuses, AtBusy, AtRefused, opening, limit_of};
-ghost use Rattle.uses.specs.Turning.{mark_after};
+ghost use Rattle.turn_kit.specs.Public.{IsOf, IsLeft, IsFull, Closes, AtBusy, AtRefused, opening};
+ghost use Rattle.uses.specs.Turning.{IsNotRaised, Raises, mark_after};
 
 use std::alloc::Global;
 use std::marker::Model;
@@ -101,10 +101,8 @@ pub fn raise_to<R: Wait>(
 ) -> Result<u64, ChangeFault<NotHigher>>
     requires { IsOf turn.now seat.old }
     ensures seat { IsOf turn.now seat.new }
-    ensures raised { IfOk result (λ old. Enters (λ m. m) mark_after (opening turn.now) (limit_of turn.now)
-        to (λ m. old ≡ m) seat.old seat.new) }
-    ensures refused { IfErr result (AtRefused (λ _. Refuses (λ m. m) mark_after (opening turn.now) (limit_of turn.now)
-        (λ m. to ≤ m) seat.old seat.new)) }
+    ensures raised { IfOk result (λ old. Raises turn.now old to seat.old seat.new) }
+    ensures refused { IfErr result (AtRefused (λ _. IsNotRaised turn.now to seat.old seat.new)) }
 {
     turn.change(rt, seat, Raise { to })
 }
@@ -119,8 +117,7 @@ pub fn raise_by<R: Wait>(
 ) -> Result<(), ChangeFault<NotHigher>>
     requires { IsOf turn.now seat.old }
     ensures seat { IsOf turn.now seat.new }
-    ensures raised { OnOk result (Enters (λ m. m) mark_after (opening turn.now) (limit_of turn.now)
-        lift.old.to (λ m. lift.new.from ≡ m) seat.old seat.new) }
+    ensures raised { OnOk result (Raises turn.now lift.new.from lift.old.to seat.old seat.new) }
     ensures kept { OnErr result (lift.new ≡ lift.old) }
 {
     turn.change_mut(rt, seat, lift)
@@ -145,8 +142,7 @@ pub fn raise_at_once<G: GiveBack>(
 ) -> Result<u64, ChangeFault<NotHigher>>
     requires { IsOf turn.now seat.old }
     ensures seat { IsOf turn.now seat.new }
-    ensures raised { IfOk result (λ old. Enters (λ m. m) mark_after (opening turn.now) (limit_of turn.now)
-        to (λ m. old ≡ m) seat.old seat.new) }
+    ensures raised { IfOk result (λ old. Raises turn.now old to seat.old seat.new) }
     ensures busy { IfErr result (AtBusy (IsLeft seat.old seat.new)) }
 {
     turn.try_change(seat, Raise { to })

@@ -1,5 +1,5 @@
 //! What writers do.
-ghost use Rattle.std.specs.Prelude.{◌≡◌, ◌≢◌, ◌<◌, false, true, length, slice_get, IsOk, OnErr, IfOk, Some, None};
+ghost use Rattle.std.specs.Prelude.{◌≡◌, ◌<◌, slice_get, IsOk, OnErr, IfOk, Some, None};
 ghost use Rattle.agg_kit.specs.Entries.{entry_of};
 ghost use Rattle.world_kit.specs.declared.event.Event.TheVariants as event;
 ghost use Rattle.world_kit.specs.Copying.{IsCopy};

@@ -38,7 +38,7 @@ constexpr int places_of(int32_t code) {
     case KIT_NOT_CANONICAL:
     case KIT_BAD_CHECKSUM:
     case KIT_OTLP_BOUNDS: return 1;
-    // (what is wrong with a request of OTLP has a place each)
+    // (what is wrong with a request of OTLP has a place each, but for texts that repeat)
     default: return code > KIT_TOO_LONG && code <= KIT_NO_EXPORT;
     }
 }
@@ -132,6 +132,7 @@ using NoKey = RefusedBy<KIT_NO_KEY>;
 using AttributeTwice = RefusedBy<KIT_ATTRIBUTE_TWICE>;
 using AttributeValue = RefusedBy<KIT_ATTRIBUTE_VALUE>;
 using NoExport = RefusedBy<KIT_NO_EXPORT>;
+using Repeats = RefusedBy<KIT_REPEATS>;
 
 }  // namespace request
 

@@ -69,6 +69,7 @@ CODES = (
     ("ATTRIBUTE_TWICE", 102, "two attributes of a point have one key", ("point",)),
     ("ATTRIBUTE_VALUE", 103, "the value of an attribute is of a kind that is not known", ("point",)),
     ("NO_EXPORT", 104, "what a request says together makes no export", ("export",)),
+    ("REPEATS", 105, "a text of more than 1024 bytes is repeated too often", ()),
 )
 
 # Each struct that is told, by its name in C: its fields.

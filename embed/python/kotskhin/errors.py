@@ -305,6 +305,10 @@ class NoExport(Refused):
     """What a request says together makes no export: with the export."""
 
 
+class Repeats(Refused):
+    """A text of more than 1024 bytes is repeated too often."""
+
+
 class ForkedError(RuntimeError):
     """What is used was made before a fork, by the parent of this process."""
 

@@ -152,6 +152,34 @@ static void rows_and_views() {
     CHECK(default_bounds().size() == 15);
 }
 
+// Each call that only reads takes what is const: were one of them not const, this would not compile.
+static void what_reads_is_const() {
+    const Plan made = plan();
+    Writer writer(made, "shop", 0, 1, 100);
+    const Attributes set{{"route", "/"}};
+    for (size_t instrument : {0, 1, 2}) writer.measure(instrument, set, 7);
+    const Export given = writer.collect(200);
+    const auto taken = [&] {
+        Gateway gateway(1);
+        gateway.take(given);
+        return gateway;
+    };
+    const Gateway gateway = taken(), other = taken();
+    CHECK(gateway.head().points == 3 && gateway.conflicts() == 0 && gateway.same(other) && gateway.newest("shop", 0, 1, 100) == 200);
+    CHECK(gateway.incarnations().size() == 1 && gateway.services().size() == 1 && gateway.encode() == other.encode());
+    CHECK(gateway.prometheus() == other.prometheus("shop") && gateway.openmetrics() == other.openmetrics("shop"));
+    const Ask ask = Ask::sum("app", "requests", "1");
+    CHECK(gateway.table(ask) == gateway.sum("app", "requests", "1"));
+    const Rows sums = gateway.rows(ask), sizes = gateway.rows(Ask::histogram("app", "size", "By", default_bounds()));
+    const Rows depths = gateway.rows(Ask::gauge("app", "depth", "1"));
+    CHECK(sums.size() == 1 && sums.sum(0) == 7 && sums.total(0).narrow() == 7 && sums.counts(0).first == 1 && !sums.table().empty());
+    CHECK(sums.attributes(0) == set.pairs() && sums.all().size() == 1 && sums.row(0).points == 1 && depths.gauge(0).value == 7);
+    CHECK(sizes.values(0).narrow() == 1 && sizes.histogram(0).sum == 7 && sizes.range(0).least == 7 && sizes.bucket(0, 2) == 1);
+    const Streams streams = gateway.streams();
+    CHECK(streams.size() == 3 && streams[0].name == "depth" && made.streams()[2].name == "depth");
+    CHECK(given.head().points == 3 && !given.otlp().empty());
+}
+
 static void receivers_look_first() {
     Writer writer(plan(), "shop", Instance{1, 2}, 100);
     writer.measure(0, {}, 1);
@@ -181,5 +209,6 @@ int main() {
                         {"ends of numbers", ends_of_numbers},
                         {"refusals", refusals},
                         {"rows and views", rows_and_views},
+                        {"what reads is const", what_reads_is_const},
                         {"receivers look first", receivers_look_first}});
 }

@@ -5,7 +5,7 @@
 
 cases and otel_cases perform the lists that all languages share. kit is what C++ has words of its own for, otel OpenTelemetry's names, readers the periodic
 readers and exporters, with libcurl where it is. Each is compiled by g++ under AddressSanitizer and UBSan, and by clang++ plainly; those
-with threads of their own are run under ThreadSanitizer, too. page is the programs of docs/CPP.md: the first one prints what that page says,
+with threads of their own are run under ThreadSanitizer, too. page is the programs of docs/CPP.md: the first one, compiled by that page's line, prints what it says,
 the second one, with libcurl, pushes to the first of several places that takes what it has.
 
 Headers come from FOLDER/include. It ends with a status other than 0 where one fails, or where something is not there that GATE_WITHOUT
@@ -71,7 +71,9 @@ def page(kit, room, compiler):
     for source, program in zip(sources, re.findall(r"^```cpp\n(.*?)^```$", text, re.M | re.S), strict=True):
         if program != source.read_text(encoding="utf-8").split("\n", 1)[1]:
             sys.exit(f"docs/CPP.md: a program is not {source.relative_to(TOP)}")
-    if (told := ran(kit, room, compiler, sources[0], [])) != printed:
+    line = re.search(r"^c\+\+( -std=c\+\+17 \$R.*)", text, re.M)[1]
+    given = f"cd {room}; R={TOP} PKG_CONFIG_PATH={kit}/lib/pkgconfig; export PKG_CONFIG_PATH; {compiler}"
+    if (told := done("sh", "-ec", given + line)) != printed:
         sys.exit(f"docs/CPP.md: its first program prints\n{told}")
     if not there.has("C++", "pkg-config", "libcurl"):
         return

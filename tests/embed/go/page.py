@@ -55,7 +55,7 @@ def built(room, name, program):
     folder.mkdir()
     (folder / "main.go").write_text(program, encoding="utf-8")
     done(folder, "go", "mod", "init", name)
-    done(folder, *re.search(r"^go mod edit [^#\n]*", PAGE, re.M)[0].replace("$PWD", str(TOP)).split())
+    done(folder, *re.search(r"^go mod edit [^#\n]*", PAGE, re.M)[0].replace("$R", str(TOP)).split())
     if unlike := done(folder, "gofmt", "-l", "."):
         sys.exit(f"{unlike} of {name} is not as gofmt has it")
     done(folder, "go", "vet", ".")

@@ -359,6 +359,33 @@ class Lives(unittest.TestCase):
         thread.join()
         self.assertGreater(sorted(during)[often // 2], 10, during)
 
+    @unittest.skipUnless(kotskhin.library.has_own_lock, "where Python has no lock of its own, all calls are under one")
+    def test_recorders_wait_for_no_call_of_another_thread(self):
+        """A recorder's thread goes on while another thread is inside a call: no lock of the package's is round calls."""
+        came, goes = threading.Event(), threading.Event()
+
+        class Slow(Attributes):
+            @property
+            def _as_parameter_(self):
+                if threading.current_thread() is not threading.main_thread():
+                    came.set()
+                    goes.wait(60)
+                return super()._as_parameter_
+
+        recorders, sets = [Recorder(10), Recorder(10)], [Slow(), Attributes()]
+        threads = [threading.Thread(target=one.measure, args=(0, of, 1)) for one, of in zip(recorders, sets)]
+        try:
+            threads[0].start()
+            self.assertTrue(came.wait(60))
+            threads[1].start()
+            threads[1].join(20)
+            self.assertFalse(threads[1].is_alive(), "a recorder waits for another thread's call")
+        finally:
+            goes.set()
+        for thread in threads:
+            thread.join()
+        self.assertEqual([len(it) for it in recorders], [1, 1])
+
     def test_many_threads_ask_and_take(self):
         """Gateways are merged into each other from threads, which ask them meanwhile."""
         writer, gateways, failed = Writer(Plan(INSTRUMENTS), "shop", 1, 100), [Gateway(1), Gateway(2)], []

@@ -4,8 +4,8 @@
     run.py FOLDER TARGET WHAT     FOLDER is what embed/build made, TARGET a folder for cargo; WHAT is clean, package or page
 
 clean: `cargo fmt`, `cargo clippy` where they are, and `cargo doc` say nothing. package: `cargo package` packs both crates, and builds
-what it packed. page: the programs of docs/RUST.md are the crate's examples. The first one prints what that page says; the second one
-pushes to the first of several places that takes what it has. It ends with a status other than 0 where one does not hold."""
+what it packed. page: the programs of docs/RUST.md are the crate's examples. The first one, in a fresh crate that the page's line adds the
+kit to, prints what that page says; the second one pushes to the first of several places that takes what it has. It ends with a status other than 0 where one does not hold."""
 import os
 import pathlib
 import re
@@ -30,9 +30,9 @@ class Crates:
         self.env = {**os.environ, "KOTSKHIN_LIB": f"{kit}/lib", "CARGO_TARGET_DIR": str(target)}
         self.env |= {"RUSTFLAGS": "-D warnings", "RUSTDOCFLAGS": "-D warnings"}
 
-    def cargo(self, *words):
+    def cargo(self, *words, folder=RUST):
         command = ["cargo", *words]
-        told = subprocess.run(command, cwd=RUST, env=self.env, stdin=subprocess.DEVNULL, capture_output=True, timeout=SECONDS, check=False)
+        told = subprocess.run(command, cwd=folder, env=self.env, stdin=subprocess.DEVNULL, capture_output=True, timeout=SECONDS, check=False)
         if told.returncode:
             sys.exit(f"{' '.join(command)}: status {told.returncode}\n{(told.stdout + told.stderr).decode(errors='replace')}")
         return told.stdout.decode()
@@ -53,13 +53,23 @@ class Crates:
             self.env["CARGO_HOME"] = home
             self.cargo("package", "-q", "--offline", "--locked", "--allow-dirty", "-p", "kotskhin-sys", "-p", "kotskhin")
 
+    def fresh(self, text):
+        """What the first program of a page prints in a crate of its own, with the kit added as the page says."""
+        with tempfile.TemporaryDirectory() as room:
+            folder = pathlib.Path(room, "shop")
+            self.cargo("new", "-q", "--vcs", "none", folder)
+            line = re.search(r"^cargo (add [^#\n]*)", text, re.M)[1]
+            self.cargo(*line.replace("$R", str(TOP)).split(), "-q", "--offline", folder=folder)
+            shutil.copy(RUST / "kotskhin" / "examples" / "otel.rs", folder / "src" / "main.rs")
+            return self.cargo("run", "-q", "--offline", folder=folder)
+
     def page(self):
         text = (TOP / "docs" / "RUST.md").read_text(encoding="utf-8")
         printed = re.search(r"^```text\n(.*?)^```$", text, re.M | re.S)[1]
         for name, program in zip(("otel", "first_of"), re.findall(r"^```rust\n(.*?)^```$", text, re.M | re.S), strict=True):
             if program != (RUST / "kotskhin" / "examples" / f"{name}.rs").read_text(encoding="utf-8").split("\n", 1)[1]:
                 sys.exit(f"docs/RUST.md: a program is not embed/rust/kotskhin/examples/{name}.rs")
-        if (told := self.cargo("run", "-q", "--offline", "--locked", "--example", "otel")) != printed:
+        if (told := self.fresh(text)) != printed:
             sys.exit(f"docs/RUST.md: its first program prints\n{told}")
         self.cargo("build", "-q", "--offline", "--locked", "--example", "first_of")
         program = pathlib.Path(self.env["CARGO_TARGET_DIR"]) / "debug" / "examples" / "first_of"

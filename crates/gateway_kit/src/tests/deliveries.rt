@@ -1,5 +1,5 @@
 //! The incarnations of a gateway.
-use super::builders::{newest, single, told};
+use super::builders::{newest, single, told, writer};
 use crate::Gateway;
 use std::alloc::Global;
 use std::test::Fail;
@@ -20,6 +20,22 @@ fn each_start_is_an_incarnation_of_its_own(rt: HostRuntime) -> Result<(), Fail> 
     assert!(rt; newest(alloc, &gateway, 1, 100)? == Some(300));
     assert!(rt; newest(alloc, &gateway, 1, 400)? == Some(500));
     assert!(rt; newest(alloc, &gateway, 1, 50)?.is_none());
+    Ok(())
+}
+
+#[test]
+fn a_forgotten_incarnation_is_held_no_more(rt: HostRuntime) -> Result<(), Fail> {
+    let alloc = rt.alloc();
+    let mut gateway = restarted(alloc)?;
+    let writer = writer(alloc, 1)?;
+    assert!(rt; gateway.forget(&writer, 50) == 0);
+    assert!(rt; gateway.forget(&writer, 100) == 1);
+    assert!(rt; gateway.forget(&writer, 100) == 0);
+    assert!(rt; gateway.len() == 1);
+    assert!(rt; newest(alloc, &gateway, 1, 100)?.is_none());
+    assert!(rt; newest(alloc, &gateway, 1, 400)? == Some(500));
+    gateway.take(&single(alloc, 1, 100, 200, 7)?)?;
+    assert!(rt; newest(alloc, &gateway, 1, 100)? == Some(200));
     Ok(())
 }
 

@@ -10,7 +10,8 @@ const (
 	wireFour   = 5
 )
 
-var errMalformed = errors.New("bytes begin no field that can stand there")
+// ErrMalformed says that bytes are no request.
+var ErrMalformed = errors.New("bytes begin no field that can stand there")
 
 // A field of a message: its number, its type, all its bytes, and those of its content.
 type field struct {
@@ -35,14 +36,14 @@ func number(from []byte) (value uint64, size int) {
 func first(from []byte) (field, error) {
 	tag, size := number(from)
 	if size == 0 || tag>>3 == 0 || tag>>3 > 1<<29-1 {
-		return field{}, errMalformed
+		return field{}, ErrMalformed
 	}
 	made, begin, length := field{number: int(tag >> 3), wire: int(tag & 7)}, size, uint64(0)
 	switch made.wire {
 	case wireNumber:
 		_, size := number(from[begin:])
 		if size == 0 {
-			return field{}, errMalformed
+			return field{}, ErrMalformed
 		}
 		length = uint64(size)
 	case wireEight:
@@ -52,14 +53,14 @@ func first(from []byte) (field, error) {
 	case wireBytes:
 		told, size := number(from[begin:])
 		if size == 0 {
-			return field{}, errMalformed
+			return field{}, ErrMalformed
 		}
 		begin, length = begin+size, told
 	default:
-		return field{}, errMalformed
+		return field{}, ErrMalformed
 	}
 	if length > uint64(len(from)-begin) {
-		return field{}, errMalformed
+		return field{}, ErrMalformed
 	}
 	end := begin + int(length)
 	made.whole, made.content = from[:end:end], from[begin:end:end]

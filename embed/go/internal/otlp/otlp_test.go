@@ -182,15 +182,39 @@ func TestOtherBytesAreNoRequest(t *testing.T) {
 	}
 }
 
-// A long name over many points would be held for each of them.
-func TestNamesWeighEachTime(t *testing.T) {
-	var points [][]byte
-	for i := 0; i < 5000; i++ {
-		points = append(points, whole(1))
+// A long text is looked at for each point of its stream: of one with many nothing is taken.
+func TestLongTextsHaveFewPoints(t *testing.T) {
+	long := strings.Repeat("a", 1025)
+	for _, names := range [][2]string{{long, "m"}, {"app", long}} {
+		request := func(count int) []byte {
+			points := make([][]byte, count)
+			for i := range points {
+				points[i] = whole(1)
+			}
+			return resource("shop", uuid, scope(names[0], "", metric(names[1], metricSum, sum(2, points...))))
+		}
+		read(t, request(64)).Close()
+		if made, err := Of(request(65)); !errors.Is(err, kotskhin.ErrRepeats) {
+			t.Error(made, err)
+		}
 	}
-	request := resource("shop", uuid, scope(strings.Repeat("s", 100000), "", metric("m", metricSum, sum(2, points...))))
-	if made, err := Of(request); !errors.Is(err, ErrHeavy) {
-		t.Fatal(made, err)
+}
+
+// A long scope is held by each of its metrics: of one with many nothing is taken, also where something else is left out.
+func TestLongScopesDoNotRepeat(t *testing.T) {
+	long := func(count int) []byte {
+		metrics := make([][]byte, count)
+		for i := range metrics {
+			metrics[i] = metric("m", metricGauge, nil)
+		}
+		return scope(strings.Repeat("s", 1025), "", metrics...)
+	}
+	for _, temporality := range []uint64{2, 1} {
+		first := scope("app", "", metric("m", metricSum, sum(temporality, whole(1))))
+		read(t, resource("shop", uuid, first, long(64))).Close()
+		if made, err := Of(resource("shop", uuid, first, long(65))); !errors.Is(err, kotskhin.ErrRepeats) {
+			t.Error(temporality, made, err)
+		}
 	}
 }
 

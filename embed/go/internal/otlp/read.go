@@ -13,18 +13,8 @@ import (
 	"kotskhin"
 )
 
-const (
-	// Most bytes that the names of a request may come to.
-	mostWeight = 256 << 20
-	// Most scopes of a resource that are left out one after the other, since each time the others are read again.
-	mostScopes = 8
-)
-
-// ErrHeavy says that the names of a request would be held too often.
-var ErrHeavy = errors.New("the names of the request come to more bytes than are taken")
-
-// ErrMalformed says that bytes are no request.
-var ErrMalformed = errors.New("the bytes are no ExportMetricsServiceRequest")
+// Most scopes of a resource that are left out one after the other, since each time the others are read again.
+const mostScopes = 8
 
 // Read is what a request brings, and what of it is refused.
 type Read struct {
@@ -68,13 +58,6 @@ func (r *Read) refuse(points int, code kotskhin.Code) {
 
 // Of reads a request. An error says that nothing of it is read.
 func Of(request []byte) (*Read, error) {
-	weight, _, err := Weight(request)
-	if err != nil {
-		return nil, fmt.Errorf("%w: %v", ErrMalformed, err)
-	}
-	if weight > mostWeight {
-		return nil, ErrHeavy
-	}
 	exports, err := kotskhin.ExportsOfOTLP(request)
 	if err == nil {
 		return &Read{Exports: exports}, nil

@@ -29,7 +29,7 @@ func refusalOf(err error) refusal {
 		return refusal{http.StatusServiceUnavailable, "disk", err.Error()}
 	case errors.Is(err, kotskhin.ErrNoMemory):
 		return refusal{http.StatusServiceUnavailable, "memory", err.Error()}
-	case errors.Is(err, kotskhin.ErrTooLong), errors.Is(err, otlp.ErrHeavy):
+	case errors.Is(err, kotskhin.ErrTooLong), errors.Is(err, kotskhin.ErrRepeats):
 		return refusal{http.StatusRequestEntityTooLarge, "too_large", err.Error()}
 	case isOf(err, otlp.ErrMalformed), errors.As(err, &ofKit):
 		return refusal{http.StatusBadRequest, "malformed", err.Error()}

@@ -133,6 +133,8 @@ pub const ATTRIBUTE_TWICE: i32 = 102;
 pub const ATTRIBUTE_VALUE: i32 = 103;
 /// What a request says together makes no export.
 pub const NO_EXPORT: i32 = 104;
+/// A text of more than 1024 bytes is repeated too often.
+pub const REPEATS: i32 = 105;
 
 kind!(
     /// Pairs of attributes that are written down, or nothing.

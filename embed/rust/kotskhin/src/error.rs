@@ -85,6 +85,8 @@ pub enum Error {
     TooLong,
     /// The bytes are no request of OTLP, or say what no export has.
     Request(RequestFault),
+    /// A request of OTLP repeats a text of more than 1024 bytes too often.
+    Repeats,
     /// The instrument's meter has not started, or its start was refused.
     NotStarted,
     /// The provider had started before the instrument was declared.
@@ -140,6 +142,7 @@ pub(crate) fn refusal(code: i32, place: u64, second: u64) -> Error {
         sys::BAD_EXPORT => Error::BadExport,
         sys::OTLP_BOUNDS => Error::OtlpBounds { point: place },
         sys::TOO_LONG => Error::TooLong,
+        sys::REPEATS => Error::Repeats,
         other => match requests::fault(other, place) {
             Some(fault) => Error::Request(fault),
             None => Error::Unexpected(other),
@@ -246,6 +249,7 @@ impl fmt::Display for Error {
             }
             Error::TooLong => write!(f, "the request has more bytes than one may have"),
             Error::Request(fault) => write!(f, "{fault}"),
+            Error::Repeats => write!(f, "a text of more than 1024 bytes is repeated too often"),
             Error::NotStarted => write!(f, "the meter has not started, or was refused"),
             Error::DeclaredLate => write!(
                 f,

@@ -143,6 +143,20 @@ fn every_instrument_records() -> Done {
 }
 
 #[test]
+fn one_name_in_two_scopes_is_two_instruments() -> Done {
+    let provider = provider();
+    let library = provider.meter("library");
+    let other = library.u64_counter("requests").with_unit("1").build();
+    requests(&provider).add(3, &[]);
+    other.add(4, &[]);
+    for (scope, wanted) in [("app", 3), ("library", 4)] {
+        let ask = Ask::sum(scope, "requests", "1", true)?;
+        assert_eq!(total(&rows(&provider, &ask)?), wanted);
+    }
+    Ok(())
+}
+
+#[test]
 fn a_late_instrument_is_told_by_name_and_place() -> Done {
     let told = Told::default();
     let provider = SdkMeterProvider::builder().on_refused(told.hook()).build();

@@ -7,15 +7,17 @@ use Rattle.gateway_kit.proofs.incarnations.all_conflicts.Goals as goal
 
 pub overflow_add-conflicts : goal.overflow_add-conflicts
 overflow_add-conflicts c =
-    let within : c.loop-incarnation.incarnation-index < length c.args.incarnations.now = grind (arith, common_steps) in
-    let more = incarnations_more c.args.incarnations.now c.loop-incarnation.incarnation-index c.incarnation-item.result within c.incarnation-item.is in
-    let few = sum_by-take-le incarnation_conflicts c.args.incarnations.now (c.loop-incarnation.incarnation-index + 1) in
-    let so_far = c.loop-incarnation.invariant in
+    let ps = c.args.incarnations.now.items in
+    let within : c.loop-place.place < length ps = grind (arith, common_steps) in
+    let more = incarnations_more ps c.loop-place.place c.get.result.now within c.get.ensures.value in
+    let few = sum_by-take-le incarnation_conflicts ps (c.loop-place.place + 1) in
+    let so_far = c.loop-place.invariant in
     omega (arith, more, few, so_far, c.conflicts-conflicts.ensures, c.requires)
 
-pub loop-incarnation-preserved : goal.loop-incarnation-preserved
-loop-incarnation-preserved c =
-    let within : c.loop-incarnation.incarnation-index < length c.args.incarnations.now = grind (arith, common_steps) in
-    let more = incarnations_more c.args.incarnations.now c.loop-incarnation.incarnation-index c.incarnation-item.result within c.incarnation-item.is in
-    let so_far = c.loop-incarnation.invariant in
+pub loop-place-preserved : goal.loop-place-preserved
+loop-place-preserved c =
+    let ps = c.args.incarnations.now.items in
+    let within : c.loop-place.place < length ps = grind (arith, common_steps) in
+    let more = incarnations_more ps c.loop-place.place c.get.result.now within c.get.ensures.value in
+    let so_far = c.loop-place.invariant in
     omega (arith, more, so_far, c.conflicts-conflicts.ensures)

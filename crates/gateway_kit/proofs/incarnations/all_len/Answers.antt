@@ -8,17 +8,19 @@ use Rattle.gateway_kit.proofs.incarnations.all_len.Goals as goal
 
 pub overflow_add-len : goal.overflow_add-len
 overflow_add-len c =
-    let within : c.loop-incarnation.incarnation-index < length c.args.incarnations.now = grind (arith, common_steps) in
-    let long : length c.items.result.now ≡ length (entries c.incarnation-item.result.cells) = sym (length-map c.items.result.now keyed_cell_of) ∙ ap length c.items.ensures.entries in
-    let more = all_points_more c.args.incarnations.now c.loop-incarnation.incarnation-index c.incarnation-item.result within c.incarnation-item.is in
-    let few = all_points_few c.args.incarnations.now (c.loop-incarnation.incarnation-index + 1) in
-    let so_far = c.loop-incarnation.invariant in
+    let ps = c.args.incarnations.now.items in
+    let within : c.loop-place.place < length ps = grind (arith, common_steps) in
+    let long : length c.items.result.now ≡ length (entries c.get.result.now.cells) = sym (length-map c.items.result.now keyed_cell_of) ∙ ap length c.items.ensures.entries in
+    let more = all_points_more ps c.loop-place.place c.get.result.now within c.get.ensures.value in
+    let few = all_points_few ps (c.loop-place.place + 1) in
+    let so_far = c.loop-place.invariant in
     omega (arith, long, more, few, so_far, c.requires)
 
-pub loop-incarnation-preserved : goal.loop-incarnation-preserved
-loop-incarnation-preserved c =
-    let within : c.loop-incarnation.incarnation-index < length c.args.incarnations.now = grind (arith, common_steps) in
-    let long : length c.items.result.now ≡ length (entries c.incarnation-item.result.cells) = sym (length-map c.items.result.now keyed_cell_of) ∙ ap length c.items.ensures.entries in
-    let more = all_points_more c.args.incarnations.now c.loop-incarnation.incarnation-index c.incarnation-item.result within c.incarnation-item.is in
-    let so_far = c.loop-incarnation.invariant in
+pub loop-place-preserved : goal.loop-place-preserved
+loop-place-preserved c =
+    let ps = c.args.incarnations.now.items in
+    let within : c.loop-place.place < length ps = grind (arith, common_steps) in
+    let long : length c.items.result.now ≡ length (entries c.get.result.now.cells) = sym (length-map c.items.result.now keyed_cell_of) ∙ ap length c.items.ensures.entries in
+    let more = all_points_more ps c.loop-place.place c.get.result.now within c.get.ensures.value in
+    let so_far = c.loop-place.invariant in
     omega (arith, long, more, so_far)

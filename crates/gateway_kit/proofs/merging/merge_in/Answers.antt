@@ -1,28 +1,41 @@
-use Rattle.std.proofs.Common.{◌≡◌, ℕ, ◌+◌, ◌%◌, ◌≤◌, ◌^◌, List, map, length, ap, sym, subst, ◌∙◌, arith}
+use Rattle.std.proofs.Common.{◌≡◌, ℕ, ◌+◌, ◌≤◌, ◌^◌, true, List, map, ap, sym, subst, ◌∙◌, arith}
 use Rattle.std.proofs.lemmas.Grind.{common_steps}
+use Rattle.std.specs.Prelude.{T}
 use Rattle.std.specs.List.{IsDistinct}
 use Rattle.std.specs.Ordering.{eq_by_cmp}
-use Rattle.gateway_kit.specs.Keys.{IncarnationKey, incarnation_cmp}
-use Rattle.gateway_kit.specs.Covering.{AreCovered}
-use Rattle.gateway_kit.specs.Merging.{MergeDrafts, cells_after}
-use Rattle.gateway_kit.specs.Amending.{with_changes}
-use Rattle.gateway_kit.specs.Numbers.{IncarnationsMove}
-use Rattle.gateway_kit.specs.IncarnationState.{IncarnationState, Cells}
-use Rattle.gateway_kit.specs.Incarnations.{has_cells, keyed_cells}
-use Rattle.gateway_kit.specs.Weave.{weave}
 use Rattle.std.specs.FinMap.Entries.{is_sorted}
-use Rattle.gateway_kit.proofs.AllMoves.{incarnations_then}
+use Rattle.gateway_kit.specs.Amending.{with_changes}
+use Rattle.gateway_kit.specs.Covering.{AreCovered}
+use Rattle.gateway_kit.specs.Inserting.{AllPart, inserted, moved_to, moving}
+use Rattle.gateway_kit.specs.Incarnations.{has_cells, keyed_cells}
+use Rattle.gateway_kit.specs.IncarnationState.{IncarnationState, Cells}
 use Rattle.gateway_kit.specs.KeyOrders.{incarnation_total}
-use Rattle.gateway_kit.proofs.Entries.{is_sorted-with_changes, on_keys}
-use Rattle.gateway_kit.proofs.MergeDrafts.{keys_of_incarnations, incarnations_merged}
+use Rattle.gateway_kit.specs.Keys.{IncarnationKey, incarnation_cmp}
+use Rattle.gateway_kit.specs.Merging.{MergeDrafts, PutsAll, cells_after, key_of}
 use Rattle.gateway_kit.specs.Tallies.{conflicts_of}
+use Rattle.gateway_kit.specs.Weave.{weave}
+use Rattle.gateway_kit.specs.declared.changes.Changes.{Changes}
+use Rattle.gateway_kit.proofs.Entries.{as_T, keys-with_changes, on_keys}
+use Rattle.gateway_kit.proofs.Inserted.{all_changes_moved, all_woven}
+use Rattle.gateway_kit.proofs.MergeDrafts.{keys_of_incarnations, incarnations_merged}
 use Rattle.gateway_kit.proofs.Merged.{merged_grown, merged_whole}
+use Rattle.gateway_kit.proofs.Same.{map_itself}
 use Rattle.gateway_kit.proofs.Sorting.{all_moved}
 use Rattle.gateway_kit.proofs.Tallies.{whole_few}
-use Rattle.gateway_kit.proofs.Ahead.{weave-nil}
-use Rattle.gateway_kit.proofs.Finishing.{no_items}
-use Rattle.gateway_kit.proofs.Recent.{conflicts_alike}
 use Rattle.gateway_kit.proofs.merging.merge_in.Goals as goal
+
+-- new incarnations put in, and then the changes of others, are these woven in after the changes
+changed_woven : (olds fresh : List IncarnationState) (places : List ℕ) (updates : List (ℕ × Changes)) (mid news : List (IncarnationKey × Cells)) → is_sorted incarnation_cmp (map keyed_cells fresh) ≡ true → AllPart incarnation_cmp (map key_of olds) places (map key_of fresh) → mid ≡ inserted (map keyed_cells olds) places (map keyed_cells fresh) → news ≡ with_changes cells_after mid (map (moving (moved_to places)) updates) → news ≡ weave (on_keys incarnation_cmp) (with_changes cells_after (map keyed_cells olds) updates) (map keyed_cells fresh)
+changed_woven olds fresh places updates mid news rising parts put changed =
+    let keys : AllPart incarnation_cmp (map (λ e. e.0) (map keyed_cells olds)) places (map (λ e. e.0) (map keyed_cells fresh)) =
+    subst (λ (l : List IncarnationKey). AllPart incarnation_cmp l places (map (λ e. e.0) (map keyed_cells fresh))) (sym (keys_of_incarnations olds))
+    (subst (λ (l : List IncarnationKey). AllPart incarnation_cmp (map key_of olds) places l) (sym (keys_of_incarnations fresh)) parts) in
+    changed
+    ∙ ap (λ (es : List (IncarnationKey × Cells)). with_changes cells_after es (map (moving (moved_to places)) updates)) put
+    ∙ all_changes_moved cells_after incarnation_cmp (map keyed_cells olds) places (map keyed_cells fresh) updates keys
+    ∙ all_woven incarnation_cmp incarnation_total (λ (e : IncarnationKey × Cells). e) (with_changes cells_after (map keyed_cells olds) updates) places (map keyed_cells fresh)
+    (subst (λ (l : List (IncarnationKey × Cells)). T (is_sorted incarnation_cmp l)) (sym (map_itself (map keyed_cells fresh))) (as_T rising))
+    (subst (λ (l : List IncarnationKey). AllPart incarnation_cmp l places (map (λ e. e.0) (map keyed_cells fresh))) (sym (keys-with_changes incarnation_total cells_after (map keyed_cells olds) updates)) keys)
 
 pub in_order-requires : goal.in_order-requires
 in_order-requires c = subst (λ (ks : List IncarnationKey). IsDistinct (eq_by_cmp incarnation_cmp) ks) (keys_of_incarnations c.in_ok-updates.field-0.fresh.items) c.in_ok-updates.ensures.brings.apart
@@ -30,46 +43,32 @@ in_order-requires c = subst (λ (ks : List IncarnationKey). IsDistinct (eq_by_cm
 pub returns-clause-grows : goal.returns-clause-grows
 returns-clause-grows c =
     let olds = c.args.incarnations.now.items in
+    let theirs = c.args.theirs.now.items in
+    let news = c.put_incarnations-after.new.incarnations.items in
+    let fresh = c.in_ok-fresh.fresh.items in
+    let places = c.in_ok-places.places.items in
     let draft = c.in_ok-updates.field-0 in
-    let drafts : MergeDrafts olds c.args.theirs.now draft.updates.items draft.fresh.items draft.more draft.changed = subst (λ (ps : List IncarnationState). MergeDrafts ps c.args.theirs.now draft.updates.items draft.fresh.items draft.more draft.changed) c.as_slice.ensures.value c.in_ok-updates.ensures in
-    let news : map keyed_cells c.put_new.new.incarnations.items ≡ weave (on_keys incarnation_cmp) (with_changes cells_after (map keyed_cells olds) draft.updates.items) (map keyed_cells c.in_ok-fresh.fresh.items) = c.put_new.ensures.woven ∙ ap (λ (es : List (IncarnationKey × Cells)). weave (on_keys incarnation_cmp) es (map keyed_cells c.in_ok-fresh.fresh.items)) (c.put_incarnations-told.ensures.changes ∙ ap (λ (ps : List IncarnationState). with_changes cells_after (map keyed_cells ps) draft.updates.items) c.reserve_incarnations.ensures) in
-    let merges = incarnations_merged olds c.args.theirs.now c.requires.whole.sorted c.requires.whole.filled draft.updates.items draft.fresh.items c.in_ok-fresh.fresh.items draft.more draft.changed drafts c.in_ok-fresh.ensures.sorted c.in_ok-fresh.ensures.same (all_moved has_cells draft.fresh.items c.in_ok-fresh.fresh.items c.in_ok-fresh.ensures.moved drafts.filled) c.requires.few c.put_new.new.incarnations.items news in
+    let drafts : MergeDrafts olds theirs draft.updates.items draft.fresh.items draft.more draft.changed = c.in_ok-updates.ensures in
+    let puts : PutsAll c.args.number olds c.put_new.new.incarnations.items places fresh = subst (λ (ps : List IncarnationState). PutsAll c.args.number ps c.put_new.new.incarnations.items places fresh) c.reserve_incarnations.ensures.items c.in_ok-places.ensures.ok in
+    let changed : map keyed_cells news ≡ with_changes cells_after (map keyed_cells c.put_new.new.incarnations.items) (map (moving (moved_to places)) draft.updates.items) = c.put_incarnations-after.ensures.changes ∙ ap (λ (l : List ℕ). with_changes cells_after (map keyed_cells c.put_new.new.incarnations.items) (map (moving (moved_to l)) draft.updates.items)) c.as_slice-2.ensures.value in
+    let is = changed_woven olds fresh places draft.updates.items (map keyed_cells c.put_new.new.incarnations.items) (map keyed_cells news) c.in_ok-fresh.ensures.sorted puts.parts puts.put changed in
+    let merges = incarnations_merged olds theirs c.requires.whole.sorted c.requires.whole.filled draft.updates.items draft.fresh.items fresh draft.more draft.changed drafts c.in_ok-fresh.ensures.sorted c.in_ok-fresh.ensures.same (all_moved has_cells draft.fresh.items fresh c.in_ok-fresh.ensures.moved drafts.filled) c.requires.few news is in
     let bounded : c.args.len + draft.more ≤ 2 ^ 62 = grind (arith, common_steps) in
+    let few : conflicts_of news ≤ 2 ^ 62 = whole_few news (c.args.len + draft.more) (merged_whole olds news theirs c.args.len c.requires.whole c.requires.theirs_sorted draft.more draft.changed merges bounded) in
+    let told = c.put_incarnations-after.ensures.conflicts in
     let before : c.args.conflicts ≡ conflicts_of olds = c.requires.counted in
-    let after : c.conflicts_now.result ≡ conflicts_of c.put_new.new.incarnations.items = c.conflicts_now.ensures ∙ ap (λ (ps : List IncarnationState). conflicts_of ps) c.as_slice-2.ensures.value in
-    merged_grown olds c.put_new.new.incarnations.items c.args.theirs.now c.args.len c.requires.whole c.requires.theirs_sorted draft.more draft.changed merges c.args.conflicts c.conflicts_now.result bounded (record { all = omega (arith, before, after); among = omega (arith, before) })
+    let after : c.put_incarnations-after.result ≡ conflicts_of news = omega (arith, told, few) in
+    merged_grown olds news theirs c.args.len c.requires.whole c.requires.theirs_sorted draft.more draft.changed merges c.args.conflicts c.put_incarnations-after.result bounded (record { all = omega (arith, before, after); among = omega (arith, before) })
 
-pub put_incarnations-told-requires : goal.put_incarnations-told-requires
-put_incarnations-told-requires c =
-    let few = whole_few c.args.incarnations.now.items c.args.len c.requires.whole in
-    let is = c.requires.counted in
-    let same : conflicts_of c.reserve_incarnations.new.incarnations.items ≡ conflicts_of c.args.incarnations.now.items = ap (λ (ps : List IncarnationState). conflicts_of ps) c.reserve_incarnations.ensures in
-    omega (arith, few, is, same)
-
-pub conflicts_now-requires-clause-few : goal.conflicts_now-requires-clause-few
-conflicts_now-requires-clause-few c =
-    let olds = c.args.incarnations.now.items in
-    let draft = c.in_ok-updates.field-0 in
-    let drafts : MergeDrafts olds c.args.theirs.now draft.updates.items draft.fresh.items draft.more draft.changed = subst (λ (ps : List IncarnationState). MergeDrafts ps c.args.theirs.now draft.updates.items draft.fresh.items draft.more draft.changed) c.as_slice.ensures.value c.in_ok-updates.ensures in
-    let news : map keyed_cells c.put_new.new.incarnations.items ≡ weave (on_keys incarnation_cmp) (with_changes cells_after (map keyed_cells olds) draft.updates.items) (map keyed_cells c.in_ok-fresh.fresh.items) = c.put_new.ensures.woven ∙ ap (λ (es : List (IncarnationKey × Cells)). weave (on_keys incarnation_cmp) es (map keyed_cells c.in_ok-fresh.fresh.items)) (c.put_incarnations-told.ensures.changes ∙ ap (λ (ps : List IncarnationState). with_changes cells_after (map keyed_cells ps) draft.updates.items) c.reserve_incarnations.ensures) in
-    let merges = incarnations_merged olds c.args.theirs.now c.requires.whole.sorted c.requires.whole.filled draft.updates.items draft.fresh.items c.in_ok-fresh.fresh.items draft.more draft.changed drafts c.in_ok-fresh.ensures.sorted c.in_ok-fresh.ensures.same (all_moved has_cells draft.fresh.items c.in_ok-fresh.fresh.items c.in_ok-fresh.ensures.moved drafts.filled) c.requires.few c.put_new.new.incarnations.items news in
-    let bounded : c.args.len + draft.more ≤ 2 ^ 62 = grind (arith, common_steps) in
-    subst (λ (ps : List IncarnationState). conflicts_of ps ≤ 2 ^ 62) (sym c.as_slice-2.ensures.value) (whole_few c.put_new.new.incarnations.items (c.args.len + draft.more) (merged_whole olds c.put_new.new.incarnations.items c.args.theirs.now c.args.len c.requires.whole c.requires.theirs_sorted draft.more draft.changed merges bounded))
-
-pub put_new-requires-clause-sorted : goal.put_new-requires-clause-sorted
-put_new-requires-clause-sorted c = ap (is_sorted incarnation_cmp) (c.put_incarnations-told.ensures.changes ∙ ap (λ (ps : List IncarnationState). with_changes cells_after (map keyed_cells ps) c.in_ok-updates.field-0.updates.items) c.reserve_incarnations.ensures) ∙ is_sorted-with_changes incarnation_total cells_after (map keyed_cells c.args.incarnations.now.items) c.in_ok-updates.field-0.updates.items ∙ c.requires.whole.sorted
-
-pub returns-clause-moves : goal.returns-clause-moves
-returns-clause-moves c = incarnations_then c.args.number c.args.incarnations.now.items c.put_incarnations-told.new.incarnations.items c.put_new.new.incarnations.items (subst (λ (ps : List IncarnationState). IncarnationsMove c.args.number ps c.put_incarnations-told.new.incarnations.items) c.reserve_incarnations.ensures c.put_incarnations-told.ensures.moves) c.put_new.ensures.moves
-
-pub conflicts_now-requires-clause-told : goal.conflicts_now-requires-clause-told
-conflicts_now-requires-clause-told c = λ none.
-    let empty : length c.in_ok-fresh.fresh.items ≡ 0 = grind (arith, common_steps) in
-    let same : map keyed_cells c.put_new.new.incarnations.items ≡ map keyed_cells c.put_incarnations-told.new.incarnations.items = c.put_new.ensures.woven ∙ ap (λ l. weave (on_keys incarnation_cmp) (map keyed_cells c.put_incarnations-told.new.incarnations.items) (map keyed_cells l)) (no_items c.in_ok-fresh.fresh.items empty) ∙ weave-nil (on_keys incarnation_cmp) (map keyed_cells c.put_incarnations-told.new.incarnations.items) in
-    c.put_incarnations-told.ensures.conflicts ∙ ap (λ (n : ℕ). n % 2 ^ 64) (sym (conflicts_alike c.put_incarnations-told.new.incarnations.items c.put_new.new.incarnations.items same) ∙ ap (λ (ps : List IncarnationState). conflicts_of ps) (sym c.as_slice-2.ensures.value))
+-- where nothing is changed bounds stay
+still_covered : (olds news : List IncarnationState) (before after : List ℕ) → news ≡ olds → after ≡ before → AreCovered before olds → AreCovered after news
+still_covered olds news before after items bounds covered = subst (λ (b : List ℕ). AreCovered b news) (sym bounds) (subst (λ (ps : List IncarnationState). AreCovered before ps) (sym items) covered)
 
 pub returns-clause-covered : goal.returns-clause-covered
-returns-clause-covered c = λ covered. c.put_new.ensures.covered (c.put_incarnations-told.ensures.covered (subst (λ (ps : List IncarnationState). AreCovered c.args.bounds.now ps) (sym c.reserve_incarnations.ensures) covered))
+returns-clause-covered c = λ covered. c.put_incarnations-after.ensures.covered (c.put_new.ensures.covered (still_covered _ _ _ _ c.reserve_incarnations.ensures.items c.reserve_incarnations.ensures.bounds covered))
+
+pub returns-in_err-places-clause-covered : goal.returns-in_err-places-clause-covered
+returns-in_err-places-clause-covered c = λ covered. c.put_new.ensures.covered (still_covered _ _ _ _ c.reserve_incarnations.ensures.items c.reserve_incarnations.ensures.bounds covered)
 
 pub returns-in_err-reserve_incarnations-clause-covered : goal.returns-in_err-reserve_incarnations-clause-covered
-returns-in_err-reserve_incarnations-clause-covered c = λ covered. subst (λ (ps : List IncarnationState). AreCovered c.args.bounds.now ps) (sym c.reserve_incarnations.ensures) covered
+returns-in_err-reserve_incarnations-clause-covered c = λ covered. still_covered _ _ _ _ c.reserve_incarnations.ensures.items c.reserve_incarnations.ensures.bounds covered

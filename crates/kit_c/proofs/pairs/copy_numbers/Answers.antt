@@ -1,5 +1,4 @@
-use Rattle.std.proofs.Common.{◌≡◌, ◌∙◌, sym, arith}
-use Rattle.std.proofs.lemmas.List.{take_all}
+use Rattle.std.proofs.Common.{sym, arith}
 use Rattle.kit_c.proofs.Numbers.{copied_more, none_there}
 use Rattle.kit_c.proofs.pairs.copy_numbers.Goals as goal
 use Rattle.kit_c.proofs.pairs.copy_numbers.Goals.{in-Some+in_ok-note_copy, in_default}

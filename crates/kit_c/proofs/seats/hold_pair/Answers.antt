@@ -1,4 +1,4 @@
-use Rattle.std.proofs.Common.{◌≡◌, ◌∙◌, ◌<◌, ◌++◌, Option, None, ℕ, arith, refl, rules, sym, ap, subst}
+use Rattle.std.proofs.Common.{◌≡◌, ◌∙◌, ◌++◌, None, arith, refl, sym, subst}
 use Rattle.std.specs.Arc.{arc_value}
 use Rattle.kit_c.proofs.Knowing.{know_held, know_more, know_tried}
 use Rattle.kit_c.proofs.Numbers.{inserted, noted_is, noted_last, noted_stands}

@@ -1,4 +1,4 @@
-use Rattle.std.proofs.Common.{◌≡◌, ◌∙◌, ℕ, List, ap}
+use Rattle.std.proofs.Common.{◌∙◌, ℕ, List, ap}
 use Rattle.std.specs.List.{slice_get}
 use Rattle.kit_c.proofs.Listed.{nth_service}
 use Rattle.kit_c.proofs.services.service.Goals as goal

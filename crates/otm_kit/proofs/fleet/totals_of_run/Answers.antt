@@ -13,13 +13,12 @@ use Rattle.otm_kit.proofs.fleet.totals_of_run.Goals as goal
 
 pub returns-clause-value : goal.returns-clause-value
 unfolding fleet_text
-returns-clause-value g c =
-    let setup = c.in_ok-setup.ensures in
+returns-clause-value g c writers recorders each count setup =
     let gateways = c.in_ok-gateways.gateways.items in
-    let total = c.args.writers * c.args.recorders * c.args.each in
+    let total = writers * recorders * each in
     let sum : GatewayState → ℤ = λ v. sum_in (rollup_rows fleet_ask v.points) in
     let all : (k : ℕ) (v : GatewayState) → slice_get gateways k ≡ Some v → sum v ≡ pos total = λ k v at.
-    ap sum_in (c.in_ok-gateways.ensures.rows k v at fleet_ask tt (inr (record { keep = refl; only = refl }))) ∙ total_is c.args.writers c.args.recorders c.args.each c.args.gateways c.in_ok-setup.setup setup in
+    ap sum_in (c.in_ok-gateways.ensures.rows k v at fleet_ask tt (inr (record { keep = refl; only = refl }))) ∙ total_is writers recorders each count c.args.setup setup in
     c.in_ok-lines.ensures
     ∙ ap (λ (vs : List GatewayState). flat_map (answer_line c.in_ok-ask.ask) vs) c.as_slice.ensures.value
     ∙ ap (λ (ask : Ask). flat_map (answer_line ask) gateways) c.in_ok-ask.ensures
@@ -28,13 +27,8 @@ returns-clause-value g c =
 
 pub returns-in_err-gateways-clause-fault : goal.returns-in_err-gateways-clause-fault
 returns-in_err-gateways-clause-fault g c f is =
-    let p = err_from_is_err_and c.from_residual-in_err-gateways.result c.from_residual-in_err-gateways.ensures.1 in
+    let p = err_from_is_err_and c.from_residual.result c.from_residual.ensures.1 in
     let same : Err p.0 ≡ Err (ends.Fleet f) = subst (λ r. IsErrOf r (ends.Fleet f)) p.1 is in
     let at : p.0 ≡ ends.Fleet f = cc in
     let told = told_is c.in_err-gateways.field-0.0 f (sym p.2 ∙ at) in
-    record {
-      s = c.in_ok-setup.setup;
-      setup = c.in_ok-setup.ensures;
-      ends = subst (EndsBy c.in_ok-setup.setup) told.0 c.in_err-gateways.ensures.err;
-      other = told.1;
-    }
+    (subst (EndsBy c.args.setup) told.0 c.in_err-gateways.ensures.err, told.1)

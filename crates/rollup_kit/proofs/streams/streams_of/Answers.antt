@@ -1,4 +1,4 @@
-use Rattle.std.proofs.Common.{◌≡◌, ◌∙◌, List, sym, ap}
+use Rattle.std.proofs.Common.{◌∙◌, List, sym, ap}
 use Rattle.gateway_kit.specs.Walks.{points_left}
 use Rattle.point_kit.specs.declared.cell.Cell.{Cell}
 use Rattle.point_kit.specs.declared.key.Key.{Key}

@@ -6,7 +6,7 @@ use super::shared::{Refusal, Settings, Shared};
 use super::views::{Instrument, Stream};
 use crate::error::Error;
 use crate::export::Export;
-use crate::metrics::ExportError;
+use crate::metrics::{ExportError, PushExporter};
 use crate::plan::DEFAULT_LIMIT;
 use std::fmt;
 use std::sync::Arc;
@@ -238,6 +238,11 @@ impl MeterProviderBuilder {
     pub fn with_reader(mut self, reader: PeriodicReader) -> Self {
         self.readers.push(reader);
         self
+    }
+
+    /// A reader more, of this exporter: each 60 s.
+    pub fn with_periodic_exporter(self, exporter: impl PushExporter + 'static) -> Self {
+        self.with_reader(PeriodicReader::builder(exporter).build())
     }
 
     /// A view more: of each instrument that is declared it is asked which stream it makes. Each view that makes one gives the instrument a

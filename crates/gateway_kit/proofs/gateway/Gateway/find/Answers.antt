@@ -1,4 +1,4 @@
-use Rattle.std.proofs.Common.{Option, sym, ap, ◌∙◌}
+use Rattle.std.proofs.Common.{Option, refl, sym, ap, ◌∙◌}
 use Rattle.std.specs.FinMap.{get, get-entries}
 use Rattle.std.specs.FinMap.Entries.{find}
 use Rattle.gateway_kit.specs.Keys.{item_cmp}
@@ -13,8 +13,8 @@ pub returns-in-Ok : goal.returns-in-Ok
 returns-in-Ok c =
     let incarnations = c.self.inside.incarnations.items in
     let k = c.args.key.now in
-    let p = c.index.result.now in
-    let found = found_there (k.writer, k.start) c.as_slice.result.now incarnations c.as_slice.ensures.value c.self.invariant.0.sorted c.in-Ok.place p c.in-Ok.ensures c.index.ensures in
+    let p = c.get.result.now in
+    let found = found_there (k.writer, k.start) c.self.inside.incarnations.items incarnations refl c.self.invariant.0.sorted c.in-Ok.place p c.in-Ok.ensures c.get.ensures.value in
     record {
       value =
           c.find.ensures
@@ -28,7 +28,7 @@ pub returns-in-Err : goal.returns-in-Err
 returns-in-Err c =
     let incarnations = c.self.inside.incarnations.items in
     let k = c.args.key.now in
-    let none = found_nowhere (k.writer, k.start) c.as_slice.result.now incarnations c.as_slice.ensures.value c.self.invariant.0.sorted c.in-Err.field-0 c.in-Err.ensures in
+    let none = found_nowhere (k.writer, k.start) c.self.inside.incarnations.items incarnations refl c.self.invariant.0.sorted c.in-Err.field-0 c.in-Err.ensures in
     record {
       value =
           ap (λ (o : Option Cells). find item_cmp (k.stream, k.attrs) (entries_at o)) (sym none)

@@ -8,7 +8,7 @@ pub returns : goal.returns
 returns c =
     record {
       value =
-          ap (map held_as_kept) c.as_slice.ensures.value
+          ap (map held_as_kept) c.all.ensures
           ∙ sym (incarnations_listed c.self.inside.incarnations.items c.self.inside.len c.self.invariant.0)
           ∙ ap (λ (v : GatewayState). held_incarnations v.points) c.self.view_is;
     }

@@ -9,7 +9,7 @@ pub returns : goal.returns
 returns c =
     record {
       value =
-          ap length c.as_slice.ensures.value
+          c.len.ensures.value
           ∙ sym (length-map c.self.inside.incarnations.items held_as_kept)
           ∙ ap length (sym (incarnations_listed c.self.inside.incarnations.items c.self.inside.len c.self.invariant.0))
           ∙ ap (λ (v : GatewayState). length (held_incarnations v.points)) c.self.view_is;

@@ -4,7 +4,6 @@ use Rattle.std.specs.FinMap.{from_sorted}
 use Rattle.point_kit.specs.Exports.{join_points, changed_points}
 use Rattle.point_kit.specs.Orders.{key_cmp}
 use Rattle.gateway_kit.specs.IncarnationState.{IncarnationState}
-use Rattle.gateway_kit.specs.Covering.{AreCovered}
 use Rattle.gateway_kit.specs.Incarnations.{IsWhole, all_points}
 use Rattle.gateway_kit.specs.Numbers.{IncarnationsMove}
 use Rattle.gateway_kit.specs.Tallies.{conflicts_of}
@@ -24,12 +23,6 @@ returns-then-is_empty-clause-ok c =
 
 pub returns-then-is_empty-clause-value : goal.returns-then-is_empty-clause-value
 returns-then-is_empty-clause-value c = changed_nothing c.args.self.now.points
-
-pub returns-in_err-reserve-clause-no_points : goal.returns-in_err-reserve-clause-no_points
-returns-in_err-reserve-clause-no_points c = λ none.
-    let gone : c.other.inside.incarnations.items ≡ [] = no_incarnations c.other.inside.incarnations.items c.other.invariant.0.sorted c.other.invariant.0.filled (ap (λ (v : GatewayState). v.points) c.other.view_is ∙ none) in
-    let short : length c.other.inside.incarnations.items ≡ 0 = ap length gone in
-    absurd (grind (arith, common_steps))
 
 pub returns-in_err-growth-clause-no_points : goal.returns-in_err-growth-clause-no_points
 returns-in_err-growth-clause-no_points c = λ none.
@@ -55,27 +48,27 @@ overflow_add-self-2 c =
     omega (arith, few)
 
 pub invariant_of-self-2 : goal.invariant_of-self-2
-invariant_of-self-2 c = (c.in_ok-growth.ensures.grows.whole, told_total c.self.inside.incarnations.items c.merge_in.new.incarnations.items c.in_ok-growth.growth.before c.in_ok-growth.growth.after c.self.inside.conflicts c.self.invariant.1 c.in_ok-growth.ensures.grows.tells, subst (λ (ps : List IncarnationState). AreCovered c.complete.new.bounds ps) c.as_slice-2.ensures.value (c.complete.ensures (subst (λ (ps : List IncarnationState). AreCovered c.merge_in.new.bounds ps) (sym c.as_slice-2.ensures.value) (c.in_ok-growth.ensures.covered c.self.invariant.2))))
+invariant_of-self-2 c = (c.in_ok-growth.ensures.grows.whole, told_total c.self.inside.incarnations.items c.merge_in.new.incarnations.items c.in_ok-growth.growth.before c.in_ok-growth.growth.after c.self.inside.conflicts c.self.invariant.1 c.in_ok-growth.ensures.grows.tells, c.in_ok-growth.ensures.covered c.self.invariant.2)
 
 pub returns-clause-ok : goal.returns-clause-ok
 returns-clause-ok c =
-    let theirs = ap (λ (ps : List IncarnationState). from_sorted {R = key_cmp} (all_points ps)) c.as_slice.ensures.value ∙ ap (λ (v : GatewayState). v.points) c.other.view_is in
-    c.in_ok-growth.ensures.grows.joins ∙ (λ i. join_points ((c.self.view_is ∙ c.reserve.ensures) i).points (theirs i))
+    let theirs = ap (λ (v : GatewayState). v.points) c.other.view_is in
+    c.in_ok-growth.ensures.grows.joins ∙ (λ i. join_points (c.self.view_is i).points (theirs i))
 
 pub returns-clause-value : goal.returns-clause-value
-returns-clause-value c = c.in_ok-growth.ensures.grows.changes ∙ ap (λ (v : GatewayState). changed_points v.points (from_sorted {R = key_cmp} (all_points c.merge_in.new.incarnations.items))) (c.self.view_is ∙ c.reserve.ensures)
+returns-clause-value c = c.in_ok-growth.ensures.grows.changes ∙ ap (λ (v : GatewayState). changed_points v.points (from_sorted {R = key_cmp} (all_points c.merge_in.new.incarnations.items))) c.self.view_is
 
 pub returns-then-is_empty-clause-moves : goal.returns-then-is_empty-clause-moves
 returns-then-is_empty-clause-moves c = gateway_stays c.args.number c.args.self.now
 
 pub returns-clause-moves : goal.returns-clause-moves
-returns-clause-moves c = gateway_moves c.args.number c.self.inside.id c.self.inside.id c.self.inside.incarnations.items c.merge_in.new.incarnations.items c.args.self.now _ c.self.invariant.0.sorted c.in_ok-growth.ensures.grows.whole.sorted (c.self.view_is ∙ c.reserve.ensures) refl c.in_ok-growth.ensures.moves
+returns-clause-moves c = gateway_moves c.args.number c.self.inside.id c.self.inside.id c.self.inside.incarnations.items c.merge_in.new.incarnations.items c.args.self.now _ c.self.invariant.0.sorted c.in_ok-growth.ensures.grows.whole.sorted c.self.view_is refl c.in_ok-growth.ensures.moves
 
 pub returns-clause-kept : goal.returns-clause-kept
 returns-clause-kept c = λ none.
     let olds = c.self.inside.incarnations.items in
     let news = c.merge_in.new.incarnations.items in
-    numbers_left c.self.inside.id c.self.inside.id olds news c.args.self.now _ c.self.invariant.0.sorted c.in_ok-growth.ensures.grows.whole.sorted (c.self.view_is ∙ c.reserve.ensures) refl (subst (λ (n : ℕ). IncarnationsMove n olds news) none c.in_ok-growth.ensures.moves)
+    numbers_left c.self.inside.id c.self.inside.id olds news c.args.self.now _ c.self.invariant.0.sorted c.in_ok-growth.ensures.grows.whole.sorted c.self.view_is refl (subst (λ (n : ℕ). IncarnationsMove n olds news) none c.in_ok-growth.ensures.moves)
 
 pub invariant_of-self : goal.invariant_of-self
 invariant_of-self c =

@@ -1,4 +1,4 @@
-use Rattle.std.proofs.Common.{Some, List, map, sym, ap, ◌∙◌}
+use Rattle.std.proofs.Common.{Some, List, map, refl, sym, ap, ◌∙◌}
 use Rattle.std.specs.FinMap.{entries}
 use Rattle.point_kit.specs.declared.cell.Cell.{Cell}
 use Rattle.point_kit.specs.declared.key.Key.{Key}
@@ -15,9 +15,9 @@ returns-in-Ok c =
     let incarnations = c.self.inside.incarnations.items in
     let w = c.args.writer.now in
     let s = c.args.start in
-    let p = c.index.result.now in
-    let found = found_there (w, s) c.as_slice.result.now incarnations c.as_slice.ensures.value c.self.invariant.0.sorted c.in-Ok.place p c.in-Ok.ensures c.index.ensures in
-    let points = points_there (w, s) c.as_slice.result.now incarnations c.as_slice.ensures.value c.self.invariant.0.sorted c.in-Ok.place p c.in-Ok.ensures c.index.ensures in
+    let p = c.get.result.now in
+    let found = found_there (w, s) c.self.inside.incarnations.items incarnations refl c.self.invariant.0.sorted c.in-Ok.place p c.in-Ok.ensures c.get.ensures.value in
+    let points = points_there (w, s) c.self.inside.incarnations.items incarnations refl c.self.invariant.0.sorted c.in-Ok.place p c.in-Ok.ensures c.get.ensures.value in
     record {
       value =
           ap (λ n. Some n) c.newest.ensures
@@ -28,7 +28,7 @@ returns-in-Ok c =
 
 pub returns-in-Err : goal.returns-in-Err
 returns-in-Err c =
-    let points = points_nowhere (c.args.writer.now, c.args.start) c.as_slice.result.now c.self.inside.incarnations.items c.as_slice.ensures.value c.self.invariant.0.sorted c.in-Err.field-0 c.in-Err.ensures in
+    let points = points_nowhere (c.args.writer.now, c.args.start) c.self.inside.incarnations.items c.self.inside.incarnations.items refl c.self.invariant.0.sorted c.in-Err.field-0 c.in-Err.ensures in
     record {
       value =
           ap (λ (es : List (Key × Cell Payload)). greatest (map (λ e. e.1.time) es)) (sym points)

@@ -21,9 +21,9 @@ returns-then-self-other c =
     record {
       value = (
         λ equal.
-            let incarnations : map keyed_cells mine ≡ map keyed_cells theirs = ap (map keyed_cells) (sym c.as_slice.ensures.value) ∙ c.all_same.ensures.0 equal ∙ ap (map keyed_cells) c.as_slice-then-self-other.ensures.value in
+            let incarnations : map keyed_cells mine ≡ map keyed_cells theirs = c.same_incarnations.ensures.0 equal in
             sym mine_is ∙ ap (λ (ps : List (IncarnationKey × Cells)). from_sorted {R = key_cmp} (flatten whole_key ps)) incarnations ∙ theirs_is,
-        λ equal. c.all_same.ensures.1 (ap (map keyed_cells) c.as_slice.ensures.value ∙ same_incarnations mine theirs c.self.inside.len c.other.inside.len c.self.invariant.0 c.other.invariant.0 (mine_is ∙ equal ∙ sym theirs_is) ∙ sym (ap (map keyed_cells) c.as_slice-then-self-other.ensures.value)),
+        λ equal. c.same_incarnations.ensures.1 (same_incarnations mine theirs c.self.inside.len c.other.inside.len c.self.invariant.0 c.other.invariant.0 (mine_is ∙ equal ∙ sym theirs_is)),
       );
     }
 

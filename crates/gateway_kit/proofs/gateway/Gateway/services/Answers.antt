@@ -11,7 +11,7 @@ pub returns : goal.returns
 returns c =
     record {
       value =
-          ap (λ (ps : List IncarnationState). dedup (pointwise nat_eq) (map (λ p. p.writer.service) ps)) c.as_slice.ensures.value
+          ap (λ (ps : List IncarnationState). dedup (pointwise nat_eq) (map (λ p. p.writer.service) ps)) c.all.ensures
           ∙ sym (services_listed c.self.inside.incarnations.items c.self.inside.len c.self.invariant.0)
           ∙ ap (λ (v : GatewayState). held_services v.points) c.self.view_is;
     }

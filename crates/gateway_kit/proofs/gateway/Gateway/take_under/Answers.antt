@@ -3,7 +3,6 @@ use Rattle.std.proofs.lemmas.Grind.{common_steps}
 use Rattle.std.specs.FinMap.{from_sorted}
 use Rattle.point_kit.specs.Exports.{state}
 use Rattle.point_kit.specs.Orders.{key_cmp}
-use Rattle.gateway_kit.specs.Covering.{AreCovered}
 use Rattle.gateway_kit.specs.IncarnationState.{IncarnationState}
 use Rattle.gateway_kit.specs.Incarnations.{IsWhole, all_points}
 use Rattle.point_kit.specs.Exports.{join_points, changed_points}
@@ -36,13 +35,13 @@ overflow_add-self-2 c =
     omega (arith, few)
 
 pub invariant_of-self-2 : goal.invariant_of-self-2
-invariant_of-self-2 c = (c.in_ok-growth.ensures.grows.whole, told_total c.self.inside.incarnations.items c.take_in.new.incarnations.items c.in_ok-growth.growth.before c.in_ok-growth.growth.after c.self.inside.conflicts c.self.invariant.1 c.in_ok-growth.ensures.grows.tells, subst (λ (ps : List IncarnationState). AreCovered c.complete.new.bounds ps) c.as_slice.ensures.value (c.complete.ensures (subst (λ (ps : List IncarnationState). AreCovered c.take_in.new.bounds ps) (sym c.as_slice.ensures.value) (c.in_ok-growth.ensures.covered c.self.invariant.2))))
+invariant_of-self-2 c = (c.in_ok-growth.ensures.grows.whole, told_total c.self.inside.incarnations.items c.take_in.new.incarnations.items c.in_ok-growth.growth.before c.in_ok-growth.growth.after c.self.inside.conflicts c.self.invariant.1 c.in_ok-growth.ensures.grows.tells, c.in_ok-growth.ensures.covered c.self.invariant.2)
 
 pub returns-clause-ok : goal.returns-clause-ok
-returns-clause-ok c = c.in_ok-growth.ensures.grows.joins ∙ ap (λ (v : GatewayState). join_points v.points (state (c.args.export.now ∷ []))) (c.self.view_is ∙ c.reserve.ensures)
+returns-clause-ok c = c.in_ok-growth.ensures.grows.joins ∙ ap (λ (v : GatewayState). join_points v.points (state (c.args.export.now ∷ []))) c.self.view_is
 
 pub returns-clause-value : goal.returns-clause-value
-returns-clause-value c = c.in_ok-growth.ensures.grows.changes ∙ ap (λ (v : GatewayState). changed_points v.points (from_sorted {R = key_cmp} (all_points c.take_in.new.incarnations.items))) (c.self.view_is ∙ c.reserve.ensures)
+returns-clause-value c = c.in_ok-growth.ensures.grows.changes ∙ ap (λ (v : GatewayState). changed_points v.points (from_sorted {R = key_cmp} (all_points c.take_in.new.incarnations.items))) c.self.view_is
 
 pub returns-then-is_empty-clause-moves : goal.returns-then-is_empty-clause-moves
 returns-then-is_empty-clause-moves c = gateway_stays c.args.number c.args.self.now
@@ -51,13 +50,13 @@ pub returns-clause-moves : goal.returns-clause-moves
 returns-clause-moves c =
     let olds = c.self.inside.incarnations.items in
     let news = c.take_in.new.incarnations.items in
-    gateway_moves c.args.number c.self.inside.id c.self.inside.id olds news c.args.self.now _ c.self.invariant.0.sorted c.in_ok-growth.ensures.grows.whole.sorted (c.self.view_is ∙ c.reserve.ensures) refl c.in_ok-growth.ensures.moves
+    gateway_moves c.args.number c.self.inside.id c.self.inside.id olds news c.args.self.now _ c.self.invariant.0.sorted c.in_ok-growth.ensures.grows.whole.sorted c.self.view_is refl c.in_ok-growth.ensures.moves
 
 pub returns-clause-kept : goal.returns-clause-kept
 returns-clause-kept c = λ none.
     let olds = c.self.inside.incarnations.items in
     let news = c.take_in.new.incarnations.items in
-    numbers_left c.self.inside.id c.self.inside.id olds news c.args.self.now _ c.self.invariant.0.sorted c.in_ok-growth.ensures.grows.whole.sorted (c.self.view_is ∙ c.reserve.ensures) refl (subst (λ (n : ℕ). IncarnationsMove n olds news) none c.in_ok-growth.ensures.moves)
+    numbers_left c.self.inside.id c.self.inside.id olds news c.args.self.now _ c.self.invariant.0.sorted c.in_ok-growth.ensures.grows.whole.sorted c.self.view_is refl (subst (λ (n : ℕ). IncarnationsMove n olds news) none c.in_ok-growth.ensures.moves)
 
 pub invariant_of-self : goal.invariant_of-self
 invariant_of-self c =

@@ -3,5 +3,5 @@ use Rattle.gateway_kit.specs.Merging.{MergeDrafts}
 use Rattle.gateway_kit.proofs.merge_draft.MergeDraft.of.Given as goal
 
 -- the incarnations so far are in the draft
-abbrev pub invariant-loop-incarnation : goal.invariant-loop-incarnation
-invariant-loop-incarnation l = MergeDrafts l.mine (take l.incarnation-index l.theirs) l.draft.updates.items l.draft.fresh.items l.draft.more l.draft.changed
+abbrev pub invariant-loop-index : goal.invariant-loop-index
+invariant-loop-index l = MergeDrafts l.mine.items (take l.index l.theirs.items) l.draft.updates.items l.draft.fresh.items l.draft.more l.draft.changed

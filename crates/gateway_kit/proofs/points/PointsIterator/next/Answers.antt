@@ -4,6 +4,7 @@ use Rattle.point_kit.specs.declared.cell.Cell.{Cell}
 use Rattle.point_kit.specs.declared.key.Key.{Key}
 use Rattle.point_kit.specs.declared.payload.Payload.{Payload}
 use Rattle.gateway_kit.specs.declared.points.Points.{Points}
+use Rattle.shelf_kit.specs.Walks.{walk_left}
 use Rattle.gateway_kit.specs.Keys.{whole_key}
 use Rattle.gateway_kit.specs.IncarnationState.{IncarnationState}
 use Rattle.gateway_kit.specs.Walks.{items_left, is_asked, points_left}
@@ -16,11 +17,12 @@ loop-point-preserved c =
     let first : IncarnationState = c.in_ok-incarnation.incarnation.now in
     let same : c.next_here.new.self ≡ c.loop-point.self = c.in_default.ensures.same in
     let none : items_left c.next_here.new.self.here ≡ [] = ap (λ (p : Points). items_left p.here) same ∙ c.in_default.ensures.none in
-    let ahead : c.next_here.new.self.ahead.now ≡ first ∷ c.in_ok-incarnation.others.now = c.in_ok-incarnation.ensures.cases.0 in
+    let others = c.next.new.self in
+    let ahead : walk_left c.next_here.new.self.ahead ≡ first ∷ walk_left others = c.in_ok-incarnation.ensures.steps in
     let wanted : c.is_asked.result ≡ is_asked c.next_here.new.self.service first.writer = c.is_asked.ensures ∙ ap (λ (p : IncarnationState). is_asked c.next_here.new.self.service p.writer) c.incarnation.view_is in
     let all : List (Key × Cell Payload) = map (λ e. (whole_key (first.writer, first.start) e.0, e.1)) (entries first.cells) in
     let now : items_left c.if-is_asked.self ≡ cond (is_asked c.next_here.new.self.service first.writer) all [] = elim c.if-is_asked.branch [
       | then-is_asked w ↦ lent_when c.is_asked.result (is_asked c.next_here.new.self.service first.writer) (items_left c.if-is_asked.self) all w.if-is_asked.true wanted (ap items_left w.self-is ∙ lent first w.items.result c.in_ok-incarnation.incarnation refl w.items.ensures.entries)
       | else-is_asked w ↦ lent_unless c.is_asked.result (is_asked c.next_here.new.self.service first.writer) (items_left c.if-is_asked.self) all w.if-is_asked.false wanted (ap items_left w.self-is)
     ] in
-    c.loop-point.invariant ∙ ap points_left (sym same) ∙ passed c.next_here.new.self c.if-is_asked.self first c.in_ok-incarnation.others none ahead now
+    c.loop-point.invariant ∙ ap points_left (sym same) ∙ passed c.next_here.new.self c.if-is_asked.self first others none ahead now

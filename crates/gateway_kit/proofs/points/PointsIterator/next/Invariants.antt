@@ -1,4 +1,5 @@
 use Rattle.std.proofs.Common.{◌≡◌, length}
+use Rattle.shelf_kit.specs.Walks.{walk_left}
 use Rattle.gateway_kit.specs.Walks.{points_left}
 use Rattle.gateway_kit.proofs.points.PointsIterator.next.Given as goal
 
@@ -7,4 +8,4 @@ abbrev pub invariant-loop-point : goal.invariant-loop-point
 invariant-loop-point l = points_left l.fn.self ≡ points_left l.self
 
 abbrev pub decreases-loop-point : goal.decreases-loop-point
-decreases-loop-point l = length l.self.ahead.now
+decreases-loop-point l = length (walk_left l.self.ahead)

@@ -1,8 +1,7 @@
 use Rattle.std.proofs.Common.{FitsSigned, w64}
 use Rattle.std.proofs.lemmas.Int.{to_z-of_z}
-use Rattle.agg_kit.specs.Entries.{entry_of}
 use Rattle.kit_c.proofs.Held.{recorded}
-use Rattle.recorder_kit.specs.Log.{ByName, ByNumber}
+use Rattle.recorder_kit.specs.Log.{ByNumber}
 use Rattle.kit_c.proofs.holding.HoldingWriter.measure_held.Goals as goal
 
 pub invariant_of-self : goal.invariant_of-self

@@ -1,4 +1,4 @@
-use Rattle.std.proofs.Common.{◌≡◌, sym, [], ◌∷◌, ◌++◌, string_bytes, subst, rules}
+use Rattle.std.proofs.Common.{◌≡◌, sym, [], ◌∷◌, ◌++◌, string_bytes, subst}
 use Rattle.script_kit.specs.declared.line.Line.{Line}
 use Rattle.script_kit.specs.declared.line.Line.TheVariants as line
 use Rattle.otm_kit.specs.Effects.{done, effect_of}

@@ -1,4 +1,4 @@
-use Rattle.std.proofs.Common.{ap, string_bytes, Option, subst, rules}
+use Rattle.std.proofs.Common.{ap, string_bytes, Option, subst}
 use Rattle.std.specs.Prelude.{is_some}
 use Rattle.script_kit.specs.declared.line.Line.TheVariants as line
 use Rattle.otm_kit.specs.Declarations.{declared_by}

@@ -1,4 +1,4 @@
-use Rattle.std.proofs.Common.{◌≡◌, ◌∙◌, sym, ap, refl, Ok, string_bytes}
+use Rattle.std.proofs.Common.{◌≡◌, ◌∙◌, sym, ap, refl, Ok}
 use Rattle.otm_kit.specs.Events.{event_of}
 use Rattle.otm_kit.proofs.Runnings.{runs_more, told_event}
 use Rattle.otm_kit.proofs.running.Running.obey.Goals as goal

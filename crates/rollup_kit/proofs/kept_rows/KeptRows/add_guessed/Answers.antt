@@ -7,9 +7,7 @@ use Rattle.rollup_kit.proofs.Indexed.{each_room, row_read_at, key_at, rows_stay,
 use Rattle.rollup_kit.proofs.kept_rows.KeptRows.add_guessed.Goals as goal
 
 pub add_at-requires-clause-room : goal.add_at-requires-clause-room
-add_at-requires-clause-room c =
-    let me = c.self.inside in
-    each_room me.rows.items me.others.entries me.places.entries c.self.invariant (subst HasRoom (sym c.self.view_is) c.requires)
+add_at-requires-clause-room c = each_room _ _ _ c.self.invariant (subst HasRoom (sym c.self.view_is) c.requires)
 
 pub invariant_of-self : goal.invariant_of-self
 invariant_of-self c =

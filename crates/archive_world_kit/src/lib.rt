@@ -1,0 +1,29 @@
+//! Histories of nodes that gossip and forget what they hide, archives among the writers.
+//!
+//! It is definitions and laws over them, and has no types and no code to run. A history is a list of steps: the deeds of a schedule,
+//! and nodes that drop keys which they hide. What a step makes of a node is what the contract of the call promises that does it:
+//! `take`, `merge`, `send`, `hand` and `forget` of gossip_kit.
+//!
+//! - [`forgetting_loses_nothing`]: nodes that took the same exports show the same, and roll-ups of what they show count what was
+//!   recorded: of an adopted incarnation up to its adopted collection, of any other up to its newest one, each once.
+//! - [`nodes_show_what_they_took`]: a node shows what the state of the exports shows that it took. Without tombstones it holds that state.
+//! - [`nodes_hold_newest_collections`]: of an incarnation that it does not hide it holds the newest collection that it took.
+//! - [`held_collections_tell_what_was_fed`]: so what an archive adopts of it tells what the incarnation fed.
+//! - [`nodes_count_adopted_once`]: roll-ups of nodes where archives are as the laws of archive_kit ask, however they come to be so.
+//!
+//! A history at work, whose calls are proved to be such steps (`crates/archive_world_kit/src/tests.rt`):
+//!
+//!     hand(&mut one, &late)?;
+//!     assert_eq!(rt; forget(&mut one, &writer(alloc, 1)?, 100), 1);
+//!
+//! What contracts cite stands in `specs/`: `Steps` (histories), `Adopted` (archives that adopt what was held).
+#![tactic(auto)]
+
+mod laws;
+#[cfg(test)]
+mod tests;
+
+pub use laws::{
+    forgetting_loses_nothing, held_collections_tell_what_was_fed, nodes_count_adopted_once,
+    nodes_hold_newest_collections, nodes_show_what_they_took,
+};

@@ -1,0 +1,13 @@
+pub mod Begins
+pub mod Bounds
+pub mod Cut
+pub mod First
+pub mod Found
+pub mod Mapped
+pub mod Most
+pub mod Pieces
+pub mod Places
+pub mod Put
+pub mod Raised
+pub mod Same
+pub mod Taken

@@ -1,0 +1,47 @@
+use Rattle.std.proofs.Common.{◌≡◌, ◌<◌, get_or, replicate, refl, sym, ap, ◌∙◌, arith}
+use Rattle.std.specs.Prelude.{slice_set}
+use Rattle.std.specs.Vec.{with_item}
+use Rattle.std.proofs.lemmas.List.{length-set}
+use Rattle.shelf_kit.specs.Shelved.{Shelved}
+use Rattle.shelf_kit.specs.Shelving.{bounds_of, bounds_on, items_of, items_on}
+use Rattle.shelf_kit.specs.declared.shelf.Shelf.{Shelf}
+use Rattle.shelf_kit.proofs.Pieces.{piece_same, set_in}
+use Rattle.shelf_kit.proofs.Places.{got, seen_len}
+use Rattle.shelf_kit.proofs.Same.{shelved_same}
+use Rattle.shelf_kit.proofs.shelves.Shelves.get_mut.Goals as goal
+
+pub invariant_of-self-lent : goal.invariant_of-self-lent
+invariant_of-self-lent g c = λ w.
+    let old = c.index_mut-here.result.now in
+    let new : Shelf g.row.T.Denot = record { items = with_item old.items c.locate-shelf.result.1 w; bound = old.bound } in
+    shelved_same c.self.inside.shelves.items c.self.inside.starts.items c.self.inside.len c.locate-shelf.result.0 old new c.self.invariant c.locate-shelf.ensures.within c.index_mut-here.ensures.value (length-set old.items.items c.locate-shelf.result.1 w)
+
+pub returns : goal.returns
+returns g c =
+    let xs = c.self.inside.shelves.items in
+    let s = c.locate-shelf.result.0 in
+    let i = c.locate-shelf.result.1 in
+    let l = c.locate-shelf.ensures in
+    let old = c.index_mut-here.result.now in
+    let at = c.index_mut-here.ensures.value in
+    let long = seen_len xs c.self.inside.starts.items c.self.inside.len c.self.invariant c.args.self.now c.self.view_is in
+    let asked = c.requires in
+    let inside : c.args.index < c.self.inside.len = omega (arith, long, asked) in (
+      (
+        refl,
+        λ w.
+            let new : Shelf g.row.T.Denot = record { items = with_item old.items i w; bound = old.bound } in
+            let items : items_on (slice_set xs s new) ≡ slice_set c.args.self.now.items c.args.index w =
+            set_in items_of xs s i old l.within at new w (l.inside old at inside) refl
+            ∙ ap (λ k. slice_set (items_on xs) k w) l.place ∙ ap (λ (v : Shelved g.row.T.Denot). slice_set v.items c.args.index w) c.self.view_is in
+            let bounds : bounds_on (slice_set xs s new) ≡ c.args.self.now.bounds =
+            piece_same bounds_of xs s old new l.within at (ap (λ n. replicate n old.bound) (length-set old.items.items i w)) ∙ ap (λ (v : Shelved g.row.T.Denot). v.bounds) c.self.view_is in
+            λ j. record { items = items j; bounds = bounds j },
+      ),
+      record {
+        writes_back = tt;
+        value = c.index_mut.ensures.value
+            ∙ sym (got xs c.self.inside.len c.args.index s i l inside old at c.index_mut.result.now)
+            ∙ ap (λ (v : Shelved g.row.T.Denot). get_or v.items c.args.index c.index_mut.result.now) c.self.view_is;
+      },
+    )

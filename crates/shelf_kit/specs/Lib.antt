@@ -1,0 +1,4 @@
+pub mod Lends
+pub mod Shelved
+pub mod Shelving
+pub mod Walks

@@ -1,0 +1,30 @@
+//! A list on shelves: it takes a value into its middle, or out of it, by moving those of one shelf alone.
+//!
+//! Neither of the library's two ways to keep many values in order was enough for a gateway of a million incarnations. A `Vec` moves all
+//! that stand behind a new one. A `BTreeMap` moves few; but it is asked by whole keys of its own, it knows no index, and what has changed
+//! in it since some number is found by a look at each value. [`Shelves`] gives its caller three things together:
+//!
+//! - **Order.** Values stand by index, as in a vector, in the order that the caller gives them. [`Shelves::search`] finds one by a
+//!   [`Target`], which may be a part of a key or a place between keys. A [`Walk`] lends a part of the list, in order.
+//! - **Memory that may be refused.** Only [`Shelves::insert`] takes memory. Where that is refused, nothing has changed.
+//! - **Bounds.** For each index a number, which its caller raises and which never falls. The values of a shelf share one, so
+//!   [`Shelves::next_above`] passes over a whole shelf by one look.
+//!
+//! Contracts see a list of values, and one of bounds that is as long. Shelves are not seen; costs alone speak of them. A shelf takes
+//! at most 256 values where there was memory for another one. One that is too full is cut in half, and the last shelf of a list is left
+//! full. So n values that only came stand on some n / 256 to n / 128 shelves. Shelves are not joined again where values go; one without
+//! values goes itself.
+#![tactic(auto)]
+
+mod part;
+mod shelf;
+mod shelves;
+mod starts;
+mod target;
+#[cfg(test)]
+mod tests;
+mod walk;
+
+pub use shelves::Shelves;
+pub use target::Target;
+pub use walk::Walk;
