@@ -18,6 +18,7 @@ import collections
 import hashlib
 import os
 import pathlib
+import re
 import sys
 
 sys.dont_write_bytecode = True
@@ -32,6 +33,8 @@ OF_FUNCTIONS = ("Answers.antt", "Invariants.antt", "Proof.antt")
 # Programs that promise nothing, and come after the edits: the folders of tests/ that run each, and the programs that these run too.
 LATER = {"kit_bench": ((), ()), "refusals": (("refusals", "faults"), ("otm",))}
 GIVEN = ("args", "stdin", "stdout", "status")
+# A module that only a build of tests has: no edit is tried on one.
+OF_TESTS = re.compile(r"^ *#\[cfg\(test\)\]\n *mod (\w+);\n", re.M)
 # What the ledger says of an edit: a run saw it refused; it was left at just this text; or it is of the change at hand.
 KNOWN, BEFORE, CHANGED = "known", "left before", "of this change"
 HEAD = """\
@@ -41,13 +44,32 @@ HEAD = """\
 
 
 def texts(folder, parts):
-    """The files of these parts of a crate, each with its name, in order, without lines that are comments."""
+    """The files of these parts of a crate, each with its name, in order, without lines that are comments, and without tests."""
+    modules = modules_of_tests(pathlib.Path(folder, "src"))
     files = [it for part in parts for it in pathlib.Path(folder, part).rglob("*") if it.suffix in (".rt", ".antt")]
-    return [(str(it.relative_to(folder)), told(it)) for it in sorted(files)]
+    named = [(it.relative_to(folder), it) for it in sorted(files)]
+    return [(str(name), told(it)) for name, it in named if not modules & {*modules_above(name)}]
+
+
+def modules_of_tests(src):
+    """The modules that only a build of tests has, as the paths of their files below src/ and proofs/, without an ending."""
+    found = set()
+    for file in src.rglob("*.rt"):
+        name = file.relative_to(src).with_suffix("")
+        above = name.parent if name.name in ("lib", "main", "mod") else name
+        found |= {above / it for it in OF_TESTS.findall(file.read_text(encoding="utf-8"))}
+    return found
+
+
+def modules_above(name):
+    """The modules that a file of src/ or proofs/ can be of, from the one that has its name."""
+    inner = pathlib.PurePath(*name.parts[1:])
+    return inner.with_suffix(""), *inner.parents
 
 
 def told(file):
-    return without_comments(file.read_text(encoding="utf-8"), "//" if file.suffix == ".rt" else "--")
+    text = file.read_text(encoding="utf-8")
+    return without_comments(OF_TESTS.sub("", text), "//") if file.suffix == ".rt" else without_comments(text, "--")
 
 
 def without_comments(text, begins):

@@ -37,6 +37,9 @@ BEGAN = time.time()
 MINUTES = float(os.environ.get("GATE_MINUTES", "165"))
 # What proofs have more than edits have: with the runners of tests/, the last line then still comes in time.
 MORE_MINUTES = 8
+# What a check takes at most of the memory that the toolchain reckons for it: gateway_kit 2.1 GB of 7.0, plan_kit 2.0 of 3.2. By the whole of it
+# two great crates would leave processors idle.
+NEEDS = 0.65
 # Known edits that a run tries again all the same.
 TRIED_AGAIN = 10
 COUNT = re.compile(r"^(\d+) passed, (\d+) failed$")
@@ -124,9 +127,16 @@ def tell_runs(ledger):
     rt.run, rt.drop_to_nobody = run_of, timed_words
 
 
+def reckon_less():
+    """Has the toolchain's gate start as many checks at a time as memory holds by what they take."""
+    reckoned = rt.need
+    rt.need = lambda crate: NEEDS * reckoned(crate)
+
+
 def prepare(ledger):
     """Has the toolchain's gate keep its work, tell its costs and leave the edits to this one."""
     os.environ["GATE_LEDGER"] = ledger
+    reckon_less()
     guarded = rtlib.guarded
     rtlib.guarded = lambda: [*guarded(), *TIMED]
     tell_runs(ledger)

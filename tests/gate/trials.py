@@ -14,8 +14,8 @@ from kit import BAD, ONE_JOB, REFUSED, linked, listing, must_fail, patiently, rt
 
 # More edits in one check than this would be lost at once where time is over.
 MOST_TOGETHER = 40
-# What a check over kept work takes of the memory that the toolchain reckons for one from nothing: 40 edits of attr_kit took 1.2 GB of 2.4.
-SHARE = 0.5
+# What a check over kept work takes of the memory that one from nothing is reckoned to take: 40 edits of attr_kit took 1.6 GB of 1.7.
+SHARE = 0.9
 FUNCTION = re.compile(r"^fn (\w+)::(\S+?): ", re.M)
 ENDED = re.compile(r"^checked (\w+)::(\S+), \d+ of \d+$")
 COUNTS = re.compile(r"^only=\d+ proved=\d+$")

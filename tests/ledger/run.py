@@ -12,6 +12,9 @@ import known
 from known import BEFORE, CHANGED, KNOWN
 
 SOURCE = """\
+#[cfg(test)]
+mod tests;
+
 pub fn next(n: u32) -> u32
     ensures value { result ≡ n + 1 }
 {
@@ -98,6 +101,11 @@ class Trial:
             ("a function's proof changes its own edits", "proofs/next/Answers.antt", "step", [CHANGED, KNOWN, KNOWN], True),
             ("a loop's proof does so", "proofs/+next/Invariants.antt", "step", [CHANGED, KNOWN, KNOWN], True),
             ("another function's proof changes none", "proofs/last/Answers.antt", "step", [KNOWN] * 3, True),
+            ("a test changes nothing", "src/tests.rt", "fn test() {}\n", [KNOWN] * 3, True),
+            ("nor does what is below it", "src/tests/tables.rt", "fn table() {}\n", [KNOWN] * 3, True),
+            ("nor does its proof", "proofs/tests/Steps.antt", "step", [KNOWN] * 3, True),
+            ("nor that there are tests", "src/lib.rt", SOURCE.replace("#[cfg(test)]\nmod tests;\n", ""), [KNOWN] * 3, True),
+            ("another module does", "src/texts.rt", "pub struct Text;\n", [CHANGED] * 3, False),
             ("an edit changes itself alone", "must-fail/it_is_the_same.edit", EDIT + "\n", [CHANGED, KNOWN, KNOWN], True),
         ):
             file = pathlib.Path(self.low.folder, path)
