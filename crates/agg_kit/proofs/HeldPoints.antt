@@ -1,5 +1,5 @@
 -- Places that are known: what is true of them at one feed, and that they stay.
-use Rattle.std.proofs.Common.{is_none, IfSome, Option, Result, Ok, Err, OnOk, OnErr, ◌⊎◌, ◌==◌, true≢false, ◌≡◌, ℕ, ℤ, ◌+◌, ◌<◌, ◌∙◌, inl, inr, Bool, true, false, List, [], ◌∷◌, ◌++◌, Some, length, get_or, slice_get, position, refl, sym, ap, subst, suc, zero, arith, if◌then◌else◌, is_some, None, cond, not, nat_lt, ltb-true, lt-ltb, length-append}
+use Rattle.std.proofs.Common.{is_none, IfSome, Option, Result, Ok, Err, OnOk, ◌⊎◌, ◌==◌, true≢false, ◌≡◌, ℕ, ℤ, ◌+◌, ◌<◌, ◌∙◌, inl, inr, Bool, true, false, List, [], ◌∷◌, ◌++◌, Some, length, get_or, slice_get, position, refl, sym, ap, subst, suc, zero, arith, if◌then◌else◌, is_some, None, cond, not, nat_lt, ltb-true, lt-ltb, length-append}
 use Rattle.std.specs.Prelude.{slice_set}
 use Rattle.std.specs.Cmp.{unsigned_Decides}
 use Rattle.std.specs.List.{position_or_len}
@@ -12,7 +12,7 @@ use Rattle.point_kit.specs.declared.payload.Payload.{Payload}
 use Rattle.point_kit.specs.declared.shape.Shape.{Shape}
 use Rattle.plan_kit.specs.Plans.{Planned, Source, AreFeeds, feeds_of, kind_of}
 use Rattle.plan_kit.specs.declared.feed.Feed.{Feed}
-use Rattle.agg_kit.specs.Held.{held_of, place_of, AreOf, AreAt, AreKnown, ArePlaced, IsFed, IsHeldAt, IsOwnPlace, IsPlaced, IsPlaceless, MayGive}
+use Rattle.agg_kit.specs.Held.{held_of, place_of, AreOf, AreAt, AreKnown, ArePlaced, IsFed, IsHeldAt, IsOwnPlace, IsPlaceless, MayGive}
 use Rattle.agg_kit.specs.Entries.{Entry, Arrivals, arrivals_from, entry_of}
 use Rattle.agg_kit.specs.Feeding.{set_eq, has_set, add_once}
 use Rattle.agg_kit.specs.Feeds.{entries_of, series_at, shape_at, first_out, AllHeld, IsHeld}

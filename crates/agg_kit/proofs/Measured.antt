@@ -1,5 +1,5 @@
 -- What a tally answers to a recording, by what became of its points.
-use Rattle.std.proofs.Common.{◌≡◌, ◌≢◌, ◌∙◌, ℕ, List, Option, Result, Ok, Err, Some, None, OnOk, OnErr, IfErr, false, true, is_none, length, refl, sym, ap, subst}
+use Rattle.std.proofs.Common.{◌≡◌, ◌≢◌, ◌∙◌, ℕ, List, Option, Result, Err, Some, None, OnOk, OnErr, IfErr, false, true, is_none, length, refl, sym, ap, subst}
 use Rattle.attr_kit.specs.declared.attr_set.AttrSet.{AttrSet}
 use Rattle.plan_kit.specs.Plans.{AllRise, AreFeeds, feeds_of, kind_of}
 use Rattle.plan_kit.specs.declared.feed.Feed.{Feed}

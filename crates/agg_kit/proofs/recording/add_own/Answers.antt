@@ -1,4 +1,4 @@
-use Rattle.std.proofs.Common.{◌≡◌, ◌∙◌, ◌∷◌, [], ◌<◌, ℕ, sym, subst, ap, refl, true, false, not, FitsSigned, w64}
+use Rattle.std.proofs.Common.{◌∙◌, ◌∷◌, [], ◌<◌, ℕ, sym, subst, ap, refl, true, false, not, FitsSigned, w64}
 use Rattle.std.proofs.lemmas.Int.{to_z-of_z}
 use Rattle.indexmap.specs.IndexMap.{set_value_at}
 use Rattle.point_kit.specs.declared.shape.Shape.{Shape}

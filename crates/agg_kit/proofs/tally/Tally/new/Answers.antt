@@ -1,6 +1,3 @@
-use Rattle.std.proofs.Common.{◌≡◌, ◌∙◌, ap}
-use Rattle.agg_kit.specs.Held.{held_of}
-use Rattle.agg_kit.specs.Tallies.{Tallied}
 use Rattle.agg_kit.proofs.HeldPoints.{placed-none}
 use Rattle.agg_kit.proofs.tally.Tally.new.Goals as goal
 
