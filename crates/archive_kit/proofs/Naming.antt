@@ -1,5 +1,5 @@
 -- Names tell incarnations apart as tombstones' attributes do.
-use Rattle.std.proofs.Common.{◌≡◌, ℕ, ℤ, pos, ◌<◌, Bool, true, false, not, List, [], ◌∷◌, length, get_or, inl, inr, refl, sym, ap, subst, ◌∙◌, Err, arith, add-one, codes}
+use Rattle.std.proofs.Common.{◌≡◌, ℕ, ℤ, pos, ◌<◌, Bool, true, false, not, List, [], ◌∷◌, length, get_or, inl, inr, refl, sym, ap, ◌∙◌, Err, arith, codes}
 use mathlib.Core.Bool.{true≢false}
 use Rattle.std.proofs.lemmas.Bool.{cases_lt}
 use Rattle.std.proofs.lemmas.List.Elements.{All-from_get_or}
@@ -15,7 +15,6 @@ use Rattle.attr_kit.specs.Exact.{IsExact, exact_lists, exact_pairs, exact_texts,
 use Rattle.attr_kit.specs.Putting.{value_of}
 use Rattle.attr_kit.specs.contracts.attr_set.AttrSetEq.TheImpl.Laws as set_laws
 use Rattle.attr_kit.specs.declared.attr_set.AttrSet.{AttrSet}
-use Rattle.attr_kit.specs.declared.attr_value.AttrValue.{AttrValue}
 use Rattle.attr_kit.specs.declared.attr_value.AttrValue.TheVariants as values
 use Rattle.point_kit.specs.declared.writer_id.WriterId.{WriterId}
 use Rattle.archive_kit.specs.Keeping.{name_attrs, is_name, has_name, AreInOrder}
@@ -24,7 +23,6 @@ use Rattle.archive_kit.specs.Named.{name_of, text_in, whole_in}
 use Rattle.archive_kit.specs.Tombstones.{incarnation_attrs, set_eq}
 use Rattle.archive_kit.specs.contracts.name.NameOrd.TheImpl as orders
 use Rattle.archive_kit.specs.contracts.name.NameOrd.TheImpl.Laws as order_laws
-use Rattle.archive_kit.specs.contracts.name.NamePartialEq.TheImpl as names
 use Rattle.archive_kit.specs.declared.name.Name.{Name}
 use Rattle.archive_kit.proofs.Lists.{not_true}
 use Rattle.archive_kit.proofs.Tombstones.{first_text, second_text, third_number}

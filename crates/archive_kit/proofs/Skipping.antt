@@ -29,7 +29,7 @@ use Rattle.archive_kit.specs.Showing.{hides, shown}
 use Rattle.archive_kit.specs.Tombstones.{tombstones, incarnation_attrs, is_tombstone, names_key, set_eq, stream_eq}
 use Rattle.archive_kit.specs.declared.joining.Gone.{Gone}
 use Rattle.archive_kit.specs.declared.name.Name.{Name}
-use Rattle.archive_kit.proofs.Left.{get_left, in_keys, left_same}
+use Rattle.archive_kit.proofs.Left.{in_keys, left_same}
 use Rattle.archive_kit.proofs.Lists.{same_bool, member_any, not_true}
 use Rattle.archive_kit.proofs.Showing.{namer, hidden_by, shown-hides, shown_twice, get-shown}
 use Rattle.archive_kit.proofs.Steps.{any_map}

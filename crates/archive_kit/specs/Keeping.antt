@@ -1,5 +1,5 @@
 -- What a keeper holds and answers: a gateway's points that are always what is shown, and the names that held tombstones tell.
-use Rattle.std.specs.Prelude.{◌≡◌, ℕ, pos, Bool, true, false, not, ◌&&◌, ◌==◌, if◌then◌else◌, List, [], ◌∷◌, Option, Some, None, codes}
+use Rattle.std.specs.Prelude.{◌≡◌, ℕ, pos, Bool, true, false, ◌&&◌, ◌==◌, if◌then◌else◌, List, [], ◌∷◌, Option, Some, None, codes}
 use Rattle.std.specs.List.{list_any}
 use Rattle.std.specs.FinMap.{keys, from_entries}
 use Rattle.std.specs.List.Sorted.{IsSorted}

@@ -2,7 +2,7 @@ use Rattle.std.proofs.Common.{List, ap, ◌∙◌, ◌||◌, ◌&&◌, sym}
 use Rattle.std.specs.List.{list_any}
 use Rattle.gateway_kit.specs.Listing.{HeldIncarnation, held_of_ref, incarnations_left}
 use Rattle.gateway_kit.specs.Queries.{is_of_incarnation}
-use Rattle.archive_kit.specs.Keeping.{has_name, is_held, is_of_any}
+use Rattle.archive_kit.specs.Keeping.{has_name, is_of_any}
 use Rattle.archive_kit.proofs.Skipping.{gone_next, none_gone}
 use Rattle.archive_kit.proofs.keeper.add_named.Goals as goal
 

@@ -1,4 +1,4 @@
-use Rattle.std.proofs.Common.{List, ap, ◌∙◌, ◌||◌, ◌≡◌, sym}
+use Rattle.std.proofs.Common.{List, ap, ◌∙◌, ◌||◌, sym}
 use Rattle.std.specs.List.{list_any}
 use Rattle.gateway_kit.specs.Walks.{keyed_cell_of_ref, points_left}
 use Rattle.archive_kit.specs.Keeping.{has_name, is_named, tells}
