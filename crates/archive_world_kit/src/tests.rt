@@ -95,30 +95,55 @@ fn tell(from: &mut Node, to: &mut Node) -> Result<usize, Fail> {
     Ok(mail.points_len())
 }
 
+// Two workers come to a node, which tells the other of both.
+fn are_told(alloc: Global, one: &mut Node, two: &mut Node) -> Result<bool, Fail> {
+    take(one, &export(alloc, 1, 200, 5)?)?;
+    take(one, &export(alloc, 2, 300, 8)?)?;
+    Ok(tell(one, two)? == 2)
+}
+
+// What an archive exports that adopted a worker of what a gateway holds.
+fn archived(alloc: Global, gateway: &Gateway, worker: &WriterId) -> Result<Export, Fail> {
+    let mut archive = Archive::begin(alloc, writer(alloc, 9)?, 1000, 10)?;
+    archive.adopt(gateway, worker, 100)?;
+    Ok(archive.export(2000)?)
+}
+
+// A node takes the archive's export, forgets the worker, and tells the other: what was acknowledged is not told again.
+fn is_forgotten(
+    alloc: Global,
+    worker: &WriterId,
+    one: &mut Node,
+    two: &mut Node,
+) -> Result<bool, Fail> {
+    let adopted = archived(alloc, one.gateway(), worker)?;
+    take(one, &adopted)?;
+    let forgotten = forget(one, worker, 100);
+    let left = one.gateway().len();
+    let told = tell(one, two)?;
+    Ok(forgotten == 1 && left == 3 && told == 2 && two.gateway().len() == 4)
+}
+
+// A late mail brings the forgotten point back, and it can be forgotten again.
+fn is_forgotten_again(worker: &WriterId, node: &mut Node, late: &Message) -> Result<bool, Fail> {
+    hand(node, late)?;
+    let back = node.gateway().len();
+    Ok(forget(node, worker, 100) == 1 && back == 4)
+}
+
 #[test]
 fn nodes_that_forget_show_the_same(rt: HostRuntime) -> Result<(), Fail> {
     let alloc = rt.alloc();
+    let worker = writer(alloc, 1)?;
     let mut one = Node::new(alloc, Gateway::new(alloc, 1));
     let mut two = Node::new(alloc, Gateway::new(alloc, 2));
-    take(&mut one, &export(alloc, 1, 200, 5)?)?;
-    take(&mut one, &export(alloc, 2, 300, 8)?)?;
-    assert_eq!(rt; tell(&mut one, &mut two)?, 2);
+    let told = are_told(alloc, &mut one, &mut two)?;
     let late = send(&two, 1)?;
-    let mut archive = Archive::begin(alloc, writer(alloc, 9)?, 1000, 10)?;
-    archive.adopt(one.gateway(), &writer(alloc, 1)?, 100)?;
-    take(&mut one, &archive.export(2000)?)?;
-    assert_eq!(rt; forget(&mut one, &writer(alloc, 1)?, 100), 1);
-    assert_eq!(rt; one.gateway().len(), 3);
-    // What was acknowledged is not told again, though it is forgotten here.
-    assert_eq!(rt; tell(&mut one, &mut two)?, 2);
-    assert_eq!(rt; two.gateway().len(), 4);
-    // A late mail brings the forgotten point back, and it can be forgotten again.
-    hand(&mut one, &late)?;
-    assert_eq!(rt; one.gateway().len(), 4);
-    assert_eq!(rt; forget(&mut one, &writer(alloc, 1)?, 100), 1);
-    assert_eq!(rt; forget(&mut two, &writer(alloc, 1)?, 100), 1);
-    assert!(rt; one.gateway().same(two.gateway()));
-    assert_eq!(rt; merge(&mut one, two.gateway())?, 0);
+    let forgotten = is_forgotten(alloc, &worker, &mut one, &mut two)?;
+    let again = is_forgotten_again(&worker, &mut one, &late)?;
+    let there = forget(&mut two, &worker, 100) == 1;
+    let same = one.gateway().same(two.gateway()) && merge(&mut one, two.gateway())? == 0;
+    assert!(rt; told && forgotten && again && there && same);
     Ok(())
 }
 
