@@ -60,8 +60,8 @@ fn changed(
     Ok(decode_export(alloc, bytes.as_slice()).err())
 }
 
-// The second point shares a stream whose scope has 64 bytes. One of 65 it has again: 1 and the scope, and name, unit and shape
-// in a byte each, in place of the one byte.
+// The bytes are those of docs/BYTES.md's example, 88, with another scope. The second point shares a stream whose scope has 64
+// bytes. One of 65 it has again: 1 and the scope, and name, unit and shape in a byte each, in place of the one byte.
 #[test]
 fn a_long_stream_stands_at_each_point(rt: HostRuntime) -> Result<(), Fail> {
     let alloc = rt.alloc();
