@@ -24,13 +24,18 @@ import wanted
 
 HERE = pathlib.Path(__file__).resolve().parent
 TESTS = HERE.parents[1] / "crates" / "otlp_kit" / "src" / "tests.rt"
-REQUEST = re.compile(r"^const (\w+): \[u8; (\d+)\] = \[([^]]*)\];", re.M)
+REQUEST = re.compile(r"^(?:pub\(crate\) )?const (\w+): \[u8; (\d+)\] = \[([^]]*)\];", re.M)
+# How many requests those tests have: fewer mean that they are found no more.
+LEAST = 5
 MESSAGE = "otlp.ExportMetricsServiceRequest"
 
 
 def requests():
     """The name and the bytes of each request."""
-    for name, length, numbers in REQUEST.findall(TESTS.read_text(encoding="utf-8")):
+    all_found = REQUEST.findall(TESTS.read_text(encoding="utf-8"))
+    if len(all_found) < LEAST:
+        sys.exit(f"{len(all_found)} requests were found in place of {LEAST}")
+    for name, length, numbers in all_found:
         found = bytes(int(number) for number in numbers.split(",") if number.strip())
         if len(found) != int(length):
             sys.exit(f"{name} has {len(found)} bytes, and not {length}")

@@ -13,8 +13,8 @@
 //!
 //! A history at work, whose calls are proved to be such steps (`crates/archive_world_kit/src/tests.rt`):
 //!
-//!     hand(&mut one, &late)?;
-//!     assert_eq!(rt; forget(&mut one, &writer(alloc, 1)?, 100), 1);
+//!     take(one, &adopted)?;
+//!     let forgotten = forget(one, worker, 100);
 //!
 //! What contracts cite stands in `specs/`: `Steps` (histories), `Adopted` (archives that adopt what was held).
 #![tactic(auto)]
