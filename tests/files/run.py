@@ -31,22 +31,37 @@ LATENCY = ("app", "latency", "ms", (0, 5, 10))
 HEAT = ("", "heat", "C", "gauge")
 TEA, MILK = {"item": "tea"}, {"item": "milk", "size": "1"}
 SHOP, TILL = ("shop", 7), ("till", 8)
+# (another worker of the shop, and an archive of it)
+SECOND, ARCHIVE = ("shop", 9), ("shop", 32)
+TOMBS = ("kotskhin.archive", "adopted", "ns", "gauge")
 
 EXAMPLE = kept.export(*SHOP, 100, 200, [(SALES, TEA, 6), (SALES, MILK, 3)])
 LATER = kept.export(*SHOP, 100, 300, [(SALES, TEA, 10)])
 OTHER = kept.export(*TILL, 50, 250, [(SALES, TEA, 5), (LATENCY, {}, (12, [0, 2, 1, 0], (3, 6))), (HEAT, {"room": "a b"}, -4)])
 TWIN = kept.export(*SHOP, 100, 200, [(SALES, TEA, 7)])
 EMPTY = kept.export("a\nb \\", 1, 0, 18446744073709551615, [])
+THIRD = kept.export(*SECOND, 500, 600, [(SALES, TEA, 4), (HEAT, {}, 1)])
 STATE = kept.message(3, 3, [(SHOP, 100, SALES, MILK, 200, 3), (SHOP, 100, SALES, TEA, 300, 10)])
 DELTA = kept.message(1, 2, [(SHOP, 100, SALES, MILK, 200, 3), (SHOP, 100, SALES, TEA, 200, 6)], 1)
 CONFLICT = kept.message(1, 1, [(SHOP, 100, SALES, TEA, 200, None)])
 FALLING = kept.export(*SHOP, 100, 200, [(SALES, TEA, -1)])
 WIDE = kept.export(*SHOP, 100, 200, [(("app", "wide", "1", (2**53, 2**53 + 1)), {}, (0, [0, 0, 0], None))])
 
+
+def told(writer, start):
+    """What a tombstone tells of an incarnation."""
+    return {"instance": f"00000000-0000-0000-0000-{writer[1]:012x}", "service": writer[0], "start": start}
+
+
+OF_SHOP, OF_SECOND = (TOMBS, told(SHOP, 100), 200), (TOMBS, told(SECOND, 500), 600)
+ARCHIVED = kept.export(*ARCHIVE, 1000, 2000, [(SALES, MILK, 3), (SALES, TEA, 10), OF_SHOP, OF_SECOND])
+
 FILES = {
     "a.ktsk": EXAMPLE,
     "later.ktsk": LATER,
     "b.ktsk": OTHER,
+    "c.ktsk": THIRD,
+    "archive.ktsk": ARCHIVED,
     "twin.ktsk": TWIN,
     "empty.ktsk": EMPTY,
     "three.ktsm": STATE,
@@ -159,6 +174,25 @@ def states(program, folder):
     yield "files besides", "" if {it.name for it in folder.iterdir()} == set(FILES) else f"{sorted(it.name for it in folder.iterdir())}"
 
 
+def archives(program, folder):
+    """What files show that have an archive's export beside the exports that it adopted."""
+    workers = ["a.ktsk", "c.ktsk"]
+    ran(program, folder, ["merge", "-o", "both.ktsm", *workers])
+    for files in (["archive.ktsk"], [*workers, "archive.ktsk"], ["archive.ktsk", *workers], ["c.ktsk", "archive.ktsk", "both.ktsm", "archive.ktsk"]):
+        yield f"shown of {' '.join(files)}", differs(ran(program, folder, [*ASK, *files]), (0, TABLE % 10, b""))
+    later = ["archive.ktsk", "later.ktsk"]
+    yield "a late export of an adopted one", differs(ran(program, folder, [*ASK, *later]), (0, TABLE % 10, b""))
+    status, page, said = ran(program, folder, ["expose", *workers, "archive.ktsk"])
+    once = page.count(b"sales_total{") == 2 and b'item="tea",otel_scope_name="app",service_name="shop"} 10' in page
+    yield "a page of them", "" if (status, said) == (0, b"") and once else f"status {status}, wrote {page!r}"
+    state = kept.message(0, 0, [
+        (ARCHIVE, 1000, SALES, MILK, 2000, 3), (ARCHIVE, 1000, SALES, TEA, 2000, 10),
+        (ARCHIVE, 1000, TOMBS, OF_SHOP[1], 2000, 200), (ARCHIVE, 1000, TOMBS, OF_SECOND[1], 2000, 600),
+    ])
+    yield "a state of them", differs(ran(program, folder, ["merge", "-o", "-", *workers, "archive.ktsk"]), (0, state, b""))
+    (folder / "both.ktsm").unlink()
+
+
 def requests(program, folder):
     """What `otm otlp` writes: the request of each export, one behind the other."""
     one, other = (ran(program, folder, ["otlp", name]) for name in ("a.ktsk", "b.ktsk"))
@@ -204,6 +238,7 @@ def cases(program, folder):
     yield from pages(program, folder)
     yield from requests(program, folder)
     yield from states(program, folder)
+    yield from archives(program, folder)
     for words, shown in blocks():
         status, text, said = ran(program, folder, words)
         # (a shell shows both streams; help ends with a blank line)

@@ -6,7 +6,7 @@ use Rattle.std.proofs.lemmas.List.{take_more, take-map, map-append, get_or-map, 
 use Rattle.std.proofs.lemmas.List.Sums.{fold-append}
 use Rattle.std.proofs.lemmas.Option.{slice_get-get_or}
 use Rattle.point_kit.specs.Exports.{Points, join_points}
-use Rattle.file_kit.specs.Contents.{form, points_of, IsRefused, IsRefusedAt, JoinsAt, Says}
+use Rattle.file_kit.specs.Contents.{form, points_of, IsRefused, IsRefusedAt, JoinsAt, Says, Shows}
 use Rattle.file_kit.specs.declared.content.Content.{Content}
 use Rattle.file_kit.specs.declared.fault.FileFault.{FileFault}
 use Rattle.file_kit.specs.declared.fault.FileFault.TheVariants as file
@@ -31,3 +31,7 @@ module _ {V : Type 0} (items : V → List ℕ) (fs : List V) where
     here = (items (get_or fs i d), ap (slice_get (map items fs)) at.0 ∙ slice_get-get_or (map items fs) i [] (subst (λ n. i < n) (sym (length-map fs items)) lt) ∙ ap (λ (b : List ℕ). Some b) (get_or-map items fs i d [] lt), at.1);
   }
   refused_at i d points file.NoMemory lt says at = tt
+
+-- what files show, by another name
+pub still_shows : (files : List (List ℕ)) (points same : Points) → same ≡ points → Shows files points → Shows files same
+still_shows files points same is shows = (shows.0, shows.1, is ∙ shows.2)

@@ -5,13 +5,13 @@ use Rattle.point_kit.specs.Exports.{Points}
 use Rattle.rollup_kit.specs.Rollups.{rollup_rows}
 use Rattle.rollup_kit.specs.TableText.{table_text}
 use Rattle.rollup_kit.specs.declared.ask.Ask.{Ask}
-use Rattle.file_kit.specs.Contents.{Says}
+use Rattle.file_kit.specs.Contents.{Shows}
 use Rattle.file_kit.specs.declared.answers.PageFormat.{PageFormat}
 use Rattle.file_kit.specs.declared.answers.PageFormat.TheVariants.{Prometheus, OpenMetrics}
 
--- a text is the table of what files say
+-- a text is the table of what files show
 abbrev pub IsReport : Ask → List (List ℕ) → List ℕ → Type 0
-IsReport ask files text = (points : Points) × Says files points × (text ≡ table_text (rollup_rows ask points))
+IsReport ask files text = (points : Points) × Shows files points × (text ≡ table_text (rollup_rows ask points))
 
 -- the last line by which a format is known
 abbrev pub end_of : PageFormat → List ℕ
@@ -22,6 +22,6 @@ end_of OpenMetrics = codes "# EOF\n"
 abbrev pub IsPageOf : List ℕ → Option (List ℕ) → Points → List ℕ → Type 0
 IsPageOf end service points text = (format : _) × (last_line format ≡ end) × (text ≡ page format (asked_cells service points))
 
--- a text is the page of what files say
+-- a text is the page of what files show
 abbrev pub IsPage : PageFormat → Option (List ℕ) → List (List ℕ) → List ℕ → Type 0
-IsPage format service files text = (points : Points) × Says files points × IsPageOf (end_of format) service points text
+IsPage format service files text = (points : Points) × Shows files points × IsPageOf (end_of format) service points text

@@ -2,6 +2,8 @@
 use Rattle.std.specs.Prelude.{◌≡◌, ◌≢◌, ◌==◌, ℕ, Bool, true, false, List, [], ◌∷◌, map, take, slice_get, Option, Some, None, Result, Ok, Err}
 use Rattle.std.specs.List.{fold}
 use Rattle.std.specs.FinMap.{empty}
+use Rattle.archive_kit.specs.Showing.{shown}
+use Rattle.archive_kit.specs.Tombstones.{names_key}
 use Rattle.bytes_kit.specs.Explaining as explaining
 use Rattle.bytes_kit.specs.Fits.{IsExport}
 use Rattle.bytes_kit.specs.Format.{bytes_of}
@@ -60,6 +62,10 @@ GivesContent (Err fault) c = fault ≡ faults.NoMemory
 -- these points are what the files have, joined: one content for each, of its bytes
 abbrev pub Says : List (List ℕ) → Points → Type 0
 Says files points = (cs : List Content) × (map form cs ≡ files) × (points ≡ joined cs)
+
+-- these points are what the files show: what they say, but for what a tombstone of theirs names
+abbrev pub Shows : List (List ℕ) → Points → Type 0
+Shows files points = (held : Points) × Says files held × (points ≡ shown names_key held)
 
 -- bytes are those of no content, for this reason
 pub record IsNone (bytes : List ℕ) (fault : DecodeFault) : Type 0 where

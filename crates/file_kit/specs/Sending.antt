@@ -10,7 +10,7 @@ use Rattle.otlp_kit.specs.Refusals.{otlp_fault}
 use Rattle.otlp_kit.specs.Request.{request}
 use Rattle.point_kit.specs.Exports.{Points}
 use Rattle.point_kit.specs.declared.export.Export.{Export}
-use Rattle.file_kit.specs.Contents.{Says}
+use Rattle.file_kit.specs.Contents.{Shows}
 use Rattle.file_kit.specs.declared.fault.SendFault.{SendFault}
 use Rattle.file_kit.specs.declared.fault.SendFault.TheVariants as faults
 
@@ -53,6 +53,6 @@ IsUnsent files fault = (place : ℕ) → place_of fault ≡ Some place
 abbrev pub state_of : Points → MessageModel
 state_of points = record { from = 0; to = 0; points = points; delta = None; ack = None }
 
--- bytes are those of the state that files come to
+-- bytes are those of the state that files come to: of what they show
 abbrev pub IsState : List (List ℕ) → List ℕ → Type 0
-IsState files bytes = (points : Points) × Says files points × (bytes ≡ bytes_of_message (state_of points))
+IsState files bytes = (points : Points) × Shows files points × (bytes ≡ bytes_of_message (state_of points))

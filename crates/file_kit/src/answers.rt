@@ -4,7 +4,7 @@ ghost use Rattle.std.specs.Prelude.{map, IfErr, IfOk, string_bytes};
 ghost use Rattle.file_kit.specs.Answers.{IsPage, IsReport};
 ghost use Rattle.file_kit.specs.Contents.{IsRefused};
 
-use crate::{FileFault, joined};
+use crate::{FileFault, kept};
 use attr_kit::Txt;
 use page_kit::{openmetrics, prometheus};
 use rollup_kit::{Ask, rollup, table};
@@ -19,21 +19,21 @@ pub enum PageFormat {
     OpenMetrics,
 }
 
-/// The table of what files say, joined: that of `rollup_kit`, as a line `report` of a script prints it.
+/// The table of what files show: that of `rollup_kit`, as a line `report` of a script prints it.
 ///
-/// Refused as [`joined`] refuses, at its cost and that of `rollup` and `table`.
+/// Refused as [`kept`] refuses, at its cost and that of `rollup` and `table`.
 pub fn report(alloc: Global, ask: &Ask, files: &[Vec<u8>]) -> Result<Txt, FileFault>
     ensures value { IfOk result (IsReport ask.now (map (λ f. f.items) files.now)) }
     ensures err { IfErr result (IsRefused (map (λ f. f.items) files.now)) }
 {
-    let gateway = joined(alloc, files)?;
-    let rows = rollup(alloc, &gateway, ask)?;
+    let keeper = kept(alloc, files)?;
+    let rows = rollup(alloc, keeper.gateway(), ask)?;
     Ok(table(alloc, rows.as_slice())?)
 }
 
-/// The page of what files say, joined: that of `page_kit`, of a service where one is given, else of all.
+/// The page of what files show: that of `page_kit`, of a service where one is given, else of all.
 ///
-/// Refused as [`joined`] refuses, at its cost and that of `prometheus` or `openmetrics`.
+/// Refused as [`kept`] refuses, at its cost and that of `prometheus` or `openmetrics`.
 pub fn expose(
     alloc: Global,
     format: PageFormat,
@@ -44,10 +44,11 @@ pub fn expose(
         (string_bytes text)) }
     ensures err { IfErr result (IsRefused (map (λ f. f.items) files.now)) }
 {
-    let gateway = joined(alloc, files)?;
+    let keeper = kept(alloc, files)?;
+    let gateway = keeper.gateway();
     let page = match format {
-        PageFormat::Prometheus => prometheus(alloc, &gateway, service)?,
-        PageFormat::OpenMetrics => openmetrics(alloc, &gateway, service)?,
+        PageFormat::Prometheus => prometheus(alloc, gateway, service)?,
+        PageFormat::OpenMetrics => openmetrics(alloc, gateway, service)?,
     };
     Ok(page)
 }

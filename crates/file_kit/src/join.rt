@@ -2,10 +2,11 @@
 ghost use Rattle.std.specs.Prelude.{◌≡◌, map, IfErr, IfOk, OnOk};
 ghost use Rattle.gossip_kit.specs.Bodies.{cells_of};
 ghost use Rattle.point_kit.specs.Exports.{join_points};
-ghost use Rattle.file_kit.specs.Contents.{points_of, IsRefused, IsRefusedAt, JoinsAt, Says};
+ghost use Rattle.file_kit.specs.Contents.{points_of, IsRefused, IsRefusedAt, JoinsAt, Says, Shows};
 
 use crate::FileFault;
 use crate::content::{Content, read};
+use archive_kit::Keeper;
 use attr_kit::NoMemory;
 use bytes_kit::DecodeFault;
 use gateway_kit::Gateway;
@@ -78,4 +79,19 @@ pub fn joined(alloc: Global, files: &[Vec<u8>]) -> Result<Gateway, FileFault>
         join_file(alloc, &mut gateway, place, bytes.as_slice())?;
     }
     Ok(gateway)
+}
+
+/// What files show: what they say, joined, but for what a tombstone among it names, in a keeper of the id 0. So incarnations that an
+/// archive adopted count once where its export is among the files, beside theirs, and in whichever order.
+///
+/// Refused as [`joined`] refuses, at its cost and that of `Keeper::merge` for all points.
+pub fn kept(alloc: Global, files: &[Vec<u8>]) -> Result<Keeper, FileFault>
+    ensures id { IfOk result (λ k. k.id ≡ 0) }
+    ensures value { IfOk result (λ k. Shows (map (λ f. f.items) files.now) k.points) }
+    ensures err { IfErr result (IsRefused (map (λ f. f.items) files.now)) }
+{
+    let held = joined(alloc, files)?;
+    let mut keeper = Keeper::new(alloc, NO_ID)?;
+    keeper.merge(&held)?;
+    Ok(keeper)
 }

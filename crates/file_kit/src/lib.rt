@@ -2,6 +2,8 @@
 //!
 //! - [`joined`] is what files say, in a gateway: each file is the bytes of an export, or of a message or a state. A [`FileFault`] tells
 //!   the first file that is none, and why.
+//! - [`kept`] is what files show: the same without what a tombstone of an archive names. Files without one show all that they say
+//!   ([`files_without_tombstones_show_all`]).
 //! - [`report`] and [`expose`] answer of that: a table, or a page in a [`PageFormat`]. [`merged`] is a state of it, as bytes.
 //! - [`show`] tells what one file is of, with tables of its points. [`otlp`] is the OTLP request of files of exports, or a [`SendFault`].
 //! - [`read_command`] reads what a command line asks of files: a [`FileCommand`], or a [`CommandFault`]. [`is_of_files`] tells whether
@@ -13,8 +15,8 @@
 //!         Ok(table) => print(rt, table.as_str().as_bytes()),
 //!         Err(fault) => Err(unjoined(alloc, files, fault)),
 //!
-//! docs/FILES.md tells the commands. What contracts cite stands in `specs/`: `Contents` (what files have, what they say joined, and why
-//! a file says nothing), `Answers`, `Sending`, `Shown`, `AskWords` and `Commands` (what words ask for).
+//! docs/FILES.md tells the commands. What contracts cite stands in `specs/`: `Contents` (what files have, what they say joined, what
+//! they show of that, and why a file says nothing), `Answers`, `Sending`, `Shown`, `AskWords` and `Commands` (what words ask for).
 #![tactic(auto)]
 
 mod answers;
@@ -24,6 +26,7 @@ mod command_line;
 mod content;
 mod fault;
 mod join;
+mod laws;
 mod sending;
 mod shown;
 mod streams;
@@ -33,6 +36,7 @@ pub use answers::{PageFormat, expose, report};
 pub use command::{CommandFault, FileCommand};
 pub use command_line::{is_of_files, read_command};
 pub use fault::{FileFault, SendFault};
-pub use join::joined;
+pub use join::{joined, kept};
+pub use laws::files_without_tombstones_show_all;
 pub use sending::{merged, otlp};
 pub use shown::show;

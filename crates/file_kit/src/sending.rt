@@ -4,7 +4,7 @@ ghost use Rattle.file_kit.specs.Contents.{IsRefused};
 ghost use Rattle.file_kit.specs.Sending.{AreRequests, IsRequest, IsState, IsUnsaid, IsUnsent, IsUnsentAt};
 ghost use Rattle.otlp_kit.specs.Request.{request};
 
-use crate::{FileFault, SendFault, joined};
+use crate::{FileFault, SendFault, kept};
 use bytes_kit::{DecodeFault, decode_export, encode_message};
 use gossip_kit::{Body, Message};
 use otlp_kit::{OtlpFault, encode_otlp};
@@ -50,15 +50,17 @@ pub fn otlp(alloc: Global, files: &[Vec<u8>]) -> Result<Vec<u8>, SendFault>
     Ok(bytes)
 }
 
-/// The bytes of the state that files come to: a message of all that they say, joined, from the gateway 0 to itself. So it can be
-/// brought back, joined again, or handed to whoever reads messages.
+/// The bytes of the state that files come to: a message of all that they show, from the gateway 0 to itself. So it can be brought back,
+/// joined again, or handed to whoever reads messages. Tombstones are shown, and what they name is left out: whoever joins the state
+/// counts each incarnation once, a plain gateway too.
 ///
-/// Refused as [`joined`] refuses, at its cost and that of `encode_message`.
+/// Refused as [`kept`] refuses, at its cost and that of `encode_message`.
 pub fn merged(alloc: Global, files: &[Vec<u8>]) -> Result<Vec<u8>, FileFault>
     ensures value { IfOk result (λ bytes. IsState (map (λ f. f.items) files.now) bytes.items) }
     ensures err { IfErr result (IsRefused (map (λ f. f.items) files.now)) }
 {
-    let gateway = joined(alloc, files)?;
+    let keeper = kept(alloc, files)?;
+    let gateway = keeper.gateway().try_copy()?;
     let id = gateway.id();
     let state = Message::new(id, id, Body::Whole(gateway));
     Ok(encode_message(alloc, &state)?)

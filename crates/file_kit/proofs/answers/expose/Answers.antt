@@ -1,11 +1,13 @@
-use Rattle.std.proofs.Common.{refl}
+use Rattle.std.proofs.Common.{ap, refl}
+use Rattle.gateway_kit.specs.GatewayState.{GatewayState}
+use Rattle.file_kit.proofs.Joining.{still_shows}
 use Rattle.file_kit.proofs.answers.expose.Goals as goal
 use Rattle.file_kit.proofs.answers.expose.Goals.{in-Prometheus+in_ok-page-in-Prometheus, in-OpenMetrics+in_ok-page-in-OpenMetrics}
 
 pub returns-clause-value : goal.returns-clause-value
 returns-clause-value c = (
-  c.in_ok-gateway.gateway.points,
-  c.in_ok-gateway.ensures.value,
+  c.gateway-gateway.result.now.points,
+  still_shows _ c.in_ok-keeper.keeper.points _ (ap (λ (g : GatewayState). g.points) c.gateway-gateway.ensures.value) c.in_ok-keeper.ensures.value,
   elim c.match-format.branch [
     | in-Prometheus+in_ok-page-in-Prometheus w ↦ rw (w.page-is, w.in-Prometheus.is) (_, refl, w.in_ok-page-in-Prometheus.ensures.value)
     | in-OpenMetrics+in_ok-page-in-OpenMetrics w ↦ rw (w.page-is, w.in-OpenMetrics.is) (_, refl, w.in_ok-page-in-OpenMetrics.ensures.value)

@@ -1,10 +1,12 @@
 use Rattle.std.proofs.Common.{◌∙◌, ap}
+use Rattle.gateway_kit.specs.GatewayState.{GatewayState}
 use Rattle.rollup_kit.specs.TableText.{table_text}
+use Rattle.file_kit.proofs.Joining.{still_shows}
 use Rattle.file_kit.proofs.answers.report.Goals as goal
 
 pub returns-clause-value : goal.returns-clause-value
 returns-clause-value c = (
-  c.in_ok-gateway.gateway.points,
-  c.in_ok-gateway.ensures.value,
+  c.gateway.result.now.points,
+  still_shows _ c.in_ok-keeper.keeper.points _ (ap (λ (g : GatewayState). g.points) c.gateway.ensures.value) c.in_ok-keeper.ensures.value,
   c.in_ok-table.ensures.value ∙ ap table_text c.as_slice.ensures ∙ ap table_text c.in_ok-rows.ensures.value,
 )
