@@ -2,5 +2,5 @@ pub mod Joining
 pub mod Pieces
 pub mod Reading
 pub mod Requests
-pub mod Shown
 pub mod Taking
+pub mod Whole
