@@ -1,9 +1,7 @@
 use Rattle.std.proofs.Common.{◌≡◌, sym, [], ◌∷◌, ◌++◌, string_bytes, subst}
 use Rattle.script_kit.specs.declared.line.Line.{Line}
-use Rattle.script_kit.specs.declared.line.Line.TheVariants as line
 use Rattle.otm_kit.specs.Effects.{done, effect_of}
 use Rattle.otm_kit.specs.Standing.{IsAfter}
-use Rattle.otm_kit.specs.declared.begin.BeginFault.TheVariants as faults
 use Rattle.otm_kit.proofs.Runnings.{stays_at_nothing, nothing_done}
 use Rattle.otm_kit.proofs.desk.Desk.act.Goals as goal
 

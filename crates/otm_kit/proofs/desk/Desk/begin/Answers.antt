@@ -1,6 +1,5 @@
 use Rattle.std.proofs.Common.{◌≡◌, ◌∙◌, sym, true, false, string_bytes, subst, rules, ◌≢◌}
 use Rattle.std.specs.Prelude.{is_some}
-use Rattle.script_kit.specs.declared.line.Line.TheVariants as line
 use Rattle.otm_kit.specs.Declarations.{Declared}
 use Rattle.otm_kit.specs.Standing.{Waits}
 use Rattle.otm_kit.specs.declared.begin.BeginFault.TheVariants as faults

@@ -1,10 +1,8 @@
 use Rattle.std.proofs.Common.{ap, string_bytes, Option, subst}
 use Rattle.std.specs.Prelude.{is_some}
-use Rattle.script_kit.specs.declared.line.Line.TheVariants as line
 use Rattle.otm_kit.specs.Declarations.{declared_by}
 use Rattle.otm_kit.specs.Events.{commands}
 use Rattle.otm_kit.specs.Standing.{StandsFor, Goes}
-use Rattle.otm_kit.specs.declared.begin.BeginFault.TheVariants as faults
 use Rattle.otm_kit.specs.declared.running.Running.{Running}
 use Rattle.otm_kit.proofs.Runnings.{waits_at, goes_more, do_early, do_done, do_bad}
 use Rattle.otm_kit.proofs.desk.Desk.obey.Goals as goal
