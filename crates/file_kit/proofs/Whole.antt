@@ -7,7 +7,7 @@ use mathlib.Core.Bool.{true≢false}
 use Rattle.point_kit.specs.Exports.{Points}
 use Rattle.point_kit.specs.declared.key.Key.{Key}
 use Rattle.archive_kit.proofs.Left.{left_all}
-use Rattle.archive_kit.specs.Showing.{hides, shown}
+use Rattle.archive_kit.specs.Showing.{hides}
 use Rattle.archive_kit.specs.Tombstones.{incarnation_attrs, is_tombstone, names_key, set_eq}
 use Rattle.file_kit.specs.Contents.{Says, Shows}
 
