@@ -1,5 +1,5 @@
 -- Pairs that are found, noted and copied.
-use Rattle.std.proofs.Common.{◌≡◌, ◌≢◌, ◌∙◌, ◌<◌, ◌+◌, ℕ, suc, zero, Bool, true, false, cond, not, List, [], ◌∷◌, ◌++◌, Option, None, Some, length, slice_get, position, take, drop, arith, Result, Ok, Err, IsOk, OnOk, refl, sym, ap, subst, is_some, true≢false, if◌then◌else◌}
+use Rattle.std.proofs.Common.{◌≡◌, ◌∙◌, ◌<◌, ◌+◌, ℕ, suc, zero, Bool, true, false, cond, not, List, [], ◌∷◌, ◌++◌, Option, None, Some, length, slice_get, position, take, drop, arith, Result, Ok, Err, IsOk, OnOk, refl, sym, ap, subst, is_some, true≢false, if◌then◌else◌}
 use Rattle.std.specs.Prelude.{nat_lt}
 use Rattle.std.specs.List.{position_or_len, IsDistinct}
 use Rattle.std.specs.Map.{keys_of, lookup}
