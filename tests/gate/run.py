@@ -37,8 +37,8 @@ BEGAN = time.time()
 MINUTES = float(os.environ.get("GATE_MINUTES", "165"))
 # What proofs have more than edits have: with the runners of tests/, the last line then still comes in time.
 MORE_MINUTES = 8
-# What a check takes at most of the memory that the toolchain reckons for it: gateway_kit 2.1 GB of 7.0, plan_kit 2.0 of 3.2. By the whole of it
-# two great crates would leave processors idle.
+# What checks take of the memory that the toolchain reckons for each: kit_c 3.4 GB of 10.4, otm_kit 3.3 of 7.3, gateway_kit 2.5 of 7.0. Few take
+# more than this share, and those are small (script_kit 2.5 of 3.5). By the whole of it two great crates would leave processors idle.
 NEEDS = 0.65
 # Known edits that a run tries again all the same.
 TRIED_AGAIN = 10

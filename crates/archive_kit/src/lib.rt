@@ -10,10 +10,10 @@
 //!   incarnation once ([`roll_ups_count_adopted_once`], [`archives_change_no_total`]). Archives that write what these calls export
 //!   are such ([`exports_tell_what_was_adopted`], [`driven_archives_are_lawful`]).
 //!
-//! A caller (`crates/archive_kit/src/tests.rt`):
+//! A caller (`crates/archive_kit/src/tests/builders.rt`):
 //!
-//!     archive.adopt(&gateway, &writer(alloc, "shop", 1)?, 100)?;
-//!     let made = archive.export(2000)?;
+//!     archive.adopt(gateway, &writer, start)?;
+//!     let made = archive.export(time)?;
 //!
 //! What contracts cite stands in `specs/`: `Archive` (what contracts see of one, its refusals and exports), `Totals`, `Adding` and
 //! `Telling` (what is added up), `Driving` (what calls make of one), `Keeping` and `Named` (what a keeper holds and answers),
