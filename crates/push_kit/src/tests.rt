@@ -12,7 +12,7 @@ use std::alloc::Global;
 use std::sync::Wait;
 use std::test::Fail;
 use uuid::Uuid;
-use writer_kit::{DEFAULT_INTERVAL, Pace, Writer};
+use writer_kit::{DEFAULT_INTERVAL, MeasureFault, Pace, Writer};
 
 // The total of the only point, a sum.
 fn total(export: &Export) -> Option<i64> {
@@ -65,6 +65,45 @@ const MINUTE: u64 = 60_000_000_000;
 
 // Each helper below borrows the reader: it is dropped at the exits of the test alone, and each exit that drops costs proof.
 
+// Whether flushes at 5 leave a pace that is due at 10, and a closing one at 6 ends the reader.
+fn leaves_the_pace(periodic: &mut Periodic<MemoryExporter>, alloc: Global) -> Result<bool, Fail>
+    requires { periodic.old.exporter.failures ≡ 0 }
+{
+    let arena = Bump::new(alloc);
+    adds(periodic, alloc, 3)?;
+    let first = periodic.flush(&arena, 5, false);
+    let next = periodic.pace().next;
+    adds(periodic, alloc, 4)?;
+    let again = periodic.flush(&arena, 5, false);
+    let last = periodic.flush(&arena, 6, true);
+    let total = periodic.exporter().copies().last().and_then(total);
+    let is_flushed = (first, last, total) == (Ok(1), Ok(1), Some(7));
+    let is_refused = again == Err(TickFault::TimeNotAfter(5));
+    Ok(is_flushed && is_refused && next == 10 && is_closed(periodic, alloc))
+}
+
+// Whether a reader refuses a recording and a tick since it is closed.
+fn is_closed(periodic: &mut Periodic<MemoryExporter>, alloc: Global) -> bool
+    requires { periodic.old.exporter.failures < 18446744073709551615 }
+{
+    let measured = periodic.measure(0, &AttrSet::empty(alloc), 1);
+    let ticked = periodic.tick(&Bump::new(alloc), 10);
+    measured == Err(MeasureFault::Closed) && ticked == Err(TickFault::Closed)
+}
+
+#[test]
+fn flushes_leave_the_pace(rt: HostRuntime) -> Result<(), Fail> {
+    let exporter = MemoryExporter::new(rt.alloc());
+    let mut periodic = Periodic::new(
+        rt.alloc(),
+        counting(rt.alloc())?,
+        exporter,
+        Pace::new(10, 10),
+    );
+    assert!(rt; leaves_the_pace(&mut periodic, rt.alloc())?);
+    Ok(())
+}
+
 // The answer of a due tick after 3 and 4 were recorded, over an exporter that has not failed.
 fn last_tick<E: Exporter>(
     alloc: Global,
@@ -92,6 +131,18 @@ fn a_channel_passes_it_on(rt: HostRuntime) -> Result<(), Fail> {
     let mut periodic = reading(rt.alloc(), ChannelExporter::new(&rt, to))?;
     let answer = last_tick(rt.alloc(), &mut periodic)?;
     assert!(rt; answer == Ok(Tick::Exported(1)) && is_only(&rt, &from));
+    Ok(())
+}
+
+#[test]
+fn a_channel_without_a_receiver_fails(rt: HostRuntime) -> Result<(), Fail> {
+    let (to, from) = crossbeam_channel::unbounded(rt.alloc())?;
+    drop(from);
+    let mut periodic = reading(rt.alloc(), ChannelExporter::new(&rt, to))?;
+    let is_refused = last_tick(rt.alloc(), &mut periodic)? == Err(TickFault::ExportRefused);
+    let failures = periodic.exporter().failures();
+    let times = (periodic.writer().last(), periodic.pace().next);
+    assert!(rt; is_refused && failures == 1 && times == (2 * MINUTE, 3 * MINUTE));
     Ok(())
 }
 
@@ -137,6 +188,34 @@ fn a_channel_fails_once_its_receivers_are_gone(rt: HostRuntime) -> Result<(), Fa
     let is_sent = (first, second) == (Ok(Tick::Exported(1)), Ok(Tick::Exported(1)));
     assert!(rt; is_sent && third == Err(TickFault::ExportRefused));
     assert_eq!(rt; periodic.exporter().failures(), 1);
+    Ok(())
+}
+
+// Whether an exporter into memory takes an export so often, and keeps as many copies.
+fn keeps_each(exporter: &mut MemoryExporter, export: &Export, times: usize) -> bool
+    requires { exporter.old.failures ≡ 0 }
+{
+    for _ in 0..times {
+        if exporter.export(export).is_err() {
+            return false;
+        }
+    }
+    exporter.copies().len() == times
+}
+
+// What a writer of one counter exports at 5, which recorded nothing.
+fn export_of_nothing(alloc: Global) -> Result<Export, Fail> {
+    let writer = counting(alloc)?;
+    let arena = Bump::new(alloc);
+    let round = writer.look_round(&arena, 5)?;
+    Ok(round.copy_out(alloc, writer.id())?)
+}
+
+#[test]
+fn memory_keeps_many_exports(rt: HostRuntime) -> Result<(), Fail> {
+    let export = export_of_nothing(rt.alloc())?;
+    let mut exporter = MemoryExporter::new(rt.alloc());
+    assert!(rt; keeps_each(&mut exporter, &export, 1_000));
     Ok(())
 }
 
