@@ -19,12 +19,12 @@ pub enum FileCommand {
         into: Txt,
         files: Seq<Txt>,
     },
-    /// The table of what the files say.
+    /// The table of what the files show.
     Report {
         ask: Ask,
         files: Seq<Txt>,
     },
-    /// The page of what the files say, of a service or of all.
+    /// The page of what the files show, of a service or of all.
     Expose {
         format: PageFormat,
         service: Option<Txt>,
