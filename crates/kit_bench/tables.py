@@ -12,7 +12,8 @@ import sys
 
 PROGRAM = pathlib.Path(__file__).resolve().parent / "out" / "kit_bench"
 LINE = re.compile(r"^(.*), (\d+): ([\d.]+) ns each$")
-HOLDERS = {"hold-gateway": "a gateway", "hold-tree": "`BTreeMap` of the kit's sets to cells", "hold-map": "`HashMap` of the same"}
+HOLDERS = {"hold-gateway": "a gateway", "hold-tree": "`BTreeMap` of the kit's sets to cells", "hold-map": "`HashMap` of the same",
+           "hold-incarnations": "a node of incarnations of one point", "hold-keys": "`BTreeMap` of keys to cells by hand, the same points"}
 POINTS = 1_000_000
 
 
@@ -60,7 +61,7 @@ def tell_held():
         print(f"| {name} | {each:.0f} |")
 
 
-PARTS = ["turns", "recordings", "held-points", "threads", "fleets", "gateways", "gossip", "bytes", "rounds", "rollups", "pages", "held"]
+PARTS = ["turns", "recordings", "held-points", "threads", "fleets", "gateways", "gossip", "bytes", "rounds", "rollups", "pages", "incarnations", "held"]
 
 
 def main(words):

@@ -50,7 +50,7 @@ OF_THE_KIT = {
     "shelf_kit": {"Shelves", "Target", "Walk"},
     "writer_kit": {"Recordings"},
     # (the program `otm` is the caller of file_kit)
-    "file_kit": {"PageFormat", "FileCommand", "CommandFault", "FileFault", "SendFault"},
+    "file_kit": {"PageFormat", "FileCommand", "CommandFault", "FileFault", "SendFault", "Archiving", "ArchiveFault"},
 }
 FN = re.compile(r"( *)(?:pub(?:\(crate\))? )?(?:unsafe )?(?:extern \"C\" )?fn (\w+)")
 OWNER = re.compile(r"(?:pub(?:\(crate\))? )?(?:unsafe )?(?:impl|trait)\b(?:<[^{]*?> )? ?(?:[\w:<>, &']+ for )?&?(?:\w+::)*(\w+)")

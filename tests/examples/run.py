@@ -76,11 +76,12 @@ Options:
   -V, --version  Print version
 
 Commands on files:
-  show    Print what files are of, and their points
-  merge   Write one state of what files say, joined
-  report  Print a table of what files say, joined
-  expose  Print what files say, joined, as a page for Prometheus
-  otlp    Write the OTLP request of files of exports
+  show     Print what files are of, and their points
+  merge    Write one state of what files say, joined
+  report   Print a table of what files say, joined
+  expose   Print what files say, joined, as a page for Prometheus
+  otlp     Write the OTLP request of files of exports
+  archive  Write the export of an archive that adopts what files hold
 
 """
 RUN_HELP = b"""Do the script of the standard input, and print what its lines say

@@ -31,8 +31,8 @@ LATENCY = ("app", "latency", "ms", (0, 5, 10))
 HEAT = ("", "heat", "C", "gauge")
 TEA, MILK = {"item": "tea"}, {"item": "milk", "size": "1"}
 SHOP, TILL = ("shop", 7), ("till", 8)
-# (another worker of the shop, and an archive of it)
-SECOND, ARCHIVE = ("shop", 9), ("shop", 32)
+# (another worker of the shop, an archive of it, and one that is begun later)
+SECOND, ARCHIVE, NEXT = ("shop", 9), ("shop", 32), ("shop", 33)
 TOMBS = ("kotskhin.archive", "adopted", "ns", "gauge")
 
 EXAMPLE = kept.export(*SHOP, 100, 200, [(SALES, TEA, 6), (SALES, MILK, 3)])
@@ -47,21 +47,11 @@ CONFLICT = kept.message(1, 1, [(SHOP, 100, SALES, TEA, 200, None)])
 FALLING = kept.export(*SHOP, 100, 200, [(SALES, TEA, -1)])
 WIDE = kept.export(*SHOP, 100, 200, [(("app", "wide", "1", (2**53, 2**53 + 1)), {}, (0, [0, 0, 0], None))])
 
-
-def told(writer, start):
-    """What a tombstone tells of an incarnation."""
-    return {"instance": f"00000000-0000-0000-0000-{writer[1]:012x}", "service": writer[0], "start": start}
-
-
-OF_SHOP, OF_SECOND = (TOMBS, told(SHOP, 100), 200), (TOMBS, told(SECOND, 500), 600)
-ARCHIVED = kept.export(*ARCHIVE, 1000, 2000, [(SALES, MILK, 3), (SALES, TEA, 10), OF_SHOP, OF_SECOND])
-
 FILES = {
     "a.ktsk": EXAMPLE,
     "later.ktsk": LATER,
     "b.ktsk": OTHER,
     "c.ktsk": THIRD,
-    "archive.ktsk": ARCHIVED,
     "twin.ktsk": TWIN,
     "empty.ktsk": EMPTY,
     "three.ktsm": STATE,
@@ -89,6 +79,23 @@ ALONE = b"""attributes    points  conflicts  total
 KEPT_SUMS = b"""attributes  points  conflicts  total
 {}               3          0  14
 """
+
+# What a tombstone tells of an incarnation, and those of the archive's.
+def told(writer, start):
+    return {"instance": f"00000000-0000-0000-0000-{writer[1]:012x}", "service": writer[0], "start": start}
+
+
+OF_SHOP, OF_SECOND = (TOMBS, told(SHOP, 100), 200), (TOMBS, told(SECOND, 500), 600)
+ARCHIVED = kept.export(*ARCHIVE, 1000, 2000, [(SALES, MILK, 3), (SALES, TEA, 10), OF_SHOP, OF_SECOND])
+
+
+def adopt(writer, *words):
+    return ["archive", "-o", "new.ktsk", "shop", told(writer, 0)["instance"], *words]
+
+
+def refusal(writer, start, reason):
+    return f"shop {told(writer, 0)['instance']}, start {start} is not adopted: {reason}\n".encode()
+
 
 # By its name what the program is given, words and input, and what it must do: its status, its standard output, its standard error.
 ROWS = {
@@ -139,6 +146,18 @@ attributes    points  conflicts  total
 """, b""),
     "nothing is shown of a file before a bad one": (["show", "a.ktsk", "text.txt"], b"", 1, b"", b"text.txt: byte 0 is not that of what is read\n"),
     "an output that no file can have": (["merge", "-o", "none/x", "a.ktsk"], b"", 4, b"", b"write failed\n"),
+    "a conflict adopted": (adopt(NEXT, "1000", "2000", "c.ktsk", "twin.ktsk", "a.ktsk"), b"", 1, b"", refusal(SHOP, 100, "a point of it is a conflict")),
+    "a torn state adopted": (adopt(NEXT, "1000", "2000", "c.ktsk", "three.ktsm"), b"", 1, b"", refusal(SHOP, 100, "its points are not of one time")),
+    "more totals than the limit": (["archive", "--limit", "1", *adopt(NEXT, "1000", "2000", "a.ktsk")[1:]], b"", 1, b"", refusal(SHOP, 100, "there would be more totals than the limit")),
+    "a worker's incarnation taken": (adopt(SHOP, "100", "2000", "a.ktsk"), b"", 1, b"", b"the files hold points of this instance and start\n"),
+    "an archive that ends as it begins": (adopt(NEXT, "2000", "2000", "a.ktsk", "text.txt"), b"", 2, b"", b"the time is not later than the start\n"),
+    "an archive of a bad file": (adopt(NEXT, "1000", "2000", "a.ktsk", "text.txt"), b"", 1, b"", b"text.txt: byte 0 is not that of what is read\n"),
+    "an archive of no file": (adopt(NEXT, "1000", "2000"), b"", 2, b"", None),
+    "an archive without an output": (["archive", *adopt(NEXT, "1000", "2000", "a.ktsk")[3:]], b"", 2, b"", None),
+    "an archive without a UUID": (["archive", "-o", "new.ktsk", "shop", "7", "1000", "2000", "a.ktsk"], b"", 2, b"", b"'7' is no UUID: a UUID has 32 hexadecimal digits, with hyphens or without\n"),
+    "a start that is no number": (adopt(NEXT, "01", "2000", "a.ktsk"), b"", 2, b"", b"'01' is no number: a number has digits alone, and no leading zero\n"),
+    "a time that is no number": (adopt(NEXT, "1000", "2e3", "a.ktsk"), b"", 2, b"", b"'2e3' is no number: a number has digits alone, and no leading zero\n"),
+    "a limit that is no number": (["archive", "--limit", "x", *adopt(NEXT, "1000", "2000", "a.ktsk")[1:]], b"", 2, b"", b"'x' is no number: a number has digits alone, and no leading zero\n"),
 }
 
 
@@ -175,22 +194,36 @@ def states(program, folder):
 
 
 def archives(program, folder):
-    """What files show that have an archive's export beside the exports that it adopted."""
+    """What `otm archive` writes, and what files show that have it beside what it adopted."""
     workers = ["a.ktsk", "c.ktsk"]
-    ran(program, folder, ["merge", "-o", "both.ktsm", *workers])
-    for files in (["archive.ktsk"], [*workers, "archive.ktsk"], ["archive.ktsk", *workers], ["c.ktsk", "archive.ktsk", "both.ktsm", "archive.ktsk"]):
+    write = lambda writer, start, time, *files: adopt(writer, str(start), str(time), *files)
+    read = lambda: (folder / "new.ktsk").read_bytes() if (folder / "new.ktsk").is_file() else None
+    yield "nothing is written of a refusal", "" if read() is None else "a file"
+    for name, files in {"an archive": workers, "an archive, in another order": [*workers[::-1], "b.ktsk"], "an archive of a state": ["both.ktsm", "a.ktsk"]}.items():
+        ran(program, folder, ["merge", "-o", "both.ktsm", *workers])
+        yield name, differs(ran(program, folder, write(ARCHIVE, 1000, 2000, *files)), (0, b"", b""))
+        yield f"{name}, read again", "" if read() == ARCHIVED else f"other bytes: {read()!r}"
+    yield "an archive with room", differs(ran(program, folder, ["archive", "--limit", "2", "-o", "-", *write(ARCHIVE, 1000, 2000, *workers)[3:]]), (0, ARCHIVED, b""))
+    for files in (["new.ktsk"], [*workers, "new.ktsk"], ["new.ktsk", *workers], ["c.ktsk", "new.ktsk", "both.ktsm", "new.ktsk"]):
         yield f"shown of {' '.join(files)}", differs(ran(program, folder, [*ASK, *files]), (0, TABLE % 10, b""))
-    later = ["archive.ktsk", "later.ktsk"]
-    yield "a late export of an adopted one", differs(ran(program, folder, [*ASK, *later]), (0, TABLE % 10, b""))
-    status, page, said = ran(program, folder, ["expose", *workers, "archive.ktsk"])
+    status, page, said = ran(program, folder, ["expose", *workers, "new.ktsk"])
     once = page.count(b"sales_total{") == 2 and b'item="tea",otel_scope_name="app",service_name="shop"} 10' in page
     yield "a page of them", "" if (status, said) == (0, b"") and once else f"status {status}, wrote {page!r}"
     state = kept.message(0, 0, [
         (ARCHIVE, 1000, SALES, MILK, 2000, 3), (ARCHIVE, 1000, SALES, TEA, 2000, 10),
         (ARCHIVE, 1000, TOMBS, OF_SHOP[1], 2000, 200), (ARCHIVE, 1000, TOMBS, OF_SECOND[1], 2000, 600),
     ])
-    yield "a state of them", differs(ran(program, folder, ["merge", "-o", "-", *workers, "archive.ktsk"]), (0, state, b""))
-    (folder / "both.ktsm").unlink()
+    yield "a state of them", differs(ran(program, folder, ["merge", "-o", "-", *workers, "new.ktsk"]), (0, state, b""))
+    nothing = kept.export(*NEXT, 1000, 3000, [])
+    yield "what is adopted is not adopted again", differs(ran(program, folder, ["archive", "-o", "-", *write(NEXT, 1000, 3000, *workers, "new.ktsk")[3:]]), (0, nothing, b""))
+    yield "its own export", differs(ran(program, folder, write(ARCHIVE, 1000, 3000, *workers, "new.ktsk")), (1, b"", b"the files hold points of this instance and start\n"))
+    later = kept.export(*ARCHIVE, 2000, 3000, [(SALES, TEA, 4), OF_SECOND])
+    ran(program, folder, write(ARCHIVE, 1000, 2000, "a.ktsk"))
+    own = kept.export(*SECOND, 1000, 2000, [(SALES, MILK, 3), (SALES, TEA, 6), OF_SHOP])
+    yield "its own instance is left alone", differs(ran(program, folder, ["archive", "-o", "-", *write(SECOND, 1000, 2000, *workers)[3:]]), (0, own, b""))
+    yield "begun anew", differs(ran(program, folder, ["archive", "-o", "-", *write(ARCHIVE, 2000, 3000, *workers, "new.ktsk")[3:]]), (0, later, b""))
+    for name in ("new.ktsk", "both.ktsm"):
+        (folder / name).unlink()
 
 
 def requests(program, folder):
@@ -228,7 +261,7 @@ def helps(program, folder):
     listed = ran(program, folder, ["--help"])[2].decode()
     for name in re.findall(r"^\| `otm (\w+) ", PAGE.read_text(), re.M):
         about = ran(program, folder, ["help", name])[2].decode().splitlines()[0]
-        yield f"{name} in otm --help", "" if f"  {name:<6}  {about}\n" in listed else f"{listed!r} has no {about!r}"
+        yield f"{name} in otm --help", "" if f"  {name:<7}  {about}\n" in listed else f"{listed!r} has no {about!r}"
 
 
 def cases(program, folder):

@@ -6,9 +6,9 @@
     tests/gate/known.py leave          leaves edits of this change that no run ever saw refused, where they were left before
 
 An edit's result is known where nothing that it stands on changed since a run saw it refused. That is the edit, the text and the proof of the functions that it
-changes, the contracts, types, definitions and lemmas of its crate, the contracts and definitions of the crates below, and the toolchain. All of that is one
-digest, and a line of the ledger is an edit's name with it. A function is proved from the contracts of what it calls, so other bodies and their proofs take no
-part. Where an edit lies in no function, all of its crate takes part. A line that ends in `untried` says of an edit that no run has tried it at just this text.
+changes, the contracts, types, definitions and lemmas of its crate, what it sees of the crates below (seen.py), and the toolchain. All of that is one digest,
+and a line of the ledger is an edit's name with it. A function is proved from the contracts of what it calls, so other bodies and their proofs take no part. Where
+an edit lies in no function, all of its crate takes part. A line that ends in `untried` says of an edit that no run has tried it at just this text.
 
 An edit that has no line, or one with another digest, is of the change at hand: a gate that leaves it untried fails. `leave` excuses those of them whose line
 says `untried` already. A new edit, and one that a run saw refused once, can't be left; so lines `untried` only grow fewer.
@@ -23,15 +23,16 @@ import sys
 
 sys.dont_write_bytecode = True
 import edits
+import seen
 from kit import edits_of, rtlib, version
 
 TOP = pathlib.Path(__file__).resolve().parents[2]
 LEDGER = TOP / "tests" / "gate" / "known.txt"
-OWN, BELOW = ("src", "specs", "proofs"), ("src", "specs")
+OWN = ("src", "specs", "proofs")
 # The files of proofs/ that are of one function, whose folder has its name, or that with a plus before it.
 OF_FUNCTIONS = ("Answers.antt", "Invariants.antt", "Proof.antt")
 # Programs that promise nothing, and come after the edits: the folders of tests/ that run each, and the programs that these run too.
-LATER = {"kit_bench": ((), ()), "refusals": (("refusals", "faults"), ("otm",))}
+LATER = {"kit_bench": ((), ()), "refusals": (("refusals", "faults"), ("otm",)), "archivists": (("archives",), ())}
 GIVEN = ("args", "stdin", "stdout", "status")
 # A module that only a build of tests has: no edit is tried on one.
 OF_TESTS = re.compile(r"^ *#\[cfg\(test\)\]\n *mod (\w+);\n", re.M)
@@ -100,10 +101,27 @@ def digest_of(pieces):
     return sum_.hexdigest()
 
 
-def contracts_of(crate, parts=BELOW):
-    """The digest of what functions see of others of a crate."""
-    found = [(name, without_bodies(text) if name.endswith(".rt") else text) for name, text in texts(crate.folder, parts) if not is_of_function(name)]
+def contracts_of(crate):
+    """The digest of what functions see of others of their crate."""
+    found = [(name, without_bodies(text) if name.endswith(".rt") else text) for name, text in texts(crate.folder, OWN) if not is_of_function(name)]
     return digest_of([crate.name, *(it for pair in found for it in pair)])
+
+
+def seen_below(crate):
+    """The digest of what a crate sees of those below it."""
+    below, own = crate.below(), "\n".join(text for _, text in texts(crate.folder, OWN))
+    outsides = {it.name: seen.outside_of(tuple(texts(it.folder, ("src",)))) for it in below}
+    sources = seen.sources_seen("\n".join(text for _, text in texts(crate.folder, ("src",))), seen.words_of(own), outsides)
+    files = [(of, *it) for of in sorted(sources) for it in sources[of]]
+    specs = {(it.name, module_of(name)): text for it in below for name, text in texts(it.folder, ("specs",))}
+    found = seen.definitions_seen(specs, seen.cited(crate.name, own).union(*(seen.cited(of, text) for of, _, text in files)))
+    types = seen.types_seen(outsides, [*found.values(), *(text for _, _, text in files)])
+    return digest_of([*(it for part in files + types for it in part), *(it for of in sorted(found) for it in (*of, found[of]))])
+
+
+def module_of(name):
+    """The module that a file of specs/ is."""
+    return ".".join(pathlib.PurePath(name).with_suffix("").parts[1:])
 
 
 def is_of_function(name):
@@ -118,12 +136,12 @@ def sources_of(crate):
 def ground_of(crate, toolchain):
     """The digest of what the edits of a crate stand on, but for their own texts."""
     own = [it for pair in texts(crate.folder, OWN) for it in pair]
-    return digest_of([toolchain, *own, *(contracts_of(it) for it in crate.below())])
+    return digest_of([toolchain, *own, seen_below(crate)])
 
 
 def ground_of_functions(crate, toolchain):
     """The digest of what each edit of a crate stands on, but for the functions that it changes and its own text."""
-    return digest_of([toolchain, contracts_of(crate, OWN), *(contracts_of(it) for it in crate.below())])
+    return digest_of([toolchain, contracts_of(crate), seen_below(crate)])
 
 
 def functions_of(crate, path, proofs):

@@ -12,8 +12,29 @@ import known
 from known import BEFORE, CHANGED, KNOWN
 
 SOURCE = """\
+ghost use Rattle.low.specs.Words.{IsWord};
+
+use low::next as below;
+
 #[cfg(test)]
 mod tests;
+
+/// A number.
+pub struct Number {
+    value: u32,
+}
+
+impl Model for Number {
+    ghost Value = { ℕ };
+
+    ghost view = { λ n. n.value };
+}
+
+fn kept(n: u32) -> u32
+    ensures value { result ≡ n }
+{
+    n
+}
 
 pub fn next(n: u32) -> u32
     ensures value { result ≡ n + 1 }
@@ -22,11 +43,12 @@ pub fn next(n: u32) -> u32
 }
 
 pub fn last(n: u32) -> u32
-    ensures value { result ≤ n }
+    ensures value { IsWord result n }
 {
-    n
+    below(n)
 }
 """
+WORDS = "use Rattle.low.specs.Letters.{IsLetter}\n"
 EDIT = "file: src/lib.rt\nold:     n + 1\nnew:     n\n"
 
 
@@ -35,9 +57,10 @@ class Crate:
 
     def __init__(self, top, name, *below):
         self.name, self.folder, self.deps = name, f"{top}/{name}", below
-        for part in ("src", "must-fail"):
+        for part in ("src", "specs", "must-fail"):
             pathlib.Path(self.folder, part).mkdir(parents=True)
         self.write("src/lib.rt", SOURCE)
+        self.write("specs/Words.antt", WORDS)
         self.write("must-fail/it_is_the_same.edit", EDIT)
 
     def below(self):
@@ -92,11 +115,17 @@ class Trial:
         for what, path, text, kinds, is_kept in (
             ("a comment changes nothing", "src/lib.rt", "// Why.\n" + SOURCE, [KNOWN] * 3, True),
             ("a body changes its own edits, and what runs it", "src/lib.rt", SOURCE.replace("    n + 1\n}", "    let _ = n;\n    n + 1\n}"), [CHANGED, KNOWN, KNOWN], False),
-            ("another body changes what runs it alone", "src/lib.rt", SOURCE.replace("    n\n}", "    n / 1\n}"), [KNOWN] * 3, False),
-            ("a contract changes the crates above too", "src/lib.rt", SOURCE.replace("result ≡", "result ≥"), [CHANGED] * 3, False),
-            ("another contract does so", "src/lib.rt", SOURCE.replace("result ≤", "result ≡"), [CHANGED] * 3, False),
-            ("a definition does so", "specs/Words.antt", "word", [CHANGED] * 3, False),
-            ("and one in a file named as a proof's", "specs/Answers.antt", "word", [CHANGED] * 3, False),
+            ("another body changes what runs it alone", "src/lib.rt", SOURCE.replace("below(n)", "below(n / 1)"), [KNOWN] * 3, False),
+            ("a contract changes the crates above too", "src/lib.rt", SOURCE.replace("result ≡ n + 1", "result ≥ n"), [CHANGED] * 3, False),
+            ("another contract does so", "src/lib.rt", SOURCE.replace("IsWord result n", "IsWord n result"), [CHANGED] * 3, False),
+            ("a private function's contract changes its crate alone", "src/lib.rt", SOURCE.replace("result ≡ n }", "result ≥ n }"), [CHANGED, KNOWN, KNOWN], False),
+            ("so does what a modelled type is made of", "src/lib.rt", SOURCE.replace("value: u32", "value: u64"), [CHANGED, KNOWN, KNOWN], False),
+            ("and how it is seen as a value", "src/lib.rt", SOURCE.replace("λ n. n.value", "λ n. n.value + 0"), [CHANGED, KNOWN, KNOWN], False),
+            ("as which it is seen changes the crates above", "src/lib.rt", SOURCE.replace("Value = { ℕ }", "Value = { Int }"), [CHANGED] * 3, False),
+            ("a definition that a contract cites does so", "specs/Words.antt", "word\n" + WORDS, [CHANGED] * 3, False),
+            ("one that such a definition cites does so", "specs/Letters.antt", "letter", [CHANGED] * 3, False),
+            ("one that nothing outside cites changes its crate alone", "specs/Inside.antt", "word", [CHANGED, KNOWN, KNOWN], True),
+            ("and one in a file named as a proof's", "specs/Answers.antt", "word", [CHANGED, KNOWN, KNOWN], True),
             ("a lemma changes its crate alone", "proofs/Steps.antt", "step", [CHANGED, KNOWN, KNOWN], True),
             ("a function's proof changes its own edits", "proofs/next/Answers.antt", "step", [CHANGED, KNOWN, KNOWN], True),
             ("a loop's proof does so", "proofs/+next/Invariants.antt", "step", [CHANGED, KNOWN, KNOWN], True),
@@ -105,7 +134,8 @@ class Trial:
             ("nor does what is below it", "src/tests/tables.rt", "fn table() {}\n", [KNOWN] * 3, True),
             ("nor does its proof", "proofs/tests/Steps.antt", "step", [KNOWN] * 3, True),
             ("nor that there are tests", "src/lib.rt", SOURCE.replace("#[cfg(test)]\nmod tests;\n", ""), [KNOWN] * 3, True),
-            ("another module does", "src/texts.rt", "pub struct Text;\n", [CHANGED] * 3, False),
+            ("another public type changes the crates above", "src/texts.rt", "pub struct Text;\n", [CHANGED] * 3, False),
+            ("a private type changes its crate alone", "src/texts.rt", "struct Text;\n", [CHANGED, KNOWN, KNOWN], False),
             ("an edit changes itself alone", "must-fail/it_is_the_same.edit", EDIT + "\n", [CHANGED, KNOWN, KNOWN], True),
         ):
             file = pathlib.Path(self.low.folder, path)

@@ -6,6 +6,7 @@ pub mod Forgetting
 pub mod Headline
 pub mod Hiding
 pub mod Kept
+pub mod Keeps
 pub mod Left
 pub mod Lists
 pub mod Naming

@@ -1,9 +1,9 @@
 -- Names tell incarnations apart as tombstones' attributes do.
-use Rattle.std.proofs.Common.{◌≡◌, ℕ, ℤ, pos, ◌<◌, Bool, true, false, not, List, [], ◌∷◌, length, get_or, inl, inr, refl, sym, ap, ◌∙◌, Err, arith, codes}
+use Rattle.std.proofs.Common.{◌≡◌, ℕ, ℤ, pos, ◌<◌, Bool, true, false, not, ◌||◌, List, [], ◌∷◌, ◌++◌, length, get_or, inl, inr, refl, sym, ap, ◌∙◌, Err, arith, codes}
 use mathlib.Core.Bool.{true≢false}
 use Rattle.std.proofs.lemmas.Bool.{cases_lt}
 use Rattle.std.proofs.lemmas.List.Elements.{All-from_get_or}
-use Rattle.std.proofs.lemmas.List.Folds.{list_any_at, list_any_none}
+use Rattle.std.proofs.lemmas.List.Folds.{list_any-append, list_any_at, list_any_none}
 use Rattle.std.proofs.lemmas.List.Sorted.{searchable_from_sorted}
 use Rattle.std.specs.Cmp.{IsTotalOrder, tied_itself}
 use Rattle.std.specs.FinMap.{IsAntisymmetric}
@@ -56,6 +56,34 @@ name_tells w s n e = ap (is_name w s) e ∙ set_itself (incarnation_attrs w s)
 -- the one that a search found
 pub name_found : (ns : List Name) (w : WriterId) (s : ℕ) (q : Name) (i : ℕ) (d : Name) → q ≡ name_of w s → i < length ns → name_cmp (get_or ns i d) q ≡ Equal → has_name ns w s ≡ true
 name_found ns w s q i d is h e = list_any_at (is_name w s) ns i d h (name_tells w s (get_or ns i d) (name_exact _ _ e ∙ is))
+
+-- a name that is there adds nothing
+pub known_name : (ns fresh : List Name) (w : WriterId) (s : ℕ) (n : Name) (i : ℕ) → i < length ns → name_cmp (get_or ns i n) n ≡ Equal → (has_name ns w s || has_name fresh w s) ≡ ((has_name ns w s || has_name fresh w s) || is_name w s n)
+known_name ns fresh w s n i h e = go (is_name w s n) refl
+  where
+    either : (b : Bool) → b ≡ (b || false)
+    either true = refl
+    either false = refl
+
+    both : (a b : Bool) → a ≡ true → (a || b) ≡ ((a || b) || true)
+    both true b e = refl
+    both false b e = absurd (true≢false (sym e))
+
+    go : (b : Bool) → is_name w s n ≡ b → (has_name ns w s || has_name fresh w s) ≡ ((has_name ns w s || has_name fresh w s) || is_name w s n)
+    go true t = both (has_name ns w s) (has_name fresh w s) (list_any_at (is_name w s) ns i n h (ap (is_name w s) (name_exact _ _ e) ∙ t)) ∙ ap (λ b. (has_name ns w s || has_name fresh w s) || b) (sym t)
+    go false t = either _ ∙ ap (λ b. (has_name ns w s || has_name fresh w s) || b) (sym t)
+
+pub one_more_name : (ns fresh new : List Name) (w : WriterId) (s : ℕ) (n : Name) → new ≡ fresh ++ n ∷ [] → (has_name ns w s || has_name new w s) ≡ ((has_name ns w s || has_name fresh w s) || is_name w s n)
+one_more_name ns fresh new w s n e =
+    ap (λ (l : List Name). has_name ns w s || has_name l w s) e
+    ∙ ap (λ b. has_name ns w s || b) (list_any-append (is_name w s) fresh (n ∷ []))
+    ∙ go (has_name ns w s) (has_name fresh w s) (is_name w s n)
+  where
+    go : (a b t : Bool) → (a || (b || (t || false))) ≡ ((a || b) || t)
+    go true b t = refl
+    go false true t = refl
+    go false false true = refl
+    go false false false = refl
 
 untied : (r : Ordering) → (r ≡ Less) → r ≡ Equal → ⊥
 untied r l e = less_equal (sym l ∙ e)

@@ -26,8 +26,9 @@ use Rattle.point_kit.proofs.StateLaws.{get-join_maps}
 use Rattle.schedule_kit.proofs.Members.{map-In}
 use Rattle.archive_kit.specs.Keeping.{is_held, is_name, is_named, is_of_any, has_name, kept_points, tells, Tell, IsKeeping, AreInOrder}
 use Rattle.archive_kit.specs.Showing.{hides, shown}
+use Rattle.archive_kit.specs.Stepping.{AreHidden, is_gone}
 use Rattle.archive_kit.specs.Tombstones.{tombstones, incarnation_attrs, is_tombstone, names_key, set_eq, stream_eq}
-use Rattle.archive_kit.specs.declared.joining.Gone.{Gone}
+use Rattle.archive_kit.specs.declared.dropping.Gone.{Gone}
 use Rattle.archive_kit.specs.declared.name.Name.{Name}
 use Rattle.archive_kit.proofs.Left.{in_keys, left_same}
 use Rattle.archive_kit.proofs.Lists.{same_bool, member_any, not_true}
@@ -68,7 +69,7 @@ or_true : (a b : Bool) → b ≡ true → (a || b) ≡ true
 or_true true b e = refl
 or_true false b e = e
 
-no_cell : (c : Cell Payload) → Some c ≡ None → ⊥
+pub no_cell : (c : Cell Payload) → Some c ≡ None → ⊥
 no_cell c e = true≢false (ap (λ (o : Option (Cell Payload)). is_some o) e)
 
 -- a tombstone of a join is one of either
@@ -167,6 +168,9 @@ module _ (old coming : Points) (names : List Name) (gone : List Gone) (fresh : B
   pub settled : retain_keys (join_points old coming) (λ k. not (not (is_tombstone k) && is_of_any gone k)) ≡ kept_points old coming
   settled = left_same (join_points old coming) _ _ (λ q c e. ap not (goes q c e (is_tombstone q) refl ∙ sym (hides_is (join_points old coming) q)))
 
+  pub settled_hidden : AreHidden (is_gone gone) (join_points old coming)
+  settled_hidden q c e t = hides_is (join_points old coming) q ∙ sym (goes q c e (is_tombstone q) refl) ∙ t
+
 -- ---- a keeper's fields
 
 pub keeps_shown : (stream : Stream) (names : List Name) (m new : Points) → stream ≡ tombstones → AreInOrder names → Tell names m → new ≡ shown names_key m → IsKeeping stream names new
@@ -204,7 +208,7 @@ pub both_told : (names coming all : List Name) (m n : Points) → Tell names m �
     → ((w : WriterId) (s : ℕ) → has_name all w s ≡ (has_name names w s || has_name coming w s)) → Tell all (join_points m n)
 both_told names coming all m n a b is w s = is w s ∙ (λ i. a w s i || b w s i) ∙ sym (named_joined m n w s)
 
-or_false : (a : Bool) → a ≡ (a || false)
+pub or_false : (a : Bool) → a ≡ (a || false)
 or_false true = refl
 or_false false = refl
 

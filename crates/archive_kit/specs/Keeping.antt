@@ -1,22 +1,20 @@
 -- What a keeper holds and answers: a gateway's points that are always what is shown, and the names that held tombstones tell.
-use Rattle.std.specs.Prelude.{◌≡◌, ℕ, pos, Bool, true, false, ◌&&◌, ◌==◌, if◌then◌else◌, List, [], ◌∷◌, Option, Some, None, codes}
+use Rattle.std.specs.Prelude.{◌≡◌, ℕ, pos, Bool, true, false, ◌&&◌, ◌==◌, if◌then◌else◌, List, [], ◌∷◌, codes}
 use Rattle.std.specs.List.{list_any}
-use Rattle.std.specs.FinMap.{keys, from_entries}
+use Rattle.std.specs.FinMap.{keys}
 use Rattle.std.specs.List.Sorted.{IsSorted}
 use Rattle.attr_kit.specs.declared.attr_set.AttrSet.{AttrSet}
 use Rattle.attr_kit.specs.declared.attr_value.AttrValue.TheVariants as values
 use Rattle.gateway_kit.specs.Listing.{held_incarnations}
 use Rattle.gateway_kit.specs.Queries.{is_of_incarnation}
 use Rattle.point_kit.specs.Exports.{Points, join_points}
-use Rattle.point_kit.specs.declared.cell.Cell.{Cell}
 use Rattle.point_kit.specs.declared.key.Key.{Key}
-use Rattle.point_kit.specs.declared.payload.Payload.{Payload}
 use Rattle.point_kit.specs.declared.stream.Stream.{Stream}
 use Rattle.point_kit.specs.declared.writer_id.WriterId.{WriterId}
 use Rattle.archive_kit.specs.Showing.{shown}
 use Rattle.archive_kit.specs.Tombstones.{tombstones, incarnation_attrs, is_tombstone, names_key, set_eq}
 use Rattle.archive_kit.specs.contracts.name.NameOrd.TheImpl as orders
-use Rattle.archive_kit.specs.declared.joining.Gone.{Gone}
+use Rattle.archive_kit.specs.declared.dropping.Gone.{Gone}
 use Rattle.archive_kit.specs.declared.name.Name.{Name}
 use Rattle.archive_kit.specs.declared.taking.Taking.{Taking}
 use Rattle.archive_kit.specs.declared.taking.Taking.TheVariants.{Taken, Stale, Late}
@@ -64,11 +62,6 @@ is_held points key = list_any (λ h. is_of_incarnation h.writer h.start key) (he
 -- of one of these incarnations
 abbrev pub is_of_any : List Gone → Key → Bool
 is_of_any gone key = list_any (λ g. is_of_incarnation g.writer g.start key) gone
-
--- points with what is held under a key
-abbrev pub with_found : Points → Key → Option (Cell Payload) → Points
-with_found points key None = points
-with_found points key (Some cell) = join_points points (from_entries ((key, cell) ∷ []))
 
 -- a keeper's fields
 pub record IsKeeping (stream : Stream) (names : List Name) (points : Points) : Type 0 where

@@ -6,6 +6,8 @@ pub mod Driving
 pub mod Keeping
 pub mod Named
 pub mod Showing
+pub mod Stepping
+pub mod Readiness
 pub mod Stories
 pub mod Telling
 pub mod Tombstones

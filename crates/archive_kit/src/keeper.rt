@@ -1,5 +1,5 @@
-//! A gateway that shows no point that a tombstone names.
-ghost use Rattle.std.specs.Prelude.{◌≡◌, ◌||◌, ◌&&◌, false, IfOk, OnOk, OnErr, ℕ, [], ◌∷◌};
+//! A node that shows no point that a tombstone names.
+ghost use Rattle.std.specs.Prelude.{◌≡◌, ◌≢◌, ◌||◌, ◌&&◌, false, IfErr, IfOk, OnOk, OnErr, Some, None, ℕ, [], ◌∷◌};
 ghost use Rattle.std.specs.FinMap as finite;
 ghost use Rattle.gateway_kit.specs.Listing.{held_of_ref};
 ghost use Rattle.gateway_kit.specs.Queries.{is_of_incarnation};
@@ -9,23 +9,28 @@ ghost use Rattle.point_kit.specs.declared.key.Key.{Key};
 ghost use Rattle.point_kit.specs.declared.writer_id.WriterId.{WriterId};
 ghost use Rattle.archive_kit.specs.Keeping.{is_held, is_named, is_of_any, has_name, kept_points, taking, tells, AreInOrder, Tell};
 ghost use Rattle.archive_kit.specs.Showing.{shown};
-ghost use Rattle.archive_kit.specs.Tombstones.{names_key, tombstones};
+ghost use Rattle.archive_kit.specs.Readiness.{IsReady, items_of, names_then};
+ghost use Rattle.archive_kit.specs.Stepping.{Drops, JoinsAndDrops, is_gone};
+ghost use Rattle.gossip_kit.specs.Gossip.{acked_after, answer_of, first_node, hand_fault};
+ghost use Rattle.archive_kit.specs.Tombstones.{names_key, stream_eq, tombstones};
+ghost use Rattle.std.specs.List.{list_any};
 
 use crate::Taking;
-use crate::joining::{Gone, join_but};
-use crate::name::{Name, has_name, names_with, told_name};
+use crate::dropping::{Gone, Ready, forget_all};
+use crate::name::{Name, has_name, names_new, names_with, told_name};
 use crate::tombstone::tombstones;
 use attr_kit::NoMemory;
 use gateway_kit::{Gateway, IncarnationRef, PointRef};
+use gossip_kit::{Body, HandFault, Message, Node};
 use point_kit::{Export, SharedStream};
 use std::alloc::Global;
 use std::marker::Model;
 
-/// A gateway whose points are always what is shown of all that came to it: it skips what a tombstone names, and forgets it once
-/// such a tombstone comes. So it gives back the memory of incarnations that an archive adopted.
+/// A node whose points are always what is shown of all that came to it: it skips what a tombstone names, and forgets it once such
+/// a tombstone comes. So it gives back the memory of incarnations that an archive adopted. It gossips as any node does.
 #[derive(Debug, Drop)]
 pub struct Keeper {
-    gateway: Gateway,
+    node: Node,
     /// What its tombstones name, in order.
     names: Vec<Name>,
     stream: SharedStream,
@@ -34,16 +39,16 @@ pub struct Keeper {
 impl Model for Keeper {
     ghost use Rattle.std.specs.Coded.{codes};
     ghost use Rattle.std.specs.FinMap.{code};
-    ghost use Rattle.gateway_kit.specs.GatewayState.{GatewayState};
+    ghost use Rattle.gossip_kit.specs.Views.{NodeModel};
     ghost use Rattle.archive_kit.specs.Keeping.{IsKeeping};
 
-    ghost Value = { GatewayState };
+    ghost Value = { NodeModel };
 
     ghost coded = { Prim.hlevel (codes, code) };
 
-    ghost view = { λ k. k.gateway };
+    ghost view = { λ k. k.node };
 
-    ghost invariant = { λ k. IsKeeping k.stream k.names.items k.gateway.points };
+    ghost invariant = { λ k. IsKeeping k.stream k.names.items k.node.gateway.points };
 }
 
 // Adds the name that a point tells, where it is a tombstone.
@@ -141,28 +146,57 @@ fn named_held(
     Ok(gone)
 }
 
-// Joins what another gateway holds, and forgets what is named then. Where no new names come, only what the other holds can be.
-fn join_shown(
-    gateway: &mut Gateway,
+// What is to be done as what another gateway holds comes in. Where no new names come, only what the other holds can be named.
+fn ready(
     alloc: Global,
+    gateway: &Gateway,
+    names: &Vec<Name>,
     other: &Gateway,
-    names: &[Name],
     stream: &SharedStream,
-    fresh: bool,
-) -> Result<u64, NoMemory>
+) -> Result<Ready, NoMemory>
     requires stream { stream.now ≡ tombstones }
-    requires in_order { AreInOrder names.now }
-    requires told { Tell names.now (join_points gateway.old.points other.now.points) }
-    requires all_shown { shown names_key gateway.old.points ≡ gateway.old.points }
-    requires known { fresh ≡ false → Tell names.now gateway.old.points }
-    ensures id { gateway.new.id ≡ gateway.old.id }
-    ensures ok { OnOk result (gateway.new.points ≡ kept_points gateway.old.points other.now.points) }
-    ensures value { IfOk result (λ n. n ≡ changed_points gateway.old.points (join_points gateway.old.points other.now.points)) }
-    ensures unchanged { OnErr result (gateway.new ≡ gateway.old) }
+    requires in_order { AreInOrder names.now.items }
+    requires told { Tell names.now.items gateway.now.points }
+    requires all_shown { shown names_key gateway.now.points ≡ gateway.now.points }
+    ensures { IfOk result (λ r. IsReady names.now.items gateway.now.points other.now.points r) }
 {
-    let gone = named_held(alloc, gateway, other, names, fresh)?;
-    let changed = join_but(gateway, other, gone.as_slice(), stream, alloc)?;
-    Ok(changed)
+    let told = names_in(alloc, other, stream)?;
+    let coming = names_new(alloc, names.as_slice(), told)?;
+    if coming.as_slice().is_empty() {
+        let gone = named_held(alloc, gateway, other, names.as_slice(), false)?;
+        return Ok(Ready { names: None, gone });
+    }
+    let all = names_with(names, coming)?;
+    let gone = named_held(alloc, gateway, other, all.as_slice(), true)?;
+    Ok(Ready {
+        names: Some(all),
+        gone,
+    })
+}
+
+// Forgets what is to be forgotten, and takes the names over. Takes no memory.
+fn settle(node: &mut Node, names: &mut Vec<Name>, ready: Ready, stream: &SharedStream)
+    requires { stream.now ≡ tombstones }
+    ensures drops { Drops (is_gone ready.gone.items) node.old node.new }
+    ensures names { names.new.items ≡ names_then names.old.items (items_of ready.names) }
+{
+    let Ready { names: all, gone } = ready;
+    forget_all(node, gone.as_slice(), stream);
+    if let Some(all) = all {
+        *names = all;
+    }
+}
+
+// The cells that a message carries: those of the empty gateway where it is an Ack.
+fn carried<'a>(message: &'a Message, none: &'a Gateway) -> &'a Gateway
+    requires { none.now.points ≡ finite.empty }
+    ensures { result.now.points ≡ message.now.points }
+{
+    match message.body() {
+        Body::Whole(points) => points,
+        Body::Delta { cells, .. } => cells,
+        Body::Ack(_) => none,
+    }
 }
 
 // What is answered to an export.
@@ -178,14 +212,29 @@ fn taking_of(late: bool, changed: u64) -> Taking
     }
 }
 
+// Whether an export brings a tombstone.
+fn brings_tombstone(export: &Export, stream: &SharedStream) -> bool
+    ensures { result ≡ list_any (λ p. stream_eq stream.now p.stream) export.now.points }
+{
+    export.points().iter().any(|point| *stream == point.stream)
+}
+
+// The points of an export alone.
+fn points_of(alloc: Global, export: &Export) -> Result<Gateway, NoMemory>
+    ensures { IfOk result (λ gateway. gateway.points ≡ state (export.now ∷ [])) }
+{
+    let mut gateway = Gateway::new(alloc, 0);
+    gateway.take(export)?;
+    Ok(gateway)
+}
+
 impl Keeper {
     /// A keeper without points. Its gateway has this id.
     pub fn new(alloc: Global, id: u32) -> Result<Keeper, NoMemory>
-        ensures id { IfOk result (λ keeper. keeper.id ≡ id) }
-        ensures value { IfOk result (λ keeper. keeper.points ≡ finite.empty) }
+        ensures value { IfOk result (λ keeper. keeper ≡ first_node (record { id = id; points = finite.empty; numbers = finite.empty })) }
     {
         Ok(Keeper {
-            gateway: Gateway::new(alloc, id),
+            node: Node::new(alloc, Gateway::new(alloc, id)),
             names: Vec::new(alloc),
             stream: tombstones(alloc)?,
         })
@@ -193,56 +242,75 @@ impl Keeper {
 
     /// Its gateway, to ask and to copy: O(1). Takes no memory.
     pub fn gateway(&self) -> &Gateway
-        ensures value { result.now ≡ self.now }
-        ensures all_shown { shown names_key self.now.points ≡ self.now.points }
+        ensures value { result.now ≡ self.now.gateway }
+        ensures all_shown { shown names_key self.now.gateway.points ≡ self.now.gateway.points }
     {
-        &self.gateway
+        self.node.gateway()
     }
 
-    /// Joins what another gateway holds, as the cells of a mail or a whole one, and forgets what a tombstone then names, but for
-    /// tombstones. Answers how many keys the join changed.
+    /// The node that it is, to `send` from: O(1). Takes no memory.
+    pub fn node(&self) -> &Node
+        ensures value { result.now ≡ self.now }
+    {
+        &self.node
+    }
+
+    /// Joins what another gateway holds, and forgets what a tombstone then names, but for tombstones. Answers how many keys the join
+    /// changed.
     ///
-    /// It costs what `Gateway::merge` does, a walk over the other's points, and a look-up of each of its incarnations, O(log t) of t
+    /// It costs what `Node::merge` does, a walk over the other's points, and a look-up of each of its incarnations, O(log t) of t
     /// names. Where it brings tombstones, the names are copied and sorted anew, O(t log t), and the incarnations held here are
-    /// looked up too. What is named costs `Gateway::forget`; where it has tombstones itself, a copy of this gateway. Refused with
-    /// `NoMemory`, with nothing changed.
+    /// looked up too. What is named costs `Node::forget_but`. Refused with `NoMemory`, with nothing changed.
     pub fn merge(&mut self, other: &Gateway) -> Result<u64, NoMemory>
-        ensures id { self.new.id ≡ self.old.id }
-        ensures ok { OnOk result (self.new.points ≡ kept_points self.old.points other.now.points) }
-        ensures value { IfOk result (λ n. n ≡ changed_points self.old.points (join_points self.old.points other.now.points)) }
+        ensures id { self.new.gateway.id ≡ self.old.gateway.id }
+        ensures ok { OnOk result (self.new.gateway.points ≡ kept_points self.old.gateway.points other.now.points) }
+        ensures value { IfOk result (λ n. n ≡ changed_points self.old.gateway.points
+            (join_points self.old.gateway.points other.now.points)) }
+        ensures steps { OnOk result (JoinsAndDrops other.now.points self.old.acked self.old self.new) }
         ensures unchanged { OnErr result (self.new ≡ self.old) }
     {
         let alloc = *self.names.allocator();
-        let coming = names_in(alloc, other, &self.stream)?;
-        let came = coming.as_slice();
-        if came.is_empty() {
-            let changed = join_shown(
-                &mut self.gateway,
-                alloc,
-                other,
-                self.names.as_slice(),
-                &self.stream,
-                false,
-            )?;
-            return Ok(changed);
-        }
-        let names = names_with(&self.names, coming)?;
-        let changed = join_shown(
-            &mut self.gateway,
-            alloc,
-            other,
-            names.as_slice(),
-            &self.stream,
-            true,
-        )?;
-        self.names = names;
+        let ready = ready(alloc, self.node.gateway(), &self.names, other, &self.stream)?;
+        let changed = self.node.merge(other)?;
+        settle(&mut self.node, &mut self.names, ready, &self.stream);
         Ok(changed)
     }
 
-    // Whether a tombstone that is held names an export's incarnation, and what it brings.
-    fn received(&self, export: &Export) -> Result<(bool, Gateway), NoMemory>
-        ensures late { IfOk result (λ r. r.0 ≡ is_named self.now.points export.now.writer export.now.start) }
-        ensures points { IfOk result (λ r. r.1.points ≡ state (export.now ∷ [])) }
+    /// Takes a message in as `Node::hand` does, and forgets what a tombstone then names, but for tombstones. The answer is the
+    /// node's, an Ack of a delta.
+    ///
+    /// It costs what `Node::hand` does, and of its cells what `merge` costs beside the join. Refused as there, with nothing changed.
+    #[tactic(auto, unfolding(gossip_kit::specs::Gossip::hand_fault))]
+    pub fn hand(&mut self, message: &Message) -> Result<Option<Message>, HandFault>
+        ensures id { self.new.gateway.id ≡ self.old.gateway.id }
+        ensures ok { OnOk result (hand_fault self.old message.now ≡ None) }
+        ensures value { OnOk result (self.new.gateway.points ≡ kept_points self.old.gateway.points message.now.points) }
+        ensures answer { IfOk result (λ answer. answer ≡ answer_of self.old message.now) }
+        ensures steps { OnOk result (JoinsAndDrops message.now.points (acked_after self.old message.now) self.old self.new) }
+        ensures err { IfErr result (λ fault. fault ≢ HandFault.NoMemory → hand_fault self.old message.now ≡ Some fault) }
+        ensures no_memory { IfErr result (λ fault. fault ≡ HandFault.NoMemory → hand_fault self.old message.now ≡ None) }
+        ensures unchanged { OnErr result (self.new ≡ self.old) }
+    {
+        if message.to() != self.node.gateway().id() {
+            return Err(HandFault::NotAddressed);
+        }
+        let alloc = *self.names.allocator();
+        let none = Gateway::new(alloc, 0);
+        let ready = ready(
+            alloc,
+            self.node.gateway(),
+            &self.names,
+            carried(message, &none),
+            &self.stream,
+        )?;
+        let answer = self.node.hand(message)?;
+        settle(&mut self.node, &mut self.names, ready, &self.stream);
+        Ok(answer)
+    }
+
+    // Whether a tombstone that is held names an export's incarnation.
+    fn is_late(&self, export: &Export) -> Result<bool, NoMemory>
+        ensures { IfOk result (λ late. late ≡ is_named self.now.gateway.points export.now.writer export.now.start) }
     {
         let alloc = *self.names.allocator();
         let late = has_name(
@@ -251,24 +319,29 @@ impl Keeper {
             export.writer(),
             export.start(),
         )?;
-        let mut coming = Gateway::new(alloc, 0);
-        coming.take(export)?;
-        Ok((late, coming))
+        Ok(late)
     }
 
     /// Takes an export: joins its points, and forgets what a tombstone then names, but for tombstones. Of an export whose
     /// incarnation is named already at most tombstones stay: the answer is then `Late`.
     ///
-    /// It costs what `merge` of a gateway with these points does. Refused with `NoMemory`, with nothing changed.
+    /// It costs what `Node::take` does and a look-up, O(log t) of t names. Where a tombstone comes, or the export is late, it costs what
+    /// `merge` of a gateway with these points does. Refused with `NoMemory`, with nothing changed.
     pub fn take(&mut self, export: &Export) -> Result<Taking, NoMemory>
-        ensures id { self.new.id ≡ self.old.id }
-        ensures ok { OnOk result (self.new.points ≡ kept_points self.old.points (state (export.now ∷ []))) }
-        ensures value { IfOk result (λ t. t ≡ taking (is_named self.old.points export.now.writer export.now.start)
-            (changed_points self.old.points (join_points self.old.points (state (export.now ∷ []))))) }
+        ensures id { self.new.gateway.id ≡ self.old.gateway.id }
+        ensures ok { OnOk result (self.new.gateway.points ≡ kept_points self.old.gateway.points (state (export.now ∷ []))) }
+        ensures value { IfOk result (λ t. t ≡ taking (is_named self.old.gateway.points export.now.writer export.now.start)
+            (changed_points self.old.gateway.points (join_points self.old.gateway.points (state (export.now ∷ []))))) }
+        ensures steps { OnOk result (JoinsAndDrops (state (export.now ∷ [])) self.old.acked self.old self.new) }
         ensures unchanged { OnErr result (self.new ≡ self.old) }
     {
-        let received = self.received(export)?;
-        let changed = self.merge(&received.1)?;
-        Ok(taking_of(received.0, changed))
+        let late = self.is_late(export)?;
+        if !late && !brings_tombstone(export, &self.stream) {
+            let changed = self.node.take(export)?;
+            return Ok(taking_of(false, changed));
+        }
+        let alloc = *self.names.allocator();
+        let changed = self.merge(&points_of(alloc, export)?)?;
+        Ok(taking_of(late, changed))
     }
 }

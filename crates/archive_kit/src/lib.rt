@@ -23,10 +23,10 @@
 mod adding;
 mod adopt_fault;
 mod archive;
+mod dropping;
 mod early;
 mod export_refusal;
 mod held;
-mod joining;
 mod keeper;
 mod laws;
 mod name;

@@ -1,9 +1,9 @@
 //! Incarnations as tombstones tell them.
-ghost use Rattle.std.specs.Prelude.{◌≡◌, ◌≢◌, ◌||◌, ◌++◌, ◌∷◌, [], IfOk, IfSome, IfNone, ℕ, pos, codes};
+ghost use Rattle.std.specs.Prelude.{◌≡◌, ◌≢◌, ◌||◌, ◌++◌, ◌∷◌, [], IfOk, OnOk, IfSome, IfNone, ℕ, pos, codes};
 ghost use Rattle.attr_kit.specs.Putting.{value_of};
 ghost use Rattle.attr_kit.specs.declared.attr_value.AttrValue.TheVariants as values;
 ghost use Rattle.point_kit.specs.declared.writer_id.WriterId.{WriterId};
-ghost use Rattle.archive_kit.specs.Keeping.{has_name, AreInOrder};
+ghost use Rattle.archive_kit.specs.Keeping.{has_name, is_name, AreInOrder};
 ghost use Rattle.archive_kit.specs.Named.{name_of, names_incarnation, text_in, whole_in};
 ghost use Rattle.archive_kit.specs.Tombstones.{incarnation_attrs, set_eq};
 
@@ -122,6 +122,36 @@ pub(crate) fn has_name(
         Ok(_) => Ok(true),
         Err(_) => Ok(false),
     }
+}
+
+// Puts a name behind others where it is not among names, which are in their order.
+fn keep_new(fresh: &mut Vec<Name>, names: &[Name], name: Name) -> Result<(), NoMemory>
+    ensures { OnOk result ((writer : WriterId) (start : ℕ) → (has_name names.now writer start || has_name fresh.new.items writer start)
+        ≡ ((has_name names.now writer start || has_name fresh.old.items writer start) || is_name writer start name)) }
+{
+    match names.binary_search(&name) {
+        Ok(_) => Ok(()),
+        Err(_) => {
+            fresh.push(name)?;
+            Ok(())
+        }
+    }
+}
+
+/// Those of some names that are not among others, which are in their order.
+pub(crate) fn names_new(
+    alloc: Global,
+    names: &[Name],
+    others: Vec<Name>,
+) -> Result<Vec<Name>, NoMemory>
+    ensures { IfOk result (λ fresh. (writer : WriterId) (start : ℕ) → (has_name names.now writer start || has_name fresh.items writer start)
+        ≡ (has_name names.now writer start || has_name others.items writer start)) }
+{
+    let mut fresh = Vec::new(alloc);
+    for name in others {
+        keep_new(&mut fresh, names, name)?;
+    }
+    Ok(fresh)
 }
 
 // Names with others behind them.

@@ -13,7 +13,9 @@ use Rattle.archive_world_kit.proofs.Gossip.{books_after, sent_brings}
 use Rattle.archive_world_kit.proofs.Numbers.{delta_is, drops, numbered_held, renumbers}
 use Rattle.archive_world_kit.proofs.Shown.{S, below_same, congruent, plain_below}
 use Rattle.archive_world_kit.proofs.Standing.{At, Has, Claimed, Joined, MailStands, MailsGo, NodeMoves, Stands, claim_moves, each_node, goes_on, grows_by, id_of, node_stays, shows_by}
-use Rattle.archive_world_kit.specs.Steps.{Step, Writing, Seen, deeds, rounding, Joins, Takes, Hears, Sends, IsBegun, Forgets, AllStay, OthersStay, HaveHappened}
+use Rattle.archive_kit.specs.Stepping.{Joins}
+use Rattle.archive_world_kit.specs.Steps.{Step, Writing, Seen, deeds, rounding, Takes, Hears, Sends, IsBegun, Forgets, AllStay, OthersStay, HaveHappened}
+use Rattle.archive_kit.specs.Stepping.{Joins}
 use Rattle.archive_world_kit.specs.Steps.Step.{Did, Forgot}
 use Rattle.gateway_kit.proofs.Entries.{not_None, same_Some}
 use Rattle.gossip_kit.specs.Gossip.{answer_of, numbered_to}

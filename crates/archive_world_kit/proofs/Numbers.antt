@@ -5,7 +5,7 @@ use Rattle.std.proofs.lemmas.Bool.{ltb-true}
 use Rattle.std.proofs.lemmas.Bool.Decides.{leb_tells}
 use Rattle.std.specs.FinMap.{FinMap, get, same_map, get-retain_keys}
 use Rattle.std.specs.Option.{unwrap_or}
-use Rattle.archive_world_kit.specs.Steps.{Drops}
+use Rattle.archive_kit.specs.Stepping.{Drops}
 use Rattle.gateway_kit.proofs.Entries.{not_None, same_Some}
 use Rattle.gossip_kit.proofs.Carrying.{carried_below}
 use Rattle.gossip_kit.proofs.Sending.{Held, retained, chosen}

@@ -3,6 +3,7 @@ use Rattle.std.specs.Prelude.{◌≡◌, ◌≢◌, ℕ, ◌+◌, ◌<◌, ◌�
 use Rattle.std.specs.FinMap.{FinMap, get, empty, retain_keys}
 use Rattle.std.specs.Ordering.{nat_cmp}
 use Rattle.archive_kit.specs.Showing.{hides}
+use Rattle.archive_kit.specs.Stepping.{AreHidden, Drops, Joins}
 use Rattle.archive_kit.specs.Tombstones.{names_key, stream_eq, set_eq}
 use Rattle.archive_kit.specs.Written.{is_tombstone_name}
 use Rattle.gateway_kit.specs.Keys.{ItemKey, whole_key}
@@ -66,29 +67,10 @@ pub record Seen (N : Type 0) : Type 0 where
 abbrev pub IsBegun : NodeModel → Type 0
 IsBegun node = node ≡ first_node (record { id = node.gateway.id; points = empty; numbers = empty })
 
--- a node took in points, as `take`, `merge` and `hand` do, and has then these books
-pub record Joins (brought : Points) (books : FinMap nat_cmp ℕ) (old new : NodeModel) : Type 0 where
-  pub id : new.gateway.id ≡ old.gateway.id
-  pub points : new.gateway.points ≡ join_points old.gateway.points brought
-  pub numbers : Renumbers old new
-  pub acked : new.acked ≡ books
-
--- or left them out, since it hides all of them
+-- a node left points out, since it hides all of them
 pub record Skips (brought : Points) (old new : NodeModel) : Type 0 where
   pub same : new ≡ old
   pub hidden : (k : Key) (c : Cell Payload) → get brought k ≡ Some c → hides names_key old.gateway.points k ≡ true
-
--- a node dropped keys, as `forget` does
-pub record Drops (gone : Key → Bool) (old new : NodeModel) : Type 0 where
-  pub id : new.gateway.id ≡ old.gateway.id
-  pub points : new.gateway.points ≡ retain_keys old.gateway.points (λ k. not (gone k))
-  pub numbers : new.gateway.numbers ≡ retain_keys old.gateway.numbers (λ k. not (gone k))
-  pub change : new.change ≡ old.change
-  pub acked : new.acked ≡ old.acked
-
--- of what a node holds, it hides all these
-abbrev pub AreHidden : (Key → Bool) → Points → Type 0
-AreHidden gone points = (k : Key) (c : Cell Payload) → get points k ≡ Some c → gone k ≡ true → hides names_key points k ≡ true
 
 -- a mail is what a node makes for the node of an id, as `send` does
 pub record Sends (node : NodeModel) (id : ℕ) (mail : MessageModel) : Type 0 where

@@ -1,6 +1,7 @@
 //! A history at work: the calls of a node are the steps that the laws tell of, and two nodes show the same however they came to it.
 ghost use Rattle.std.specs.Prelude.{◌≡◌, IfOk, OnOk, [], ◌∷◌};
-ghost use Rattle.archive_world_kit.specs.Steps.{Drops, Joins, Sends};
+ghost use Rattle.archive_kit.specs.Stepping.{Drops, Joins};
+ghost use Rattle.archive_world_kit.specs.Steps.{Sends};
 ghost use Rattle.gateway_kit.specs.Queries.{is_of_incarnation};
 ghost use Rattle.gossip_kit.specs.Gossip.{acked_after, answer_of};
 ghost use Rattle.point_kit.specs.Exports.{state};

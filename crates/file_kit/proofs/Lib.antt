@@ -1,3 +1,4 @@
+pub mod Adopting
 pub mod Joining
 pub mod Pieces
 pub mod Reading

@@ -12,15 +12,17 @@ use Rattle.clap.specs.Words.{App, Row, Text, all_of, fault_of, first_of, one_of,
 use Rattle.clap.specs.declared.parser.matches.Found.{Found}
 use Rattle.rollup_kit.specs.declared.ask.Ask.{Ask}
 use Rattle.file_kit.specs.AskWords.{IsAsk}
-use Rattle.file_kit.specs.Commands.{otm, otm_asking, otm_keeping, named_by, Asks, HasFiles, HasNoAsk, HasWords}
+use Rattle.file_kit.specs.ArchiveWords.{IsArchiving}
+use Rattle.file_kit.specs.Commands.{otm, otm_asking, otm_keeping, otm_sending, named_by, Asks, AsksArchive, HasFiles, HasNoArchive, HasNoAsk, HasWords}
+use Rattle.file_kit.specs.declared.archive.Archiving.{Archiving}
 use Rattle.file_kit.specs.declared.command.FileCommand.TheVariants as command
 
 pub otm_is_simple : is_simple otm ≡ true
-unfolding otm otm_asking otm_keeping clap_on_literals
+unfolding otm otm_asking otm_keeping otm_sending clap_on_literals
 otm_is_simple = refl
 
 pub otm_is_free : is_simple_and_free otm ≡ true
-unfolding otm otm_asking otm_keeping clap_on_literals
+unfolding otm otm_asking otm_keeping otm_sending clap_on_literals
 otm_is_free = refl
 
 pub on_ok : {A E : Type 0} (r : Result A E) (P : Type 0) → P → OnOk r P
@@ -81,3 +83,36 @@ module _ (rows : List Row) (ws front : List (Bor Text)) (given : all_of (codes "
   -- they ask for none
   pub no_ask : ((ask : Ask) → IsAsk (map (λ w. w.now) front) ask → ⊥) → HasNoAsk (Some (codes "report", rows))
   no_ask none = (map (λ w. w.now) ws, has_words, λ ask asks. none ask (subst (λ (l : List Text). IsAsk l ask) (sym front_is) asks))
+
+-- the words of an archive, parted
+module _ (rows : List Row) (ws front rest one : List (Bor Text)) (limit : Option Text) (first : front ≡ take 3 ws) (behind : rest ≡ drop 3 ws) (next : one ≡ take 1 rest)
+    (told : limit ≡ first_of (codes "limit") rows) where
+  who_is : texts_of front ≡ take 3 (texts_of ws)
+  who_is = ap texts_of first ∙ sym (take-map (λ (w : Bor Text). w.now) 3 ws)
+
+  when_is : texts_of one ≡ take 1 (drop 3 (texts_of ws))
+  when_is = ap texts_of (next ∙ ap (take 1) behind) ∙ sym (take-map (λ (w : Bor Text). w.now) 1 (drop 3 ws)) ∙ ap (take 1) (sym (drop-map (λ (w : Bor Text). w.now) 3 ws))
+
+  same_asked : (ask : Archiving) → ◌≡◌ {A = Type 0} (IsArchiving (texts_of front) (texts_of one) limit ask) (AsksArchive rows (texts_of ws) ask)
+  same_asked ask =
+      ap (λ (l : List Text). IsArchiving l (texts_of one) limit ask) who_is
+      ∙ ap (λ (l : List Text). IsArchiving (take 3 (texts_of ws)) l limit ask) when_is
+      ∙ ap (λ (o : Option Text). IsArchiving (take 3 (texts_of ws)) (take 1 (drop 3 (texts_of ws))) o ask) told
+
+  pub asks_archive : {E : Type 0} (r : Result Archiving E) → IfOk r (IsArchiving (texts_of front) (texts_of one) limit) → IfOk r (AsksArchive rows (texts_of ws))
+  asks_archive (Ok ask) is = subst (λ X. X) (same_asked ask) is
+  asks_archive (Err e) is = tt
+
+  pub asks_none : ((ask : Archiving) → IsArchiving (texts_of front) (texts_of one) limit ask → ⊥) → (ask : Archiving) → AsksArchive rows (texts_of ws) ask → ⊥
+  asks_none none ask is = none ask (subst (λ X. X) (sym (same_asked ask)) is)
+
+module _ (rows : List Row) (ws : List (Bor Text)) (given : all_of (codes "words") rows ≡ Some (map (λ w. w.now) ws)) where
+  -- they ask, and the others are files
+  pub archive_asks : (into : Text) (ask : Archiving) (back : List (Bor Text)) (files : List Text) → first_of (codes "output") rows ≡ Some into → AsksArchive rows (map (λ w. w.now) ws) ask
+      → back ≡ drop 4 ws → files ≡ map (λ w. w.now) back → Asks (Some (codes "archive", rows)) (command.Archive into ask files)
+  archive_asks into ask back files out asks last are =
+      (rows, map (λ w. w.now) ws, (refl, given), out, asks, are ∙ ap texts_of last ∙ sym (drop-map (λ (w : Bor Text). w.now) 4 ws))
+
+  -- they ask for none
+  pub no_archive : ((ask : Archiving) → AsksArchive rows (map (λ w. w.now) ws) ask → ⊥) → HasNoArchive (Some (codes "archive", rows))
+  no_archive none = (rows, map (λ w. w.now) ws, (refl, given), none)

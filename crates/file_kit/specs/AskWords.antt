@@ -7,9 +7,13 @@ use Rattle.script_kit.specs.declared.line.Line.TheVariants as line
 use Rattle.script_kit.specs.declared.line.Query.TheVariants as query
 use Rattle.script_kit.specs.declared.line.Report.{Report}
 
--- the line of a script that asks the same: `report`, a gateway, and the words
-unfoldable pub ask_line : List (List ℕ) → List ℕ
-ask_line words = codes "report 1" ++ flat_map (λ word. 32 ∷ word) words
+-- a line of a script: what it begins with, and words
+unfoldable pub spoken : List ℕ → List (List ℕ) → List ℕ
+spoken first words = first ++ flat_map (λ word. 32 ∷ word) words
+
+-- the line that asks the same: `report`, a gateway, and the words
+abbrev pub ask_line : List (List ℕ) → List ℕ
+ask_line words = spoken (codes "report 1") words
 
 -- what a report asks
 abbrev pub ask_of : Report → Ask

@@ -1,4 +1,6 @@
 pub mod Answers
+pub mod ArchiveWords
+pub mod Archiving
 pub mod AskWords
 pub mod Commands
 pub mod Contents

@@ -11,6 +11,7 @@ use Rattle.point_kit.specs.declared.export.Export.{Export}
 use Rattle.point_kit.specs.declared.shape.Shape.{Shape}
 use Rattle.point_kit.specs.declared.shape.Shape.TheVariants as shapes
 use Rattle.point_kit.specs.declared.stream.Stream.{Stream}
+use Rattle.point_kit.specs.declared.writer_id.WriterId.{WriterId}
 use Rattle.rollup_kit.specs.Quote.{hex}
 use Rattle.rollup_kit.specs.Rollups.{rollup_rows}
 use Rattle.rollup_kit.specs.Streams.{streams_held}
@@ -70,11 +71,13 @@ streams_text points = flat_map (stream_text points) (streams_held points)
 abbrev pub instance_text : List ℕ → List ℕ
 instance_text instance = hyphenated_text lower instance
 
+-- an incarnation: whose it is, and its start
+unfoldable pub incarnation_text : WriterId → ℕ → List ℕ
+incarnation_text writer start = word_text writer.service ++ (32 ∷ instance_text writer.instance ++ (codes ", start " ++ decimal start))
+
 -- whose an export is, and its times
 unfoldable pub export_line : Export → List ℕ
-export_line e =
-    codes "export of " ++ (word_text e.writer.service ++ (32 ∷ instance_text e.writer.instance
-    ++ (codes ", start " ++ (decimal e.start ++ (codes ", time " ++ (decimal e.time ++ 10 ∷ []))))))
+export_line e = codes "export of " ++ (incarnation_text e.writer e.start ++ (codes ", time " ++ (decimal e.time ++ 10 ∷ [])))
 
 -- from which gateway to which a message goes
 unfoldable pub between : ℕ → ℕ → List ℕ

@@ -1,7 +1,7 @@
 //! The words of a command line that ask for a table.
 ghost use Rattle.std.specs.Prelude.{◌≡◌, ◌++◌, ◌∷◌, map, IfOk, IsErrOf, OnOk, string_bytes};
 ghost use Rattle.rollup_kit.specs.declared.ask.Ask.{Ask};
-ghost use Rattle.file_kit.specs.AskWords.{ask_line, ask_of, IsAsk};
+ghost use Rattle.file_kit.specs.AskWords.{ask_of, spoken, IsAsk};
 
 use crate::CommandFault;
 use attr_kit::NoMemory;
@@ -16,12 +16,12 @@ fn push_word(line: &mut String, word: &str) -> Result<(), AllocError>
     line.push_str(word)
 }
 
-// The line of a script that asks the same.
-#[tactic(auto, unfolding(crate::specs::AskWords::ask_line))]
-fn line_of(alloc: Global, words: &[&str]) -> Result<String, AllocError>
-    ensures { IfOk result (λ line. string_bytes line ≡ ask_line (map (λ w. w.now) words.now)) }
+/// The line of a script that begins so and has these words.
+#[tactic(auto, unfolding(crate::specs::AskWords::spoken))]
+pub(crate) fn line_of(alloc: Global, first: &str, words: &[&str]) -> Result<String, AllocError>
+    ensures { IfOk result (λ line. string_bytes line ≡ spoken first.now (map (λ w. w.now) words.now)) }
 {
-    let mut line = String::from_str(alloc, "report 1")?;
+    let mut line = String::from_str(alloc, first)?;
     for word in words {
         push_word(&mut line, word)?;
     }
@@ -36,8 +36,8 @@ fn ask_of(alloc: Global, report: Report) -> Result<Ask, NoMemory>
     Ask::for_set(alloc, report.stream, report.service, &report.only, keep)
 }
 
-// The refusal of a line, by its sentence.
-fn refusal(alloc: Global, line: &[u8], reason: Reason) -> CommandFault {
+/// The refusal of a line, by its sentence.
+pub(crate) fn refusal(alloc: Global, line: &[u8], reason: Reason) -> CommandFault {
     match explain(alloc, line, reason) {
         Ok(sentence) => CommandFault::BadWords(sentence),
         Err(NoMemory) => CommandFault::NoMemory,
@@ -52,7 +52,7 @@ pub(crate) fn read_ask(alloc: Global, words: &[&str]) -> Result<Ask, CommandFaul
     ensures bad_words { (text : _) → IsErrOf result (CommandFault.BadWords text) → (ask : Ask)
         → IsAsk (map (λ w. w.now) words.now) ask → ⊥ }
 {
-    let line = line_of(alloc, words)?;
+    let line = line_of(alloc, "report 1", words)?;
     match parse_line(alloc, line.as_bytes()) {
         Ok(Line::Ask(Query::Report { report, .. })) => Ok(ask_of(alloc, report)?),
         Ok(_) => Err(CommandFault::NoMemory),

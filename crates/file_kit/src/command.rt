@@ -1,7 +1,7 @@
 //! What a command line may ask of files.
 ghost use Rattle.std.specs.Prelude.{◌≡◌};
 
-use crate::PageFormat;
+use crate::{Archiving, PageFormat};
 use attr_kit::{NoMemory, Seq, Txt};
 use rollup_kit::Ask;
 use std::alloc::AllocError;
@@ -32,6 +32,12 @@ pub enum FileCommand {
     },
     /// The OTLP request of the files' exports.
     Otlp {
+        files: Seq<Txt>,
+    },
+    /// The export of an archive that adopts what the files show, into a file.
+    Archive {
+        into: Txt,
+        ask: Archiving,
         files: Seq<Txt>,
     },
 }

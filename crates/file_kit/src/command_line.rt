@@ -1,11 +1,13 @@
 //! What the words of a command line on files ask for.
 ghost use Rattle.clap.specs.Words.{app_of, fault_of, found_of, rows_of, rule_of, subcommand_rows_of, is_broken, kind_of, first_of};
 ghost use Rattle.clap.specs.declared.builder.command.Command.TheViews.{out-Command};
-ghost use Rattle.std.specs.Prelude.{◌≡◌, [], None, Some, codes, false, true, IfOk, IsErrOf, OnOk, map};
-ghost use Rattle.file_kit.specs.Commands.{otm, otm_keeping, otm_asking, on_files, merge, report, expose, files_rule, words_rule, openmetrics_rule, service_rule, word_at, is_command, is_of_files, named_by, Asks, AsksNothing, GivesFormat, HasFiles, HasNoAsk};
+ghost use Rattle.std.specs.Prelude.{◌≡◌, ◌≤◌, length, [], None, Some, codes, false, true, IfOk, IsErrOf, OnOk, map};
+ghost use Rattle.file_kit.specs.declared.archive.Archiving.{Archiving};
+ghost use Rattle.file_kit.specs.Commands.{otm, otm_keeping, otm_asking, otm_sending, on_files, archive, merge, report, expose, archive_rule, files_rule, limit_rule, output_rule, words_rule, openmetrics_rule, service_rule, word_at, is_command, is_of_files, named_by, Asks, AsksArchive, AsksNothing, GivesFormat, HasFiles, HasNoArchive, HasNoAsk, SaysNothing};
 
+use crate::archive_words::read_archiving;
 use crate::ask_words::read_ask;
-use crate::{CommandFault, FileCommand, PageFormat};
+use crate::{Archiving, CommandFault, FileCommand, PageFormat};
 use attr_kit::{NoMemory, Seq, Txt};
 use clap::error::ErrorKind;
 use clap::{Arg, ArgAction, ArgMatches, Command};
@@ -14,6 +16,11 @@ use std::convert::AsStr;
 
 // How many words an ask has.
 const ASK_WORDS: usize = 7;
+
+// How many words an archive has, and how many of them come before its time.
+const ARCHIVE_WORDS: usize = 4;
+
+const WRITER_WORDS: usize = 3;
 
 // The files that a command is about.
 fn files<'a>(alloc: Global) -> Arg<'a>
@@ -36,21 +43,64 @@ fn on_files<'a>(alloc: Global, name: &'a str, about: &'a str) -> Result<Command<
     Command::new(alloc, name).about(about).arg(files(alloc))
 }
 
+// Where what is made goes.
+fn output<'a>(alloc: Global, help: &'a str) -> Arg<'a>
+    ensures rule { rule_of result ≡ output_rule }
+    ensures own { result.global ≡ false }
+{
+    Arg::new(alloc, "output")
+        .short('o')
+        .long("output")
+        .value_name("FILE")
+        .required(true)
+        .help(help)
+}
+
 fn merge<'a>(alloc: Global) -> Result<Command<'a>, AllocError>
     ensures app { IfOk result (λ c. app_of c ≡ merge) }
     ensures own { IfOk result (λ c. (out-Command c).has_globals ≡ false) }
     ensures whole { IfOk result (λ c. is_broken c ≡ false) }
 {
-    let output = Arg::new(alloc, "output")
-        .short('o')
-        .long("output")
-        .value_name("FILE")
-        .required(true)
-        .help("Where the state goes; - is the standard output");
+    let output = output(alloc, "Where the state goes; - is the standard output");
     Command::new(alloc, "merge")
         .about("Write one state of what files say, joined")
         .arg(output)?
         .arg(files(alloc))
+}
+
+// The words of an archive, and the files.
+fn archive_words<'a>(alloc: Global) -> Arg<'a>
+    ensures rule { rule_of result ≡ archive_rule }
+    ensures own { result.global ≡ false }
+{
+    Arg::new(alloc, "words")
+        .value_names(&["SERVICE", "INSTANCE", "START", "TIME", "FILE"])
+        .num_args(5..)
+        .required(true)
+        .help("The archive's service, UUID, start and time, in nanoseconds, and files")
+}
+
+fn limit<'a>(alloc: Global) -> Arg<'a>
+    ensures rule { rule_of result ≡ limit_rule }
+    ensures own { result.global ≡ false }
+{
+    Arg::new(alloc, "limit")
+        .long("limit")
+        .value_name("N")
+        .help("Refuse where there would be more totals than so many")
+}
+
+fn archive<'a>(alloc: Global) -> Result<Command<'a>, AllocError>
+    ensures app { IfOk result (λ c. app_of c ≡ archive) }
+    ensures own { IfOk result (λ c. (out-Command c).has_globals ≡ false) }
+    ensures whole { IfOk result (λ c. is_broken c ≡ false) }
+{
+    let output = output(alloc, "Where the export goes; - is the standard output");
+    Command::new(alloc, "archive")
+        .about("Write the export of an archive that adopts what files hold")
+        .arg(output)?
+        .arg(limit(alloc))?
+        .arg(archive_words(alloc))
 }
 
 // The words of a report: those of an ask, and the files.
@@ -141,9 +191,10 @@ fn asking<'a>(alloc: Global) -> Result<Command<'a>, AllocError>
         .subcommand(expose(alloc)?)
 }
 
-#[tactic(auto, unfolding(crate::specs::Commands::otm))]
-fn command<'a>(alloc: Global) -> Result<Command<'a>, AllocError>
-    ensures app { IfOk result (λ c. app_of c ≡ otm) }
+// And those that make what is for others.
+#[tactic(auto, unfolding(crate::specs::Commands::otm_sending))]
+fn sending<'a>(alloc: Global) -> Result<Command<'a>, AllocError>
+    ensures app { IfOk result (λ c. app_of c ≡ otm_sending) }
     ensures own { IfOk result (λ c. (out-Command c).has_globals ≡ false) }
     ensures whole { IfOk result (λ c. is_broken c ≡ false) }
 {
@@ -152,6 +203,15 @@ fn command<'a>(alloc: Global) -> Result<Command<'a>, AllocError>
         "otlp",
         "Write the OTLP request of files of exports",
     )?)
+}
+
+#[tactic(auto, unfolding(crate::specs::Commands::otm))]
+fn command<'a>(alloc: Global) -> Result<Command<'a>, AllocError>
+    ensures app { IfOk result (λ c. app_of c ≡ otm) }
+    ensures own { IfOk result (λ c. (out-Command c).has_globals ≡ false) }
+    ensures whole { IfOk result (λ c. is_broken c ≡ false) }
+{
+    sending(alloc)?.subcommand(archive(alloc)?)
 }
 
 fn refusal(alloc: Global, error: &clap::Error) -> CommandFault
@@ -238,6 +298,47 @@ fn read_report(alloc: Global, options: &ArgMatches<'_>) -> Result<FileCommand, C
     }
 }
 
+// The archive that words ask for.
+fn archiving_given(
+    alloc: Global,
+    options: &ArgMatches<'_>,
+    words: &[&str],
+) -> Result<Archiving, CommandFault>
+    requires { 4 ≤ length words.now }
+    ensures ok { IfOk result (AsksArchive (rows_of (found_of options.now)) (map (λ w. w.now) words.now)) }
+    ensures bad_words { (text : _) → IsErrOf result (CommandFault.BadWords text) → (ask : Archiving)
+        → AsksArchive (rows_of (found_of options.now)) (map (λ w. w.now) words.now) ask → ⊥ }
+{
+    let (who, rest) = words.split_at(WRITER_WORDS);
+    let (when, _) = rest.split_at(1);
+    read_archiving(alloc, who, when, options.get_str("limit"))
+}
+
+fn read_archive(alloc: Global, options: &ArgMatches<'_>) -> Result<FileCommand, CommandFault>
+    ensures ok { IfOk result (Asks (Some (codes "archive", rows_of (found_of options.now)))) }
+    ensures bad_words { (text : _) → IsErrOf result (CommandFault.BadWords text)
+        → HasNoArchive (Some (codes "archive", rows_of (found_of options.now))) }
+{
+    let Some(into) = text_given(alloc, options, "output")? else {
+        return Err(CommandFault::NoMemory);
+    };
+    let Some(words) = options.get_strs("words") else {
+        return Err(CommandFault::NoMemory);
+    };
+    if words.len() < ARCHIVE_WORDS {
+        return Err(CommandFault::NoMemory);
+    }
+    let (_, files) = words.split_at(ARCHIVE_WORDS);
+    match archiving_given(alloc, options, words) {
+        Ok(ask) => Ok(FileCommand::Archive {
+            into,
+            ask,
+            files: texts(alloc, files)?,
+        }),
+        Err(fault) => Err(fault),
+    }
+}
+
 fn read_expose(alloc: Global, options: &ArgMatches<'_>) -> Result<FileCommand, NoMemory>
     ensures { IfOk result (Asks (Some (codes "expose", rows_of (found_of options.now)))) }
 {
@@ -251,7 +352,7 @@ fn read_expose(alloc: Global, options: &ArgMatches<'_>) -> Result<FileCommand, N
 // What the matches of the program's command ask for.
 fn read(alloc: Global, matches: &ArgMatches<'_>) -> Result<FileCommand, CommandFault>
     ensures ok { IfOk result (Asks (subcommand_rows_of matches.now)) }
-    ensures bad_words { (text : _) → IsErrOf result (CommandFault.BadWords text) → HasNoAsk (subcommand_rows_of matches.now) }
+    ensures bad_words { (text : _) → IsErrOf result (CommandFault.BadWords text) → SaysNothing (subcommand_rows_of matches.now) }
 {
     let Some((name, options)) = matches.subcommand() else {
         return Err(CommandFault::NoMemory);
@@ -270,6 +371,8 @@ fn read(alloc: Global, matches: &ArgMatches<'_>) -> Result<FileCommand, CommandF
         Ok(FileCommand::Otlp {
             files: files_given(alloc, options)?,
         })
+    } else if name == "archive" {
+        read_archive(alloc, options)
     } else {
         Err(CommandFault::NoMemory)
     }
@@ -277,8 +380,8 @@ fn read(alloc: Global, matches: &ArgMatches<'_>) -> Result<FileCommand, CommandF
 
 /// What the words ask of files. The first word is the program's name.
 ///
-/// Refusals: [`CommandFault::BadWords`] where `clap` refuses the words for another cause than memory, or the words of a report ask for
-/// none, with the text to show; then [`CommandFault::NoMemory`].
+/// Refusals: [`CommandFault::BadWords`] where `clap` refuses the words for another cause than memory, or the words of a report or of
+/// an archive ask for none, with the text to show; then [`CommandFault::NoMemory`].
 pub fn read_command<S: AsStr>(alloc: Global, words: &[S]) -> Result<FileCommand, CommandFault>
     ensures ok { IfOk result (Asks (named_by (map S.text words.now))) }
     ensures taken { OnOk result (fault_of otm (map S.text words.now) ≡ []) }
@@ -297,7 +400,12 @@ pub fn read_command<S: AsStr>(alloc: Global, words: &[S]) -> Result<FileCommand,
 fn is_command(word: &str) -> bool
     ensures { result ≡ is_command word.now }
 {
-    word == "show" || word == "merge" || word == "report" || word == "expose" || word == "otlp"
+    word == "show"
+        || word == "merge"
+        || word == "report"
+        || word == "expose"
+        || word == "otlp"
+        || word == "archive"
 }
 
 // The word at a place, or an empty text.

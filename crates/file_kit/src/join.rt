@@ -86,8 +86,8 @@ pub fn joined(alloc: Global, files: &[Vec<u8>]) -> Result<Gateway, FileFault>
 ///
 /// Refused as [`joined`] refuses, at its cost and that of `Keeper::merge` for all points.
 pub fn kept(alloc: Global, files: &[Vec<u8>]) -> Result<Keeper, FileFault>
-    ensures id { IfOk result (λ k. k.id ≡ 0) }
-    ensures value { IfOk result (λ k. Shows (map (λ f. f.items) files.now) k.points) }
+    ensures id { IfOk result (λ k. k.gateway.id ≡ 0) }
+    ensures value { IfOk result (λ k. Shows (map (λ f. f.items) files.now) k.gateway.points) }
     ensures err { IfErr result (IsRefused (map (λ f. f.items) files.now)) }
 {
     let held = joined(alloc, files)?;

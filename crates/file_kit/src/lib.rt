@@ -6,6 +6,8 @@
 //!   ([`files_without_tombstones_show_all`]).
 //! - [`report`] and [`expose`] answer of that: a table, or a page in a [`PageFormat`]. [`merged`] is a state of it, as bytes.
 //! - [`show`] tells what one file is of, with tables of its points. [`otlp`] is the OTLP request of files of exports, or a [`SendFault`].
+//! - [`archived`] is the export of an archive that adopts what files show, asked for by an [`Archiving`], or an [`ArchiveFault`];
+//!   [`incarnation`] tells of which incarnation that speaks.
 //! - [`read_command`] reads what a command line asks of files: a [`FileCommand`], or a [`CommandFault`]. [`is_of_files`] tells whether
 //!   words are for it.
 //!
@@ -16,10 +18,13 @@
 //!         Err(fault) => Err(unjoined(alloc, files, fault)),
 //!
 //! docs/FILES.md tells the commands. What contracts cite stands in `specs/`: `Contents` (what files have, what they say joined, what
-//! they show of that, and why a file says nothing), `Answers`, `Sending`, `Shown`, `AskWords` and `Commands` (what words ask for).
+//! they show of that, and why a file says nothing), `Answers`, `Archiving`, `Sending`, `Shown`, and of what words ask for `AskWords`,
+//! `ArchiveWords` and `Commands`.
 #![tactic(auto)]
 
 mod answers;
+mod archive;
+mod archive_words;
 mod ask_words;
 mod command;
 mod command_line;
@@ -33,10 +38,11 @@ mod streams;
 mod word;
 
 pub use answers::{PageFormat, expose, report};
+pub use archive::{Archiving, archived};
 pub use command::{CommandFault, FileCommand};
 pub use command_line::{is_of_files, read_command};
-pub use fault::{FileFault, SendFault};
+pub use fault::{ArchiveFault, FileFault, SendFault};
 pub use join::{joined, kept};
 pub use laws::files_without_tombstones_show_all;
 pub use sending::{merged, otlp};
-pub use shown::show;
+pub use shown::{incarnation, show};

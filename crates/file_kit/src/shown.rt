@@ -1,7 +1,7 @@
 //! What a file is of, and its points.
 ghost use Rattle.std.specs.Prelude.{◌≡◌, ◌++◌, IfErr, IfOk, OnOk, string_bytes};
 ghost use Rattle.file_kit.specs.Contents.{points_of, IsUnread};
-ghost use Rattle.file_kit.specs.Shown.{between, body_text, content_line, export_line, file_text, instance_text, message_line, IsShown};
+ghost use Rattle.file_kit.specs.Shown.{between, body_text, content_line, export_line, file_text, incarnation_text, instance_text, message_line, IsShown};
 
 use crate::content::{Content, read};
 use crate::join::join;
@@ -11,7 +11,7 @@ use attr_kit::NoMemory;
 use bytes_kit::DecodeFault;
 use gateway_kit::Gateway;
 use gossip_kit::{Body, Message};
-use point_kit::Export;
+use point_kit::{Export, WriterId};
 use std::alloc::{AllocError, Global};
 use uuid::Uuid;
 
@@ -23,18 +23,25 @@ fn push_instance(text: &mut String, instance: &Uuid) -> Result<(), AllocError>
     text.push_str(hyphenated.encode_lower(&mut buffer))
 }
 
+#[tactic(auto, unfolding(crate::specs::Shown::incarnation_text))]
+fn push_incarnation(text: &mut String, writer: &WriterId, start: u64) -> Result<(), AllocError>
+    ensures { OnOk result (string_bytes text.new ≡ string_bytes text.old ++ incarnation_text writer.now start) }
+{
+    push_word(text, writer.service.as_str())?;
+    text.push(' ')?;
+    push_instance(text, &writer.instance)?;
+    write!(text, ", start {start}")
+}
+
 // Whose an export is, and its times.
 #[tactic(auto, unfolding(crate::specs::Shown::export_line))]
 fn push_export(text: &mut String, export: &Export) -> Result<(), AllocError>
     ensures { OnOk result (string_bytes text.new ≡ string_bytes text.old ++ export_line export.now) }
 {
     text.push_str("export of ")?;
-    push_word(text, export.writer().service.as_str())?;
-    text.push(' ')?;
-    push_instance(text, &export.writer().instance)?;
-    let start = export.start();
+    push_incarnation(text, export.writer(), export.start())?;
     let time = export.time();
-    write!(text, ", start {start}, time {time}\n")
+    write!(text, ", time {time}\n")
 }
 
 // What a message is.
@@ -91,6 +98,15 @@ fn text_of(alloc: Global, name: &str, content: &Content) -> Result<String, NoMem
     text.push_str(": ")?;
     push_content(&mut text, content)?;
     push_tables(&mut text, alloc, &held(alloc, content)?)?;
+    Ok(text)
+}
+
+/// An incarnation in words, as [`show`] tells whose an export is: its service, its instance and its start.
+pub fn incarnation(alloc: Global, writer: &WriterId, start: u64) -> Result<String, NoMemory>
+    ensures { IfOk result (λ text. string_bytes text ≡ incarnation_text writer.now start) }
+{
+    let mut text = String::new(alloc);
+    push_incarnation(&mut text, writer, start)?;
     Ok(text)
 }
 

@@ -84,7 +84,7 @@ incarnations_woven number olds fresh g h all k =
 
 -- ---- a gateway
 
-numbers_sorted : (ps : List IncarnationState) → is_sorted incarnation_cmp (map keyed_cells ps) ≡ true → T (is_sorted incarnation_cmp (map keyed_numbers ps))
+pub numbers_sorted : (ps : List IncarnationState) → is_sorted incarnation_cmp (map keyed_cells ps) ≡ true → T (is_sorted incarnation_cmp (map keyed_numbers ps))
 numbers_sorted ps s = as_T (sym (sorted_too incarnation_cmp own_key (λ (p : IncarnationState). p.cells) (λ (p : IncarnationState). p.numbers) ps) ∙ s)
 
 pub get_numbers : (ps : List IncarnationState) → is_sorted incarnation_cmp (map keyed_cells ps) ≡ true → (c : IncarnationKey) (b : ItemKey) → get (from_sorted {R = key_cmp} (all_numbers ps)) (whole_key c b) ≡ told (number_in item_cmp (numbers_at c ps) b)

@@ -56,7 +56,7 @@ map-weave R S f same (x ∷ xs) (y ∷ ys) =
     ] refl
 
 module _ {K : Type 0} {R : K → K → Ordering} (o : IsTotalOrder R) where
-  turned_less : (x y : K) → R x y ≡ Greater → R y x ≡ Less
+  pub turned_less : (x y : K) → R x y ≡ Greater → R y x ≡ Less
   turned_less x y p = o.antisymm y x ∙ ap ordering_reverse p
 
   pub turned_greater : (x y : K) → R x y ≡ Less → R y x ≡ Greater

@@ -15,6 +15,7 @@ pub mod Merged
 pub mod Moved
 pub mod Movement
 pub mod Nested
+pub mod Narrowed
 pub mod OneCell
 pub mod Places
 pub mod Prepared
@@ -26,6 +27,7 @@ pub mod ServiceRuns
 pub mod Sorting
 pub mod Tallies
 pub mod Times
+pub mod Turning
 pub mod Ahead
 pub mod SharedPoints
 pub mod ItemMoves

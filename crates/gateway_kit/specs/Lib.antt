@@ -25,4 +25,5 @@ pub mod Tallies
 pub mod Times
 pub mod GatewayState
 pub mod Walks
+pub mod Turning
 pub mod Weave

@@ -79,7 +79,7 @@ impl Draft {
         Ok(())
     }
 
-    /// Makes room beside the n items that are there.
+    /// Makes room beside the n items that are there, and some to spare: so a few that come later need none to move.
     pub(crate) fn finish(self, alloc: Global, items: &[PartItem]) -> Result<Changes, NoMemory>
         requires { IsDistinct (eq_by_cmp item_cmp) (map (λ i. (keyed_cell_of i).0) self.fresh.items) }
         ensures { IfOk result (λ c. Finishes items.now self c) }
@@ -89,7 +89,8 @@ impl Draft {
         let room = if fresh.is_empty() {
             Vec::new(alloc)
         } else {
-            Vec::with_capacity(alloc, items.len() + fresh.len())?
+            let len = items.len() + fresh.len();
+            Vec::with_capacity(alloc, len + len / 16)?
         };
         Ok(Changes {
             updates,

@@ -5,7 +5,7 @@ ghost use Rattle.point_kit.specs.Exports.{state, join_points, changed_points};
 ghost use Rattle.gateway_kit.specs.Numbering.{IsNumberedBy, GatewayMoves, number_of};
 ghost use Rattle.std.specs.FinMap.{entries, retain_keys};
 ghost use Rattle.gateway_kit.specs.Listing.{held_incarnations, held_services, incarnations_left, services_left};
-ghost use Rattle.gateway_kit.specs.Queries.{has_conflict, incarnation_points, is_of_incarnation, newest_time, part_points};
+ghost use Rattle.gateway_kit.specs.Queries.{has_conflict, incarnation_points, is_of_incarnation, is_of_other_stream, newest_time, part_points};
 ghost use Rattle.gateway_kit.specs.Walks.{is_of, points_left};
 ghost use Rattle.gateway_kit.specs.Incarnations.{all_points};
 
@@ -19,7 +19,7 @@ use crate::merging::merge_in;
 use crate::part_item::PartItem;
 use crate::points::Points;
 use attr_kit::NoMemory;
-use point_kit::{Cell, Export, Key, WriterId};
+use point_kit::{Cell, Export, Key, SharedStream, WriterId};
 use shelf_kit::Shelves;
 use std::alloc::Global;
 use std::marker::Model;
@@ -338,6 +338,28 @@ impl Gateway {
         }
     }
 
+    /// Drops the points of one incarnation of a writer with their numbers, but for those of a stream.
+    ///
+    /// Takes no memory. A walk over its n points, and what `forget` costs where none is of the stream.
+    pub fn forget_but(&mut self, writer: &WriterId, start: u64, stream: &SharedStream)
+        ensures id { self.new.id ≡ self.old.id }
+        ensures value { self.new.points ≡ retain_keys self.old.points (λ k. not (is_of_other_stream writer.now start stream.now k)) }
+        ensures numbers { self.new.numbers ≡ retain_keys self.old.numbers (λ k. not (is_of_other_stream writer.now start stream.now k)) }
+    {
+        let Ok(place) = incarnation_place(&self.incarnations, writer, start) else {
+            return;
+        };
+        if !self.incarnations.get(place).has_stream(stream) {
+            self.forget(writer, start);
+            return;
+        }
+        self.incarnations.bounds_match();
+        let held = self.incarnations.get_mut(place);
+        let before = held.conflicts();
+        self.len -= held.keep_stream(stream);
+        self.conflicts = self.conflicts - before + held.conflicts();
+    }
+
     /// An equal gateway, with the same id and numbers: O(n).
     pub fn try_copy(&self) -> Result<Gateway, NoMemory>
         ensures value { IfOk result (λ copy. copy ≡ self.now) }
@@ -364,7 +386,8 @@ impl Gateway {
     ///
     /// O(c + m / 128 + n / 512) of c cells that are numbered so, of m incarnations, and of n points in the incarnations that have
     /// such cells. Up to 256 incarnations that stand side by side are passed over by one look, where no change of them had a
-    /// greater number; of others each is looked at. In those with such cells blocks of points are passed over likewise.
+    /// greater number. Of others the numbers of their last changes are looked at, which stand side by side. In those with such cells
+    /// blocks of points are passed over likewise.
     ///
     /// Bounds of points are made at a numbered change. A copy has none until then, and an incarnation that came whole by a merge
     /// has none of its points: there all are looked at. Refused with `NoMemory` where a growth was refused.

@@ -2,7 +2,7 @@
 ghost use Rattle.std.specs.Prelude.{◌≡◌, ◌%◌, ◌^◌, IsTrue, IfOk, OnOk, OnErr, map, [], ◌≤◌, ◌+◌, option_copied, ◌<◌, length, IsSome, IsOk, ◌∷◌};
 ghost use Rattle.std.specs.FinMap as finite;
 ghost use Rattle.std.specs.FinMap.{entries, from_sorted};
-ghost use Rattle.std.specs.FinMap.Entries.{is_sorted, find};
+ghost use Rattle.std.specs.FinMap.Entries.{is_sorted, find, where_key};
 ghost use Rattle.gateway_kit.specs.Changing.{Prepares, keyed_cells_of, after_growth};
 ghost use Rattle.gateway_kit.specs.Covering.{IsUpTo};
 ghost use Rattle.gateway_kit.specs.Growth.{IncarnationJoins, Joins, JoinsAt};
@@ -12,6 +12,8 @@ ghost use Rattle.gateway_kit.specs.Incarnations.{keyed_cells, has_cells};
 ghost use Rattle.gateway_kit.specs.Places.{IsGap};
 ghost use Rattle.gateway_kit.specs.Serving.{begins, ends};
 ghost use Rattle.gateway_kit.specs.Tallies.{incarnation_conflicts};
+ghost use Rattle.gateway_kit.specs.Queries.{in_stream};
+ghost use Rattle.std.specs.List.{list_any};
 ghost use Rattle.gateway_kit.specs.Times.{latest};
 ghost use Rattle.std.specs.declared.cmp.Ordering.{Ordering};
 ghost use Rattle.gateway_kit.specs.declared.part_item.PartItem.{PartItem};
@@ -24,14 +26,15 @@ use crate::draft::Draft;
 use crate::growth::{Growth, MOST_POINTS};
 use crate::hint::Hint;
 use crate::items::{
-    newer_items, place_behind, place_of, put_cell, put_cells, put_items, stream_at, tally_of,
+    any_in, keep_in, newer_items, place_behind, place_of, put_cell, put_cells, put_items,
+    stream_at, tally_of,
 };
 use crate::ordered::{Keyed, after, all_same, place_from, renumber_all};
 use crate::part_item::PartItem;
 use crate::tally::Tally;
 use crate::trail::draft_changes;
 use attr_kit::{AttrSet, NoMemory, TryCopy, copy_all};
-use point_kit::{Cell, Export, Stream, WriterId};
+use point_kit::{Cell, Export, SharedStream, Stream, WriterId};
 use std::alloc::{AllocError, AllocFailed, Global};
 use std::cmp::Ordering;
 use std::marker::Model;
@@ -361,6 +364,28 @@ impl Incarnation {
                 })
             }
         }
+    }
+
+    /// Whether a point is of a stream: one walk.
+    pub(crate) fn has_stream(&self, stream: &SharedStream) -> bool
+        ensures cells { result ≡ list_any (λ e. in_stream stream.now e.0) (entries self.now.cells) }
+        ensures numbers { result ≡ list_any (λ e. in_stream stream.now e.0) (entries self.now.numbers) }
+    {
+        any_in(self.items.as_slice(), stream)
+    }
+
+    /// Keeps the points of a stream alone, with their numbers, and says how many go: one walk. Takes no memory.
+    pub(crate) fn keep_stream(&mut self, stream: &SharedStream) -> usize
+        ensures same { (keyed_cells self.new).0 ≡ (keyed_cells self.old).0 }
+        ensures cells { entries self.new.cells ≡ where_key item_cmp (in_stream stream.now) (entries self.old.cells) }
+        ensures numbers { entries self.new.numbers ≡ where_key item_cmp (in_stream stream.now) (entries self.old.numbers) }
+        ensures dropped { result + length (entries self.new.cells) ≡ length (entries self.old.cells) }
+    {
+        let len = self.items.len();
+        keep_in(&mut self.items, stream);
+        self.tally = tally_of(self.items.as_slice());
+        self.bounds.clear();
+        len - self.items.len()
     }
 
     /// Whether a key may be numbered above a number; where it is not none is. O(1).

@@ -212,8 +212,8 @@ fn keep_run(
     Ok(())
 }
 
-/// Copies of what of incarnations is numbered above a number. Shelves whose bound is not above it are passed over; of another
-/// incarnation without such a key nothing is walked over.
+/// Copies of what of incarnations is numbered above a number. Those whose bound is not above it are passed over, whole shelves by one
+/// look; of another without such a key nothing is walked over.
 pub(crate) fn all_since(
     alloc: Global,
     incarnations: &Shelves<Incarnation>,

@@ -1,5 +1,5 @@
 //! The points of an incarnation, in the order of their keys.
-ghost use Rattle.std.specs.Prelude.{◌≡◌, ◌≤◌, ℕ, OnOk, IfOk, IsTrue, map, [], ◌+◌, vec_capacity, ◌++◌, ◌∷◌, ◌<◌};
+ghost use Rattle.std.specs.Prelude.{◌≡◌, ◌≤◌, ℕ, OnOk, IfOk, IsTrue, map, [], ◌+◌, vec_capacity, vec_len, ◌++◌, ◌∷◌, ◌<◌};
 ghost use Rattle.std.specs.FinMap.Entries.{is_sorted};
 ghost use Rattle.gateway_kit.specs.Amending.{with_change, with_changes};
 ghost use Rattle.gateway_kit.specs.Bounding.{AreBounds};
@@ -10,6 +10,8 @@ ghost use Rattle.gateway_kit.specs.Numbers.{ItemsMove};
 ghost use Rattle.gateway_kit.specs.Tallies.{IsTally, are_up_to};
 ghost use Rattle.gateway_kit.specs.declared.part_item.PartItem.{PartItem};
 ghost use Rattle.gateway_kit.specs.Recent.{newer};
+ghost use Rattle.gateway_kit.specs.Queries.{in_stream};
+ghost use Rattle.std.specs.List.{filter, list_any};
 
 use crate::bounds::Bounds;
 use crate::cells::{conflict_of, is_further};
@@ -17,12 +19,11 @@ use crate::ordered::renumber_all;
 use crate::part_item::PartItem;
 use crate::tally::Tally;
 use crate::trail::places_after;
-use crate::weave::weave;
+use crate::weave::weave_in;
 use attr_kit::{AttrSet, NoMemory, TryCopy};
 use point_kit::{Cell, SharedStream, Stream};
 use std::alloc::{AllocError, Global};
 use std::cmp::Ordering;
-use std::mem;
 
 /// The place of a key among items, or where it belongs: O(log n).
 pub(crate) fn place_of(items: &[PartItem], stream: &Stream, attrs: &AttrSet) -> Result<usize, usize>
@@ -233,11 +234,25 @@ pub(crate) fn put_items(
         renumber_all(&mut fresh, number);
         let alloc = *items.allocator();
         let places = places_after(alloc, items.len(), fresh.as_slice());
-        let mine = mem::replace(items, Vec::new(alloc));
-        *items = weave(mine, fresh, room);
+        weave_in(items, fresh, room);
         bounds.clear();
         settle(items, &places)
     } else {
         tally
     }
+}
+
+/// Whether an item is of a stream: one walk.
+pub(crate) fn any_in(items: &[PartItem], stream: &SharedStream) -> bool
+    ensures { result ≡ list_any (λ i. in_stream stream.now (i.stream, i.attrs)) items.now }
+{
+    items.iter().any(|item| *stream == item.stream)
+}
+
+/// Keeps the items of a stream alone: one walk.
+pub(crate) fn keep_in(items: &mut Vec<PartItem>, stream: &SharedStream)
+    ensures kept { items.new.items ≡ filter (λ i. in_stream stream.now (i.stream, i.attrs)) items.old.items }
+    ensures fewer { vec_len items.new ≤ vec_len items.old }
+{
+    items.retain(|item| *stream == item.stream);
 }

@@ -7,12 +7,13 @@ use Rattle.attr_kit.specs.Refusing.{first, when}
 use Rattle.point_kit.specs.declared.cell.Cell.{Cell}
 use Rattle.point_kit.specs.declared.key.Key.{Key}
 use Rattle.point_kit.specs.declared.payload.Payload.{Payload}
+use Rattle.point_kit.specs.declared.stream.Stream.{Stream}
 use Rattle.point_kit.specs.declared.writer_id.WriterId.{WriterId}
 use Rattle.point_kit.specs.Exports.{Points, join_points}
 use Rattle.point_kit.specs.Join.{IsAtOrBelow}
 use Rattle.point_kit.specs.Orders.{key_cmp}
 use Rattle.gateway_kit.specs.GatewayState.{GatewayState}
-use Rattle.gateway_kit.specs.Queries.{is_of_incarnation}
+use Rattle.gateway_kit.specs.Queries.{is_of_incarnation, is_of_other_stream}
 use Rattle.gossip_kit.specs.Views.{MessageModel, NodeModel}
 use Rattle.gossip_kit.specs.declared.fault.HandFault.{HandFault}
 use Rattle.gossip_kit.specs.declared.fault.HandFault.TheVariants.{NotAddressed}
@@ -79,6 +80,10 @@ acked_after node message = option_map_or (raised_to node.acked message.from) mes
 -- what is kept under all keys but those of one incarnation of a writer
 abbrev pub without_incarnation : {V : Type 0} → WriterId → ℕ → FinMap key_cmp V → FinMap key_cmp V
 without_incarnation writer start m = retain_keys m (λ k. not (is_of_incarnation writer start k))
+
+-- nor what of it is of other streams than one
+abbrev pub without_other_streams : {V : Type 0} → WriterId → ℕ → Stream → FinMap key_cmp V → FinMap key_cmp V
+without_other_streams writer start stream m = retain_keys m (λ k. not (is_of_other_stream writer start stream k))
 
 -- each cell that is carried is held under the same key
 abbrev pub CarriesHeld : Points → Points → Type 0

@@ -3,14 +3,14 @@ ghost use Rattle.std.specs.Prelude.{◌≡◌, ◌≢◌, ◌≤◌, nat_lt, if�
 ghost use Rattle.std.specs.FinMap as finite;
 ghost use Rattle.point_kit.specs.Exports.{join_points, changed_points, state};
 ghost use Rattle.gateway_kit.specs.Queries.{incarnation_points};
-ghost use Rattle.gossip_kit.specs.Gossip.{acknowledged, acked_after, answer_of, first_node, carried_to, delta_to, hand_fault, last_number, next_number, recent_to, Brings, CarriesHeld, Renumbers, without_incarnation};
+ghost use Rattle.gossip_kit.specs.Gossip.{acknowledged, acked_after, answer_of, first_node, carried_to, delta_to, hand_fault, last_number, next_number, recent_to, Brings, CarriesHeld, Renumbers, without_incarnation, without_other_streams};
 
 use crate::books::Books;
 use crate::message::Body;
 use crate::{HandFault, Message};
 use attr_kit::NoMemory;
 use gateway_kit::Gateway;
-use point_kit::{Export, WriterId};
+use point_kit::{Export, SharedStream, WriterId};
 use std::alloc::Global;
 use std::marker::Model;
 
@@ -118,6 +118,22 @@ impl Node {
         ensures carried { (to : ℕ) → carried_to self.new to ≡ without_incarnation writer.now start (carried_to self.old to) }
     {
         self.gateway.forget(writer, start)
+    }
+
+    /// Drops the points of one incarnation of a writer with their numbers, but for those of a stream: what `Gateway::forget_but` does,
+    /// at its cost. The change number and what peers acknowledged stay, as `forget` leaves them.
+    pub fn forget_but(&mut self, writer: &WriterId, start: u64, stream: &SharedStream)
+        ensures id { self.new.gateway.id ≡ self.old.gateway.id }
+        ensures value { self.new.gateway.points ≡ without_other_streams writer.now start stream.now self.old.gateway.points }
+        ensures numbers { self.new.gateway.numbers ≡ without_other_streams writer.now start stream.now self.old.gateway.numbers }
+        ensures change { self.new.change ≡ self.old.change }
+        ensures acked { self.new.acked ≡ self.old.acked }
+        ensures acknowledged { (to : ℕ) → acknowledged self.new to
+            ≡ without_other_streams writer.now start stream.now (acknowledged self.old to) }
+        ensures carried { (to : ℕ) → carried_to self.new to
+            ≡ without_other_streams writer.now start stream.now (carried_to self.old to) }
+    {
+        self.gateway.forget_but(writer, start, stream);
     }
 
     // The number of the next change.

@@ -156,7 +156,12 @@ impl Keys {
     }
 }
 
-fn points(alloc: Global, stream: &SharedStream, keys: Keys) -> anyhow::Result<Vec<ExportPoint>> {
+/// The points of a stream with these keys.
+pub fn points(
+    alloc: Global,
+    stream: &SharedStream,
+    keys: Keys,
+) -> anyhow::Result<Vec<ExportPoint>> {
     let mut points = Vec::new(alloc);
     for number in keys.from..keys.from.saturating_add(keys.count) {
         if keys.has(number) {

@@ -46,14 +46,15 @@ fn takes_of_both(rt: &HostRuntime, keys: u32) -> anyhow::Result<()> {
     tell(rt, "take by a node", u64::from(keys), node)
 }
 
-// Two nodes, of which the first tells the second. They are borrowed by what may fail: each exit there drops neither.
+/// Two nodes, of which the first tells the second. They are borrowed by what may fail: each exit there drops neither.
 #[derive(Drop)]
-struct Pair {
-    sender: Node,
-    receiver: Node,
+pub struct Pair {
+    pub sender: Node,
+    pub receiver: Node,
 }
 
-fn two_nodes(alloc: Global) -> Pair {
+/// Two nodes, 1 and 2, that hold nothing.
+pub fn two_nodes(alloc: Global) -> Pair {
     Pair {
         sender: Node::new(alloc, Gateway::new(alloc, 1)),
         receiver: Node::new(alloc, Gateway::new(alloc, 2)),
@@ -66,8 +67,8 @@ fn hears(node: &mut Node, alloc: Global, times: Times, keys: Keys) -> anyhow::Re
     Ok(())
 }
 
-// A message, which must have so many cells, and how long it took.
-fn time_send(
+/// A message, which must have so many cells, and how long it took.
+pub fn time_send(
     rt: &HostRuntime,
     sender: &mut Node,
     to: u32,
@@ -83,8 +84,8 @@ fn time_send(
     Ok((message, took))
 }
 
-// How long the handing of a message took, the answer to which goes to its sender.
-fn time_hand(rt: &HostRuntime, pair: &mut Pair, message: &Message) -> anyhow::Result<Duration> {
+/// How long the handing of a message took, the answer to which goes to its sender.
+pub fn time_hand(rt: &HostRuntime, pair: &mut Pair, message: &Message) -> anyhow::Result<Duration> {
     let start = Instant::now(rt)?;
     let answer = pair.receiver.hand(message)?;
     let took = start.elapsed(rt)?;

@@ -1,9 +1,13 @@
 //! Points that are held until the program ends, for who measures its memory from outside.
 use crate::gateways::{Keys, Sets, Times, export_of, set};
+use crate::key_map::KeyMap;
+use crate::numbered::Source;
+use crate::stores::Store;
 use crate::words::Holder;
 use anyhow::ensure;
 use attr_kit::AttrSet;
 use gateway_kit::Gateway;
+use gossip_kit::Node;
 use point_kit::{Cell, Held, Payload};
 use std::alloc::Global;
 use std::collections::{BTreeMap, HashMap};
@@ -50,12 +54,24 @@ fn in_map(alloc: Global, count: u32) -> anyhow::Result<usize> {
     Ok(cells.len())
 }
 
-/// Holds so many points, a multiple of 100, of 4 attributes of short texts.
+// So many incarnations, of one point each.
+fn in_store<T: Store>(alloc: Global, count: u32) -> anyhow::Result<usize> {
+    let mut store = T::none(alloc);
+    let source = Source::of(alloc, 1)?;
+    for number in 0..count {
+        store.take_in(&source.export(number, 200)?)?;
+    }
+    Ok(store.len())
+}
+
+/// Holds so many points: of 4 attributes of short texts, a multiple of 100, or one of an incarnation each.
 pub fn run(alloc: Global, holder: Holder, count: u32) -> anyhow::Result<()> {
     let held = match holder {
         Holder::Gateway => in_gateway(alloc, count)?,
         Holder::Tree => in_tree(alloc, count)?,
         Holder::Map => in_map(alloc, count)?,
+        Holder::Incarnations => in_store::<Node>(alloc, count)?,
+        Holder::Keys => in_store::<KeyMap>(alloc, count)?,
     };
     ensure!(held as u64 == u64::from(count), "{held} points are held");
     Ok(())

@@ -2,9 +2,10 @@
 //!
 //! - `kit_bench` runs small sizes of all parts, so that all of it is tried.
 //! - `kit_bench full` runs the sizes that docs tell of, and `kit_bench full rollups` those of one part: `turns`, `recordings`,
-//!   `held-points`, `threads`, `fleets`, `gateways`, `gossip`, `bytes`, `rounds`, `rollups` or `pages`.
+//!   `held-points`, `threads`, `fleets`, `gateways`, `gossip`, `bytes`, `rounds`, `rollups`, `pages` or `incarnations`.
 //! - `kit_bench hold-gateway 1000000` holds so many points and ends, so that its memory can be measured from outside;
-//!   `hold-tree` and `hold-map` hold the same points in maps of `std`.
+//!   `hold-tree` and `hold-map` hold the same points in maps of `std`. `hold-incarnations` holds so many incarnations of one point,
+//!   and `hold-keys` the same in a map by hand.
 //!
 //! Timings go to standard error, and nothing to standard output.
 #![tactic(auto)]
@@ -18,12 +19,17 @@ mod gateways;
 mod gossip;
 mod held;
 mod held_points;
+mod incarnations;
+mod key_map;
 mod lanes;
 mod measures;
 mod mutexes;
+mod numbered;
 mod pages;
 mod rollups;
 mod rounds;
+mod stored;
+mod stores;
 mod takes;
 mod tallies;
 mod threads;
@@ -84,6 +90,10 @@ fn alone(rt: &HostRuntime, words: &Words) -> anyhow::Result<()> {
     }
     if words.has(Part::Pages) {
         pages::run(rt, words.size(100_000, 40))?;
+    }
+    if words.has(Part::Incarnations) {
+        let sizes = words.sizes(&[1_000, 10_000, 100_000, 1_000_000], &[40]);
+        incarnations::run(rt, sizes, words.sizes(&[1, 10, 100], &[1, 10]))?;
     }
     Ok(())
 }

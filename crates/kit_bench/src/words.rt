@@ -16,6 +16,7 @@ pub enum Part {
     Rounds,
     Rollups,
     Pages,
+    Incarnations,
 }
 
 /// What holds points.
@@ -24,6 +25,8 @@ pub enum Holder {
     Gateway,
     Tree,
     Map,
+    Incarnations,
+    Keys,
 }
 
 /// What a run is asked for.
@@ -39,7 +42,7 @@ pub struct Words {
     pub count: u32,
 }
 
-const PARTS: [(&str, Part); 11] = [
+const PARTS: [(&str, Part); 12] = [
     ("turns", Part::Turns),
     ("recordings", Part::Recordings),
     ("held-points", Part::HeldPoints),
@@ -51,6 +54,7 @@ const PARTS: [(&str, Part); 11] = [
     ("rounds", Part::Rounds),
     ("rollups", Part::Rollups),
     ("pages", Part::Pages),
+    ("incarnations", Part::Incarnations),
 ];
 
 fn part_of(word: &str) -> Option<Part> {
@@ -67,6 +71,8 @@ fn holder_of(word: &str) -> Option<Holder> {
         "hold-gateway" => Some(Holder::Gateway),
         "hold-tree" => Some(Holder::Tree),
         "hold-map" => Some(Holder::Map),
+        "hold-incarnations" => Some(Holder::Incarnations),
+        "hold-keys" => Some(Holder::Keys),
         _ => None,
     }
 }

@@ -3,8 +3,8 @@ use crate::{BAD_STREAM, BAD_WORDS, NO_MEMORY};
 use attr_kit::{NoMemory, Txt};
 use bytes_kit::DecodeFault;
 use file_kit::{
-    CommandFault, FileCommand, FileFault, PageFormat, SendFault, expose, merged, otlp,
-    read_command, report, show,
+    ArchiveFault, Archiving, CommandFault, FileCommand, FileFault, PageFormat, SendFault, archived,
+    expose, incarnation, merged, otlp, read_command, report, show,
 };
 use rollup_kit::Ask;
 use std::alloc::{AllocError, Global};
@@ -24,6 +24,8 @@ const STANDARD: &str = "-";
 enum End {
     // The file of this name has nothing of what is wanted, for this reason.
     BadFile(Txt, String),
+    // There is no archive, for this reason; and the status for it.
+    Unarchived(String, u8),
     // The file of this name was not read.
     Unread(Txt),
     Unwritten,
@@ -78,6 +80,10 @@ fn report_end(rt: &(impl Print + Eprint), end: &End) -> ExitCode {
             let _ = eprintln!(rt; "{name}: {reason}");
             ExitCode::from(BAD_FILE)
         }
+        End::Unarchived(reason, status) => {
+            let _ = eprintln!(rt; "{reason}");
+            ExitCode::from(*status)
+        }
         End::Unread(name) => {
             let name = name.as_str();
             let _ = eprintln!(rt; "read failed: {name}");
@@ -105,6 +111,9 @@ fn done(rt: &(impl Files + Input + Print + AllocGlobal), command: FileCommand) -
             files,
         } => expose_files(rt, format, &service, files.as_slice()),
         FileCommand::Otlp { files } => send_files(rt, files.as_slice()),
+        FileCommand::Archive { into, ask, files } => {
+            archive_files(rt, into.as_str(), &ask, files.as_slice())
+        }
     }
 }
 
@@ -164,6 +173,20 @@ fn send_files(rt: &(impl Files + Input + Print + AllocGlobal), files: &[Txt]) ->
     match otlp(alloc, contents.as_slice()) {
         Ok(request) => print(rt, request.as_slice()),
         Err(fault) => Err(unsent(alloc, files, fault)),
+    }
+}
+
+fn archive_files(
+    rt: &(impl Files + Input + Print + AllocGlobal),
+    into: &str,
+    ask: &Archiving,
+    files: &[Txt],
+) -> Result<(), End> {
+    let alloc = rt.alloc();
+    let contents = read_all(rt, files)?;
+    match archived(alloc, ask, contents.as_slice()) {
+        Ok(export) => put(rt, into, export.as_slice()),
+        Err(fault) => Err(unarchived(alloc, files, fault)),
     }
 }
 
@@ -228,6 +251,32 @@ fn unjoined(alloc: Global, files: &[Txt], fault: FileFault) -> End {
     match fault {
         FileFault::Refused { place, fault } => refused(alloc, files, place, fault.to_string(alloc)),
         FileFault::NoMemory => End::NoMemory,
+    }
+}
+
+// Why files come to no archive.
+fn unarchived(alloc: Global, files: &[Txt], fault: ArchiveFault) -> End {
+    let Ok(reason) = fault.to_string(alloc) else {
+        return End::NoMemory;
+    };
+    match fault {
+        ArchiveFault::TimeNotLater => End::Unarchived(reason, BAD_WORDS),
+        ArchiveFault::Unjoined(fault) => unjoined(alloc, files, fault),
+        ArchiveFault::Taken => End::Unarchived(reason, BAD_FILE),
+        ArchiveFault::Unadopted { writer, start, .. } => {
+            match incarnation(alloc, &writer, start) {
+                Ok(who) => unadopted(alloc, who.as_str(), reason.as_str()),
+                Err(NoMemory) => End::NoMemory,
+            }
+        }
+        ArchiveFault::NoMemory => End::NoMemory,
+    }
+}
+
+fn unadopted(alloc: Global, who: &str, reason: &str) -> End {
+    match format!(in alloc; "{who} is not adopted: {reason}") {
+        Ok(told) => End::Unarchived(told, BAD_FILE),
+        Err(_) => End::NoMemory,
     }
 }
 

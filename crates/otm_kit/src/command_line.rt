@@ -15,11 +15,12 @@ const VERSION: &str = "0.1.0";
 
 // The commands on files, which are read by file_kit.
 const ON_FILES: &str = "Commands on files:
-  show    Print what files are of, and their points
-  merge   Write one state of what files say, joined
-  report  Print a table of what files say, joined
-  expose  Print what files say, joined, as a page for Prometheus
-  otlp    Write the OTLP request of files of exports";
+  show     Print what files are of, and their points
+  merge    Write one state of what files say, joined
+  report   Print a table of what files say, joined
+  expose   Print what files say, joined, as a page for Prometheus
+  otlp     Write the OTLP request of files of exports
+  archive  Write the export of an archive that adopts what files hold";
 
 // An option whose value is a number from 1 to 8, or 2 where it is left out.
 #[tactic(auto)]

@@ -20,7 +20,7 @@ module _ {A : Type 0} where
       let both = length-append (items_of x) (items_on (take s xs)) in
       omega (arith, rest, both)
 
-  begin_next : (xs : List (Shelf A)) (s : ℕ) (x : Shelf A) → s < length xs → x ≡ get_or xs s x → begin_of xs (suc s) ≡ begin_of xs s + length (items_of x)
+  pub begin_next : (xs : List (Shelf A)) (s : ℕ) (x : Shelf A) → s < length xs → x ≡ get_or xs s x → begin_of xs (suc s) ≡ begin_of xs s + length (items_of x)
   begin_next [] s x h at = absurd (omega arith)
   begin_next (y ∷ xs) zero x h at =
       let same : length (items_of x) ≡ length (items_of y) = ap (λ (z : Shelf A). length (items_of z)) at in
@@ -146,7 +146,7 @@ module _ {A : Type 0} where
   starts_some n [] k filled some h = absurd (omega arith)
   starts_some n (x ∷ xs) zero filled some h = absurd (omega arith)
   starts_some n (x ∷ xs) (suc k) filled some h =
-      let first : 0 < length (items_of x) = filled 0 x (omega arith) in
+      let first : 0 < length (items_of x) = (filled 0 x (omega arith)).some in
       let rest = starts_least (n + length (items_of x)) xs k (omega arith) in
       omega (arith, first, rest)
 
@@ -197,12 +197,3 @@ module _ {A : Type 0} where
       let one = length-append (items_of x) (items_on (take a xs)) in
       let two = length-append (items_of x) (items_on (take b xs)) in
       omega (arith, rest, one, two)
-
-  -- an index on a shelf is before where the next begins
-  pub before_next : (xs : List (Shelf A)) (len index s at : ℕ) → Locates xs len index s at → index < len → index < begin_of xs (suc s)
-  before_next xs len index s at l h =
-      let some = some_at xs s l.within in
-      let inside = l.inside some.0 some.1 h in
-      let next = begin_next xs s some.0 l.within some.1 in
-      let place = l.place in
-      omega (arith, inside, next, place)

@@ -115,7 +115,7 @@ module _ {A : Type 0} where
   module _ (ord : A → Ordering) (xs : List (Shelf A)) (s : ℕ) (x : Shelf A) (h : s < length xs) (at : x ≡ get_or xs s x) (filled : All IsFilled xs)
       (low : 0 < s → BeginsBehind ord xs s false) (high : s + 1 < length xs → BeginsBehind ord xs (s + 1) true) where
     own : 0 < length (items_of x)
-    own = subst (λ (y : Shelf A). IsFilled y) (sym at) (filled s x h)
+    own = (subst (λ (y : Shelf A). IsFilled y) (sym at) (filled s x h)).some
 
     is_low : 0 < length (front items_of xs s) → (d : A) → is_gt (ord (get_or (items_of x) 0 d)) ≡ false
     is_low some d = by s refl
@@ -128,7 +128,7 @@ module _ {A : Type 0} where
     is_high some d =
         let more : suc s < length xs = elim (cases_lt (suc s) (length xs)) [ inl l ↦ l | inr l ↦ absurd (let none = ap length (back_none xs s l) in omega (arith, none, some)) ] in
         let y = some_at xs (suc s) more in
-        let first : 0 < length (items_of y.0) = subst (λ (z : Shelf A). IsFilled z) (sym y.1) (filled (suc s) y.0 more) in
+        let first : 0 < length (items_of y.0) = (subst (λ (z : Shelf A). IsFilled z) (sym y.1) (filled (suc s) y.0 more)).some in
         let read : get_or (back items_of xs s) 0 d ≡ get_or (items_of y.0) 0 d = ap (λ (l : List A). get_or l 0 d) (back_begins xs s y.0 more y.1) ∙ get_or_append_left (items_of y.0) (back items_of xs (suc s)) d 0 first in
         ap (λ a. is_gt (ord a)) read ∙ high (omega (arith, more)) y.0 d (y.1 ∙ ap (λ k. get_or xs k y.0) (sym (add-one s)))
 

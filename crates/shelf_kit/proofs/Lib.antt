@@ -1,3 +1,4 @@
+pub mod Above
 pub mod Begins
 pub mod Bounds
 pub mod Cut
@@ -11,3 +12,4 @@ pub mod Put
 pub mod Raised
 pub mod Same
 pub mod Taken
+pub mod Tops

@@ -1,41 +1,25 @@
--- Numbers that are at most others.
-use Rattle.std.proofs.Common.{◌≡◌, ℕ, zero, suc, ◌≤◌, List, [], ◌∷◌, ◌++◌, length, get_or, replicate, refl, ap, arith}
-use Rattle.std.specs.List.{insert, remove}
+-- Numbers that are at most others, and what holds of each value of a list that one comes into or goes out of.
+use Rattle.std.proofs.Common.{◌≡◌, ℕ, zero, suc, ◌≤◌, List, [], ◌∷◌, get_or, take, drop, max, subst, sym, arith}
+use Rattle.std.specs.Prelude.{slice_set}
+use Rattle.std.specs.List.{All, insert, remove}
+use Rattle.std.proofs.lemmas.List.Elements.{All-append, All-cons, All-drop, All-take}
 use Rattle.shelf_kit.specs.Shelving.{AreAtMost}
 
-pub at_most_behind : (ks ms ns : List ℕ) → AreAtMost ms ns → AreAtMost (ks ++ ms) (ks ++ ns)
-at_most_behind [] ms ns h i = h i
-at_most_behind (k ∷ ks) ms ns h zero = omega arith
-at_most_behind (k ∷ ks) ms ns h (suc i) = at_most_behind ks ms ns h i
+module _ {X : Type 0} (P : X → Type 0) (xs : List X) (i : ℕ) (all : All P xs) where
+  pub all_insert : (x : X) → P x → All P (insert xs i x)
+  all_insert x here = All-append P (take i xs) (x ∷ drop i xs) (All-take P i xs all) (All-cons P x (drop i xs) here (All-drop P i xs all))
 
-pub at_most_before : (ms ns ks : List ℕ) → length ms ≡ length ns → AreAtMost ms ns → AreAtMost (ms ++ ks) (ns ++ ks)
-at_most_before [] [] ks e h i = omega arith
-at_most_before [] (n ∷ ns) ks e h i = absurd (omega (arith, e))
-at_most_before (m ∷ ms) [] ks e h i = absurd (omega (arith, e))
-at_most_before (m ∷ ms) (n ∷ ns) ks e h zero = h 0
-at_most_before (m ∷ ms) (n ∷ ns) ks e h (suc i) = at_most_before ms ns ks (omega (arith, e)) (λ j. h (suc j)) i
+  pub all_remove : All P (remove xs i)
+  all_remove = All-append P (take i xs) (drop (suc i) xs) (All-take P i xs all) (All-drop P (suc i) xs all)
 
-pub at_most_all : (ns : List ℕ) (most : ℕ) → ((k : ℕ) → get_or ns k 0 ≤ most) → AreAtMost ns (replicate (length ns) most)
-at_most_all [] most h k = omega arith
-at_most_all (n ∷ ns) most h zero = h 0
-at_most_all (n ∷ ns) most h (suc k) = at_most_all ns most (λ j. h (suc j)) k
+-- one of them is raised
+pub at_most_raised : (ns : List ℕ) (i n : ℕ) → AreAtMost ns (slice_set ns i (max (get_or ns i 0) n))
+at_most_raised [] zero n k = omega arith
+at_most_raised [] (suc i) n k = omega arith
+at_most_raised (m ∷ ns) zero n zero = omega arith
+at_most_raised (m ∷ ns) zero n (suc k) = omega arith
+at_most_raised (m ∷ ns) (suc i) n zero = omega arith
+at_most_raised (m ∷ ns) (suc i) n (suc k) = at_most_raised ns i n k
 
-pub all_of : (n b k : ℕ) → get_or (replicate n b) k 0 ≤ b
-all_of zero b k = omega arith
-all_of (suc n) b zero = omega arith
-all_of (suc n) b (suc k) = all_of n b k
-
-pub inserted : (n i b new most : ℕ) → b ≤ most → new ≤ most → (k : ℕ) → get_or (insert (replicate n b) i new) k 0 ≤ most
-inserted zero zero b new most h l zero = l
-inserted zero zero b new most h l (suc k) = omega arith
-inserted zero (suc i) b new most h l zero = l
-inserted zero (suc i) b new most h l (suc k) = omega arith
-inserted (suc n) zero b new most h l zero = l
-inserted (suc n) zero b new most h l (suc k) = let e = all_of (suc n) b k in omega (arith, e, h)
-inserted (suc n) (suc i) b new most h l zero = h
-inserted (suc n) (suc i) b new most h l (suc k) = inserted n i b new most h l k
-
-pub removed : (n i b : ℕ) → i ≤ n → remove (replicate (suc n) b) i ≡ replicate n b
-removed n zero b h = refl
-removed zero (suc i) b h = absurd (omega arith)
-removed (suc n) (suc i) b h = ap (λ l. b ∷ l) (removed n i b (omega arith))
+pub at_most_same : (ms ns : List ℕ) → ns ≡ ms → AreAtMost ms ns
+at_most_same ms ns e k = subst (λ (l : List ℕ). get_or ms k 0 ≤ get_or l k 0) (sym e) (omega arith)

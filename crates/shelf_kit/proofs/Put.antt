@@ -1,62 +1,68 @@
 -- A value that is put onto its shelf.
-use Rattle.std.proofs.Common.{◌≡◌, ℕ, ◌+◌, ◌<◌, ◌≤◌, List, ◌++◌, length, take, drop, map, replicate, max, Result, Ok, Err, sym, ap, subst, ◌∙◌, arith, add-one}
+use Rattle.std.proofs.Common.{◌≡◌, ℕ, ◌+◌, ◌≤◌, List, ◌++◌, length, get_or, take, drop, map, max, Result, Ok, Err, sym, ap, subst, ◌∙◌, arith, add-one}
+use Rattle.std.specs.Prelude.{slice_set}
 use Rattle.std.specs.List.{All, insert}
 use Rattle.std.specs.Result.{OnErr}
-use Rattle.std.proofs.lemmas.List.{length-replicate}
 use Rattle.std.proofs.lemmas.List.Edits.{length-insert}
-use Rattle.std.proofs.lemmas.List.Elements.{All-set}
-use Rattle.shelf_kit.specs.Shelving.{AreAtMost, IsFilled, IsShelved, Locates, Puts, begin_of, bounds_of, bounds_on, items_of, items_on, starts_from}
+use Rattle.std.proofs.lemmas.List.Elements.{All-same, All-set}
+use Rattle.shelf_kit.specs.Shelving.{AreTops, IsFilled, IsShelved, Locates, Puts, bounds_of, bounds_on, items_of, items_on, starts_from}
 use Rattle.shelf_kit.specs.declared.shelf.Shelf.{Shelf}
 use Rattle.shelf_kit.proofs.Begins.{starts_put}
-use Rattle.shelf_kit.proofs.Bounds.{length_bounds}
-use Rattle.shelf_kit.proofs.Most.{at_most_all, at_most_before, at_most_behind, inserted}
+use Rattle.shelf_kit.proofs.Bounds.{begin_bounds, filled_at}
+use Rattle.shelf_kit.proofs.Most.{all_insert}
 use Rattle.shelf_kit.proofs.Pieces.{back, front, insert_in, piece_set}
+use Rattle.shelf_kit.proofs.Tops.{tops_raised}
 
-module _ {A : Type 0} where
-  module _ (xs ys : List (Shelf A)) (s : ℕ) (h : s < length xs) where
-    module _ (at : ℕ) (value : A) (bound : ℕ) (p : Puts xs ys s at value bound) (fits : at ≤ length (items_of p.old)) where
-      pub put_items : items_on ys ≡ insert (items_on xs) (begin_of xs s + at) value
-      put_items =
-          ap items_on p.changes.is ∙ piece_set items_of xs s p.new h
-          ∙ ap (λ l. front items_of xs s ++ (l ++ back items_of xs s)) p.items
-          ∙ sym (insert_in items_of xs s at p.old h p.changes.at value fits)
+module _ {A : Type 0} {xs ys : List (Shelf A)} {len index s at : ℕ} {value : A} {bound : ℕ} (l : Locates xs len index s at) (p : Puts xs ys s at value bound) where
+  fits : at ≤ length (items_of p.old)
+  fits = l.fits p.old p.changes.at
 
-      put_long : length (items_of p.new) ≡ length (items_of p.old) + 1
-      put_long = ap length p.items ∙ length-insert (items_of p.old) at value fits
+  pub put_items : items_on ys ≡ insert (items_on xs) index value
+  put_items =
+      ap items_on p.changes.is ∙ piece_set items_of xs s p.new l.within
+      ∙ ap (λ k. front items_of xs s ++ (k ++ back items_of xs s)) p.items
+      ∙ sym (insert_in items_of xs s at p.old l.within p.changes.at value fits) ∙ ap (λ k. insert (items_on xs) k value) l.place
 
-      pub put_bounds : AreAtMost (insert (bounds_on xs) (begin_of xs s + at) bound) (bounds_on ys)
-      put_bounds =
-          let n = length (items_of p.old) in
-          let most = max p.old.bound bound in
-          let olds = replicate n p.old.bound in
-          let here : length olds ≡ n = length-replicate n p.old.bound in
-          let long : length (insert olds at bound) ≡ n + 1 = length-insert olds at bound (omega (arith, here, fits)) ∙ ap (λ k. k + 1) here in
-          let news : bounds_on ys ≡ front bounds_of xs s ++ (replicate (n + 1) most ++ back bounds_of xs s) =
-          ap bounds_on p.changes.is ∙ piece_set bounds_of xs s p.new h ∙ (λ i. front bounds_of xs s ++ (replicate (put_long i) (p.raised i) ++ back bounds_of xs s)) in
-          let begin : length (front bounds_of xs s) ≡ begin_of xs s = length_bounds (take s xs) in
-          let were : insert (bounds_on xs) (begin_of xs s + at) bound ≡ front bounds_of xs s ++ (insert olds at bound ++ back bounds_of xs s) =
-          ap (λ k. insert (bounds_on xs) (k + at) bound) (sym begin) ∙ insert_in bounds_of xs s at p.old h p.changes.at bound (omega (arith, here, fits)) in
-          let up : AreAtMost (insert olds at bound) (replicate (n + 1) most) =
-          subst (λ k. AreAtMost (insert olds at bound) (replicate k most)) long
-          (at_most_all (insert olds at bound) most (inserted n at p.old.bound bound most (omega arith) (omega arith))) in
-          subst (λ l. AreAtMost l (bounds_on ys)) (sym were)
-          (subst (λ l. AreAtMost (front bounds_of xs s ++ (insert olds at bound ++ back bounds_of xs s)) l) (sym news)
-          (at_most_behind (front bounds_of xs s) _ _
-          (at_most_before (insert olds at bound) (replicate (n + 1) most) (back bounds_of xs s) (long ∙ sym (length-replicate (n + 1) most)) up)))
+  long : length (items_of p.new) ≡ length (items_of p.old) + 1
+  long = ap length p.items ∙ length-insert (items_of p.old) at value fits
 
-  pub shelved_put : (xs ys : List (Shelf A)) (starts news : List ℕ) (len index s at : ℕ) (value : A) (bound : ℕ) → IsShelved xs starts len → index ≤ len → Locates xs len index s at → Puts xs ys s at value bound
-      → news ≡ take (s + 1) starts ++ map (λ n. n + 1) (drop (s + 1) starts) → IsShelved ys news (len + 1)
-  shelved_put xs ys starts news len index s at value bound is up_to l p e =
-      let fits = l.fits p.old p.changes.at in
-      let long = put_long xs ys s l.within at value bound p fits in
-      let all = is.counted in
-      let place = l.place in
-      record {
-        begins = e ∙ (λ i. take (add-one s i) (is.begins i) ++ map (λ n. n + 1) (drop (add-one s i) (is.begins i)))
-            ∙ sym (starts_put 0 xs s p.old p.new l.within p.changes.at long) ∙ ap (λ (zs : List (Shelf A)). starts_from 0 zs) (sym p.changes.is);
-        filled = subst (λ (zs : List (Shelf A)). All IsFilled zs) (sym p.changes.is) (All-set IsFilled xs s p.new (omega (arith, long)) is.filled);
-        counted = ap (λ n. n + 1) all ∙ sym (ap length (put_items xs ys s l.within at value bound p fits) ∙ length-insert (items_on xs) (begin_of xs s + at) value (omega (arith, all, place, up_to)));
-      }
+  pub put_tops : (tops : List ℕ) → AreTops xs tops → AreTops ys (slice_set tops s (max (get_or tops s 0) bound))
+  put_tops tops up =
+      let most = max (get_or tops s 0) bound in
+      let P = λ (n : ℕ). n ≤ most in
+      tops_raised l.within p.changes tops up most (omega arith)
+      (λ was. All-same P (bounds_of p.new) (insert (bounds_of p.old) at bound) p.bounds (all_insert P (bounds_of p.old) at was bound (omega arith)))
+
+  module _ {starts : List ℕ} (is : IsShelved xs starts len) where
+    own : IsFilled p.old
+    own = filled_at xs s p.old is.filled l.within p.changes.at
+
+    fits_bounds : at ≤ length (bounds_of p.old)
+    fits_bounds = let m = own.matched in let f = fits in omega (arith, m, f)
+
+    pub put_bounds : bounds_on ys ≡ insert (bounds_on xs) index bound
+    put_bounds =
+        ap bounds_on p.changes.is ∙ piece_set bounds_of xs s p.new l.within
+        ∙ ap (λ k. front bounds_of xs s ++ (k ++ back bounds_of xs s)) p.bounds
+        ∙ sym (insert_in bounds_of xs s at p.old l.within p.changes.at bound fits_bounds)
+        ∙ ap (λ k. insert (bounds_on xs) (k + at) bound) (begin_bounds xs s is.filled) ∙ ap (λ k. insert (bounds_on xs) k bound) l.place
+
+    filled : IsFilled p.new
+    filled =
+        let many = long in
+        let more = ap length p.bounds ∙ length-insert (bounds_of p.old) at bound fits_bounds in
+        let m = own.matched in
+        record { some = omega (arith, many); matched = omega (arith, many, more, m) }
+
+    pub put_shelved : {news : List ℕ} → news ≡ take (s + 1) starts ++ map (λ n. n + 1) (drop (s + 1) starts) → index ≤ len → IsShelved ys news (len + 1)
+    put_shelved e up_to =
+        let all = is.counted in
+        record {
+          begins = e ∙ (λ i. take (add-one s i) (is.begins i) ++ map (λ n. n + 1) (drop (add-one s i) (is.begins i)))
+              ∙ sym (starts_put 0 xs s p.old p.new l.within p.changes.at long) ∙ ap (λ (zs : List (Shelf A)). starts_from 0 zs) (sym p.changes.is);
+          filled = subst (λ (zs : List (Shelf A)). All IsFilled zs) (sym p.changes.is) (All-set IsFilled xs s p.new filled is.filled);
+          counted = ap (λ n. n + 1) all ∙ sym (ap length put_items ∙ length-insert (items_on xs) index value (omega (arith, all, up_to)));
+        }
 
 pub held_at_err : {T E P : Type 0} (r : Result T E) → P → OnErr r P
 held_at_err (Ok x) p = tt

@@ -1,6 +1,6 @@
 -- How shelves make a list.
-use Rattle.std.specs.Prelude.{◌≡◌, ◌+◌, ◌-◌, ◌<◌, ◌≤◌, ℕ, Bool, Result, Ok, Err, List, [], ◌∷◌, ◌++◌, length, take, replicate, max, slice_index_or, slice_set}
-use Rattle.std.specs.List.{All, flat_map, insert, remove}
+use Rattle.std.specs.Prelude.{◌≡◌, ◌+◌, ◌-◌, ◌<◌, ◌≤◌, ℕ, Bool, Result, Ok, Err, List, [], ◌∷◌, length, take, drop, max, slice_index, slice_index_or, slice_set}
+use Rattle.std.specs.List.{All, AllZip, flat_map, insert, remove}
 use Rattle.std.specs.Ordering.{is_gt}
 use Rattle.std.specs.declared.cmp.Ordering.{Ordering}
 use Rattle.shelf_kit.specs.declared.shelf.Shelf.{Shelf}
@@ -9,9 +9,8 @@ module _ {A : Type 0} where
   abbrev pub items_of : Shelf A → List A
   items_of shelf = shelf.items.items
 
-  -- the bound of a shelf, once for each of its values
   abbrev pub bounds_of : Shelf A → List ℕ
-  bounds_of shelf = replicate (length (items_of shelf)) shelf.bound
+  bounds_of shelf = shelf.bounds.items
 
   -- the values of all shelves, one shelf after the other
   abbrev pub items_on : List (Shelf A) → List A
@@ -29,8 +28,18 @@ module _ {A : Type 0} where
   starts_from n [] = []
   starts_from n (x ∷ xs) = n ∷ starts_from (n + length (items_of x)) xs
 
-  abbrev pub IsFilled : Shelf A → Type 0
-  IsFilled shelf = 0 < length (items_of shelf)
+  -- a shelf has a value, and a bound for each of them
+  pub record IsFilled (shelf : Shelf A) : Type 0 where
+    pub some : 0 < length (items_of shelf)
+    pub matched : length (bounds_of shelf) ≡ length (items_of shelf)
+
+  -- no bound on a shelf exceeds a number
+  abbrev pub IsTop : Shelf A → ℕ → Type 0
+  IsTop shelf top = All (λ n. n ≤ top) (bounds_of shelf)
+
+  -- there is such a number for each shelf
+  abbrev pub AreTops : List (Shelf A) → List ℕ → Type 0
+  AreTops shelves tops = AllZip IsTop shelves tops
 
   -- shelves, none of them empty, where they begin, and how many values they have
   pub record IsShelved (shelves : List (Shelf A)) (starts : List ℕ) (len : ℕ) : Type 0 where
@@ -59,13 +68,13 @@ module _ {A : Type 0} where
     pub at : old ≡ slice_index_or olds s old
     pub is : news ≡ slice_set olds s new
 
-  -- its bound is raised
-  pub record Raises (olds news : List (Shelf A)) (s bound : ℕ) : Type 0 where
+  -- one of its bounds is raised
+  pub record Raises (olds news : List (Shelf A)) (s at bound : ℕ) : Type 0 where
     pub old : Shelf A
     pub new : Shelf A
     pub changes : Changes olds news s old new
     pub items : items_of new ≡ items_of old
-    pub raised : new.bound ≡ max old.bound bound
+    pub bounds : bounds_of new ≡ slice_set (bounds_of old) at (max (slice_index (bounds_of old) at) bound)
 
   -- none of its values is
   pub record Keeps (olds news : List (Shelf A)) (s : ℕ) : Type 0 where
@@ -73,7 +82,7 @@ module _ {A : Type 0} where
     pub new : Shelf A
     pub changes : Changes olds news s old new
     pub items : items_of new ≡ items_of old
-    pub bound : new.bound ≡ old.bound
+    pub bounds : bounds_of new ≡ bounds_of old
 
   -- a value is put onto it
   pub record Puts (olds news : List (Shelf A)) (s at : ℕ) (value : A) (bound : ℕ) : Type 0 where
@@ -81,7 +90,7 @@ module _ {A : Type 0} where
     pub new : Shelf A
     pub changes : Changes olds news s old new
     pub items : items_of new ≡ insert (items_of old) at value
-    pub raised : new.bound ≡ max old.bound bound
+    pub bounds : bounds_of new ≡ insert (bounds_of old) at bound
 
   -- it becomes two, the first of which has so many values
   pub record Cuts (olds news : List (Shelf A)) (s at : ℕ) : Type 0 where
@@ -89,11 +98,12 @@ module _ {A : Type 0} where
     pub one : Shelf A
     pub two : Shelf A
     pub was : old ≡ slice_index_or olds s old
+    pub fits : at < length (items_of old)
     pub is : news ≡ insert (slice_set olds s one) (s + 1) two
-    pub parts : items_of one ++ items_of two ≡ items_of old
-    pub first : length (items_of one) ≡ at
-    pub bound_one : one.bound ≡ old.bound
-    pub bound_two : two.bound ≡ old.bound
+    pub items_one : items_of one ≡ take at (items_of old)
+    pub items_two : items_of two ≡ drop at (items_of old)
+    pub bounds_one : bounds_of one ≡ take at (bounds_of old)
+    pub bounds_two : bounds_of two ≡ drop at (bounds_of old)
 
   -- a value is taken off it
   pub record Takes (olds news : List (Shelf A)) (s at : ℕ) (value : A) : Type 0 where
@@ -101,7 +111,7 @@ module _ {A : Type 0} where
     pub new : Shelf A
     pub changes : Changes olds news s old new
     pub items : items_of new ≡ remove (items_of old) at
-    pub bound : new.bound ≡ old.bound
+    pub bounds : bounds_of new ≡ remove (bounds_of old) at
     pub was : value ≡ slice_index_or (items_of old) at value
 
   -- a value is taken out of the list, and the shelves that are left begin elsewhere
@@ -119,3 +129,10 @@ found_behind n (Err i) = Err (n + i)
 -- each number of one list is at most that at its place in another
 abbrev pub AreAtMost : List ℕ → List ℕ → Type 0
 AreAtMost ms ns = (k : ℕ) → slice_index_or ms k 0 ≤ slice_index_or ns k 0
+
+-- the first index from one on whose bound exceeds a number, or how many bounds there are
+pub record IsNextAbove (bounds : List ℕ) (index number result : ℕ) : Type 0 where
+  pub on : index ≤ result
+  pub within : result ≤ length bounds
+  pub passed : (k : ℕ) → index ≤ k → k < result → slice_index bounds k ≤ number
+  pub above : result < length bounds → number < slice_index bounds result

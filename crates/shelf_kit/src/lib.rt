@@ -7,8 +7,9 @@
 //! - **Order.** Values stand by index, as in a vector, in the order that the caller gives them. [`Shelves::search`] finds one by a
 //!   [`Target`], which may be a part of a key or a place between keys. A [`Walk`] lends a part of the list, in order.
 //! - **Memory that may be refused.** Only [`Shelves::insert`] takes memory. Where that is refused, nothing has changed.
-//! - **Bounds.** For each index a number, which its caller raises and which never falls. The values of a shelf share one, so
-//!   [`Shelves::next_above`] passes over a whole shelf by one look.
+//! - **Bounds.** For each index a number, which its caller raises and which never falls. Those of a shelf stand side by side, apart from
+//!   its values, and a number that none of them exceeds beside those of the other shelves. So [`Shelves::next_above`] passes over a shelf
+//!   by one look, and looks at no value.
 //!
 //! Contracts see a list of values, and one of bounds that is as long. Shelves are not seen; costs alone speak of them. A shelf takes
 //! at most 256 values where there was memory for another one. One that is too full is cut in half, and the last shelf of a list is left

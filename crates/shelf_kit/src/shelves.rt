@@ -8,14 +8,17 @@ ghost use Rattle.shelf_kit.specs.Shelving.{AreAtMost};
 ghost use Rattle.shelf_kit.specs.Walks.{walk_left};
 
 use crate::part::{
-    begin_at, first_above, found_from, locate, put_at, raise_on, search_on, shelf_for, split,
-    take_at,
+    above_from, begin_at, found_from, locate, put_at, raise_on, reserve_both, search_on, shelf_for,
+    split, take_at,
 };
-use crate::shelf::Shelf;
+use crate::shelf::{Shelf, raise_at};
 use crate::target::Target;
 use crate::walk::Walk;
 use std::alloc::{AllocError, Global};
 use std::marker::Model;
+
+/// How many values a run has at most: who looks for values of high bounds looks at some behind each.
+const RUN: usize = 8;
 
 /// A list whose values stand on shelves, and a bound for each index.
 ///
@@ -26,6 +29,8 @@ pub struct Shelves<T> {
     shelves: Vec<Shelf<T>>,
     /// Where each of them begins.
     starts: Vec<usize>,
+    /// A number that no bound on it exceeds, of each of them.
+    tops: Vec<u64>,
     len: usize,
 }
 
@@ -36,11 +41,11 @@ impl<T> Model for Shelves<T> {
 
     ghost coded = { shelved_code T.code };
 
-    ghost use Rattle.shelf_kit.specs.Shelving.{IsShelved, bounds_on, items_on};
+    ghost use Rattle.shelf_kit.specs.Shelving.{AreTops, IsShelved, bounds_on, items_on};
 
     ghost view = { λ s. record { items = items_on s.shelves.items; bounds = bounds_on s.shelves.items } };
 
-    ghost invariant = { λ s. IsShelved s.shelves.items s.starts.items s.len };
+    ghost invariant = { λ s. IsShelved s.shelves.items s.starts.items s.len × AreTops s.shelves.items s.tops.items };
 }
 
 impl<T> Shelves<T> {
@@ -52,6 +57,7 @@ impl<T> Shelves<T> {
         Shelves {
             shelves: Vec::new(alloc),
             starts: Vec::new(alloc),
+            tops: Vec::new(alloc),
             len: 0,
         }
     }
@@ -103,15 +109,16 @@ impl<T> Shelves<T> {
         &mut here.items[at]
     }
 
-    /// Raises the bound of an index to a number, if it is lower: O(log s). Those of the same shelf rise with it, and none falls.
+    /// Raises the bound of an index to a number, if it is lower: O(log s). No bound falls.
     pub fn raise(&mut self, index: usize, bound: u64)
         requires { index < length self.old.items }
         ensures items { self.new.items ≡ self.old.items }
         ensures kept { AreAtMost self.old.bounds self.new.bounds }
         ensures here { bound ≤ slice_index self.new.bounds index }
     {
-        let (shelf, _) = locate(&self.shelves, &self.starts, self.len, index);
-        raise_on(&mut self.shelves, shelf, bound);
+        let (shelf, at) = locate(&self.shelves, &self.starts, self.len, index);
+        raise_on(&mut self.shelves, shelf, at, bound);
+        raise_at(&mut self.tops, shelf, bound);
     }
 
     /// `Ok` with the index of what is looked for, or `Err` with the one where it belongs: O(log n) of n values. Values that do not stand
@@ -131,8 +138,8 @@ impl<T> Shelves<T> {
         )
     }
 
-    /// The first index, from one on, whose bound exceeds a number, or the length where there is none: O(log s), and one look at each shelf
-    /// that is passed over.
+    /// The first index, from one on, whose bound exceeds a number, or the length where there is none: O(log s), one look at each shelf
+    /// that is passed over, and one at each bound of any other.
     pub fn next_above(&self, index: usize, number: u64) -> usize
         requires { index ≤ length self.now.items }
         ensures on { index ≤ result }
@@ -143,16 +150,17 @@ impl<T> Shelves<T> {
         if index >= self.len {
             return index;
         }
-        let (first, _) = locate(&self.shelves, &self.starts, self.len, index);
-        let shelf = first_above(self.shelves.as_slice(), first, number);
-        if shelf == first {
-            index
-        } else {
-            begin_at(&self.shelves, &self.starts, self.len, shelf)
-        }
+        above_from(
+            &self.shelves,
+            &self.starts,
+            &self.tops,
+            self.len,
+            index,
+            number,
+        )
     }
 
-    /// The values from an index, which is less than the length, to the end of its shelf: O(log s). There is one at least.
+    /// Some values from an index on, which is less than the length: as many as stand on its shelf, but at most 8. O(log s).
     pub fn run(&self, index: usize) -> &[T]
         requires { index < length self.now.items }
         ensures some { 0 < length result.now }
@@ -160,7 +168,8 @@ impl<T> Shelves<T> {
         ensures value { result.now ≡ take (length result.now) (drop index self.now.items) }
     {
         let (shelf, at) = locate(&self.shelves, &self.starts, self.len, index);
-        let (_, run) = self.shelves[shelf].items.as_slice().split_at(at);
+        let (_, left) = self.shelves[shelf].items.as_slice().split_at(at);
+        let (run, _) = left.split_at(left.len().min(RUN));
         run
     }
 
@@ -195,15 +204,18 @@ impl<T> Shelves<T> {
         ensures bounds { OnOk result (self.new.bounds ≡ bound ∷ []) }
         ensures unchanged { OnErr result (self.new ≡ self.old) }
     {
+        let mut bounds = Vec::new(self.allocator());
+        bounds.push(bound)?;
         let mut items = Vec::new(self.allocator());
         if items.push(value).is_err() {
             return Err(AllocError);
         }
-        self.starts.reserve(1)?;
-        if self.shelves.push(Shelf { items, bound }).is_err() {
+        reserve_both(&mut self.starts, &mut self.tops)?;
+        if self.shelves.push(Shelf { items, bounds }).is_err() {
             return Err(AllocError);
         }
         let _ = self.starts.push(0);
+        let _ = self.tops.push(bound);
         self.len = 1;
         Ok(())
     }
@@ -230,13 +242,14 @@ impl<T> Shelves<T> {
         let shelf = put_at(
             &mut self.shelves,
             &mut self.starts,
+            &mut self.tops,
             self.len,
             index,
             value,
             bound,
         )?;
         self.len += 1;
-        split(&mut self.shelves, &mut self.starts, shelf);
+        split(&mut self.shelves, &mut self.starts, &mut self.tops, shelf);
         Ok(())
     }
 
@@ -250,7 +263,13 @@ impl<T> Shelves<T> {
         ensures items { self.new.items ≡ remove self.old.items index }
         ensures bounds { self.new.bounds ≡ remove self.old.bounds index }
     {
-        let value = take_at(&mut self.shelves, &mut self.starts, self.len, index);
+        let value = take_at(
+            &mut self.shelves,
+            &mut self.starts,
+            &mut self.tops,
+            self.len,
+            index,
+        );
         self.len -= 1;
         value
     }

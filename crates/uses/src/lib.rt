@@ -8,13 +8,14 @@
 //!   readers: with an exporter of one's own, into memory, over a channel, and over one that fails when told).
 //! - Who reads: `gathering` (deliver, merge, ask, print a table), `reading` (rows, rounds, points and feeds), `passing` (exports made by
 //!   hand, and as bytes), `sending` (to OpenTelemetry's Collectors), `gossiping` (two gateways that tell each other),
-//!   `forgetting` (incarnations that tell nothing any more).
+//!   `forgetting` (incarnations that tell nothing any more), `archiving` (archives that adopt these, and keepers that forget them).
 //! - Threads: `sharing` (two threads at one writer, one by one and by logs), `serving` (a gateway that threads share, and what a seat
 //!   tells another), `turning` (a machine of one's own under a turn), `fleets` (threads that record, and gateways that answer).
 //! - Without threads: `replaying` (a schedule of writers and gateways), `scripting` (scripts, and lines by themselves), `commanding` (the
 //!   program's command line).
 #![tactic(auto)]
 
+pub mod archiving;
 pub mod attributing;
 pub mod commanding;
 pub mod fleets;

@@ -7,7 +7,7 @@ use Rattle.file_kit.proofs.answers.expose.Goals.{in-Prometheus+in_ok-page-in-Pro
 pub returns-clause-value : goal.returns-clause-value
 returns-clause-value c = (
   c.gateway-gateway.result.now.points,
-  still_shows _ c.in_ok-keeper.keeper.points _ (ap (λ (g : GatewayState). g.points) c.gateway-gateway.ensures.value) c.in_ok-keeper.ensures.value,
+  still_shows _ c.in_ok-keeper.keeper.gateway.points _ (ap (λ (g : GatewayState). g.points) c.gateway-gateway.ensures.value) c.in_ok-keeper.ensures.value,
   elim c.match-format.branch [
     | in-Prometheus+in_ok-page-in-Prometheus w ↦ rw (w.page-is, w.in-Prometheus.is) (_, refl, w.in_ok-page-in-Prometheus.ensures.value)
     | in-OpenMetrics+in_ok-page-in-OpenMetrics w ↦ rw (w.page-is, w.in-OpenMetrics.is) (_, refl, w.in_ok-page-in-OpenMetrics.ensures.value)

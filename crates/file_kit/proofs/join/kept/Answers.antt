@@ -1,5 +1,6 @@
 use Rattle.std.proofs.Common.{◌∙◌, ap}
 use Rattle.gossip_kit.proofs.Changes.{alone}
+use Rattle.gossip_kit.specs.Views.{NodeModel}
 use Rattle.archive_kit.specs.Keeping.{kept_points}
 use Rattle.archive_kit.specs.Showing.{shown}
 use Rattle.archive_kit.specs.Tombstones.{names_key}
@@ -11,6 +12,6 @@ returns-clause-value c = (
   c.in_ok-held.held.points,
   c.in_ok-held.ensures.value,
   c.in_ok-merge.ensures.ok
-      ∙ ap (λ (p : Points). kept_points p c.in_ok-held.held.points) c.in_ok-keeper.ensures.value
+      ∙ ap (λ (n : NodeModel). kept_points n.gateway.points c.in_ok-held.held.points) c.in_ok-keeper.ensures.value
       ∙ ap (λ (p : Points). shown names_key p) (alone c.in_ok-held.held.points),
 )

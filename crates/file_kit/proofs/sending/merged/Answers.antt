@@ -8,9 +8,9 @@ use Rattle.file_kit.proofs.sending.merged.Goals as goal
 
 pub returns-clause-value : goal.returns-clause-value
 returns-clause-value c =
-    let same : c.in_ok-gateway.gateway ≡ c.in_ok-keeper.keeper = c.in_ok-gateway.ensures.value ∙ c.gateway.ensures.value in
+    let same : c.in_ok-gateway.gateway ≡ c.in_ok-keeper.keeper.gateway = c.in_ok-gateway.ensures.value ∙ c.gateway.ensures.value in
     let points = c.in_ok-gateway.gateway.points in
     let id : c.id-id.result ≡ 0 = c.id-id.ensures.value ∙ ap (λ (g : GatewayState). g.id) same ∙ c.in_ok-keeper.ensures.id in
     let with_id : ℕ → MessageModel = λ n. record { from = n; to = n; points = points; delta = None; ack = None } in
     let made : c.new-state.result ≡ state_of points = c.new-state.ensures.value ∙ ap with_id id in
-    (points, still_shows _ c.in_ok-keeper.keeper.points points (ap (λ (g : GatewayState). g.points) same) c.in_ok-keeper.ensures.value, c.in_ok-encode_message.ensures.ok ∙ ap bytes_of_message made)
+    (points, still_shows _ c.in_ok-keeper.keeper.gateway.points points (ap (λ (g : GatewayState). g.points) same) c.in_ok-keeper.ensures.value, c.in_ok-encode_message.ensures.ok ∙ ap bytes_of_message made)

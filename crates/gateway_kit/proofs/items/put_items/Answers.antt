@@ -18,18 +18,18 @@ use Rattle.gateway_kit.proofs.items.put_items.Goals.{else-not-is_empty-via-then-
 pub returns-then-len-saturating_sub-clause-woven : goal.returns-then-len-saturating_sub-clause-woven
 returns-then-len-saturating_sub-clause-woven c =
     let fits : length c.args.items.now.items + length c.args.fresh.items ≤ vec_capacity c.args.room = grind (arith, common_steps) in
-    ap (map keyed_cell_of) (c.settle.ensures.same ∙ c.weave.ensures ∙ (λ i. weave (λ x y. on_keys item_cmp (keyed_cell_of x) (keyed_cell_of y)) (c.replace-mine.ensures.value i).items c.renumber_all.new.values.items)) ∙ map-weave _ (on_keys item_cmp) keyed_cell_of (λ x y. refl) c.args.items.now.items c.renumber_all.new.values.items
+    ap (map keyed_cell_of) (c.settle.ensures.same ∙ c.weave_in.ensures) ∙ map-weave _ (on_keys item_cmp) keyed_cell_of (λ x y. refl) c.args.items.now.items c.renumber_all.new.values.items
     ∙ ap (weave (on_keys item_cmp) (map keyed_cell_of c.args.items.now.items)) c.renumber_all.ensures.same
     ∙ ap (λ b. cond b (weave (on_keys item_cmp) (map keyed_cell_of c.args.items.now.items) (map keyed_cell_of c.args.fresh.items)) (map keyed_cell_of c.args.items.now.items)) (sym (le-leb _ _ fits))
 
 pub returns-then-len-saturating_sub-clause-moves : goal.returns-then-len-saturating_sub-clause-moves
 returns-then-len-saturating_sub-clause-moves c =
-    subst (λ (l : List PartItem). ItemsMove c.args.number c.args.items.now.items l) (sym (c.settle.ensures.same ∙ c.weave.ensures ∙ (λ i. weave (λ x y. on_keys item_cmp (keyed_cell_of x) (keyed_cell_of y)) (c.replace-mine.ensures.value i).items c.renumber_all.new.values.items)))
+    subst (λ (l : List PartItem). ItemsMove c.args.number c.args.items.now.items l) (sym (c.settle.ensures.same ∙ c.weave_in.ensures))
     (woven_move c.args.number c.args.items.now.items c.renumber_all.new.values.items c.requires.sorted (ap (is_sorted item_cmp) c.renumber_all.ensures.same ∙ c.requires.fresh_sorted) c.renumber_all.ensures.numbers)
 
 pub returns-then-len-saturating_sub-clause-up_to : goal.returns-then-len-saturating_sub-clause-up_to
 returns-then-len-saturating_sub-clause-up_to c = λ n g h.
-    ap (λ (l : List PartItem). are_up_to n l) (c.settle.ensures.same ∙ c.weave.ensures ∙ (λ i. weave (λ x y. on_keys item_cmp (keyed_cell_of x) (keyed_cell_of y)) (c.replace-mine.ensures.value i).items c.renumber_all.new.values.items))
+    ap (λ (l : List PartItem). are_up_to n l) (c.settle.ensures.same ∙ c.weave_in.ensures)
     ∙ all_weave (λ x y. on_keys item_cmp (keyed_cell_of x) (keyed_cell_of y)) (λ (i : PartItem). nat_le i.number n) c.args.items.now.items c.renumber_all.new.values.items h (all_up_to c.args.number c.renumber_all.new.values.items c.renumber_all.ensures.numbers n g)
 
 pub returns-else-not-is_empty-clause-moves : goal.returns-else-not-is_empty-clause-moves

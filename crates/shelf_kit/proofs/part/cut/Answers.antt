@@ -1,9 +1,7 @@
-use Rattle.std.proofs.Common.{◌≡◌, ◌+◌, ◌<◌, ◌++◌, List, length, get_or, take, drop, refl, ap, ◌∙◌, arith, rules}
+use Rattle.std.proofs.Common.{◌≡◌, ◌+◌, List, get_or, ap, ◌∙◌, arith, rules}
 use Rattle.std.specs.Prelude.{slice_set}
 use Rattle.std.specs.List.{insert}
-use Rattle.std.proofs.lemmas.List.{take-append-drop}
 use Rattle.shelf_kit.specs.declared.shelf.Shelf.{Shelf}
-use Rattle.shelf_kit.proofs.Pieces.{same_at}
 use Rattle.shelf_kit.proofs.part.cut.Goals as goal
 
 pub returns-clause-ok : goal.returns-clause-ok
@@ -12,21 +10,20 @@ returns-clause-ok g c =
     let s = c.args.shelf in
     let same : ys ≡ c.args.shelves.now.items = c.reserve.ensures.items in
     let old = c.index_mut.result.now in
-    let one : Shelf g.row.T.Denot = record { items = c.split_off.new.self; bound = old.bound } in
-    let two : Shelf g.row.T.Denot = record { items = c.in_ok-items.items; bound = c.index.result.now.bound } in
-    let within : s < length ys = omega arith in
-    let is_old : c.index.result.now ≡ old = same_at ys s c.index.result.now old within c.index.ensures c.index_mut.ensures.value in
-    let front : c.split_off.new.self.items ≡ take c.args.at old.items.items = c.in_ok-items.ensures.items in
-    let back : c.in_ok-items.items.items ≡ drop c.args.at old.items.items = c.in_ok-items.ensures.tail in
+    let one : Shelf g.row.T.Denot = c.split_off.new.self in
+    let two : Shelf g.row.T.Denot = c.in_ok-behind.behind in
+    let was : old ≡ get_or c.args.shelves.now.items s old = c.index_mut.ensures.value ∙ ap (λ (l : List (Shelf g.row.T.Denot)). get_or l s old) same in
     let put : c.insert.new.self.items ≡ insert (slice_set ys s one) (s + 1) two = search rules in
+    let fits = c.requires.fits old was in
     record {
       old = old;
       one = one;
       two = two;
-      was = c.index_mut.ensures.value ∙ ap (λ (l : List (Shelf g.row.T.Denot)). get_or l s old) same;
+      was = was;
+      fits = omega (arith, fits);
       is = put ∙ ap (λ (l : List (Shelf g.row.T.Denot)). insert (slice_set l s one) (s + 1) two) same;
-      parts = (λ i. front i ++ back i) ∙ take-append-drop c.args.at old.items.items;
-      first = let count : length c.split_off.new.self.items ≡ c.args.at = search rules in count;
-      bound_one = refl;
-      bound_two = ap (λ (x : Shelf g.row.T.Denot). x.bound) is_old;
+      items_one = c.in_ok-behind.ensures.items;
+      items_two = c.in_ok-behind.ensures.items_behind;
+      bounds_one = c.in_ok-behind.ensures.bounds;
+      bounds_two = c.in_ok-behind.ensures.bounds_behind;
     }

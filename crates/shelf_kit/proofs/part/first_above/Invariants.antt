@@ -1,13 +1,12 @@
-use Rattle.std.proofs.Common.{◌≤◌, ◌-◌, length}
-use Rattle.std.specs.List.{AllWithin}
+use Rattle.std.proofs.Common.{ℕ, ◌<◌, ◌≤◌, ◌-◌, length, get_or}
 use Rattle.shelf_kit.proofs.part.first_above.Given as goal
 
 abbrev pub invariant-pass : goal.invariant-pass
-invariant-pass g l = record {
-  on : l.from ≤ l.shelf;
-  within : l.shelf ≤ length l.shelves;
-  passed : AllWithin (λ s. s.bound ≤ l.number) l.shelves l.from l.shelf;
+invariant-pass l = record {
+  on : l.from ≤ l.place;
+  within : l.place ≤ length l.numbers;
+  passed : (k : ℕ) → l.from ≤ k → k < l.place → get_or l.numbers k 0 ≤ l.number;
 }
 
 abbrev pub decreases-pass : goal.decreases-pass
-decreases-pass g l = length l.initial.shelves - l.shelf
+decreases-pass l = length l.initial.numbers - l.place

@@ -1,15 +1,18 @@
-use Rattle.std.proofs.Common.{◌≡◌, ◌+◌, ◌<◌, length, sym, ap, ◌∙◌, arith, rules}
+use Rattle.std.proofs.Common.{◌≡◌, ◌+◌, ◌<◌, ℕ, List, length, get_or, sym, ap, subst, ◌∙◌, arith, rules}
 use Rattle.std.specs.List.{insert}
-use Rattle.shelf_kit.specs.Shelving.{items_of, starts_from}
-use Rattle.shelf_kit.specs.declared.shelf.Shelf.{Shelf}
+use Rattle.std.proofs.lemmas.List.{get_or_default}
+use Rattle.std.proofs.lemmas.Slice.Zip.{AllZip-long}
+use Rattle.shelf_kit.specs.Shelving.{AreTops, starts_from}
 use Rattle.shelf_kit.proofs.Begins.{length_starts, start_read}
-use Rattle.shelf_kit.proofs.Cut.{cut_bounds, cut_filled, cut_items, cut_starts}
-use Rattle.shelf_kit.proofs.Pieces.{same_at}
+use Rattle.shelf_kit.proofs.Cut.{cut_starts, cut_tops}
 use Rattle.shelf_kit.proofs.Places.{ends_within}
 use Rattle.shelf_kit.proofs.part.split.Goals as goal
 
 pub index-requires-2 : goal.index-requires-2
-index-requires-2 g c = let long = ap length c.requires.begins ∙ length_starts 0 c.args.shelves.now.items in omega (arith, long)
+index-requires-2 g c = omega (arith, ap length c.reserve_both.ensures.starts, ap length c.requires.begins, length_starts 0 c.args.shelves.now.items)
+
+pub index-top-requires : goal.index-top-requires
+index-top-requires g c = omega (arith, ap length c.reserve_both.ensures.tops, AllZip-long _ c.args.shelves.now.items c.args.tops.now.items c.requires.topped)
 
 pub overflow_add-start : goal.overflow_add-start
 overflow_add-start g c =
@@ -17,47 +20,38 @@ overflow_add-start g c =
     let s = c.args.shelf in
     let within : s < length xs = omega arith in
     let end = ends_within xs s c.index.result.now within c.index.ensures in
-    let start = start_read xs c.reserve.new.self.items s c.index-2.result.now (c.reserve.ensures.items ∙ c.requires.begins) within c.index-2.ensures in
+    let start = start_read xs c.reserve_both.new.starts.items s c.index-2.result.now (c.reserve_both.ensures.starts ∙ c.requires.begins) within c.index-2.ensures in
     let kept = c.kept_on-kept.ensures.others in
     let small = c.requires.small in
     let own : length c.index.result.now.items.items ≡ c.len-len.result = search rules in
     omega (arith, end, start, kept, small, own)
 
-pub cut-requires-clause-fits : goal.cut-requires-clause-fits
-cut-requires-clause-fits g c = λ x e.
-    let same = ap (λ (y : Shelf g.row.T.Denot). length (items_of y)) (same_at c.args.shelves.now.items c.args.shelf x c.index.result.now (omega arith) e c.index.ensures) in
-    let kept = c.kept_on-kept.ensures.others in
-    let own : length c.index.result.now.items.items ≡ c.len-len.result = search rules in
-    omega (arith, same, kept, own)
-
 pub insert-requires : goal.insert-requires
-insert-requires g c = let long = ap length c.requires.begins ∙ length_starts 0 c.args.shelves.now.items in omega (arith, long)
+insert-requires g c = omega (arith, ap length c.reserve_both.ensures.starts, ap length c.requires.begins, length_starts 0 c.args.shelves.now.items)
 
-pub returns-in-Ok-clause-items : goal.returns-in-Ok-clause-items
-returns-in-Ok-clause-items g c = cut_items c.args.shelves.now.items c.cut.new.shelves.items c.args.shelf c.kept_on-kept.result (omega arith) c.in-Ok.ensures.ok
-
-pub returns-in-Ok-clause-bounds : goal.returns-in-Ok-clause-bounds
-returns-in-Ok-clause-bounds g c = cut_bounds c.args.shelves.now.items c.cut.new.shelves.items c.args.shelf c.kept_on-kept.result (omega arith) c.in-Ok.ensures.ok
+pub insert-requires-in-Ok : goal.insert-requires-in-Ok
+insert-requires-in-Ok g c = omega (arith, ap length c.reserve_both.ensures.tops, AllZip-long _ c.args.shelves.now.items c.args.tops.now.items c.requires.topped)
 
 pub returns-in-Ok-clause-begins : goal.returns-in-Ok-clause-begins
 returns-in-Ok-clause-begins g c =
     let xs = c.args.shelves.now.items in
-    let zs = c.reserve.new.self.items in
+    let zs = c.reserve_both.new.starts.items in
     let s = c.args.shelf in
-    let kept = c.kept_on-kept.result in
     let within : s < length xs = omega arith in
-    let begins : zs ≡ starts_from 0 xs = c.reserve.ensures.items ∙ c.requires.begins in
+    let begins : zs ≡ starts_from 0 xs = c.reserve_both.ensures.starts ∙ c.requires.begins in
     let start = start_read xs zs s c.index-2.result.now begins within c.index-2.ensures in
-    let came : c.insert.new.self.items ≡ insert zs (s + 1) (c.index-2.result.now + kept) = search rules in
-    came ∙ (λ i. insert (begins i) (s + 1) (start i + kept)) ∙ sym (cut_starts xs c.cut.new.shelves.items s kept within c.in-Ok.ensures.ok)
+    let came : c.insert.new.self.items ≡ insert zs (s + 1) (c.index-2.result.now + c.kept_on-kept.result) = search rules in
+    came ∙ (λ i. insert (begins i) (s + 1) (start i + c.kept_on-kept.result)) ∙ sym (cut_starts within c.in-Ok.ensures.ok)
 
-pub returns-in-Ok-clause-filled : goal.returns-in-Ok-clause-filled
-returns-in-Ok-clause-filled g c =
+pub returns-in-Ok-clause-topped : goal.returns-in-Ok-clause-topped
+returns-in-Ok-clause-topped g c =
     let xs = c.args.shelves.now.items in
+    let tops = c.args.tops.now.items in
     let s = c.args.shelf in
     let within : s < length xs = omega arith in
-    let cuts = c.in-Ok.ensures.ok in
-    let same = ap (λ (y : Shelf g.row.T.Denot). length (items_of y)) (same_at xs s cuts.old c.index.result.now within cuts.was c.index.ensures) in
-    let kept = c.kept_on-kept.ensures.others in
-    let own : length c.index.result.now.items.items ≡ c.len-len.result = search rules in
-    cut_filled xs c.cut.new.shelves.items s c.kept_on-kept.result within cuts c.kept_on-kept.ensures.some (omega (arith, same, kept, own))
+    let same : c.reserve_both.new.tops.items ≡ tops = c.reserve_both.ensures.tops in
+    let long = AllZip-long _ xs tops c.requires.topped in
+    let top : c.index-top.result.now ≡ get_or tops s 0 = c.index-top.ensures ∙ ap (λ l. get_or l s c.index-top.result.now) same ∙ get_or_default tops s c.index-top.result.now 0 (omega (arith, long, within)) in
+    let came : c.insert-in-Ok.new.self.items ≡ insert c.reserve_both.new.tops.items (s + 1) c.index-top.result.now = search rules in
+    subst (λ (ns : List ℕ). AreTops c.cut.new.shelves.items ns) (sym (came ∙ (λ i. insert (same i) (s + 1) (top i))))
+    (cut_tops within c.in-Ok.ensures.ok tops c.requires.topped)

@@ -6,7 +6,7 @@ use Rattle.shelf_kit.proofs.shelves.Shelves.get.Goals as goal
 pub returns : goal.returns
 returns g c =
     let xs = c.self.inside.shelves.items in
-    let long = seen_len xs c.self.inside.starts.items c.self.inside.len c.self.invariant c.args.self.now c.self.view_is in
+    let long = seen_len xs c.self.inside.starts.items c.self.inside.len c.self.invariant.0 c.args.self.now c.self.view_is in
     let asked = c.requires in
     let inside : c.args.index < c.self.inside.len = omega (arith, long, asked) in
     record {

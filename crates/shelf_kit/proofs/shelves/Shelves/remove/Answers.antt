@@ -6,18 +6,15 @@ use Rattle.shelf_kit.proofs.shelves.Shelves.remove.Goals as goal
 
 pub take_at-value-requires-clause-inside : goal.take_at-value-requires-clause-inside
 take_at-value-requires-clause-inside g c =
-    let long = seen_len c.self.inside.shelves.items c.self.inside.starts.items c.self.inside.len c.self.invariant c.args.self.now c.self.view_is in
+    let long = seen_len c.self.inside.shelves.items c.self.inside.starts.items c.self.inside.len c.self.invariant.0 c.args.self.now c.self.view_is in
     let asked = c.requires in
     omega (arith, long, asked)
 
-pub invariant_of-self : goal.invariant_of-self
-invariant_of-self g c = c.take_at-value.ensures.shelved
-
 pub returns-clause-value : goal.returns-clause-value
-returns-clause-value g c = c.take_at-value.ensures.was ∙ ap (λ (v : Shelved g.row.T.Denot). get_or v.items c.args.index c.take_at-value.result) c.self.view_is
+returns-clause-value g c = c.take_at-value.ensures.removes.was ∙ ap (λ (v : Shelved g.row.T.Denot). get_or v.items c.args.index c.take_at-value.result) c.self.view_is
 
 pub returns-clause-items : goal.returns-clause-items
-returns-clause-items g c = c.take_at-value.ensures.items ∙ ap (λ (v : Shelved g.row.T.Denot). remove v.items c.args.index) c.self.view_is
+returns-clause-items g c = c.take_at-value.ensures.removes.items ∙ ap (λ (v : Shelved g.row.T.Denot). remove v.items c.args.index) c.self.view_is
 
 pub returns-clause-bounds : goal.returns-clause-bounds
-returns-clause-bounds g c = c.take_at-value.ensures.bounds ∙ ap (λ (v : Shelved g.row.T.Denot). remove v.bounds c.args.index) c.self.view_is
+returns-clause-bounds g c = c.take_at-value.ensures.removes.bounds ∙ ap (λ (v : Shelved g.row.T.Denot). remove v.bounds c.args.index) c.self.view_is

@@ -1,0 +1,143 @@
+-- What a keeper shows, and what its node did, once points have come and what they name is dropped.
+use Rattle.std.proofs.Common.{◌≡◌, ℕ, Bool, true, false, not, cond, ◌&&◌, ◌||◌, inl, List, [], ◌∷◌, Option, Some, None, refl, sym, ap, subst, ◌∙◌, true≢false}
+use Rattle.std.specs.Prelude.{filter}
+use Rattle.std.proofs.lemmas.Bool.{and_parts}
+use Rattle.std.proofs.lemmas.List.{append-nil}
+use Rattle.std.specs.Cmp.{Equal-is}
+use Rattle.std.specs.FinMap.{FinMap, get, retain_keys}
+use Rattle.std.specs.List.{flat_map, list_any}
+use Rattle.std.specs.Ordering.{eq_by_cmp, nat_cmp}
+use Rattle.gossip_kit.specs.Views.{NodeModel}
+use Rattle.point_kit.proofs.EqualityLaws.{payload_equivalence, payload_exact}
+use Rattle.point_kit.proofs.OrderLaws.{key_total, key_exact}
+use Rattle.point_kit.proofs.StateLaws.{get-join_maps, get-state_of}
+use Rattle.point_kit.specs.Best.{best}
+use Rattle.point_kit.specs.Equality.{payload_eq}
+use Rattle.point_kit.specs.Exports.{Points, join_points, key_of, points_of, state}
+use Rattle.point_kit.specs.Join.{join_cells, join_options}
+use Rattle.point_kit.specs.Orders.{key_cmp}
+use Rattle.point_kit.specs.States.{points_under}
+use Rattle.point_kit.specs.declared.cell.Cell.{Cell}
+use Rattle.point_kit.specs.declared.export.Export.{Export}
+use Rattle.point_kit.specs.declared.export_point.ExportPoint.{ExportPoint}
+use Rattle.point_kit.specs.declared.key.Key.{Key}
+use Rattle.point_kit.specs.declared.payload.Payload.{Payload}
+use Rattle.point_kit.specs.declared.stream.Stream.{Stream}
+use Rattle.point_kit.specs.declared.writer_id.WriterId.{WriterId}
+use Rattle.schedule_kit.specs.Members.{In}
+use Rattle.schedule_kit.proofs.Members.{filter-In, map-In}
+use Rattle.archive_kit.specs.Keeping.{AreInOrder, IsKeeping, Tell, is_named, kept_points, tells}
+use Rattle.archive_kit.specs.Readiness.{IsReady, items_of, names_then}
+use Rattle.archive_kit.specs.Showing.{hides, shown}
+use Rattle.archive_kit.specs.Stepping.{AreHidden, Drops, Joins, JoinsAndDrops, is_gone}
+use Rattle.archive_kit.specs.Tombstones.{is_tombstone, names_key, stream_eq, tombstones}
+use Rattle.archive_kit.specs.declared.dropping.Ready.{Ready}
+use Rattle.archive_kit.specs.declared.name.Name.{Name}
+use Rattle.archive_kit.proofs.Left.{left_all, left_same}
+use Rattle.archive_kit.proofs.Lists.{member_any, not_true}
+use Rattle.archive_kit.proofs.Showing.{get-shown, namer}
+use Rattle.archive_kit.proofs.Skipping.{hides_is, keeps_shown, named_joined, no_cell}
+
+module _ (old mid new : NodeModel) (brought : Points) (books : FinMap nat_cmp ℕ) (names : List Name) (r : Ready) (ready : IsReady names old.gateway.points brought r) (joins : Joins brought books old mid) (drops : Drops (is_gone r.gone.items) mid new) where
+  pub kept : new.gateway.points ≡ kept_points old.gateway.points brought
+  kept = drops.points ∙ ap (λ (m : Points). retain_keys m (λ k. not (is_gone r.gone.items k))) joins.points ∙ ready.goes
+
+  pub stepped : JoinsAndDrops brought books old new
+  stepped = record {
+    between = mid;
+    gone = is_gone r.gone.items;
+    joins = joins;
+    drops = drops;
+    hidden = subst (λ (m : Points). AreHidden (is_gone r.gone.items) m) (sym joins.points) ready.hidden;
+  }
+
+  pub keeping : (stream : Stream) (now : List Name) → stream ≡ tombstones → now ≡ names_then names (items_of r.names) → IsKeeping stream now new.gateway.points
+  keeping stream now is named =
+      keeps_shown stream now (join_points old.gateway.points brought) new.gateway.points is
+      (subst (λ (l : List Name). AreInOrder l) (sym named) ready.in_order)
+      (subst (λ (l : List Name). Tell l (join_points old.gateway.points brought)) (sym named) ready.told)
+      kept
+
+-- ---- an export that brings no tombstone, of an incarnation that none names
+
+-- each key of its state is that of a point
+of_export : (e : Export) (k : Key) (c : Cell Payload) → get (state (e ∷ [])) k ≡ Some c → (p : ExportPoint) × (In p e.points) × (k ≡ key_of e p)
+of_export e k c there = go (points_under key_cmp k (flat_map points_of (e ∷ []))) refl
+  where
+    told : get (state (e ∷ [])) k ≡ best payload_eq (points_under key_cmp k (flat_map points_of (e ∷ [])))
+    told = get-state_of key_total key_exact payload_eq payload_equivalence payload_exact (flat_map points_of (e ∷ [])) k
+
+    go : (ps : List (ℕ × Payload)) → points_under key_cmp k (flat_map points_of (e ∷ [])) ≡ ps → (p : ExportPoint) × (In p e.points) × (k ≡ key_of e p)
+    go [] none = absurd (no_cell c (sym there ∙ told ∙ ap (best payload_eq) none))
+    go (x ∷ xs) some =
+        let under = subst (λ (l : List (ℕ × Payload)). In x l) (sym some) (inl refl) in
+        let pair = map-In (λ (r : Key × (ℕ × Payload)). r.1) x (filter (λ r. eq_by_cmp key_cmp k r.0) (flat_map points_of (e ∷ []))) under in
+        let listed = filter-In (λ (r : Key × (ℕ × Payload)). eq_by_cmp key_cmp k r.0) pair.0 (flat_map points_of (e ∷ [])) pair.1 in
+        let point = map-In (λ (p : ExportPoint). (key_of e p, (e.time, p.payload))) pair.0 e.points (subst (λ (l : List (Key × (ℕ × Payload))). In pair.0 l) (append-nil (points_of e)) listed.0) in
+        (point.0, point.1, key_exact k pair.0.0 ((Equal-is (key_cmp k pair.0.0)).0 listed.1) ∙ ap (λ (r : Key × (ℕ × Payload)). r.0) point.2)
+
+none_more : (b : Bool) → (b || false) ≡ b
+none_more true = refl
+none_more false = refl
+
+plain_none : (b : Bool) → (b && false) ≡ false
+plain_none true = refl
+plain_none false = refl
+
+module _ (old : Points) (e : Export) (all_shown : shown names_key old ≡ old) (none : list_any (λ p. stream_eq tombstones p.stream) e.points ≡ false) (unnamed : is_named old e.writer e.start ≡ false) where
+  abbrev came : Points
+  came = state (e ∷ [])
+
+  no_tombstone : (k : Key) (c : Cell Payload) → get came k ≡ Some c → is_tombstone k ≡ false
+  no_tombstone k c there = not_true _ (λ t.
+      let p = of_export e k c there in
+      true≢false (sym (member_any (λ (x : ExportPoint). stream_eq tombstones x.stream) e.points p.0 p.1 (ap (λ (x : Key). is_tombstone x) (sym p.2) ∙ t)) ∙ none))
+
+  names_nothing : (w : WriterId) (s : ℕ) → is_named came w s ≡ false
+  names_nothing w s = not_true _ (λ t.
+      let h = namer key_total key_exact (λ (x : Key) (k : Key). tells w s x) came (key_of_none w s) t in
+      true≢false (sym (and_parts (is_tombstone h.0) _ h.3).0 ∙ no_tombstone h.0 h.1 h.2))
+    where
+      key_of_none : WriterId → ℕ → Key
+      key_of_none w s = record { writer = w; start = s; stream = tombstones; attrs = [] }
+
+  named_as_before : (w : WriterId) (s : ℕ) → is_named (join_points old came) w s ≡ is_named old w s
+  named_as_before w s = named_joined old came w s ∙ ap (λ b. is_named old w s || b) (names_nothing w s) ∙ none_more (is_named old w s)
+
+  visible : (k : Key) (c : Cell Payload) → get (join_points old came) k ≡ Some c → hides names_key (join_points old came) k ≡ false
+  visible k c there =
+      hides_is (join_points old came) k ∙ ap (λ b. not (is_tombstone k) && b) (named_as_before k.writer k.start)
+      ∙ go (get old k) refl (get came k) refl
+    where
+      of_old : (v : Cell Payload) → get old k ≡ Some v → hides names_key old k ≡ true → ⊥
+      of_old v f h = no_cell v (sym f ∙ ap (λ (m : Points). get m k) (sym all_shown) ∙ get-shown key_total key_exact names_key old k ∙ ap (λ b. cond (not b) (get old k) None) h)
+
+      go : (x : Option (Cell Payload)) → get old k ≡ x → (y : Option (Cell Payload)) → get came k ≡ y → (not (is_tombstone k) && is_named old k.writer k.start) ≡ false
+      go (Some v) f y g = sym (hides_is old k) ∙ not_true _ (of_old v f)
+      go None f (Some v) g =
+          let p = of_export e k v g in
+          ap (λ b. not (is_tombstone k) && b) (ap (λ (x : Key). is_named old x.writer x.start) p.2 ∙ unnamed) ∙ plain_none (not (is_tombstone k))
+      go None f None g = absurd (no_cell c (sym there ∙ get-join_maps key_total key_exact (join_cells payload_eq) old came k ∙ (λ i. join_options (join_cells payload_eq) (f i) (g i))))
+
+  pub all_kept : join_points old came ≡ kept_points old came
+  all_kept = left_all (join_points old came) (λ k. true) (λ k. refl) ∙ left_same (join_points old came) (λ k. true) _ (λ k c there. ap not (sym (visible k c there)))
+
+  pub still_keeping : (stream : Stream) (names : List Name) (new : Points) → IsKeeping stream names old → new ≡ join_points old came → IsKeeping stream names new
+  still_keeping stream names new was is =
+      keeps_shown stream names (join_points old came) new was.stream_is was.in_order (λ w s. was.told w s ∙ sym (named_as_before w s)) (is ∙ all_kept)
+
+-- what came, where nothing is dropped
+pub merely_joined : (brought : Points) (books : FinMap nat_cmp ℕ) (old new : NodeModel) → Joins brought books old new → JoinsAndDrops brought books old new
+merely_joined brought books old new joins = record {
+  between = new;
+  gone = λ k. false;
+  joins = joins;
+  drops = record {
+    id = refl;
+    points = left_all new.gateway.points (λ k. true) (λ k. refl);
+    numbers = left_all new.gateway.numbers (λ k. true) (λ k. refl);
+    change = refl;
+    acked = refl;
+  };
+  hidden = λ k c there t. absurd (true≢false (sym t));
+}

@@ -1,0 +1,40 @@
+//! Archives of what ended, and keepers that forget it then.
+ghost use Rattle.std.specs.Prelude.{◌≡◌, ◌≤◌, IfSome, OnErr, OnOk, [], ◌∷◌};
+ghost use Rattle.archive_kit.specs.Keeping.{kept_points};
+ghost use Rattle.gateway_kit.specs.Queries.{newest_time};
+ghost use Rattle.point_kit.specs.Exports.{state};
+
+use archive_kit::{AdoptFault, Archive, Keeper};
+use attr_kit::NoMemory;
+use gossip_kit::Message;
+use point_kit::{Export, WriterId};
+
+/// Adopts an incarnation of which a keeper has heard nothing since a time, and says whether. Where it is refused nothing changed, and
+/// the keeper holds it still.
+pub fn adopt_if_quiet(
+    archive: &mut Archive,
+    keeper: &Keeper,
+    writer: &WriterId,
+    start: u64,
+    since: u64,
+) -> Result<bool, AdoptFault>
+    ensures heard { IfSome (newest_time writer.now start keeper.now.gateway.points)
+        (λ newest. since ≤ newest → archive.new ≡ archive.old) }
+    ensures refused { OnErr result (archive.new ≡ archive.old) }
+{
+    match keeper.gateway().newest(writer, start) {
+        Some(newest) if newest < since => {
+            archive.adopt(keeper.gateway(), writer, start)?;
+            Ok(true)
+        }
+        Some(_) | None => Ok(false),
+    }
+}
+
+/// Gives a keeper what an archive exported, so that it forgets what was adopted, and makes the message that tells a peer of it.
+pub fn forget_adopted(keeper: &mut Keeper, export: &Export, peer: u32) -> Result<Message, NoMemory>
+    ensures shown { OnOk result (keeper.new.gateway.points ≡ kept_points keeper.old.gateway.points (state (export.now ∷ []))) }
+{
+    keeper.take(export)?;
+    keeper.node().send(peer)
+}
