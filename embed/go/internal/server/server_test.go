@@ -11,6 +11,7 @@ import (
 	"os"
 	"path/filepath"
 	"strings"
+	"sync/atomic"
 	"testing"
 	"time"
 
@@ -267,7 +268,7 @@ func until(t *testing.T, status int, ask func() (int, string, http.Header)) {
 
 // Who sends slowly has little of what may be under way, and gives it back.
 func TestWhatIsUnderWayIsBounded(t *testing.T) {
-	_, url := served(t, 1, func(s *Server) { s.Limits.InFlight = 2 * pieceBytes })
+	s, url := served(t, 1, func(s *Server) { s.Limits.InFlight = 2 * pieceBytes })
 	good := encoded(t, "shop", 1, 3)
 	post := func() (int, string, http.Header) { return got(t, http.MethodPost, url+"/v1/exports", good) }
 	until(t, 200, post)
@@ -282,7 +283,16 @@ func TestWhatIsUnderWayIsBounded(t *testing.T) {
 		}()
 		go writer.Write(good)
 	}
-	until(t, 429, post)
+	// Nobody else posts until both have their piece: one that came while another had it would be refused, and be gone.
+	for turn := 0; atomic.LoadInt64(&s.inFlight.left) > 0; turn++ {
+		if turn == 6000 {
+			t.Fatal("left:", atomic.LoadInt64(&s.inFlight.left))
+		}
+		time.Sleep(10 * time.Millisecond)
+	}
+	if status, said, _ := post(); status != 429 {
+		t.Fatal(status, said)
+	}
 	for _, writer := range slow {
 		writer.CloseWithError(io.ErrUnexpectedEOF)
 	}
