@@ -23,6 +23,7 @@ import sys
 import time
 
 sys.dont_write_bytecode = True
+import careless
 import schedules
 
 TOP = pathlib.Path(__file__).resolve().parents[2]
@@ -69,10 +70,10 @@ def paired(wanted, lines):
         yield 0, "nothing more", None, text
 
 
-def differs(program, schedule):
-    """Where a program answers a schedule otherwise than told."""
-    ran = done(program, "".join(f"{it}\n" for it in schedule.lines).encode())
-    for number, line, wanted, found in paired(schedule.answers, ran.stdout.decode().splitlines()):
+def differs(program, lines, answers):
+    """Where a program answers lines otherwise than told."""
+    ran = done(program, "".join(f"{it}\n" for it in lines).encode())
+    for number, line, wanted, found in paired(answers, ran.stdout.decode().splitlines()):
         if wanted != found:
             more = f"wanted {wanted!r}, found {found!r}" if isinstance(wanted, str) else f"too few {sorted(wanted - found)}, too many {sorted(found - wanted)}"
             return [f"line {number}, {line}: {more}"]
@@ -98,8 +99,15 @@ def play(programs, seed, count, events):
             continue
         counts.update(schedule.counts)
         for program in programs:
-            wrong += [f"{program.name}, schedule {number} ({kind}): {it}" for it in differs(program, schedule)]
+            wrong += [f"{program.name}, schedule {number} ({kind}): {it}" for it in differs(program, schedule.lines, schedule.answers)]
     return wrong, counts
+
+
+def scripts(program):
+    """What was wrong with scripts of careless archivists."""
+    for name, script in careless.SCRIPTS.items():
+        for it in differs(program, *careless.read(script)):
+            yield f"{program.name}: {name}: {it}"
 
 
 def bad_lines(program):
@@ -177,6 +185,7 @@ def main():
     told = ", ".join(f"{name} {number}" for name, number in sorted(counts.items()))
     print(f"{asked.schedules} schedules from seed {asked.seed}, in {time.monotonic() - began:.1f} s: {told}")
     for program in programs:
+        wrong += scripts(program)
         wrong += bad_lines(program)
     if asked.soak:
         wrong += soak(programs[0], asked.soak)

@@ -10,7 +10,7 @@ use attr_kit::NoMemory;
 use point_kit::{Export, SharedStream, WriterId};
 use std::alloc::Global;
 
-/// The archive is sealed once its exports have so many tombstones, so that they grow no further.
+/// A fresh archive begins once the exports of the last have so many tombstones, so that they grow no further.
 const MOST_TOMBSTONES: usize = 4096;
 
 /// How many totals the archive may have.
@@ -56,15 +56,16 @@ impl Turnover {
         Ok(())
     }
 
-    // The archive exports and begins anew.
-    fn seal(&mut self) -> Result<(), LineFault> {
+    // The archive exports, and a fresh one begins. No point is held of what the last adopted, so it need not be known here any more.
+    fn begin_anew(&mut self) -> Result<(), LineFault> {
         self.export()?;
+        let writer = self.archive.writer().try_copy()?;
         let start = self.tick();
-        self.archive.seal(start)?;
+        self.archive = Archive::begin(self.alloc, writer, start, LIMIT)?;
         Ok(())
     }
 
-    // The archive adopts an incarnation. Where a total leaves its range, it begins anew before.
+    // The archive adopts an incarnation. Where a total leaves its range, a fresh one does.
     fn adopt(&mut self, writer: &WriterId, start: u64) -> Result<(), LineFault> {
         match self.archive.adopt(self.keeper.gateway(), writer, start) {
             Ok(()) => Ok(()),
@@ -74,7 +75,7 @@ impl Turnover {
     }
 
     fn adopt_anew(&mut self, writer: &WriterId, start: u64) -> Result<(), LineFault> {
-        self.seal()?;
+        self.begin_anew()?;
         Ok(self.archive.adopt(self.keeper.gateway(), writer, start)?)
     }
 
@@ -102,12 +103,12 @@ impl Turnover {
         }
     }
 
-    // The archive exports, and begins anew where its exports grew long.
+    // The archive exports, and another begins where its exports grew long.
     fn tell(&mut self) -> Result<(), LineFault> {
         if self.archive.adopted_len() < MOST_TOMBSTONES {
             self.export()
         } else {
-            self.seal()
+            self.begin_anew()
         }
     }
 }
