@@ -13,7 +13,9 @@ import sys
 PROGRAM = pathlib.Path(__file__).resolve().parent / "out" / "kit_bench"
 LINE = re.compile(r"^(.*), (\d+): ([\d.]+) ns each$")
 HOLDERS = {"hold-gateway": "a gateway", "hold-tree": "`BTreeMap` of the kit's sets to cells", "hold-map": "`HashMap` of the same",
-           "hold-incarnations": "a node of incarnations of one point", "hold-keys": "`BTreeMap` of keys to cells by hand, the same points"}
+           "hold-incarnations": "a node of incarnations", "hold-keys": "`BTreeMap` of keys to cells by hand, of incarnations"}
+# Those of so many points each; the others hold points of a few incarnations.
+OF = {"hold-incarnations": (1, 10, 100), "hold-keys": (1, 10, 100)}
 POINTS = 1_000_000
 
 
@@ -57,8 +59,9 @@ def peak(*words):
 def tell_held():
     print("\n## held\n\n| Held by | Bytes a point |\n|---|---|")
     for word, name in HOLDERS.items():
-        each = (peak(word, str(POINTS)) - peak(word, "0")) / POINTS
-        print(f"| {name} | {each:.0f} |")
+        for points in OF.get(word, [1]):
+            each = (peak(word, str(POINTS // points), str(points)) - peak(word, "0")) / POINTS
+            print(f"| {name}{f' of {points}' * (word in OF)} | {each:.0f} |")
 
 
 PARTS = ["turns", "recordings", "held-points", "threads", "fleets", "gateways", "gossip", "bytes", "rounds", "rollups", "pages", "incarnations", "held"]

@@ -54,25 +54,26 @@ fn in_map(alloc: Global, count: u32) -> anyhow::Result<usize> {
     Ok(cells.len())
 }
 
-// So many incarnations, of one point each.
-fn in_store<T: Store>(alloc: Global, count: u32) -> anyhow::Result<usize> {
+// So many incarnations, of so many points each.
+fn in_store<T: Store>(alloc: Global, count: u32, points: u32) -> anyhow::Result<usize> {
     let mut store = T::none(alloc);
-    let source = Source::of(alloc, 1)?;
+    let source = Source::of(alloc, points)?;
     for number in 0..count {
         store.take_in(&source.export(number, 200)?)?;
     }
     Ok(store.len())
 }
 
-/// Holds so many points: of 4 attributes of short texts, a multiple of 100, or one of an incarnation each.
-pub fn run(alloc: Global, holder: Holder, count: u32) -> anyhow::Result<()> {
+/// Holds so many points: of 4 attributes of short texts, a multiple of 100, or those of so many incarnations of so many points each.
+pub fn run(alloc: Global, holder: Holder, count: u32, points: u32) -> anyhow::Result<()> {
     let held = match holder {
         Holder::Gateway => in_gateway(alloc, count)?,
         Holder::Tree => in_tree(alloc, count)?,
         Holder::Map => in_map(alloc, count)?,
-        Holder::Incarnations => in_store::<Node>(alloc, count)?,
-        Holder::Keys => in_store::<KeyMap>(alloc, count)?,
+        Holder::Incarnations => in_store::<Node>(alloc, count, points)?,
+        Holder::Keys => in_store::<KeyMap>(alloc, count, points)?,
     };
-    ensure!(held as u64 == u64::from(count), "{held} points are held");
+    let wanted = u64::from(count).saturating_mul(u64::from(points));
+    ensure!(held as u64 == wanted, "{held} points are held");
     Ok(())
 }

@@ -4,8 +4,8 @@
 //! - `kit_bench full` runs the sizes that docs tell of, and `kit_bench full rollups` those of one part: `turns`, `recordings`,
 //!   `held-points`, `threads`, `fleets`, `gateways`, `gossip`, `bytes`, `rounds`, `rollups`, `pages` or `incarnations`.
 //! - `kit_bench hold-gateway 1000000` holds so many points and ends, so that its memory can be measured from outside;
-//!   `hold-tree` and `hold-map` hold the same points in maps of `std`. `hold-incarnations` holds so many incarnations of one point,
-//!   and `hold-keys` the same in a map by hand.
+//!   `hold-tree` and `hold-map` hold the same points in maps of `std`. `kit_bench hold-incarnations 100000 10` holds so many
+//!   incarnations of so many points each (1 where none is told), and `hold-keys` the same in a map by hand.
 //!
 //! Timings go to standard error, and nothing to standard output.
 #![tactic(auto)]
@@ -102,7 +102,7 @@ fn alone(rt: &HostRuntime, words: &Words) -> anyhow::Result<()> {
 fn main(rt: HostRuntime) -> anyhow::Result<()> {
     let words = Words::read(&rt)?;
     if let Some(holder) = words.holder {
-        return held::run(rt.alloc(), holder, words.count);
+        return held::run(rt.alloc(), holder, words.count, words.points);
     }
     if words.has(Part::Turns) {
         changes::run(&rt, words.size(7, 1), words.size(400_000, 1_000))?;

@@ -38,8 +38,10 @@ pub struct Words {
     pub part: Option<Part>,
     /// Points that are held, and nothing else.
     pub holder: Option<Holder>,
-    /// How many of them.
+    /// How many of them, or of incarnations.
     pub count: u32,
+    /// How many points an incarnation has.
+    pub points: u32,
 }
 
 const PARTS: [(&str, Part); 12] = [
@@ -85,6 +87,7 @@ impl Words {
             part: None,
             holder: None,
             count: 0,
+            points: 1,
         };
         for word in env::args(rt)?.skip(1) {
             words.add(word.as_str())?;
@@ -99,12 +102,21 @@ impl Words {
             self.part = Some(part);
         } else if let Some(holder) = holder_of(word) {
             self.holder = Some(holder);
-        } else if let Ok(count) = word.parse::<u32>() {
-            self.count = count;
+        } else if let Ok(number) = word.parse::<u32>() {
+            self.add_number(number);
         } else {
             bail!("no benchmark is called {word}");
         }
         Ok(())
+    }
+
+    // The first number tells how many, the second how many points each.
+    fn add_number(&mut self, number: u32) {
+        if self.count == 0 {
+            self.count = number;
+        } else {
+            self.points = number;
+        }
     }
 
     /// One of two sizes: that of the docs, or a small one.
