@@ -220,12 +220,12 @@ def archives(program, folder):
     nothing = kept.export(*NEXT, 1000, 3000, [])
     yield "what is adopted is not adopted again", differs(ran(program, folder, ["archive", "-o", "-", *write(NEXT, 1000, 3000, *workers, "new.ktsk")[3:]]), (0, nothing, b""))
     yield "its own export", differs(ran(program, folder, write(ARCHIVE, 1000, 3000, *workers, "new.ktsk")), (1, b"", b"the files hold points of this instance and start\n"))
-    later = kept.export(*ARCHIVE, 2000, 3000, [(SALES, TEA, 4), OF_SECOND])
-    ran(program, folder, write(ARCHIVE, 1000, 2000, "a.ktsk"))
-    own = kept.export(*SECOND, 1000, 2000, [(SALES, MILK, 3), (SALES, TEA, 6), OF_SHOP])
     heat = ["report", "-", "heat", "C", "gauge", "*", "-", "*"]
     yield "a gauge of a worker", differs(ran(program, folder, [*heat, *workers]), (0, WARM, b""))
     yield "a gauge of what is adopted is shown no more", differs(ran(program, folder, [*heat, *workers, "new.ktsk"]), (0, WARM.splitlines(True)[0], b""))
+    later = kept.export(*ARCHIVE, 2000, 3000, [(SALES, TEA, 4), OF_SECOND])
+    ran(program, folder, write(ARCHIVE, 1000, 2000, "a.ktsk"))
+    own = kept.export(*SECOND, 1000, 2000, [(SALES, MILK, 3), (SALES, TEA, 6), OF_SHOP])
     yield "its own instance is left alone", differs(ran(program, folder, ["archive", "-o", "-", *write(SECOND, 1000, 2000, *workers)[3:]]), (0, own, b""))
     yield "begun anew", differs(ran(program, folder, ["archive", "-o", "-", *write(ARCHIVE, 2000, 3000, *workers, "new.ktsk")[3:]]), (0, later, b""))
     for name in ("new.ktsk", "both.ktsm"):
