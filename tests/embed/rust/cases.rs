@@ -564,8 +564,7 @@ impl Run {
                 self.make(it, Thing::Gateway(made))
             }
             "gateway_read" | "node_read" | "keeper_read" => {
-                let (id, points) =
-                    the!(self, by("of"), Gateway | Node | Keeper, it => it.head())?;
+                let (id, points) = the!(self, by("of"), Gateway | Node | Keeper, it => it.head())?;
                 Ok(Json::fields([
                     ("id", Json::number(id)),
                     ("points", Json::number(points)),

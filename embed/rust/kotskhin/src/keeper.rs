@@ -73,9 +73,7 @@ impl Keeper {
     pub fn merge(&mut self, gateway: &Gateway) -> Result<u64, Error> {
         let mut changed = 0;
         // SAFETY: the keeper is ours alone, and the gateway is lent; they are two.
-        checked(unsafe {
-            kit_keeper_merge(self.0.change(), gateway.0.read().at(), &mut changed)
-        })?;
+        checked(unsafe { kit_keeper_merge(self.0.change(), gateway.0.read().at(), &mut changed) })?;
         Ok(changed)
     }
 
