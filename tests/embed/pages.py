@@ -1,5 +1,6 @@
 #!/usr/bin/env python3
-"""The first program of each language's page, and that of its section Archives: at most MOST lines of body, and all first ones print one thing.
+"""The first program of each language's page, and that of its section Archives, where it has one: at most MOST lines of body. All first ones
+print one thing.
 
 The body is what stands in `main`, and in Python all but imports. No line of it is empty, or wider than MOST_WIDE. The runner of each
 language tries that its programs print what the page says."""
@@ -31,16 +32,14 @@ def main():
         whole, _, archives = (DOCS / f"{name}.md").read_text(encoding="utf-8").partition("\n## Archives\n")
         for what, text in (("first program", whole), ("program of archives", archives)):
             if not text:
-                faults.append(f"docs/{name}.md: there is no section Archives")
                 continue
-            lines, prints = first(name, text)
-            printed.setdefault(what, {})[name] = prints
+            lines, printed[what, name] = first(name, text)
             widths = [len(it.expandtabs(4)) for it in lines]
             if len(lines) > MOST or not 0 < min(widths) <= max(widths) <= MOST_WIDE:
                 faults.append(f"docs/{name}.md: the {what}'s body has {len(lines)} lines, of widths {widths}")
             print(f"docs/{name}.md: {len(lines)} lines of body in the {what}")
-    if len(set(printed["first program"].values())) > 1:
-        faults.append(f"the first programs print several things: {printed['first program']}")
+    if len({prints for (what, _), prints in printed.items() if what == "first program"}) > 1:
+        faults.append(f"the first programs print several things: {printed}")
     print("".join(f"{it}\n" for it in faults), end="")
     return 1 if faults else 0
 
