@@ -33,7 +33,7 @@ WITHOUT = {
     ("Go", "kit_code_text"): "the texts stand in declared.go, which is made",
 }
 CASES = pathlib.Path(__file__).resolve().parent / "cases.json"
-# Codes that no shared case raises, and why not. The tests in C raise each, but for the last (refusals.c, formats.c).
+# Codes that no shared case raises, and why not. The tests in C raise each, but for the last two (refusals.c, formats.c, archives.c).
 UNRAISED = {
     "WRONG_KIND": "a handle of another kind is given by a cast in C alone: the wrappers' types tell kinds apart",
     "FULL": "a wrapper fills handles that it has just made",
