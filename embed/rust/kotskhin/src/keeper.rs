@@ -26,7 +26,7 @@ pub enum Taking {
 }
 
 impl Keeper {
-    /// A keeper without points, under an id: those of keepers and nodes that exchange messages are distinct. Refused: `NoMemory`.
+    /// A keeper without points, under an id. The ids of keepers and nodes that exchange messages are distinct. Refused: `NoMemory`.
     pub fn open(id: u32) -> Result<Keeper, Error> {
         let mut keeper = Handle::empty();
         // SAFETY: the handle is ours alone.
