@@ -39,7 +39,7 @@ func take(t *testing.T, h *held.Held, instance uint64) {
 		t.Fatal(err)
 	}
 	brought := must[*held.Brought](t)(held.Bring([]kotskhin.Export{must[kotskhin.Export](t)(writer.Collect(200))}, nil))
-	if err := h.Take(brought); err != nil {
+	if _, err := h.Take(brought); err != nil {
 		t.Fatal(err)
 	}
 }

@@ -48,7 +48,8 @@ func take(t *testing.T, h *Held, exports ...kotskhin.Export) error {
 	if err := h.Admit(brought); err != nil {
 		return err
 	}
-	return h.Take(brought)
+	_, err := h.Take(brought)
+	return err
 }
 
 func held(t *testing.T, h *Held) int {
@@ -217,7 +218,7 @@ func TestTakesBesideLooks(t *testing.T) {
 			for turn := 0; turn < 50; turn++ {
 				brought, err := Bring([]kotskhin.Export{own}, nil)
 				if err == nil {
-					err = h.Take(brought)
+					_, err = h.Take(brought)
 				}
 				if err != nil {
 					t.Error(err)
