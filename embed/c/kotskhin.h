@@ -142,6 +142,16 @@ typedef struct kit_message { kit_handle handle; } kit_message;
 KIT_SIZE(kit_message, 16);
 static inline KIT_CALL void kit_message_free(kit_message *it) { kit_free(&it->handle); }
 
+/* A node that shows no point that an archive adopted, or nothing. */
+typedef struct kit_keeper { kit_handle handle; } kit_keeper;
+KIT_SIZE(kit_keeper, 16);
+static inline KIT_CALL void kit_keeper_free(kit_keeper *it) { kit_free(&it->handle); }
+
+/* A writer that adopts ended incarnations of others, or nothing. */
+typedef struct kit_archive { kit_handle handle; } kit_archive;
+KIT_SIZE(kit_archive, 16);
+static inline KIT_CALL void kit_archive_free(kit_archive *it) { kit_free(&it->handle); }
+
 /* A place at a writer that threads share, or nothing. */
 typedef struct kit_seat { kit_handle handle; } kit_seat;
 KIT_SIZE(kit_seat, 16);
@@ -265,6 +275,19 @@ enum {
     KIT_ATTRIBUTE_VALUE = 103,      /* the value of an attribute is of a kind that is not known: * the point */
     KIT_NO_EXPORT = 104,            /* what a request says together makes no export: * the export */
     KIT_REPEATS = 105,              /* a text of more than 1024 bytes is repeated too often */
+
+    KIT_OTHER_SERVICE = 110,        /* the incarnation is of another service than the archive */
+    KIT_IS_ARCHIVE = 111,           /* the incarnation is an archive's */
+    KIT_ADOPTED = 112,              /* the incarnation was adopted before */
+    KIT_CONFLICT = 113,             /* a point of the incarnation is a conflict */
+    KIT_TORN = 114,                 /* the points of the incarnation are not of one time */
+    KIT_UNSOUND = 115,              /* no export has the points of the incarnation */
+    KIT_OUT_OF_RANGE = 116,         /* a number leaves the range of archives */
+    KIT_SET_LIMIT = 117,            /* there would be more totals than the limit */
+    KIT_TIME_NOT_LATER = 118,       /* the time is not later than that of the last export */
+    KIT_START_NOT_LATER = 119,      /* the start is not later than the last export */
+
+    KIT_UNEXPORTED = 120,           /* incarnations were adopted since the last export */
 };
 
 /* Kinds of instruments. */
@@ -355,6 +378,17 @@ static inline const char *kit_code_name(int32_t code) {
     case KIT_ATTRIBUTE_VALUE: return "KIT_ATTRIBUTE_VALUE";
     case KIT_NO_EXPORT: return "KIT_NO_EXPORT";
     case KIT_REPEATS: return "KIT_REPEATS";
+    case KIT_OTHER_SERVICE: return "KIT_OTHER_SERVICE";
+    case KIT_IS_ARCHIVE: return "KIT_IS_ARCHIVE";
+    case KIT_ADOPTED: return "KIT_ADOPTED";
+    case KIT_CONFLICT: return "KIT_CONFLICT";
+    case KIT_TORN: return "KIT_TORN";
+    case KIT_UNSOUND: return "KIT_UNSOUND";
+    case KIT_OUT_OF_RANGE: return "KIT_OUT_OF_RANGE";
+    case KIT_SET_LIMIT: return "KIT_SET_LIMIT";
+    case KIT_TIME_NOT_LATER: return "KIT_TIME_NOT_LATER";
+    case KIT_START_NOT_LATER: return "KIT_START_NOT_LATER";
+    case KIT_UNEXPORTED: return "KIT_UNEXPORTED";
     default: return "no code";
     }
 }
@@ -729,6 +763,88 @@ KIT_CHECKED int32_t kit_node_hand(kit_node *node, KIT_READS kit_message *message
  *
  * Refused: KIT_NOTHING. Takes no memory. */
 KIT_CHECKED int32_t kit_message_read(KIT_READS kit_message *message, uint32_t *from, uint32_t *to, size_t *points);
+
+/* Keepers are nodes that show no point that a tombstone names, and so forget what an archive adopted. */
+
+/* Opens a keeper without points, under an id. The ids of keepers and nodes that exchange messages are distinct.
+ *
+ * Refused, in this order: KIT_FULL; KIT_NO_MEMORY. */
+KIT_CHECKED int32_t kit_keeper_open(kit_keeper *keeper, uint32_t id);
+
+/* A copy of the gateway that a keeper has, to be asked. The keeper stays.
+ *
+ * Refused, in this order: KIT_FULL; KIT_NOTHING; KIT_NO_MEMORY. O(size of the points). */
+KIT_CHECKED int32_t kit_keeper_gateway(KIT_READS kit_keeper *keeper, kit_gateway *gateway);
+
+/* Tells the id of a keeper, and how many points it holds, without a copy of them.
+ *
+ * Refused: KIT_NOTHING. O(1), takes no memory. */
+KIT_CHECKED int32_t kit_keeper_read(KIT_READS kit_keeper *keeper, uint32_t *id, size_t *points);
+
+/* Joins the points of an export, which stays, and forgets what a tombstone then names. It tells the number of keys whose points changed,
+ * and whether the export is late: a tombstone that was held before names its incarnation. Of its points only tombstones were taken then,
+ * and the number is 0.
+ *
+ * Refused, in this order: KIT_NOTHING of the keeper, then of the export; KIT_NO_MEMORY. */
+KIT_CHECKED int32_t kit_keeper_take(kit_keeper *keeper, KIT_READS kit_export *export_, uint64_t *changed, bool *late);
+
+/* Joins what a gateway holds, which stays, and forgets what a tombstone then names. It tells the number of keys whose points the join
+ * changed.
+ *
+ * Refused, in this order: KIT_NOTHING of the keeper, then of the gateway; KIT_NO_MEMORY. */
+KIT_CHECKED int32_t kit_keeper_merge(kit_keeper *keeper, KIT_READS kit_gateway *gateway, uint64_t *changed);
+
+/* A message to the keeper or the node of an id, as of kit_node_send.
+ *
+ * Refused, in this order: KIT_FULL; KIT_NOTHING; KIT_NO_MEMORY. */
+KIT_CHECKED int32_t kit_keeper_send(KIT_READS kit_keeper *keeper, uint32_t to, kit_message *message);
+
+/* Hands a keeper a message, which stays, and forgets what a tombstone then names. It tells whether the message is to be answered: then
+ * answer has the message to its sender.
+ *
+ * Refused, in this order: KIT_FULL of the answer; KIT_NOTHING of the keeper, then of the message; KIT_NOT_ADDRESSED where the message goes
+ * to another id; KIT_NO_MEMORY. */
+KIT_CHECKED int32_t kit_keeper_hand(kit_keeper *keeper, KIT_READS kit_message *message, kit_message *answer, bool *answered);
+
+/* Archives adopt ended incarnations of others: their points are those that they adopted, added up, and a tombstone for each. */
+
+/* Begins an archive that adopted nothing, with at most so many totals, of which each is a stream's at an attribute set. It is a writer of
+ * its own: the instance is a UUID as two numbers, which no other writer has, archives among them. The start is in nanoseconds since the
+ * Unix epoch.
+ *
+ * Refused, in this order: KIT_FULL; KIT_NOT_TEXT where the service is no UTF-8; KIT_NO_MEMORY. */
+KIT_CHECKED int32_t kit_archive_begin(kit_archive *archive, const uint8_t *service, size_t service_len, uint64_t instance_high,
+                                      uint64_t instance_low, uint64_t start, size_t limit);
+
+/* Adopts an incarnation of a service's instance from what a keeper, which stays, holds of it: adds the sums and the histograms to the
+ * archive's own, and notes that it did. Gauges are not adopted. It is for incarnations that have ended: what one exports later is not
+ * counted.
+ *
+ * Refused, in this order: KIT_NOT_TEXT where the service is no UTF-8; KIT_NOTHING of the archive, then of the keeper; KIT_OTHER_SERVICE;
+ * KIT_IS_ARCHIVE; KIT_ADOPTED where this archive did so before; KIT_NO_POINT where nothing of it is held; KIT_CONFLICT where different
+ * values of one time came; KIT_TORN where its points are of several times; KIT_UNSOUND where no export has them; KIT_OUT_OF_RANGE where its
+ * start or its time is 2^63 - 1 or later, or a total would leave its range; KIT_SET_LIMIT; KIT_NO_MEMORY. */
+KIT_CHECKED int32_t kit_archive_adopt(kit_archive *archive, KIT_READS kit_keeper *keeper, const uint8_t *service, size_t service_len,
+                                      uint64_t instance_high, uint64_t instance_low, uint64_t start);
+
+/* The points of an archive at a time, as an export: all totals, and a tombstone for each incarnation that it adopted since it began or was
+ * sealed. Exports are cumulative, so a lost one is covered by the next.
+ *
+ * Refused, in this order: KIT_FULL; KIT_NOTHING; KIT_TIME_NOT_LATER than the last export, or than the start before the first;
+ * KIT_NO_MEMORY. O(size of the points). */
+KIT_CHECKED int32_t kit_archive_export(kit_archive *archive, uint64_t time, kit_export *export_);
+
+/* Seals an archive and begins it anew under a later start, without totals. What it adopted it does not adopt again. What it exported stays,
+ * wherever it was taken, and is exported no more: so keep the last export until it has come where it is to.
+ *
+ * Refused, in this order: KIT_NOTHING; KIT_START_NOT_LATER than the last export, or than the start before the first; KIT_UNEXPORTED where
+ * it adopted since its last export. Takes no memory. */
+KIT_CHECKED int32_t kit_archive_seal(kit_archive *archive, uint64_t start);
+
+/* Tells the start of an archive, and how many incarnations it adopted since it began or was sealed.
+ *
+ * Refused: KIT_NOTHING. O(1), takes no memory. */
+KIT_CHECKED int32_t kit_archive_read(KIT_READS kit_archive *archive, uint64_t *start, size_t *adopted);
 
 /* Exports and messages as bytes, for other processes: each has one form, and no other bytes are read. */
 

@@ -68,6 +68,17 @@ const (
 	ErrAttributeValue       Code = 103
 	ErrNoExport             Code = 104
 	ErrRepeats              Code = 105
+	ErrOtherService         Code = 110
+	ErrIsArchive            Code = 111
+	ErrAdopted              Code = 112
+	ErrConflict             Code = 113
+	ErrTorn                 Code = 114
+	ErrUnsound              Code = 115
+	ErrOutOfRange           Code = 116
+	ErrSetLimit             Code = 117
+	ErrTimeNotLater         Code = 118
+	ErrStartNotLater        Code = 119
+	ErrUnexported           Code = 120
 )
 
 // The name of each code, what it says, and the words for the places that it tells.
@@ -140,4 +151,15 @@ var codes = map[Code]struct {
 	ErrAttributeValue:       {"ATTRIBUTE_VALUE", "the value of an attribute is of a kind that is not known", []string{"point"}},
 	ErrNoExport:             {"NO_EXPORT", "what a request says together makes no export", []string{"export"}},
 	ErrRepeats:              {"REPEATS", "a text of more than 1024 bytes is repeated too often", nil},
+	ErrOtherService:         {"OTHER_SERVICE", "the incarnation is of another service than the archive", nil},
+	ErrIsArchive:            {"IS_ARCHIVE", "the incarnation is an archive's", nil},
+	ErrAdopted:              {"ADOPTED", "the incarnation was adopted before", nil},
+	ErrConflict:             {"CONFLICT", "a point of the incarnation is a conflict", nil},
+	ErrTorn:                 {"TORN", "the points of the incarnation are not of one time", nil},
+	ErrUnsound:              {"UNSOUND", "no export has the points of the incarnation", nil},
+	ErrOutOfRange:           {"OUT_OF_RANGE", "a number leaves the range of archives", nil},
+	ErrSetLimit:             {"SET_LIMIT", "there would be more totals than the limit", nil},
+	ErrTimeNotLater:         {"TIME_NOT_LATER", "the time is not later than that of the last export", nil},
+	ErrStartNotLater:        {"START_NOT_LATER", "the start is not later than the last export", nil},
+	ErrUnexported:           {"UNEXPORTED", "incarnations were adopted since the last export", nil},
 }

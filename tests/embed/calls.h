@@ -18,8 +18,8 @@
 
 /* What a handle can have. */
 enum kind {
-    NOTHING, PAIRS, ATTRIBUTES, STREAMS, INSTRUMENTS, VIEW, VIEWS, KEYS, PLAN, WRITER, EXPORT, EXPORTS, GATEWAY, NODE, MESSAGE, SEAT, RECORDER,
-    ASK, INCARNATIONS, TOLD_TEXT, BYTES, SUM_ROWS, GAUGE_ROWS, HISTOGRAM_ROWS, KINDS, ROWS /* of any shape */, TOTALS /* of a sum or of a histogram */
+    NOTHING, PAIRS, ATTRIBUTES, STREAMS, INSTRUMENTS, VIEW, VIEWS, KEYS, PLAN, WRITER, EXPORT, EXPORTS, GATEWAY, NODE, MESSAGE, KEEPER, ARCHIVE, SEAT,
+    RECORDER, ASK, INCARNATIONS, TOLD_TEXT, BYTES, SUM_ROWS, GAUGE_ROWS, HISTOGRAM_ROWS, KINDS, ROWS /* of any shape */, TOTALS /* of a sum or of a histogram */
 };
 
 /* How a call has a handle: something must be there and is changed, or may be; it is empty and is filled; or what is there is only read. */
@@ -110,6 +110,12 @@ static void make(enum kind kind, kit_handle *it) {
         MUST(kit_node_take((void *)&three, (void *)&one, &place));
         MUST(kit_node_send((void *)&three, 1, (void *)it));
         break;
+    case KEEPER:
+        make(EXPORT, &one);
+        MUST(kit_keeper_open((void *)it, 1));
+        MUST(kit_keeper_take((void *)it, (void *)&one, &place, &truth));
+        break;
+    case ARCHIVE: MUST(kit_archive_begin((void *)it, TEXT("shop"), 8, 1, 300, 10)); break;
     case SEAT:
         make(WRITER, &one);
         MUST(kit_writer_share((void *)&one, (void *)it));
@@ -212,6 +218,18 @@ CALL(node_merge, AS(node, 0), AS(gateway, 1), &place)
 CALL(node_send, AS(node, 0), 5, AS(message, 1))
 CALL(node_hand, AS(node, 0), AS(message, 1), AS(message, 2), &truth)
 CALL(message_read, AS(message, 0), &id, &other_id, &size)
+CALL(keeper_open, AS(keeper, 0), 3)
+CALL(keeper_gateway, AS(keeper, 0), AS(gateway, 1))
+CALL(keeper_read, AS(keeper, 0), &id, &size)
+CALL(keeper_take, AS(keeper, 0), AS(export, 1), &place, &truth)
+CALL(keeper_merge, AS(keeper, 0), AS(gateway, 1), &place)
+CALL(keeper_send, AS(keeper, 0), 5, AS(message, 1))
+CALL(keeper_hand, AS(keeper, 0), AS(message, 1), AS(message, 2), &truth)
+CALL(archive_begin, AS(archive, 0), TEXT("a service of more than thirty bytes"), 8, 1, 300, 10)
+CALL(archive_adopt, AS(archive, 0), AS(keeper, 1), TEXT("shop"), 0, 1, 100)
+CALL(archive_export, AS(archive, 0), 400, AS(export, 1))
+CALL(archive_seal, AS(archive, 0), 400)
+CALL(archive_read, AS(archive, 0), &place, &size)
 CALL(message_encode, AS(message, 0), AS(bytes, 1))
 CALL(message_decode, AS(message, 0), told, told_len, &place)
 CALL(ask_sum, AS(ask, 0), TEXT("app"), TEXT("requests"), TEXT("1"), true)
@@ -304,7 +322,11 @@ static const struct row CALLS[] = {
     ROW(gateway_openmetrics, {READ, GATEWAY}, {FILLED, TOLD_TEXT}), ROW(gateway_prometheus, {READ, GATEWAY}, {FILLED, TOLD_TEXT}),
     ROW(gateway_incarnations, {READ, GATEWAY}, {FILLED, INCARNATIONS}), ROW(message_incarnations, {READ, MESSAGE}, {FILLED, INCARNATIONS}),
     ROW(incarnations_len, {READ, INCARNATIONS}), ROW(incarnations_read, {READ, INCARNATIONS}), ROW(incarnations_service, {READ, INCARNATIONS}),
-    ROW(gateway_service, {READ, GATEWAY}),
+    ROW(gateway_service, {READ, GATEWAY}), ROW(keeper_open, {FILLED, KEEPER}), ROW(keeper_gateway, {READ, KEEPER}, {FILLED, GATEWAY}),
+    ROW(keeper_read, {READ, KEEPER}), ROW(keeper_take, {THERE, KEEPER}, {READ, EXPORT}), ROW(keeper_merge, {THERE, KEEPER}, {READ, GATEWAY}),
+    ROW(keeper_send, {READ, KEEPER}, {FILLED, MESSAGE}), ROW(keeper_hand, {THERE, KEEPER}, {READ, MESSAGE}, {FILLED, MESSAGE}),
+    ROW(archive_begin, {FILLED, ARCHIVE}), ROW(archive_adopt, {THERE, ARCHIVE}, {READ, KEEPER}),
+    ROW(archive_export, {THERE, ARCHIVE}, {FILLED, EXPORT}), ROW(archive_seal, {THERE, ARCHIVE}), ROW(archive_read, {READ, ARCHIVE}),
 };
 
 static bool is_read(struct hand hand) { return hand.part == READ || hand.part == MAY_READ; }

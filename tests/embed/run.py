@@ -61,6 +61,8 @@ FEW_POINTS = ("1024",)
 FEW_READS = "4"
 WRAPPED = ["-Wl,--wrap=malloc,--wrap=realloc"]
 FREED = ["-Wl,--wrap=free"]
+# What raises refusals in C.
+REFUSALS = ("refusals.c", "formats.c", "archives.c")
 ERROR = re.compile(r"^// (error\[E\d+\])$", re.M)
 WARNING = re.compile(r"^// error: ([\w-]+)$", re.M)
 
@@ -112,8 +114,8 @@ class Run:
             self.run(what, "sh", "-ec", '"$0" > "$0.bytes"; "$1" < "$0.bytes"', made, program, prints=EXPORTED, env=env)
 
     def covered(self):
-        """Whether calls.h has a row for each call that the header has, which reads what it says, and refusals.c and formats.c raise each code,
-        but for that of a request of 2 GiB."""
+        """Whether calls.h has a row for each call that the header has, which reads what it says, and REFUSALS raise each code, but for that of a
+        request of 2 GiB, and of points that no export has: no call lets them in."""
         header = (EMBED / "c" / "kotskhin.h").read_text(encoding="utf-8")
         wanted, rows = set(), set()
         for name, given in re.findall(r"KIT_CHECKED int32_t kit_(\w+)\(([^)]*)\);", header):
@@ -124,8 +126,8 @@ class Run:
         fault = f"not {sorted(it[0] for it in wanted ^ rows)}" if wanted != rows else None
         self.say("C: calls.h has each call, and what it reads", fault)
         answers = re.search(r"What calls answer.*?};", header, re.S)[0]
-        codes = set(re.findall(r"(KIT_\w+) = [1-9]", answers)) - {"KIT_TOO_LONG"}
-        raised = {it for name in ("refusals.c", "formats.c") for it in re.findall(r"== (KIT_\w+)", (HERE / name).read_text(encoding="utf-8"))}
+        codes = set(re.findall(r"(KIT_\w+) = [1-9]", answers)) - {"KIT_TOO_LONG", "KIT_UNSOUND"}
+        raised = {it for name in REFUSALS for it in re.findall(r"== (KIT_\w+)", (HERE / name).read_text(encoding="utf-8"))}
         self.say("C: each code is raised", f"not {sorted(codes - raised)}" if codes - raised else None)
 
     def lacking(self):
@@ -148,6 +150,7 @@ class Run:
                 self.exporter(f"C, {compiler}{how}: an exporter", compiler, C + flags)
                 self.compiled(f"C, {compiler}{how}: refusals", compiler, HERE / "refusals.c", C + flags + WRAPPED + FREED)
                 self.compiled(f"C, {compiler}{how}: other formats, and incarnations", compiler, HERE / "formats.c", C + flags + WRAPPED)
+                self.compiled(f"C, {compiler}{how}: keepers and archives", compiler, HERE / "archives.c", C + flags + WRAPPED)
                 self.compiled(f"C, {compiler}{how}: handles", compiler, HERE / "handles.c", C + flags + WRAPPED)
                 self.compiled(f"C, {compiler}{how}: threads", compiler, HERE / "threads.c", C + flags)
                 self.compiled(f"C, {compiler}{how}: threads that read", compiler, HERE / "reads.c", C + flags)
@@ -168,6 +171,7 @@ class Run:
         for what, source, flags, tool in (
             ("every refusal", "refusals.c", WRAPPED + FREED, ["--leak-check=full", "--track-origins=no"]),
             ("other formats", "formats.c", WRAPPED, ["--leak-check=full", "--track-origins=no"]),
+            ("keepers and archives", "archives.c", WRAPPED, ["--leak-check=full", "--track-origins=no"]),
             ("threads that read", "reads.c", [], ["--tool=helgrind"]),
         ):
             command = [compiler, *C, "-g", "-O1", *flags, self.linked[0], HERE / source, *libraries, "-o", program]

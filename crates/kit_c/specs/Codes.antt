@@ -1,6 +1,12 @@
 -- The code of each refusal.
 use Rattle.std.specs.Prelude.{ℤ, pos}
 use Rattle.agg_kit.specs.declared.fault.TallyFault.TheVariants as tallies
+use Rattle.archive_kit.specs.declared.adopt_fault.AdoptFault.{AdoptFault}
+use Rattle.archive_kit.specs.declared.adopt_fault.AdoptFault.TheVariants as adoptions
+use Rattle.archive_kit.specs.declared.export_refusal.ExportRefusal.{ExportRefusal}
+use Rattle.archive_kit.specs.declared.export_refusal.ExportRefusal.TheVariants as archivings
+use Rattle.archive_kit.specs.declared.seal_refusal.SealRefusal.{SealRefusal}
+use Rattle.archive_kit.specs.declared.seal_refusal.SealRefusal.TheVariants as sealings
 use Rattle.attr_kit.specs.declared.error.AttrFault.{AttrFault}
 use Rattle.attr_kit.specs.declared.error.AttrFault.TheVariants as sets
 use Rattle.plan_kit.specs.declared.fault.PlanFault.{PlanFault}
@@ -31,6 +37,10 @@ no_memory = pos 1
 -- a recorder that has as many recordings as it may
 abbrev pub recorder_full : ℤ
 recorder_full = pos 70
+
+-- there is no point of what is asked for, or of an incarnation that is to be adopted
+abbrev pub no_point : ℤ
+no_point = pos 9
 
 -- bounds of a point that OTLP has no form for
 abbrev pub otlp_bounds : ℤ
@@ -89,6 +99,26 @@ abbrev pub handing_code : HandFault → ℤ
 handing_code hands.NotAddressed = pos 50
 handing_code hands.NoMemory = no_memory
 
+abbrev pub adopting_code : AdoptFault → ℤ
+adopting_code adoptions.OtherService = pos 110
+adopting_code adoptions.IsArchive = pos 111
+adopting_code adoptions.Adopted = pos 112
+adopting_code adoptions.Nothing = no_point
+adopting_code adoptions.Conflict = pos 113
+adopting_code adoptions.Torn = pos 114
+adopting_code adoptions.Unsound = pos 115
+adopting_code adoptions.OutOfRange = pos 116
+adopting_code adoptions.SetLimit = pos 117
+adopting_code adoptions.NoMemory = no_memory
+
+abbrev pub archiving_code : ExportRefusal → ℤ
+archiving_code archivings.TimeNotLater = pos 118
+archiving_code archivings.NoMemory = no_memory
+
+abbrev pub sealing_code : SealRefusal → ℤ
+sealing_code sealings.StartNotLater = pos 119
+sealing_code sealings.Unexported = pos 120
+
 abbrev pub decoding_code : DecodeFault → ℤ
 decoding_code (decodings.Truncated at) = pos 60
 decoding_code (decodings.BadMagic at) = pos 61
@@ -141,7 +171,7 @@ code_of faults.NotText = pos 5
 code_of faults.BadNumber = pos 6
 code_of faults.NoRow = pos 8
 code_of faults.NoItem = pos 19
-code_of faults.NoPoint = pos 9
+code_of faults.NoPoint = no_point
 code_of faults.TooWide = pos 40
 code_of faults.NoBucket = pos 41
 code_of faults.WrongShape = pos 42
@@ -154,6 +184,9 @@ code_of (faults.Restart f) = restart_code f
 code_of (faults.Attributes f) = attributes_code f
 code_of (faults.Plan f) = plan_code f
 code_of (faults.Hand f) = handing_code f
+code_of (faults.Adopt f) = adopting_code f
+code_of (faults.Archive f) = archiving_code f
+code_of (faults.Seal f) = sealing_code f
 code_of (faults.Decode f) = decoding_code f
 code_of (faults.Record f) = record_code f
 code_of (faults.Otlp f) = otlp_code f

@@ -1,5 +1,6 @@
 -- What the handles of each kind have.
 use Rattle.std.specs.Prelude.{ℕ, List, Option}
+use Rattle.archive_kit.specs.Archive.{ArchiveState}
 use Rattle.attr_kit.specs.declared.attr_set.AttrSet.{AttrSet}
 use Rattle.attr_kit.specs.declared.attr_value.AttrValue.{AttrValue}
 use Rattle.gateway_kit.specs.GatewayState.{GatewayState}
@@ -14,8 +15,9 @@ use Rattle.rollup_kit.specs.declared.ask.Ask.{Ask}
 use Rattle.rollup_kit.specs.declared.row.Row.{Row}
 use Rattle.writer_kit.specs.Written.{Written}
 use Rattle.kit_c.specs.Calls.{listed}
-use Rattle.kit_c.specs.Typed.{ask_in, attributes_in, bytes_in, export_in, exports_in, gateway_in, incarnations_in, instruments_in, keys_in, message_in, node_in, pairs_in, plan_in, recorder_in, rows_in, seat_in, streams_in, text_in, view_in, views_in, writer_in}
+use Rattle.kit_c.specs.Typed.{archive_in, ask_in, attributes_in, bytes_in, export_in, exports_in, gateway_in, incarnations_in, instruments_in, keeper_in, keys_in, message_in, node_in, pairs_in, plan_in, recorder_in, rows_in, seat_in, streams_in, text_in, view_in, views_in, writer_in}
 use Rattle.kit_c.specs.declared.desk.Desk.{Desk}
+use Rattle.kit_c.specs.declared.typed.KitArchive.{KitArchive}
 use Rattle.kit_c.specs.declared.typed.KitAsk.{KitAsk}
 use Rattle.kit_c.specs.declared.typed.KitAttributes.{KitAttributes}
 use Rattle.kit_c.specs.declared.typed.KitBytes.{KitBytes}
@@ -25,6 +27,7 @@ use Rattle.kit_c.specs.declared.typed.KitGateway.{KitGateway}
 use Rattle.kit_c.specs.declared.incarnations.Incarnation.{Incarnation}
 use Rattle.kit_c.specs.declared.typed.KitIncarnations.{KitIncarnations}
 use Rattle.kit_c.specs.declared.typed.KitInstruments.{KitInstruments}
+use Rattle.kit_c.specs.declared.typed.KitKeeper.{KitKeeper}
 use Rattle.kit_c.specs.declared.typed.KitKeys.{KitKeys}
 use Rattle.kit_c.specs.declared.typed.KitMessage.{KitMessage}
 use Rattle.kit_c.specs.declared.typed.KitNode.{KitNode}
@@ -81,6 +84,12 @@ node_of k = node_in k.handle.inner.value
 
 abbrev pub message_of : KitMessage → Option MessageModel
 message_of k = message_in k.handle.inner.value
+
+abbrev pub keeper_of : KitKeeper → Option NodeModel
+keeper_of k = keeper_in k.handle.inner.value
+
+abbrev pub archive_of : KitArchive → Option ArchiveState
+archive_of k = archive_in k.handle.inner.value
 
 abbrev pub seat_of : KitSeat → Option Desk
 seat_of k = seat_in k.handle.inner.value

@@ -1,3 +1,4 @@
+pub mod Archives
 pub mod Asks
 pub mod Bytes
 pub mod Calls
@@ -13,6 +14,7 @@ pub mod Holding
 pub mod Incarnations
 pub mod Items
 pub mod Kinds
+pub mod Keepers
 pub mod Knowing
 pub mod Nodes
 pub mod Owned

@@ -94,6 +94,29 @@ unfoldable pub third_text : ℤ → List ℕ
 third_text (pos n) = third_texts n
 third_text other = []
 
+-- of archives
+abbrev pub fourth_texts : ℕ → List ℕ
+fourth_texts n =
+    cond (n == 110) (codes "the incarnation is of another service than the archive") (
+    cond (n == 111) (codes "the incarnation is an archive's") (
+    cond (n == 112) (codes "the incarnation was adopted before") (
+    cond (n == 113) (codes "a point of the incarnation is a conflict") (
+    cond (n == 114) (codes "the points of the incarnation are not of one time") (
+    cond (n == 115) (codes "no export has the points of the incarnation") (
+    cond (n == 116) (codes "a number leaves the range of archives") (
+    cond (n == 117) (codes "there would be more totals than the limit") (
+    cond (n == 118) (codes "the time is not later than that of the last export") (
+    cond (n == 119) (codes "the start is not later than the last export") (
+    cond (n == 120) (codes "incarnations were adopted since the last export") (
+    [])))))))))))
+
+unfoldable pub fourth_text : ℤ → List ℕ
+fourth_text (pos n) = fourth_texts n
+fourth_text other = []
+
 -- a number that is no code has no text
 unfoldable pub code_text : ℤ → List ℕ
-code_text code = cond (int_lt code (pos 30)) (first_text code) (cond (int_lt code (pos 80)) (second_text code) (third_text code))
+code_text code =
+    cond (int_lt code (pos 30)) (first_text code) (
+    cond (int_lt code (pos 80)) (second_text code) (
+    cond (int_lt code (pos 110)) (third_text code) (fourth_text code)))

@@ -1,6 +1,7 @@
 -- What a handle of one kind has: that, or nothing.
 use Rattle.std.specs.Prelude.{ℕ, Bool, true, List, Option, Some, None}
 use Rattle.std.specs.Option.{is_some}
+use Rattle.archive_kit.specs.Archive.{ArchiveState}
 use Rattle.attr_kit.specs.declared.attr_set.AttrSet.{AttrSet}
 use Rattle.attr_kit.specs.declared.attr_value.AttrValue.{AttrValue}
 use Rattle.gateway_kit.specs.GatewayState.{GatewayState}
@@ -17,7 +18,7 @@ use Rattle.writer_kit.specs.Written.{Written}
 use Rattle.kit_c.specs.declared.desk.Desk.{Desk as TheDesk}
 use Rattle.kit_c.specs.declared.incarnations.Incarnation.{Incarnation}
 use Rattle.kit_c.specs.declared.content.Content.{Content}
-use Rattle.kit_c.specs.declared.content.Content.TheVariants.{Ask, Attributes, Bytes, Desk, Export, Exports, Gateway, Incarnations, Instruments, Keys, Message, Node, Pairs, Plan, Recorder, Rows, Streams, Text, View, Views, Writer}
+use Rattle.kit_c.specs.declared.content.Content.TheVariants.{Archive, Ask, Attributes, Bytes, Desk, Export, Exports, Gateway, Incarnations, Instruments, Keeper, Keys, Message, Node, Pairs, Plan, Recorder, Rows, Streams, Text, View, Views, Writer}
 
 abbrev pub pairs_in : Option Content → Option (List (List ℕ × AttrValue))
 pairs_in (Some (Pairs x)) = Some x
@@ -74,6 +75,14 @@ node_in m = None
 abbrev pub message_in : Option Content → Option MessageModel
 message_in (Some (Message x)) = Some x
 message_in m = None
+
+abbrev pub keeper_in : Option Content → Option NodeModel
+keeper_in (Some (Keeper x)) = Some x
+keeper_in m = None
+
+abbrev pub archive_in : Option Content → Option ArchiveState
+archive_in (Some (Archive x)) = Some x
+archive_in m = None
 
 abbrev pub seat_in : Option Content → Option TheDesk
 seat_in (Some (Desk x)) = Some x
@@ -159,6 +168,14 @@ is_node (Some h) = is_some (node_in (Some h))
 abbrev pub is_message : Option Content → Bool
 is_message None = true
 is_message (Some h) = is_some (message_in (Some h))
+
+abbrev pub is_keeper : Option Content → Bool
+is_keeper None = true
+is_keeper (Some h) = is_some (keeper_in (Some h))
+
+abbrev pub is_archive : Option Content → Bool
+is_archive None = true
+is_archive (Some h) = is_some (archive_in (Some h))
 
 abbrev pub is_seat : Option Content → Bool
 is_seat None = true

@@ -1,7 +1,7 @@
 //! What codes say, for people.
 ghost use Rattle.std.specs.Prelude.{◌≡◌, length};
 ghost use Rattle.kit_c.specs.Calls.{filled};
-ghost use Rattle.kit_c.specs.Texts.{code_text, first_text, second_text, third_text};
+ghost use Rattle.kit_c.specs.Texts.{code_text, first_text, fourth_text, second_text, third_text};
 
 use crate::text::copy_front;
 
@@ -101,6 +101,27 @@ fn third_text(code: i32) -> &'static str
     }
 }
 
+// What one of archives says.
+#[tactic(auto, unfolding(crate::specs::Texts::fourth_text))]
+fn fourth_text(code: i32) -> &'static str
+    ensures { result.now ≡ fourth_text code }
+{
+    match code {
+        110 => "the incarnation is of another service than the archive",
+        111 => "the incarnation is an archive's",
+        112 => "the incarnation was adopted before",
+        113 => "a point of the incarnation is a conflict",
+        114 => "the points of the incarnation are not of one time",
+        115 => "no export has the points of the incarnation",
+        116 => "a number leaves the range of archives",
+        117 => "there would be more totals than the limit",
+        118 => "the time is not later than that of the last export",
+        119 => "the start is not later than the last export",
+        120 => "incarnations were adopted since the last export",
+        _ => "",
+    }
+}
+
 // What a code says: nothing where it is none.
 #[tactic(auto, unfolding(crate::specs::Texts::code_text))]
 fn text_of_code(code: i32) -> &'static str
@@ -110,8 +131,10 @@ fn text_of_code(code: i32) -> &'static str
         first_text(code)
     } else if code < 80 {
         second_text(code)
-    } else {
+    } else if code < 110 {
         third_text(code)
+    } else {
+        fourth_text(code)
     }
 }
 

@@ -2,6 +2,7 @@
 use crate::desk::Desk;
 use crate::holding::HoldingWriter;
 use crate::incarnations::Incarnation;
+use archive_kit::{Archive, Keeper};
 use attr_kit::{AttrSet, AttrValue, Seq, Txt};
 use gateway_kit::Gateway;
 use gossip_kit::{Message, Node};
@@ -33,6 +34,10 @@ pub enum Content {
     /// A gateway that sends messages and takes them in.
     Node(Node),
     Message(Message),
+    /// A node that shows no point that a tombstone names.
+    Keeper(Keeper),
+    /// A writer that adopts ended incarnations of others.
+    Archive(Archive),
     /// A place at a writer that threads share.
     Desk(Desk),
     Ask(Ask),

@@ -1,10 +1,11 @@
 //! Why calls are refused, and the codes that say so.
 ghost use Rattle.std.specs.Prelude.{◌≡◌, ◌≢◌, pos, None};
 ghost use Rattle.std.specs.Option.{unwrap_or};
-ghost use Rattle.kit_c.specs.Codes.{code_of, recording_code, record_code, collection_code, restart_code, attributes_code, plan_code, handing_code, decoding_code, otlp_code, request_code, no_memory};
+ghost use Rattle.kit_c.specs.Codes.{code_of, recording_code, record_code, collection_code, restart_code, attributes_code, plan_code, handing_code, adopting_code, archiving_code, sealing_code, decoding_code, otlp_code, request_code, no_memory};
 ghost use Rattle.kit_c.specs.Places.{decoding_place, otlp_place, place_of, request_place, plan_place, second_of};
 
 use agg_kit::TallyFault;
+use archive_kit::{AdoptFault, ExportRefusal, SealRefusal};
 use attr_kit::{AttrFault, NoMemory};
 use bytes_kit::DecodeFault;
 use gossip_kit::HandFault;
@@ -69,6 +70,9 @@ pub enum Fault {
     Attributes(AttrFault),
     Plan(PlanFault),
     Hand(HandFault),
+    Adopt(AdoptFault),
+    Archive(ExportRefusal),
+    Seal(SealRefusal),
     Decode(DecodeFault),
     Record(RecordFault),
     Otlp(OtlpFault),
@@ -207,6 +211,44 @@ fn of_handing(fault: &HandFault) -> i32
     }
 }
 
+fn of_adopting(fault: &AdoptFault) -> i32
+    ensures code { result ≡ adopting_code fault.now }
+    ensures refused { result ≢ pos 0 }
+{
+    match fault {
+        AdoptFault::OtherService => 110,
+        AdoptFault::IsArchive => 111,
+        AdoptFault::Adopted => 112,
+        AdoptFault::Nothing => 9,
+        AdoptFault::Conflict => 113,
+        AdoptFault::Torn => 114,
+        AdoptFault::Unsound => 115,
+        AdoptFault::OutOfRange => 116,
+        AdoptFault::SetLimit => 117,
+        AdoptFault::NoMemory => 1,
+    }
+}
+
+fn of_archiving(fault: &ExportRefusal) -> i32
+    ensures code { result ≡ archiving_code fault.now }
+    ensures refused { result ≢ pos 0 }
+{
+    match fault {
+        ExportRefusal::TimeNotLater => 118,
+        ExportRefusal::NoMemory => 1,
+    }
+}
+
+fn of_sealing(fault: &SealRefusal) -> i32
+    ensures code { result ≡ sealing_code fault.now }
+    ensures refused { result ≢ pos 0 }
+{
+    match fault {
+        SealRefusal::StartNotLater => 119,
+        SealRefusal::Unexported => 120,
+    }
+}
+
 fn of_decoding(fault: &DecodeFault) -> i32
     ensures code { result ≡ decoding_code fault.now }
     ensures refused { result ≢ pos 0 }
@@ -295,6 +337,9 @@ impl Fault {
             Fault::Attributes(fault) => of_attributes(fault),
             Fault::Plan(fault) => of_plan(fault),
             Fault::Hand(fault) => of_handing(fault),
+            Fault::Adopt(fault) => of_adopting(fault),
+            Fault::Archive(fault) => of_archiving(fault),
+            Fault::Seal(fault) => of_sealing(fault),
             Fault::Decode(fault) => of_decoding(fault),
             Fault::Record(fault) => of_record(fault),
             Fault::Otlp(fault) => of_otlp(fault),

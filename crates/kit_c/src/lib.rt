@@ -11,6 +11,8 @@
 //!   numbers, and `kit_rows_attributes` of which labels.
 //! - `kit_recorder_measure` and its like are of a thread's own log, which `kit_writer_take_in` takes in; `kit_seat_measure` and its like
 //!   of a writer that threads share, `kit_node_send` and its like of gateways that gossip, `kit_export_encode` and its like of bytes.
+//! - `kit_archive_adopt` and its like are of archives, which adopt ended incarnations of others, and `kit_keeper_take` and its like of
+//!   keepers, nodes that show no point that was adopted.
 //!
 //! A caller, from `embed/c/first.c`:
 //!
@@ -30,6 +32,7 @@
 //! calls with one handle at once.
 #![tactic(auto)]
 
+mod archives;
 mod ask;
 mod attributes;
 mod bytes;
@@ -46,6 +49,7 @@ mod holding;
 mod incarnations;
 mod inner;
 mod instruments;
+mod keepers;
 mod keys;
 mod list;
 mod loose;

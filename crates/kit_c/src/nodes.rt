@@ -168,7 +168,42 @@ pub extern "C" fn kit_node_send(
     }
 }
 
-// Hands a message. The room of the answer is taken first, since nothing can be refused once the node has changed.
+/// Hands a node, or a keeper, a message. The room of the answer is taken first, since nothing can be refused once the node has changed.
+macro_rules! handed {
+    ($alloc:ident, $node:ident, $message:ident) => {{
+        let mut room = Box::new($alloc, Content::Keys(Seq::new($alloc)))?;
+        match $node.hand($message) {
+            Ok(Some(answer)) => {
+                *room = Content::Message(answer);
+                Ok(Some(room))
+            }
+            Ok(None) => Ok(None),
+            Err(fault) => Err(Fault::Hand(fault)),
+        }
+    }};
+}
+
+/// Puts the answer to a message into its handle, tells whether there is one, and answers with the code.
+macro_rules! answer_with {
+    ($outcome:expr, $answer:ident, $answered:ident) => {
+        match $outcome {
+            Ok(Some(made)) => {
+                $answer.handle.put(made);
+                *$answered = true;
+                OK
+            }
+            Ok(None) => {
+                *$answered = false;
+                OK
+            }
+            Err(fault) => fault.code(),
+        }
+    };
+}
+
+pub(crate) use answer_with;
+pub(crate) use handed;
+
 fn hand(alloc: Global, node: &mut Node, message: &Message) -> Result<Option<Box<Content>>, Fault>
     ensures ok { OnOk result (handing_fault node.old message.now ≡ None) }
     ensures value { OnOk result (Hears message.now node.old node.new) }
@@ -177,15 +212,7 @@ fn hand(alloc: Global, node: &mut Node, message: &Message) -> Result<Option<Box<
     ensures err { IfErr result (λ f. code_of f ≢ no_memory → handing_fault node.old message.now ≡ Some f) }
     ensures unchanged { OnErr result (node.new ≡ node.old) }
 {
-    let mut room = Box::new(alloc, Content::Keys(Seq::new(alloc)))?;
-    match node.hand(message) {
-        Ok(Some(answer)) => {
-            *room = Content::Message(answer);
-            Ok(Some(room))
-        }
-        Ok(None) => Ok(None),
-        Err(fault) => Err(Fault::Hand(fault)),
-    }
+    handed!(alloc, node, message)
 }
 
 /// Hands a node a message, which stays, and tells whether it is to be answered: then `answer` has the message to its sender.
@@ -212,18 +239,9 @@ pub extern "C" fn kit_node_hand(
     if answer.handle.full {
         return FULL;
     }
-    match with_two!(alloc, node => Node(held), message => Message(read), hand(alloc, held, read)) {
-        Ok(Some(made)) => {
-            answer.handle.put(made);
-            *answered = true;
-            OK
-        }
-        Ok(None) => {
-            *answered = false;
-            OK
-        }
-        Err(fault) => fault.code(),
-    }
+    let outcome =
+        with_two!(alloc, node => Node(held), message => Message(read), hand(alloc, held, read));
+    answer_with!(outcome, answer, answered)
 }
 
 /// Tells from which id and to which a message goes, and how many points it carries: an answer carries none.

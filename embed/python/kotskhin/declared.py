@@ -70,6 +70,17 @@ CODES = (
     ("ATTRIBUTE_VALUE", 103, "the value of an attribute is of a kind that is not known", ("point",)),
     ("NO_EXPORT", 104, "what a request says together makes no export", ("export",)),
     ("REPEATS", 105, "a text of more than 1024 bytes is repeated too often", ()),
+    ("OTHER_SERVICE", 110, "the incarnation is of another service than the archive", ()),
+    ("IS_ARCHIVE", 111, "the incarnation is an archive's", ()),
+    ("ADOPTED", 112, "the incarnation was adopted before", ()),
+    ("CONFLICT", 113, "a point of the incarnation is a conflict", ()),
+    ("TORN", 114, "the points of the incarnation are not of one time", ()),
+    ("UNSOUND", 115, "no export has the points of the incarnation", ()),
+    ("OUT_OF_RANGE", 116, "a number leaves the range of archives", ()),
+    ("SET_LIMIT", 117, "there would be more totals than the limit", ()),
+    ("TIME_NOT_LATER", 118, "the time is not later than that of the last export", ()),
+    ("START_NOT_LATER", 119, "the start is not later than the last export", ()),
+    ("UNEXPORTED", 120, "incarnations were adopted since the last export", ()),
 )
 
 # Each struct that is told, by its name in C: its fields.
@@ -79,6 +90,11 @@ STRUCTS = {
 
 # Each call: what it answers, and its parameters, as C declares them.
 CALLS = {
+    "kit_archive_begin": ("int32_t", ("kit_archive *archive", "const uint8_t *service", "size_t service_len", "uint64_t instance_high", "uint64_t instance_low", "uint64_t start", "size_t limit")),
+    "kit_archive_adopt": ("int32_t", ("kit_archive *archive", "KIT_READS kit_keeper *keeper", "const uint8_t *service", "size_t service_len", "uint64_t instance_high", "uint64_t instance_low", "uint64_t start")),
+    "kit_archive_export": ("int32_t", ("kit_archive *archive", "uint64_t time", "kit_export *export_")),
+    "kit_archive_seal": ("int32_t", ("kit_archive *archive", "uint64_t start")),
+    "kit_archive_read": ("int32_t", ("KIT_READS kit_archive *archive", "uint64_t *start", "size_t *adopted")),
     "kit_ask_sum": ("int32_t", ("kit_ask *ask", "const uint8_t *scope", "size_t scope_len", "const uint8_t *name", "size_t name_len", "const uint8_t *unit", "size_t unit_len", "bool monotonic")),
     "kit_ask_gauge": ("int32_t", ("kit_ask *ask", "const uint8_t *scope", "size_t scope_len", "const uint8_t *name", "size_t name_len", "const uint8_t *unit", "size_t unit_len")),
     "kit_ask_histogram": ("int32_t", ("kit_ask *ask", "const uint8_t *scope", "size_t scope_len", "const uint8_t *name", "size_t name_len", "const uint8_t *unit", "size_t unit_len", "const int64_t *bounds", "size_t bounds_len")),
@@ -118,6 +134,13 @@ CALLS = {
     "kit_incarnations_service": ("int32_t", ("KIT_READS kit_incarnations *incarnations", "size_t number", "uint8_t *into", "size_t room", "size_t *len")),
     "kit_instruments_add": ("int32_t", ("kit_instruments *instruments", "const uint8_t *scope", "size_t scope_len", "const uint8_t *name", "size_t name_len", "const uint8_t *unit", "size_t unit_len", "uint8_t kind")),
     "kit_plan_build": ("int32_t", ("kit_plan *plan", "KIT_READS kit_instruments *instruments", "KIT_READS kit_views *views", "uint64_t limit", "uint64_t *place", "uint64_t *second")),
+    "kit_keeper_open": ("int32_t", ("kit_keeper *keeper", "uint32_t id")),
+    "kit_keeper_gateway": ("int32_t", ("KIT_READS kit_keeper *keeper", "kit_gateway *gateway")),
+    "kit_keeper_read": ("int32_t", ("KIT_READS kit_keeper *keeper", "uint32_t *id", "size_t *points")),
+    "kit_keeper_take": ("int32_t", ("kit_keeper *keeper", "KIT_READS kit_export *export_", "uint64_t *changed", "bool *late")),
+    "kit_keeper_merge": ("int32_t", ("kit_keeper *keeper", "KIT_READS kit_gateway *gateway", "uint64_t *changed")),
+    "kit_keeper_send": ("int32_t", ("KIT_READS kit_keeper *keeper", "uint32_t to", "kit_message *message")),
+    "kit_keeper_hand": ("int32_t", ("kit_keeper *keeper", "KIT_READS kit_message *message", "kit_message *answer", "bool *answered")),
     "kit_keys_add": ("int32_t", ("kit_keys *keys", "const uint8_t *key", "size_t key_len")),
     "kit_message_encode": ("int32_t", ("KIT_READS kit_message *message", "kit_bytes *bytes")),
     "kit_message_decode": ("int32_t", ("kit_message *message", "const uint8_t *bytes", "size_t bytes_len", "uint64_t *place")),

@@ -135,6 +135,28 @@ pub const ATTRIBUTE_VALUE: i32 = 103;
 pub const NO_EXPORT: i32 = 104;
 /// A text of more than 1024 bytes is repeated too often.
 pub const REPEATS: i32 = 105;
+/// The incarnation is of another service than the archive.
+pub const OTHER_SERVICE: i32 = 110;
+/// The incarnation is an archive's.
+pub const IS_ARCHIVE: i32 = 111;
+/// The incarnation was adopted before.
+pub const ADOPTED: i32 = 112;
+/// A point of the incarnation is a conflict.
+pub const CONFLICT: i32 = 113;
+/// The points of the incarnation are not of one time.
+pub const TORN: i32 = 114;
+/// No export has the points of the incarnation.
+pub const UNSOUND: i32 = 115;
+/// A number leaves the range of archives.
+pub const OUT_OF_RANGE: i32 = 116;
+/// There would be more totals than the limit.
+pub const SET_LIMIT: i32 = 117;
+/// The time is not later than that of the last export.
+pub const TIME_NOT_LATER: i32 = 118;
+/// The start is not later than the last export.
+pub const START_NOT_LATER: i32 = 119;
+/// Incarnations were adopted since the last export.
+pub const UNEXPORTED: i32 = 120;
 
 kind!(
     /// Pairs of attributes that are written down, or nothing.
@@ -207,6 +229,16 @@ kind!(
 );
 
 kind!(
+    /// A node that shows no point that an archive adopted, or nothing.
+    Keeper
+);
+
+kind!(
+    /// A writer that adopts ended incarnations of others, or nothing.
+    Archive
+);
+
+kind!(
     /// A place at a writer that threads share, or nothing.
     Seat
 );
@@ -254,6 +286,38 @@ pub struct Taken {
 }
 
 unsafe extern "C" {
+    pub fn kit_archive_begin(
+        archive: *mut Archive,
+        service: *const u8,
+        service_len: usize,
+        instance_high: u64,
+        instance_low: u64,
+        start: u64,
+        limit: usize,
+    ) -> i32;
+    pub fn kit_archive_adopt(
+        archive: *mut Archive,
+        keeper: *mut Keeper,
+        service: *const u8,
+        service_len: usize,
+        instance_high: u64,
+        instance_low: u64,
+        start: u64,
+    ) -> i32;
+    pub fn kit_archive_export(
+        archive: *mut Archive,
+        time: u64,
+        export_: *mut Export,
+    ) -> i32;
+    pub fn kit_archive_seal(
+        archive: *mut Archive,
+        start: u64,
+    ) -> i32;
+    pub fn kit_archive_read(
+        archive: *mut Archive,
+        start: *mut u64,
+        adopted: *mut usize,
+    ) -> i32;
     pub fn kit_ask_sum(
         ask: *mut Ask,
         scope: *const u8,
@@ -488,6 +552,41 @@ unsafe extern "C" {
         limit: u64,
         place: *mut u64,
         second: *mut u64,
+    ) -> i32;
+    pub fn kit_keeper_open(
+        keeper: *mut Keeper,
+        id: u32,
+    ) -> i32;
+    pub fn kit_keeper_gateway(
+        keeper: *mut Keeper,
+        gateway: *mut Gateway,
+    ) -> i32;
+    pub fn kit_keeper_read(
+        keeper: *mut Keeper,
+        id: *mut u32,
+        points: *mut usize,
+    ) -> i32;
+    pub fn kit_keeper_take(
+        keeper: *mut Keeper,
+        export_: *mut Export,
+        changed: *mut u64,
+        late: *mut bool,
+    ) -> i32;
+    pub fn kit_keeper_merge(
+        keeper: *mut Keeper,
+        gateway: *mut Gateway,
+        changed: *mut u64,
+    ) -> i32;
+    pub fn kit_keeper_send(
+        keeper: *mut Keeper,
+        to: u32,
+        message: *mut Message,
+    ) -> i32;
+    pub fn kit_keeper_hand(
+        keeper: *mut Keeper,
+        message: *mut Message,
+        answer: *mut Message,
+        answered: *mut bool,
     ) -> i32;
     pub fn kit_keys_add(
         keys: *mut Keys,
