@@ -37,7 +37,7 @@ func taken(t *testing.T, k Keeper, export Export, wanted uint64, wantedLate bool
 
 func begun(t *testing.T, limit int) Archive {
 	t.Helper()
-	return must[Archive](t)(BeginArchive("shop", Instance{Low: 9}, 1000, limit))
+	return must[Archive](t)(BeginArchive("shop", Instance{Low: 1000}, 1000, limit))
 }
 
 // shows checks how many points a keeper shows, and their total.
@@ -109,7 +109,7 @@ func TestWhatAnArchiveRefuses(t *testing.T) {
 	k, a := keeping(t, 1, counted(t, 1, math.MaxInt64, 200), counted(t, 2, 1, 200)), begun(t, 1)
 	first, second := Instance{Low: 1}, Instance{Low: 2}
 	refused(t, a.Adopt(k, "till", first, 100), ErrOtherService, 0)
-	refused(t, a.Adopt(k, "shop", Instance{Low: 9}, 1000), ErrIsArchive, 0)
+	refused(t, a.Adopt(k, "shop", Instance{Low: 1000}, 1000), ErrIsArchive, 0)
 	refused(t, a.Adopt(k, "shop", Instance{Low: 3}, 100), ErrNoPoint, 0)
 	refused(t, a.Adopt(k, "sho\xff", first, 100), ErrNotText, 0)
 	refused(t, begun(t, 0).Adopt(k, "shop", first, 100), ErrSetLimit, 0)

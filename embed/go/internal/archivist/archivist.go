@@ -9,7 +9,6 @@ import (
 	"context"
 	"time"
 
-	"kotskhin"
 	"kotskhin/internal/figures"
 	"kotskhin/internal/gossip"
 	"kotskhin/internal/held"
@@ -17,8 +16,11 @@ import (
 	"kotskhin/internal/store"
 )
 
-// Most incarnations that are adopted at once: whoever brings something waits as long.
-const most = 100
+// Most incarnations that are adopted at once, and how long that may take, but for the last of them: whoever brings something waits as long.
+const (
+	most    = 100
+	longest = 20 * time.Millisecond
+)
 
 // Archivist adopts incarnations of services. No other gateway of those that tell each other may adopt those of the same service.
 type Archivist struct {
@@ -58,7 +60,7 @@ func (a *Archivist) Run(ctx context.Context) {
 func (a *Archivist) Turn() {
 	if a.shelves == nil {
 		for _, service := range a.Services {
-			a.shelves = append(a.shelves, &shelf{service: service, left: map[kotskhin.Incarnation]bool{}})
+			a.shelves = append(a.shelves, newShelf(service))
 		}
 	}
 	if !a.areTogether() {

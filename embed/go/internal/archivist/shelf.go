@@ -3,8 +3,8 @@ package archivist
 import "kotskhin"
 
 const (
-	// Most totals of an archive: an adoption compares each of its points with each of them.
-	mostTotals = 10_000
+	// Most totals of an archive. An adoption compares each of its points with each of them, while whoever brings something waits.
+	mostTotals = 5000
 	// How many adoptions fill an archive: each of its exports has a tombstone for each.
 	mostAdopted = 1000
 	// Of two metrics that claim one name a page shows that of the younger incarnation. So an archive begins before all workers did: no
@@ -15,6 +15,8 @@ const (
 // A shelf is what there is of a service: the archive that adopts now.
 type shelf struct {
 	service string
+	// Most totals of an archive.
+	limit int
 	// None where the last one is full, or nothing was to be adopted yet. Nothing is kept over a restart: what an archive adopted and has
 	// not exported was not adopted.
 	archive *kotskhin.Archive
@@ -23,6 +25,10 @@ type shelf struct {
 	exported   uint64
 	// What can't be adopted as it is.
 	left map[kotskhin.Incarnation]bool
+}
+
+func newShelf(service string) *shelf {
+	return &shelf{service: service, limit: mostTotals, left: map[kotskhin.Incarnation]bool{}}
 }
 
 // open begins an archive where there is none, under an instance that no other has.
@@ -34,7 +40,7 @@ func (s *shelf) open() error {
 	if err != nil {
 		return err
 	}
-	archive, err := kotskhin.BeginArchive(s.service, instance, start, mostTotals)
+	archive, err := kotskhin.BeginArchive(s.service, instance, start, s.limit)
 	if err != nil {
 		return err
 	}

@@ -2,6 +2,7 @@ package archivist
 
 import (
 	"errors"
+	"time"
 
 	"kotskhin"
 	"kotskhin/internal/figures"
@@ -36,7 +37,7 @@ func (t *turn) run(add func(bytes []byte) error) error {
 				return why
 			}
 		}
-		if t.isFull || t.tombstones >= mostAdopted {
+		if t.isFull {
 			t.close()
 			t.Figures.Add(figures.Sealed, figures.Labels("service", t.service), 1)
 		}
@@ -44,9 +45,13 @@ func (t *turn) run(add func(bytes []byte) error) error {
 	})
 }
 
-// adopt adopts up to what the archive has no room for. An error is one of memory.
+// adopt adopts until the archive has no room, or until it took long. An error is one of memory.
 func (t *turn) adopt(it held.Alone) error {
+	began := time.Now()
 	for _, one := range t.front {
+		if t.isFull = t.tombstones+len(t.adopted) >= mostAdopted; t.isFull || t.done > 0 && time.Since(began) > longest {
+			return nil
+		}
 		if !it.HasMoved(one) {
 			err := t.archive.Adopt(it.Keeper, one.Service, one.Instance, one.Start)
 			switch {
