@@ -174,7 +174,7 @@ func TestGatewaysForgetTogether(t *testing.T) {
 	holds := func(number, points int) func() bool {
 		return func() bool {
 			page := ask(number, "/metrics")
-			isWhole := strings.Count(page, "\nrequests_total{") == 50 && strings.Count(page, "\"} 16\n") == 50
+			isWhole := strings.Count(page, "\nrequests_total{") == 50 && strings.Count(page, "service_name=\"shop\"} 16\n") == 50
 			if page != "" && wasWhole[number] && !isWhole {
 				t.Fatal(page)
 			}

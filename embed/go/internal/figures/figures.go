@@ -108,8 +108,6 @@ func (f *Figures) Reads(call func(set func(family, labels string, value float64)
 }
 
 func (f *Figures) all() map[string]map[string]float64 {
-	f.lock.Lock()
-	defer f.lock.Unlock()
 	made := map[string]map[string]float64{}
 	set := func(family, labels string, value float64) {
 		if made[family] == nil {
@@ -117,12 +115,16 @@ func (f *Figures) all() map[string]map[string]float64 {
 		}
 		made[family][labels] = value
 	}
+	f.lock.Lock()
 	for family, counts := range f.counts {
 		for labels, value := range counts {
 			set(family, labels, value)
 		}
 	}
-	for _, call := range f.gauges {
+	gauges := f.gauges
+	f.lock.Unlock()
+	// (what is read may wait for somebody who adds to a count)
+	for _, call := range gauges {
 		call(set)
 	}
 	return made

@@ -101,7 +101,11 @@ func (h *Held) Take(it *Brought) (late []kotskhin.ExportHead, err error) {
 		if err != nil && it.joined == nil {
 			return nil, err
 		}
-		if head, err := export.Head(); err == nil && isLate {
+		if isLate {
+			head, err := export.Head()
+			if err != nil {
+				return nil, err
+			}
 			late = append(late, head)
 		}
 	}

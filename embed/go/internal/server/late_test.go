@@ -3,6 +3,8 @@ package server
 import (
 	"bytes"
 	"net/http"
+	"os"
+	"path/filepath"
 	"strings"
 	"testing"
 	"time"
@@ -12,6 +14,7 @@ import (
 	"kotskhin/internal/archivist"
 	"kotskhin/internal/logs"
 	"kotskhin/internal/otlp"
+	"kotskhin/internal/tokens"
 )
 
 // archived is a gateway with an archivist of the service shop, and what lets its clock go on for so long and has it look.
@@ -128,12 +131,12 @@ func TestWhatComesOftenIsLoggedSeldom(t *testing.T) {
 	}
 }
 
-// tombstone is an export of somebody who says that an incarnation was adopted.
-func tombstone(t *testing.T) kotskhin.Export {
+// tombstone is an export of somebody of a service who says that an incarnation of the service shop was adopted.
+func tombstone(t *testing.T, service string) kotskhin.Export {
 	t.Helper()
 	adopted := kotskhin.Instrument{Scope: "kotskhin.archive", Name: "adopted", Unit: "ns", Kind: kotskhin.Gauge}
 	plan := must[kotskhin.Plan](t)(kotskhin.NewPlan(adopted))
-	writer := must[kotskhin.Writer](t)(kotskhin.StartWriter(plan, "shop", kotskhin.Instance{Low: 7}, 100))
+	writer := must[kotskhin.Writer](t)(kotskhin.StartWriter(plan, service, kotskhin.Instance{Low: 7}, 100))
 	set := must[kotskhin.Attributes](t)(kotskhin.NewAttributes(attribute.String("service", "shop"), attribute.Int("start", 100),
 		attribute.String("instance", kotskhin.Instance{Low: 1}.String())))
 	if err := writer.Measure(0, set, 200); err != nil {
@@ -145,7 +148,7 @@ func tombstone(t *testing.T) kotskhin.Export {
 // No sender hides another one. Peers may tell of tombstones, and so may a text that is not a scope.
 func TestSendersBringNoTombstones(t *testing.T) {
 	s, url := served(t, 1, nil)
-	good, bad := encoded(t, "shop", 1, 7), tombstone(t)
+	good, bad := encoded(t, "shop", 1, 7), tombstone(t, "shop")
 	if status, said, _ := got(t, http.MethodPost, url+"/v1/exports", good); status != 200 {
 		t.Fatal(status, said)
 	}
@@ -168,13 +171,37 @@ func TestSendersBringNoTombstones(t *testing.T) {
 	if status, said, _ := got(t, http.MethodPost, url+"/v1/exports", encoded(t, "kotskhin.archive", 2, 7)); status != 200 {
 		t.Fatal(status, said)
 	}
-	peer := must[kotskhin.Node](t)(kotskhin.OpenNode(must[kotskhin.Gateway](t)(kotskhin.OpenGateway(2))))
-	must[uint64](t)(peer.Take(bad))
-	told := must[[]byte](t)(must[kotskhin.Message](t)(peer.Send(s.Held.ID())).Encode())
-	if status, said, _ := got(t, http.MethodPost, url+"/v1/messages", told); status != 200 {
+	if status, said, _ := got(t, http.MethodPost, url+"/v1/messages", messageOf(t, bad, s.Held.ID())); status != 200 {
 		t.Fatal(status, said)
 	}
 	if total := row(t, url, allRequests); total != "" {
 		t.Fatal(total)
+	}
+}
+
+// messageOf is a message of a gateway that took an export.
+func messageOf(t *testing.T, export kotskhin.Export, to uint32) []byte {
+	t.Helper()
+	peer := must[kotskhin.Node](t)(kotskhin.OpenNode(must[kotskhin.Gateway](t)(kotskhin.OpenGateway(2))))
+	must[uint64](t)(peer.Take(export))
+	return must[[]byte](t)(must[kotskhin.Message](t)(peer.Send(to)).Encode())
+}
+
+// A peer whose token is of some services hides none of another.
+func TestPeersNameTheirServicesAlone(t *testing.T) {
+	file := filepath.Join(t.TempDir(), "tokens")
+	if err := os.WriteFile(file, []byte(rights), 0o600); err != nil {
+		t.Fatal(err)
+	}
+	s, url := served(t, 1, func(s *Server) { s.Tokens = must[*tokens.File](t)(tokens.Open(file)) })
+	told := messageOf(t, tombstone(t, "till"), s.Held.ID())
+	for _, it := range []struct {
+		token  string
+		status int
+	}{{"lame-0123456789abcdef", 403}, {"peer-0123456789abcdef", 200}} {
+		status, said, _ := got(t, http.MethodPost, url+"/v1/messages", told, "Authorization", "Bearer "+it.token)
+		if status != it.status || status == 403 && !strings.Contains(said, "service shop") {
+			t.Error(it, status, said)
+		}
 	}
 }

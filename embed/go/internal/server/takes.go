@@ -1,7 +1,6 @@
 package server
 
 import (
-	"bytes"
 	"encoding/binary"
 	"encoding/json"
 	"errors"
@@ -123,20 +122,6 @@ func (s *Server) take(request *http.Request, grant tokens.Grant, body []byte, ex
 	s.Figures.Add(figures.Exports, labels, float64(made.Exports-made.Late))
 	s.Figures.Add(figures.Points, labels, float64(made.Points-made.latePoints))
 	return made, nil
-}
-
-// notReserved refuses who brings points in the scope of tombstones: a worker could hide others. A text stands in a body as it is, so most
-// bodies need no second look.
-func notReserved(brought *held.Brought, body []byte) error {
-	if !bytes.Contains(body, []byte(held.ArchiveScope)) {
-		return nil
-	}
-	has, err := brought.HasScope(held.ArchiveScope)
-	if err == nil && has {
-		why := "no sender may bring points of the scope " + held.ArchiveScope + ": a gateway itself says what was adopted"
-		return refusal{http.StatusForbidden, "reserved", why}
-	}
-	return err
 }
 
 // keep keeps what is brought on disk, where there is one, and takes it.
@@ -268,10 +253,13 @@ func (s *Server) mayHand(message kotskhin.Message, body []byte, grant tokens.Gra
 		return from, refusal{http.StatusBadRequest, "ack", "an Ack answers a message, and is not sent by itself"}
 	}
 	of, err := message.Incarnations()
-	if err != nil {
-		return from, err
+	if err == nil {
+		err = notFor(grant, of)
 	}
-	return from, notFor(grant, of)
+	if err == nil {
+		err = notNamed(grant, message, body)
+	}
+	return from, err
 }
 
 func asJSON(w http.ResponseWriter, value any) error {
