@@ -15,18 +15,18 @@ PLAN = ((SCOPE, "requests", "1", COUNTER), (SCOPE, "open", "1", UP_DOWN), (SCOPE
 ROUTES = [f"/{number}" for number in range(40)]
 ARCHIVES = ("--archive", "shop", "--archive-after", "1s", "--archive-every", "100ms")
 GOSSIP = ("--gossip-interval", "100ms", "--gossip-longest-pause", "500ms")
-WORKERS, SECONDS, SCRAPES = 4, 20, "1s"
+WORKERS, SECONDS, SCRAPES, AT_A_TIME = 4, 20, "1s", 20
 # Of the soak: points of an incarnation, what a gateway may hold, and how much its memory may grow once a quarter is through.
 POINTS, MOST_POINTS, MOST_GROWTH = 200, 50_000, 24 << 20
 AT_ONCE = 100
 
 
 def posted(gateway, export):
-    """How many exports of a body were late, which is taken."""
+    """Posts an export, and tells whether it was late."""
     status, _, told = gateway.ask("/v1/exports", "POST", export.encode())
     if status != 200:
         raise Fault(f"an export is answered {status}: {told}\n{gateway.tail()}")
-    return json.loads(told).get("late", 0)
+    return json.loads(told).get("late", 0) == 1
 
 
 def figure(gateway, name):
@@ -42,7 +42,7 @@ class Worker(threading.Thread):
         super().__init__(daemon=True)
         self.chance, self.gateway, self.ends, self.plan = random.Random(number), gateway, ends, Plan(PLAN)
         self.sets = [Attributes({"route": it}) for it in ROUTES]
-        self.taken, self.owed, self.lives, self.late, self.last, self.fault = {}, {}, 0, 0, None, None
+        self.taken, self.owed, self.lives, self.points, self.late, self.last, self.fault = {}, {}, 0, 0, 0, None, None
 
     def run(self):
         try:
@@ -53,25 +53,29 @@ class Worker(threading.Thread):
 
     def live(self):
         """One life, from its first count to its last push."""
-        writer = Writer(self.plan, "shop", unique_instance(), time.time_ns())
+        self.last = Writer(self.plan, "shop", unique_instance(), time.time_ns())
         self.lives += 1
-        self.last = writer
-        waits, self.owed = self.owed, {}
-        for turn in range(self.chance.randrange(2, 8)):
-            counted = waits if turn == 0 and waits else self.counted()
+        for _ in range(self.chance.randrange(2, 8)):
+            counted, self.owed = self.owed or self.counted(), {}
             for (instrument, route), value in counted.items():
-                writer.measure(instrument, self.sets[route], value)
-            if posted(self.gateway, writer.collect(time.time_ns())):
+                self.last.measure(instrument, self.sets[route], value)
+            export = self.last.collect(time.time_ns())
+            if posted(self.gateway, export):
                 self.late, self.owed = self.late + 1, counted
-                return
+                break
+            points = export.head().points
             for at, value in counted.items():
                 self.taken[at] = self.taken.get(at, 0) + value
             self.ends.wait(self.chance.random() * 0.4)
+        self.points += points
 
     def counted(self):
-        """What is counted next: one value at an instrument and a route."""
-        value, route = self.chance.randrange(1000), self.chance.randrange(len(ROUTES))
-        return {(0, route): value, (1, route): value - 500, (2, route): value}
+        """What is counted next: at some routes a value each, at each instrument."""
+        found = {}
+        for _ in range(AT_A_TIME):
+            value, route = self.chance.randrange(1000), self.chance.randrange(len(ROUTES))
+            found |= {(0, route): value, (1, route): value - 500, (2, route): value}
+        return found
 
 
 def totals_of(workers):
@@ -135,8 +139,8 @@ class Scraped:
                 raise Fault(f"gateway {gateway.number} does not show what was counted\n{gateway.tail()}")
         self.late(workers[0].last, wanted)
         self.hold(prometheus, wanted)
-        late = sum(it.late for it in workers)
-        return f"{lives} lives, of which all were adopted, {late} of them while they lived; {points} points are left of {lives * len(PLAN)} and more"
+        late, came = (sum(getattr(it, what) for it in workers) for what in ("late", "points"))
+        return f"{lives} lives with {came} points were adopted, {late} of them while they lived; {points} points are left"
 
     def zeros(self, worker):
         """Each series is scraped at 0 first."""
@@ -152,7 +156,7 @@ class Scraped:
         """A worker that was taken for dead reports to each gateway: nothing moves."""
         writer.measure(0, Attributes({"route": "/0"}), 1_000_000)
         for gateway in self.gateways:
-            if posted(gateway, writer.collect(time.time_ns())) != 1:
+            if not posted(gateway, writer.collect(time.time_ns())):
                 raise Fault(f"gateway {gateway.number} does not say what is late")
             if kept(page_of(gateway)) != wanted or figure(gateway, "late_exports_total") < 1:
                 raise Fault(f"gateway {gateway.number} takes what is late\n{gateway.tail()}")

@@ -1,6 +1,7 @@
 package main
 
 import (
+	"context"
 	"fmt"
 	"io"
 	"net/http"
@@ -40,7 +41,7 @@ func loaded(t *testing.T, folder string) *process {
 	clock := time.Now()
 	r.held.Now = func() time.Time { return clock }
 	by := r.archivist()
-	return &process{r, t, func(length time.Duration) { clock = clock.Add(length); by.Turn() }}
+	return &process{r, t, func(length time.Duration) { clock = clock.Add(length); by.Turn(context.Background()) }}
 }
 
 // collected are the bytes of a worker's collection: each of so many sets has counted a value.

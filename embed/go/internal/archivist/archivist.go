@@ -49,15 +49,15 @@ func (a *Archivist) Run(ctx context.Context) {
 	for {
 		select {
 		case <-ticks.C:
-			a.Turn()
+			a.Turn(ctx)
 		case <-ctx.Done():
 			return
 		}
 	}
 }
 
-// Turn adopts what has ended, once.
-func (a *Archivist) Turn() {
+// Turn adopts what has ended, once; what the context's end leaves is for a later turn.
+func (a *Archivist) Turn(ctx context.Context) {
 	if a.shelves == nil {
 		for _, service := range a.Services {
 			a.shelves = append(a.shelves, newShelf(service))
@@ -67,7 +67,7 @@ func (a *Archivist) Turn() {
 		return
 	}
 	for _, it := range a.shelves {
-		if err := a.adoptAll(it); err != nil {
+		if err := a.adoptAll(ctx, it); err != nil {
 			a.Log.Error("incarnations that have ended were not adopted", "service", it.service, "why", err)
 		}
 	}
@@ -90,10 +90,10 @@ func (a *Archivist) areTogether() bool {
 }
 
 // adoptAll adopts all that has ended of a service, some at a time.
-func (a *Archivist) adoptAll(s *shelf) error {
+func (a *Archivist) adoptAll(ctx context.Context, s *shelf) error {
 	waiting, adopted := s.waiting(a.Held.Ended(s.service, a.After)), 0
 	before, _ := a.Held.Counts()
-	for len(waiting) > 0 {
+	for len(waiting) > 0 && ctx.Err() == nil {
 		front := waiting
 		if len(front) > most {
 			front = front[:most]

@@ -1,6 +1,7 @@
 package archivist
 
 import (
+	"context"
 	"fmt"
 	"strings"
 	"testing"
@@ -71,7 +72,7 @@ func (r *trial) take(exports ...kotskhin.Export) int {
 // after lets time go by, and has the archivist look.
 func (r *trial) after(length time.Duration) {
 	r.clock = r.clock.Add(length)
-	r.by.Turn()
+	r.by.Turn(context.Background())
 }
 
 // shows checks how many points are held, and what all requests come to.

@@ -2,6 +2,7 @@ package server
 
 import (
 	"bytes"
+	"context"
 	"net/http"
 	"os"
 	"path/filepath"
@@ -30,7 +31,7 @@ func archived(t *testing.T, change func(s *Server)) (s *Server, url string, afte
 	by := &archivist.Archivist{Held: s.Held, Gossip: s.Gossip, Figures: s.Figures, Services: []string{"shop"}, After: time.Hour}
 	return s, url, func(length time.Duration) {
 		clock = clock.Add(length)
-		by.Turn()
+		by.Turn(context.Background())
 	}
 }
 
