@@ -33,13 +33,14 @@ WITHOUT = {
     ("Go", "kit_code_text"): "the texts stand in declared.go, which is made",
 }
 CASES = pathlib.Path(__file__).resolve().parent / "cases.json"
-# Codes that no shared case raises, and why not. The tests in C raise each, but for the last (refusals.c, formats.c).
+# Codes that no shared case raises, and why not. The tests in C raise each, but for the last two (refusals.c, formats.c, archives.c).
 UNRAISED = {
     "WRONG_KIND": "a handle of another kind is given by a cast in C alone: the wrappers' types tell kinds apart",
     "FULL": "a wrapper fills handles that it has just made",
     "BUSY": "it takes two calls at once: the threads of the case with seats go on where it is raised, which no test can force",
     "EXHAUSTED": "it takes 2^62 changes",
     "TOO_LONG": "it takes a request of 2 GiB",
+    "UNSOUND": "exports and messages bring sound points alone, so a keeper of the library has no others",
 }
 # A row: what it is, its calls (a * at the end stands for what follows), and a word that a wrapper has beside them, where it has it.
 FEATURES = [
@@ -60,6 +61,8 @@ FEATURES = [
     ("tables", "kit_gateway_rows kit_rows_table kit_text_copy", ""),
     ("rows as data, with attributes and wide totals", "kit_rows_*", ""),
     ("nodes and messages", "kit_node_* kit_message_gateway", ""),
+    ("keepers, which forget what an archive adopted", "kit_keeper_*", ""),
+    ("archives, which adopt what has ended", "kit_archive_*", ""),
     ("bytes of exports", "kit_export_encode kit_export_decode kit_bytes_copy", ""),
     ("bytes of messages, and of gateways", "kit_message_encode kit_message_decode kit_gateway_encode", ""),
     ("requests of OTLP", "kit_export_otlp", ""),

@@ -105,6 +105,18 @@ using BadExport = RefusedBy<KIT_BAD_EXPORT>;
 using RecorderFull = RefusedBy<KIT_RECORDER_FULL>;
 using OtlpBounds = RefusedBy<KIT_OTLP_BOUNDS>;
 using TooLong = RefusedBy<KIT_TOO_LONG>;
+// Of archives: why an incarnation is not adopted, no export is made, and none is sealed.
+using OtherService = RefusedBy<KIT_OTHER_SERVICE>;
+using IsArchive = RefusedBy<KIT_IS_ARCHIVE>;
+using Adopted = RefusedBy<KIT_ADOPTED>;
+using Conflict = RefusedBy<KIT_CONFLICT>;
+using Torn = RefusedBy<KIT_TORN>;
+using Unsound = RefusedBy<KIT_UNSOUND>;
+using OutOfRange = RefusedBy<KIT_OUT_OF_RANGE>;
+using SetLimit = RefusedBy<KIT_SET_LIMIT>;
+using TimeNotLater = RefusedBy<KIT_TIME_NOT_LATER>;
+using StartNotLater = RefusedBy<KIT_START_NOT_LATER>;
+using Unexported = RefusedBy<KIT_UNEXPORTED>;
 
 // Of requests of OTLP that are read: bytes that are none, and what they say that no export has.
 namespace request {

@@ -7,12 +7,14 @@ Before any call, a number that its C type can't hold is an OverflowError, and a 
 TypeError. A call that the kit refuses raises Refused, by a class of the code's name, and changes nothing. What was made before a fork
 raises ForkedError after it. Things are given up by `close`, by the end of a `with`, or once nothing names them."""
 from kotskhin import errors
+from kotskhin.archive import Archive
 from kotskhin.attributes import Attributes, Pairs, Value
 from kotskhin.declared import CODES, VERSION
 from kotskhin.errors import *  # noqa: F403 (each refusal by its name)
 from kotskhin.errors import Code, ForkedError, Refused
 from kotskhin.export import Export, ExportHead
 from kotskhin.gateway import OPENMETRICS_TYPE, PROMETHEUS_TYPE, Ask, Gateway, Incarnation, Row, Rows
+from kotskhin.keeper import Keeper, Taking
 from kotskhin.library import code_text, default_bounds
 from kotskhin.node import Envelope, Message, Node
 from kotskhin.plan import COUNTER, DEFAULT_LIMIT, GAUGE, HISTOGRAM, UP_DOWN, Aggregation, Instrument, Kind, Plan
@@ -25,5 +27,5 @@ __all__ = [
     *("Code", "Refused", "ForkedError", "Attributes", "Pairs", "Value", "CODES", "VERSION", "Export", "ExportHead", "Ask", "Gateway"),
     *("Row", "Rows", "code_text", "default_bounds", "Envelope", "Message", "Node", "COUNTER", "UP_DOWN", "GAUGE", "HISTOGRAM"),
     *("DEFAULT_LIMIT", "Aggregation", "Instrument", "Kind", "Plan", "Shape", "Stream", "Streams", "View", "Recorder", "Seat"),
-    *("Taken", "Writer", "unique_instance", "Incarnation", "OPENMETRICS_TYPE", "PROMETHEUS_TYPE"),
+    *("Taken", "Writer", "unique_instance", "Incarnation", "OPENMETRICS_TYPE", "PROMETHEUS_TYPE", "Keeper", "Taking", "Archive"),
 ]

@@ -309,6 +309,50 @@ class Repeats(Refused):
     """A text of more than 1024 bytes is repeated too often."""
 
 
+class OtherService(Refused):
+    """An incarnation is of another service than the archive."""
+
+
+class IsArchive(Refused):
+    """An incarnation is an archive's."""
+
+
+class Adopted(Refused):
+    """An archive adopted the incarnation before, be it before it was sealed."""
+
+
+class Conflict(Refused):
+    """A point of an incarnation is a conflict: two writers shared the identity."""
+
+
+class Torn(Refused):
+    """The points of an incarnation are not all of one time: not all of its last collection has come."""
+
+
+class Unsound(Refused):
+    """No export has the points of an incarnation."""
+
+
+class OutOfRange(Refused):
+    """The start or the time of an incarnation is at or above 2**63 - 1, or a total would leave its range."""
+
+
+class SetLimit(Refused):
+    """An archive would have more totals than its limit."""
+
+
+class TimeNotLater(Refused):
+    """The time is not later than that of the archive's last export, or than its start."""
+
+
+class StartNotLater(Refused):
+    """The start is not later than the archive's last export, or than its start."""
+
+
+class Unexported(Refused):
+    """An archive adopted incarnations since its last export."""
+
+
 class ForkedError(RuntimeError):
     """What is used was made before a fork, by the parent of this process."""
 

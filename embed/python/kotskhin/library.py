@@ -1,8 +1,8 @@
 """The shared library, and its calls as kotskhin.declared has them: of the types, the ranges and the places that the header says.
 
-Calls that take long, which are those of gateways, nodes and bytes, let go of Python's own lock; who makes them sees to it that a handle
-is in one call at a time. All others keep it, so that each is done before another thread gets on: no lock of ours is taken then. Where
-Python runs without that lock, all calls are made under one of ours."""
+Calls that take long, which are those of gateways, nodes, keepers, archives and bytes, let go of Python's own lock; who makes them sees to
+it that a handle is in one call at a time. All others keep it, so that each is done before another thread gets on: no lock of ours is
+taken then. Where Python runs without that lock, all calls are made under one of ours."""
 import ctypes
 import operator
 import os
@@ -17,7 +17,7 @@ from kotskhin.errors import refusal
 NAME = "libkotskhin.so.0"
 # Calls that take as long as what they read or make is large.
 LONG = ("kit_gateway_", "kit_node_", "kit_message_", "kit_export_encode", "kit_export_decode", "kit_bytes_copy")
-LONG += ("kit_export_otlp", "kit_exports_of_otlp")
+LONG += ("kit_export_otlp", "kit_exports_of_otlp", "kit_keeper_", "kit_archive_")
 
 C_TYPES = {"uint8_t": c_uint8, "int32_t": c_int32, "uint32_t": c_uint32, "int64_t": c_int64, "uint64_t": c_uint64, "size_t": c_size_t}
 C_TYPES["bool"] = c_bool

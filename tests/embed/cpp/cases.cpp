@@ -460,13 +460,18 @@ std::map<std::string, Run::Step> Run::all_steps() {
              GatewayHead head = the<Node>(it["of"]).head();
              return Json().with("id", told(head.id)).with("points", told(head.points));
          }},
+        {"keeper_read",
+         [this](const Json &it) {
+             GatewayHead head = the<Keeper>(it["of"]).head();
+             return Json().with("id", told(head.id)).with("points", told(head.points));
+         }},
         {"take",
          [this](const Json &it) {
              return by<Gateway, Node>(it["by"], [&](auto &thing) { return told(thing.take(the<Export>(it["export"]))); });
          }},
         {"merge",
          [this](const Json &it) {
-             return by<Gateway, Node>(it["by"], [&](auto &thing) { return told(thing.merge(the<Gateway>(it["from"]))); });
+             return by<Gateway, Node, Keeper>(it["by"], [&](auto &thing) { return told(thing.merge(the<Gateway>(it["from"]))); });
          }},
         {"conflicts", [this](const Json &it) { return told(the<Gateway>(it["of"]).conflicts()); }},
         {"same", [this](const Json &it) { return told(the<Gateway>(it["of"]).same(the<Gateway>(it["and"]))); }},
@@ -487,9 +492,12 @@ std::map<std::string, Run::Step> Run::all_steps() {
         {"node", done([this](const Json &it) { make(it, Node(the<Gateway>(it["gateway"]))); })},
         {"node_gateway", done([this](const Json &it) { make(it, the<Node>(it["of"]).gateway()); })},
         {"message_gateway", done([this](const Json &it) { make(it, the<Message>(it["of"]).gateway()); })},
-        {"send", done([this](const Json &it) { make(it, the<Node>(it["by"]).send(number<Number<uint32_t>>(it["to"]))); })},
+        {"send", done([this](const Json &it) {
+             make(it, by<Node, Keeper>(it["by"], [&](auto &thing) { return thing.send(number<Number<uint32_t>>(it["to"])); }));
+         })},
         {"hand", done([this](const Json &it) {
-             std::optional<Message> answer = the<Node>(it["by"]).hand(the<Message>(it["message"]));
+             std::optional<Message> answer =
+                 by<Node, Keeper>(it["by"], [&](auto &thing) { return thing.hand(the<Message>(it["message"])); });
              auto wanted = it.find("answer");
              bool is_wanted = wanted && wanted->is == Is::Text;
              if (is_wanted != answer.has_value()) differs("whether there is an answer");
@@ -499,6 +507,27 @@ std::map<std::string, Run::Step> Run::all_steps() {
          [this](const Json &it) {
              auto head = the<Message>(it["of"]).envelope();
              return Json().with("from", told(head.from)).with("to", told(head.to)).with("points", told(head.points));
+         }},
+        {"keeper", done([this](const Json &it) { make(it, Keeper(number<Number<uint32_t>>(it["id"]))); })},
+        {"keeper_gateway", done([this](const Json &it) { make(it, the<Keeper>(it["of"]).gateway()); })},
+        {"keeper_take",
+         [this](const Json &it) {
+             Taking taking = the<Keeper>(it["by"]).take(the<Export>(it["export"]));
+             return Json().with("changed", told(taking.changed)).with("late", told(taking.is_late));
+         }},
+        {"archive", done([this](const Json &it) {
+             make(it, Archive(text(it["service"]), instance(it["instance"]), number<Time>(it["start"]), number<Index>(it["limit"])));
+         })},
+        {"adopt", done([this](const Json &it) {
+             auto &keeper = the<Keeper>(it["keeper"]);
+             the<Archive>(it["by"]).adopt(keeper, text(it["service"]), instance(it["instance"]), number<Time>(it["start"]));
+         })},
+        {"archive_export", done([this](const Json &it) { make(it, the<Archive>(it["by"]).export_at(number<Time>(it["time"]))); })},
+        {"seal", done([this](const Json &it) { the<Archive>(it["by"]).seal(number<Time>(it["start"])); })},
+        {"archive_read",
+         [this](const Json &it) {
+             auto &archive = the<Archive>(it["of"]);
+             return Json().with("start", told(archive.start())).with("adopted", told(archive.adopted()));
          }},
         {"encode", done([this](const Json &it) {
              make(it, by<Export, Message, Gateway>(it["of"], [](auto &thing) { return bytes_of(thing.encode()); }));
@@ -520,7 +549,8 @@ std::map<std::string, Run::Step> Run::all_steps() {
              if (the<std::string>(it["of"]) != unhexed(it["hex"].text)) differs("the bytes are others");
          })},
         {"close", done([this](const Json &it) {
-             by<Plan, Attributes, Writer, Export, Gateway, Node, Message, Recorder, Seat>(it["of"], [](auto &thing) { thing.close(); });
+             by<Plan, Attributes, Writer, Export, Gateway, Node, Message, Recorder, Seat, Keeper, Archive>(
+                 it["of"], [](auto &thing) { thing.close(); });
          })},
         {"threads", done([this](const Json &it) { threads(it); })},
         {"fill", done([this](const Json &it) {

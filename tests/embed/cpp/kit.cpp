@@ -13,6 +13,7 @@ constexpr bool is_moved_alone = std::is_nothrow_move_constructible_v<Kind> &&std
 static_assert(is_moved_alone<Plan> && is_moved_alone<Attributes> && is_moved_alone<Writer> && is_moved_alone<Recorder>);
 static_assert(is_moved_alone<Seat> && is_moved_alone<Export> && is_moved_alone<Gateway> && is_moved_alone<Node>);
 static_assert(is_moved_alone<Message> && is_moved_alone<View> && is_moved_alone<Ask> && is_moved_alone<Rows> && is_moved_alone<Streams>);
+static_assert(is_moved_alone<Keeper> && is_moved_alone<Archive>);
 static_assert(!std::is_constructible_v<AttributeValue, double> && !std::is_constructible_v<Value, double>);
 static_assert(!std::is_constructible_v<Value, bool> && !std::is_convertible_v<void *, AttributeValue>);
 static_assert(std::is_base_of_v<Refused, Closed> && std::is_base_of_v<std::runtime_error, Refused>);
@@ -203,6 +204,31 @@ static void receivers_look_first() {
     CHECK(to.gateway().same(gateway));
 }
 
+static void archives_adopt_what_has_ended() {
+    Writer worker(plan(), "shop", Instance{1, 2}, 100);
+    worker.measure(0, {}, 7);
+    const Export last = worker.shutdown(200);
+    Keeper keeper(1);
+    CHECK(keeper.take(last).changed == 1 && keeper.take(last).changed == 0 && !keeper.take(last).is_late);
+    Archive begun("shop", unique_instance(), 1000, 10), archive = std::move(begun);
+    CHECK(throws<Nothing>([&] { begun.start(); }) && throws<NoPoint>([&] { archive.adopt(keeper, "shop", Instance{2, 1}, 100); }));
+    const Keeper &read = keeper;
+    archive.adopt(read, "shop", Instance{1, 2}, 100);
+    CHECK(throws<Adopted>([&] { archive.adopt(read, "shop", Instance{1, 2}, 100); }) && throws<Unexported>([&] { archive.seal(2000); }));
+    CHECK(throws<TimeNotLater>([&] { archive.export_at(1000); }));
+    const Export adopted = archive.export_at(1500);
+    CHECK(throws<StartNotLater>([&] { archive.seal(1500); }));
+    archive.seal(2000);
+    const Archive &sealed = archive;
+    CHECK(sealed.start() == 2000 && sealed.adopted() == 0 && adopted.head().points == 2);
+    CHECK(keeper.take(adopted).changed == 2 && keeper.take(last).is_late && keeper.head().points == 2 && read.head().id == 1);
+    CHECK(read.gateway().sum("app", "requests", "1") == "attributes  points  conflicts  total\n{}               1          0  7\n");
+    Keeper other(2);
+    Message answer, none;
+    CHECK(other.hand(read.send(2), answer) && !keeper.hand(answer, none) && !none);
+    CHECK(other.gateway().same(read.gateway()) && other.merge(read.gateway()) == 0 && other.take(last).is_late);
+}
+
 int main() {
     return checked_all({{"moved", moved},
                         {"temporaries and ranges", temporaries_and_ranges},
@@ -210,5 +236,6 @@ int main() {
                         {"refusals", refusals},
                         {"rows and views", rows_and_views},
                         {"what reads is const", what_reads_is_const},
-                        {"receivers look first", receivers_look_first}});
+                        {"receivers look first", receivers_look_first},
+                        {"archives adopt what has ended", archives_adopt_what_has_ended}});
 }

@@ -5,8 +5,8 @@
 
 cases and otel_cases perform the lists that all languages share. kit is what C++ has words of its own for, otel OpenTelemetry's names, readers the periodic
 readers and exporters, with libcurl where it is. Each is compiled by g++ under AddressSanitizer and UBSan, and by clang++ plainly; those
-with threads of their own are run under ThreadSanitizer, too. page is the programs of docs/CPP.md: the first one, compiled by that page's line, prints what it says,
-the second one, with libcurl, pushes to the first of several places that takes what it has.
+with threads of their own are run under ThreadSanitizer, too. page is the programs of docs/CPP.md: the first one, compiled by that page's
+line, and the third one print what it says; the second one, with libcurl, pushes to the first of several places that takes what it has.
 
 Headers come from FOLDER/include. It ends with a status other than 0 where one fails, or where something is not there that GATE_WITHOUT
 does not name."""
@@ -64,17 +64,19 @@ def ran(kit, room, compiler, source, flags, words=()):
 
 
 def page(kit, room, compiler):
-    """The programs of docs/CPP.md, and what the first one prints."""
+    """The programs of docs/CPP.md, and what the first and the third one print."""
     text = (TOP / "docs" / "CPP.md").read_text(encoding="utf-8")
-    printed = re.search(r"^```text\n(.*?)^```$", text, re.M | re.S)[1]
-    sources = [TOP / "embed" / "cpp" / f"{name}.cpp" for name in ("otel", "first_of")]
+    first, third = re.findall(r"^```text\n(.*?)^```$", text, re.M | re.S)
+    sources = [TOP / "embed" / "cpp" / f"{name}.cpp" for name in ("otel", "first_of", "archive")]
     for source, program in zip(sources, re.findall(r"^```cpp\n(.*?)^```$", text, re.M | re.S), strict=True):
         if program != source.read_text(encoding="utf-8").split("\n", 1)[1]:
             sys.exit(f"docs/CPP.md: a program is not {source.relative_to(TOP)}")
     line = re.search(r"^c\+\+( -std=c\+\+17 \$R.*)", text, re.M)[1]
     given = f"cd {room}; R={TOP} PKG_CONFIG_PATH={kit}/lib/pkgconfig; export PKG_CONFIG_PATH; {compiler}"
-    if (told := done("sh", "-ec", given + line)) != printed:
+    if (told := done("sh", "-ec", given + line)) != first:
         sys.exit(f"docs/CPP.md: its first program prints\n{told}")
+    if (told := ran(kit, room, compiler, sources[2], [])) != third:
+        sys.exit(f"docs/CPP.md: its third program prints\n{told}")
     if not there.has("C++", "pkg-config", "libcurl"):
         return
     program = built(kit, room, compiler, sources[1], [])

@@ -11,8 +11,8 @@ import zlib
 
 CASES = pathlib.Path(__file__).resolve().parents[1] / "cases.json"
 sys.path.insert(0, str(pathlib.Path(__file__).resolve().parents[3] / "embed" / "python"))
-from kotskhin import Aggregation, Ask, Attributes, Busy, Code, Export, Gateway, Kind, Message, Node, Plan, Recorder, RecorderFull, Refused
-from kotskhin import Shape, View, Writer
+from kotskhin import Aggregation, Archive, Ask, Attributes, Busy, Code, Export, Gateway, Keeper, Kind, Message, Node, Plan, Recorder
+from kotskhin import RecorderFull, Refused, Shape, View, Writer
 
 SHAPES = {"monotonic sum": Shape.MONOTONIC_SUM, "sum": Shape.SUM, "gauge": Shape.GAUGE}
 AGGREGATIONS = {"default": Aggregation.DEFAULT, "sum": Aggregation.SUM, "last": Aggregation.LAST_VALUE, "drop": Aggregation.DROP}
@@ -147,7 +147,7 @@ class Run:
     def gateway_read(self, it):
         return dict(zip(("id", "points"), self.things[it["of"]].head()))
 
-    node_read = gateway_read
+    node_read = keeper_read = gateway_read
 
     def take(self, it):
         return self.things[it["by"]].take(self.things[it["export"]])
@@ -212,7 +212,7 @@ class Run:
     def node_gateway(self, it):
         self.make(it, self.things[it["of"]].gateway())
 
-    message_gateway = node_gateway
+    message_gateway = keeper_gateway = node_gateway
 
     def send(self, it):
         self.make(it, self.things[it["by"]].send(it["to"]))
@@ -225,6 +225,29 @@ class Run:
 
     def message(self, it):
         return dict(zip(("from", "to", "points"), self.things[it["of"]].envelope()))
+
+    def keeper(self, it):
+        self.make(it, Keeper(it["id"]))
+
+    def keeper_take(self, it):
+        taking = self.things[it["by"]].take(self.things[it["export"]])
+        return {"changed": taking.changed, "late": taking.is_late}
+
+    def archive(self, it):
+        self.make(it, Archive(text(it["service"]), it["limit"], it["instance"], it["start"]))
+
+    def adopt(self, it):
+        self.things[it["by"]].adopt(self.things[it["keeper"]], text(it["service"]), it["instance"], it["start"])
+
+    def archive_export(self, it):
+        self.make(it, self.things[it["by"]].export(it["time"]))
+
+    def seal(self, it):
+        self.things[it["by"]].seal(it["start"])
+
+    def archive_read(self, it):
+        archive = self.things[it["of"]]
+        return {"start": archive.start, "adopted": archive.adopted}
 
     def encode(self, it):
         self.make(it, self.things[it["of"]].encode())

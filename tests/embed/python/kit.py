@@ -15,8 +15,8 @@ import uuid
 EMBED = pathlib.Path(__file__).resolve().parents[3] / "embed"
 sys.path.insert(0, str(EMBED / "python"))
 import kotskhin
-from kotskhin import CODES, COUNTER, GAUGE, HISTOGRAM, UP_DOWN, Ask, Attributes, Code, Export, ForkedError, Gateway, Message, Node, Plan
-from kotskhin import Recorder, Refused, View, Writer
+from kotskhin import CODES, COUNTER, GAUGE, HISTOGRAM, UP_DOWN, Archive, Ask, Attributes, Code, Export, ForkedError, Gateway, Keeper
+from kotskhin import Message, Node, Plan, Recorder, Refused, Taking, View, Writer
 
 INSTRUMENTS = [("app", "requests", "1", COUNTER), ("app", "balance", "1", UP_DOWN)]
 
@@ -186,6 +186,15 @@ class Identities(unittest.TestCase):
         gateway.take(export)
         self.assertEqual(gateway.newest("shop", drawn, 100), 200)
 
+    def test_archives_draw_theirs(self):
+        archives = [Archive("shop", 10) for _ in range(8)]
+        self.assertEqual(len({it.instance for it in archives}), 8)
+        for archive in archives:
+            head = archive.export(archive.start + 1).head()
+            self.assertEqual((head.instance, head.start), (archive.instance, archive.start))
+        drawn = uuid.uuid4()
+        self.assertEqual(Archive("shop", 10, drawn, 100).export(200).head()[:3], ("shop", drawn.int, 100))
+
     def test_a_child_draws_its_own(self):
         drawn = set(children(*[lambda: str(kotskhin.unique_instance()).encode()] * 8))
         self.assertEqual(len(drawn), 8)
@@ -198,8 +207,10 @@ class Forks(unittest.TestCase):
         plan, none = Plan(INSTRUMENTS), Attributes()
         writer, gateway = Writer(plan, "shop", 1, 100), Gateway(1)
         recorder, node, export = Recorder(10), Node(Gateway(2)), writer.collect(200)
+        keeper, archive = Keeper(3), Archive("shop", 10)
         mine = {"Writer": lambda: writer.collect(300), "Plan": lambda: Writer(plan, "shop", 2, 100), "Recorder": recorder.clear,
                 "Gateway": lambda: gateway.take(export), "Node": lambda: node.send(1), "Export": export.encode,
+                "Keeper": lambda: Archive("shop", 10).adopt(keeper, "shop", 1, 100), "Archive": lambda: archive.start,
                 "Attributes": lambda: Writer(Plan(INSTRUMENTS), "shop", 3, 100).measure(0, none, 1)}
 
         def named(call):
@@ -252,6 +263,72 @@ class Forks(unittest.TestCase):
         done.set()
         thread.join()
         self.assertEqual(answers, [b"0"])
+
+
+class Archives(unittest.TestCase):
+    """An archive adopts what has ended, and a keeper forgets it."""
+
+    def setUp(self):
+        self.keeper, self.archive = Keeper(1), Archive("shop", 10, 9, 1000)
+
+    def last(self, instance):
+        """The last export of a worker that counted 7."""
+        worker = Writer(Plan(INSTRUMENTS), "shop", instance, 100)
+        worker.measure(0, Attributes(), 7)
+        return worker.shutdown(200)
+
+    def test_a_keeper_takes(self):
+        last = self.last(1)
+        self.assertEqual([self.keeper.take(last) for _ in range(2)], [(1, False), (0, False)])
+        self.archive.adopt(self.keeper, "shop", 1, 100)
+        self.assertEqual(self.keeper.take(self.archive.export(2000)), Taking(changed=2, is_late=False))
+        self.assertEqual(self.keeper.take(last), Taking(changed=0, is_late=True))
+        self.assertEqual(self.keeper.head(), (1, 2))
+        self.assertTrue(self.keeper.gateway().sum("app", "requests", "1").endswith("{}               1          0  7\n"))
+
+    def test_a_seal_is_told(self):
+        self.keeper.take(self.last(1))
+        self.archive.adopt(self.keeper, "shop", 1, 100)
+        self.assertEqual((self.archive.start, self.archive.adopted), (1000, 1))
+        with self.assertRaises(kotskhin.Unexported):
+            self.archive.seal(3000)
+        self.archive.export(2000)
+        with self.assertRaises(kotskhin.StartNotLater):
+            self.archive.seal(2000)
+        self.archive.seal(3000)
+        self.assertEqual((self.archive.start, self.archive.adopted), (3000, 0))
+
+    def test_other_types(self):
+        for wrong in (Gateway(1), None):
+            with self.assertRaises((TypeError, AttributeError, kotskhin.WrongKind)):
+                self.archive.adopt(wrong, "shop", 1, 100)
+        with self.assertRaisesRegex(TypeError, "is no text"):
+            self.archive.adopt(self.keeper, b"shop", 1, 100)
+
+    def test_threads_adopt_and_take(self):
+        """Threads adopt from one keeper into one archive, while others take what it exports and ask."""
+        often, failed = 20, []
+
+        def work(number):
+            try:
+                for turn in range(often):
+                    instance = number * often + turn + 1
+                    self.keeper.take(self.last(instance + 1000))
+                    self.archive.adopt(self.keeper, "shop", instance + 1000, 100)
+                    self.keeper.gateway().close()
+                    self.archive.adopted
+            except BaseException as fault:
+                failed.append(fault)
+
+        threads = [threading.Thread(target=work, args=(it,)) for it in range(4)]
+        for thread in threads:
+            thread.start()
+        for thread in threads:
+            thread.join(120)
+        self.assertEqual((failed, [it.is_alive() for it in threads], self.archive.adopted), ([], [False] * 4, 4 * often))
+        self.keeper.take(self.archive.export(2000))
+        self.assertEqual(self.keeper.head(), (1, 4 * often + 1))
+        self.assertTrue(self.keeper.gateway().sum("app", "requests", "1").endswith(f"  {7 * 4 * often}\n"))
 
 
 class Imports(unittest.TestCase):

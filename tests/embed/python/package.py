@@ -59,7 +59,7 @@ class Wheel(unittest.TestCase):
         where = self.run_in(python, "-c", "import kotskhin; print(kotskhin.__file__, kotskhin.__version__)", env=given)
         self.assertIn("fresh", where)
         scripts = page("PYTHON.md")
-        self.assertEqual(len(scripts), 2)
+        self.assertEqual(len(scripts), 3)
         for script, printed in scripts:
             (self.room / "page.py").write_text(script, encoding="utf-8")
             self.assertEqual(self.run_in(python, "page.py", env=given), printed)

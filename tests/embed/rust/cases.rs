@@ -9,8 +9,9 @@ mod told;
 
 use json::Json;
 use kotskhin::{
-    Aggregation, Ask, AttributeValue, Attributes, DEFAULT_LIMIT, Error, Export, Gateway,
-    Instruments, Kind, Message, Node, OwnedValue, Plan, Recorder, Seat, View, Views, Writer,
+    Aggregation, Archive, Ask, AttributeValue, Attributes, DEFAULT_LIMIT, Error, Export, Gateway,
+    Instruments, Keeper, Kind, Message, Node, OwnedValue, Plan, Recorder, Seat, View, Views,
+    Writer,
 };
 use std::cell::RefCell;
 use std::collections::HashMap;
@@ -159,6 +160,8 @@ enum Thing {
     Gateway(Gateway),
     Node(Node),
     Message(Message),
+    Keeper(Keeper),
+    Archive(Archive),
     Bytes(Vec<u8>),
 }
 
@@ -377,7 +380,7 @@ impl Run {
 
     fn hand(&mut self, it: &Json) -> Answer {
         let answer = the!(self, it.get("message"), Message, message => {
-            the!(self, it.get("by"), Node, node => node.hand(message))
+            the!(self, it.get("by"), Node | Keeper, node => node.hand(message))
         })?;
         match (answer, it.find("answer")) {
             (Some(answer), Some(Json::Text(name))) => {
@@ -560,8 +563,8 @@ impl Run {
                 let made = Gateway::open(number(by("id"))?)?;
                 self.make(it, Thing::Gateway(made))
             }
-            "gateway_read" | "node_read" => {
-                let (id, points) = the!(self, by("of"), Gateway | Node, it => it.head())?;
+            "gateway_read" | "node_read" | "keeper_read" => {
+                let (id, points) = the!(self, by("of"), Gateway | Node | Keeper, it => it.head())?;
                 Ok(Json::fields([
                     ("id", Json::number(id)),
                     ("points", Json::number(points)),
@@ -573,7 +576,7 @@ impl Run {
             // (a gateway that merges itself is refused by rustc: ../misuse)
             "merge" if by("from") == by("by") => Err(Stopped::Unsayable),
             "merge" => the!(self, by("from"), Gateway, from => {
-                Ok(Json::number(the!(self, by("by"), Gateway | Node, it => it.merge(from))?))
+                Ok(Json::number(the!(self, by("by"), Gateway | Node | Keeper, it => it.merge(from))?))
             }),
             "conflicts" => Ok(Json::number(
                 the!(self, by("of"), Gateway, it => it.conflicts())?,
@@ -604,13 +607,13 @@ impl Run {
                 let made = the!(self, by("gateway"), Gateway, it => Node::open(it))?;
                 self.make(it, Thing::Node(made))
             }
-            "node_gateway" | "message_gateway" => {
-                let made = the!(self, by("of"), Node | Message, it => it.gateway())?;
+            "node_gateway" | "message_gateway" | "keeper_gateway" => {
+                let made = the!(self, by("of"), Node | Message | Keeper, it => it.gateway())?;
                 self.make(it, Thing::Gateway(made))
             }
             "send" => {
                 let to = number(by("to"))?;
-                let made = the!(self, by("by"), Node, it => it.send(to))?;
+                let made = the!(self, by("by"), Node | Keeper, it => it.send(to))?;
                 self.make(it, Thing::Message(made))
             }
             "hand" => self.hand(it),
@@ -649,6 +652,51 @@ impl Run {
             "threads" => self.threads(it),
             "fill" => self.fill(it),
             "decode_often" => self.decode_often(it),
+            _ => self.performed_by_archives(it),
+        }
+    }
+
+    fn performed_by_archives(&mut self, it: &Json) -> Answer {
+        let by = |name: &str| it.get(name);
+        match by("do").text() {
+            "keeper" => {
+                let made = Keeper::open(number(by("id"))?)?;
+                self.make(it, Thing::Keeper(made))
+            }
+            "keeper_take" => {
+                let taking = the!(self, by("export"), Export, export => {
+                    the!(self, by("by"), Keeper, it => it.take(export))
+                })?;
+                Ok(told::taking(taking))
+            }
+            "archive" => {
+                let (service, instance) = (text(by("service"))?, number(by("instance"))?);
+                let (start, limit) = (number(by("start"))?, number(by("limit"))?);
+                let made = Archive::begin(&service, instance, start, limit)?;
+                self.make(it, Thing::Archive(made))
+            }
+            "adopt" => {
+                let (service, instance) = (text(by("service"))?, number(by("instance"))?);
+                let start = number(by("start"))?;
+                the!(self, by("keeper"), Keeper, keeper => {
+                    the!(self, by("by"), Archive, it => it.adopt(keeper, &service, instance, start))
+                })?;
+                Ok(Json::Null)
+            }
+            "archive_export" => {
+                let time = number(by("time"))?;
+                let made = the!(self, by("by"), Archive, it => it.export(time))?;
+                self.make(it, Thing::Export(made))
+            }
+            "seal" => {
+                let start = number(by("start"))?;
+                the!(self, by("by"), Archive, it => it.seal(start))?;
+                Ok(Json::Null)
+            }
+            "archive_read" => the!(self, by("of"), Archive, it => Ok(Json::fields([
+                ("start", Json::number(it.start()?)),
+                ("adopted", Json::number(it.adopted()?)),
+            ]))),
             other => panic!("no step is {other}"),
         }
     }

@@ -5,7 +5,8 @@
 
 clean: `cargo fmt`, `cargo clippy` where they are, and `cargo doc` say nothing. package: `cargo package` packs both crates, and builds
 what it packed. page: the programs of docs/RUST.md are the crate's examples. The first one, in a fresh crate that the page's line adds the
-kit to, prints what that page says; the second one pushes to the first of several places that takes what it has. It ends with a status other than 0 where one does not hold."""
+kit to, and the third one print what that page says; the second one pushes to the first of several places that takes what it has. It ends
+with a status other than 0 where one does not hold."""
 import os
 import pathlib
 import re
@@ -65,12 +66,14 @@ class Crates:
 
     def page(self):
         text = (TOP / "docs" / "RUST.md").read_text(encoding="utf-8")
-        printed = re.search(r"^```text\n(.*?)^```$", text, re.M | re.S)[1]
-        for name, program in zip(("otel", "first_of"), re.findall(r"^```rust\n(.*?)^```$", text, re.M | re.S), strict=True):
+        first, third = re.findall(r"^```text\n(.*?)^```$", text, re.M | re.S)
+        for name, program in zip(("otel", "first_of", "archive"), re.findall(r"^```rust\n(.*?)^```$", text, re.M | re.S), strict=True):
             if program != (RUST / "kotskhin" / "examples" / f"{name}.rs").read_text(encoding="utf-8").split("\n", 1)[1]:
                 sys.exit(f"docs/RUST.md: a program is not embed/rust/kotskhin/examples/{name}.rs")
-        if (told := self.fresh(text)) != printed:
+        if (told := self.fresh(text)) != first:
             sys.exit(f"docs/RUST.md: its first program prints\n{told}")
+        if (told := self.cargo("run", "-q", "--offline", "--locked", "--example", "archive")) != third:
+            sys.exit(f"docs/RUST.md: its third program prints\n{told}")
         self.cargo("build", "-q", "--offline", "--locked", "--example", "first_of")
         program = pathlib.Path(self.env["CARGO_TARGET_DIR"]) / "debug" / "examples" / "first_of"
 

@@ -1,6 +1,6 @@
 //! What the crate answers, as the list of cases writes it.
 use crate::json::Json;
-use kotskhin::{Error, Incarnation, OwnedValue, Row, Shape, Streams, Taken, Total};
+use kotskhin::{Error, Incarnation, OwnedValue, Row, Shape, Streams, Taken, Taking, Total};
 use std::fmt::Display;
 
 pub fn pairs(pairs: &[(String, OwnedValue)]) -> Json {
@@ -120,4 +120,16 @@ pub fn taken(taken: &Taken) -> Json {
         }
     }
     told
+}
+
+pub fn taking(taking: Taking) -> Json {
+    let (changed, late) = match taking {
+        Taking::Taken(changed) => (changed, false),
+        Taking::Stale => (0, false),
+        Taking::Late => (0, true),
+    };
+    Json::fields([
+        ("changed", Json::number(changed)),
+        ("late", Json::Truth(late)),
+    ])
 }

@@ -87,6 +87,28 @@ pub enum Error {
     Request(RequestFault),
     /// A request of OTLP repeats a text of more than 1024 bytes too often.
     Repeats,
+    /// The incarnation is of another service than the archive.
+    OtherService,
+    /// The incarnation is an archive's.
+    IsArchive,
+    /// The archive adopted the incarnation before, be it before it was sealed.
+    Adopted,
+    /// A point of the incarnation is a conflict: two writers shared the identity.
+    Conflict,
+    /// The points of the incarnation are not all of one time: not all of its last collection has come.
+    Torn,
+    /// No export has the points of the incarnation.
+    Unsound,
+    /// The start or the time of the incarnation is at or above 2^63 - 1, or a total would leave its range.
+    OutOfRange,
+    /// The archive would have more totals than its limit.
+    SetLimit,
+    /// The time is not later than that of the archive's last export, or than its start.
+    TimeNotLater,
+    /// The start is not later than the archive's last export, or than its start.
+    StartNotLater,
+    /// The archive adopted incarnations since its last export.
+    Unexported,
     /// The instrument's meter has not started, or its start was refused.
     NotStarted,
     /// The provider had started before the instrument was declared.
@@ -143,6 +165,17 @@ pub(crate) fn refusal(code: i32, place: u64, second: u64) -> Error {
         sys::OTLP_BOUNDS => Error::OtlpBounds { point: place },
         sys::TOO_LONG => Error::TooLong,
         sys::REPEATS => Error::Repeats,
+        sys::OTHER_SERVICE => Error::OtherService,
+        sys::IS_ARCHIVE => Error::IsArchive,
+        sys::ADOPTED => Error::Adopted,
+        sys::CONFLICT => Error::Conflict,
+        sys::TORN => Error::Torn,
+        sys::UNSOUND => Error::Unsound,
+        sys::OUT_OF_RANGE => Error::OutOfRange,
+        sys::SET_LIMIT => Error::SetLimit,
+        sys::TIME_NOT_LATER => Error::TimeNotLater,
+        sys::START_NOT_LATER => Error::StartNotLater,
+        sys::UNEXPORTED => Error::Unexported,
         other => match requests::fault(other, place) {
             Some(fault) => Error::Request(fault),
             None => Error::Unexpected(other),
@@ -250,6 +283,21 @@ impl fmt::Display for Error {
             Error::TooLong => write!(f, "the request has more bytes than one may have"),
             Error::Request(fault) => write!(f, "{fault}"),
             Error::Repeats => write!(f, "a text of more than 1024 bytes is repeated too often"),
+            Error::OtherService => {
+                write!(f, "the incarnation is of another service than the archive")
+            }
+            Error::IsArchive => write!(f, "the incarnation is an archive's"),
+            Error::Adopted => write!(f, "the archive adopted the incarnation before"),
+            Error::Conflict => write!(f, "a point of the incarnation is a conflict"),
+            Error::Torn => write!(f, "the points of the incarnation are not of one time"),
+            Error::Unsound => write!(f, "no export has the points of the incarnation"),
+            Error::OutOfRange => write!(f, "a number of the adoption would leave its range"),
+            Error::SetLimit => write!(f, "the archive would have more totals than its limit"),
+            Error::TimeNotLater => write!(f, "the time is not later than the last export"),
+            Error::StartNotLater => write!(f, "the start is not later than the last export"),
+            Error::Unexported => {
+                write!(f, "incarnations were adopted since the last export")
+            }
             Error::NotStarted => write!(f, "the meter has not started, or was refused"),
             Error::DeclaredLate => write!(
                 f,

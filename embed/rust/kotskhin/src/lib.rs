@@ -3,7 +3,8 @@
 //! [`otel`] has OpenTelemetry's names: `SdkMeterProvider`, `Counter::add`, `PeriodicReader`. In [`metrics`] each recording answers a
 //! `Result`, by a writer under a lock. Below them are the kit's own: a [`Writer`]
 //! records under a [`Plan`] and gives an [`Export`], a [`Gateway`] takes exports and merges with others, and answers an [`Ask`]
-//! with a table. A [`Node`] is a gateway that tells others what changed, by [`Message`]s. Times are nanoseconds since the Unix epoch.
+//! with a table. A [`Node`] is a gateway that tells others what changed, by [`Message`]s. A [`Keeper`] is a node that forgets what an
+//! [`Archive`] adopted. Times are nanoseconds since the Unix epoch.
 //!
 //! ```
 //! use kotskhin::metrics::now;
@@ -27,6 +28,7 @@
 //! a set of attributes, a plan, an export, and a gateway that no thread changes. What changes takes a `&mut`.
 #![deny(unsafe_op_in_unsafe_fn, missing_debug_implementations)]
 
+mod archive;
 mod ask;
 mod attributes;
 mod error;
@@ -34,6 +36,7 @@ mod export;
 mod gateway;
 mod handle;
 mod incarnations;
+mod keeper;
 pub mod metrics;
 mod node;
 pub mod otel;
@@ -46,12 +49,14 @@ mod streams;
 mod view;
 mod writer;
 
+pub use archive::Archive;
 pub use ask::Ask;
 pub use attributes::{AttributeValue, Attributes, OwnedValue};
 pub use error::Error;
 pub use export::{Export, ExportHead};
 pub use gateway::Gateway;
 pub use incarnations::Incarnation;
+pub use keeper::{Keeper, Taking};
 pub use node::{Envelope, Message, Node};
 pub use plan::{DEFAULT_LIMIT, Instruments, Kind, Plan, default_bounds};
 pub use recorder::{Recorder, Taken};

@@ -16,7 +16,7 @@ pub struct Node(Handle<sys::Node>);
 
 /// What one node tells another. It may be lost, come late or come twice.
 #[derive(Debug)]
-pub struct Message(Handle<sys::Message>);
+pub struct Message(pub(crate) Handle<sys::Message>);
 
 /// From which id to which a message goes, and how many points it carries: an answer carries none.
 #[derive(Clone, Copy, Debug, PartialEq, Eq)]

@@ -2,9 +2,9 @@
 #![forbid(unsafe_code)]
 use kotskhin::metrics::{Counter, Meter};
 use kotskhin::{
-    Aggregation, Ask, AttributeValue, Attributes, DEFAULT_LIMIT, Envelope, Error, Export,
-    ExportHead, Gateway, Instruments, Kind, Message, Node, OwnedValue, Plan, Recorder, Seat, Shape,
-    Stream, Taken, View, Views, Writer, default_bounds,
+    Aggregation, Archive, Ask, AttributeValue, Attributes, DEFAULT_LIMIT, Envelope, Error, Export,
+    ExportHead, Gateway, Instruments, Keeper, Kind, Message, Node, OwnedValue, Plan, Recorder,
+    Seat, Shape, Stream, Taken, Taking, View, Views, Writer, default_bounds, unique_instance,
 };
 use std::sync::Mutex;
 use std::thread;
@@ -276,6 +276,7 @@ fn shared<T: Send + Sync>() {}
 #[test]
 fn threads_read_one_set_one_plan_and_one_gateway() -> Result<(), Error> {
     shared::<(Ask, Attributes, Export, Gateway, Message, Node, Plan)>();
+    shared::<(Archive, Keeper)>();
     let (plan, route, mut gateway) = (
         plan()?,
         Attributes::new([("route", "/")])?,
@@ -408,6 +409,39 @@ fn nodes_tell_each_other_what_changed() -> Result<(), Error> {
     assert_eq!(one.send(2)?.envelope(), told(1, 2, 0));
     assert_eq!(other.gateway()?.table(&requests()?)?, TOTAL_OF_7);
     assert_eq!(one.merge(&other.gateway()?), Ok(0));
+    Ok(())
+}
+
+#[test]
+fn keepers_forget_what_an_archive_adopted() -> Result<(), Error> {
+    let (mut writer, none) = (writer(1)?, Attributes::none()?);
+    writer.measure(0, &none, 7)?;
+    let last = writer.shutdown(200)?;
+    let mut keeper = Keeper::open(1)?;
+    assert_eq!(keeper.take(&last), Ok(Taking::Taken(1)));
+    assert_eq!(keeper.take(&last), Ok(Taking::Stale));
+    let mut archive = Archive::begin("shop", unique_instance().expect("it is drawn"), 1000, 10)?;
+    let other = archive.adopt(&keeper, "bank", 1, 100);
+    assert_eq!(other, Err(Error::OtherService));
+    archive.adopt(&keeper, "shop", 1, 100)?;
+    let again = archive.adopt(&keeper, "shop", 1, 100);
+    assert_eq!(again, Err(Error::Adopted));
+    assert_eq!(archive.seal(2000), Err(Error::Unexported));
+    assert_eq!(archive.export(1000).err(), Some(Error::TimeNotLater));
+    let adopted = archive.export(1500)?;
+    assert_eq!(archive.seal(1500), Err(Error::StartNotLater));
+    assert_eq!((archive.start(), archive.adopted()), (Ok(1000), Ok(1)));
+    archive.seal(2000)?;
+    assert_eq!((archive.start(), archive.adopted()), (Ok(2000), Ok(0)));
+    assert_eq!(keeper.take(&adopted), Ok(Taking::Taken(2)));
+    assert_eq!(keeper.take(&last), Ok(Taking::Late));
+    assert_eq!(keeper.head(), Ok((1, 2)));
+    assert_eq!(keeper.gateway()?.table(&requests()?)?, TOTAL_OF_7);
+    let mut peer = Keeper::open(2)?;
+    let answer = peer.hand(&keeper.send(2)?)?.expect("it is answered");
+    assert!(keeper.hand(&answer)?.is_none());
+    assert_eq!(peer.take(&last), Ok(Taking::Late));
+    assert_eq!(peer.merge(&keeper.gateway()?), Ok(0));
     Ok(())
 }
 
