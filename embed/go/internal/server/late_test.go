@@ -78,6 +78,7 @@ func TestAdoptionByHTTP(t *testing.T) {
 	}{
 		{late, "", `{"exports":1,"points":1,"late":1}`}, {live, "", `{"exports":1,"points":1}`},
 		{framed(live, late), ExportsType, `{"exports":2,"points":2,"late":1}`},
+		{framed(late, late), ExportsType, `{"exports":2,"points":1,"late":2}`},
 	} {
 		status, said, _ := got(t, http.MethodPost, url+"/v1/exports", it.body, "Content-Type", it.kind)
 		if status != 200 || said != it.said+"\n" {
@@ -85,7 +86,10 @@ func TestAdoptionByHTTP(t *testing.T) {
 		}
 	}
 	count := row(t, url, `kotskhin_gateway_late_exports_total{path="/v1/exports"}`)
-	if total := row(t, url, allRequests); total != "36" || count != "2" {
+	if points := row(t, url, `kotskhin_gateway_points_total{path="/v1/exports"}`); points != "7" {
+		t.Fatal(points)
+	}
+	if total := row(t, url, allRequests); total != "36" || count != "4" {
 		t.Fatal(total, count)
 	}
 }

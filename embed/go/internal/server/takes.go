@@ -90,6 +90,18 @@ type taken struct {
 	latePoints int
 }
 
+func takenOf(brought *held.Brought, late []kotskhin.ExportHead) taken {
+	made := taken{Exports: brought.Exports, Points: brought.Points, Late: len(late)}
+	for _, it := range late {
+		made.latePoints += it.Points
+	}
+	// (exports of one incarnation that come together have points in common)
+	if made.latePoints > made.Points {
+		made.latePoints = made.Points
+	}
+	return made
+}
+
 // take takes the exports of a body, all or none, once the sender may speak for them, there is room, and they are kept on disk. Kept are the
 // bytes of an export that comes alone, where they are at hand.
 func (s *Server) take(request *http.Request, grant tokens.Grant, body []byte, exports []kotskhin.Export, kept []byte) (taken, error) {
@@ -113,10 +125,7 @@ func (s *Server) take(request *http.Request, grant tokens.Grant, body []byte, ex
 	if err != nil {
 		return taken{}, err
 	}
-	made := taken{Exports: brought.Exports, Points: brought.Points, Late: len(late)}
-	for _, it := range late {
-		made.latePoints += it.Points
-	}
+	made := takenOf(brought, late)
 	s.tellLate(request, late)
 	labels := figures.Labels("path", request.URL.Path)
 	s.Figures.Add(figures.Exports, labels, float64(made.Exports-made.Late))
@@ -131,7 +140,8 @@ func (s *Server) keep(brought *held.Brought) (late []kotskhin.ExportHead, err er
 		return err
 	}
 	if s.Store == nil {
-		return late, take()
+		err = take()
+		return late, err
 	}
 	bytes, err := brought.Bytes()
 	if err == nil {
