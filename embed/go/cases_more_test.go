@@ -121,7 +121,7 @@ func (r *run) gateways(it step) (any, error) {
 	case "take":
 		return one(thing("by").(takes).Take(thing("export").(Export)))
 	case "merge":
-		return one(thing("by").(takes).Merge(thing("from").(Gateway)))
+		return one(thing("by").(merges).Merge(thing("from").(Gateway)))
 	case "conflicts":
 		return one(thing("of").(Gateway).Conflicts())
 	case "same":
@@ -155,10 +155,10 @@ func (r *run) gossip(it step) (any, error) {
 		if err != nil {
 			return nil, err
 		}
-		made, err := thing("by").(Node).Send(uint32(to))
+		made, err := thing("by").(tells).Send(uint32(to))
 		return r.keep(it, made, err)
 	case "hand":
-		answer, isAnswered, err := thing("by").(Node).Hand(thing("message").(Message))
+		answer, isAnswered, err := thing("by").(tells).Hand(thing("message").(Message))
 		name, isWanted := it["answer"].(string)
 		if err == nil && isAnswered != isWanted {
 			return nil, fmt.Errorf("it is answered: %v", isAnswered)

@@ -338,9 +338,11 @@ type holds interface {
 type takesIn interface {
 	TakeIn(r Recorder, most int) (Taken, error)
 }
-type takes interface {
-	Take(Export) (uint64, error)
-	Merge(Gateway) (uint64, error)
+type takes interface{ Take(Export) (uint64, error) }
+type merges interface{ Merge(Gateway) (uint64, error) }
+type tells interface {
+	Send(to uint32) (Message, error)
+	Hand(Message) (Message, bool, error)
 }
 
 func (r *run) do(it step) (any, error) {
@@ -373,6 +375,10 @@ func (r *run) do(it step) (any, error) {
 		return r.asking(it)
 	case "node", "node_gateway", "message_gateway", "send", "hand", "message":
 		return r.gossip(it)
+	case "keeper", "keeper_read", "keeper_gateway", "keeper_take":
+		return r.keeping(it)
+	case "archive", "adopt", "archive_export", "seal", "archive_read":
+		return r.archiving(it)
 	case "encode", "decode", "bytes", "bytes_are", "decode_often":
 		return r.encoding(it)
 	case "incarnations", "services", "otlp", "of_otlp", "page":

@@ -63,3 +63,34 @@ func ExampleDecodeExport() {
 	fmt.Println(head.Service, head.Instance, head.Start, head.Time, head.Points)
 	// Output: shop 00000000-0000-0000-0000-000000000001 100 200 0
 }
+
+// A worker ends, an archive adopts what it counted, and a keeper that takes the archive's export forgets the worker's points. The total
+// stays as it was, and what the worker exports later is late.
+func ExampleArchive() {
+	plan := must(kotskhin.NewPlan(kotskhin.Instrument{Scope: "app", Name: "requests", Unit: "1", Kind: kotskhin.Counter}))
+	worker := kotskhin.Instance{Low: 1}
+	writer := must(kotskhin.StartWriter(plan, "shop", worker, 100))
+	if err := writer.Measure(0, must(kotskhin.NewAttributes()), 7); err != nil {
+		log.Fatal(err)
+	}
+	last := must(writer.Shutdown(200))
+	keeper := must(kotskhin.OpenKeeper(1))
+	if _, _, err := keeper.Take(last); err != nil {
+		log.Fatal(err)
+	}
+
+	archive := must(kotskhin.BeginArchive("shop", must(kotskhin.UniqueInstance()), 1000, 10_000))
+	if err := archive.Adopt(keeper, "shop", worker, 100); err != nil {
+		log.Fatal(err)
+	}
+	if _, _, err := keeper.Take(must(archive.Export(2000))); err != nil {
+		log.Fatal(err)
+	}
+	_, isLate, err := keeper.Take(last)
+	fmt.Println(isLate, err)
+	fmt.Print(must(must(keeper.Gateway()).Sum("app", "requests", "1", true)))
+	// Output:
+	// true <nil>
+	// attributes  points  conflicts  total
+	// {}               1          0  7
+}

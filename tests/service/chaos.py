@@ -1,4 +1,4 @@
-"""One seed: three gateways, eight workers, and a nemesis. In the end each gateway's tables and page, and what Prometheus keeps of it, are
+"""One seed: three gateways, eight workers, and a nemesis. Half-way all rest, and what is held is adopted. In the end each gateway's tables and page, and what Prometheus keeps of it, are
 the same, and what the workers were told was taken."""
 import threading
 import time
@@ -11,6 +11,8 @@ from workers import ROUTES, SCOPE, Worker
 
 GATEWAYS, WORKERS = 3, 8
 FLAGS = ("--gossip-interval", "100ms", "--gossip-longest-pause", "500ms", "--gossip-timeout", "5s", "--save-interval", "2s")
+# What the first gateway is told once, while all workers rest.
+ARCHIVES = ("--archive", "shop,till", "--archive-after", "500ms", "--archive-every", "50ms")
 
 
 def gateways_of(program, network, disks, room, seed):
@@ -68,7 +70,9 @@ class Seed:
         until(lambda: all(it.is_ready() for it in self.gateways.values()), "the gateways are not ready")
         for worker in self.workers:
             worker.thread.start()
-        self.nemesis.run(seconds)
+        self.nemesis.run(seconds / 2)
+        self.adopt_all()
+        self.nemesis.run(seconds / 2)
         healed = time.monotonic()
         until(lambda: all(it.is_ready() for it in self.gateways.values()), "the gateways are not ready once all is healed")
         for worker in self.workers:
@@ -78,6 +82,28 @@ class Seed:
         self.compare(tables)
         self.scraped(page)
         return self.told(took)
+
+    def adopt_all(self):
+        """While all rest, the first gateway adopts each life that left something. Those of workers who live are told so once they go on."""
+        until(lambda: all(it.is_ready() for it in self.gateways.values()), "the gateways are not ready while all rest")
+        for worker in self.workers:
+            worker.rest()
+        lives = len({name for name, *_ in totals_in(self.converged()[0])})
+        self.begin_anew(ARCHIVES)
+        until(lambda: self.adopted() == lives, lambda: f"{self.adopted()} of {lives} lives are adopted")
+        self.converged()
+        self.begin_anew()
+        for worker in self.workers:
+            worker.rests.clear()
+
+    def begin_anew(self, flags=()):
+        """Ends the first gateway in order, and begins it with these flags beside its own, this once."""
+        first, words = self.gateways[1], self.gateways[1].words
+        first.stop()
+        first.words = [*words, *flags]
+        first.start()
+        first.words = words
+        until(first.is_ready, lambda: f"the first gateway is not ready\n{first.tail()}")
 
     def converged(self):
         """What all gateways say once they agree, and nothing that a worker was told is missing any more."""
@@ -135,17 +161,21 @@ class Seed:
             count += int(sum(value for _, value in found))
         return count
 
+    def adopted(self):
+        """How many lives have a tombstone."""
+        return (self.gateways[1].text("/metrics") or "").count("\nadopted_nanoseconds{")
+
     def differing(self):
         told = {it.number: (tables_of(it), it.json("/v1/peers")) for it in self.gateways.values()}
         found = {number: tables and self.missing(totals_in(tables)) for number, (tables, _) in told.items()}
         return f"missing lives: {found}; peers: {[peers for _, peers in told.values()]}"
 
     def told(self, took):
-        taken, not_taken = (sum(it.counts[what] for it in self.workers) for what in ("taken", "not taken"))
+        taken, not_taken, late = (sum(it.counts[what] for it in self.workers) for what in ("taken", "not taken", "late"))
         return {
-            "done": dict(sorted(self.nemesis.done.items())), "exports told": taken, "not taken": not_taken,
-            "lives": len(self.lives()), "starts": sum(it.starts for it in self.gateways.values()), "proxy": dict(self.proxy.counts),
-            "seconds to agree": round(took, 2), "resets seen": self.resets(),
+            "done": dict(sorted(self.nemesis.done.items())), "exports told": taken, "not taken": not_taken, "late": late,
+            "lives": len(self.lives()), "adopted": self.adopted(), "starts": sum(it.starts for it in self.gateways.values()),
+            "proxy": dict(self.proxy.counts), "seconds to agree": round(took, 2), "resets seen": self.resets(),
         }
 
 

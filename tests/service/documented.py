@@ -64,7 +64,7 @@ def flags(program, *_):
         defaults = [it.strip("` ") for it in default.split(",")]
         said.update(zip(names, defaults if len(defaults) == len(names) else [""] * len(names)))
     said.pop("help")
-    length = {"1m0s": "1m", "2m0s": "2m"}
+    length = {"1m0s": "1m", "2m0s": "2m", "1h0m0s": "1h"}
     found = {name: length.get(default, default) for name, default in found.items()}
     if found != said:
         raise Fault(f"the page says {sorted(said.items() - found.items())}, and --help {sorted(found.items() - said.items())}")

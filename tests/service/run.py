@@ -4,6 +4,7 @@
     run.py [FOLDER]                            the short form, as the gate runs it
     run.py --seeds 200 [--first 1] [FOLDER]    the chaos test alone, of so many seeds
     run.py --bad 10000 [FOLDER]                bad input alone, so many bodies to each path
+    run.py --soak 30000 [FOLDER]               archives alone, so many incarnations that come and go
     run.py --fleet [FOLDER]                    examples/fleet alone, which builds a worker and takes longer
     run.py --load [FOLDER]                     how much one gateway takes, beside a Pushgateway
 
@@ -15,6 +16,9 @@ proxy bring exports late, twice and out of order, and has workers die and come b
 its page must be the same, and what Prometheus keeps of each; and of each worker's life they say one collection, none before the newest of
 which it was told. Where no namespaces can be made, gateways live on addresses of the loopback with links that are cut, without loss, and
 this is told.
+
+Archives: workers come, end and are adopted while a Prometheus scrapes two gateways, of which one adopts. No series is reset, and each grows as
+it was counted. Then many incarnations go through one gateway that could hold few of them, and its memory stays as it is.
 
 Bad input: random and changed bodies to each path, cut bodies, slow senders, wrong tokens. Each has its status, and nothing is taken. Disks:
 a damaged state and a damaged journal are told and set aside, and a full disk refuses. Docs: the commands of README print their total, and
@@ -41,7 +45,7 @@ ARCHIVE = TOP / "crates" / "kit_c" / "out" / "libkit_c.a"
 sys.path[:0] = [str(HERE), str(EMBED / "python")]
 WANTED = ("go", "pkg-config", "prometheus")
 # How long the short form's chaos goes on for a seed, and its seeds.
-SECONDS, SEEDS, BAD = 5, 2, 300
+SECONDS, SEEDS, BAD, SOAK = 5, 2, 300, 1500
 INSIDE = "KOTSKHIN_SERVICE_INSIDE"
 
 
@@ -52,6 +56,7 @@ def asked():
     parser.add_argument("--first", type=int, default=1)
     parser.add_argument("--seconds", type=float, default=SECONDS)
     parser.add_argument("--bad", type=int, default=0)
+    parser.add_argument("--soak", type=int, default=0)
     parser.add_argument("--fleet", action="store_true")
     parser.add_argument("--load", action="store_true")
     return parser.parse_args()
@@ -136,6 +141,12 @@ class Run:
             self.try_it(f"disks: {what}", call)
 
 
+    def archives(self, count):
+        import archives
+
+        for what, call in archives.trials(self.program, self.room, count):
+            self.try_it(f"archives: {what}", call)
+
     def documented(self, kit):
         import documented
 
@@ -193,7 +204,7 @@ def main():
             import load
 
             return load.main(run.program, room)
-        is_whole = not given.seeds and not given.bad and not given.fleet
+        is_whole = not given.seeds and not given.bad and not given.fleet and not given.soak
         if given.fleet:
             import documented
 
@@ -203,6 +214,8 @@ def main():
         if is_whole:
             run.disks()
             run.documented(kit)
+        if is_whole or given.soak:
+            run.archives(given.soak or SOAK)
         if is_whole or given.seeds:
             run.chaos(range(given.first, given.first + (given.seeds or SEEDS)))
     print(f"{run.passed} passed, {run.failed} failed, in {time.time() - began:.0f} s")

@@ -1,11 +1,12 @@
 """Workers that count, and push what they counted to the first gateway that takes it. Each knows what it was told was taken."""
 import http.client
+import json
 import random
 import threading
 import time
 import typing
 
-from fleet import ANSWER, Fault
+from fleet import ANSWER, PATIENCE, Fault
 from kotskhin import COUNTER, HISTOGRAM, UP_DOWN, Attributes, Plan, Writer, unique_instance
 
 SCOPE = "service.test"
@@ -42,8 +43,9 @@ class Worker:
         self.plan, self.lives, self.last, self.time = Plan(PLAN), [], 0, 0
         self.begin()
         self.dies, self.ends, self.fault = threading.Event(), threading.Event(), None
+        self.rests, self.is_resting = threading.Event(), threading.Event()
         self.thread = threading.Thread(target=self.run, daemon=True)
-        self.counts = {"taken": 0, "not taken": 0}
+        self.counts = {"taken": 0, "not taken": 0, "late": 0}
 
     def now(self):
         """The clock's time, which always rises."""
@@ -78,7 +80,13 @@ class Worker:
         path = "v1/metrics" if is_otlp else "v1/exports"
         for turn in range(len(self.gateways)):
             at = (self.last + turn) % len(self.gateways)
-            if self.posted(f"/{self.gateways[at]}/{path}", body, heads):
+            told = self.posted(f"/{self.gateways[at]}/{path}", body, heads)
+            if told is not None and is_late(told, is_otlp):
+                # (it was taken for dead: what it was told before counts, and what it counts from now on is another life's)
+                self.counts["late"] += 1
+                self.begin()
+                return False
+            if told is not None:
                 self.last, life.told = at, number
                 self.counts["taken"] += 1
                 return True
@@ -86,6 +94,7 @@ class Worker:
         return False
 
     def posted(self, path, body, heads):
+        """The answer of a gateway that takes it; nothing of another."""
         connection = http.client.HTTPConnection(self.proxy.url, timeout=ANSWER if self.ends.is_set() else SECONDS)
         try:
             connection.request("POST", path, body, heads)
@@ -93,15 +102,19 @@ class Worker:
             told = answer.read()
             if answer.status in (400, 401, 403, 404, 405, 413, 415, 421, 500):
                 raise Fault(f"worker {self.number}: {path} answers {answer.status}: {told[:300]}")
-            return answer.status == 200
+            return told if answer.status == 200 else None
         except (OSError, http.client.HTTPException):
-            return False
+            return None
         finally:
             connection.close()
 
     def run(self):
         try:
             while not self.ends.is_set():
+                if self.rests.is_set():
+                    self.is_resting.set()
+                    self.ends.wait(0.02)
+                    continue
                 self.count()
                 if self.dies.is_set():
                     # (what it counted since its last collection dies with it: nobody was told of that)
@@ -112,6 +125,13 @@ class Worker:
                 self.ends.wait(self.chance.random() * 0.1)
         except Exception as fault:
             self.fault = fault
+
+    def rest(self, patience=PATIENCE):
+        """Has it push nothing until its rest is over."""
+        self.is_resting.clear()
+        self.rests.set()
+        if not self.is_resting.wait(patience):
+            raise self.fault or Fault(f"worker {self.number} does not rest")
 
     def finish(self, patience):
         """Ends the thread, and brings the last collection to a gateway, for certain."""
@@ -124,6 +144,12 @@ class Worker:
         end = time.monotonic() + patience
         self.count()
         while not self.push():
+            self.count()
             if time.monotonic() > end:
                 raise Fault(f"worker {self.number}: no gateway takes its last collection")
             time.sleep(0.05)
+
+
+def is_late(told, is_otlp):
+    """Whether an answer says that the incarnation was adopted: to OTLP as points that were refused."""
+    return b"LATE" in told if is_otlp else json.loads(told).get("late", 0) > 0

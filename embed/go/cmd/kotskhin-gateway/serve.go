@@ -17,6 +17,7 @@ import (
 	"time"
 
 	"kotskhin"
+	"kotskhin/internal/archivist"
 	"kotskhin/internal/figures"
 	"kotskhin/internal/gossip"
 	"kotskhin/internal/held"
@@ -215,8 +216,9 @@ func (r *running) run(ctx context.Context, listener net.Listener, speaks *tls.Co
 	gossips, endGossip := context.WithCancel(context.Background())
 	defer endGossip()
 	r.gossip.Begin(gossips)
-	var saves = make(chan struct{})
+	saves, archives := make(chan struct{}), make(chan struct{})
 	go func() { defer close(saves); r.saveAgainAndAgain(gossips) }()
+	go func() { defer close(archives); r.archivist().Run(gossips) }()
 	failed := make(chan error, 1)
 	go func() {
 		if speaks != nil {
@@ -235,7 +237,16 @@ func (r *running) run(ctx context.Context, listener net.Listener, speaks *tls.Co
 	r.log.Info("ending", "drain", it.Drain)
 	r.server.Drain()
 	time.Sleep(it.Drain)
-	return r.end(answers, func() { endGossip(); r.gossip.Wait(); <-saves })
+	return r.end(answers, func() { endGossip(); r.gossip.Wait(); <-saves; <-archives })
+}
+
+// archivist adopts what has ended of the services that it is told.
+func (r *running) archivist() *archivist.Archivist {
+	it := r.settings
+	return &archivist.Archivist{
+		Held: r.held, Store: r.store, Gossip: r.gossip, Figures: r.figures, Log: r.log,
+		Services: it.Archive, After: it.ArchiveAfter, Every: it.ArchiveEvery,
+	}
 }
 
 // end waits for requests under way, tells peers the last of it, and saves the state.

@@ -22,6 +22,10 @@ const (
 	Exports    = "kotskhin_gateway_exports"
 	Points     = "kotskhin_gateway_points"
 	PointsLost = "kotskhin_gateway_points_without_counterpart"
+	Late       = "kotskhin_gateway_late_exports"
+	Adopted    = "kotskhin_gateway_adopted"
+	NotAdopted = "kotskhin_gateway_not_adopted"
+	Sealed     = "kotskhin_gateway_archives_sealed"
 	Bytes      = "kotskhin_gateway_received_bytes"
 	Seconds    = "kotskhin_gateway_request_seconds"
 	Held       = "kotskhin_gateway_held_points"
@@ -45,6 +49,10 @@ var families = []family{
 	{Exports, "Exports that were taken, by path.", true},
 	{Points, "Points of exports that were taken, by path.", true},
 	{PointsLost, "Points of OTLP that have no counterpart, and were left out.", true},
+	{Late, "Exports that came once their incarnation was adopted: nothing of them is taken, by path.", true},
+	{Adopted, "Incarnations that this gateway adopted, and forgot, by service.", true},
+	{NotAdopted, "Incarnations that had ended and could not be adopted, by reason.", true},
+	{Sealed, "Archives that this gateway filled, by service.", true},
 	{Bytes, "Bytes of bodies that were read whole, by path.", true},
 	{Held, "Points that are held, as far as is known.", false},
 	{Streams, "Streams that are held, as far as is known.", false},
@@ -100,8 +108,6 @@ func (f *Figures) Reads(call func(set func(family, labels string, value float64)
 }
 
 func (f *Figures) all() map[string]map[string]float64 {
-	f.lock.Lock()
-	defer f.lock.Unlock()
 	made := map[string]map[string]float64{}
 	set := func(family, labels string, value float64) {
 		if made[family] == nil {
@@ -109,12 +115,16 @@ func (f *Figures) all() map[string]map[string]float64 {
 		}
 		made[family][labels] = value
 	}
+	f.lock.Lock()
 	for family, counts := range f.counts {
 		for labels, value := range counts {
 			set(family, labels, value)
 		}
 	}
-	for _, call := range f.gauges {
+	gauges := f.gauges
+	f.lock.Unlock()
+	// (what is read may wait for somebody who adds to a count)
+	for _, call := range gauges {
 		call(set)
 	}
 	return made

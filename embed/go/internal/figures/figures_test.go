@@ -43,3 +43,17 @@ func TestAFamilyOfASenderStays(t *testing.T) {
 		t.Fatal(page)
 	}
 }
+
+// What is read may wait for somebody who counts meanwhile.
+func TestCountsGoOnWhileFiguresAreRead(t *testing.T) {
+	f := New()
+	f.Reads(func(set func(family, labels string, value float64)) {
+		counted := make(chan struct{})
+		go func() { defer close(counted); f.Add(Adopted, "", 1) }()
+		<-counted
+		set(Held, "", 7)
+	})
+	if page := f.Page("", false); !strings.Contains(page, "kotskhin_gateway_held_points 7\n") {
+		t.Fatal(page)
+	}
+}

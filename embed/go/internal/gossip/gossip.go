@@ -34,13 +34,14 @@ type Gossip struct {
 	began time.Time
 	lock  sync.Mutex
 	peers map[string]*peer
-	heard map[uint32]bool
+	// When a message of an id came last.
+	heard map[uint32]time.Time
 	ended sync.WaitGroup
 }
 
 // Begin begins to speak to the peers, until the context ends.
 func (g *Gossip) Begin(ctx context.Context) {
-	g.began, g.peers, g.heard = time.Now(), map[string]*peer{}, map[uint32]bool{}
+	g.began, g.peers, g.heard = time.Now(), map[string]*peer{}, map[uint32]time.Time{}
 	names := g.named()
 	g.set(ctx, g.found(ctx, names))
 	if len(names) == 0 {
@@ -175,16 +176,14 @@ func (g *Gossip) States() []State {
 // away are asked at once.
 func (g *Gossip) Heard(from uint32) {
 	g.lock.Lock()
-	isNew := !g.heard[from]
-	if isNew {
-		// (ids come from whoever may send messages; more than these are none of gateways that live)
-		if len(g.heard) >= 1<<16 {
-			g.heard = map[uint32]bool{}
-		}
-		g.heard[from] = true
+	_, isKnown := g.heard[from]
+	// (ids come from whoever may send messages; more than these are none of gateways that live)
+	if !isKnown && len(g.heard) >= 1<<16 {
+		g.heard = map[uint32]time.Time{}
 	}
+	g.heard[from] = time.Now()
 	g.lock.Unlock()
-	if !isNew {
+	if isKnown {
 		return
 	}
 	for _, it := range g.all() {
@@ -199,15 +198,32 @@ func (g *Gossip) Heard(from uint32) {
 func (g *Gossip) Unheard() (urls []string) {
 	for _, it := range g.all() {
 		known := it.read()
-		g.lock.Lock()
-		isHeard := g.heard[known.id]
-		g.lock.Unlock()
-		if known.isSelf || known.failures > 0 || known.process != "" && isHeard {
+		if known.isSelf || known.failures > 0 || known.process != "" && !g.heardAt(known.id).IsZero() {
 			continue
 		}
 		urls = append(urls, it.url)
 	}
 	return urls
+}
+
+// Apart are the peers that are away, and those of which no message came for longer than pauses grow: what senders brought to them may not
+// be known here.
+func (g *Gossip) Apart() (urls []string) {
+	longest := 2*g.LongestPause + g.Timeout
+	for _, it := range g.all() {
+		known := it.read()
+		if !known.isSelf && (known.failures > 0 || known.process == "" || time.Since(g.heardAt(known.id)) > longest) {
+			urls = append(urls, it.url)
+		}
+	}
+	return urls
+}
+
+// heardAt is when a message of an id came last; zero where none came.
+func (g *Gossip) heardAt(id uint32) time.Time {
+	g.lock.Lock()
+	defer g.lock.Unlock()
+	return g.heard[id]
 }
 
 // Last tells each peer that is near what it has not, once more, before the gateway ends.

@@ -39,7 +39,7 @@ func take(t *testing.T, h *held.Held, instance uint64) {
 		t.Fatal(err)
 	}
 	brought := must[*held.Brought](t)(held.Bring([]kotskhin.Export{must[kotskhin.Export](t)(writer.Collect(200))}, nil))
-	if err := h.Take(brought); err != nil {
+	if _, err := h.Take(brought); err != nil {
 		t.Fatal(err)
 	}
 }
@@ -154,16 +154,24 @@ func TestAPeerIsToldAndBeginsAnew(t *testing.T) {
 	take(t, own, 2)
 	until(t, "the one that begins anew is not told all", func() bool { return points(second) == 2 })
 	until(t, "it is not near", func() bool { return g.States()[0].State == Near && g.States()[0].ID == 8 })
-	if unheard := g.Unheard(); len(unheard) != 1 {
-		t.Fatal(unheard)
+	if unheard, apart := g.Unheard(), g.Apart(); len(unheard) != 1 || len(apart) != 1 {
+		t.Fatal(unheard, apart)
 	}
 	g.Heard(8)
-	if unheard := g.Unheard(); len(unheard) != 0 {
-		t.Fatal(unheard)
+	if unheard, apart := g.Unheard(), g.Apart(); len(unheard) != 0 || len(apart) != 0 {
+		t.Fatal(unheard, apart)
 	}
+	// (one that was heard long ago may have been brought what is not known here)
+	g.lock.Lock()
+	g.heard[8] = time.Now().Add(-time.Minute)
+	g.lock.Unlock()
+	if unheard, apart := g.Unheard(), g.Apart(); len(unheard) != 0 || len(apart) != 1 {
+		t.Fatal(unheard, apart)
+	}
+	g.Heard(8)
 	at.Close()
 	until(t, "it is not away", func() bool {
-		return g.States()[0].State == Away && g.States()[0].Failure != "" && g.States()[0].Lag > 0
+		return g.States()[0].State == Away && g.States()[0].Failure != "" && g.States()[0].Lag > 0 && len(g.Apart()) == 1
 	})
 	end()
 	g.Wait()
@@ -215,8 +223,8 @@ func TestAGatewayKnowsItself(t *testing.T) {
 	ctx, end := context.WithCancel(context.Background())
 	g.Begin(ctx)
 	until(t, "it does not know itself", func() bool { return len(g.States()) == 1 && g.States()[0].State == Self })
-	if unheard := g.Unheard(); len(unheard) != 0 {
-		t.Fatal(unheard)
+	if unheard, apart := g.Unheard(), g.Apart(); len(unheard) != 0 || len(apart) != 0 {
+		t.Fatal(unheard, apart)
 	}
 	end()
 	g.Wait()

@@ -4,7 +4,7 @@ import "kotskhin"
 
 // Brought is what one request brings: it is taken whole, or not at all.
 type Brought struct {
-	export *kotskhin.Export
+	exports []kotskhin.Export
 	// Several exports, joined before anything is taken.
 	joined *kotskhin.Gateway
 	bytes  []byte
@@ -16,7 +16,7 @@ type Brought struct {
 
 // Bring is what exports bring. Bytes are those of an export that comes alone, where they are at hand.
 func Bring(exports []kotskhin.Export, bytes []byte) (*Brought, error) {
-	made := &Brought{Exports: len(exports), bytes: bytes}
+	made := &Brought{exports: exports, Exports: len(exports), bytes: bytes}
 	if len(exports) != 1 {
 		return made, made.join(exports)
 	}
@@ -24,7 +24,7 @@ func Bring(exports []kotskhin.Export, bytes []byte) (*Brought, error) {
 	if err != nil {
 		return nil, err
 	}
-	made.export, made.Points = &exports[0], head.Points
+	made.Points = head.Points
 	made.Of = []kotskhin.Incarnation{{
 		Service: head.Service, Instance: head.Instance, Start: head.Start, Newest: head.Time, Points: head.Points,
 	}}
@@ -39,7 +39,7 @@ func (b *Brought) Bytes() (bytes []byte, err error) {
 	case b.joined != nil:
 		return b.joined.Encode()
 	}
-	return b.export.Encode()
+	return b.exports[0].Encode()
 }
 
 func (b *Brought) join(exports []kotskhin.Export) error {
@@ -67,6 +67,17 @@ func (b *Brought) Close() {
 	}
 }
 
+// HasScope tells whether it has points of a scope.
+func (b *Brought) HasScope(scope string) (bool, error) {
+	streams, err := b.streams()
+	for _, it := range streams {
+		if it.Scope == scope {
+			return true, nil
+		}
+	}
+	return false, err
+}
+
 // streams are those that it has points of.
 func (b *Brought) streams() ([]kotskhin.Stream, error) {
 	if b.joined != nil {
@@ -77,7 +88,7 @@ func (b *Brought) streams() ([]kotskhin.Stream, error) {
 		return nil, err
 	}
 	defer alone.Close()
-	if _, err := alone.Take(*b.export); err != nil {
+	if _, err := alone.Take(b.exports[0]); err != nil {
 		return nil, err
 	}
 	return streamsOf(alone)

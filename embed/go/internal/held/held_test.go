@@ -7,6 +7,7 @@ import (
 	"strings"
 	"sync"
 	"testing"
+	"time"
 
 	"kotskhin"
 	"kotskhin/attribute"
@@ -48,7 +49,8 @@ func take(t *testing.T, h *Held, exports ...kotskhin.Export) error {
 	if err := h.Admit(brought); err != nil {
 		return err
 	}
-	return h.Take(brought)
+	_, err := h.Take(brought)
+	return err
 }
 
 func held(t *testing.T, h *Held) int {
@@ -217,7 +219,7 @@ func TestTakesBesideLooks(t *testing.T) {
 			for turn := 0; turn < 50; turn++ {
 				brought, err := Bring([]kotskhin.Export{own}, nil)
 				if err == nil {
-					err = h.Take(brought)
+					_, err = h.Take(brought)
 				}
 				if err != nil {
 					t.Error(err)
@@ -242,5 +244,103 @@ func TestTakesBesideLooks(t *testing.T) {
 	hands.Wait()
 	if found := held(t, h); found != 40 {
 		t.Fatal(found)
+	}
+}
+
+// archived has an archive adopt all that ended, and be forgotten.
+func archived(t *testing.T, h *Held, length time.Duration) int {
+	t.Helper()
+	archive := must[kotskhin.Archive](t)(kotskhin.BeginArchive("shop", kotskhin.Instance{High: 1}, 1, 1000))
+	ended := h.Ended("shop", length)
+	if err := h.Alone(func(it Alone) error {
+		for _, one := range ended {
+			if err := archive.Adopt(it.Keeper, one.Service, one.Instance, one.Start); err != nil {
+				return err
+			}
+		}
+		return it.Forget(must[kotskhin.Export](t)(archive.Export(1000)), ended)
+	}); err != nil {
+		t.Fatal(err)
+	}
+	return len(ended)
+}
+
+// What is forgotten makes room, of points and of streams.
+func TestLimitsFallByWhatIsForgotten(t *testing.T) {
+	h := opened(t, 1, Limits{Points: 10, Streams: 3})
+	gauge := kotskhin.Instrument{Scope: "app", Name: "heat", Kind: kotskhin.Gauge}
+	plan := must[kotskhin.Plan](t)(kotskhin.NewPlan(gauge))
+	writer := must[kotskhin.Writer](t)(kotskhin.StartWriter(plan, "shop", kotskhin.Instance{Low: 1}, 100))
+	if err := writer.Measure(0, must[kotskhin.Attributes](t)(kotskhin.NewAttributes()), 1); err != nil {
+		t.Fatal(err)
+	}
+	first := must[kotskhin.Export](t)(writer.Collect(200))
+	for _, export := range []kotskhin.Export{first, export(t, "requests", 2, 4, 200), export(t, "requests", 3, 4, 200)} {
+		if err := take(t, h, export); err != nil {
+			t.Fatal(err)
+		}
+	}
+	if err := take(t, h, export(t, "requests", 4, 2, 200)); !errors.Is(err, ErrFull) {
+		t.Fatal(err)
+	}
+	if count := archived(t, h, 0); count != 3 {
+		t.Fatal(count)
+	}
+	// (four totals, three tombstones)
+	if found := held(t, h); found != 7 {
+		t.Fatal(found)
+	}
+	// (the gauge's stream is gone, and that of tombstones came)
+	if points, streams := h.Counts(); points != 7 || streams != 2 {
+		t.Fatal(points, streams)
+	}
+	if err := take(t, h, export(t, "others", 5, 3, 200)); err != nil {
+		t.Fatal(err)
+	}
+	if len(h.counts.of) != 2 {
+		t.Fatal(h.counts.of)
+	}
+}
+
+// What a peer forgot is known no more from the next look on.
+func TestWhatAPeerForgotIsNotKnown(t *testing.T) {
+	one, other := opened(t, 1, wide), opened(t, 2, wide)
+	tell := func() {
+		t.Helper()
+		message := must[kotskhin.Message](t)(kotskhin.DecodeMessage(must[[]byte](t)(one.Tell(2))))
+		if err := one.Answered(must[[]byte](t)(other.Hand(message))); err != nil {
+			t.Fatal(err)
+		}
+	}
+	if err := take(t, one, export(t, "requests", 1, 5, 200), export(t, "requests", 2, 5, 200)); err != nil {
+		t.Fatal(err)
+	}
+	tell()
+	archived(t, one, 0)
+	tell()
+	if found := held(t, other); found != 7 || len(other.counts.of) != 1 || len(other.Ended("shop", 0)) != 1 {
+		t.Fatal(found, other.counts.of)
+	}
+}
+
+// What comes while a look is made stays known, and so does when its newest time came.
+func TestCountsBesideALook(t *testing.T) {
+	c, now := newCounts(wide), time.Now()
+	of := func(instance uint64, newest uint64, points int) []kotskhin.Incarnation {
+		return []kotskhin.Incarnation{{Service: "shop", Instance: kotskhin.Instance{Low: instance}, Newest: newest, Points: points}}
+	}
+	stream := func(name string) []kotskhin.Stream { return []kotskhin.Stream{{Name: name}} }
+	c.know(of(1, 200, 5), stream("a"), now)
+	c.know(of(2, 200, 5), stream("b"), now)
+	c.begin()
+	c.know(of(3, 200, 5), stream("c"), now.Add(time.Minute))
+	c.recount(of(1, 200, 3), stream("a"), now.Add(time.Hour))
+	if len(c.of) != 2 || c.knownStreams() != 2 || c.grows(of(1, 300, 5)) != 2 || c.grows(of(3, 300, 5)) != 0 {
+		t.Fatal(c.of, c.streams)
+	}
+	c.know(of(3, 300, 5), nil, now.Add(time.Hour))
+	ended := c.ended("shop", time.Hour, now.Add(time.Hour))
+	if len(ended) != 1 || ended[0] != of(1, 200, 3)[0] || len(c.ended("till", 0, now.Add(time.Hour))) != 0 {
+		t.Fatal(ended)
 	}
 }

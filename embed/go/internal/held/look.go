@@ -47,7 +47,8 @@ func (h *Held) Look() (*Look, error) {
 
 func (h *Held) look() (*Look, error) {
 	changes := h.Changes()
-	gateway, err := h.node.Gateway()
+	h.counts.begin()
+	gateway, err := h.keeper.Gateway()
 	if err != nil {
 		return nil, err
 	}
@@ -63,7 +64,7 @@ func (h *Held) look() (*Look, error) {
 		gateway.Close()
 		return nil, err
 	}
-	h.counts.know(of, made.Streams)
+	h.counts.recount(of, made.Streams, h.Now())
 	return made, nil
 }
 

@@ -44,6 +44,7 @@ type Server struct {
 	workers  chan struct{}
 	draining int32
 	isReady  int32
+	late     seldom
 	routes   map[string]*route
 }
 

@@ -171,7 +171,7 @@ func TestRefusals(t *testing.T) {
 	good := encoded(t, "shop", 1, 3)
 	other := must[*held.Held](t)(held.New(2, must[kotskhin.Gateway](t)(kotskhin.OpenGateway(2)), held.Limits{Points: 9, Streams: 9}))
 	brought := must[*held.Brought](t)(held.Bring([]kotskhin.Export{exported(t, "shop", 9, 1)}, nil))
-	if err := other.Take(brought); err != nil {
+	if _, err := other.Take(brought); err != nil {
 		t.Fatal(err)
 	}
 	message, misdirected := must[[]byte](t)(other.Tell(1)), must[[]byte](t)(other.Tell(3))

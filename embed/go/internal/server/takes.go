@@ -7,6 +7,7 @@ import (
 	"fmt"
 	"net/http"
 	"strings"
+	"time"
 
 	"kotskhin"
 	"kotskhin/internal/figures"
@@ -22,7 +23,7 @@ const ExportsType = "application/vnd.kotskhin.exports"
 
 // exports takes the kit's own bytes of one export, or of several.
 func (s *Server) exports(w http.ResponseWriter, request *http.Request, grant tokens.Grant) error {
-	var brought *held.Brought
+	var told taken
 	if err := s.read(request, s.Limits.Body, func(body []byte) (err error) {
 		parts, isAlone := [][]byte{body}, true
 		if kind, _, _ := strings.Cut(request.Header.Get("Content-Type"), ";"); kind == ExportsType {
@@ -40,12 +41,12 @@ func (s *Server) exports(w http.ResponseWriter, request *http.Request, grant tok
 		if isAlone {
 			kept = parts[0]
 		}
-		brought, err = s.take(request, grant, exports, kept)
+		told, err = s.take(request, grant, body, exports, kept)
 		return err
 	}); err != nil {
 		return err
 	}
-	return asJSON(w, map[string]int{"exports": brought.Exports, "points": brought.Points})
+	return asJSON(w, told)
 }
 
 func decoded(parts [][]byte) (exports []kotskhin.Export, err error) {
@@ -80,9 +81,31 @@ func partsOf(body []byte) (parts [][]byte, err error) {
 	return parts, nil
 }
 
-// take takes exports, all or none, once the sender may speak for them, there is room, and they are kept on disk.
-func (s *Server) take(request *http.Request, grant tokens.Grant, exports []kotskhin.Export, bytes []byte) (*held.Brought, error) {
-	brought, err := held.Bring(exports, bytes)
+// taken is what a request brought, and how much of it was late.
+type taken struct {
+	Exports int `json:"exports"`
+	Points  int `json:"points"`
+	Late    int `json:"late,omitempty"`
+	// How many points what is late had.
+	latePoints int
+}
+
+func takenOf(brought *held.Brought, late []kotskhin.ExportHead) taken {
+	made := taken{Exports: brought.Exports, Points: brought.Points, Late: len(late)}
+	for _, it := range late {
+		made.latePoints += it.Points
+	}
+	// (exports of one incarnation that come together have points in common)
+	if made.latePoints > made.Points {
+		made.latePoints = made.Points
+	}
+	return made
+}
+
+// take takes the exports of a body, all or none, once the sender may speak for them, there is room, and they are kept on disk. Kept are the
+// bytes of an export that comes alone, where they are at hand.
+func (s *Server) take(request *http.Request, grant tokens.Grant, body []byte, exports []kotskhin.Export, kept []byte) (taken, error) {
+	brought, err := held.Bring(exports, kept)
 	if brought != nil {
 		defer brought.Close()
 	}
@@ -90,29 +113,54 @@ func (s *Server) take(request *http.Request, grant tokens.Grant, exports []kotsk
 		err = notFor(grant, brought.Of)
 	}
 	if err == nil {
-		err = s.Held.Admit(brought)
+		err = notReserved(brought, body)
 	}
 	if err == nil {
-		err = s.keep(brought)
+		err = s.Held.Admit(brought)
+	}
+	var late []kotskhin.ExportHead
+	if err == nil {
+		late, err = s.keep(brought)
 	}
 	if err != nil {
-		return nil, err
+		return taken{}, err
 	}
-	s.Figures.Add(figures.Exports, figures.Labels("path", request.URL.Path), float64(brought.Exports))
-	s.Figures.Add(figures.Points, figures.Labels("path", request.URL.Path), float64(brought.Points))
-	return brought, nil
+	made := takenOf(brought, late)
+	s.tellLate(request, late)
+	labels := figures.Labels("path", request.URL.Path)
+	s.Figures.Add(figures.Exports, labels, float64(made.Exports-made.Late))
+	s.Figures.Add(figures.Points, labels, float64(made.Points-made.latePoints))
+	return made, nil
 }
 
 // keep keeps what is brought on disk, where there is one, and takes it.
-func (s *Server) keep(brought *held.Brought) error {
-	if s.Store == nil {
-		return s.Held.Take(brought)
-	}
-	bytes, err := brought.Bytes()
-	if err != nil {
+func (s *Server) keep(brought *held.Brought) (late []kotskhin.ExportHead, err error) {
+	take := func() (err error) {
+		late, err = s.Held.Take(brought)
 		return err
 	}
-	return s.Store.Keep(bytes, func() error { return s.Held.Take(brought) })
+	if s.Store == nil {
+		err = take()
+		return late, err
+	}
+	bytes, err := brought.Bytes()
+	if err == nil {
+		err = s.Store.Keep(bytes, take)
+	}
+	return late, err
+}
+
+// tellLate counts what is late, and logs once in a while whose it is.
+func (s *Server) tellLate(request *http.Request, late []kotskhin.ExportHead) {
+	if len(late) == 0 {
+		return
+	}
+	s.Figures.Add(figures.Late, figures.Labels("path", request.URL.Path), float64(len(late)))
+	count, may := s.late.add(len(late), time.Now())
+	if it := late[0]; may {
+		s.Log.Warn("exports came once their incarnation was adopted: a writer that lives should begin anew under a later start",
+			"exports", count, "service", it.Service, "instance", it.Instance, "start", it.Start, "from", request.RemoteAddr)
+	}
 }
 
 // otlp takes a request of the OpenTelemetry protocol.
@@ -123,6 +171,7 @@ func (s *Server) otlp(w http.ResponseWriter, request *http.Request, grant tokens
 	}
 	var refused int
 	var why string
+	var told taken
 	if err := s.read(request, s.Limits.Body, func(body []byte) error {
 		read, err := otlp.Of(body)
 		if err != nil {
@@ -131,7 +180,7 @@ func (s *Server) otlp(w http.ResponseWriter, request *http.Request, grant tokens
 		defer read.Close()
 		refused, why = read.Refused, read.Why()
 		if len(read.Exports) > 0 {
-			_, err = s.take(request, grant, read.Exports, nil)
+			told, err = s.take(request, grant, body, read.Exports, nil)
 		}
 		return err
 	}); err != nil {
@@ -140,6 +189,10 @@ func (s *Server) otlp(w http.ResponseWriter, request *http.Request, grant tokens
 	if refused > 0 {
 		s.Figures.Add(figures.PointsLost, "", float64(refused))
 		s.Log.Debug("points have no counterpart", "points", refused, "why", why, "from", request.RemoteAddr)
+	}
+	if told.Late > 0 {
+		refused += told.latePoints
+		why = strings.TrimPrefix(fmt.Sprintf("%s; %d points: LATE: their incarnation was adopted before", why, told.latePoints), "; ")
 	}
 	w.Header().Set("Content-Type", otlp.Type)
 	w.WriteHeader(http.StatusOK)
@@ -210,10 +263,13 @@ func (s *Server) mayHand(message kotskhin.Message, body []byte, grant tokens.Gra
 		return from, refusal{http.StatusBadRequest, "ack", "an Ack answers a message, and is not sent by itself"}
 	}
 	of, err := message.Incarnations()
-	if err != nil {
-		return from, err
+	if err == nil {
+		err = notFor(grant, of)
 	}
-	return from, notFor(grant, of)
+	if err == nil {
+		err = notNamed(grant, message, body)
+	}
+	return from, err
 }
 
 func asJSON(w http.ResponseWriter, value any) error {

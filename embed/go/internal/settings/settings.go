@@ -23,6 +23,9 @@ type Settings struct {
 	State        string
 	SaveInterval time.Duration
 
+	Archive                    []string
+	ArchiveAfter, ArchiveEvery time.Duration
+
 	MaxBody, MaxMessage, MaxInFlight      int64
 	MaxPoints, MaxStreams, MaxConnections int
 
@@ -80,6 +83,29 @@ func isPeer(word string) error {
 	return nil
 }
 
+// services is a flag that may come often, with commas between services.
+type services []string
+
+func (s *services) String() string { return strings.Join(*s, ",") }
+
+func (s *services) Set(words string) error {
+	for _, word := range strings.Split(words, ",") {
+		if word = strings.TrimSpace(word); word != "" && !isAmong(word, *s) {
+			*s = append(*s, word)
+		}
+	}
+	return nil
+}
+
+func isAmong(word string, words []string) bool {
+	for _, it := range words {
+		if it == word {
+			return true
+		}
+	}
+	return false
+}
+
 // size is a number of bytes.
 type size int64
 
@@ -127,6 +153,10 @@ func flagsOf(it *Settings, out io.Writer) *flag.FlagSet {
 	flags.DurationVar(&it.Patience, "ready-patience", 15*time.Second, "how long it waits for peers before it shows what it holds")
 	flags.StringVar(&it.State, "state", "", "`FOLDER` in which it keeps what it takes; without one a kill loses what no peer was told")
 	flags.DurationVar(&it.SaveInterval, "save-interval", 30*time.Second, "from one saving of the whole state to the next")
+	flags.Var((*services)(&it.Archive), "archive", "`SERVICES` of which it adopts what has ended, with commas between; no other gateway of "+
+		"those that tell each other may adopt of the same")
+	flags.DurationVar(&it.ArchiveAfter, "archive-after", time.Hour, "for how long nothing newer came of what has ended")
+	flags.DurationVar(&it.ArchiveEvery, "archive-every", time.Minute, "from one look for what has ended to the next")
 	it.MaxBody, it.MaxMessage, it.MaxInFlight = 16<<20, 512<<20, 1<<30
 	flags.Var((*size)(&it.MaxBody), "max-body", "most `BYTES` of a body, unpacked")
 	flags.Var((*size)(&it.MaxMessage), "max-message", "most `BYTES` of a peer's message")
@@ -157,9 +187,9 @@ func Read(words []string, environment func(name string) string, out io.Writer) (
 	if err := byEnvironment(flags, environment); err != nil {
 		return nil, err
 	}
-	// (peers that are told by flags stand in the place of those of the environment)
-	ofEnvironment := made.Peers
-	made.Peers = nil
+	// (peers and services that are told by flags stand in the place of those of the environment)
+	peers, archive := made.Peers, made.Archive
+	made.Peers, made.Archive = nil, nil
 	if err := flags.Parse(words); errors.Is(err, flag.ErrHelp) {
 		io.WriteString(out, usage)
 		flags.SetOutput(out)
@@ -169,7 +199,10 @@ func Read(words []string, environment func(name string) string, out io.Writer) (
 		return nil, err
 	}
 	if made.Peers == nil {
-		made.Peers = ofEnvironment
+		made.Peers = peers
+	}
+	if made.Archive == nil {
+		made.Archive = archive
 	}
 	if flags.NArg() > 0 {
 		return nil, fmt.Errorf("there is no word %q: --help lists flags", flags.Arg(0))
@@ -193,6 +226,7 @@ func (s *Settings) check() error {
 	for name, length := range map[string]time.Duration{
 		"gossip-interval": s.GossipInterval, "gossip-longest-pause": s.GossipLongestPause, "gossip-timeout": s.GossipTimeout,
 		"peer-refresh": s.PeerRefresh, "save-interval": s.SaveInterval, "read-timeout": s.ReadTimeout,
+		"archive-after": s.ArchiveAfter, "archive-every": s.ArchiveEvery,
 	} {
 		if length <= 0 {
 			return fmt.Errorf("--%s is above 0", name)

@@ -23,6 +23,14 @@ func TestFlagsGoBeforeTheEnvironment(t *testing.T) {
 	if strings.Join(made.Peers, " ") != "http://a:1 b:2" {
 		t.Fatal(made.Peers)
 	}
+	made, err, _ = read("--archive shop,bank --archive shop", map[string]string{"KOTSKHIN_ARCHIVE": "till", "KOTSKHIN_ARCHIVE_AFTER": "30m"})
+	if err != nil || strings.Join(made.Archive, " ") != "shop bank" || made.ArchiveAfter != 30*time.Minute {
+		t.Fatal(made, err)
+	}
+	made, err, _ = read("", map[string]string{"KOTSKHIN_ARCHIVE": "till, bank"})
+	if err != nil || strings.Join(made.Archive, " ") != "till bank" || made.ArchiveEvery != time.Minute {
+		t.Fatal(made, err)
+	}
 	made, err, _ = read("", map[string]string{"KOTSKHIN_PEER": "http://c:3, d:4"})
 	if err != nil || strings.Join(made.Peers, " ") != "http://c:3 d:4" || made.MaxBody != 16<<20 {
 		t.Fatal(made, err)
@@ -33,6 +41,7 @@ func TestWhatIsRefused(t *testing.T) {
 	for _, words := range []string{
 		"--max-body 0", "--max-body 1KB", "--max-body -5", "--max-body 9999999999GiB", "--peer ftp://a", "--peer a", "--peer :1",
 		"--loud", "word",
+		"--archive-after 0s", "--archive-every -1m",
 		"--gossip-interval 0s", "--gossip-interval 5", "--max-points 0", "--log-format xml", "--tls-cert a", "--client-ca a", "--state /dev/null",
 	} {
 		if made, err, _ := read(words, nil); err == nil {

@@ -174,18 +174,31 @@ func (s *Store) syncFolder() error {
 
 // Keep adds bytes to the journal, and then takes in what they are. Where they can't be kept nothing is taken.
 func (s *Store) Keep(bytes []byte, take func() error) error {
-	if s == nil {
+	return s.Adding(func(add func(bytes []byte) error) error {
+		if err := add(bytes); err != nil {
+			return err
+		}
 		return take()
+	})
+}
+
+// Adding calls a function that adds bytes to the journal, and takes in what they are, in the order that it wants. No new journal begins
+// meanwhile, so what it takes in is in a state that is saved, or its bytes are in a journal that is left.
+func (s *Store) Adding(call func(add func(bytes []byte) error) error) error {
+	if s == nil {
+		return call(func([]byte) error { return nil })
 	}
 	s.gate.RLock()
 	defer s.gate.RUnlock()
-	if s.current == nil {
-		return fmt.Errorf("%w: the store is closed", ErrDisk)
-	}
-	if err := s.current.add(bytes); err != nil {
-		return fmt.Errorf("%w: %v", ErrDisk, err)
-	}
-	return take()
+	return call(func(bytes []byte) error {
+		if s.current == nil {
+			return fmt.Errorf("%w: the store is closed", ErrDisk)
+		}
+		if err := s.current.add(bytes); err != nil {
+			return fmt.Errorf("%w: %v", ErrDisk, err)
+		}
+		return nil
+	})
 }
 
 // Save writes the state anew. The function gives it: all that was taken in so far, and maybe more.

@@ -41,6 +41,9 @@ type Grant struct {
 // Everything is the grant of a gateway without tokens.
 var Everything = Grant{isAll: true}
 
+// IsAll tells whether the bearer may speak for every service.
+func (g Grant) IsAll() bool { return g.isAll }
+
 // Allows tells whether the bearer may speak for a service.
 func (g Grant) Allows(service string) bool { return g.isAll || g.services[service] }
 

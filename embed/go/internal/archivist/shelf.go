@@ -1,0 +1,88 @@
+package archivist
+
+import "kotskhin"
+
+const (
+	// Most totals of an archive. An adoption compares each of its points with each of them, while whoever brings something waits.
+	mostTotals = 5000
+	// How many adoptions fill an archive: each of its exports has a tombstone for each.
+	mostAdopted = 1000
+	// Of two metrics that claim one name a page shows that of the younger incarnation. So an archive begins before all workers did: no
+	// metric that was adopted hides one of a worker that lives.
+	start = 1
+)
+
+// A shelf is what there is of a service: the archive that adopts now.
+type shelf struct {
+	service string
+	// Most totals of an archive.
+	limit int
+	// None where the last one is full, or nothing was to be adopted yet. Nothing is kept over a restart: what an archive adopted and has
+	// not exported was not adopted.
+	archive *kotskhin.Archive
+	// How many tombstones its last export had, and the time of that.
+	tombstones int
+	exported   uint64
+	// What can't be adopted as it is.
+	left map[kotskhin.Incarnation]bool
+}
+
+func newShelf(service string) *shelf {
+	return &shelf{service: service, limit: mostTotals, left: map[kotskhin.Incarnation]bool{}}
+}
+
+// open begins an archive where there is none, under an instance that no other has.
+func (s *shelf) open() error {
+	if s.archive != nil {
+		return nil
+	}
+	instance, err := kotskhin.UniqueInstance()
+	if err != nil {
+		return err
+	}
+	archive, err := kotskhin.BeginArchive(s.service, instance, start, s.limit)
+	if err != nil {
+		return err
+	}
+	s.archive, s.tombstones, s.exported = &archive, 0, start
+	return nil
+}
+
+// close gives the archive up: the next adoption is another one's. What it exported the keeper has, and shows nothing of what it adopted. So
+// no other adopts that again.
+func (s *shelf) close() {
+	s.archive.Close()
+	s.archive = nil
+}
+
+// export gives all that the archive adopted, at a time that is later than the last.
+func (s *shelf) export(now uint64) (kotskhin.Export, error) {
+	if now <= s.exported {
+		now = s.exported + 1
+	}
+	export, err := s.archive.Export(now)
+	if err == nil {
+		s.exported = now
+	}
+	return export, err
+}
+
+// waiting are those of incarnations that have ended that may be adopted. What was left and has moved since may be tried again.
+func (s *shelf) waiting(ended []kotskhin.Incarnation) (all []kotskhin.Incarnation) {
+	left := map[kotskhin.Incarnation]bool{}
+	for _, it := range ended {
+		if s.left[named(it)] {
+			left[named(it)] = true
+		} else {
+			all = append(all, it)
+		}
+	}
+	s.left = left
+	return all
+}
+
+// named is an incarnation up to its newest time, however many points of it are known.
+func named(it kotskhin.Incarnation) kotskhin.Incarnation {
+	it.Points = 0
+	return it
+}

@@ -1,0 +1,212 @@
+package server
+
+import (
+	"bytes"
+	"context"
+	"net/http"
+	"os"
+	"path/filepath"
+	"strings"
+	"testing"
+	"time"
+
+	"kotskhin"
+	"kotskhin/attribute"
+	"kotskhin/internal/archivist"
+	"kotskhin/internal/logs"
+	"kotskhin/internal/otlp"
+	"kotskhin/internal/tokens"
+)
+
+// archived is a gateway with an archivist of the service shop, and what lets its clock go on for so long and has it look.
+func archived(t *testing.T, change func(s *Server)) (s *Server, url string, after func(length time.Duration)) {
+	t.Helper()
+	clock := time.Now()
+	s, url = served(t, 1, func(s *Server) {
+		s.Held.Now = func() time.Time { return clock }
+		if change != nil {
+			change(s)
+		}
+	})
+	by := &archivist.Archivist{Held: s.Held, Gossip: s.Gossip, Figures: s.Figures, Services: []string{"shop"}, After: time.Hour}
+	return s, url, func(length time.Duration) {
+		clock = clock.Add(length)
+		by.Turn(context.Background())
+	}
+}
+
+// row is a line of the page for Prometheus that begins so, without what it begins with.
+func row(t *testing.T, url, begins string) string {
+	t.Helper()
+	status, page, _ := got(t, http.MethodGet, url+"/metrics", nil)
+	if status != 200 {
+		t.Fatal(status, page)
+	}
+	for _, line := range strings.Split(page, "\n") {
+		if strings.HasPrefix(line, begins+" ") {
+			return strings.TrimPrefix(line, begins+" ")
+		}
+	}
+	return ""
+}
+
+const allRequests = `requests_total{otel_scope_name="app",service_name="shop"}`
+
+// Workers end, and what they counted goes on to be shown, while their points are given back. Who reports late is told so, and no error.
+func TestAdoptionByHTTP(t *testing.T) {
+	_, url, after := archived(t, nil)
+	for instance := uint64(1); instance < 6; instance++ {
+		if status, said, _ := got(t, http.MethodPost, url+"/v1/exports", encoded(t, "shop", instance, 7)); status != 200 {
+			t.Fatal(status, said)
+		}
+	}
+	after(time.Hour - time.Second)
+	if total, points := row(t, url, allRequests), row(t, url, "kotskhin_gateway_held_points"); total != "35" || points != "5" {
+		t.Fatal(total, points)
+	}
+	after(time.Second)
+	if total, points := row(t, url, allRequests), row(t, url, "kotskhin_gateway_held_points"); total != "35" || points != "6" {
+		t.Fatal(total, points)
+	}
+	if adopted := row(t, url, `kotskhin_gateway_adopted_total{service="shop"}`); adopted != "5" {
+		t.Fatal(adopted)
+	}
+	late, live := encoded(t, "shop", 3, 9), encoded(t, "shop", 6, 1)
+	for _, it := range []struct {
+		body       []byte
+		kind, said string
+	}{
+		{late, "", `{"exports":1,"points":1,"late":1}`}, {live, "", `{"exports":1,"points":1}`},
+		{framed(live, late), ExportsType, `{"exports":2,"points":2,"late":1}`},
+		{framed(late, late), ExportsType, `{"exports":2,"points":1,"late":2}`},
+	} {
+		status, said, _ := got(t, http.MethodPost, url+"/v1/exports", it.body, "Content-Type", it.kind)
+		if status != 200 || said != it.said+"\n" {
+			t.Fatal(status, said)
+		}
+	}
+	count := row(t, url, `kotskhin_gateway_late_exports_total{path="/v1/exports"}`)
+	if points := row(t, url, `kotskhin_gateway_points_total{path="/v1/exports"}`); points != "7" {
+		t.Fatal(points)
+	}
+	if total := row(t, url, allRequests); total != "36" || count != "4" {
+		t.Fatal(total, count)
+	}
+}
+
+// OTLP has points that were not taken told as a partial success, which no sender sends again.
+func TestLateByOTLP(t *testing.T) {
+	var out bytes.Buffer
+	_, url, after := archived(t, func(s *Server) { s.Log = logs.New(&out, logs.Warn, false) })
+	late := must[[]byte](t)(exported(t, "shop", 1, 7).OTLP())
+	post := func(body []byte) string {
+		t.Helper()
+		status, said, _ := got(t, http.MethodPost, url+"/v1/metrics", body, "Content-Type", otlp.Type)
+		if status != 200 {
+			t.Fatal(status, said)
+		}
+		return said
+	}
+	if said := post(late); said != "" {
+		t.Fatal(said)
+	}
+	after(time.Hour)
+	wanted := string(otlp.Taken(1, "1 points: LATE: their incarnation was adopted before"))
+	for turn := 0; turn < 2; turn++ {
+		if said := post(late); said != wanted {
+			t.Fatalf("%q", said)
+		}
+	}
+	// (of two requests one line says whose is late)
+	if lines := out.String(); strings.Count(lines, "\n") != 1 || !strings.Contains(lines, "00000000-0000-0000-0000-000000000001") {
+		t.Fatal(lines)
+	}
+}
+
+func TestWhatComesOftenIsLoggedSeldom(t *testing.T) {
+	var s seldom
+	now := time.Now()
+	for _, it := range []struct {
+		after  time.Duration
+		wanted int
+	}{{0, 1}, {1, 0}, {pause - 1, 0}, {pause, 3}, {2*pause - 1, 0}, {3 * pause, 2}} {
+		if count, may := s.add(1, now.Add(it.after)); count != it.wanted || may != (it.wanted > 0) {
+			t.Fatal(it, count, may)
+		}
+	}
+}
+
+// tombstone is an export of somebody of a service who says that an incarnation of the service shop was adopted.
+func tombstone(t *testing.T, service string) kotskhin.Export {
+	t.Helper()
+	adopted := kotskhin.Instrument{Scope: "kotskhin.archive", Name: "adopted", Unit: "ns", Kind: kotskhin.Gauge}
+	plan := must[kotskhin.Plan](t)(kotskhin.NewPlan(adopted))
+	writer := must[kotskhin.Writer](t)(kotskhin.StartWriter(plan, service, kotskhin.Instance{Low: 7}, 100))
+	set := must[kotskhin.Attributes](t)(kotskhin.NewAttributes(attribute.String("service", "shop"), attribute.Int("start", 100),
+		attribute.String("instance", kotskhin.Instance{Low: 1}.String())))
+	if err := writer.Measure(0, set, 200); err != nil {
+		t.Fatal(err)
+	}
+	return must[kotskhin.Export](t)(writer.Collect(200))
+}
+
+// No sender hides another one. Peers may tell of tombstones, and so may a text that is not a scope.
+func TestSendersBringNoTombstones(t *testing.T) {
+	s, url := served(t, 1, nil)
+	good, bad := encoded(t, "shop", 1, 7), tombstone(t, "shop")
+	if status, said, _ := got(t, http.MethodPost, url+"/v1/exports", good); status != 200 {
+		t.Fatal(status, said)
+	}
+	bytes, request := must[[]byte](t)(bad.Encode()), must[[]byte](t)(bad.OTLP())
+	for _, it := range []struct {
+		path, kind string
+		body       []byte
+	}{{"/v1/exports", "", bytes}, {"/v1/exports", ExportsType, framed(good, bytes)}, {"/v1/metrics", otlp.Type, request}} {
+		status, said, _ := got(t, http.MethodPost, url+it.path, it.body, "Content-Type", it.kind)
+		if status != 403 || !strings.Contains(said, "kotskhin.archive") {
+			t.Error(it.path, status, said)
+		}
+	}
+	if refused := row(t, url, `kotskhin_gateway_refused_total{path="/v1/exports",reason="reserved"}`); refused != "2" {
+		t.Fatal(refused)
+	}
+	if total, points := row(t, url, allRequests), row(t, url, "kotskhin_gateway_held_points"); total != "7" || points != "1" {
+		t.Fatal(total, points)
+	}
+	if status, said, _ := got(t, http.MethodPost, url+"/v1/exports", encoded(t, "kotskhin.archive", 2, 7)); status != 200 {
+		t.Fatal(status, said)
+	}
+	if status, said, _ := got(t, http.MethodPost, url+"/v1/messages", messageOf(t, bad, s.Held.ID())); status != 200 {
+		t.Fatal(status, said)
+	}
+	if total := row(t, url, allRequests); total != "" {
+		t.Fatal(total)
+	}
+}
+
+// messageOf is a message of a gateway that took an export.
+func messageOf(t *testing.T, export kotskhin.Export, to uint32) []byte {
+	t.Helper()
+	peer := must[kotskhin.Node](t)(kotskhin.OpenNode(must[kotskhin.Gateway](t)(kotskhin.OpenGateway(2))))
+	must[uint64](t)(peer.Take(export))
+	return must[[]byte](t)(must[kotskhin.Message](t)(peer.Send(to)).Encode())
+}
+
+// A peer whose token is of some services hides none of another.
+func TestPeersNameTheirServicesAlone(t *testing.T) {
+	file := filepath.Join(t.TempDir(), "tokens")
+	if err := os.WriteFile(file, []byte(rights), 0o600); err != nil {
+		t.Fatal(err)
+	}
+	s, url := served(t, 1, func(s *Server) { s.Tokens = must[*tokens.File](t)(tokens.Open(file)) })
+	told := messageOf(t, tombstone(t, "till"), s.Held.ID())
+	for _, it := range []struct {
+		token  string
+		status int
+	}{{"lame-0123456789abcdef", 403}, {"peer-0123456789abcdef", 200}} {
+		status, said, _ := got(t, http.MethodPost, url+"/v1/messages", told, "Authorization", "Bearer "+it.token)
+		if status != it.status || status == 403 && !strings.Contains(said, "service shop") {
+			t.Error(it, status, said)
+		}
+	}
+}
