@@ -48,7 +48,7 @@ module _ {A : Type 0} (P : A → Type 0) where
   to_rec [] h = tt
   to_rec (x ∷ xs) h = (h 0 x (omega arith), to_rec xs (All-tail P x xs h))
 
-  from_rec : (xs : List A) → AllByRecursion P xs → All P xs
+  pub from_rec : (xs : List A) → AllByRecursion P xs → All P xs
   from_rec [] a k d h = absurd (omega arith)
   from_rec (x ∷ xs) a zero d h = a.0
   from_rec (x ∷ xs) a (suc k) d h = from_rec xs a.1 k d (omega arith)
@@ -104,7 +104,7 @@ still_apart x (q ∷ qs) p h e = elim (same_key p q) as (λ b. Apart x (cond b (
   | false ↦ (h.0, still_apart x qs p h.1 e)
 ]
 
-distinct_add : (qs : List ExportPoint) (p : ExportPoint) → IsDistinct same_key qs → IsDistinct same_key (add_total qs p)
+pub distinct_add : (qs : List ExportPoint) (p : ExportPoint) → IsDistinct same_key qs → IsDistinct same_key (add_total qs p)
 unfolding IsDistinct
 distinct_add [] p d = (tt, tt)
 distinct_add (q ∷ qs) p d = elim (same_key p q) as (λ b. same_key p q ≡ b → IsDistinct same_key (cond b (plus_payload q p.payload ∷ qs) (q ∷ add_total qs p))) [
@@ -189,19 +189,23 @@ module _ {stream : Stream} {start exported sealed : ℕ} {totals tombs : List Ex
   abbrev keys : IsDistinct same_key (totals ++ tombs)
   keys = sound_keys 0 1 (totals ++ tombs) kept.builds
 
+  -- no two totals are of one key
+  pub totals_apart : IsDistinct same_key totals
+  totals_apart = first_distinct totals tombs keys
+
   -- an export can be made at any time after the start
   pub exported_builds : (time : ℕ) → start < time → export_fault start time (totals ++ drop sealed tombs) ≡ None
   exported_builds time later =
       let ts = drop sealed tombs in
       sound_builds start time (totals ++ ts) later
-      (both_distinct totals ts (first_distinct totals tombs keys) (drop_distinct sealed tombs (last_distinct totals tombs keys)) (all_apart totals ts kept.plain (marked_drop sealed tombs kept.marked)))
+      (both_distinct totals ts totals_apart (drop_distinct sealed tombs (last_distinct totals tombs keys)) (all_apart totals ts kept.plain (marked_drop sealed tombs kept.marked)))
       (from_rec Fits (totals ++ ts) (rec_append Fits totals ts (rec_first Fits totals tombs whole) (rec_drop Fits sealed tombs (rec_last Fits totals tombs whole))))
 
   -- what is adopted is kept as well
   pub adopted_kept : (ps : List ExportPoint) (t : ExportPoint) → All Fits ps → list_all plain ps ≡ true → marked t ≡ true → Fits t → list_any (same_key t) tombs ≡ false
       → AreKept stream start exported (add_totals totals ps) (tombs ++ t ∷ []) sealed
   adopted_kept ps t fit ok mark sound new =
-      let are = totals_more totals ps (record { apart = first_distinct totals tombs keys; sound = rec_first Fits totals tombs whole; none_marked = kept.plain }) (to_rec Fits ps fit) ok in
+      let are = totals_more totals ps (record { apart = totals_apart; sound = rec_first Fits totals tombs whole; none_marked = kept.plain }) (to_rec Fits ps fit) ok in
       let ts = tombs ++ t ∷ [] in
       let marks = marked_more tombs t kept.marked mark in
       record {

@@ -190,8 +190,11 @@ impl Archive {
     /// and attributes, and notes its tombstone.
     ///
     /// It is for incarnations that have ended: what one exports later is not counted. Refused as [`AdoptFault`] says, each where
-    /// none before it fits. `NoMemory` comes where a growth was refused; whether another fits is then open. O(n + k) copies and
-    /// O(n k + t) comparisons of hashes, of the archive's n totals and t tombstones and of k points.
+    /// none before it fits. `NoMemory` comes where a growth was refused; whether another fits is then open.
+    ///
+    /// O(n + k) copies and O(k + t) comparisons of hashes, of the archive's n totals and t tombstones and of k points, where its points
+    /// come in the order of the totals, as those of like incarnations do. Where one does not, or has no total yet, a walk over them, of
+    /// comparisons of hashes.
     pub fn adopt(
         &mut self,
         gateway: &Gateway,
