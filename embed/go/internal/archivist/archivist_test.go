@@ -155,6 +155,27 @@ func TestSomeOfABodyAreLate(t *testing.T) {
 	r.shows(5+2+7, 17)
 }
 
+// What a worker brought to a peer that is away is not known, so nothing has ended then, nor at once when the peer is back.
+func TestNothingIsAdoptedWhileAPeerIsAway(t *testing.T) {
+	r := begun(t)
+	r.take(r.collected(1, 100, 5))
+	alone := r.by.Gossip
+	r.by.Gossip = &gossip.Gossip{
+		Held: r.held, Peers: []string{"http://127.0.0.1:1"}, Interval: time.Hour, LongestPause: time.Hour, Timeout: time.Hour,
+	}
+	ctx, end := context.WithCancel(context.Background())
+	r.by.Gossip.Begin(ctx)
+	r.after(2 * time.Hour)
+	r.shows(5, 5)
+	end()
+	r.by.Gossip.Wait()
+	r.by.Gossip = alone
+	r.after(59 * time.Minute)
+	r.shows(5, 5)
+	r.after(time.Minute)
+	r.shows(5+1, 5)
+}
+
 // What comes between the look for what has ended and its adoption keeps it.
 func TestWhoReportsAgainIsNotAdopted(t *testing.T) {
 	r := begun(t)
