@@ -135,6 +135,17 @@ func TestWhatHasEndedIsAdopted(t *testing.T) {
 	r.shows(17, 20)
 }
 
+// A gateway that is about to end adopts nothing more.
+func TestNothingIsAdoptedAtTheEnd(t *testing.T) {
+	r := begun(t)
+	r.take(r.collected(1, 100, 5))
+	r.clock = r.clock.Add(time.Hour)
+	ctx, end := context.WithCancel(context.Background())
+	end()
+	r.by.Turn(ctx)
+	r.shows(5, 5)
+}
+
 func TestOtherServicesStay(t *testing.T) {
 	r := begun(t)
 	r.by.Services = []string{"bank", "till"}
