@@ -13,7 +13,6 @@ import (
 	"runtime"
 	"strconv"
 	"strings"
-	"sync"
 	"testing"
 
 	"kotskhin/attribute"
@@ -543,41 +542,43 @@ func (r *run) takeIn(it step) (any, error) {
 func (r *run) threads(it step) error {
 	threads, each, held := int(mustInt(it["threads"])), int(mustInt(it["each"])), int(mustInt(it["number"]))
 	instrument, set := int(mustInt(it["instrument"])), r.things[it["set"].(string)].(Attributes)
-	faults := make(chan error, threads)
-	var group sync.WaitGroup
-	for i := 0; i < threads; i++ {
-		var by records
-		full := func() (bool, error) { return true, nil }
-		if it["with"] == "seat" {
-			seat, err := r.things[it["by"].(string)].(Seat).Split()
-			if err != nil {
-				return err
-			}
-			by = seat
-		} else {
-			recorder, err := NewRecorder(int(mustInt(it["capacity"])))
-			if err != nil {
-				return err
-			}
-			by, full = recorder, func() (bool, error) {
-				told, err := r.things[it["by"].(string)].(Writer).TakeIn(recorder, math.MaxInt)
-				return err == nil && told.Refused == 0, err
-			}
-		}
-		group.Add(1)
-		go func() {
-			defer group.Done()
-			faults <- recordOften(by, full, each, held, instrument, set)
-		}()
-	}
-	group.Wait()
-	close(faults)
-	for err := range faults {
-		if err != nil {
+	// Each has its seat before any of them records: the writer is busy then, and splits nothing.
+	hands := make([]hand, threads)
+	for i := range hands {
+		var err error
+		if hands[i], err = r.hand(it); err != nil {
 			return err
 		}
 	}
-	return nil
+	faults := make(chan error, threads)
+	for _, it := range hands {
+		go func(it hand) { faults <- recordOften(it.by, it.full, each, held, instrument, set) }(it)
+	}
+	var fault error
+	for range hands {
+		if err := <-faults; err != nil {
+			fault = err
+		}
+	}
+	return fault
+}
+
+// A hand is what a thread records with, and what is done once that is full.
+type hand struct {
+	by   records
+	full func() (bool, error)
+}
+
+func (r *run) hand(it step) (hand, error) {
+	if it["with"] == "seat" {
+		seat, err := r.things[it["by"].(string)].(Seat).Split()
+		return hand{seat, func() (bool, error) { return true, nil }}, err
+	}
+	recorder, err := NewRecorder(int(mustInt(it["capacity"])))
+	return hand{recorder, func() (bool, error) {
+		told, err := r.things[it["by"].(string)].(Writer).TakeIn(recorder, math.MaxInt)
+		return err == nil && told.Refused == 0, err
+	}}, err
 }
 
 func recordOften(by records, full func() (bool, error), each, held, instrument int, set Attributes) error {

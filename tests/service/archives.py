@@ -1,8 +1,10 @@
-"""Archives in the service: workers come, end and are adopted. A Prometheus that scrapes meanwhile sees no reset and the true growth; and
-the memory of a gateway through which many incarnations go stays as it is."""
+"""Archives in the service: workers come, end and are adopted. A Prometheus that scrapes meanwhile sees no reset and the true growth, and
+no tombstone by the rule of docs/SERVICE.md. The memory of a gateway through which many incarnations go stays as it is."""
 import json
 import os
+import pathlib
 import random
+import re
 import threading
 import time
 
@@ -10,6 +12,7 @@ from fleet import Fault, Gateway, free_port, page_of, until
 from kotskhin import COUNTER, HISTOGRAM, UP_DOWN, Attributes, Plan, Writer, unique_instance
 from prometheus import running, samples_of
 
+PAGE = pathlib.Path(__file__).resolve().parents[2] / "docs" / "SERVICE.md"
 ADDRESS, SCOPE = "127.0.0.1", "service.test"
 PLAN = ((SCOPE, "requests", "1", COUNTER), (SCOPE, "open", "1", UP_DOWN), (SCOPE, "latency", "ms", HISTOGRAM))
 ROUTES = [f"/{number}" for number in range(40)]
@@ -94,6 +97,15 @@ def kept(page):
     return {at: value for at, value in samples_of(page).items() if at[0] in ("requests_total", "open", "latency_milliseconds_sum")}
 
 
+def without_tombstones(gateway):
+    """What Prometheus is to keep of a page, which has tombstones."""
+    samples = samples_of(page_of(gateway))
+    left = {at: value for at, value in samples.items() if at[0] != "adopted_nanoseconds"}
+    if len(left) == len(samples):
+        raise Fault(f"gateway {gateway.number} shows no tombstone")
+    return left
+
+
 class Scraped:
     """Two gateways, of which the first adopts, and a Prometheus that scrapes both."""
 
@@ -111,7 +123,8 @@ class Scraped:
         try:
             until(lambda: all(it.is_ready() for it in self.gateways), lambda: f"they are not ready\n{self.gateways[0].tail()}")
             targets = [f"{ADDRESS}:{it.port}" for it in self.gateways]
-            with running(self.room / "archives", targets, port=free_port(), every=SCRAPES) as prometheus:
+            rule = re.search(r"^```yaml\n(metric_relabel_configs:.*?)^```$", PAGE.read_text(encoding="utf-8"), re.M | re.S)[1]
+            with running(self.room / "archives", targets, port=free_port(), every=SCRAPES, more=rule) as prometheus:
                 return self.ran(prometheus)
         finally:
             for gateway in self.gateways:
@@ -166,7 +179,7 @@ class Scraped:
         names = ("requests_total", "latency_milliseconds_count", "latency_milliseconds_sum", "latency_milliseconds_bucket")
         for gateway in self.gateways:
             target = f"{ADDRESS}:{gateway.port}"
-            until(lambda: prometheus.page_of(target) == samples_of(page_of(gateway)), f"Prometheus does not keep the page of {target}")
+            until(lambda: prometheus.page_of(target) == without_tombstones(gateway), f"Prometheus does not keep the page of {target}")
         resets = {value for name in names for _, value in prometheus.ask(f"resets({name}[10m])")}
         scrapes = min(value for _, value in prometheus.ask("count_over_time(requests_total[10m])"))
         if resets != {0} or scrapes < 5:

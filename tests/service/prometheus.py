@@ -3,6 +3,7 @@ import contextlib
 import json
 import re
 import subprocess
+import textwrap
 import urllib.parse
 
 from fleet import Fault, asked, until
@@ -50,13 +51,14 @@ class Prometheus:
 
 
 @contextlib.contextmanager
-def running(folder, targets, address="127.0.0.1", port=9090, every="2s"):
-    """A Prometheus of these targets, with a folder of its own."""
+def running(folder, targets, address="127.0.0.1", port=9090, every="2s", more=""):
+    """A Prometheus of these targets, with a folder of its own, and with more lines of what is scraped."""
     folder.mkdir()
     listed = ", ".join(f"'{it}'" for it in targets)
     (folder / "prometheus.yml").write_text(
         f"global:\n  scrape_interval: {every}\n  scrape_timeout: {every}\n"
-        f"scrape_configs:\n  - job_name: gateways\n    static_configs:\n      - targets: [{listed}]\n",
+        f"scrape_configs:\n  - job_name: gateways\n    static_configs:\n      - targets: [{listed}]\n"
+        + textwrap.indent(more, "    "),
         encoding="utf-8",
     )
     command = ["prometheus", "--config.file=prometheus.yml", "--storage.tsdb.path=data", f"--web.listen-address={address}:{port}"]

@@ -12,13 +12,14 @@ FOLDER is what embed/build made; where none is given it is made of crates/kit_c/
 
 The chaos test: three gateways, each in a network namespace of its own, and eight workers that count, push and are told what was taken. From
 a seed a nemesis kills and restarts gateways, parts them by iptables, loses packets, stops processes, fills the disks of their states, has a
-proxy bring exports late, twice and out of order, and has workers die and come back. In the end all heals. Then each gateway's tables and
-its page must be the same, and what Prometheus keeps of each; and of each worker's life they say one collection, none before the newest of
-which it was told. Where no namespaces can be made, gateways live on addresses of the loopback with links that are cut, without loss, and
+proxy bring exports late, twice and out of order, and has workers die and come back. Half-way all rest, and one gateway adopts each life:
+workers that go on are told that they are late, and begin another one. In the end all heals. Then each gateway's tables and its page must be
+the same, and what Prometheus keeps of each; and of each life they say one collection, none before the newest of which the worker was told.
+Where no namespaces can be made, gateways live on addresses of the loopback with links that are cut, without loss, and
 this is told.
 
-Archives: workers come, end and are adopted while a Prometheus scrapes two gateways, of which one adopts. No series is reset, and each grows as
-it was counted. Then many incarnations go through one gateway that could hold few of them, and its memory stays as it is.
+Archives: workers come, end and are adopted while a Prometheus scrapes two gateways, of which one adopts. No series is reset, and each grows
+as it was counted. Then many incarnations go through one gateway that could hold few of them, and its memory stays as it is.
 
 Bad input: random and changed bodies to each path, cut bodies, slow senders, wrong tokens. Each has its status, and nothing is taken. Disks:
 a damaged state and a damaged journal are told and set aside, and a full disk refuses. Docs: the commands of README print their total, and

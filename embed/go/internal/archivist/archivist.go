@@ -86,7 +86,7 @@ func (a *Archivist) areTogether() bool {
 	if a.isApart = len(apart) > 0; a.isApart {
 		a.together = now
 	}
-	return !a.isApart && now.Sub(a.together) >= a.After
+	return now.Sub(a.together) >= a.After
 }
 
 // adoptAll adopts all that has ended of a service, some at a time.

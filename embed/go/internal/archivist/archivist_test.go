@@ -4,6 +4,7 @@ import (
 	"context"
 	"fmt"
 	"strings"
+	"sync"
 	"testing"
 	"time"
 
@@ -46,14 +47,23 @@ func begun(t *testing.T) *trial {
 
 var requests = kotskhin.Instrument{Scope: "app", Name: "requests", Unit: "1", Kind: kotskhin.Counter}
 
+// counted is the next collection of a writer that counted a value at so many sets.
+func (r *trial) counted(instance uint64, points int, value int64) kotskhin.Export {
+	return r.export(instance, 100, points, value)
+}
+
 // collected is the next collection of a writer that began at a time, and counted 1 at so many sets.
 func (r *trial) collected(instance, start uint64, points int) kotskhin.Export {
+	return r.export(instance, start, points, 1)
+}
+
+func (r *trial) export(instance, start uint64, points int, value int64) kotskhin.Export {
 	r.t.Helper()
 	plan := must[kotskhin.Plan](r.t)(kotskhin.NewPlan(requests))
 	writer := must[kotskhin.Writer](r.t)(kotskhin.StartWriter(plan, "shop", kotskhin.Instance{Low: instance}, start))
 	defer writer.Close()
 	for n := 0; n < points; n++ {
-		if err := writer.Measure(0, must[kotskhin.Attributes](r.t)(kotskhin.NewAttributes(attribute.Int("n", n))), 1); err != nil {
+		if err := writer.Measure(0, must[kotskhin.Attributes](r.t)(kotskhin.NewAttributes(attribute.Int("n", n))), value); err != nil {
 			r.t.Fatal(err)
 		}
 	}
@@ -135,6 +145,61 @@ func TestWhatHasEndedIsAdopted(t *testing.T) {
 	r.shows(17, 20)
 }
 
+// A gateway that is about to end adopts nothing more.
+func TestNothingIsAdoptedAtTheEnd(t *testing.T) {
+	r := begun(t)
+	r.take(r.collected(1, 100, 5))
+	r.clock = r.clock.Add(time.Hour)
+	ctx, end := context.WithCancel(context.Background())
+	end()
+	r.by.Turn(ctx)
+	r.shows(5, 5)
+}
+
+// Workers go on to report while they are adopted: each has counted just what it was told was taken before it was late.
+func TestAdoptionsBesideTakes(t *testing.T) {
+	r := begun(t)
+	r.by.After = 0
+	const workers, points = 4, 20
+	var reports [workers][]*held.Brought
+	for worker := range reports {
+		for turn := 0; turn < 100; turn++ {
+			export := r.counted(uint64(worker+1), points, int64(turn+1))
+			reports[worker] = append(reports[worker], must[*held.Brought](t)(held.Bring([]kotskhin.Export{export}, nil)))
+		}
+	}
+	var taken [workers]int
+	var hands sync.WaitGroup
+	for worker := range reports {
+		hands.Add(1)
+		go func(worker int) {
+			defer hands.Done()
+			for turn, brought := range reports[worker] {
+				late, err := r.held.Take(brought)
+				if err != nil || len(late) > 0 {
+					return
+				}
+				taken[worker] = turn + 1
+			}
+		}(worker)
+	}
+	ended := make(chan struct{})
+	go func() { defer close(ended); hands.Wait() }()
+	for isEnded := false; !isEnded; {
+		select {
+		case <-ended:
+			isEnded = true
+		default:
+		}
+		r.by.Turn(context.Background())
+	}
+	total := 0
+	for _, it := range taken {
+		total += it * points
+	}
+	r.shows(points+workers, total)
+}
+
 func TestOtherServicesStay(t *testing.T) {
 	r := begun(t)
 	r.by.Services = []string{"bank", "till"}
@@ -153,6 +218,27 @@ func TestSomeOfABodyAreLate(t *testing.T) {
 		t.Fatal(late)
 	}
 	r.shows(5+2+7, 17)
+}
+
+// What a worker brought to a peer that is away is not known, so nothing has ended then, nor at once when the peer is back.
+func TestNothingIsAdoptedWhileAPeerIsAway(t *testing.T) {
+	r := begun(t)
+	r.take(r.collected(1, 100, 5))
+	alone := r.by.Gossip
+	r.by.Gossip = &gossip.Gossip{
+		Held: r.held, Peers: []string{"http://127.0.0.1:1"}, Interval: time.Hour, LongestPause: time.Hour, Timeout: time.Hour,
+	}
+	ctx, end := context.WithCancel(context.Background())
+	r.by.Gossip.Begin(ctx)
+	r.after(2 * time.Hour)
+	r.shows(5, 5)
+	end()
+	r.by.Gossip.Wait()
+	r.by.Gossip = alone
+	r.after(59 * time.Minute)
+	r.shows(5, 5)
+	r.after(time.Minute)
+	r.shows(5+1, 5)
 }
 
 // What comes between the look for what has ended and its adoption keeps it.

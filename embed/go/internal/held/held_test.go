@@ -286,6 +286,9 @@ func TestLimitsFallByWhatIsForgotten(t *testing.T) {
 	if count := archived(t, h, 0); count != 3 {
 		t.Fatal(count)
 	}
+	if len(h.counts.of) != 0 {
+		t.Fatal(h.counts.of)
+	}
 	// (four totals, three tombstones)
 	if found := held(t, h); found != 7 {
 		t.Fatal(found)
@@ -299,6 +302,25 @@ func TestLimitsFallByWhatIsForgotten(t *testing.T) {
 	}
 	if len(h.counts.of) != 2 {
 		t.Fatal(h.counts.of)
+	}
+}
+
+// What is late takes no room, and makes no copy old.
+func TestWhatIsLateIsNotKnown(t *testing.T) {
+	h := opened(t, 1, wide)
+	if err := take(t, h, export(t, "requests", 1, 5, 200), export(t, "requests", 2, 5, 200)); err != nil {
+		t.Fatal(err)
+	}
+	archived(t, h, 0)
+	before := h.Changes()
+	if err := take(t, h, export(t, "requests", 1, 6, 300)); err != nil || h.Changes() != before || len(h.counts.of) != 0 {
+		t.Fatal(err, h.Changes(), h.counts.of)
+	}
+	if err := take(t, h, export(t, "requests", 1, 6, 300), export(t, "requests", 3, 6, 300)); err != nil || len(h.counts.of) != 1 {
+		t.Fatal(err, h.counts.of)
+	}
+	if found := held(t, h); found != 5+2+6 {
+		t.Fatal(found)
 	}
 }
 
