@@ -9,11 +9,11 @@ use attr_kit::NoMemory;
 use point_kit::{ExportPoint, Payload};
 use std::alloc::Global;
 
-// Whether two points are of the same stream and set.
+// Whether two points are of the same stream and set. Sets come first: of two that differ their hashes do, and streams compare texts.
 fn are_of_one_key(point: &ExportPoint, other: &ExportPoint) -> bool
     ensures { result ≡ same_key point.now other.now }
 {
-    point.stream == other.stream && point.attrs == other.attrs
+    point.attrs == other.attrs && point.stream == other.stream
 }
 
 // The place of the point of the same stream and set. Looks at a guess first, and walks where it is not there.

@@ -3,7 +3,8 @@ package archivist
 import "kotskhin"
 
 const (
-	// Most totals of an archive. An adoption compares each of its points with each of them, while whoever brings something waits.
+	// Most totals of an archive. An adoption copies all of them, and seeks those whose points stand in another order, while whoever brings
+	// something waits.
 	mostTotals = 5000
 	// How many adoptions fill an archive: each of its exports has a tombstone for each.
 	mostAdopted = 1000
