@@ -12,10 +12,10 @@ use Rattle.kit_c.specs.declared.fault.Fault.{Fault}
 use Rattle.kit_c.specs.declared.fault.Fault.TheVariants as faults
 
 -- why an archive does not adopt an incarnation from what a keeper holds of it, and the archive once it did
-abbrev pub adopting_fault : WriterId → ℕ → ArchiveState → NodeModel → Option Fault
+unfoldable pub adopting_fault : WriterId → ℕ → ArchiveState → NodeModel → Option Fault
 adopting_fault writer start a n = option_map (λ f. faults.Adopt f) (adopt_fault a writer start (incarnation_points writer start n.gateway.points))
 
-abbrev pub after_adopting : WriterId → ℕ → ArchiveState → NodeModel → ArchiveState
+unfoldable pub after_adopting : WriterId → ℕ → ArchiveState → NodeModel → ArchiveState
 after_adopting writer start a n = adopted a writer start (incarnation_points writer start n.gateway.points)
 
 -- why it makes no export of a time

@@ -12,14 +12,29 @@ ghost use Rattle.kit_c.specs.Typed.{export_in, is_export};
 
 use crate::content::Content;
 use crate::fault::{FULL, Fault, NO_MEMORY, NOTHING, OK, WRONG_KIND};
-use crate::text::{text, text_of};
+use crate::text::text_of;
 use crate::typed::{KitArchive, KitExport, KitKeeper};
 use crate::with::{with, with_two};
-use archive_kit::Archive;
+use archive_kit::{Archive, Keeper};
 use attr_kit::Seq;
 use point_kit::WriterId;
 use std::alloc::Global;
 use uuid::Uuid;
+
+// The identity of a service's instance.
+fn identity(alloc: Global, service: &[u8], high: u64, low: u64) -> Result<WriterId, Fault>
+    ensures ok { OnOk result (text_fault service.now ≡ None) }
+    ensures value { IfOk result (λ writer. writer ≡ identity_of service.now high low) }
+    ensures err { IfErr result (λ f. code_of f ≢ no_memory → text_fault service.now ≡ Some f) }
+{
+    match text_of(alloc, service) {
+        Ok(service) => Ok(WriterId {
+            service,
+            instance: Uuid::from_u64_pair(high, low),
+        }),
+        Err(fault) => Err(fault),
+    }
+}
 
 /// Begins an archive that adopted nothing, with at most so many totals, of which each is a stream's at an attribute set. It is a writer of
 /// its own: the instance is a UUID as two numbers, which no other writer has, archives among them. The start is in nanoseconds since the
@@ -44,14 +59,27 @@ pub extern "C" fn kit_archive_begin(
     if archive.handle.full {
         return FULL;
     }
-    let service = text!(alloc, service);
-    let writer = WriterId {
-        service,
-        instance: Uuid::from_u64_pair(instance_high, instance_low),
+    let writer = match identity(alloc, service, instance_high, instance_low) {
+        Ok(writer) => writer,
+        Err(fault) => return fault.code(),
     };
     match Archive::begin(alloc, writer, start, limit) {
         Ok(made) => archive.handle.fill(alloc, Content::Archive(made)),
         Err(_) => NO_MEMORY,
+    }
+}
+
+// Adopts an incarnation from what a keeper holds of it.
+#[tactic(auto, unfolding(crate::specs::Archives::adopting_fault, crate::specs::Archives::after_adopting))]
+fn adopt(archive: &mut Archive, keeper: &Keeper, writer: &WriterId, start: u64) -> Result<(), Fault>
+    ensures ok { OnOk result (adopting_fault writer.now start archive.old keeper.now ≡ None) }
+    ensures value { OnOk result (archive.new ≡ after_adopting writer.now start archive.old keeper.now) }
+    ensures err { IfErr result (λ f. code_of f ≢ no_memory → adopting_fault writer.now start archive.old keeper.now ≡ Some f) }
+    ensures unchanged { OnErr result (archive.new ≡ archive.old) }
+{
+    match archive.adopt(keeper.gateway(), writer, start) {
+        Ok(()) => Ok(()),
+        Err(fault) => Err(Fault::Adopt(fault)),
     }
 }
 
@@ -82,15 +110,14 @@ pub extern "C" fn kit_archive_adopt(
     ensures unchanged { result ≢ pos 0 → archive_of archive.new ≡ archive_of archive.old }
     ensures kept { keeper_of keeper.new ≡ keeper_of keeper.old }
 {
-    let service = text!(alloc, service);
-    let writer = WriterId {
-        service,
-        instance: Uuid::from_u64_pair(instance_high, instance_low),
+    let writer = match identity(alloc, service, instance_high, instance_low) {
+        Ok(writer) => writer,
+        Err(fault) => return fault.code(),
     };
-    match with_two!(alloc, archive => Archive(held), keeper => Keeper(read), held.adopt(read.gateway(), &writer, start))
+    match with_two!(alloc, archive => Archive(held), keeper => Keeper(read), adopt(held, read, &writer, start))
     {
         Ok(()) => OK,
-        Err(fault) => Fault::Adopt(fault).code(),
+        Err(fault) => fault.code(),
     }
 }
 
