@@ -288,7 +288,15 @@ def connections(program, room, count):
     """More connections than may be open are answered 503, and once some end there is room again."""
     with Trial(program, room) as it:
         held = [opened() for _ in range(64)]
-        until(lambda: it.gateway.ask("/healthz", timeout=5)[0] == 503, "it takes as many connections as come", patience=ANSWER / 2, pause=0.02)
+
+        def is_full():
+            """Where one more is answered, a connection of before was open still as these came, and one of these had no room."""
+            if it.gateway.ask("/healthz", timeout=5)[0] == 503:
+                return True
+            held.append(opened())
+            return False
+
+        until(is_full, "it takes as many connections as come", patience=ANSWER / 2, pause=0.02)
         for made in held:
             made.close()
         until(lambda: it.gateway.ask("/healthz")[0] == 200, "there is no room again")
