@@ -33,7 +33,7 @@ SCHEDULES, EVENTS = 30, 400
 SEED = 1
 
 # The soak: so many incarnations of so many sums, and an export after so many adoptions.
-INCARNATIONS, POINTS, EVERY = 30_000, 100, 100
+INCARNATIONS, POINTS, EVERY = 30_000, 500, 20
 # What the process may have resident without any tombstone, and what one may cost, in bytes.
 LEAST, TOMBSTONE = 8 << 20, 1200
 
