@@ -5,6 +5,7 @@ pub mod Archived
 pub mod Driving
 pub mod Keeping
 pub mod Named
+pub mod Planning
 pub mod Showing
 pub mod Stepping
 pub mod Readiness

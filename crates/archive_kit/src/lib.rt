@@ -5,6 +5,8 @@
 //!   [`ExportRefusal`] comes. Under a later start it begins anew (`seal`), once it exported all that it adopted ([`SealRefusal`]).
 //! - A [`Keeper`] is a gateway whose points are always what is shown: it skips what a tombstone names and forgets what comes to be
 //!   named (`take`, `merge`). To an export it answers a [`Taking`].
+//! - [`build_plan`] makes the plan of a writer whose points lie beside those of archives: the scope of tombstones is refused
+//!   ([`PlanRefusal`]).
 //! - A state shows its points but for those that a tombstone names. Laws say that what is shown joins as states do
 //!   ([`shown_states_join`], [`deltas_bring`], [`same_exports_show_the_same`]), and that roll-ups of it count each adopted
 //!   incarnation once ([`roll_ups_count_adopted_once`], [`archives_change_no_total`]). Archives that write what these calls export
@@ -17,7 +19,7 @@
 //!
 //! What contracts cite stands in `specs/`: `Archive` (what contracts see of one, its refusals and exports), `Totals`, `Adding` and
 //! `Telling` (what is added up), `Driving` (what calls make of one), `Keeping` and `Named` (what a keeper holds and answers),
-//! `Tombstones`, `Showing` and `Stories` (what is shown), `Adopting`, `Archived` and `Written` (what counts).
+//! `Planning` (which plans lie beside archives), `Tombstones`, `Showing` and `Stories` (what is shown), `Adopting`, `Archived` and `Written` (what counts).
 #![tactic(auto)]
 
 mod adding;
@@ -30,6 +32,8 @@ mod held;
 mod keeper;
 mod laws;
 mod name;
+mod plan_refusal;
+mod planning;
 mod seal_refusal;
 mod taking;
 #[cfg(test)]
@@ -48,5 +52,7 @@ pub use laws::{
     roll_ups_count_adopted_once, same_exports_show_the_same, shown_states_are_ordered,
     shown_states_join, sums_are_sound, tombstones_name_no_tombstone,
 };
+pub use plan_refusal::PlanRefusal;
+pub use planning::build_plan;
 pub use seal_refusal::SealRefusal;
 pub use taking::Taking;

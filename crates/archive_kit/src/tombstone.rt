@@ -10,12 +10,15 @@ use point_kit::{ExportPoint, Payload, Shape, SharedStream, Stream, WriterId};
 use std::alloc::Global;
 use uuid::Uuid;
 
+/// The scope of tombstones.
+pub(crate) const SCOPE: &str = "kotskhin.archive";
+
 /// The tombstones' stream.
 pub(crate) fn tombstones(alloc: Global) -> Result<SharedStream, NoMemory>
     ensures { IfOk result (λ stream. stream ≡ tombstones) }
 {
     let stream = Stream {
-        scope: Txt::from_str(alloc, "kotskhin.archive")?,
+        scope: Txt::from_str(alloc, SCOPE)?,
         name: Txt::from_str(alloc, "adopted")?,
         unit: Txt::from_str(alloc, "ns")?,
         shape: Shape::Gauge,

@@ -183,6 +183,7 @@ code_of (faults.Collect f) = collection_code f
 code_of (faults.Restart f) = restart_code f
 code_of (faults.Attributes f) = attributes_code f
 code_of (faults.Plan f) = plan_code f
+code_of (faults.ReservedScope i) = pos 38
 code_of (faults.Hand f) = handing_code f
 code_of (faults.Adopt f) = adopting_code f
 code_of (faults.Archive f) = archiving_code f

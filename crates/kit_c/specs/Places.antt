@@ -76,6 +76,7 @@ place_of (faults.Collect (collections.TimeNotAfter last)) = Some last
 place_of (faults.Restart (restarts.StartNotAfter start)) = Some start
 place_of (faults.Attributes (sets.EmptyKey pair)) = Some pair
 place_of (faults.Plan f) = plan_place f
+place_of (faults.ReservedScope i) = Some i
 place_of (faults.Decode f) = decoding_place f
 place_of (faults.Otlp f) = otlp_place f
 place_of (faults.Request f) = request_place f

@@ -42,6 +42,7 @@ second_texts n =
     cond (n == 35) (codes "an aggregation does not fit its instrument") (
     cond (n == 36) (codes "two instruments feed one stream") (
     cond (n == 37) (codes "the limit is 0") (
+    cond (n == 38) (codes "the scope of an instrument is that of tombstones") (
     cond (n == 40) (codes "a total is wider than the number that it is to be told in") (
     cond (n == 41) (codes "there is no bucket of this number") (
     cond (n == 42) (codes "a row or a value is of another shape") (
@@ -53,7 +54,7 @@ second_texts n =
     cond (n == 64) (codes "the checksum is not that of the bytes before it") (
     cond (n == 65) (codes "the values are none that an export can have") (
     cond (n == 70) (codes "a log has as many recordings as it may") (
-    [])))))))))))))))))))
+    []))))))))))))))))))))
 
 unfoldable pub second_text : ℤ → List ℕ
 second_text (pos n) = second_texts n

@@ -50,6 +50,7 @@ fn second_text(code: i32) -> &'static str
         35 => "an aggregation does not fit its instrument",
         36 => "two instruments feed one stream",
         37 => "the limit is 0",
+        38 => "the scope of an instrument is that of tombstones",
         40 => "a total is wider than the number that it is to be told in",
         41 => "there is no bucket of this number",
         42 => "a row or a value is of another shape",

@@ -14,6 +14,7 @@ use crate::list::push;
 use crate::text::{text, text_of};
 use crate::typed::{KitInstruments, KitPlan, KitViews};
 use crate::with::add_to;
+use archive_kit::{PlanRefusal, build_plan};
 use attr_kit::{Seq, TryCopy};
 use plan_kit::{Instrument, Kind, Plan, View};
 use std::alloc::Global;
@@ -109,9 +110,10 @@ fn build(
     ensures value { IfOk result (λ plan. plan ≡ planned instruments views limit) }
     ensures err { IfErr result (λ f. code_of f ≢ no_memory → plans_fault instruments views limit ≡ Some f) }
 {
-    match Plan::build(alloc, instruments, views, limit) {
+    match build_plan(alloc, instruments, views, limit) {
         Ok(plan) => Ok(plan),
-        Err(fault) => Err(Fault::Plan(fault)),
+        Err(PlanRefusal::Plan(fault)) => Err(Fault::Plan(fault)),
+        Err(PlanRefusal::ReservedScope(place)) => Err(Fault::ReservedScope(place)),
     }
 }
 
@@ -119,7 +121,8 @@ fn build(
 /// (OpenTelemetry Metrics SDK, "View", "Cardinality limits"). Instruments and views stay; a handle that has nothing stands for
 /// none. Many writers may start under one plan.
 ///
-/// Refused, in this order: `FULL`; what `Plan::build` refuses, `BAD_NAME` to `BAD_LIMIT`, with its places; `NO_MEMORY`.
+/// Refused, in this order: `FULL`; what `Plan::build` refuses, `BAD_NAME` to `BAD_LIMIT`, with its places; `RESERVED_SCOPE` with the
+/// least instrument in the scope `kotskhin.archive`, which is that of tombstones; `NO_MEMORY`.
 #[unsafe(no_mangle)]
 pub extern "C" fn kit_plan_build(
     alloc: Global,
