@@ -34,6 +34,20 @@ give 1 1                    | taken 2
 give 2 1                    | taken 2
 show 1                      | points 3 incarnations 1 total 0 conflicts 1
 """,
+    "the same with equal totals: five are lost, and nothing tells": """
+keepers 1
+archive 1 shop/9 1000 10
+archive 2 shop/9 1000 10
+take 1 shop/1 100 200 5 1   | taken 1
+take 1 shop/2 100 300 5 1   | taken 1
+adopt 1 1 shop/1 100        | adopted
+adopt 2 1 shop/2 100        | adopted
+export 1 2000               | export 1 of 2
+export 2 2000               | export 2 of 2
+give 1 1                    | taken 2
+give 2 1                    | taken 1
+show 1                      | points 3 incarnations 1 total 5 conflicts 0
+""",
     "two archives of one identity and two starts lose nothing": f"""
 keepers 1
 archive 1 shop/9 1000 10

@@ -12,6 +12,7 @@ pub mod Lists
 pub mod Naming
 pub mod Once
 pub mod Payloads
+pub mod Planning
 pub mod Rest
 pub mod Showing
 pub mod Skipping
