@@ -53,12 +53,12 @@ feeds_apart : (views : List View) (all : List Instrument) (n : ℕ) (is : List I
 feeds_apart views all n [] h = All-nil Apart
 feeds_apart views all n (i ∷ is) h =
     All-append Apart (own_feeds views all (n, with_name_lowered i)) (flat_map (own_feeds views all) (enumerate_from (n + 1) (map with_name_lowered is)))
-      (own_apart views all n (with_name_lowered i) (not_reserved i (left _ _ h)))
-      (feeds_apart views all (n + 1) is (right (not (is_reserved i)) _ h))
+    (own_apart views all n (with_name_lowered i) (not_reserved i (left _ _ h)))
+    (feeds_apart views all (n + 1) is (right (not (is_reserved i)) _ h))
 
 -- where no instrument has the scope, no stream has it
 pub streams_apart : (is : List Instrument) (views : List View) (limit : ℕ) → position is_reserved is ≡ None → All (λ s. s.scope ≢ tombstones.scope) (plan_of is views limit).streams
-unfolding plan_of, wanted_of
+unfolding plan_of wanted_of
 streams_apart is views limit h =
     All-map (λ s. s.scope ≢ tombstones.scope) (λ w. w.stream) (wanted_of views (map with_name_lowered is))
-      (feeds_apart views (map with_name_lowered is) 0 is (nowhere is_reserved (λ i. not (is_reserved i)) (λ i e. ap not e) is h))
+    (feeds_apart views (map with_name_lowered is) 0 is (nowhere is_reserved (λ i. not (is_reserved i)) (λ i e. ap not e) is h))

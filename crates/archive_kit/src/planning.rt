@@ -23,6 +23,7 @@ fn reserved_at(instruments: &[Instrument]) -> Option<usize>
 ///
 /// Refused, in this order: what `Plan::build` refuses, `ReservedScope`. Cost: one comparison for each instrument beside that of
 /// `Plan::build`, and no memory.
+#[tactic(auto, using(crate::proofs::Planning::streams_apart))]
 pub fn build_plan(
     alloc: Global,
     instruments: Seq<Instrument>,

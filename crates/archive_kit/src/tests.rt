@@ -4,3 +4,4 @@
 mod adopting;
 mod builders;
 mod keeping;
+mod planning;
