@@ -5,14 +5,14 @@ pub mod Exact
 pub mod Forgetting
 pub mod Headline
 pub mod Hiding
-pub mod Kept
 pub mod Keeps
+pub mod Kept
 pub mod Left
 pub mod Lists
 pub mod Naming
 pub mod Once
 pub mod Payloads
-pub mod Planning
+pub mod Reserved
 pub mod Rest
 pub mod Showing
 pub mod Skipping

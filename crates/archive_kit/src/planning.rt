@@ -2,6 +2,7 @@
 ghost use Rattle.std.specs.Prelude.{◌≡◌, ◌≢◌, All, None, Some, IfErr, IfOk, OnOk, position};
 ghost use Rattle.plan_kit.specs.Feeds.{plan_of};
 ghost use Rattle.plan_kit.specs.PlanFaults.{own_fault};
+ghost use Rattle.plan_kit.specs.declared.fault.PlanFault.TheVariants as faults;
 ghost use Rattle.archive_kit.specs.Planning.{is_reserved, plan_refusal};
 ghost use Rattle.archive_kit.specs.Tombstones.{tombstones};
 
@@ -23,7 +24,7 @@ fn reserved_at(instruments: &[Instrument]) -> Option<usize>
 ///
 /// Refused, in this order: what `Plan::build` refuses, `ReservedScope`. Cost: one comparison for each instrument beside that of
 /// `Plan::build`, and no memory.
-#[tactic(auto, using(crate::proofs::Planning::streams_apart))]
+#[tactic(auto, using(crate::proofs::Reserved::streams_apart))]
 pub fn build_plan(
     alloc: Global,
     instruments: Seq<Instrument>,
@@ -33,8 +34,8 @@ pub fn build_plan(
     ensures ok { OnOk result (plan_refusal instruments views limit ≡ None) }
     ensures value { IfOk result (λ plan. plan ≡ plan_of instruments views limit) }
     ensures apart { IfOk result (λ plan. All (λ s. s.scope ≢ tombstones.scope) plan.streams) }
-    ensures err { IfErr result (λ f. f ≢ PlanRefusal.Plan PlanFault.NoMemory → plan_refusal instruments views limit ≡ Some f) }
-    ensures no_memory { IfErr result (λ f. f ≡ PlanRefusal.Plan PlanFault.NoMemory → own_fault instruments views ≡ None) }
+    ensures err { IfErr result (λ f. f ≢ PlanRefusal.Plan faults.NoMemory → plan_refusal instruments views limit ≡ Some f) }
+    ensures no_memory { IfErr result (λ f. f ≡ PlanRefusal.Plan faults.NoMemory → own_fault instruments views ≡ None) }
 {
     let reserved = reserved_at(instruments.as_slice());
     let plan = Plan::build(alloc, instruments, views, limit)?;
