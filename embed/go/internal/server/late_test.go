@@ -3,6 +3,7 @@ package server
 import (
 	"bytes"
 	"context"
+	"errors"
 	"net/http"
 	"os"
 	"path/filepath"
@@ -16,6 +17,7 @@ import (
 	"kotskhin/internal/logs"
 	"kotskhin/internal/otlp"
 	"kotskhin/internal/tokens"
+	"kotskhin/metric"
 )
 
 // archived is a gateway with an archivist of the service shop, and what lets its clock go on for so long and has it look.
@@ -120,6 +122,60 @@ func TestLateByOTLP(t *testing.T) {
 	// (of two requests one line says whose is late)
 	if lines := out.String(); strings.Count(lines, "\n") != 1 || !strings.Contains(lines, "00000000-0000-0000-0000-000000000001") {
 		t.Fatal(lines)
+	}
+}
+
+// worker is a provider of the service shop that pushes by an exporter where it is flushed, its counter, and what failed.
+func worker(t *testing.T, exporter metric.Exporter) (p *metric.MeterProvider, requests metric.Int64Counter, failed *[]error) {
+	t.Helper()
+	failed = new([]error)
+	reader := metric.NewPeriodicReader(exporter, metric.WithOnFailed(func(err error) { *failed = append(*failed, err) }))
+	resource := metric.WithResource(attribute.String(metric.ServiceName, "shop"))
+	p = must[*metric.MeterProvider](t)(metric.NewMeterProvider(resource, metric.WithReader(reader)))
+	return p, must[metric.Int64Counter](t)(p.Meter("app").Int64Counter("requests", metric.WithUnit("1"))), failed
+}
+
+// A worker that was taken for dead hears so of its exporter, by either form, and counts again once it began anew.
+func TestALateWorkerHearsSo(t *testing.T) {
+	ctx := context.Background()
+	for name, it := range map[string]struct {
+		exporter func(url string) metric.Exporter
+		wanted   metric.NotTakenError
+	}{
+		"OTLP": {
+			func(url string) metric.Exporter { return metric.HTTPExporter(url+"/v1/metrics", nil, nil) },
+			metric.NotTakenError{Points: 1, Message: "1 points: LATE: their incarnation was adopted before"},
+		},
+		"bytes": {
+			func(url string) metric.Exporter { return metric.HTTPBytesExporter(url+"/v1/exports", nil, nil) },
+			metric.NotTakenError{Exports: 1},
+		},
+	} {
+		_, url, after := archived(t, nil)
+		_, other := served(t, 2, nil)
+		push := func() metric.Exporter { return metric.FirstOf(it.exporter(url), it.exporter(other)) }
+		old, requests, failed := worker(t, push())
+		requests.Add(ctx, 7)
+		if err := old.ForceFlush(ctx); err != nil {
+			t.Fatal(name, err)
+		}
+		after(time.Hour)
+		requests.Add(ctx, 2)
+		var why *metric.NotTakenError
+		if err := old.ForceFlush(ctx); !errors.As(err, &why) || *why != it.wanted || len(*failed) != 1 {
+			t.Fatal(name, err, *failed)
+		}
+		if err := old.Shutdown(ctx); !errors.As(err, &why) {
+			t.Fatal(name, err)
+		}
+		fresh, requests, failed := worker(t, push())
+		requests.Add(ctx, 3)
+		if err := fresh.Shutdown(ctx); err != nil || len(*failed) != 0 {
+			t.Fatal(name, err, *failed)
+		}
+		if total, elsewhere := row(t, url, allRequests), row(t, other, allRequests); total != "10" || elsewhere != "" {
+			t.Fatal(name, total, elsewhere)
+		}
 	}
 }
 
