@@ -31,48 +31,53 @@ func partial(points byte, why string) string {
 	return "\x0a" + string([]byte{byte(len(inner))}) + inner
 }
 
-// What an answer of 2xx says was not taken fails the export; any other body fails nothing.
-func TestWhatWasNotTakenIsTold(t *testing.T) {
+// An answer to an export, and what it says was not taken; none where it fails nothing.
+type answerCase struct {
+	body   string
+	wanted *NotTakenError
+}
+
+func tryAnswers(t *testing.T, exporter func(string, http.Header, *http.Client) Exporter, cases []answerCase) {
+	t.Helper()
 	export := collected(t)
-	long := strings.Repeat("x", mostLookedAt)
-	for _, it := range []struct {
-		isOTLP bool
-		status int
-		body   string
-		wanted *NotTakenError
-	}{
-		{true, 200, partial(3, "3 points: LATE"), &NotTakenError{Points: 3, Message: "3 points: LATE"}},
-		{true, 202, partial(3, ""), &NotTakenError{Points: 3}},
-		{true, 200, partial(3, "a") + "\x12\x08unknown!", &NotTakenError{Points: 3, Message: "a"}},
-		{true, 200, partial(0, "a warning"), nil},
-		{true, 200, "", nil}, {true, 200, "OK\n", nil}, {true, 200, "{}", nil}, {true, 200, partial(3, "why")[:7], nil},
-		{true, 200, partial(3, "why") + "\x0a", nil}, {true, 200, `{"late":1}`, nil},
-		{true, 200, partial(3, "why") + "\x12\x80\x80\x04" + long, nil},
-		{false, 200, `{"exports":1,"points":3,"late":1}` + "\n", &NotTakenError{Exports: 1}},
-		{false, 200, ` { "of": {"late": 0, "all": ["late", 2]}, "late" : 12 } `, &NotTakenError{Exports: 12}},
-		{false, 200, `{"exports":1,"points":3}`, nil}, {false, 200, `{"late":0}`, nil}, {false, 200, `{"late":-1}`, nil},
-		{false, 200, `{"of":{"late":1}}`, nil}, {false, 200, `[{"late":1}]`, nil}, {false, 200, `{"late":"1"}`, nil},
-		{false, 200, `{"late":true}`, nil}, {false, 200, `{"Late":1}`, nil}, {false, 200, `{"late":null}`, nil},
-		{false, 200, `{"late":1`, nil}, {false, 200, `{"late":1}}`, nil}, {false, 200, "", nil}, {false, 200, "null", nil},
-		{false, 200, `{"late":1,"x":"` + long + `"}`, nil}, {false, 200, strings.Repeat("[", mostLookedAt), nil},
-		{false, 200, partial(3, "why"), nil},
-	} {
-		url, _ := answering(t, it.status, it.body)
-		exporter := HTTPBytesExporter(url, nil, nil)
-		if it.isOTLP {
-			exporter = HTTPExporter(url, nil, nil)
-		}
-		err := exporter.Export(context.Background(), export)
+	for _, it := range cases {
+		url, _ := answering(t, 200, it.body)
+		err := exporter(url, nil, nil).Export(context.Background(), export)
 		var why *NotTakenError
 		if errors.As(err, &why) != (it.wanted != nil) || it.wanted == nil && err != nil || it.wanted != nil && *why != *it.wanted {
 			t.Errorf("%.40q: %v, and not %v", it.body, err, it.wanted)
 		}
 	}
-	// (what is no answer of 2xx fails as it ever did)
-	url, _ := answering(t, 503, partial(3, "why"))
-	if err := HTTPExporter(url, nil, nil).Export(context.Background(), export); err == nil || isNotTaken(err) {
+}
+
+var long = strings.Repeat("x", mostLookedAt)
+
+// What an answer to OTLP says was rejected fails the export; any other body of 2xx fails nothing.
+func TestWhatOTLPSaysWasNotTaken(t *testing.T) {
+	good := partial(3, "why")
+	tryAnswers(t, HTTPExporter, []answerCase{
+		{partial(3, "3 points: LATE"), &NotTakenError{Points: 3, Message: "3 points: LATE"}},
+		{partial(3, ""), &NotTakenError{Points: 3}},
+		{good + "\x12\x08unknown!", &NotTakenError{Points: 3, Message: "why"}},
+		{partial(0, "a warning"), nil}, {"", nil}, {"OK\n", nil}, {"{}", nil}, {good[:7], nil}, {good + "\x0a", nil},
+		{`{"late":1}`, nil}, {good + "\x12\x80\x80\x04" + long, nil},
+	})
+	url, asked := answering(t, 503, good)
+	if err := HTTPExporter(url, nil, nil).Export(context.Background(), collected(t)); err == nil || isNotTaken(err) || *asked != 1 {
 		t.Fatal(err)
 	}
+}
+
+// So does what a gateway says of the kit's own bytes.
+func TestWhatAGatewaySaysIsLate(t *testing.T) {
+	tryAnswers(t, HTTPBytesExporter, []answerCase{
+		{`{"exports":1,"points":3,"late":1}` + "\n", &NotTakenError{Exports: 1}},
+		{` { "of": {"late": 0, "all": ["late", 2]}, "late" : 12 } `, &NotTakenError{Exports: 12}},
+		{`{"exports":1,"points":3}`, nil}, {`{"late":0}`, nil}, {`{"late":-1}`, nil}, {`{"of":{"late":1}}`, nil}, {`[{"late":1}]`, nil},
+		{`{"late":"1"}`, nil}, {`{"late":true}`, nil}, {`{"Late":1}`, nil}, {`{"late":null}`, nil}, {`{"late":1`, nil},
+		{`{"late":1}}`, nil}, {"", nil}, {"null", nil}, {partial(3, "why"), nil},
+		{`{"late":1,"x":"` + long + `"}`, nil}, {strings.Repeat("[", mostLookedAt), nil},
+	})
 }
 
 // A body that is as long as is looked at is read, and one that is longer is not.

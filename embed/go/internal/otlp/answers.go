@@ -17,8 +17,8 @@ func Taken(refused int, why string) []byte {
 	return appendBytes(nil, 1, appendBytes(partial, 2, []byte(why)))
 }
 
-// Rejected reads the body of an answer, as Taken writes it: how many points were refused, and why. Fields that are not known are passed over,
-// and of a field that comes twice the last one counts.
+// Rejected reads the body of an answer, as Taken writes it: how many points were refused, and why. Fields that are not known are passed
+// over, and of a field that comes twice the last one counts.
 func Rejected(answer []byte) (points int64, why string, err error) {
 	err = messages(answer, 1, func(partial []byte) error {
 		return each(partial, func(it field) error {
