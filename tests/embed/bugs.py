@@ -139,8 +139,8 @@ class Copy:
         return done.returncode, done.stdout.decode(errors="replace")
 
     def ran(self, language, test):
-        """The status of one test, and what it prints. It is a name in a file; in Go in the first package or in one that is named, and in C++
-        the whole program."""
+        """The status of one test, and what it prints. It is a name in a file; in Go in the first package, or in one that is named; and in
+        C++ the whole program."""
         if language == "Python":
             return self.told("tests/embed/python", sys.executable, "-B", f"{test[0]}.py", test[1])
         if language == "Go":
