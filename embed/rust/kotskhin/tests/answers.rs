@@ -130,6 +130,42 @@ fn points_that_were_rejected_fail_the_export() -> Done {
     Ok(())
 }
 
+/// JSON that does not say that an export was late, or is none.
+const NOT_LATE: &str = r#"
+{"exports":1,"points":3}
+{"late":0}
+{"late":-1}
+{"late":1.5}
+{"late":1e3}
+{"late":"1"}
+{"late":true}
+{"late":null}
+{"Late":1}
+{"of":{"late":1}}
+[{"late":1}]
+{"late":[1]}
+{"late":18446744073709551616}
+{"late":01}
+{"late":1
+{"late":1}}
+{"late":1,}
+{"late" 1}
+{"a":[1 2],"late":1}
+{"a":tru,"late":1}
+{"a":"\x","late":1}
+{"a":"\u12","late":1}
+{"a":-,"late":1}
+{"a":1.,"late":1}
+{"a":1e,"late":1}
+{late:1}
+{"a":"	","late":1}
+null
+1
+{
+{"
+{"\
+"#;
+
 #[test]
 fn exports_that_were_late_fail_the_export() -> Done {
     for (body, exports) in [
@@ -150,40 +186,7 @@ fn exports_that_were_late_fail_the_export() -> Done {
             "{body}"
         );
     }
-    for body in [
-        r#"{"exports":1,"points":3}"#,
-        r#"{"late":0}"#,
-        r#"{"late":-1}"#,
-        r#"{"late":1.5}"#,
-        r#"{"late":1e3}"#,
-        r#"{"late":"1"}"#,
-        r#"{"late":true}"#,
-        r#"{"late":null}"#,
-        r#"{"Late":1}"#,
-        r#"{"of":{"late":1}}"#,
-        r#"[{"late":1}]"#,
-        r#"{"late":[1]}"#,
-        r#"{"late":18446744073709551616}"#,
-        r#"{"late":01}"#,
-        r#"{"late":1"#,
-        r#"{"late":1}}"#,
-        r#"{"late":1,}"#,
-        r#"{"late" 1}"#,
-        r#"{"a":[1 2],"late":1}"#,
-        r#"{"a":tru,"late":1}"#,
-        r#"{"a":"\x","late":1}"#,
-        r#"{"a":"\u12","late":1}"#,
-        r#"{"a":-,"late":1}"#,
-        r#"{"a":1.,"late":1}"#,
-        r#"{"a":1e,"late":1}"#,
-        r#"{late:1}"#,
-        "{\"a\":\"\n\",\"late\":1}",
-        "null",
-        "1",
-        "{",
-        "{\"",
-        "{\"\\",
-    ] {
+    for body in NOT_LATE.lines() {
         assert_eq!(of(body.as_bytes())?, None, "{body}");
     }
     // (a body of many brackets is as long as is looked at, and so is the one that is read)
@@ -230,11 +233,18 @@ fn bodies_of_each_form_are_read() -> Done {
     ] {
         assert_eq!(told(chunked, &chunks(more))?, None, "{more}");
     }
+    Ok(())
+}
+
+#[test]
+fn heads_that_are_cut_or_long_say_nothing() -> Done {
     for head in ["HTTP/1.1 200 OK\r\n", "HTTP/1.1 200 OK\r\nA: b"] {
         assert_eq!(said(head.into())?, None);
     }
+    let good = partial(3, b"why");
     let headers = "A: b\r\n".repeat(MOST);
-    assert_eq!(told(&headers, &good)?, None);
+    let long = ["HTTP/1.1 200 OK\r\n", &headers, "\r\n"].concat();
+    assert_eq!(said([long.as_bytes(), &good[..]].concat())?, None);
     let refused = [b"HTTP/1.1 503 Busy\r\n\r\n", &good[..]].concat();
     assert!(said(refused).is_err());
     Ok(())
@@ -244,7 +254,7 @@ fn bodies_of_each_form_are_read() -> Done {
 #[test]
 fn an_answer_ends_where_it_says() -> Done {
     let export = provider().collect()?;
-    let (stays, short) = (Duration::from_secs(20), Duration::from_millis(200));
+    let (stays, short) = (Duration::from_secs(20), Duration::from_secs(3));
     let good = with_length(&partial(3, b"why"));
     let none = b"HTTP/1.1 204 No Content\r\n\r\n".to_vec();
     let open = [b"HTTP/1.1 200 OK\r\n\r\n", &partial(3, b"why")[..]].concat();
@@ -278,30 +288,36 @@ fn no_other_gateway_is_asked() -> Done {
         gateways.push(Box::new(HttpExporter::new(&server.url)?.with_own_bytes()));
         servers.push(server);
     }
-    let failed = Arc::new(Mutex::new(Vec::new()));
-    let told = Arc::clone(&failed);
-    let reader = PeriodicReader::builder(FirstOf::new(gateways)).with_interval(NEVER);
-    let reader = reader.on_failed(move |why| {
-        if let SdkError::Export { error, .. } = why {
-            let why = error.downcast_ref::<NotTaken>().cloned();
-            told.lock().unwrap().push(why.map(|it| it.exports));
-        }
-    });
-    let provider = SdkMeterProvider::builder()
-        .with_reader(reader.build())
-        .build();
-    provider
-        .meter("app")
-        .u64_counter("requests")
-        .build()
-        .add(7, &[]);
+    let (mut all, export) = (FirstOf::new(gateways), provider().collect()?);
     for turn in 1..3 {
-        let fault = provider.force_flush().err().map(|it| it.to_string());
-        let says = "1 exports came late, and were not taken";
-        assert!(fault.is_some_and(|it| it.contains(says)));
+        let fault = all.export(&export).err();
+        let told = fault.and_then(|it| it.downcast::<NotTaken>().ok());
+        assert_eq!(told.map(|it| it.exports), Some(1));
         let asked: Vec<_> = servers.iter().map(Server::asked).collect();
         assert_eq!(asked, [1, turn, 0]);
     }
+    Ok(())
+}
+
+/// A reader counts it among what failed, and tells its hook.
+#[test]
+fn a_reader_tells_what_was_not_taken() -> Done {
+    let server = Server::open(with_length(&partial(1, b"LATE")), Duration::ZERO)?;
+    let failed = Arc::new(Mutex::new(Vec::new()));
+    let told = Arc::clone(&failed);
+    let reader = PeriodicReader::builder(HttpExporter::new(&server.url)?).with_interval(NEVER);
+    let reader = reader.on_failed(move |why| {
+        if let SdkError::Export { error, .. } = why {
+            let why = error.downcast_ref::<NotTaken>();
+            told.lock().unwrap().extend(why.map(|it| it.points));
+        }
+    });
+    let builder = SdkMeterProvider::builder().with_reader(reader.build());
+    let provider = builder.build();
+    let meter = provider.meter("app");
+    meter.u64_counter("requests").build().add(7, &[]);
+    let fault = provider.force_flush().err().map(|it| it.to_string());
+    assert!(fault.is_some_and(|it| it.contains("1 points were not taken: LATE")));
     match provider.shutdown() {
         Err(SdkError::Export { error, unsent }) => {
             assert!(error.is::<NotTaken>());
@@ -309,8 +325,8 @@ fn no_other_gateway_is_asked() -> Done {
         }
         other => return Err(format!("{other:?}").into()),
     }
-    assert_eq!(*failed.lock().unwrap(), [Some(1); 3]);
-    assert_eq!(provider.failed(), 3);
+    assert_eq!(*failed.lock().unwrap(), [1, 1]);
+    assert_eq!(provider.failed(), 2);
     Ok(())
 }
 
