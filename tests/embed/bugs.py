@@ -43,7 +43,7 @@ NUMBERS, PLACES = ("kit", "Numbers.test_values"), ("kit", "Refusals.test_places"
 TIMES = ("kit", "Numbers.test_identities_and_times")
 AT_ONCE = ("kit", "Lives.test_recorders_wait_for_no_call_of_another_thread")
 KIT, SETS = ("kit",), "TestCases/attributes_of_each_kind"
-LATE = "an_instrument_records_once_its_meter_has_started"
+LATE, REJECTED = "an_instrument_records_once_its_meter_has_started", "points_that_were_rejected_fail_the_export"
 BUGS = [
     Bug("Python", "a value is wrapped: 2**64 + 3 is recorded as 3", "python/kotskhin/writer.py",
         'calls["kit_writer_measure"](self, instrument, attributes, value)',
@@ -63,6 +63,9 @@ BUGS = [
         PLACES, "(<Code.TIME_NOT_AFTER: 14>, 'TIME_NOT_AFTER', (0, None))"),
     Bug("Python", "recorders run one after another under one lock", "python/kotskhin/library.py",
         "    if not has_own_lock:\n", "    if True:\n", AT_ONCE, "a recorder waits for another thread's call"),
+    Bug("Python", "an answer that says that points were not taken is a success", "python/kotskhin/metrics/exporters.py",
+        "if len(told) <= MOST and (why := of(told)):", "if why := None:", ("metrics", "Answers.test_points"),
+        "AssertionError: None != (3, 0, '3 points: LATE')"),
     Bug("Go", "an attribute without a value is dropped", "go/attributes.go",
         "\t\treturn ErrInvalidValue\n", "\t\treturn nil\n", ("TestAnAttributeWantsAValue",), "--- FAIL: TestAnAttributeWantsAValue"),
     Bug("Go", "sets have texts alone", "go/attributes.go",
@@ -74,6 +77,9 @@ BUGS = [
         "kotskhin: code 10, not kotskhin: CLOSED"),
     Bug("Go", "memory of C is left to finalizers", "go/kotskhin.go",
         "\th.free()\n\truntime.SetFinalizer(h, nil)\n", "", ("TestWhatIsClosedIsGivenUpAtOnce",), "the process grew by "),
+    Bug("Go", "an answer that says that points were not taken is a success", "go/metric/answers.go",
+        "why := notTaken(body);", "why := notTaken(nil);", ("TestWhatOTLPSaysWasNotTaken", "./metric"),
+        "--- FAIL: TestWhatOTLPSaysWasNotTaken"),
     Bug("C++", "there are no views", "cpp/kotskhin/plan.hpp",
         "void add(const View &view) { checked(kit_views_add(handle.at(), view.raw().lent().at())); }", "void add(const View &) {}",
         KIT, "failed: rows and views"),
@@ -85,6 +91,9 @@ BUGS = [
         "uint64_t conflicts() const {", "uint64_t conflicts() {", KIT, "discards qualifiers"),
     Bug("C++", "rows are not const where they are read", "cpp/kotskhin/rows.hpp",
         "int64_t sum(size_t row) const {", "int64_t sum(size_t row) {", KIT, "discards qualifiers"),
+    Bug("C++", "what one gateway says was not taken goes to the next one", "cpp/kotskhin/metrics/exporters.hpp",
+        "} catch (const NotTaken &) {", "} catch (const std::bad_alloc &) {", ("readers",),
+        "failed: what was not taken goes to nobody else"),
     Bug("Rust", "OpenTelemetry's names have one scope", "rust/kotskhin/src/otel/provider.rs",
         "Meter::new(Arc::clone(&self.0.shared), scope.into())",
         'Meter::new(Arc::clone(&self.0.shared), { let _: String = scope.into(); String::from("app") })',
@@ -101,6 +110,8 @@ BUGS = [
     Bug("Rust", "safe code reaches a panic", "rust/kotskhin/src/metrics.rs",
         "self.0.get().ok_or(Error::NotStarted)?", 'self.0.get().expect("the meter has started")',
         ("metrics", LATE), f"---- {LATE} stdout ----"),
+    Bug("Rust", "an answer that says that points were not taken is a success", "rust/kotskhin/src/otel/exporters.rs",
+        "match not_taken(&answer.body) {", "match not_taken(&[]) {", ("answers", REJECTED), f"---- {REJECTED} stdout ----"),
 ]
 
 
@@ -128,11 +139,12 @@ class Copy:
         return done.returncode, done.stdout.decode(errors="replace")
 
     def ran(self, language, test):
-        """The status of one test, and what it prints. It is a name in a file; in Go of the package, and in C++ the whole program."""
+        """The status of one test, and what it prints. It is a name in a file; in Go in the first package, or in one that is named; and in
+        C++ the whole program."""
         if language == "Python":
             return self.told("tests/embed/python", sys.executable, "-B", f"{test[0]}.py", test[1])
         if language == "Go":
-            made = self.told("embed/go", "go", "test", "-c", "-o", f"{self.room}/go.test", ".")
+            made = self.told("embed/go", "go", "test", "-c", "-o", f"{self.room}/go.test", *(test[1:] or ["."]))
             return made if made[0] else self.told("embed/go", f"{self.room}/go.test", "-test.run", f"^{test[0]}")
         if language == "Rust":
             words = ["--offline", "--locked", "-p", "kotskhin", "--test", test[0], "--", "--exact", test[1]]

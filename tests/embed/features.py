@@ -19,7 +19,7 @@ import exports
 
 PAGE, HEADING = TOP / "docs" / "EMBEDDING.md", "## What each language has"
 # Why a language has not what the last rows are of, as the page says it below the table. The cells of all others say yes.
-WHY_NOT = {"C": "C has none of the last six rows: OpenTelemetry has no API of C, and threads, timers and sockets are the host's there."}
+WHY_NOT = {"C": "C has none of the last seven rows: OpenTelemetry has no API of C, and threads, timers and sockets are the host's there."}
 # Of each language the files where it calls the library. C is the header itself.
 WRAPPERS = {"C++": "cpp/**/*.hpp", "Rust": "rust/kotskhin/src/**/*.rs", "Go": "go/**/*.go", "Python": "python/kotskhin/**/*.py"}
 # How a wrapper makes a call. In C++ and Rust comments are left out, and a name that is imported is used, or a compiler says so.
@@ -75,6 +75,7 @@ FEATURES = [
     ("a periodic reader", "", r"Periodic\w*Reader"),
     ("exports into files and by HTTP", "", r"(?s)File_?Exporter.*Http_?Exporter|Http_?Exporter.*File_?Exporter"),
     ("exports to the first of several that takes them", "", r"\bFirstOf\b"),
+    ("exports that fail by what an answer says was not taken", "", r"\bNotTaken(Error)?\b"),
 ]
 
 

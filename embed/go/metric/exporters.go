@@ -47,17 +47,25 @@ func FileExporter(path string) Exporter {
 }
 
 // HTTPExporter posts each export as a request of the OpenTelemetry protocol, to a URL that ends in /v1/metrics as a Collector has it. An
-// answer other than 2xx is a failure, a redirection too. Headers may be nil, and so may the client.
+// answer other than 2xx is a failure, a redirection too. One that says that points were not taken fails as a *NotTakenError. Headers may be
+// nil, and so may the client.
 func HTTPExporter(url string, headers http.Header, client *http.Client) Exporter {
-	return posting(url, OTLPType, kotskhin.Export.OTLP, headers, client)
+	return posting(url, form{OTLPType, kotskhin.Export.OTLP, pointsNotTaken}, headers, client)
 }
 
 // HTTPBytesExporter posts the kit's own bytes of each export, as HTTPExporter does.
 func HTTPBytesExporter(url string, headers http.Header, client *http.Client) Exporter {
-	return posting(url, BytesType, kotskhin.Export.Encode, headers, client)
+	return posting(url, form{BytesType, kotskhin.Export.Encode, exportsNotTaken}, headers, client)
 }
 
-func posting(url, kind string, bytesOf func(kotskhin.Export) ([]byte, error), headers http.Header, client *http.Client) Exporter {
+// A form of exports: its type, how one goes as bytes, and what the answer to it says was not taken.
+type form struct {
+	kind     string
+	bytesOf  func(kotskhin.Export) ([]byte, error)
+	notTaken func(answer []byte) *NotTakenError
+}
+
+func posting(url string, form form, headers http.Header, client *http.Client) Exporter {
 	if client == nil {
 		client = http.DefaultClient
 	}
@@ -65,7 +73,7 @@ func posting(url, kind string, bytesOf func(kotskhin.Export) ([]byte, error), he
 	straight := *client
 	straight.CheckRedirect = func(*http.Request, []*http.Request) error { return http.ErrUseLastResponse }
 	return ExporterFunc(func(ctx context.Context, export kotskhin.Export) error {
-		made, err := bytesOf(export)
+		made, err := form.bytesOf(export)
 		if err != nil {
 			return err
 		}
@@ -73,26 +81,16 @@ func posting(url, kind string, bytesOf func(kotskhin.Export) ([]byte, error), he
 		if err != nil {
 			return err
 		}
-		request.Header.Set("Content-Type", kind)
+		request.Header.Set("Content-Type", form.kind)
 		for key, values := range headers {
 			request.Header[key] = values
 		}
-		return posted(straight.Do(request))
+		answer, err := straight.Do(request)
+		if err != nil {
+			return err
+		}
+		return said(answer, form.notTaken)
 	})
-}
-
-func posted(answer *http.Response, err error) error {
-	if err != nil {
-		return err
-	}
-	defer answer.Body.Close()
-	if _, err := io.Copy(io.Discard, io.LimitReader(answer.Body, 1<<20)); err != nil {
-		return err
-	}
-	if answer.StatusCode/100 != 2 {
-		return fmt.Errorf("the answer is %s", answer.Status)
-	}
-	return nil
 }
 
 // TableExporter prints the tables of each export: one for each stream, below its scope, name and unit.

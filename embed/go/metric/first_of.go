@@ -10,8 +10,8 @@ import (
 )
 
 // FirstOf brings each export by one of several exporters, as to gateways of which any may take it: by the one that took the last one, and
-// where that fails by the next. It fails where all did. An export may come to more than one, which gateways do not mind. Where the context
-// has a deadline, each has its part of the time that is left.
+// where that fails by the next. It fails where all did, and at once by a *NotTakenError: others would say the same. An export may come to
+// more than one, which gateways do not mind. Where the context has a deadline, each has its part of the time that is left.
 func FirstOf(exporters ...Exporter) Exporter { return &firstOf{exporters: exporters} }
 
 type firstOf struct {
@@ -26,9 +26,9 @@ func (f *firstOf) Export(ctx context.Context, export kotskhin.Export) error {
 	for turn := range f.exporters {
 		number := (f.last + turn) % len(f.exporters)
 		err := inPart(ctx, len(f.exporters)-turn, func(ctx context.Context) error { return f.exporters[number].Export(ctx, export) })
-		if err == nil {
+		if err == nil || isNotTaken(err) {
 			f.last = number
-			return nil
+			return err
 		}
 		failed = append(failed, err)
 		if ctx.Err() != nil {

@@ -7,6 +7,7 @@
 #include <iterator>
 #include <kotskhin.hpp>
 #include <kotskhin/metrics.hpp>
+#include <sstream>
 #ifdef WITH_CURL
 #include <arpa/inet.h>
 #include <kotskhin/metrics/http.hpp>
@@ -247,6 +248,142 @@ static void the_next_exporter_where_one_fails() {
     CHECK(throws<std::invalid_argument>([] { FirstOf none({}); }));
 }
 
+// Bytes, of which some may be 0.
+template <size_t size>
+static std::string raw(const char (&text)[size]) {
+    return std::string(text, size - 1);
+}
+
+// An answer of OTLP: so many points were rejected, for a reason.
+static std::string partial(int points, const std::string &why) {
+    std::string inner = std::string("\x08") + static_cast<char>(points) + '\x12' + static_cast<char>(why.size()) + why;
+    return std::string("\x0a") + static_cast<char>(inner.size()) + inner;
+}
+
+static const std::string MOST(64 << 10, ' '), REJECTED = partial(3, "why"), ALL_ONES(9, '\xff');
+
+static void points_that_were_rejected_are_read() {
+    std::string wide(119, 'w');
+    struct Case {
+        std::string body;
+        uint64_t points;
+        std::string message;
+    };
+    // (fields that are not known, one that comes twice, and an answer whose length is a brace)
+    std::string others = std::string("\x12\x01").append("a\x1d").append("1234\x21").append("12345678\x28\x7f");
+    std::string inner = std::string("\x0a\x09\x0a\x01").append("a\x10\x07\x18\x07\x08\x03");
+    for (const Case &it : std::vector<Case>{{partial(3, "3 points: LATE"), 3, "3 points: LATE"},
+                                            {partial(3, ""), 3, ""},
+                                            {others + REJECTED, 3, "why"},
+                                            {inner, 3, ""},
+                                            {REJECTED + "\x0a\x02\x08\x05", 5, "why"},
+                                            {partial(3, wide), 3, wide}}) {
+        auto told = metrics::detail::not_taken(it.body);
+        CHECK(told && told->points == it.points && told->exports == 0 && told->message == it.message);
+    }
+}
+
+// Whether an answer fails nothing. (A copy of just its length is read, so that a sanitizer sees what is read behind it.)
+static bool says_nothing(const std::string &answer) {
+    std::vector<char> copy(answer.begin(), answer.end());
+    return !metrics::detail::not_taken({copy.data(), copy.size()});
+}
+
+static void other_answers_say_nothing() {
+    for (auto &it : {std::string(), partial(0, "a warning"), raw("\x0a\x00"), raw("\x00"), std::string("OK\n"), std::string("\x08\x05"),
+                     REJECTED + "\x0a", REJECTED + "\x0b", REJECTED + "\x12\x80\x80\x04" + MOST, "\x0a\x0b\x08" + ALL_ONES + "\x01",
+                     "\x0a\x0c\x08" + ALL_ONES + "\xff\xff", REJECTED + "\x12" + ALL_ONES + "\x01" + MOST.substr(100)}) {
+        CHECK(says_nothing(it));
+    }
+    for (size_t cut = 1; cut < REJECTED.size(); cut++) CHECK(says_nothing(REJECTED.substr(0, cut)));
+}
+
+// JSON that does not say that an export was late, or is none.
+static const char *const NOT_LATE = R"(
+{"exports":1,"points":3}
+{"late":0}
+{"late":-1}
+{"late":1.5}
+{"late":1e3}
+{"late":"1"}
+{"late":true}
+{"late":null}
+{"Late":1}
+{"of":{"late":1}}
+[{"late":1}]
+{"late":[1]}
+{"late":18446744073709551616}
+{"late":01}
+{"late":1
+{"late":
+{"late":1}}
+{"late":1,}
+{"late" 1}
+{late:1}
+{"a":[1 2],"late":1}
+{"a":tru,"late":1}
+{"a":"\x","late":1}
+{"a":"\u12","late":1}
+{"a":"	","late":1}
+{"a":-,"late":1}
+{"a":1.,"late":1}
+{"a":1e,"late":1}
+{"a":"\u
+{"\
+{"
+{
+null
+1
+)";
+
+static void exports_that_were_late_are_read() {
+    std::string whole = "{\"late\":1}", nested;
+    whole += MOST.substr(whole.size());
+    while (nested.size() + 5 < MOST.size()) nested += "{\"a\":";
+    for (auto &[body, exports] :
+         std::vector<std::pair<std::string, uint64_t>>{{"{\"exports\":1,\"points\":3,\"late\":1}\n", 1},
+                                                       {" { \"of\": {\"late\": 0, \"all\": [\"late\", {}, []]}, \"late\" : 12 } ", 12},
+                                                       {R"({"a":-0.5e+7,"b":"\\\"\u00e9","c":[true,false,null,1E2],"l\u0061te":3})", 3},
+                                                       {R"({"late":0,"late":18446744073709551615})", UINT64_MAX},
+                                                       {whole, 1}}) {
+        auto told = metrics::detail::not_taken(body);
+        CHECK(told && told->exports == exports && told->points == 0 && told->message.empty());
+    }
+    std::istringstream lines(NOT_LATE);
+    for (std::string it; std::getline(lines, it);) CHECK(says_nothing(it));
+    CHECK(says_nothing(whole + " ") && says_nothing(nested) && says_nothing(std::string(MOST.size(), '[')));
+}
+
+// An export of which something was not taken goes to no other gateway, and the one that said so is asked first the next time.
+static void what_was_not_taken_goes_to_nobody_else() {
+    std::vector<int> asked;
+    std::vector<std::unique_ptr<PushMetricExporter>> three;
+    for (int number : {1, 2, 3}) {
+        three.push_back(std::make_unique<FunctionExporter>([&asked, number](const Export &) {
+            asked.push_back(number);
+            if (number == 1) throw std::runtime_error("down");
+            if (number == 2) throw NotTaken(7, 0, "LATE");
+        }));
+    }
+    PeriodicExportingMetricReaderOptions options;
+    options.export_interval_millis = NEVER;
+    std::vector<std::string> told;
+    options.on_failed = [&](const ExportFailure &it) {
+        CHECK(it.not_taken && it.not_taken->points == 7 && it.not_taken->message == "LATE" && it.unsent && total(*it.unsent) == 7);
+        told.push_back(it.why);
+    };
+    MeterProvider provider;
+    provider.AddMetricReader(std::make_unique<PeriodicExportingMetricReader>(std::make_unique<FirstOf>(std::move(three)), options));
+    requests_of(provider)->Add(7);
+    CHECK(!provider.ForceFlush());
+    CHECK((asked == std::vector<int>{1, 2}));
+    CHECK(!provider.Shutdown());
+    CHECK((asked == std::vector<int>{1, 2, 2}) && provider.FailedCount() == 2);
+    CHECK(told == std::vector<std::string>(2, "7 points were not taken: LATE"));
+    CHECK(std::string(NotTaken(3).what()) == "3 points were not taken");
+    CHECK(std::string(NotTaken(0, 2).what()) == "2 exports came late, and were not taken");
+}
+
 #ifdef WITH_CURL
 // A server of so many requests, each answered with a line; it keeps what it heard.
 struct Server {
@@ -285,7 +422,12 @@ struct Server {
             if (head != std::string::npos && at != std::string::npos) length = std::stoul(request.substr(at + 16));
         }
         heard.push_back(request);
-        CHECK(write(one, answer.data(), answer.size()) == static_cast<ssize_t>(answer.size()));
+        for (size_t done = 0; done < answer.size();) {
+            ssize_t many = write(one, answer.data() + done, answer.size() - done);
+            CHECK(many > 0);
+            if (many <= 0) break;
+            done += static_cast<size_t>(many);
+        }
         close(one);
     }
 };
@@ -331,6 +473,38 @@ static void http_brings_an_export_and_tells_what_is_answered() {
     CHECK(throws<std::invalid_argument>([&] { HttpExporter("http://127.0.0.1", split); }));
 }
 
+static std::string with_length(const std::string &body) {
+    return "HTTP/1.1 200 OK\r\nContent-Length: " + std::to_string(body.size()) + "\r\nConnection: close\r\n\r\n" + body;
+}
+
+static void http_tells_what_was_not_taken() {
+    MeterProvider provider;
+    requests_of(provider)->Add(7);
+    Export given = provider.Collect();
+    std::string late = "{\"exports\":1,\"late\":1}", good = partial(3, "3 points: LATE"), whole = late + MOST.substr(late.size());
+    std::string chunked = "HTTP/1.1 200 OK\r\nTransfer-Encoding: chunked\r\nConnection: close\r\n\r\n5\r\n" + good.substr(0, 5) + "\r\n";
+    chunked += "f\r\n" + good.substr(5) + "\r\n0\r\n\r\n";
+    std::vector<std::string> fails = {with_length(good), chunked, with_length(late + "\n"), with_length(whole)};
+    std::vector<std::string> takes = {with_length(partial(0, "a warning")),
+                                      with_length("OK\n"),
+                                      with_length(good.substr(0, 9)),
+                                      with_length(whole + " "),
+                                      with_length(good + MOST),
+                                      with_length("")};
+    Server failing(fails), taking(takes);
+    HttpExporter exporter(failing.url), other(taking.url);
+    for (size_t turn = 0; turn < fails.size(); turn++) {
+        bool is_otlp = turn < 2;
+        try {
+            exporter.Export(given);
+            CHECK(!"it fails");
+        } catch (const NotTaken &why) {
+            CHECK(why.points == (is_otlp ? 3 : 0) && why.exports == (is_otlp ? 0 : 1) && why.message == (is_otlp ? "3 points: LATE" : ""));
+        }
+    }
+    for (size_t turn = 0; turn < takes.size(); turn++) other.Export(given);
+}
+
 static void http_waits_no_longer_than_it_says() {
     int listening = socket(AF_INET, SOCK_STREAM, 0);
     sockaddr_in address{};
@@ -363,8 +537,13 @@ int main() {
         {"a provider that is destroyed shuts down", a_provider_that_is_destroyed_shuts_down},
         {"a file has the newest export", a_file_has_the_newest_export},
         {"the next exporter where one fails", the_next_exporter_where_one_fails},
+        {"points that were rejected are read", points_that_were_rejected_are_read},
+        {"other answers say nothing", other_answers_say_nothing},
+        {"exports that were late are read", exports_that_were_late_are_read},
+        {"what was not taken goes to nobody else", what_was_not_taken_goes_to_nobody_else},
 #ifdef WITH_CURL
         {"http brings an export, and tells what is answered", http_brings_an_export_and_tells_what_is_answered},
+        {"http tells what was not taken", http_tells_what_was_not_taken},
         {"http waits no longer than it says", http_waits_no_longer_than_it_says},
 #endif
     });

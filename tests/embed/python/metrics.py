@@ -24,7 +24,7 @@ import kotskhin
 from kotskhin import Ask, Export, Gateway
 from kotskhin.metrics import (
     ConsoleMetricExporter, Counter, DropAggregation, ExplicitBucketHistogramAggregation, ExportFailed, FileExporter, Histogram,
-    FirstOf, HttpExporter, MeterProvider, PeriodicExportingMetricReader, ProviderStarted, Resource, SumAggregation, View,
+    FirstOf, HttpExporter, MeterProvider, NotTaken, PeriodicExportingMetricReader, ProviderStarted, Resource, SumAggregation, View,
 )
 
 SHOP = {"service.name": "shop"}
@@ -427,6 +427,111 @@ class Readers(unittest.TestCase):
         one = it.collect().head().time
         it._last_time = one + (1 << 50)
         self.assertEqual(it.collect().head().time, one + (1 << 50) + 1)
+
+
+@contextlib.contextmanager
+def answering(*answers):
+    """The URLs of servers, each of which answers by a status and a body, and how often each was asked."""
+    asked = [0] * len(answers)
+
+    def serve(number, status, body):
+        class Handler(http.server.BaseHTTPRequestHandler):
+            def do_POST(self):
+                self.rfile.read(int(self.headers["Content-Length"]))
+                asked[number] += 1
+                self.send_response(status)
+                self.end_headers()
+                # (who looks at no more may hang up)
+                with contextlib.suppress(OSError):
+                    self.wfile.write(body)
+
+            def log_message(self, *_):
+                pass
+
+        server = ends.enter_context(http.server.HTTPServer(("127.0.0.1", 0), Handler))
+        # (it is ended soon)
+        threading.Thread(target=server.serve_forever, args=(0.01,), daemon=True).start()
+        ends.callback(server.shutdown)
+        return f"http://127.0.0.1:{server.server_port}"
+
+    with contextlib.ExitStack() as ends:
+        yield [serve(number, *answer) for number, answer in enumerate(answers)], asked
+
+
+def partial(points, why):
+    """An answer of OTLP: so many points were rejected, for a reason."""
+    inner = bytes([8, points, 18, len(why)]) + why
+    return bytes([10, len(inner)]) + inner
+
+
+class Answers(unittest.TestCase):
+    """What answers of 2xx say was not taken."""
+
+    MOST = 64 << 10
+
+    def said(self, body, otlp, status=200):
+        """What an exporter makes of an answer: points, exports and a message that were not taken; nothing where it takes it as brought."""
+        counter = MeterProvider(SHOP, shutdown_on_exit=False)
+        counter.get_meter("app").create_counter("requests").add(7)
+        with answering((status, body)) as ((url,), asked), counter.collect() as export:
+            try:
+                HttpExporter(url, otlp=otlp).export(export, 60)
+            except NotTaken as why:
+                return why.points, why.exports, why.message
+            finally:
+                self.assertEqual(asked, [1])
+        return None
+
+    def test_points(self):
+        good = partial(3, b"why")
+        for body, wanted in (
+            (partial(3, b"3 points: LATE"), (3, 0, "3 points: LATE")), (partial(3, b""), (3, 0, "")),
+            (partial(3, b"\xff"), (3, 0, "\ufffd")),
+            # (fields that are not known, one that comes twice, and a number below 0)
+            (b"\x12\1a\x1d1234\x2112345678\x28\x7f" + good + b"\x12\0", (3, 0, "why")), (good + b"\n\2\x08\5", (5, 0, "why")),
+            (b"\n\x09\n\1a\x10\7\x18\7\x08\3", (3, 0, "")), (b"\n\x0b\x08" + b"\xff" * 9 + b"\1", None), (b"\x08\5", None),
+            (partial(0, b"a warning"), None), (b"", None), (b"\n\0", None), (b"OK\n", None), (b"{}", None), (b'{"late":1}', None),
+            (b"\0", None), (good + b"\n", None), (good + b"\x0b", None), (b"\n\x0c\x08" + b"\xff" * 11, None),
+            (good + b"\x12\x80\x80\4" + b"x" * self.MOST, None),
+        ):
+            with self.subTest(body[:40]):
+                self.assertEqual(self.said(body, True), wanted)
+        for cut in range(1, len(good)):
+            self.assertIsNone(self.said(good[:cut], True), cut)
+        with self.assertRaisesRegex(urllib.error.HTTPError, "503"):
+            self.said(good, True, 503)
+
+    def test_exports(self):
+        for body, wanted in (
+            (b'{"exports":1,"points":3,"late":1}\n', (0, 1, "")), (b' { "of": {"late": 0, "all": ["late"]}, "late" : 12 } ', (0, 12, "")),
+            (b'{"exports":1,"points":3}', None), (b'{"late":0}', None), (b'{"late":-1}', None), (b'{"of":{"late":1}}', None),
+            (b'[{"late":1}]', None), (b'{"late":"1"}', None), (b'{"late":true}', None), (b'{"Late":1}', None), (b'{"late":null}', None),
+            (b'{"late":1', None), (b'{"late":1}}', None), (b"", None), (b"null", None), (b"\xff\xfe", None), (partial(3, b"why"), None),
+            (b'{"late":1' + b"0" * 5000 + b"}", None), (b"[" * self.MOST, None),
+            (b'{"late":1}' + b" " * (self.MOST - 10), (0, 1, "")), (b'{"late":1}' + b" " * (self.MOST - 9), None),
+        ):
+            with self.subTest(body[:40]):
+                self.assertEqual(self.said(body, False), wanted)
+
+    def test_texts(self):
+        self.assertEqual(str(NotTaken(points=3, message="LATE")), "3 points were not taken: LATE")
+        self.assertEqual(str(NotTaken(points=3)), "3 points were not taken")
+        self.assertEqual(str(NotTaken(exports=2)), "2 exports came late, and were not taken")
+
+    def test_no_other_gateway_is_asked(self):
+        failed = []
+        with answering((503, b""), (200, b'{"late":1}'), (200, b"{}")) as (urls, asked):
+            told = reader(FirstOf(*(HttpExporter(it, otlp=False) for it in urls)), on_failed=failed.append)
+            it = provider(told)
+            it.get_meter("app").create_counter("requests").add(7)
+            for turn in (1, 2):
+                with self.assertRaisesRegex(ExportFailed, "NotTaken: 1 exports came late"):
+                    it.force_flush()
+                self.assertEqual(asked, [1, turn, 0])
+            with self.assertRaises(ExportFailed) as last:
+                it.shutdown()
+        self.assertEqual([(type(fault.why), fault.why.exports) for fault in failed], [(NotTaken, 1)] * 3)
+        self.assertEqual((told.failed, rows_of(last.exception.unsent, Ask.sum("app", "requests", ""))), (3, [({}, 7)]))
 
 
 class Exporters(unittest.TestCase):

@@ -1,6 +1,7 @@
 // What brings exports to where they are taken.
 #pragma once
 #include "kotskhin/gateway.hpp"
+#include "kotskhin/metrics/answers.hpp"
 #include <cerrno>
 #include <cstdio>
 #include <cstring>
@@ -41,7 +42,8 @@ public:
 };
 
 // Brings each export by one of several exporters, as to gateways of which any may take it: by the one that took the last one, and where
-// that fails by the next. It fails where all did. Each bounds the time of its own calls.
+// that fails by the next. It fails where all did, and at once by NotTaken: others would say the same. Each bounds the time of its own
+// calls.
 class FirstOf : public PushMetricExporter {
     std::vector<std::unique_ptr<PushMetricExporter>> exporters;
     size_t last = 0;
@@ -57,6 +59,9 @@ public:
                 exporters[at]->Export(given);
                 last = at;
                 return;
+            } catch (const NotTaken &) {
+                last = at;
+                throw;
             } catch (...) {
                 if (turn + 1 == exporters.size()) throw;
             }

@@ -8,7 +8,7 @@
 namespace kotskhin::metrics {
 
 // Sends each export as the body of a POST: a request of OTLP, as a Collector takes it at /v1/metrics. An answer other than 2xx is a
-// failure.
+// failure. One that says that some of the export was not taken fails as NotTaken.
 class HttpExporter : public PushMetricExporter {
 public:
     struct Options {
@@ -23,6 +23,7 @@ public:
 private:
     std::string url;
     Options options;
+    std::string answer;
     std::unique_ptr<CURL, void (*)(CURL *)> curl{nullptr, curl_easy_cleanup};
     std::unique_ptr<curl_slist, void (*)(curl_slist *)> headers{nullptr, curl_slist_free_all};
 
@@ -36,7 +37,16 @@ private:
         headers.release();
         headers.reset(longer);
     }
-    static size_t passed_over(char *, size_t size, size_t count, void *) { return size * count; }
+    // (of an answer that is longer than is looked at one byte more is kept, which says so)
+    static size_t kept(char *from, size_t size, size_t count, void *into) noexcept {
+        auto &answer = *static_cast<std::string *>(into);
+        try {
+            answer.append(from, std::min(size * count, detail::MOST_LOOKED_AT + 1 - answer.size()));
+        } catch (const std::bad_alloc &) {
+            return 0;
+        }
+        return size * count;
+    }
 
 public:
     explicit HttpExporter(std::string of) : HttpExporter(std::move(of), Options()) {}
@@ -59,17 +69,20 @@ public:
         set(curl_easy_setopt(curl.get(), CURLOPT_NOSIGNAL, 1L));
         set(curl_easy_setopt(curl.get(), CURLOPT_TIMEOUT_MS, static_cast<long>(options.timeout.count())));
         set(curl_easy_setopt(curl.get(), CURLOPT_HTTPHEADER, headers.get()));
-        set(curl_easy_setopt(curl.get(), CURLOPT_WRITEFUNCTION, &passed_over));
+        set(curl_easy_setopt(curl.get(), CURLOPT_WRITEFUNCTION, &kept));
+        set(curl_easy_setopt(curl.get(), CURLOPT_WRITEDATA, &answer));
     }
 
     void Export(const kotskhin::Export &given) override {
         std::vector<uint8_t> body = options.encode(given);
+        answer.clear();
         set(curl_easy_setopt(curl.get(), CURLOPT_POSTFIELDSIZE_LARGE, static_cast<curl_off_t>(body.size())));
         set(curl_easy_setopt(curl.get(), CURLOPT_POSTFIELDS, body.empty() ? "" : reinterpret_cast<const char *>(body.data())));
         set(curl_easy_perform(curl.get()));
         long answered = 0;
         set(curl_easy_getinfo(curl.get(), CURLINFO_RESPONSE_CODE, &answered));
         if (answered < 200 || answered > 299) throw std::runtime_error(url + " answered " + std::to_string(answered));
+        if (auto why = detail::not_taken(answer)) throw *why;
     }
 };
 

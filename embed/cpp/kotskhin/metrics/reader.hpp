@@ -14,6 +14,8 @@ namespace kotskhin::metrics {
 struct ExportFailure {
     std::string why;
     std::shared_ptr<const Export> unsent;
+    // What was not taken, where it was answered so.
+    std::optional<NotTaken> not_taken;
 };
 
 struct PeriodicExportingMetricReaderOptions {
@@ -36,13 +38,19 @@ inline Clock::time_point after(std::chrono::milliseconds wait) {
     return Clock::now() + std::min<std::chrono::milliseconds>(std::max(wait, Wait(0)), std::chrono::hours(8760));
 }
 
+// Why a call of the exporter's failed.
+struct Fault {
+    std::string why;
+    std::optional<NotTaken> not_taken;
+};
+
 // The thread that the exporter's calls are on, so that one that takes too long is told. The thread has its own hold of this.
 class Calls : public std::enable_shared_from_this<Calls> {
     std::mutex lock;
     std::condition_variable changed;
     std::unique_ptr<PushMetricExporter> exporter;
     std::function<void(PushMetricExporter &)> job;
-    std::optional<std::string> fault;
+    std::optional<Fault> fault;
     bool is_going = false, is_over = false;
     std::thread thread;
 
@@ -53,13 +61,15 @@ class Calls : public std::enable_shared_from_this<Calls> {
             if (is_over) return;
             auto call = std::exchange(job, nullptr);
             has.unlock();
-            std::optional<std::string> told;
+            std::optional<Fault> told;
             try {
                 call(*exporter);
+            } catch (const NotTaken &why) {
+                told = Fault{why.what(), why};
             } catch (const std::exception &why) {
-                told = why.what();
+                told = Fault{why.what(), {}};
             } catch (...) {
-                told = "the exporter failed";
+                told = Fault{"the exporter failed", {}};
             }
             has.lock();
             fault = std::move(told);
@@ -79,13 +89,14 @@ public:
         return changed.wait_until(has, after(wait), [&] { return !is_going; });
     }
     // Why a call failed, where it did.
-    std::optional<std::string> call(std::function<void(PushMetricExporter &)> what, Wait first, Wait timeout) {
-        if (!is_free(first)) return "an export that took too long goes on";
+    std::optional<Fault> call(std::function<void(PushMetricExporter &)> what, Wait first, Wait timeout) {
+        if (!is_free(first)) return Fault{"an export that took too long goes on", {}};
         std::unique_lock<std::mutex> has(lock);
         job = std::move(what);
         is_going = true;
         changed.notify_all();
-        if (!changed.wait_until(has, after(timeout), [&] { return !is_going; })) return "the exporter took longer than is allowed";
+        if (!changed.wait_until(has, after(timeout), [&] { return !is_going; }))
+            return Fault{"the exporter took longer than is allowed", {}};
         return fault;
     }
     // Ends the thread; one whose call goes on ends with that call.
@@ -130,10 +141,10 @@ class PeriodicExportingMetricReader {
         bool is_over = false;
         std::atomic<uint64_t> failed{0};
 
-        bool fails(std::string why, std::shared_ptr<const Export> unsent = nullptr) noexcept {
+        bool fails(detail::Fault fault, std::shared_ptr<const Export> unsent = nullptr) noexcept {
             failed.fetch_add(1, std::memory_order_relaxed);
             try {
-                if (options.on_failed) options.on_failed({std::move(why), std::move(unsent)});
+                if (options.on_failed) options.on_failed({std::move(fault.why), std::move(unsent), std::move(fault.not_taken)});
             } catch (...) {
             }
             return false;
@@ -145,15 +156,15 @@ class PeriodicExportingMetricReader {
         }
         // One collection, and its export: none before the provider starts, and none once it was shut down.
         bool push(Wait first) {
-            if (!calls->is_free(first)) return fails("an export that took too long goes on");
+            if (!calls->is_free(first)) return fails({"an export that took too long goes on", {}});
             std::shared_ptr<const Export> made;
             try {
                 made = std::make_shared<const Export>(shared->collect());
             } catch (const Refused &refused) {
                 if (refused.code == NOT_STARTED || refused.code == KIT_CLOSED) return true;
-                return fails(refused.what());
+                return fails({refused.what(), {}});
             } catch (const std::exception &why) {
-                return fails(why.what());
+                return fails({why.what(), {}});
             }
             return bring(made);
         }
@@ -233,7 +244,7 @@ class PeriodicExportingMetricReader {
             thread.join();
         } else {
             thread.detach();
-            state->fails("the exporter took longer than is allowed", last);
+            state->fails({"the exporter took longer than is allowed", {}}, last);
         }
         return is_good;
     }

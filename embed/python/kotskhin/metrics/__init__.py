@@ -8,6 +8,7 @@ Three things are other than there. Instruments are declared before the provider 
 are whole numbers of 64 bits. And of a scope its name alone is kept, of a resource `service.name` and `service.instance.id`.
 
 Recording raises nothing and waits for nobody. What is refused is counted (`refused`) and told to a hook (`on_refused`)."""
+from kotskhin.metrics.answers import NotTaken
 from kotskhin.metrics.exporters import ConsoleMetricExporter, ExportFailed, FileExporter, FirstOf, HttpExporter, MetricExporter
 from kotskhin.metrics.instruments import Counter, Gauge, Histogram, Instrument, Refusal, UpDownCounter
 from kotskhin.metrics.provider import Meter, MeterProvider, ProviderStarted, Resource
@@ -17,7 +18,8 @@ from kotskhin.metrics.views import (
 )
 
 __all__ = [
-    *("ConsoleMetricExporter", "ExportFailed", "FileExporter", "FirstOf", "HttpExporter", "MetricExporter", "Counter", "Gauge", "Histogram"),
-    *("Instrument", "Refusal", "UpDownCounter", "Meter", "MeterProvider", "ProviderStarted", "Resource", "PeriodicExportingMetricReader"),
-    *("DefaultAggregation", "DropAggregation", "ExplicitBucketHistogramAggregation", "LastValueAggregation", "SumAggregation", "View"),
+    *("ConsoleMetricExporter", "ExportFailed", "FileExporter", "FirstOf", "HttpExporter", "MetricExporter", "NotTaken", "Counter", "Gauge"),
+    *("Histogram", "Instrument", "Refusal", "UpDownCounter", "Meter", "MeterProvider", "ProviderStarted", "Resource"),
+    *("PeriodicExportingMetricReader", "DefaultAggregation", "DropAggregation", "ExplicitBucketHistogramAggregation"),
+    *("LastValueAggregation", "SumAggregation", "View"),
 ]

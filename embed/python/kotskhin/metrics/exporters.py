@@ -10,6 +10,7 @@ import urllib.request
 
 from kotskhin.export import Export
 from kotskhin.gateway import Ask, Gateway
+from kotskhin.metrics.answers import MOST, NotTaken, exports_not_taken, points_not_taken
 
 OTLP, OWN = "application/x-protobuf", "application/x-kotskhin"
 
@@ -78,7 +79,8 @@ _opener = urllib.request.build_opener(_Straight)
 
 class HttpExporter:
     """Posts each export: as a request of the OpenTelemetry protocol, to a URL that ends in /v1/metrics as a Collector has it; or as the
-    kit's own bytes, where `otlp` is false. An answer other than 2xx is a failure, a redirection too."""
+    kit's own bytes, where `otlp` is false. An answer other than 2xx is a failure, a redirection too. One that says that some of the export
+    was not taken is raised as a NotTaken."""
 
     def __init__(self, url: str, headers: typing.Mapping[str, str] | None = None, *, otlp: bool = True):
         self._url, self._otlp = url, otlp
@@ -89,15 +91,19 @@ class HttpExporter:
         request = urllib.request.Request(self._url, body, dict(self._headers), method="POST")
         try:
             with _opener.open(request, timeout=timeout) as answer:
-                answer.read()
+                told = answer.read(MOST + 1)
         except urllib.error.HTTPError as fault:
             fault.close()
             raise
+        of = points_not_taken if self._otlp else exports_not_taken
+        if len(told) <= MOST and (why := of(told)):
+            raise why
 
 
 class FirstOf:
     """Brings each export by one of several exporters, as to gateways of which any may take it: by the one that took the last one, and where
-    that fails by the next. It fails where all did. Each has its part of the time that is left."""
+    that fails by the next. It fails where all did, and at once by a NotTaken: others would say the same. Each has its part of the time that
+    is left."""
 
     def __init__(self, *exporters):
         self._exporters, self._last = exporters, 0
@@ -110,6 +116,9 @@ class FirstOf:
             at = (self._last + turn) % count
             try:
                 export_of(self._exporters[at])(export, max((end - time.monotonic()) / (count - turn), 0.001))
+            except NotTaken:
+                self._last = at
+                raise
             except Exception:
                 if turn == count - 1:
                     raise

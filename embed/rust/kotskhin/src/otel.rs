@@ -24,6 +24,8 @@
 //!   the streams have the limit of [`with_cardinality_limit`](MeterProviderBuilder::with_cardinality_limit).
 //! - **Values are whole numbers.** Choose the unit so that they are.
 
+mod answers;
+mod bodies;
 mod exporters;
 pub mod global;
 mod hashing;
@@ -36,6 +38,7 @@ mod resource;
 mod shared;
 mod views;
 
+pub use answers::NotTaken;
 pub use exporters::{ConsoleExporter, FileExporter, FirstOf, HttpExporter};
 pub use instruments::{
     Counter, Gauge, Histogram, HistogramBuilder, InstrumentBuilder, Meter, UpDownCounter,

@@ -1,4 +1,6 @@
 //! Exporters: tables, a file, and HTTP.
+use super::answers::{MOST, NotTaken, not_taken};
+use super::bodies::body_of;
 use crate::ask::Ask;
 use crate::export::Export;
 use crate::gateway::Gateway;
@@ -110,9 +112,11 @@ impl PushExporter for FileExporter {
 const DEFAULT_TIMEOUT: Duration = Duration::from_secs(10);
 /// The most that is read of an answer's first line.
 const LINE: usize = 1024;
+/// The most that is read of an answer, with its headers.
+const ANSWER: usize = 2 * MOST;
 
 /// Sends each export as the body of a POST, over plain HTTP/1.1, by a connection of its own: a request of OTLP, as a Collector takes it at
-/// `/v1/metrics`. An answer other than 2xx is a failure.
+/// `/v1/metrics`. An answer other than 2xx is a failure. One that says that some of the export was not taken fails as a [`NotTaken`].
 ///
 /// `https` is not spoken: a proxy on the same machine does that.
 ///
@@ -186,7 +190,7 @@ impl HttpExporter {
         })
     }
 
-    /// How long a request may take, from the look-up of the host to the answer's first line: 10 s where nothing is said. (The system bounds
+    /// How long a request may take, from the look-up of the host to the end of the answer: 10 s where nothing is said. (The system bounds
     /// the look-up itself.)
     pub fn with_timeout(mut self, timeout: Duration) -> HttpExporter {
         self.timeout = timeout;
@@ -250,27 +254,71 @@ impl HttpExporter {
         Err(fault)
     }
 
-    /// Sends a body, and answers the first line of the answer.
-    fn posted(&self, body: &[u8]) -> io::Result<String> {
+    /// Sends a body, and answers what is answered.
+    fn posted(&self, body: &[u8]) -> io::Result<Answer> {
         let until = Instant::now() + self.timeout.min(Duration::from_secs(1 << 30));
         let mut stream = self.connected(until)?;
         let head = self.head(body.len());
         for part in [head.as_bytes(), body] {
             sent(&mut stream, part, until)?;
         }
-        let mut line = Vec::new();
-        while !line.contains(&b'\n') && line.len() < LINE {
-            let mut piece = [0; 256];
-            stream.set_read_timeout(Some(left(until)?))?;
-            match stream.read(&mut piece) {
-                Ok(0) => return Err(ErrorKind::UnexpectedEof.into()),
-                Ok(many) => line.extend_from_slice(&piece[..many]),
-                Err(why) if why.kind() == ErrorKind::Interrupted => (),
-                Err(why) => return Err(timed(why)),
+        let mut told = Vec::new();
+        while !told.contains(&b'\n') && told.len() < LINE {
+            if !more(&mut stream, &mut told, until)? {
+                return Err(ErrorKind::UnexpectedEof.into());
             }
         }
-        let line = String::from_utf8_lossy(&line);
-        Ok(line.lines().next().unwrap_or_default().to_owned())
+        let line = String::from_utf8_lossy(&told);
+        let line = line.lines().next().unwrap_or_default().to_owned();
+        let mut words = line.split(' ');
+        let is_http = words.next().is_some_and(|it| it.starts_with("HTTP/1."));
+        let code = words.next().and_then(|it| it.parse::<u16>().ok());
+        let is_good = is_http && matches!(code, Some(200..300));
+        let body = match is_good {
+            true => read_body(&mut stream, told, until),
+            false => Vec::new(),
+        };
+        Ok(Answer {
+            line,
+            is_good,
+            body,
+        })
+    }
+}
+
+/// An answer: its first line, whether it is one of 2xx, and then its body.
+struct Answer {
+    line: String,
+    is_good: bool,
+    body: Vec<u8>,
+}
+
+/// The rest of an answer, up to the end of its body. (What was sent is taken: a body that does not come whole says nothing.)
+fn read_body(stream: &mut TcpStream, mut told: Vec<u8>, until: Instant) -> Vec<u8> {
+    while told.len() <= ANSWER {
+        if let Some(body) = body_of(&told, false) {
+            return body;
+        }
+        if !matches!(more(stream, &mut told, until), Ok(true)) {
+            return body_of(&told, true).unwrap_or_default();
+        }
+    }
+    Vec::new()
+}
+
+/// Reads on, and tells whether anything came before the end.
+fn more(stream: &mut TcpStream, told: &mut Vec<u8>, until: Instant) -> io::Result<bool> {
+    let mut piece = [0; 4096];
+    loop {
+        stream.set_read_timeout(Some(left(until)?))?;
+        match stream.read(&mut piece) {
+            Ok(many) => {
+                told.extend_from_slice(&piece[..many]);
+                return Ok(many > 0);
+            }
+            Err(why) if why.kind() == ErrorKind::Interrupted => (),
+            Err(why) => return Err(timed(why)),
+        }
     }
 }
 
@@ -307,19 +355,20 @@ fn timed(why: io::Error) -> io::Error {
 impl PushExporter for HttpExporter {
     fn export(&mut self, export: &Export) -> Result<(), ExportError> {
         let body = (self.encode)(export)?;
-        let line = self.posted(&body)?;
-        let mut words = line.split(' ');
-        let is_http = words.next().is_some_and(|it| it.starts_with("HTTP/1."));
-        let code = words.next().and_then(|it| it.parse::<u16>().ok());
-        match code {
-            Some(200..300) if is_http => Ok(()),
-            _ => Err(format!("{}:{} answered '{line}'", self.host, self.port).into()),
+        let answer = self.posted(&body)?;
+        if !answer.is_good {
+            return Err(format!("{}:{} answered '{}'", self.host, self.port, answer.line).into());
+        }
+        match not_taken(&answer.body) {
+            Some(why) => Err(why.into()),
+            None => Ok(()),
         }
     }
 }
 
 /// Brings each export by one of several exporters, as to gateways of which any may take it: by the one that took the last one, and where
-/// that fails by the next. It fails where all did. Each bounds the time of its own calls.
+/// that fails by the next. It fails where all did, and at once by a [`NotTaken`]: others would say the same. Each bounds the time of its
+/// own calls.
 ///
 /// ```
 /// use kotskhin::otel::{FirstOf, HttpExporter, PeriodicReader, PushExporter};
@@ -356,11 +405,11 @@ impl PushExporter for FirstOf {
         for turn in 0..count {
             let at = (self.last + turn) % count;
             match self.exporters[at].export(export) {
-                Ok(()) => {
+                Err(error) if !error.is::<NotTaken>() => failed = error,
+                answered => {
                     self.last = at;
-                    return Ok(());
+                    return answered;
                 }
-                Err(error) => failed = error,
             }
         }
         Err(failed)

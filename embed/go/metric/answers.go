@@ -1,0 +1,85 @@
+package metric
+
+import (
+	"encoding/json"
+	"errors"
+	"fmt"
+	"io"
+	"net/http"
+
+	"kotskhin/internal/otlp"
+)
+
+// NotTakenError says that an export was answered by 2xx, and that some of it was not taken all the same: as by a gateway that took its
+// writer for dead. Sent again it would be answered likewise, and so would the next one.
+type NotTakenError struct {
+	// How many points were not taken; or exports, where what was posted is the kit's own bytes. The other one is 0.
+	Points, Exports uint64
+	// What the answer says of it, where it says anything.
+	Message string
+}
+
+// Error says how much was not taken, and what the answer says of it.
+func (e *NotTakenError) Error() string {
+	if e.Exports > 0 {
+		return fmt.Sprintf("kotskhin: %d exports came late, and were not taken", e.Exports)
+	}
+	told := fmt.Sprintf("kotskhin: %d points were not taken", e.Points)
+	if e.Message != "" {
+		told += ": " + e.Message
+	}
+	return told
+}
+
+func isNotTaken(err error) bool {
+	var why *NotTakenError
+	return errors.As(err, &why)
+}
+
+// The most that is looked at of an answer, and the most that is read of it so that its connection can be used again.
+const (
+	mostLookedAt = 64 << 10
+	mostRead     = 1 << 20
+)
+
+// said is what an answer says. Other servers answer by 2xx what they like, so of that a body fails an export only where it surely says
+// that something was not taken.
+func said(answer *http.Response, notTaken func(body []byte) *NotTakenError) error {
+	defer answer.Body.Close()
+	body, err := io.ReadAll(io.LimitReader(answer.Body, mostLookedAt+1))
+	if err == nil {
+		_, err = io.Copy(io.Discard, io.LimitReader(answer.Body, mostRead))
+	}
+	if err != nil {
+		return err
+	}
+	if answer.StatusCode/100 != 2 {
+		return fmt.Errorf("the answer is %s", answer.Status)
+	}
+	if len(body) > mostLookedAt {
+		return nil
+	}
+	if why := notTaken(body); why != nil {
+		return why
+	}
+	return nil
+}
+
+// pointsNotTaken reads an answer to OTLP. One that rejects no point and has a message is a warning alone, as the protocol has it.
+func pointsNotTaken(body []byte) *NotTakenError {
+	points, why, err := otlp.Rejected(body)
+	if err != nil || points <= 0 {
+		return nil
+	}
+	return &NotTakenError{Points: uint64(points), Message: why}
+}
+
+// exportsNotTaken reads a gateway's answer to the kit's own bytes, an object of JSON.
+func exportsNotTaken(body []byte) *NotTakenError {
+	var told map[string]json.RawMessage
+	var late uint64
+	if json.Unmarshal(body, &told) != nil || json.Unmarshal(told["late"], &late) != nil || late == 0 {
+		return nil
+	}
+	return &NotTakenError{Exports: late}
+}

@@ -1,0 +1,149 @@
+package metric
+
+import (
+	"context"
+	"errors"
+	"fmt"
+	"net/http"
+	"net/http/httptest"
+	"strings"
+	"testing"
+
+	"kotskhin"
+)
+
+// answering is a server that answers by a status and a body, and what it was asked.
+func answering(t *testing.T, status int, body string) (url string, asked *int) {
+	t.Helper()
+	asked = new(int)
+	server := httptest.NewServer(http.HandlerFunc(func(w http.ResponseWriter, _ *http.Request) {
+		*asked++
+		w.WriteHeader(status)
+		w.Write([]byte(body))
+	}))
+	t.Cleanup(server.Close)
+	return server.URL, asked
+}
+
+// partial is an answer of OTLP: so many points were refused, for a reason.
+func partial(points byte, why string) string {
+	inner := "\x08" + string([]byte{points}) + "\x12" + string([]byte{byte(len(why))}) + why
+	return "\x0a" + string([]byte{byte(len(inner))}) + inner
+}
+
+// An answer to an export, and what it says was not taken; none where it fails nothing.
+type answerCase struct {
+	body   string
+	wanted *NotTakenError
+}
+
+func tryAnswers(t *testing.T, exporter func(string, http.Header, *http.Client) Exporter, cases []answerCase) {
+	t.Helper()
+	export := collected(t)
+	for _, it := range cases {
+		url, _ := answering(t, 200, it.body)
+		err := exporter(url, nil, nil).Export(context.Background(), export)
+		var why *NotTakenError
+		if errors.As(err, &why) != (it.wanted != nil) || it.wanted == nil && err != nil || it.wanted != nil && *why != *it.wanted {
+			t.Errorf("%.40q: %v, and not %v", it.body, err, it.wanted)
+		}
+	}
+}
+
+var long = strings.Repeat("x", mostLookedAt)
+
+// What an answer to OTLP says was rejected fails the export; any other body of 2xx fails nothing.
+func TestWhatOTLPSaysWasNotTaken(t *testing.T) {
+	good := partial(3, "why")
+	tryAnswers(t, HTTPExporter, []answerCase{
+		{partial(3, "3 points: LATE"), &NotTakenError{Points: 3, Message: "3 points: LATE"}},
+		{partial(3, ""), &NotTakenError{Points: 3}},
+		{good + "\x12\x08unknown!", &NotTakenError{Points: 3, Message: "why"}},
+		{partial(0, "a warning"), nil}, {"", nil}, {"OK\n", nil}, {"{}", nil}, {good[:7], nil}, {good + "\x0a", nil},
+		{`{"late":1}`, nil}, {good + "\x12\x80\x80\x04" + long, nil},
+	})
+	url, asked := answering(t, 503, good)
+	if err := HTTPExporter(url, nil, nil).Export(context.Background(), collected(t)); err == nil || isNotTaken(err) || *asked != 1 {
+		t.Fatal(err)
+	}
+}
+
+// So does what a gateway says of the kit's own bytes.
+func TestWhatAGatewaySaysIsLate(t *testing.T) {
+	tryAnswers(t, HTTPBytesExporter, []answerCase{
+		{`{"exports":1,"points":3,"late":1}` + "\n", &NotTakenError{Exports: 1}},
+		{` { "of": {"late": 0, "all": ["late", 2]}, "late" : 12 } `, &NotTakenError{Exports: 12}},
+		{`{"exports":1,"points":3}`, nil}, {`{"late":0}`, nil}, {`{"late":-1}`, nil}, {`{"of":{"late":1}}`, nil}, {`[{"late":1}]`, nil},
+		{`{"late":"1"}`, nil}, {`{"late":true}`, nil}, {`{"Late":1}`, nil}, {`{"late":null}`, nil}, {`{"late":1`, nil},
+		{`{"late":1}}`, nil}, {"", nil}, {"null", nil}, {partial(3, "why"), nil},
+		{`{"late":1,"x":"` + long + `"}`, nil}, {strings.Repeat("[", mostLookedAt), nil},
+	})
+}
+
+// A body that is as long as is looked at is read, and one that is longer is not.
+func TestTheMostThatIsLookedAt(t *testing.T) {
+	export := collected(t)
+	for _, more := range []int{0, 1} {
+		body := `{"late":1}` + strings.Repeat(" ", mostLookedAt-len(`{"late":1}`)+more)
+		url, _ := answering(t, 200, body)
+		if err := HTTPBytesExporter(url, nil, nil).Export(context.Background(), export); isNotTaken(err) != (more == 0) {
+			t.Fatal(more, err)
+		}
+	}
+}
+
+func TestWhatNotTakenSays(t *testing.T) {
+	for wanted, it := range map[string]*NotTakenError{
+		"kotskhin: 3 points were not taken: LATE":           {Points: 3, Message: "LATE"},
+		"kotskhin: 3 points were not taken":                 {Points: 3},
+		"kotskhin: 2 exports came late, and were not taken": {Exports: 2},
+	} {
+		if found := it.Error(); found != wanted {
+			t.Error(found)
+		}
+	}
+}
+
+// An export of which something was not taken goes to no other gateway, and the one that said so is asked first the next time.
+func TestWhatWasNotTakenGoesToNobodyElse(t *testing.T) {
+	export := collected(t)
+	down, first := answering(t, 503, "")
+	late, second := answering(t, 200, `{"exports":1,"points":1,"late":1}`)
+	takes, third := answering(t, 200, `{"exports":1,"points":1}`)
+	all := FirstOf(HTTPBytesExporter(down, nil, nil), HTTPBytesExporter(late, nil, nil), HTTPBytesExporter(takes, nil, nil))
+	for turn := 1; turn < 3; turn++ {
+		var why *NotTakenError
+		if err := all.Export(context.Background(), export); !errors.As(err, &why) || why.Exports != 1 {
+			t.Fatal(err)
+		}
+		if *first != 1 || *second != turn || *third != 0 {
+			t.Fatal(turn, *first, *second, *third)
+		}
+	}
+	// (an exporter of somebody's own may say more around it)
+	around := ExporterFunc(func(context.Context, kotskhin.Export) error { return fmt.Errorf("here: %w", &NotTakenError{Points: 1}) })
+	if err := FirstOf(around, HTTPBytesExporter(takes, nil, nil)).Export(context.Background(), export); !isNotTaken(err) || *third != 0 {
+		t.Fatal(err, *third)
+	}
+}
+
+// A reader counts it among what failed, and tells its hook.
+func TestAReaderTellsWhatWasNotTaken(t *testing.T) {
+	url, _ := answering(t, 200, partial(1, "LATE"))
+	var told []error
+	reader := NewPeriodicReader(HTTPExporter(url, nil, nil), WithOnFailed(func(err error) { told = append(told, err) }))
+	p, requests := counting(t, reader)
+	requests.Add(ctx, 7)
+	var why *NotTakenError
+	if err := p.ForceFlush(ctx); !errors.As(err, &why) || why.Points != 1 || why.Message != "LATE" {
+		t.Fatal(err)
+	}
+	var last *ExportError
+	if err := p.Shutdown(ctx); !errors.As(err, &last) || !isNotTaken(err) {
+		t.Fatal(err)
+	}
+	is(t, decoded(t, last.Unsent), "{} 7")
+	if len(told) != 2 || !isNotTaken(told[0]) || reader.Failed() != 2 {
+		t.Fatal(told)
+	}
+}

@@ -1,0 +1,50 @@
+//! The body of an answer by HTTP/1.1.
+use super::answers::MOST;
+
+/// Where some bytes stand first.
+fn place(bytes: &[u8], of: &[u8]) -> Option<usize> {
+    bytes.windows(of.len()).position(|it| it == of)
+}
+
+/// The body of an answer, as it came so far: nothing while more of it is to come. One that is longer than is looked at, or that is none, is
+/// empty.
+pub(super) fn body_of(answer: &[u8], is_over: bool) -> Option<Vec<u8>> {
+    let end = place(answer, b"\r\n\r\n")?;
+    let head = String::from_utf8_lossy(&answer[..end]).to_ascii_lowercase();
+    let header = |name: &str| {
+        let mut pairs = head.lines().skip(1).filter_map(|it| it.split_once(':'));
+        pairs.find(|(key, _)| *key == name).map(|(_, it)| it.trim())
+    };
+    let rest = &answer[end + 4..];
+    if header("transfer-encoding").is_some_and(|it| it.ends_with("chunked")) {
+        return unchunked(rest);
+    }
+    match header("content-length").and_then(|it| it.parse::<usize>().ok()) {
+        Some(length) if length > MOST => Some(Vec::new()),
+        Some(length) => rest.get(..length).map(<[u8]>::to_vec),
+        // (an answer that has none does not say its length)
+        None => {
+            let is_none = head.split(' ').nth(1) == Some("204");
+            (is_over || is_none).then(|| rest.to_vec())
+        }
+    }
+}
+
+/// A body that comes by chunks (RFC 9112, 7.1).
+fn unchunked(mut rest: &[u8]) -> Option<Vec<u8>> {
+    let mut body = Vec::new();
+    loop {
+        let end = place(rest, b"\r\n")?;
+        let line = String::from_utf8_lossy(&rest[..end]);
+        let size = line.split(';').next().unwrap_or_default().trim();
+        match usize::from_str_radix(size, 16) {
+            Ok(0) => return Some(body),
+            Ok(size) if size <= MOST - body.len() => {
+                let (chunk, after) = rest[end + 2..].split_at_checked(size)?;
+                body.extend_from_slice(chunk);
+                rest = after.strip_prefix(b"\r\n")?;
+            }
+            _ => return Some(Vec::new()),
+        }
+    }
+}
