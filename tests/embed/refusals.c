@@ -117,6 +117,9 @@ static int32_t planned_beside(const char *name, const char *unit, kit_view *view
     return code;
 }
 
+/* A code, or KIT_OK of the one that is wanted in the end, for EACH_GROWTH. */
+static int32_t ends_in(int32_t wanted, int32_t code) { return code == wanted ? KIT_OK : code; }
+
 /* The scope of tombstones is looked at last: all else that a plan is refused for comes before. */
 static void reserved(void) {
     kit_instruments near = KIT_EMPTY;
@@ -144,7 +147,10 @@ static void reserved(void) {
     CHECK(!kit_views_add(&none, &view) && !kit_views_add(&none, &view));
     CHECK(!kit_instruments_add(&near, TEXT("kotskhin.archive"), TEXT("fine"), TEXT("1"), KIT_COUNTER));
     CHECK(kit_plan_build(&plan, &near, &none, 1, &place, &second) == KIT_SAME_STREAM && place == 0 && second == 0);
-    kit_instruments_free(&near), kit_view_free(&view), kit_views_free(&none);
+    kit_view_free(&view), kit_views_free(&none);
+    place = 77;
+    EACH_GROWTH(ends_in(KIT_RESERVED_SCOPE, kit_plan_build(&plan, &near, &none, 1, &place, &second)), !plan.handle.full && place == 77);
+    kit_instruments_free(&near);
     /* Of a scope each letter counts. */
     CHECK(!kit_instruments_add(&near, TEXT("Kotskhin.archive"), TEXT("adopted"), TEXT("ns"), KIT_GAUGE));
     CHECK(!kit_instruments_add(&near, TEXT("kotskhin.archives"), TEXT("adopted"), TEXT("ns"), KIT_GAUGE));
