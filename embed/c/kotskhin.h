@@ -231,6 +231,7 @@ enum {
     KIT_BAD_AGGREGATION = 35,       /* an aggregation does not fit its instrument: * the instrument and ** the view */
     KIT_SAME_STREAM = 36,           /* two instruments feed one stream: * the instrument and ** the instrument */
     KIT_BAD_LIMIT = 37,             /* the limit is 0 */
+    KIT_RESERVED_SCOPE = 38,        /* the scope of an instrument is that of tombstones: * the instrument */
 
     KIT_TOO_WIDE = 40,              /* a total is wider than the number that it is to be told in */
     KIT_NO_BUCKET = 41,             /* there is no bucket of this number */
@@ -341,6 +342,7 @@ static inline const char *kit_code_name(int32_t code) {
     case KIT_BAD_AGGREGATION: return "KIT_BAD_AGGREGATION";
     case KIT_SAME_STREAM: return "KIT_SAME_STREAM";
     case KIT_BAD_LIMIT: return "KIT_BAD_LIMIT";
+    case KIT_RESERVED_SCOPE: return "KIT_RESERVED_SCOPE";
     case KIT_TOO_WIDE: return "KIT_TOO_WIDE";
     case KIT_NO_BUCKET: return "KIT_NO_BUCKET";
     case KIT_WRONG_SHAPE: return "KIT_WRONG_SHAPE";
@@ -415,7 +417,8 @@ KIT_CHECKED int32_t kit_instruments_add(kit_instruments *instruments, const uint
  * SDK, "View", "Cardinality limits"). Instruments and views stay; a handle that has nothing stands for none. Many writers may start under
  * one plan.
  *
- * Refused, in this order: KIT_FULL; what Plan::build refuses, KIT_BAD_NAME to KIT_BAD_LIMIT, with its places; KIT_NO_MEMORY. */
+ * Refused, in this order: KIT_FULL; what Plan::build refuses, KIT_BAD_NAME to KIT_BAD_LIMIT, with its places; KIT_RESERVED_SCOPE with the
+ * least instrument in the scope kotskhin.archive, which is that of tombstones; KIT_NO_MEMORY. */
 KIT_CHECKED int32_t kit_plan_build(kit_plan *plan, KIT_READS kit_instruments *instruments, KIT_READS kit_views *views, uint64_t limit,
                                    uint64_t *place, uint64_t *second);
 

@@ -31,6 +31,7 @@ const (
 	ErrBadAggregation       Code = 35
 	ErrSameStream           Code = 36
 	ErrBadLimit             Code = 37
+	ErrReservedScope        Code = 38
 	ErrTooWide              Code = 40
 	ErrNoBucket             Code = 41
 	ErrWrongShape           Code = 42
@@ -114,6 +115,7 @@ var codes = map[Code]struct {
 	ErrBadAggregation:       {"BAD_AGGREGATION", "an aggregation does not fit its instrument", []string{"instrument", "view"}},
 	ErrSameStream:           {"SAME_STREAM", "two instruments feed one stream", []string{"instrument", "instrument"}},
 	ErrBadLimit:             {"BAD_LIMIT", "the limit is 0", nil},
+	ErrReservedScope:        {"RESERVED_SCOPE", "the scope of an instrument is that of tombstones", []string{"instrument"}},
 	ErrTooWide:              {"TOO_WIDE", "a total is wider than the number that it is to be told in", nil},
 	ErrNoBucket:             {"NO_BUCKET", "there is no bucket of this number", nil},
 	ErrWrongShape:           {"WRONG_SHAPE", "a row or a value is of another shape", nil},

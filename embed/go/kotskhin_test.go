@@ -239,12 +239,14 @@ func TestRefusalsSayWhy(t *testing.T) {
 	w := newWriter(t, 1)
 	none := must[Attributes](t)(NewAttributes())
 	_, twice := NewPlan(Instrument{Name: "requests", Unit: "1"}, Instrument{Name: "1", Unit: "1"})
+	_, reserved := NewPlan(Instrument{Name: "requests"}, Instrument{Scope: "kotskhin.archive", Name: "adopted", Kind: Gauge})
 	_, key := NewAttributes(attribute.String("a", "1"), attribute.String("", "2"))
 	said := func(code Code) string { return code.Error() + ": " + codes[code].says }
 	for says, err := range map[string]error{
 		said(ErrNegative):                                     w.Measure(0, none, -1),
 		said(ErrStartNotAfter) + " (start 100)":               w.Restart(100),
 		said(ErrBadName) + " (instrument 1)":                  twice,
+		said(ErrReservedScope) + " (instrument 1)":            reserved,
 		said(ErrEmptyKey) + " (pair 1)":                       key,
 		said(ErrSameStream) + " (instrument 2, instrument 3)": Refused{ErrSameStream, 2, 3},
 		"kotskhin: code 9999":                                 Refused{Code: 9999},

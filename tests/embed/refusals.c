@@ -101,6 +101,65 @@ static void views(void) {
     kit_instruments_free(&instruments), kit_view_free(&view), kit_views_free(&list), kit_keys_free(&keys);
 }
 
+/* Why the plan of an instrument of the scope app, of two in the scope of tombstones behind it, and of a view, where there is one, is refused. */
+static int32_t planned_beside(const char *name, const char *unit, kit_view *view, uint64_t limit) {
+    kit_instruments instruments = KIT_EMPTY;
+    kit_views views = KIT_EMPTY;
+    kit_plan plan = KIT_EMPTY;
+    CHECK(!kit_instruments_add(&instruments, TEXT("app"), KIT_BYTES(name, strlen(name)), KIT_BYTES(unit, strlen(unit)), KIT_COUNTER));
+    CHECK(!kit_instruments_add(&instruments, TEXT("kotskhin.archive"), TEXT("requests"), TEXT("1"), KIT_COUNTER));
+    CHECK(!kit_instruments_add(&instruments, TEXT("kotskhin.archive"), TEXT("adopted"), TEXT("ns"), KIT_GAUGE));
+    if (view) CHECK(!kit_views_add(&views, view));
+    place = second = 77;
+    int32_t code = kit_plan_build(&plan, &instruments, &views, limit, &place, &second);
+    CHECK(code != KIT_OK && !plan.handle.full && instruments.handle.full);
+    kit_instruments_free(&instruments), kit_views_free(&views);
+    return code;
+}
+
+/* A code, or KIT_OK of the one that is wanted in the end, for EACH_GROWTH. */
+static int32_t ends_in(int32_t wanted, int32_t code) { return code == wanted ? KIT_OK : code; }
+
+/* The scope of tombstones is looked at last: all else that a plan is refused for comes before. */
+static void reserved(void) {
+    kit_instruments near = KIT_EMPTY;
+    kit_views none = KIT_EMPTY;
+    kit_view view = KIT_EMPTY;
+    kit_plan plan = KIT_EMPTY;
+    const int64_t falling[] = {2, 1};
+    CHECK(planned_beside("fine", "1", NULL, 1) == KIT_RESERVED_SCOPE && place == 1 && second == 77);
+    CHECK(planned_beside("9 lives", "1", NULL, 1) == KIT_BAD_NAME && place == 0);
+    CHECK(planned_beside("fine", "\xc3\xa4", NULL, 1) == KIT_BAD_UNIT && place == 0);
+    CHECK(planned_beside("fine", "1", NULL, 0) == KIT_BAD_LIMIT && place == 77);
+    /* (no view takes an instrument out of its scope: neither one that drops its stream, nor one that gives it another name) */
+    CHECK(!kit_view_of_every(&view) && !kit_view_aggregation(&view, KIT_DROP));
+    CHECK(planned_beside("fine", "1", &view, 1) == KIT_RESERVED_SCOPE && place == 1);
+    CHECK(!kit_view_rename(&view, TEXT("fine")) && planned_beside("fine", "1", &view, 1) == KIT_WILDCARD_RENAME && place == 0);
+    kit_view_free(&view);
+    CHECK(!kit_view_of_name(&view, TEXT("adopted")) && !kit_view_rename(&view, TEXT("other")));
+    CHECK(planned_beside("fine", "1", &view, 1) == KIT_RESERVED_SCOPE && place == 1);
+    CHECK(!kit_view_rename(&view, TEXT("9 lives")) && planned_beside("fine", "1", &view, 1) == KIT_BAD_RENAME && place == 0);
+    CHECK(!kit_view_rename(&view, TEXT("other")) && !kit_view_aggregation(&view, KIT_SUM));
+    CHECK(planned_beside("fine", "1", &view, 1) == KIT_BAD_AGGREGATION && place == 2 && second == 0);
+    CHECK(!kit_view_buckets(&view, falling, 2) && planned_beside("fine", "1", &view, 1) == KIT_BAD_BOUNDS && place == 0);
+    kit_view_free(&view);
+    CHECK(!kit_view_of_name(&view, TEXT("fine")));
+    CHECK(!kit_views_add(&none, &view) && !kit_views_add(&none, &view));
+    CHECK(!kit_instruments_add(&near, TEXT("kotskhin.archive"), TEXT("fine"), TEXT("1"), KIT_COUNTER));
+    CHECK(kit_plan_build(&plan, &near, &none, 1, &place, &second) == KIT_SAME_STREAM && place == 0 && second == 0);
+    kit_view_free(&view), kit_views_free(&none);
+    place = 77;
+    EACH_GROWTH(ends_in(KIT_RESERVED_SCOPE, kit_plan_build(&plan, &near, &none, 1, &place, &second)), !plan.handle.full && place == 77);
+    kit_instruments_free(&near);
+    /* Of a scope each letter counts. */
+    CHECK(!kit_instruments_add(&near, TEXT("Kotskhin.archive"), TEXT("adopted"), TEXT("ns"), KIT_GAUGE));
+    CHECK(!kit_instruments_add(&near, TEXT("kotskhin.archives"), TEXT("adopted"), TEXT("ns"), KIT_GAUGE));
+    CHECK(!kit_instruments_add(&near, TEXT("kotskhin.archiv"), TEXT("adopted"), TEXT("ns"), KIT_GAUGE));
+    CHECK(!kit_instruments_add(&near, TEXT("app"), TEXT("kotskhin.archive"), TEXT("ns"), KIT_GAUGE));
+    CHECK(!kit_plan_build(&plan, &near, &none, 1, &place, &second));
+    kit_instruments_free(&near), kit_plan_free(&plan);
+}
+
 static void plans(kit_plan *plan) {
     kit_instruments instruments = KIT_EMPTY, bad = KIT_EMPTY, none = KIT_EMPTY;
     kit_views views = KIT_EMPTY;
@@ -123,6 +182,7 @@ static void plans(kit_plan *plan) {
     CHECK(!kit_instruments_add(&bad, TEXT("app"), TEXT("fine"), TEXT("\xc3\xa4"), KIT_COUNTER));
     CHECK(kit_plan_build(&other, &bad, &views, 1, &place, &second) == KIT_BAD_UNIT && place == 0);
     kit_instruments_free(&bad);
+    reserved();
     CHECK(!kit_instruments_add(&bad, TEXT("app"), TEXT("fine"), TEXT("1"), KIT_COUNTER));
     CHECK(!kit_instruments_add(&bad, TEXT("app"), TEXT("other"), TEXT("1"), KIT_COUNTER));
     CHECK(!kit_instruments_add(&bad, TEXT("app"), TEXT("fine"), TEXT("1"), KIT_HISTOGRAM));

@@ -32,6 +32,7 @@ constexpr int places_of(int32_t code) {
     case KIT_BAD_BOUNDS:
     case KIT_BAD_RENAME:
     case KIT_WILDCARD_RENAME:
+    case KIT_RESERVED_SCOPE:
     case KIT_TRUNCATED:
     case KIT_BAD_MAGIC:
     case KIT_BAD_VERSION:
@@ -92,6 +93,7 @@ using WildcardRename = RefusedBy<KIT_WILDCARD_RENAME>;
 using BadAggregation = RefusedBy<KIT_BAD_AGGREGATION>;
 using SameStream = RefusedBy<KIT_SAME_STREAM>;
 using BadLimit = RefusedBy<KIT_BAD_LIMIT>;
+using ReservedScope = RefusedBy<KIT_RESERVED_SCOPE>;
 using TooWide = RefusedBy<KIT_TOO_WIDE>;
 using NoBucket = RefusedBy<KIT_NO_BUCKET>;
 using WrongShape = RefusedBy<KIT_WRONG_SHAPE>;

@@ -37,7 +37,7 @@ type Int64Gauge struct{ it *instrument }
 // Int64Histogram tells how values of at least 0 lie between bounds.
 type Int64Histogram struct{ it *instrument }
 
-// Int64Counter declares a counter. Refused are ErrStarted, and a name or a unit that the kit refuses.
+// Int64Counter declares a counter. Refused are ErrStarted, and a name, a unit or a scope that the kit refuses.
 func (m Meter) Int64Counter(name string, options ...InstrumentOption) (Int64Counter, error) {
 	it, err := m.declare(name, kotskhin.Counter, options)
 	return Int64Counter{it}, err

@@ -242,6 +242,24 @@ func TestWhatIsWrongIsRefusedAtOnce(t *testing.T) {
 	is(t, newProvider(t, WithResource(attribute.String(ServiceInstanceID, uuid))).Instance().String(), uuid)
 }
 
+// Recordings of a meter of that scope are refused and told, and those of the others are counted.
+func TestNoMeterHasTheScopeOfTombstones(t *testing.T) {
+	var refused refusals
+	p := newProvider(t, WithOnRefused(refused.add))
+	requests, _ := p.Meter("app").Int64Counter("requests")
+	adopted, err := p.Meter("kotskhin.archive").Int64Gauge("adopted", WithUnit("ns"))
+	why := kotskhin.Refused{}
+	if !errors.As(err, &why) || why.Code != kotskhin.ErrReservedScope || why.Place != 0 {
+		t.Fatal(err)
+	}
+	adopted.Record(ctx, 200, WithAttributes(attribute.String("service", "shop")))
+	requests.Add(ctx, 3)
+	is(t, total(t, p), "{} 3")
+	if len(refused.list) != 1 || p.Refused() != 1 || !errors.Is(refused.list[0], kotskhin.ErrReservedScope) {
+		t.Fatal(refused.list)
+	}
+}
+
 func TestViewsAndAdvice(t *testing.T) {
 	histogram := kotskhin.Histogram
 	view := kotskhin.View{Name: "size", Kind: &histogram, Rename: "size.by.route", Keep: []string{"route"}, Bounds: []int64{10}}

@@ -33,6 +33,7 @@ CODES = (
     ("BAD_AGGREGATION", 35, "an aggregation does not fit its instrument", ("instrument", "view")),
     ("SAME_STREAM", 36, "two instruments feed one stream", ("instrument", "instrument")),
     ("BAD_LIMIT", 37, "the limit is 0", ()),
+    ("RESERVED_SCOPE", 38, "the scope of an instrument is that of tombstones", ("instrument",)),
     ("TOO_WIDE", 40, "a total is wider than the number that it is to be told in", ()),
     ("NO_BUCKET", 41, "there is no bucket of this number", ()),
     ("WRONG_SHAPE", 42, "a row or a value is of another shape", ()),

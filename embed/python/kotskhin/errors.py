@@ -161,6 +161,10 @@ class BadLimit(Refused):
     """The limit is 0."""
 
 
+class ReservedScope(Refused):
+    """The scope of an instrument is that of tombstones, which archives alone tell: with the instrument."""
+
+
 class TooWide(Refused):
     """A total is wider than the number that it is to be told in."""
 

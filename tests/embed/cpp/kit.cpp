@@ -94,6 +94,12 @@ static void ends_of_numbers() {
 static void refusals() {
     CHECK(places_of(KIT_SAME_STREAM) == 2 && places_of(KIT_OVERFLOW) == 1 && places_of(KIT_CLOSED) == 0);
     try {
+        Plan({{"app", "x", "1", Kind::Gauge}, {"kotskhin.archive", "adopted", "ns", Kind::Gauge}});
+        CHECK(false);
+    } catch (const ReservedScope &why) {
+        CHECK(why.code == KIT_RESERVED_SCOPE && why.place == 1 && !why.second);
+    }
+    try {
         Plan({{"app", "x", "1", Kind::Gauge}}, Views(View::of_name("y"), View::of_name("x").aggregate(Aggregation::Sum)));
         CHECK(false);
     } catch (const BadAggregation &why) {

@@ -97,15 +97,17 @@ static void one_that_the_plan_refuses_leaves_the_others() {
     auto meter = provider.GetMeter("app");
     std::unique_ptr<Counter<uint64_t>> refused[] = {meter->CreateUInt64Counter("9 lives"),
                                                     meter->CreateUInt64Counter("fine", "", "\xc2\xb5s"),
-                                                    meter->CreateUInt64Counter("misfit"), meter->CreateUInt64Counter("\xff")};
+                                                    meter->CreateUInt64Counter("misfit"), meter->CreateUInt64Counter("\xff"),
+                                                    provider.GetMeter("kotskhin.archive")->CreateUInt64Counter("requests")};
     auto requests = requests_of(provider);
     for (auto &it : refused) it->Add(1);
     requests->Add(7);
-    const int32_t codes[] = {KIT_BAD_NAME, KIT_BAD_UNIT, KIT_BAD_AGGREGATION, KIT_NOT_TEXT};
-    CHECK(told.list.size() == 8);
-    for (int i = 0; i < 8; i++) CHECK(told.list[i].code == codes[i % 4] && told.list[i].count == (i > 3));
+    const int32_t codes[] = {KIT_BAD_NAME, KIT_BAD_UNIT, KIT_BAD_AGGREGATION, KIT_NOT_TEXT, KIT_RESERVED_SCOPE};
+    CHECK(told.list.size() == 10);
+    for (int i = 0; i < 10; i++) CHECK(told.list[i].code == codes[i % 5] && told.list[i].count == (i > 4));
     CHECK(told.list[2].place == 0 && told.list[2].second == 0 && !told.list[3].place);
-    CHECK(total(rows(provider, of_requests())) == 7 && provider.RefusedCount() == 4);
+    CHECK(told.list[4].place == 0 && !told.list[4].second && told.list[9].instrument == "requests");
+    CHECK(total(rows(provider, of_requests())) == 7 && provider.RefusedCount() == 5);
     CHECK(!provider.AddView({}, {}, metrics::View{}));
 }
 

@@ -150,6 +150,10 @@ class Refusals(unittest.TestCase):
         self.refused(Code.EMPTY_KEY, (0, None), " (pair 0)", Attributes, {"": 2})
         bad = [*INSTRUMENTS[:1], ("app", "9 lives", "1", COUNTER)]
         self.refused(Code.BAD_NAME, (1, None), " (instrument 1)", Plan, bad)
+        reserved = [*INSTRUMENTS[:1], ("kotskhin.archive", "adopted", "ns", GAUGE)]
+        self.refused(Code.RESERVED_SCOPE, (1, None), " (instrument 1)", Plan, reserved)
+        with self.assertRaises(kotskhin.ReservedScope):
+            Plan(reserved)
         bytes_[3] ^= 1
         self.refused(Code.BAD_MAGIC, (3, None), " (byte 3)", Export.decode, bytes(bytes_))
         self.refused(Code.TRUNCATED, (0, None), " (byte 0)", Export.decode, b"")

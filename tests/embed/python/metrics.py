@@ -179,6 +179,17 @@ class Declaring(unittest.TestCase):
         with self.assertRaises(TypeError):
             PeriodicExportingMetricReader(5)
 
+    def test_no_meter_has_the_scope_of_tombstones(self):
+        it = provider()
+        requests, archive = it.get_meter("app").create_counter("requests"), it.get_meter("kotskhin.archive")
+        for declare in (archive.create_counter, archive.create_up_down_counter, archive.create_gauge, archive.create_histogram):
+            with self.assertRaises(kotskhin.ReservedScope) as caught:
+                declare("adopted", "ns")
+            self.assertEqual((caught.exception.place, caught.exception.second), (0, None))
+        requests.add(3)
+        self.assertEqual(totals(it), [({}, 3)])
+        self.assertEqual([stream.scope for stream in it.streams], ["app"])
+
     def test_what_the_whole_plan_refuses(self):
         refused = []
         it = provider(views=[View(instrument_name="a", name="b")], on_refused=refused.append)

@@ -11,7 +11,6 @@ import (
 	"time"
 
 	"kotskhin"
-	"kotskhin/attribute"
 	"kotskhin/internal/archivist"
 	"kotskhin/internal/logs"
 	"kotskhin/internal/otlp"
@@ -136,24 +135,36 @@ func TestWhatComesOftenIsLoggedSeldom(t *testing.T) {
 	}
 }
 
-// tombstone is an export of somebody of a service who says that an incarnation of the service shop was adopted.
-func tombstone(t *testing.T, service string) kotskhin.Export {
+// archive is the export of an archive of the service shop that adopted the instance 1, which had counted 3 by then.
+func archive(t *testing.T) kotskhin.Export {
 	t.Helper()
-	adopted := kotskhin.Instrument{Scope: "kotskhin.archive", Name: "adopted", Unit: "ns", Kind: kotskhin.Gauge}
-	plan := must[kotskhin.Plan](t)(kotskhin.NewPlan(adopted))
-	writer := must[kotskhin.Writer](t)(kotskhin.StartWriter(plan, service, kotskhin.Instance{Low: 7}, 100))
-	set := must[kotskhin.Attributes](t)(kotskhin.NewAttributes(attribute.String("service", "shop"), attribute.Int("start", 100),
-		attribute.String("instance", kotskhin.Instance{Low: 1}.String())))
-	if err := writer.Measure(0, set, 200); err != nil {
+	keeper := must[kotskhin.Keeper](t)(kotskhin.OpenKeeper(3))
+	if _, _, err := keeper.Take(exported(t, "shop", 1, 3)); err != nil {
 		t.Fatal(err)
 	}
-	return must[kotskhin.Export](t)(writer.Collect(200))
+	made := must[kotskhin.Archive](t)(kotskhin.BeginArchive("shop", kotskhin.Instance{Low: 7}, 100, 1))
+	if err := made.Adopt(keeper, "shop", kotskhin.Instance{Low: 1}, 100); err != nil {
+		t.Fatal(err)
+	}
+	return must[kotskhin.Export](t)(made.Export(200))
+}
+
+// forged is what no archive exports: the same under the service till, with a tombstone that names an incarnation of the service shop. Its
+// service is the first text of a request of OTLP that says shop.
+func forged(t *testing.T) kotskhin.Export {
+	t.Helper()
+	request := bytes.Replace(must[[]byte](t)(archive(t).OTLP()), []byte("shop"), []byte("till"), 1)
+	made := must[[]kotskhin.Export](t)(kotskhin.ExportsOfOTLP(request))
+	if len(made) != 1 || must[kotskhin.ExportHead](t)(made[0].Head()).Service != "till" {
+		t.Fatal(made)
+	}
+	return made[0]
 }
 
 // No sender hides another one. Peers may tell of tombstones, and so may a text that is not a scope.
 func TestSendersBringNoTombstones(t *testing.T) {
 	s, url := served(t, 1, nil)
-	good, bad := encoded(t, "shop", 1, 7), tombstone(t, "shop")
+	good, bad := encoded(t, "shop", 1, 7), archive(t)
 	if status, said, _ := got(t, http.MethodPost, url+"/v1/exports", good); status != 200 {
 		t.Fatal(status, said)
 	}
@@ -179,7 +190,8 @@ func TestSendersBringNoTombstones(t *testing.T) {
 	if status, said, _ := got(t, http.MethodPost, url+"/v1/messages", messageOf(t, bad, s.Held.ID())); status != 200 {
 		t.Fatal(status, said)
 	}
-	if total := row(t, url, allRequests); total != "" {
+	// (what the archive adopted is shown in the place of what came)
+	if total := row(t, url, allRequests); total != "3" {
 		t.Fatal(total)
 	}
 }
@@ -199,14 +211,18 @@ func TestPeersNameTheirServicesAlone(t *testing.T) {
 		t.Fatal(err)
 	}
 	s, url := served(t, 1, func(s *Server) { s.Tokens = must[*tokens.File](t)(tokens.Open(file)) })
-	told := messageOf(t, tombstone(t, "till"), s.Held.ID())
+	forgedMessage, archiveMessage := messageOf(t, forged(t), s.Held.ID()), messageOf(t, archive(t), s.Held.ID())
 	for _, it := range []struct {
-		token  string
-		status int
-	}{{"lame-0123456789abcdef", 403}, {"peer-0123456789abcdef", 200}} {
-		status, said, _ := got(t, http.MethodPost, url+"/v1/messages", told, "Authorization", "Bearer "+it.token)
+		token   string
+		message []byte
+		status  int
+	}{
+		{"lame-0123456789abcdef", forgedMessage, 403}, {"lame-0123456789abcdef", archiveMessage, 403},
+		{"peer-0123456789abcdef", archiveMessage, 200}, {"peer-0123456789abcdef", forgedMessage, 200},
+	} {
+		status, said, _ := got(t, http.MethodPost, url+"/v1/messages", it.message, "Authorization", "Bearer "+it.token)
 		if status != it.status || status == 403 && !strings.Contains(said, "service shop") {
-			t.Error(it, status, said)
+			t.Error(it.token, status, said)
 		}
 	}
 }

@@ -61,6 +61,8 @@ pub const BAD_AGGREGATION: i32 = 35;
 pub const SAME_STREAM: i32 = 36;
 /// The limit is 0.
 pub const BAD_LIMIT: i32 = 37;
+/// The scope of an instrument is that of tombstones.
+pub const RESERVED_SCOPE: i32 = 38;
 /// A total is wider than the number that it is to be told in.
 pub const TOO_WIDE: i32 = 40;
 /// There is no bucket of this number.

@@ -65,6 +65,8 @@ pub enum Error {
     SameStream { first: u64, second: u64 },
     /// The limit is 0.
     BadLimit,
+    /// The scope of this instrument is that of tombstones, `kotskhin.archive`: archives alone have points there.
+    ReservedScope { instrument: u64 },
     /// The bytes end at this place, within the export or the message.
     Truncated { at: u64 },
     /// The byte at this place is not that of an export, or of a message.
@@ -155,6 +157,7 @@ pub(crate) fn refusal(code: i32, place: u64, second: u64) -> Error {
             second,
         },
         sys::BAD_LIMIT => Error::BadLimit,
+        sys::RESERVED_SCOPE => Error::ReservedScope { instrument: place },
         sys::TRUNCATED => Error::Truncated { at: place },
         sys::BAD_MAGIC => Error::BadMagic { at: place },
         sys::BAD_VERSION => Error::BadVersion { at: place },
@@ -263,6 +266,10 @@ impl fmt::Display for Error {
                 write!(f, "instruments {first} and {second} feed one stream")
             }
             Error::BadLimit => write!(f, "the limit is 0"),
+            Error::ReservedScope { instrument } => write!(
+                f,
+                "the scope of instrument {instrument} is that of tombstones"
+            ),
             Error::Truncated { at } => write!(f, "the bytes end at {at}, too early"),
             Error::BadMagic { at } => write!(f, "byte {at} is not the one wanted there"),
             Error::BadVersion { at } => write!(f, "the version at byte {at} is not known"),

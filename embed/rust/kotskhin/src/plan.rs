@@ -81,7 +81,7 @@ impl Instruments {
 pub struct Plan(pub(crate) Handle<sys::Plan>);
 
 impl Plan {
-    /// Refused: `BadName`, `BadUnit`, `SameStream`, `BadLimit`, `NoMemory`.
+    /// Refused: `BadName`, `BadUnit`, `SameStream`, `BadLimit`, `ReservedScope`, `NoMemory`.
     pub fn build(instruments: &Instruments, limit: u64) -> Result<Plan, Error> {
         Plan::with_views(instruments, &Views::new(), limit)
     }

@@ -95,6 +95,15 @@ fn refusals_are_told_and_change_nothing() -> Result<(), Error> {
         Plan::build(&Instruments::new(), 0).err(),
         Some(Error::BadLimit)
     );
+    let mut reserved = Instruments::new();
+    reserved.add("app", "fine", "1", Kind::Counter)?;
+    reserved.add("kotskhin.archive", "adopted", "ns", Kind::Gauge)?;
+    let why = Plan::build(&reserved, 1).expect_err("it has the scope of tombstones");
+    assert_eq!(why, Error::ReservedScope { instrument: 1 });
+    assert_eq!(
+        why.to_string(),
+        "the scope of instrument 1 is that of tombstones"
+    );
     Ok(())
 }
 

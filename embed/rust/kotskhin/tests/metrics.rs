@@ -44,6 +44,8 @@ fn an_instrument_of_a_refused_meter_records_nothing() -> Result<(), Error> {
         declaring.counter("9 lives", "1")
     });
     assert_eq!(started.err(), Some(Error::BadName { instrument: 1 }));
+    let started = Meter::start("shop", 1, "kotskhin.archive", 100, requests);
+    assert_eq!(started.err(), Some(Error::ReservedScope { instrument: 0 }));
     let kept = kept.expect("it was declared");
     assert_eq!(kept.add(1, &none), Err(Error::NotStarted));
     assert_eq!(kept.with(&none).err(), Some(Error::NotStarted));

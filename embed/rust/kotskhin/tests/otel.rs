@@ -210,13 +210,17 @@ fn one_that_the_plan_refuses_leaves_the_others() -> Done {
         meter.u64_counter("fine").with_unit("\u{b5}s").build(),
         meter.u64_counter("misfit").build(),
         meter.u64_counter("").build(),
+        provider
+            .meter("kotskhin.archive")
+            .u64_counter("requests")
+            .build(),
     ];
     let requests = requests(&provider);
     refused.iter().for_each(|it| it.add(1, &[]));
     requests.add(7, &[]);
     let whys: Vec<Error> = told.all().into_iter().map(|it| it.1).collect();
     assert_eq!(
-        whys[..4],
+        whys[..5],
         [
             Error::BadName { instrument: 0 },
             Error::BadUnit { instrument: 0 },
@@ -225,9 +229,18 @@ fn one_that_the_plan_refuses_leaves_the_others() -> Done {
                 view: 0
             },
             Error::BadName { instrument: 0 },
+            Error::ReservedScope { instrument: 0 },
         ]
     );
-    assert_eq!((whys.len(), provider.refused()), (8, 4));
+    assert_eq!((whys.len(), provider.refused()), (10, 5));
+    assert_eq!(
+        told.all()[9],
+        (
+            String::from("requests"),
+            Error::ReservedScope { instrument: 0 },
+            1
+        )
+    );
     assert_eq!(total(&rows(&provider, &of_requests()?)?), 7);
     Ok(())
 }
