@@ -4,6 +4,7 @@ pub mod Doubles
 pub mod Exact
 pub mod Fields
 pub mod Messages
+pub mod PairOrder
 pub mod Places
 pub mod Reading
 pub mod Refusals

@@ -32,10 +32,13 @@ mod histogram_point;
 mod key_value;
 mod laws;
 mod lists;
+#[cfg(test)]
+mod many_tests;
 mod message;
 mod metric;
 mod metrics;
 mod number_point;
+mod pair_order;
 mod placed;
 mod point_attributes;
 mod points;
