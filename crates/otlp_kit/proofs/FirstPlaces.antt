@@ -74,11 +74,14 @@ module _ (texts : List (List ℕ)) (i : ℕ) (text : List ℕ) (within : i < len
       all : (o : Option ℕ) → Some (unwrap_or o i) ≡ option_or o (Some i)
       all None = refl
       all (Some k) = refl
+
       nothing : (o : Option ℕ) → o ≡ option_or o None
       nothing None = refl
       nothing (Some k) = refl
+
       at : 0 + length (take i texts) ≡ i
       at = omega (arith, so_many)
+
       split : (b : Bool) → is_text text q ≡ b → cond b (Some first) was ≡ option_or (position_from (is_text q) 0 (take i texts)) (cond (is_text q text) (Some (0 + length (take i texts))) None)
       split true e =
           let same = same_text text q (text_cmp text q) refl e in
@@ -131,6 +134,7 @@ none_before p n (suc i) (t ∷ texts) e =
   where
     here : (n i : ℕ) → n ≡ n + suc i → ⊥
     here n i e = omega arith
+
     later : (n i : ℕ) → n + suc i ≡ n + 1 + i
     later n i = omega arith
 

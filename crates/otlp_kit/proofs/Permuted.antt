@@ -1,7 +1,8 @@
 -- Pairs of distinct keys, in another order: the same attributes.
-use Rattle.std.proofs.Common.{◌≡◌, ℕ, List, [], ◌∷◌, Bool, true, false, cond, Option, Some, None, IsTrue, nat_eq, fold, map, sym, ap, ◌∙◌, refl, subst}
+use Rattle.std.proofs.Common.{◌≡◌, ℕ, ◌+◌, ◌<◌, length, take, get_or, List, [], ◌∷◌, ◌++◌, Bool, true, false, cond, Option, Some, None, IsTrue, nat_eq, fold, map, sym, ap, ◌∙◌, refl, subst}
 use lib.Dec.{T}
 use Rattle.std.proofs.lemmas.Cmp.{nat_list_eq_equiv}
+use Rattle.std.proofs.lemmas.List.{map-append, take_more}
 use Rattle.std.proofs.lemmas.List.Sorted.{Contains-permutation, IsPermutation-map, IsPermutation-sym}
 use Rattle.std.proofs.lemmas.Map.Entries.{lookup_from_place, place_from_lookup}
 use Rattle.std.proofs.lemmas.Map.Keys.{IsDistinct-IsPermutation}
@@ -56,9 +57,9 @@ same_found key ps qs moved d e =
     elim (lookup (bytes_eq key) ps) as (λ o. lookup (bytes_eq key) ps ≡ o → o ≡ lookup (bytes_eq key) qs) [
       | Some v ↦ λ found. sym (found_again key v ps qs moved e found)
       | None ↦ λ none. elim (lookup (bytes_eq key) qs) as (λ o. lookup (bytes_eq key) qs ≡ o → None ≡ o) [
-          | None ↦ λ _. refl
-          | Some v ↦ λ found. sym none ∙ found_again key v qs ps (IsPermutation-sym ps qs moved) d found
-        ] refl
+        | None ↦ λ _. refl
+        | Some v ↦ λ found. sym none ∙ found_again key v qs ps (IsPermutation-sym ps qs moved) d found
+      ] refl
     ] refl
 
 sorted_after : (s ps : Pairs) → T (is_sorted text_cmp s) → T (is_sorted text_cmp (fold (λ s p. put text_cmp p.0 p.1 s) s ps))
@@ -75,3 +76,10 @@ attributes_moved ps qs moved distinct =
     let still : IsDistinct bytes_eq (keys_of qs) = IsDistinct-IsPermutation bytes_eq nat_list_eq_equiv.symm (keys_of ps) (keys_of qs) (IsPermutation-map (λ p. p.0) ps qs moved) distinct in
     same_entries text_cmp nat_list_cmp_total text_apart (attributes_of ps) (attributes_of qs) (sorted ps) (sorted qs)
     (λ key. value_of-attributes_of key ps ∙ last_is_first key ps distinct ∙ same_found key ps qs moved distinct still ∙ sym (last_is_first key qs still) ∙ sym (value_of-attributes_of key qs))
+
+-- one pair more
+pub keys_more : (ps new : Pairs) (p : List ℕ × AttrValue) (texts : List (List ℕ)) (i : ℕ) (t : List ℕ) → i < length texts → t ≡ get_or texts i t → p.0 ≡ t → new ≡ ps ++ p ∷ [] → map (λ p. p.0) ps ≡ take i texts → map (λ p. p.0) new ≡ take (i + 1) texts
+keys_more ps new p texts i t within stands at is so =
+    ap (map (λ p. p.0)) is ∙ map-append (λ p. p.0) ps (p ∷ [])
+    ∙ (λ j. so j ++ (at ∙ stands) j ∷ [])
+    ∙ sym (take_more texts i t within)

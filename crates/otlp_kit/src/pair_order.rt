@@ -75,25 +75,21 @@ fn longest_key(pairs: &[(Txt, AttrValue)]) -> usize {
         .unwrap_or(0)
 }
 
-/// The pairs in the order of their keys, which differ. A key is looked at eight bytes at a time, and no further than others
+/// Puts pairs in the order of their keys, which differ. A key is looked at eight bytes at a time, and no further than others
 /// are like it: O(n) in the bytes of the keys, but for the comparisons of numbers by which pairs are sorted.
-pub(crate) fn in_order(
-    alloc: Global,
-    pairs: Vec<(Txt, AttrValue)>,
-) -> Result<Vec<(Txt, AttrValue)>, NoMemory>
-    ensures { IfOk result (λ sorted. IsPermutation pairs.items sorted.items) }
+pub(crate) fn put_in_order(alloc: Global, pairs: &mut [(Txt, AttrValue)]) -> Result<(), NoMemory>
+    ensures { OnOk result (IsPermutation pairs.old pairs.new) }
 {
-    let mut sorted = pairs;
     let mut alike = Vec::new(alloc);
     alike.push(Alike {
         from: 0,
-        to: sorted.len(),
+        to: pairs.len(),
     })?;
-    for part in 0..longest_key(sorted.as_slice()) / PART + 1 {
+    for part in 0..longest_key(pairs) / PART + 1 {
         if alike.is_empty() {
             break;
         }
-        alike = parted(alloc, sorted.as_mut_slice(), alike.as_slice(), part * PART)?;
+        alike = parted(alloc, pairs, alike.as_slice(), part * PART)?;
     }
-    Ok(sorted)
+    Ok(())
 }

@@ -8,7 +8,7 @@ ghost use Rattle.otlp_kit.specs.Walks.{AreFirsts, StandsAt, first_place, walk};
 use crate::RequestFault;
 use crate::first_places::first_places;
 use crate::key_value::{AnyContent, AnyValue, KeyValue};
-use crate::pair_order::in_order;
+use crate::pair_order::put_in_order;
 use attr_kit::{AttrSet, AttrValue, NoMemory, Txt};
 use std::alloc::Global;
 
@@ -156,13 +156,17 @@ fn pairs_of(
 }
 
 // Many pairs in the order of their keys, and few as they are.
-fn ordered(alloc: Global, pairs: Vec<(Txt, AttrValue)>) -> Result<Vec<(Txt, AttrValue)>, NoMemory>
+fn ordered(
+    alloc: Global,
+    mut pairs: Vec<(Txt, AttrValue)>,
+) -> Result<Vec<(Txt, AttrValue)>, NoMemory>
     ensures { IfOk result (λ sorted. IsPermutation pairs.items sorted.items) }
 {
     if pairs.len() <= FEW {
         return Ok(pairs);
     }
-    in_order(alloc, pairs)
+    put_in_order(alloc, pairs.as_mut_slice())?;
+    Ok(pairs)
 }
 
 /// The attributes of a point as a set. O(n log n) comparisons of keys.

@@ -15,5 +15,5 @@ loop-place-preserved c =
     record {
       places = c.in_ok-push.ensures.items ∙ places_more texts c.loop-place.place c.unwrap_or-first.result text c.loop-place.places.items c.loop-place-test.true c.index-texts-place.is c.loop-place.invariant.places (first_found texts c.loop-place.place text c.loop-place-test.true c.index-texts-place.is c.unwrap_or-first.result first);
       seen = λ q. place_more texts c.loop-place.place text c.loop-place-test.true c.index-texts-place.is q.now c.unwrap_or-first.result (tree.get order c.loop-place.seen (text_hash q.now, q)) (tree.get order c.insert.new.self (text_hash q.now, q)) (c.loop-place.invariant.seen q) first
-        (c.in_ok-insert.ensures.updates.0 (text_hash q.now, q) ∙ ap (λ b. Rattle.std.specs.Prelude.cond b (Rattle.std.specs.Prelude.Some c.unwrap_or-first.result) (tree.get order c.loop-place.seen (text_hash q.now, q))) (ap (λ (n : ℕ). is_eq (order (n, lent) (text_hash q.now, q))) c.text_hash.ensures ∙ ties text q.now));
+          (c.in_ok-insert.ensures.updates.0 (text_hash q.now, q) ∙ ap (λ b. Rattle.std.specs.Prelude.cond b (Rattle.std.specs.Prelude.Some c.unwrap_or-first.result) (tree.get order c.loop-place.seen (text_hash q.now, q))) (ap (λ (n : ℕ). is_eq (order (n, lent) (text_hash q.now, q))) c.text_hash.ensures ∙ ties text q.now));
     }

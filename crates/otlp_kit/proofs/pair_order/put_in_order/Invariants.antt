@@ -1,10 +1,10 @@
 use Rattle.std.proofs.Common.{◌≡◌, length}
 use Rattle.std.specs.Prelude.{All, IsPermutation}
 use Rattle.otlp_kit.specs.PairOrder.{StandWithin}
-use Rattle.otlp_kit.proofs.pair_order.in_order.Given as goal
+use Rattle.otlp_kit.proofs.pair_order.put_in_order.Given as goal
 
 abbrev pub invariant-loop-part : goal.invariant-loop-part
 invariant-loop-part l = record {
-  moved : IsPermutation l.initial.sorted.items l.sorted.items;
-  alike : All (StandWithin (length l.sorted.items)) l.alike.items;
+  moved : IsPermutation l.initial.pairs l.pairs;
+  alike : All (StandWithin (length l.pairs)) l.alike.items;
 }
