@@ -1,4 +1,4 @@
-use Rattle.std.proofs.Common.{ℕ, List, Option, Bor, unwrap_or, sym, ap, ◌∙◌}
+use Rattle.std.proofs.Common.{ℕ, List, Option, Bor, unwrap_or, ap, ◌∙◌}
 use Rattle.std.specs.BTreeMap as tree
 use Rattle.std.specs.Ordering.{is_eq}
 use Rattle.otlp_kit.specs.Places.{text_hash}

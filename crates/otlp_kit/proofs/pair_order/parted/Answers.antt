@@ -1,4 +1,4 @@
-use Rattle.std.proofs.Common.{ℕ, ◌-◌, get_or, length, subst}
+use Rattle.std.proofs.Common.{ℕ, ◌-◌, get_or, subst}
 use Rattle.std.proofs.lemmas.List.Sorted.{IsPermutation-put_mid, IsPermutation-trans, length_permutation}
 use Rattle.std.specs.Prelude.{All}
 use Rattle.otlp_kit.specs.PairOrder.{StandWithin}

@@ -1,4 +1,4 @@
-use Rattle.std.proofs.Common.{◌≡◌, length}
+use Rattle.std.proofs.Common.{length}
 use Rattle.std.specs.Prelude.{All, IsPermutation}
 use Rattle.otlp_kit.specs.PairOrder.{StandWithin}
 use Rattle.otlp_kit.proofs.pair_order.put_in_order.Given as goal
