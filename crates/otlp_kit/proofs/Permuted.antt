@@ -2,7 +2,6 @@
 use Rattle.std.proofs.Common.{◌≡◌, ℕ, ◌+◌, ◌<◌, length, take, get_or, List, [], ◌∷◌, ◌++◌, true, false, cond, Option, Some, None, fold, map, sym, ap, ◌∙◌, refl}
 use lib.Dec.{T}
 use Rattle.std.proofs.lemmas.Cmp.{nat_list_eq_equiv}
-use Rattle.std.proofs.lemmas.List.{map-append, take_more}
 use Rattle.std.proofs.lemmas.List.Sorted.{Contains-permutation, IsPermutation-map, IsPermutation-sym}
 use Rattle.std.proofs.lemmas.Map.Entries.{lookup_from_place, place_from_lookup}
 use Rattle.std.proofs.lemmas.Map.Keys.{IsDistinct-IsPermutation}
@@ -75,10 +74,3 @@ attributes_moved ps qs moved distinct =
     let still : IsDistinct bytes_eq (keys_of qs) = IsDistinct-IsPermutation bytes_eq nat_list_eq_equiv.symm (keys_of ps) (keys_of qs) (IsPermutation-map (λ p. p.0) ps qs moved) distinct in
     same_entries text_cmp nat_list_cmp_total text_apart (attributes_of ps) (attributes_of qs) (sorted ps) (sorted qs)
     (λ key. value_of-attributes_of key ps ∙ last_is_first key ps distinct ∙ same_found key ps qs moved distinct still ∙ sym (last_is_first key qs still) ∙ sym (value_of-attributes_of key qs))
-
--- one pair more
-pub keys_more : (ps new : Pairs) (p : List ℕ × AttrValue) (texts : List (List ℕ)) (i : ℕ) (t : List ℕ) → i < length texts → t ≡ get_or texts i t → p.0 ≡ t → new ≡ ps ++ p ∷ [] → map (λ p. p.0) ps ≡ take i texts → map (λ p. p.0) new ≡ take (i + 1) texts
-keys_more ps new p texts i t within stands at is so =
-    ap (map (λ p. p.0)) is ∙ map-append (λ p. p.0) ps (p ∷ [])
-    ∙ (λ j. so j ++ (at ∙ stands) j ∷ [])
-    ∙ sym (take_more texts i t within)

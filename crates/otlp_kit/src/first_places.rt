@@ -1,6 +1,6 @@
 //! Where texts stand first.
 ghost use Rattle.std.specs.Prelude.{◌≡◌, IfOk, map};
-ghost use Rattle.otlp_kit.specs.Places.{text_hash};
+ghost use Rattle.otlp_kit.specs.Hashes.{text_hash};
 ghost use Rattle.otlp_kit.specs.Walks.{first_place};
 
 use attr_kit::{NoMemory, Txt};

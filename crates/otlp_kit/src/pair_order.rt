@@ -1,15 +1,16 @@
 //! Pairs in the order of their keys.
-ghost use Rattle.std.specs.Prelude.{◌≡◌, All, IfOk, IsPermutation, OnOk, length};
+ghost use Rattle.std.specs.Prelude.{◌≡◌, All, IsPermutation, OnOk, length};
 ghost use Rattle.otlp_kit.specs.PairOrder.{StandWithin};
 
 use attr_kit::{AttrValue, NoMemory, Txt};
 use std::alloc::Global;
 
-// Neighbours whose keys are alike up to some byte.
+// Neighbours whose keys have so many bytes alike.
 #[derive(Drop)]
 struct Alike {
     from: usize,
     to: usize,
+    bytes: usize,
 }
 
 // The bytes of a key that are compared at once.
@@ -25,11 +26,10 @@ fn part_at(key: &Txt, place: usize) -> (u64, usize) {
     (u64::from_be_bytes(part), count)
 }
 
-// Notes those of some neighbours whose keys are alike in the next part too.
+// Notes which of some neighbours are alike in the next part too. Where that is not a whole one their keys end, and are equal.
 fn add_alike(
     pairs: &[(Txt, AttrValue)],
     alike: &Alike,
-    place: usize,
     rest: &mut Vec<Alike>,
 ) -> Result<(), NoMemory>
     requires alike { StandWithin (length pairs.now) alike.now }
@@ -38,9 +38,11 @@ fn add_alike(
 {
     let mut from = alike.from;
     for to in alike.from + 1..alike.to + 1 {
-        if to == alike.to || part_at(&pairs[to].0, place) != part_at(&pairs[from].0, place) {
-            if to - from > 1 {
-                rest.push(Alike { from, to })?;
+        let part = part_at(&pairs[from].0, alike.bytes);
+        if to == alike.to || part_at(&pairs[to].0, alike.bytes) != part {
+            if to - from > 1 && part.1 == PART {
+                let bytes = alike.bytes.saturating_add(PART);
+                rest.push(Alike { from, to, bytes })?;
             }
             from = to;
         }
@@ -48,48 +50,24 @@ fn add_alike(
     Ok(())
 }
 
-// Puts neighbours in the order of the next part of their keys, and tells which are then still alike.
-fn parted(
-    alloc: Global,
-    pairs: &mut [(Txt, AttrValue)],
-    alike: &[Alike],
-    place: usize,
-) -> Result<Vec<Alike>, NoMemory>
-    requires { All (StandWithin (length pairs.old)) alike.now }
-    ensures pairs { OnOk result (IsPermutation pairs.old pairs.new) }
-    ensures rest { IfOk result (λ rest. All (StandWithin (length pairs.old)) rest.items) }
-{
-    let mut rest = Vec::new(alloc);
-    for one in alike {
-        pairs[one.from..one.to].sort_unstable_by_key(|pair| part_at(&pair.0, place));
-        add_alike(pairs, one, place, &mut rest)?;
-    }
-    Ok(rest)
-}
-
-fn longest_key(pairs: &[(Txt, AttrValue)]) -> usize {
-    pairs
-        .iter()
-        .map(|pair| pair.0.as_str().len())
-        .max()
-        .unwrap_or(0)
-}
-
-/// Puts pairs in the order of their keys, which differ. A key is looked at eight bytes at a time, and no further than others
-/// are like it: O(n) in the bytes of the keys, but for the comparisons of numbers by which pairs are sorted.
+/// Puts pairs in the order of their keys. A key is looked at eight bytes at a time, and no further than others are like it:
+/// O(n) in the bytes of the keys, but for the comparisons of numbers by which pairs are sorted.
 pub(crate) fn put_in_order(alloc: Global, pairs: &mut [(Txt, AttrValue)]) -> Result<(), NoMemory>
     ensures { OnOk result (IsPermutation pairs.old pairs.new) }
 {
-    let mut alike = Vec::new(alloc);
-    alike.push(Alike {
+    let mut rest = Vec::new(alloc);
+    rest.push(Alike {
         from: 0,
         to: pairs.len(),
+        bytes: 0,
     })?;
-    for part in 0..longest_key(pairs) / PART + 1 {
-        if alike.is_empty() {
+    // No memory has keys of so many parts.
+    for _ in 0..u64::MAX {
+        let Some(alike) = rest.pop() else {
             break;
-        }
-        alike = parted(alloc, pairs, alike.as_slice(), part * PART)?;
+        };
+        pairs[alike.from..alike.to].sort_unstable_by_key(|pair| part_at(&pair.0, alike.bytes));
+        add_alike(pairs, &alike, &mut rest)?;
     }
     Ok(())
 }

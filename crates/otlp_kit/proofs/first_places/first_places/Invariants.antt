@@ -4,7 +4,7 @@ use Rattle.std.specs.List.{position_from}
 use Rattle.std.specs.Ordering.{nat_cmp, ordering_then}
 use Rattle.std.specs.declared.cmp.Ordering.{Ordering}
 use Rattle.attr_kit.specs.Orders.{text_cmp}
-use Rattle.otlp_kit.specs.Places.{text_hash}
+use Rattle.otlp_kit.specs.Hashes.{text_hash}
 use Rattle.otlp_kit.specs.Walks.{first_place}
 use Rattle.otlp_kit.proofs.FirstPlaces.{is_text}
 use Rattle.otlp_kit.proofs.first_places.first_places.Given as goal

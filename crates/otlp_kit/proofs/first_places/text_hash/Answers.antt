@@ -1,5 +1,5 @@
 use Rattle.std.proofs.Common.{rules}
-use Rattle.otlp_kit.specs.Places.{text_hash}
+use Rattle.otlp_kit.specs.Hashes.{text_hash}
 use Rattle.otlp_kit.proofs.first_places.text_hash.Goals as goal
 
 pub returns : goal.returns

@@ -3,8 +3,8 @@ use Rattle.std.specs.Prelude.{All, IsPermutation}
 use Rattle.otlp_kit.specs.PairOrder.{StandWithin}
 use Rattle.otlp_kit.proofs.pair_order.put_in_order.Given as goal
 
-abbrev pub invariant-loop-part : goal.invariant-loop-part
-invariant-loop-part l = record {
+abbrev pub invariant-loop : goal.invariant-loop
+invariant-loop l = record {
   moved : IsPermutation l.initial.pairs l.pairs;
-  alike : All (StandWithin (length l.pairs)) l.alike.items;
+  rest : All (StandWithin (length l.pairs)) l.rest.items;
 }
