@@ -50,15 +50,10 @@ found_again key v ps qs moved distinct found =
     ap (λ k. lookup (bytes_eq k) qs) (exact_texts key at.1 at.3)
     ∙ lookup_from_place nat_list_eq_equiv qs there.0 at.1 v distinct (slice_get_read qs _ there.0 (at.1, v) refl there.1 (sym there.2))
 
-same_found : (key : List ℕ) (ps qs : Pairs) → IsPermutation ps qs → IsDistinct bytes_eq (keys_of ps) → IsDistinct bytes_eq (keys_of qs) → lookup (bytes_eq key) ps ≡ lookup (bytes_eq key) qs
-same_found key ps qs moved d e =
-    elim (lookup (bytes_eq key) ps) as (λ o. lookup (bytes_eq key) ps ≡ o → o ≡ lookup (bytes_eq key) qs) [
-      | Some v ↦ λ found. sym (found_again key v ps qs moved e found)
-      | None ↦ λ none. elim (lookup (bytes_eq key) qs) as (λ o. lookup (bytes_eq key) qs ≡ o → None ≡ o) [
-        | None ↦ λ _. refl
-        | Some v ↦ λ found. sym none ∙ found_again key v qs ps (IsPermutation-sym ps qs moved) d found
-      ] refl
-    ] refl
+same_option : {A : Type 0} (o p : Option A) → ((v : A) → o ≡ Some v → p ≡ Some v) → ((v : A) → p ≡ Some v → o ≡ Some v) → o ≡ p
+same_option None None f g = refl
+same_option None (Some v) f g = g v refl
+same_option (Some v) p f g = sym (f v refl)
 
 sorted_after : (s ps : Pairs) → T (is_sorted text_cmp s) → T (is_sorted text_cmp (fold (λ s p. put text_cmp p.0 p.1 s) s ps))
 sorted_after s [] h = h
@@ -73,4 +68,7 @@ pub attributes_moved : (ps qs : Pairs) → IsPermutation ps qs → IsDistinct by
 attributes_moved ps qs moved distinct =
     let still : IsDistinct bytes_eq (keys_of qs) = IsDistinct-IsPermutation bytes_eq nat_list_eq_equiv.symm (keys_of ps) (keys_of qs) (IsPermutation-map (λ p. p.0) ps qs moved) distinct in
     same_entries text_cmp nat_list_cmp_total text_apart (attributes_of ps) (attributes_of qs) (sorted ps) (sorted qs)
-    (λ key. value_of-attributes_of key ps ∙ last_is_first key ps distinct ∙ same_found key ps qs moved distinct still ∙ sym (last_is_first key qs still) ∙ sym (value_of-attributes_of key qs))
+    (λ key.
+    value_of-attributes_of key ps ∙ last_is_first key ps distinct
+    ∙ same_option (lookup (bytes_eq key) ps) (lookup (bytes_eq key) qs) (λ v. found_again key v ps qs moved still) (λ v. found_again key v qs ps (IsPermutation-sym ps qs moved) distinct)
+    ∙ sym (last_is_first key qs still) ∙ sym (value_of-attributes_of key qs))

@@ -169,7 +169,8 @@ fn ordered(
     Ok(pairs)
 }
 
-/// The attributes of a point as a set. O(n log n) comparisons of keys.
+/// The attributes of a point as a set. Each byte is looked at a bounded number of times: the keys of many are told apart by
+/// their hashes, and put in order eight bytes at a time.
 #[tactic(auto, unfolding(crate::specs::Reading::attributes))]
 pub(crate) fn attributes(
     alloc: Global,

@@ -1,4 +1,4 @@
-use Rattle.std.proofs.Common.{◌≡◌, ℕ, List, Option, Some, Bor, cond, unwrap_or, sym, ap, ◌∙◌, arith}
+use Rattle.std.proofs.Common.{◌≡◌, ℕ, List, Option, Some, Bor, cond, unwrap_or, ap, ◌∙◌, arith}
 use Rattle.std.proofs.lemmas.Grind.{common_steps}
 use Rattle.std.specs.BTreeMap as tree
 use Rattle.std.specs.Ordering.{is_eq}
@@ -20,7 +20,7 @@ loop-place-preserved c =
     record {
       places = grind (arith, common_steps, found);
       seen = λ q.
-        c.in_ok-insert.ensures.updates.0 (text_hash q.now, q)
-        ∙ (λ j. cond ((ap (λ (n : ℕ). is_eq (order (n, lent) (text_hash q.now, q))) c.text_hash.ensures ∙ ties text q.now) j) (Some (first j)) (c.loop-place.invariant.seen q j))
-        ∙ seen_more texts place text c.loop-place-test.true c.index-texts-place.is q.now;
+          c.in_ok-insert.ensures.updates.0 (text_hash q.now, q)
+          ∙ (λ j. cond ((ap (λ (n : ℕ). is_eq (order (n, lent) (text_hash q.now, q))) c.text_hash.ensures ∙ ties text q.now) j) (Some (first j)) (c.loop-place.invariant.seen q j))
+          ∙ seen_more texts place text c.loop-place-test.true c.index-texts-place.is q.now;
     }

@@ -1,9 +1,8 @@
-use Rattle.std.proofs.Common.{◌≡◌, ℕ, ◌-◌, ◌++◌, List, Option, Some, length, sym, subst}
+use Rattle.std.proofs.Common.{ℕ, ◌-◌, Some, length, sym, subst}
 use Rattle.std.proofs.lemmas.List.Elements.{All-pop}
 use Rattle.std.proofs.lemmas.List.Sorted.{IsPermutation-put_mid, IsPermutation-trans, length_permutation}
 use Rattle.std.specs.Prelude.{All}
 use Rattle.otlp_kit.specs.PairOrder.{StandWithin}
-use Rattle.otlp_kit.specs.declared.pair_order.Alike.{Alike}
 use Rattle.otlp_kit.proofs.pair_order.put_in_order.Goals as goal
 
 pub add_alike-requires-clause-alike : goal.add_alike-requires-clause-alike
