@@ -1,28 +1,107 @@
--- Where texts stand first, found from the last to the first.
-use Rattle.std.proofs.Common.{◌≡◌, ℕ, ◌+◌, ◌<◌, List, Option, Some, cond, length, drop, get_or, map, sym, ap, ◌∙◌}
-use Rattle.std.proofs.lemmas.Cmp.{eq_by_cmp_equiv}
-use Rattle.std.proofs.lemmas.List.{drop_more}
+-- Where texts stand first, and texts none of which stands twice.
+use Rattle.std.proofs.Common.{◌≡◌, ℕ, zero, suc, ◌+◌, ◌<◌, List, [], ◌∷◌, ◌++◌, ◌&&◌, ◌||◌, map, Bool, true, false, cond, Option, Some, None, length, take, drop, get_or, sym, ap, ◌∙◌, refl, subst, arith}
+use Rattle.std.proofs.lemmas.Cmp.{eq_by_cmp_equiv, nat_list_eq_equiv}
+use Rattle.std.proofs.lemmas.List.{length-take-le, map-append, take_more, take-append-drop}
+use Rattle.std.proofs.lemmas.Map.Keys.{IsDistinct-push}
 use Rattle.std.specs.Cmp.{IsEquivalence, nat_cmp_total}
-use Rattle.std.specs.Cmp.Lexicographic.{lists_total}
-use Rattle.std.specs.List.{position_from}
-use Rattle.std.specs.Ordering.{eq_by_cmp, is_eq}
-use Rattle.std.specs.BTreeMap.{BTreeMap}
-use Rattle.std.specs.Option.{unwrap_or}
+use Rattle.std.specs.Cmp.Lexicographic.{lists_total, texts_ties}
+use Rattle.std.specs.List.{IsDistinct, list_any, position_from, take-map}
+use Rattle.std.specs.Option.{option_or, unwrap_or}
+use Rattle.std.specs.Ordering.{eq_by_cmp, is_eq, nat_cmp, ordering_then}
+use Rattle.std.specs.declared.cmp.Ordering.{Ordering}
+use Rattle.std.specs.declared.cmp.Ordering.TheVariants.{Less, Equal, Greater}
+use Rattle.std.specs.Str.{bytes_eq}
+use Rattle.attr_kit.specs.Exact.{exact_texts}
 use Rattle.attr_kit.specs.Orders.{text_cmp}
-use Rattle.otlp_kit.specs.Places.{ArePlaces, place_in}
+use Rattle.otlp_kit.specs.Hashes.{text_hash}
 use Rattle.otlp_kit.specs.Walks.{first_place}
 
 text_equiv : IsEquivalence (eq_by_cmp text_cmp)
 text_equiv = eq_by_cmp_equiv (lists_total nat_cmp_total)
 
--- one text more, at the front
-pub place_back : (q : List ℕ) (texts : List (List ℕ)) (place i : ℕ) (d key : List ℕ) (was now : Option ℕ) → place ≡ i + 1 → i < length texts → key ≡ get_or texts i d → was ≡ position_from (λ t. is_eq (text_cmp q t)) place (drop place texts) → now ≡ cond (is_eq (text_cmp key q)) (Some i) was → now ≡ position_from (λ t. is_eq (text_cmp q t)) i (drop i texts)
-place_back q texts place i d key was now at h is w n =
-    n ∙ ap (λ (k : List ℕ). cond (is_eq (text_cmp k q)) (Some i) was) is
-    ∙ (λ j. cond (text_equiv.symm (get_or texts i d) q j) (Some i) (w j))
-    ∙ ap (λ (m : ℕ). cond (is_eq (text_cmp q (get_or texts i d))) (Some i) (position_from (λ t. is_eq (text_cmp q t)) m (drop m texts))) at
-    ∙ sym (ap (position_from (λ t. is_eq (text_cmp q t)) i) (drop_more texts i d h))
+-- the same text
+abbrev pub is_text : List ℕ → List ℕ → Bool
+is_text t u = is_eq (text_cmp t u)
 
--- what is found is the least place
-pub all_places : (seen : BTreeMap (List ℕ) ℕ) (texts : List (List ℕ)) → ArePlaces seen texts → map (place_in seen) texts ≡ map (first_place texts) texts
-all_places seen texts are = λ i. map (λ (t : List ℕ). unwrap_or (are t i) 0) texts
+same_text : (t u : List ℕ) → is_text t u ≡ true → t ≡ u
+same_text t u e = exact_texts t u (texts_ties t u ∙ e)
+
+position_append : {A : Type 0} (p : A → Bool) (n : ℕ) (xs ys : List A) → position_from p n (xs ++ ys) ≡ option_or (position_from p n xs) (position_from p (n + length xs) ys)
+position_append p n [] ys = ap (λ (m : ℕ). position_from p m ys) (let here : n ≡ n + 0 = omega arith in here)
+position_append p n (x ∷ xs) ys =
+    elim (p x) as (λ b. cond b (Some n) (position_from p (n + 1) (xs ++ ys)) ≡ option_or (cond b (Some n) (position_from p (n + 1) xs)) (position_from p (n + length (x ∷ xs)) ys)) [
+      | true ↦ refl
+      | false ↦ position_append p (n + 1) xs ys ∙ ap (λ (m : ℕ). option_or (position_from p (n + 1) xs) (position_from p m ys)) (let later : n + 1 + length xs ≡ n + suc (length xs) = omega arith in later)
+    ]
+
+kept : (o rest : Option ℕ) (i : ℕ) → unwrap_or o i ≡ unwrap_or (option_or (option_or o (Some i)) rest) 0
+kept None rest i = refl
+kept (Some k) rest i = refl
+
+merged : (tied : Bool) (was own : Option ℕ) (i : ℕ) → (tied ≡ true → own ≡ was) → cond tied (Some (unwrap_or own i)) was ≡ option_or was (cond tied (Some i) None)
+merged true None own i same = ap (λ (o : Option ℕ). Some (unwrap_or o i)) (same refl)
+merged true (Some k) own i same = ap (λ (o : Option ℕ). Some (unwrap_or o i)) (same refl)
+merged false None own i same = refl
+merged false (Some k) own i same = refl
+
+module _ (texts : List (List ℕ)) (i : ℕ) (text : List ℕ) (within : i < length texts) (stands : text ≡ get_or texts i text) where
+  -- where a text stands first among those before this one
+  abbrev before : List ℕ → Option ℕ
+  before q = position_from (is_text q) 0 (take i texts)
+
+  step : (q : List ℕ) → position_from (is_text q) 0 (take (i + 1) texts) ≡ option_or (before q) (cond (is_text q text) (Some i) None)
+  step q =
+      ap (position_from (is_text q) 0) (take_more texts i text within ∙ ap (λ (t : List ℕ). take i texts ++ t ∷ []) (sym stands))
+      ∙ position_append (is_text q) 0 (take i texts) (text ∷ [])
+      ∙ ap (λ (n : ℕ). option_or (before q) (cond (is_text q text) (Some n) None)) (let here : 0 + length (take i texts) ≡ i = omega (arith, length-take-le i texts (omega arith)) in here)
+
+  pub first_found : unwrap_or (before text) i ≡ first_place texts text
+  first_found =
+      let rest = position_from (is_text text) (0 + length (take (i + 1) texts)) (drop (i + 1) texts) in
+      kept (before text) rest i
+      ∙ ap (λ b. unwrap_or (option_or (option_or (before text) (cond b (Some i) None)) rest) 0) (sym (text_equiv.refl text))
+      ∙ ap (λ (o : Option ℕ). unwrap_or (option_or o rest) 0) (sym (step text))
+      ∙ ap (λ (o : Option ℕ). unwrap_or o 0) (sym (position_append (is_text text) 0 (take (i + 1) texts) (drop (i + 1) texts)))
+      ∙ ap (λ (l : List (List ℕ)). first_place l text) (take-append-drop (i + 1) texts)
+
+  pub seen_more : (q : List ℕ) → cond (is_text text q) (Some (unwrap_or (before text) i)) (before q) ≡ position_from (is_text q) 0 (take (i + 1) texts)
+  seen_more q =
+      merged (is_text text q) (before q) (before text) i (λ e. ap before (same_text text q e))
+      ∙ ap (λ b. option_or (before q) (cond b (Some i) None)) (text_equiv.symm text q)
+      ∙ sym (step q)
+
+both_equal : (a b : Ordering) → is_eq (ordering_then a b) ≡ (is_eq a && is_eq b)
+both_equal Less b = refl
+both_equal Equal b = refl
+both_equal Greater b = refl
+
+implied : (a b : Bool) → (b ≡ true → a ≡ true) → (a && b) ≡ b
+implied true b h = refl
+implied false true h = h refl
+implied false false h = refl
+
+-- texts tie with their hashes before them exactly where they are one
+pub ties : (t q : List ℕ) → is_eq (ordering_then (nat_cmp (text_hash t) (text_hash q)) (text_cmp t q)) ≡ is_text t q
+ties t q =
+    let same_hash = λ (e : is_text t q ≡ true). ap (λ (u : List ℕ). is_eq (nat_cmp (text_hash t) (text_hash u))) (sym (same_text t q e)) ∙ (eq_by_cmp_equiv nat_cmp_total).refl (text_hash t) in
+    both_equal (nat_cmp (text_hash t) (text_hash q)) (text_cmp t q) ∙ implied _ (is_text t q) same_hash
+
+none_before : (p : List ℕ → Bool) (n i : ℕ) (texts : List (List ℕ)) → position_from p n texts ≡ Some (n + i) → list_any p (take i texts) ≡ false
+none_before p n zero texts e = refl
+none_before p n (suc i) [] e = refl
+none_before p n (suc i) (t ∷ texts) e =
+    elim (p t) as (λ b. cond b (Some n) (position_from p (n + 1) texts) ≡ Some (n + suc i) → (b || list_any p (take i texts)) ≡ false) [
+      | true ↦ λ f. let far : n ≡ n + suc i = ap (λ (o : Option ℕ). unwrap_or o n) f in absurd (omega arith)
+      | false ↦ λ f. let later : n + suc i ≡ n + 1 + i = omega arith in none_before p (n + 1) i texts (f ∙ ap (λ (m : ℕ). Some m) later)
+    ] e
+
+nowhere : (t : List ℕ) (i : ℕ) (texts : List (List ℕ)) (o : Option ℕ) → position_from (is_text t) 0 texts ≡ o → unwrap_or o 0 ≡ i → list_any (is_text t) (take i texts) ≡ false
+nowhere t i texts None none at = ap (λ (n : ℕ). list_any (is_text t) (take n texts)) (sym at)
+nowhere t i texts (Some k) some at = let here : k ≡ 0 + i = omega arith in none_before (is_text t) 0 i texts (some ∙ ap (λ (n : ℕ). Some n) here)
+
+-- one more, whose text stands first where it stands
+pub distinct_more : {A : Type 0} (text_of : A → List ℕ) (given : List A) (i : ℕ) (a : A) → i < length given → a ≡ get_or given i a → first_place (map text_of given) (text_of a) ≡ i → IsDistinct bytes_eq (map text_of (take i given)) → IsDistinct bytes_eq (map text_of (take (i + 1) given))
+distinct_more text_of given i a within stands first distinct =
+    let new = (λ j. list_any (λ u. texts_ties (text_of a) u j) (sym (take-map text_of i given) j)) ∙ nowhere (text_of a) i (map text_of given) _ refl first in
+    let more = sym (map-append text_of (take i given) (a ∷ [])) ∙ ap (λ x. map text_of (take i given ++ x ∷ [])) stands ∙ ap (map text_of) (sym (take_more given i a within)) in
+    subst (IsDistinct bytes_eq) more (IsDistinct-push nat_list_eq_equiv (map text_of (take i given)) (text_of a) distinct new)

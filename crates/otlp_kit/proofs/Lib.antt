@@ -13,6 +13,7 @@ pub mod Instances
 pub mod Onward
 pub mod Packed
 pub mod Parting
+pub mod Permuted
 pub mod Pieces
 pub mod Refused
 pub mod Rising

@@ -3,8 +3,9 @@ pub mod Copies
 pub mod Doubles
 pub mod Exact
 pub mod Fields
+pub mod Hashes
 pub mod Messages
-pub mod Places
+pub mod PairOrder
 pub mod Reading
 pub mod Refusals
 pub mod Request

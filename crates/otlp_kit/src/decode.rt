@@ -118,9 +118,11 @@ fn exports_in(alloc: Global, request: &Request) -> Result<Vec<Export>, RequestFa
 /// request, what they say; of one message in the order of the variants. docs/INTEROP.md has the whole. `NoMemory` may come at
 /// any place of bytes that are not empty. A length is compared with the bytes that are left before it is used.
 ///
-/// Time is O(n log n) in the bytes. They are read once. The keys of a point, the scopes of a resource, its windows and the
-/// hashes of an export's points are sorted: O(n log n) comparisons, of which one takes no more steps than the text whose place
-/// is sought has bytes.
+/// Time is O(n) in the bytes, whatever they say: each byte is looked at a bounded number of times. The scopes of a resource and
+/// the keys of a point are told apart by their hashes (SipHash-1-3), and whole texts are compared only where these are equal;
+/// of at most 16 attributes each key is compared with those before it. More keys are put in order eight bytes at a time. What
+/// is sorted by comparing are numbers of 64 and 128 bits: these eight bytes, the hashes of an export's points, and the windows
+/// of a resource. That takes a few comparisons for each bit of them at most, however many they are.
 ///
 /// Memory is O(n). Each stream has copies of its scope's name, its name and its unit, and each export one of its service.
 /// Where two points of an export share a hash, the texts of each point's stream are hashed once more. A text of more than

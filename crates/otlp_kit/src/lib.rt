@@ -14,7 +14,8 @@
 //! Protocol Buffers), `Doubles` (whole numbers as binary64), `Runs` (neighbours that share a message), `Request` (each message
 //! and its fields, by the numbers that opentelemetry-proto gives them) and `Refusals`. Of reading: `Spans`, `Fields` and
 //! `Contents` (bytes, and the fields that they are), `Messages` (what the fields of each message say), `Exact` (whole numbers of
-//! doubles), `Walks` (lists that are gone through), `Places`, and `Reading` (the exports of a request, or its first refusal).
+//! doubles), `Walks` (lists that are gone through), `Hashes` and `PairOrder` (texts that are told apart and put in order), and
+//! `Reading` (the exports of a request, or its first refusal).
 //! `Sent` says which exports come back, by the law [`comes_back`].
 #![tactic(auto)]
 
@@ -32,10 +33,13 @@ mod histogram_point;
 mod key_value;
 mod laws;
 mod lists;
+#[cfg(test)]
+mod many_tests;
 mod message;
 mod metric;
 mod metrics;
 mod number_point;
+mod pair_order;
 mod placed;
 mod point_attributes;
 mod points;

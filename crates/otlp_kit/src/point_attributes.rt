@@ -1,6 +1,6 @@
 //! Attributes of a point.
-ghost use Rattle.std.specs.Prelude.{◌≡◌, ◌≢◌, ◌==◌, ◌++◌, [], ◌∷◌, not, map, Ok, Err, IfOk, IfErr, OnOk};
-ghost use Rattle.std.specs.List.{position};
+ghost use Rattle.std.specs.Prelude.{◌≡◌, ◌≢◌, ◌==◌, ◌++◌, [], ◌∷◌, not, map, Ok, Err, IfOk, IfErr, OnOk, IsPermutation};
+ghost use Rattle.std.specs.List.{IsDistinct, position};
 ghost use Rattle.std.specs.Str.{bytes_eq};
 ghost use Rattle.otlp_kit.specs.Reading.{value_of, content_value, key_of, attribute, attributes, add_attribute};
 ghost use Rattle.otlp_kit.specs.Walks.{AreFirsts, StandsAt, first_place, walk};
@@ -8,6 +8,7 @@ ghost use Rattle.otlp_kit.specs.Walks.{AreFirsts, StandsAt, first_place, walk};
 use crate::RequestFault;
 use crate::first_places::first_places;
 use crate::key_value::{AnyContent, AnyValue, KeyValue};
+use crate::pair_order::put_in_order;
 use attr_kit::{AttrSet, AttrValue, NoMemory, Txt};
 use std::alloc::Global;
 
@@ -66,6 +67,8 @@ fn attribute(
     ensures ok { IfOk result (λ pair. attribute point (not (first == place)) given.now ≡ Ok pair) }
     ensures err { IfErr result (λ f. f ≢ RequestFault.NoMemory
         → attribute point (not (first == place)) given.now ≡ Err f) }
+    ensures key { IfOk result (λ pair. pair.0 ≡ key_of given.now) }
+    ensures first { OnOk result (first ≡ place) }
 {
     let key = key_of(given);
     if key.is_empty() {
@@ -140,6 +143,7 @@ fn pairs_of(
     ensures ok { IfOk result (λ pairs. walk (add_attribute point given.now) [] given.now ≡ Ok pairs.items) }
     ensures err { IfErr result (λ f. f ≢ RequestFault.NoMemory
         → walk (add_attribute point given.now) [] given.now ≡ Err f) }
+    ensures distinct { IfOk result (λ pairs. IsDistinct bytes_eq (map (λ p. p.0) pairs.items)) }
 {
     let firsts = firsts_of(alloc, given)?;
     let mut pairs = Vec::with_capacity(alloc, given.len())?;
@@ -151,7 +155,22 @@ fn pairs_of(
     Ok(pairs)
 }
 
-/// The attributes of a point as a set. O(n log n) comparisons of keys.
+// Many pairs in the order of their keys, and few as they are.
+fn ordered(
+    alloc: Global,
+    mut pairs: Vec<(Txt, AttrValue)>,
+) -> Result<Vec<(Txt, AttrValue)>, NoMemory>
+    ensures { IfOk result (λ sorted. IsPermutation pairs.items sorted.items) }
+{
+    if pairs.len() <= FEW {
+        return Ok(pairs);
+    }
+    put_in_order(alloc, pairs.as_mut_slice())?;
+    Ok(pairs)
+}
+
+/// The attributes of a point as a set. Each byte is looked at a bounded number of times: the keys of many are told apart by
+/// their hashes, and put in order eight bytes at a time.
 #[tactic(auto, unfolding(crate::specs::Reading::attributes))]
 pub(crate) fn attributes(
     alloc: Global,
@@ -161,7 +180,7 @@ pub(crate) fn attributes(
     ensures ok { IfOk result (λ set. attributes point given.now ≡ Ok set) }
     ensures err { IfErr result (λ f. f ≢ RequestFault.NoMemory → attributes point given.now ≡ Err f) }
 {
-    let pairs = pairs_of(alloc, point, given)?;
+    let pairs = ordered(alloc, pairs_of(alloc, point, given)?)?;
     match AttrSet::from_pairs(pairs) {
         Ok(set) => Ok(set),
         // No key is empty: only memory can be refused.

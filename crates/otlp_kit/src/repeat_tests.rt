@@ -88,7 +88,12 @@ fn data_of(alloc: Global, kind: u64, points: &[u8]) -> Result<Vec<u8>, Fail> {
 }
 
 // A scope of one metric with these points.
-fn metric_of(alloc: Global, sizes: [usize; 3], kind: u64, points: &[u8]) -> Result<Vec<u8>, Fail> {
+pub(crate) fn metric_of(
+    alloc: Global,
+    sizes: [usize; 3],
+    kind: u64,
+    points: &[u8],
+) -> Result<Vec<u8>, Fail> {
     let [scope, name, unit_size] = sizes;
     let mut bytes = text(alloc, name)?;
     bytes.extend_from_slice(unit(alloc, unit_size)?.as_slice())?;
