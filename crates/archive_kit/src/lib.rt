@@ -19,7 +19,8 @@
 //!
 //! What contracts cite stands in `specs/`: `Archive` (what contracts see of one, its refusals and exports), `Totals`, `Adding` and
 //! `Telling` (what is added up), `Driving` (what calls make of one), `Keeping` and `Named` (what a keeper holds and answers),
-//! `Planning` (which plans lie beside archives), `Tombstones`, `Showing` and `Stories` (what is shown), `Adopting`, `Archived` and `Written` (what counts).
+//! `Planning` (which plans lie beside archives), `Tombstones`, `Showing` and `Stories` (what is shown), `Adopting`, `Archived` and
+//! `Written` (what counts).
 #![tactic(auto)]
 
 mod adding;
