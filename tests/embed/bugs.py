@@ -64,7 +64,7 @@ BUGS = [
     Bug("Python", "recorders run one after another under one lock", "python/kotskhin/library.py",
         "    if not has_own_lock:\n", "    if True:\n", AT_ONCE, "a recorder waits for another thread's call"),
     Bug("Python", "an answer that says that points were not taken is a success", "python/kotskhin/metrics/exporters.py",
-        "if len(told) <= MOST and (why := of(told)):", "if why := None:", ("metrics", "Answers.test_points"),
+        "if why := points_not_taken(told) or exports_not_taken(late):", "if why := None:", ("metrics", "Answers.test_points"),
         "AssertionError: None != (3, 0, '3 points: LATE')"),
     Bug("Go", "an attribute without a value is dropped", "go/attributes.go",
         "\t\treturn ErrInvalidValue\n", "\t\treturn nil\n", ("TestAnAttributeWantsAValue",), "--- FAIL: TestAnAttributeWantsAValue"),
@@ -78,7 +78,7 @@ BUGS = [
     Bug("Go", "memory of C is left to finalizers", "go/kotskhin.go",
         "\th.free()\n\truntime.SetFinalizer(h, nil)\n", "", ("TestWhatIsClosedIsGivenUpAtOnce",), "the process grew by "),
     Bug("Go", "an answer that says that points were not taken is a success", "go/metric/answers.go",
-        "why := notTaken(body);", "why := notTaken(nil);", ("TestWhatOTLPSaysWasNotTaken", "./metric"),
+        "why := pointsNotTaken(body);", "why := pointsNotTaken(body[:0]);", ("TestWhatOTLPSaysWasNotTaken", "./metric"),
         "--- FAIL: TestWhatOTLPSaysWasNotTaken"),
     Bug("C++", "there are no views", "cpp/kotskhin/plan.hpp",
         "void add(const View &view) { checked(kit_views_add(handle.at(), view.raw().lent().at())); }", "void add(const View &) {}",
@@ -111,7 +111,7 @@ BUGS = [
         "self.0.get().ok_or(Error::NotStarted)?", 'self.0.get().expect("the meter has started")',
         ("metrics", LATE), f"---- {LATE} stdout ----"),
     Bug("Rust", "an answer that says that points were not taken is a success", "rust/kotskhin/src/otel/exporters.rs",
-        "match not_taken(&answer.body) {", "match not_taken(&[]) {", ("answers", REJECTED), f"---- {REJECTED} stdout ----"),
+        "match not_taken(&answer.body, answer.late) {", "match not_taken(&[], 0) {", ("answers", REJECTED), f"---- {REJECTED} stdout ----"),
 ]
 
 

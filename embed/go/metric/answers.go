@@ -1,11 +1,11 @@
 package metric
 
 import (
-	"encoding/json"
 	"errors"
 	"fmt"
 	"io"
 	"net/http"
+	"strconv"
 
 	"kotskhin/internal/otlp"
 )
@@ -42,9 +42,9 @@ const (
 	mostRead     = 1 << 20
 )
 
-// said is what an answer says. Other servers answer by 2xx what they like, so of that a body fails an export only where it surely says
-// that something was not taken.
-func said(answer *http.Response, notTaken func(body []byte) *NotTakenError) error {
+// said is what an answer says. Other servers answer by 2xx what they like, so of that one fails an export only where it surely says that
+// something was not taken: by its body to OTLP, and by a header to the kit's own bytes.
+func said(answer *http.Response) error {
 	defer answer.Body.Close()
 	body, err := io.ReadAll(io.LimitReader(answer.Body, mostLookedAt+1))
 	if err == nil {
@@ -56,17 +56,20 @@ func said(answer *http.Response, notTaken func(body []byte) *NotTakenError) erro
 	if answer.StatusCode/100 != 2 {
 		return fmt.Errorf("the answer is %s", answer.Status)
 	}
-	if len(body) > mostLookedAt {
-		return nil
-	}
-	if why := notTaken(body); why != nil {
+	if why := pointsNotTaken(body); why != nil {
 		return why
+	}
+	if late := lateOf(answer.Header); late > 0 {
+		return &NotTakenError{Exports: late}
 	}
 	return nil
 }
 
 // pointsNotTaken reads an answer to OTLP. One that rejects no point and has a message is a warning alone, as the protocol has it.
 func pointsNotTaken(body []byte) *NotTakenError {
+	if len(body) > mostLookedAt {
+		return nil
+	}
 	points, why, err := otlp.Rejected(body)
 	if err != nil || points <= 0 {
 		return nil
@@ -74,12 +77,12 @@ func pointsNotTaken(body []byte) *NotTakenError {
 	return &NotTakenError{Points: uint64(points), Message: why}
 }
 
-// exportsNotTaken reads a gateway's answer to the kit's own bytes, an object of JSON.
-func exportsNotTaken(body []byte) *NotTakenError {
-	var told map[string]json.RawMessage
-	var late uint64
-	if json.Unmarshal(body, &told) != nil || json.Unmarshal(told["late"], &late) != nil || late == 0 {
-		return nil
+// lateOf reads how many exports a gateway says were late: a whole number of at most 19 digits, and anything else says nothing.
+func lateOf(header http.Header) uint64 {
+	digits := header.Get("Kotskhin-Late")
+	late, err := strconv.ParseUint(digits, 10, 64)
+	if err != nil || len(digits) > 19 {
+		return 0
 	}
-	return &NotTakenError{Exports: late}
+	return late
 }

@@ -12,12 +12,15 @@ import (
 	"kotskhin"
 )
 
-// answering is a server that answers by a status and a body, and what it was asked.
-func answering(t *testing.T, status int, body string) (url string, asked *int) {
+// answering is a server that answers by a status, a body, and how many exports were late where that is said, and what it was asked.
+func answering(t *testing.T, status int, body, late string) (url string, asked *int) {
 	t.Helper()
 	asked = new(int)
 	server := httptest.NewServer(http.HandlerFunc(func(w http.ResponseWriter, _ *http.Request) {
 		*asked++
+		if late != "" {
+			w.Header()["kotskhin-LATE"] = []string{late}
+		}
 		w.WriteHeader(status)
 		w.Write([]byte(body))
 	}))
@@ -33,19 +36,19 @@ func partial(points byte, why string) string {
 
 // An answer to an export, and what it says was not taken; none where it fails nothing.
 type answerCase struct {
-	body   string
-	wanted *NotTakenError
+	body, late string
+	wanted     *NotTakenError
 }
 
 func tryAnswers(t *testing.T, exporter func(string, http.Header, *http.Client) Exporter, cases []answerCase) {
 	t.Helper()
 	export := collected(t)
 	for _, it := range cases {
-		url, _ := answering(t, 200, it.body)
+		url, _ := answering(t, 200, it.body, it.late)
 		err := exporter(url, nil, nil).Export(context.Background(), export)
 		var why *NotTakenError
 		if errors.As(err, &why) != (it.wanted != nil) || it.wanted == nil && err != nil || it.wanted != nil && *why != *it.wanted {
-			t.Errorf("%.40q: %v, and not %v", it.body, err, it.wanted)
+			t.Errorf("%.40q, %q: %v, and not %v", it.body, it.late, err, it.wanted)
 		}
 	}
 }
@@ -56,13 +59,15 @@ var long = strings.Repeat("x", mostLookedAt)
 func TestWhatOTLPSaysWasNotTaken(t *testing.T) {
 	good := partial(3, "why")
 	tryAnswers(t, HTTPExporter, []answerCase{
-		{partial(3, "3 points: LATE"), &NotTakenError{Points: 3, Message: "3 points: LATE"}},
-		{partial(3, ""), &NotTakenError{Points: 3}},
-		{good + "\x12\x08unknown!", &NotTakenError{Points: 3, Message: "why"}},
-		{partial(0, "a warning"), nil}, {"", nil}, {"OK\n", nil}, {"{}", nil}, {good[:7], nil}, {good + "\x0a", nil},
-		{`{"late":1}`, nil}, {good + "\x12\x80\x80\x04" + long, nil},
+		{partial(3, "3 points: LATE"), "2", &NotTakenError{Points: 3, Message: "3 points: LATE"}},
+		{partial(3, ""), "", &NotTakenError{Points: 3}},
+		{good + "\x12\x08unknown!", "", &NotTakenError{Points: 3, Message: "why"}},
+		{partial(0, "a warning"), "", nil}, {"", "", nil}, {"OK\n", "", nil}, {"{}", "", nil}, {good[:7], "", nil}, {good + "\x0a", "", nil},
+		// (one that is as long as is looked at, and one that is longer)
+		{good + "\x12\xf3\xff\x03" + long[13:], "", &NotTakenError{Points: 3, Message: "why"}},
+		{good + "\x12\xf4\xff\x03" + long[12:], "", nil},
 	})
-	url, asked := answering(t, 503, good)
+	url, asked := answering(t, 503, good, "2")
 	if err := HTTPExporter(url, nil, nil).Export(context.Background(), collected(t)); err == nil || isNotTaken(err) || *asked != 1 {
 		t.Fatal(err)
 	}
@@ -70,26 +75,12 @@ func TestWhatOTLPSaysWasNotTaken(t *testing.T) {
 
 // So does what a gateway says of the kit's own bytes.
 func TestWhatAGatewaySaysIsLate(t *testing.T) {
+	body := `{"exports":3,"points":3,"late":2}`
 	tryAnswers(t, HTTPBytesExporter, []answerCase{
-		{`{"exports":1,"points":3,"late":1}` + "\n", &NotTakenError{Exports: 1}},
-		{` { "of": {"late": 0, "all": ["late", 2]}, "late" : 12 } `, &NotTakenError{Exports: 12}},
-		{`{"exports":1,"points":3}`, nil}, {`{"late":0}`, nil}, {`{"late":-1}`, nil}, {`{"of":{"late":1}}`, nil}, {`[{"late":1}]`, nil},
-		{`{"late":"1"}`, nil}, {`{"late":true}`, nil}, {`{"Late":1}`, nil}, {`{"late":null}`, nil}, {`{"late":1`, nil},
-		{`{"late":1}}`, nil}, {"", nil}, {"null", nil}, {partial(3, "why"), nil},
-		{`{"late":1,"x":"` + long + `"}`, nil}, {strings.Repeat("[", mostLookedAt), nil},
+		{body, "2", &NotTakenError{Exports: 2}}, {long + "x", strings.Repeat("9", 19), &NotTakenError{Exports: 9_999_999_999_999_999_999}},
+		{body, "", nil}, {body, "0", nil}, {body, "two", nil}, {body, "-2", nil}, {body, "+2", nil}, {body, "2.0", nil}, {body, "0x2", nil},
+		{body, strings.Repeat("0", 24) + "2", nil},
 	})
-}
-
-// A body that is as long as is looked at is read, and one that is longer is not.
-func TestTheMostThatIsLookedAt(t *testing.T) {
-	export := collected(t)
-	for _, more := range []int{0, 1} {
-		body := `{"late":1}` + strings.Repeat(" ", mostLookedAt-len(`{"late":1}`)+more)
-		url, _ := answering(t, 200, body)
-		if err := HTTPBytesExporter(url, nil, nil).Export(context.Background(), export); isNotTaken(err) != (more == 0) {
-			t.Fatal(more, err)
-		}
-	}
 }
 
 func TestWhatNotTakenSays(t *testing.T) {
@@ -107,9 +98,9 @@ func TestWhatNotTakenSays(t *testing.T) {
 // An export of which something was not taken goes to no other gateway, and the one that said so is asked first the next time.
 func TestWhatWasNotTakenGoesToNobodyElse(t *testing.T) {
 	export := collected(t)
-	down, first := answering(t, 503, "")
-	late, second := answering(t, 200, `{"exports":1,"points":1,"late":1}`)
-	takes, third := answering(t, 200, `{"exports":1,"points":1}`)
+	down, first := answering(t, 503, "", "")
+	late, second := answering(t, 200, "", "1")
+	takes, third := answering(t, 200, "", "")
 	all := FirstOf(HTTPBytesExporter(down, nil, nil), HTTPBytesExporter(late, nil, nil), HTTPBytesExporter(takes, nil, nil))
 	for turn := 1; turn < 3; turn++ {
 		var why *NotTakenError
@@ -129,7 +120,7 @@ func TestWhatWasNotTakenGoesToNobodyElse(t *testing.T) {
 
 // A reader counts it among what failed, and tells its hook.
 func TestAReaderTellsWhatWasNotTaken(t *testing.T) {
-	url, _ := answering(t, 200, partial(1, "LATE"))
+	url, _ := answering(t, 200, partial(1, "LATE"), "")
 	var told []error
 	reader := NewPeriodicReader(HTTPExporter(url, nil, nil), WithOnFailed(func(err error) { told = append(told, err) }))
 	p, requests := counting(t, reader)

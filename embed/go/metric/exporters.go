@@ -47,25 +47,18 @@ func FileExporter(path string) Exporter {
 }
 
 // HTTPExporter posts each export as a request of the OpenTelemetry protocol, to a URL that ends in /v1/metrics as a Collector has it. An
-// answer other than 2xx is a failure, a redirection too. One that says that points were not taken fails as a *NotTakenError. Headers may be
+// answer other than 2xx is a failure, a redirection too. One that says that some was not taken fails as a *NotTakenError. Headers may be
 // nil, and so may the client.
 func HTTPExporter(url string, headers http.Header, client *http.Client) Exporter {
-	return posting(url, form{OTLPType, kotskhin.Export.OTLP, pointsNotTaken}, headers, client)
+	return posting(url, OTLPType, kotskhin.Export.OTLP, headers, client)
 }
 
 // HTTPBytesExporter posts the kit's own bytes of each export, as HTTPExporter does.
 func HTTPBytesExporter(url string, headers http.Header, client *http.Client) Exporter {
-	return posting(url, form{BytesType, kotskhin.Export.Encode, exportsNotTaken}, headers, client)
+	return posting(url, BytesType, kotskhin.Export.Encode, headers, client)
 }
 
-// A form of exports: its type, how one goes as bytes, and what the answer to it says was not taken.
-type form struct {
-	kind     string
-	bytesOf  func(kotskhin.Export) ([]byte, error)
-	notTaken func(answer []byte) *NotTakenError
-}
-
-func posting(url string, form form, headers http.Header, client *http.Client) Exporter {
+func posting(url, kind string, bytesOf func(kotskhin.Export) ([]byte, error), headers http.Header, client *http.Client) Exporter {
 	if client == nil {
 		client = http.DefaultClient
 	}
@@ -73,7 +66,7 @@ func posting(url string, form form, headers http.Header, client *http.Client) Ex
 	straight := *client
 	straight.CheckRedirect = func(*http.Request, []*http.Request) error { return http.ErrUseLastResponse }
 	return ExporterFunc(func(ctx context.Context, export kotskhin.Export) error {
-		made, err := form.bytesOf(export)
+		made, err := bytesOf(export)
 		if err != nil {
 			return err
 		}
@@ -81,7 +74,7 @@ func posting(url string, form form, headers http.Header, client *http.Client) Ex
 		if err != nil {
 			return err
 		}
-		request.Header.Set("Content-Type", form.kind)
+		request.Header.Set("Content-Type", kind)
 		for key, values := range headers {
 			request.Header[key] = values
 		}
@@ -89,7 +82,7 @@ func posting(url string, form form, headers http.Header, client *http.Client) Ex
 		if err != nil {
 			return err
 		}
-		return said(answer, form.notTaken)
+		return said(answer)
 	})
 }
 

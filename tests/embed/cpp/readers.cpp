@@ -260,7 +260,7 @@ static std::string partial(int points, const std::string &why) {
     return std::string("\x0a") + static_cast<char>(inner.size()) + inner;
 }
 
-static const std::string MOST(64 << 10, ' '), REJECTED = partial(3, "why"), ALL_ONES(9, '\xff');
+static const std::string MOST(64 << 10, 'x'), REJECTED = partial(3, "why"), ALL_ONES(9, '\xff');
 
 static void points_that_were_rejected_are_read() {
     std::string wide(119, 'w');
@@ -269,7 +269,7 @@ static void points_that_were_rejected_are_read() {
         uint64_t points;
         std::string message;
     };
-    // (fields that are not known, one that comes twice, and an answer whose length is a brace)
+    // (fields that are not known, one that comes twice, an answer that is as long as is looked at, and one whose length is a brace)
     std::string others = std::string("\x12\x01").append("a\x1d").append("1234\x21").append("12345678\x28\x7f");
     std::string inner = std::string("\x0a\x09\x0a\x01").append("a\x10\x07\x18\x07\x08\x03");
     for (const Case &it : std::vector<Case>{{partial(3, "3 points: LATE"), 3, "3 points: LATE"},
@@ -277,8 +277,9 @@ static void points_that_were_rejected_are_read() {
                                             {others + REJECTED, 3, "why"},
                                             {inner, 3, ""},
                                             {REJECTED + "\x0a\x02\x08\x05", 5, "why"},
+                                            {REJECTED + "\x12\xf3\xff\x03" + MOST.substr(13), 3, "why"},
                                             {partial(3, wide), 3, wide}}) {
-        auto told = metrics::detail::not_taken(it.body);
+        auto told = metrics::detail::points_not_taken(it.body);
         CHECK(told && told->points == it.points && told->exports == 0 && told->message == it.message);
     }
 }
@@ -286,72 +287,23 @@ static void points_that_were_rejected_are_read() {
 // Whether an answer fails nothing. (A copy of just its length is read, so that a sanitizer sees what is read behind it.)
 static bool says_nothing(const std::string &answer) {
     std::vector<char> copy(answer.begin(), answer.end());
-    return !metrics::detail::not_taken({copy.data(), copy.size()});
+    return !metrics::detail::points_not_taken({copy.data(), copy.size()});
 }
 
 static void other_answers_say_nothing() {
-    for (auto &it : {std::string(), partial(0, "a warning"), raw("\x0a\x00"), raw("\x00"), std::string("OK\n"), std::string("\x08\x05"),
-                     REJECTED + "\x0a", REJECTED + "\x0b", REJECTED + "\x12\x80\x80\x04" + MOST, "\x0a\x0b\x08" + ALL_ONES + "\x01",
-                     "\x0a\x0c\x08" + ALL_ONES + "\xff\xff", REJECTED + "\x12" + ALL_ONES + "\x01" + MOST.substr(100)}) {
+    for (auto &it :
+         {std::string(), partial(0, "a warning"), raw("\x0a\x00"), raw("\x00"), std::string("OK\n"), std::string("\x08\x05"),
+          REJECTED + "\x0a", REJECTED + "\x0b", REJECTED + "\x12\xf4\xff\x03" + MOST.substr(12), "\x0a\x0b\x08" + ALL_ONES + "\x01",
+          "\x0a\x0c\x08" + ALL_ONES + "\xff\xff", REJECTED + "\x12" + ALL_ONES + "\x01" + MOST.substr(100)}) {
         CHECK(says_nothing(it));
     }
     for (size_t cut = 1; cut < REJECTED.size(); cut++) CHECK(says_nothing(REJECTED.substr(0, cut)));
 }
 
-// JSON that does not say that an export was late, or is none.
-static const char *const NOT_LATE = R"(
-{"exports":1,"points":3}
-{"late":0}
-{"late":-1}
-{"late":1.5}
-{"late":1e3}
-{"late":"1"}
-{"late":true}
-{"late":null}
-{"Late":1}
-{"of":{"late":1}}
-[{"late":1}]
-{"late":[1]}
-{"late":18446744073709551616}
-{"late":01}
-{"late":1
-{"late":
-{"late":1}}
-{"late":1,}
-{"late" 1}
-{late:1}
-{"a":[1 2],"late":1}
-{"a":tru,"late":1}
-{"a":"\x","late":1}
-{"a":"\u12","late":1}
-{"a":"	","late":1}
-{"a":-,"late":1}
-{"a":1.,"late":1}
-{"a":1e,"late":1}
-{"a":"\u
-{"\
-{"
-{
-null
-1
-)";
-
 static void exports_that_were_late_are_read() {
-    std::string whole = "{\"late\":1}", nested;
-    whole += MOST.substr(whole.size());
-    while (nested.size() + 5 < MOST.size()) nested += "{\"a\":";
-    for (auto &[body, exports] :
-         std::vector<std::pair<std::string, uint64_t>>{{"{\"exports\":1,\"points\":3,\"late\":1}\n", 1},
-                                                       {" { \"of\": {\"late\": 0, \"all\": [\"late\", {}, []]}, \"late\" : 12 } ", 12},
-                                                       {R"({"a":-0.5e+7,"b":"\\\"\u00e9","c":[true,false,null,1E2],"l\u0061te":3})", 3},
-                                                       {R"({"late":0,"late":18446744073709551615})", UINT64_MAX},
-                                                       {whole, 1}}) {
-        auto told = metrics::detail::not_taken(body);
-        CHECK(told && told->exports == exports && told->points == 0 && told->message.empty());
-    }
-    std::istringstream lines(NOT_LATE);
-    for (std::string it; std::getline(lines, it);) CHECK(says_nothing(it));
-    CHECK(says_nothing(whole + " ") && says_nothing(nested) && says_nothing(std::string(MOST.size(), '[')));
+    using metrics::detail::late_of;
+    CHECK(late_of("2") == 2 && late_of(" 2\r\n") == 2 && late_of(std::string(19, '9')) == 9'999'999'999'999'999'999u);
+    for (auto it : {"0", "", " \r\n", "two", "-2", "+2", "2.0", "2222222222222222222222222"}) CHECK(late_of(it) == 0);
 }
 
 // An export of which something was not taken goes to no other gateway, and the one that said so is asked first the next time.
@@ -473,35 +425,40 @@ static void http_brings_an_export_and_tells_what_is_answered() {
     CHECK(throws<std::invalid_argument>([&] { HttpExporter("http://127.0.0.1", split); }));
 }
 
-static std::string with_length(const std::string &body) {
-    return "HTTP/1.1 200 OK\r\nContent-Length: " + std::to_string(body.size()) + "\r\nConnection: close\r\n\r\n" + body;
+static std::string with_length(const std::string &body, const std::string &header = "") {
+    return "HTTP/1.1 200 OK\r\nContent-Length: " + std::to_string(body.size()) + "\r\nConnection: close\r\n" + header + "\r\n" + body;
 }
 
 static void http_tells_what_was_not_taken() {
     MeterProvider provider;
     requests_of(provider)->Add(7);
     Export given = provider.Collect();
-    std::string late = "{\"exports\":1,\"late\":1}", good = partial(3, "3 points: LATE"), whole = late + MOST.substr(late.size());
+    std::string body = "{\"exports\":3,\"late\":2}", good = partial(3, "3 points: LATE"), late = "kotskhin-LATE: 2\r\n";
     std::string chunked = "HTTP/1.1 200 OK\r\nTransfer-Encoding: chunked\r\nConnection: close\r\n\r\n5\r\n" + good.substr(0, 5) + "\r\n";
     chunked += "f\r\n" + good.substr(5) + "\r\n0\r\n\r\n";
-    std::vector<std::string> fails = {with_length(good), chunked, with_length(late + "\n"), with_length(whole)};
+    std::vector<std::string> answers = {with_length(good, late), chunked, with_length(body, late), with_length(good + MOST, late),
+                                        with_length(body)};
     std::vector<std::string> takes = {with_length(partial(0, "a warning")),
                                       with_length("OK\n"),
                                       with_length(good.substr(0, 9)),
-                                      with_length(whole + " "),
+                                      with_length(body),
+                                      with_length(body, "Kotskhin-Late: 0\r\n"),
+                                      with_length(body, "X-Kotskhin-Late: 2\r\n"),
                                       with_length(good + MOST),
                                       with_length("")};
-    Server failing(fails), taking(takes);
+    Server failing(answers), taking(takes);
     HttpExporter exporter(failing.url), other(taking.url);
-    for (size_t turn = 0; turn < fails.size(); turn++) {
+    for (size_t turn = 0; turn + 1 < answers.size(); turn++) {
         bool is_otlp = turn < 2;
         try {
             exporter.Export(given);
             CHECK(!"it fails");
         } catch (const NotTaken &why) {
-            CHECK(why.points == (is_otlp ? 3 : 0) && why.exports == (is_otlp ? 0 : 1) && why.message == (is_otlp ? "3 points: LATE" : ""));
+            CHECK(why.points == (is_otlp ? 3 : 0) && why.exports == (is_otlp ? 0 : 2) && why.message == (is_otlp ? "3 points: LATE" : ""));
         }
     }
+    // (what one answer said is not said of the next)
+    exporter.Export(given);
     for (size_t turn = 0; turn < takes.size(); turn++) other.Export(given);
 }
 

@@ -442,15 +442,17 @@ class Readers(unittest.TestCase):
 
 @contextlib.contextmanager
 def answering(*answers):
-    """The URLs of servers, each of which answers by a status and a body, and how often each was asked."""
+    """The URLs of servers, each of which answers by a status, a body and how many exports were late, and how often each was asked."""
     asked = [0] * len(answers)
 
-    def serve(number, status, body):
+    def serve(number, status, body, late=None):
         class Handler(http.server.BaseHTTPRequestHandler):
             def do_POST(self):
                 self.rfile.read(int(self.headers["Content-Length"]))
                 asked[number] += 1
                 self.send_response(status)
+                if late is not None:
+                    self.send_header("kotskhin-LATE", late)
                 self.end_headers()
                 # (who looks at no more may hang up)
                 with contextlib.suppress(OSError):
@@ -478,15 +480,13 @@ def partial(points, why):
 class Answers(unittest.TestCase):
     """What answers of 2xx say was not taken."""
 
-    MOST = 64 << 10
-
-    def said(self, body, otlp, status=200):
+    def said(self, body, late=None, status=200):
         """What an exporter makes of an answer: points, exports and a message that were not taken; nothing where it takes it as brought."""
         counter = MeterProvider(SHOP, shutdown_on_exit=False)
         counter.get_meter("app").create_counter("requests").add(7)
-        with answering((status, body)) as ((url,), asked), counter.collect() as export:
+        with answering((status, body, late)) as ((url,), asked), counter.collect() as export:
             try:
-                HttpExporter(url, otlp=otlp).export(export, 60)
+                HttpExporter(url, otlp=late is None).export(export, 60)
             except NotTaken as why:
                 return why.points, why.exports, why.message
             finally:
@@ -501,28 +501,27 @@ class Answers(unittest.TestCase):
             # (fields that are not known, one that comes twice, and a number below 0)
             (b"\x12\1a\x1d1234\x2112345678\x28\x7f" + good + b"\x12\0", (3, 0, "why")), (good + b"\n\2\x08\5", (5, 0, "why")),
             (b"\n\x09\n\1a\x10\7\x18\7\x08\3", (3, 0, "")), (b"\n\x0b\x08" + b"\xff" * 9 + b"\1", None), (b"\x08\5", None),
-            (partial(0, b"a warning"), None), (b"", None), (b"\n\0", None), (b"OK\n", None), (b"{}", None), (b'{"late":1}', None),
+            (partial(0, b"a warning"), None), (b"", None), (b"\n\0", None), (b"OK\n", None), (b'{"late":1}', None),
             (b"\0", None), (good + b"\n", None), (good + b"\x0b", None), (b"\n\x0c\x08" + b"\xff" * 11, None),
-            (good + b"\x12\x80\x80\4" + b"x" * self.MOST, None),
+            # (one that is as long as is looked at, and one that is longer)
+            (good + b"\x12\xf3\xff\3" + b"x" * 0xfff3, (3, 0, "why")), (good + b"\x12\xf4\xff\3" + b"x" * 0xfff4, None),
         ):
             with self.subTest(body[:40]):
-                self.assertEqual(self.said(body, True), wanted)
+                self.assertEqual(self.said(body), wanted)
         for cut in range(1, len(good)):
-            self.assertIsNone(self.said(good[:cut], True), cut)
+            self.assertIsNone(self.said(good[:cut]), cut)
         with self.assertRaisesRegex(urllib.error.HTTPError, "503"):
-            self.said(good, True, 503)
+            self.said(good, "2", 503)
 
     def test_exports(self):
-        for body, wanted in (
-            (b'{"exports":1,"points":3,"late":1}\n', (0, 1, "")), (b' { "of": {"late": 0, "all": ["late"]}, "late" : 12 } ', (0, 12, "")),
-            (b'{"exports":1,"points":3}', None), (b'{"late":0}', None), (b'{"late":-1}', None), (b'{"of":{"late":1}}', None),
-            (b'[{"late":1}]', None), (b'{"late":"1"}', None), (b'{"late":true}', None), (b'{"Late":1}', None), (b'{"late":null}', None),
-            (b'{"late":1', None), (b'{"late":1}}', None), (b"", None), (b"null", None), (b"\xff\xfe", None), (partial(3, b"why"), None),
-            (b'{"late":1' + b"0" * 5000 + b"}", None), (b"[" * self.MOST, None),
-            (b'{"late":1}' + b" " * (self.MOST - 10), (0, 1, "")), (b'{"late":1}' + b" " * (self.MOST - 9), None),
+        for late, wanted in (
+            ("2", (0, 2, "")), ("2 ", (0, 2, "")), ("9" * 19, (0, 10**19 - 1, "")), ("0", None), ("", None), ("two", None), ("-2", None),
+            ("+2", None), ("2.0", None), ("2_0", None), ("\xb2", None), ("2" * 25, None),
         ):
-            with self.subTest(body[:40]):
-                self.assertEqual(self.said(body, False), wanted)
+            with self.subTest(late):
+                self.assertEqual(self.said(b'{"exports":3,"points":3,"late":2}', late), wanted)
+        self.assertEqual(self.said(b"x" * 0x10001, "2"), (0, 2, ""))
+        self.assertEqual(self.said(partial(3, b"why"), "2"), (3, 0, "why"))
 
     def test_texts(self):
         self.assertEqual(str(NotTaken(points=3, message="LATE")), "3 points were not taken: LATE")
@@ -531,7 +530,7 @@ class Answers(unittest.TestCase):
 
     def test_no_other_gateway_is_asked(self):
         failed = []
-        with answering((503, b""), (200, b'{"late":1}'), (200, b"{}")) as (urls, asked):
+        with answering((503, b""), (200, b"", "1"), (200, b"")) as (urls, asked):
             told = reader(FirstOf(*(HttpExporter(it, otlp=False) for it in urls)), on_failed=failed.append)
             it = provider(told)
             it.get_meter("app").create_counter("requests").add(7)

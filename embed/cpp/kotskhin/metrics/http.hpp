@@ -24,6 +24,7 @@ private:
     std::string url;
     Options options;
     std::string answer;
+    uint64_t late = 0;
     std::unique_ptr<CURL, void (*)(CURL *)> curl{nullptr, curl_easy_cleanup};
     std::unique_ptr<curl_slist, void (*)(curl_slist *)> headers{nullptr, curl_slist_free_all};
 
@@ -46,6 +47,14 @@ private:
             return 0;
         }
         return size * count;
+    }
+    // (older libcurls have no curl_easy_header)
+    static size_t headed(char *from, size_t size, size_t count, void *into) noexcept {
+        std::string_view line(from, size * count), name = "Kotskhin-Late:";
+        if (line.size() > name.size() && curl_strnequal(from, name.data(), name.size())) {
+            *static_cast<uint64_t *>(into) = detail::late_of(line.substr(name.size()));
+        }
+        return line.size();
     }
 
 public:
@@ -71,18 +80,23 @@ public:
         set(curl_easy_setopt(curl.get(), CURLOPT_HTTPHEADER, headers.get()));
         set(curl_easy_setopt(curl.get(), CURLOPT_WRITEFUNCTION, &kept));
         set(curl_easy_setopt(curl.get(), CURLOPT_WRITEDATA, &answer));
+        set(curl_easy_setopt(curl.get(), CURLOPT_HEADERFUNCTION, &headed));
+        set(curl_easy_setopt(curl.get(), CURLOPT_HEADERDATA, &late));
     }
 
     void Export(const kotskhin::Export &given) override {
         std::vector<uint8_t> body = options.encode(given);
         answer.clear();
+        late = 0;
         set(curl_easy_setopt(curl.get(), CURLOPT_POSTFIELDSIZE_LARGE, static_cast<curl_off_t>(body.size())));
         set(curl_easy_setopt(curl.get(), CURLOPT_POSTFIELDS, body.empty() ? "" : reinterpret_cast<const char *>(body.data())));
         set(curl_easy_perform(curl.get()));
         long answered = 0;
         set(curl_easy_getinfo(curl.get(), CURLINFO_RESPONSE_CODE, &answered));
         if (answered < 200 || answered > 299) throw std::runtime_error(url + " answered " + std::to_string(answered));
-        if (auto why = detail::not_taken(answer)) throw *why;
+        // (how exports go as bytes is a function's, so an answer is read either way)
+        if (auto why = detail::points_not_taken(answer)) throw *why;
+        if (late) throw NotTaken(0, late);
     }
 };
 

@@ -72,16 +72,16 @@ func TestAdoptionByHTTP(t *testing.T) {
 	}
 	late, live := encoded(t, "shop", 3, 9), encoded(t, "shop", 6, 1)
 	for _, it := range []struct {
-		body       []byte
-		kind, said string
+		body             []byte
+		kind, said, late string
 	}{
-		{late, "", `{"exports":1,"points":1,"late":1}`}, {live, "", `{"exports":1,"points":1}`},
-		{framed(live, late), ExportsType, `{"exports":2,"points":2,"late":1}`},
-		{framed(late, late), ExportsType, `{"exports":2,"points":1,"late":2}`},
+		{late, "", `{"exports":1,"points":1,"late":1}`, "1"}, {live, "", `{"exports":1,"points":1}`, ""},
+		{framed(live, late), ExportsType, `{"exports":2,"points":2,"late":1}`, "1"},
+		{framed(late, late), ExportsType, `{"exports":2,"points":1,"late":2}`, "2"},
 	} {
-		status, said, _ := got(t, http.MethodPost, url+"/v1/exports", it.body, "Content-Type", it.kind)
-		if status != 200 || said != it.said+"\n" {
-			t.Fatal(status, said)
+		status, said, head := got(t, http.MethodPost, url+"/v1/exports", it.body, "Content-Type", it.kind)
+		if status != 200 || said != it.said+"\n" || head.Get("Kotskhin-Late") != it.late {
+			t.Fatal(status, said, head)
 		}
 	}
 	count := row(t, url, `kotskhin_gateway_late_exports_total{path="/v1/exports"}`)

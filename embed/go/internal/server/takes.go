@@ -6,6 +6,7 @@ import (
 	"errors"
 	"fmt"
 	"net/http"
+	"strconv"
 	"strings"
 	"time"
 
@@ -45,6 +46,10 @@ func (s *Server) exports(w http.ResponseWriter, request *http.Request, grant tok
 		return err
 	}); err != nil {
 		return err
+	}
+	if told.Late > 0 {
+		// (exporters read this one: not each language brings a reader of JSON)
+		w.Header().Set("Kotskhin-Late", strconv.Itoa(told.Late))
 	}
 	return asJSON(w, told)
 }

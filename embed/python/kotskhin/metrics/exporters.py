@@ -91,12 +91,11 @@ class HttpExporter:
         request = urllib.request.Request(self._url, body, dict(self._headers), method="POST")
         try:
             with _opener.open(request, timeout=timeout) as answer:
-                told = answer.read(MOST + 1)
+                told, late = answer.read(MOST + 1), answer.headers.get("Kotskhin-Late", "")
         except urllib.error.HTTPError as fault:
             fault.close()
             raise
-        of = points_not_taken if self._otlp else exports_not_taken
-        if len(told) <= MOST and (why := of(told)):
+        if why := points_not_taken(told) or exports_not_taken(late):
             raise why
 
 

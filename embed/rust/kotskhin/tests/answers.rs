@@ -117,7 +117,10 @@ fn points_that_were_rejected_fail_the_export() -> Done {
             "{body:?}"
         );
     }
-    let long = [&good[..], b"\x12\x80\x80\x04", &[b'x'; MOST]].concat();
+    // (one that is as long as is looked at, and one that is longer)
+    let whole = [&good[..], b"\x12\xf3\xff\x03", &[b'x'; 0xfff3]].concat();
+    assert_eq!(of(&whole)?.map(|it| it.0), Some(3));
+    let long = [&good[..], b"\x12\xf4\xff\x03", &[b'x'; 0xfff4]].concat();
     let below = [b"\x0a\x0b\x08", &[255; 9][..], b"\x01"].concat();
     let endless = [b"\x0a\x0c\x08", &[255; 11][..]].concat();
     let mut others = vec![long, below, endless, partial(0, b"a warning")];
@@ -130,73 +133,34 @@ fn points_that_were_rejected_fail_the_export() -> Done {
     Ok(())
 }
 
-/// JSON that does not say that an export was late, or is none.
-const NOT_LATE: &str = r#"
-{"exports":1,"points":3}
-{"late":0}
-{"late":-1}
-{"late":1.5}
-{"late":1e3}
-{"late":"1"}
-{"late":true}
-{"late":null}
-{"Late":1}
-{"of":{"late":1}}
-[{"late":1}]
-{"late":[1]}
-{"late":18446744073709551616}
-{"late":01}
-{"late":1
-{"late":1}}
-{"late":1,}
-{"late" 1}
-{"a":[1 2],"late":1}
-{"a":tru,"late":1}
-{"a":"\x","late":1}
-{"a":"\u12","late":1}
-{"a":-,"late":1}
-{"a":1.,"late":1}
-{"a":1e,"late":1}
-{late:1}
-{"a":"	","late":1}
-null
-1
-{
-{"
-{"\
-"#;
-
 #[test]
 fn exports_that_were_late_fail_the_export() -> Done {
-    for (body, exports) in [
-        ("{\"exports\":1,\"points\":3,\"late\":1}\n", 1),
-        (
-            " { \"of\": {\"late\": 0, \"all\": [\"late\", {}, []]}, \"late\" : 12 } ",
-            12,
-        ),
-        (
-            r#"{"a":-0.5e+7,"b":"\\\"\u00e9","c":[true,false,null,1E2],"l\u0061te":3}"#,
-            3,
-        ),
-        (r#"{"late":0,"late":18446744073709551615}"#, u64::MAX),
+    let (many, long) = ("9".repeat(19), "2".repeat(25));
+    for (header, exports) in [
+        ("Kotskhin-Late: 2\r\n", 2),
+        ("A: b\r\nkotskhin-LATE:2 \r\n", 2),
+        (&format!("Kotskhin-Late: {many}\r\n"), many.parse()?),
+        ("", 0),
+        ("Kotskhin-Late: 0\r\n", 0),
+        ("Kotskhin-Late:\r\n", 0),
+        ("Kotskhin-Late: two\r\n", 0),
+        ("Kotskhin-Late: -2\r\n", 0),
+        ("Kotskhin-Late: +2\r\n", 0),
+        ("Kotskhin-Late: 2.0\r\n", 0),
+        (&format!("Kotskhin-Late: {long}\r\n"), 0),
     ] {
-        assert_eq!(
-            of(body.as_bytes())?,
-            Some((0, exports, String::new())),
-            "{body}"
-        );
+        for body in [
+            &b"{\"exports\":3,\"points\":3,\"late\":2}\n"[..],
+            &[b'x'; 4 * MOST],
+        ] {
+            let answer = [b"HTTP/1.1 200 OK\r\n", header.as_bytes(), b"\r\n", body].concat();
+            let told = said(answer)?.map_or((0, 0), |it| (it.points, it.exports));
+            assert_eq!(told, (0, exports), "{header}");
+        }
     }
-    for body in NOT_LATE.lines() {
-        assert_eq!(of(body.as_bytes())?, None, "{body}");
-    }
-    // (a body of many brackets is as long as is looked at, and so is the one that is read)
-    assert_eq!(of(&[b'['; MOST])?, None);
-    assert_eq!(of("{\"a\":".repeat(MOST / 5).as_bytes())?, None);
-    let mut whole = b"{\"late\":1}".to_vec();
-    whole.resize(MOST, b' ');
-    assert_eq!(of(&whole)?.map(|it| it.1), Some(1));
-    whole.push(b' ');
-    assert_eq!(of(&whole)?, None);
+    let both = b"HTTP/1.1 200 OK\r\nKotskhin-Late: 2\r\n\r\n";
+    let told = said([&both[..], &partial(3, b"why")].concat())?;
+    assert_eq!(told.map(|it| (it.points, it.exports)), Some((3, 0)));
     Ok(())
 }
 
@@ -279,8 +243,8 @@ fn an_answer_ends_where_it_says() -> Done {
 fn no_other_gateway_is_asked() -> Done {
     let answers = [
         b"HTTP/1.1 503 Busy\r\n\r\n".to_vec(),
-        with_length(b"{\"exports\":1,\"points\":1,\"late\":1}\n"),
-        with_length(b"{\"exports\":1,\"points\":1}\n"),
+        b"HTTP/1.1 200 OK\r\nKotskhin-Late: 1\r\n\r\n".to_vec(),
+        with_length(b""),
     ];
     let (mut servers, mut gateways) = (Vec::new(), Vec::<Box<dyn PushExporter>>::new());
     for answer in answers {

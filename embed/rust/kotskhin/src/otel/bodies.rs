@@ -1,4 +1,4 @@
-//! The body of an answer by HTTP/1.1.
+//! What an answer by HTTP/1.1 has.
 use super::answers::MOST;
 
 /// Where some bytes stand first.
@@ -6,20 +6,34 @@ fn place(bytes: &[u8], of: &[u8]) -> Option<usize> {
     bytes.windows(of.len()).position(|it| it == of)
 }
 
+/// The head of an answer in small letters, and what stands behind it.
+fn parts(answer: &[u8]) -> Option<(String, &[u8])> {
+    let end = place(answer, b"\r\n\r\n")?;
+    let head = String::from_utf8_lossy(&answer[..end]).to_ascii_lowercase();
+    Some((head, &answer[end + 4..]))
+}
+
+fn header<'a>(head: &'a str, name: &str) -> Option<&'a str> {
+    let mut pairs = head.lines().skip(1).filter_map(|it| it.split_once(':'));
+    pairs.find(|(key, _)| *key == name).map(|(_, it)| it.trim())
+}
+
+/// How many exports a gateway says were late: a whole number of at most 19 digits, and anything else says nothing.
+pub(super) fn late_of(answer: &[u8]) -> Option<u64> {
+    let (head, _) = parts(answer)?;
+    let late = header(&head, "kotskhin-late")?;
+    let is_number = late.len() <= 19 && late.bytes().all(|it| it.is_ascii_digit());
+    late.parse().ok().filter(|_| is_number)
+}
+
 /// The body of an answer, as it came so far: nothing while more of it is to come. One that is longer than is looked at, or that is none, is
 /// empty.
 pub(super) fn body_of(answer: &[u8], is_over: bool) -> Option<Vec<u8>> {
-    let end = place(answer, b"\r\n\r\n")?;
-    let head = String::from_utf8_lossy(&answer[..end]).to_ascii_lowercase();
-    let header = |name: &str| {
-        let mut pairs = head.lines().skip(1).filter_map(|it| it.split_once(':'));
-        pairs.find(|(key, _)| *key == name).map(|(_, it)| it.trim())
-    };
-    let rest = &answer[end + 4..];
-    if header("transfer-encoding").is_some_and(|it| it.ends_with("chunked")) {
+    let (head, rest) = parts(answer)?;
+    if header(&head, "transfer-encoding").is_some_and(|it| it.ends_with("chunked")) {
         return unchunked(rest);
     }
-    match header("content-length").and_then(|it| it.parse::<usize>().ok()) {
+    match header(&head, "content-length").and_then(|it| it.parse::<usize>().ok()) {
         Some(length) if length > MOST => Some(Vec::new()),
         Some(length) => rest.get(..length).map(<[u8]>::to_vec),
         // (an answer that has none does not say its length)

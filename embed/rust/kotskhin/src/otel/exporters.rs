@@ -1,6 +1,6 @@
 //! Exporters: tables, a file, and HTTP.
 use super::answers::{MOST, NotTaken, not_taken};
-use super::bodies::body_of;
+use super::bodies::{body_of, late_of};
 use crate::ask::Ask;
 use crate::export::Export;
 use crate::gateway::Gateway;
@@ -275,32 +275,34 @@ impl HttpExporter {
         let code = words.next().and_then(|it| it.parse::<u16>().ok());
         let is_good = is_http && matches!(code, Some(200..300));
         let body = match is_good {
-            true => read_body(&mut stream, told, until),
+            true => read_body(&mut stream, &mut told, until),
             false => Vec::new(),
         };
         Ok(Answer {
             line,
             is_good,
+            late: late_of(&told).unwrap_or(0),
             body,
         })
     }
 }
 
-/// An answer: its first line, whether it is one of 2xx, and then its body.
+/// An answer: its first line, whether it is one of 2xx, and then how many exports were late, and its body.
 struct Answer {
     line: String,
     is_good: bool,
+    late: u64,
     body: Vec<u8>,
 }
 
 /// The rest of an answer, up to the end of its body. (What was sent is taken: a body that does not come whole says nothing.)
-fn read_body(stream: &mut TcpStream, mut told: Vec<u8>, until: Instant) -> Vec<u8> {
+fn read_body(stream: &mut TcpStream, told: &mut Vec<u8>, until: Instant) -> Vec<u8> {
     while told.len() <= ANSWER {
-        if let Some(body) = body_of(&told, false) {
+        if let Some(body) = body_of(told, false) {
             return body;
         }
-        if !matches!(more(stream, &mut told, until), Ok(true)) {
-            return body_of(&told, true).unwrap_or_default();
+        if !matches!(more(stream, told, until), Ok(true)) {
+            return body_of(told, true).unwrap_or_default();
         }
     }
     Vec::new()
@@ -359,7 +361,7 @@ impl PushExporter for HttpExporter {
         if !answer.is_good {
             return Err(format!("{}:{} answered '{}'", self.host, self.port, answer.line).into());
         }
-        match not_taken(&answer.body) {
+        match not_taken(&answer.body, answer.late) {
             Some(why) => Err(why.into()),
             None => Ok(()),
         }
