@@ -58,6 +58,7 @@ SPAN = r"`[^`\n]+`"
 RUN = rf"{SPAN}(?:(?:, and |, | and ){SPAN})*"
 CLAIM = re.compile(rf"(?P<calls>{RUN})(?: \((?P<group>`[^()]*)\))?(?: of `(?P<crate>\w+)`)?")
 TURNED = re.compile(rf"(?P<clauses>{RUN}) of (?P<calls>{RUN})")
+UNREAD = re.compile(rf"{SPAN} of {SPAN} \(`[^()]*\)")
 PAPER = re.compile(r"\b[TDRW][0-9]{1,2}[a-z]?\b|\bpapers? [0-9]")
 
 
@@ -162,6 +163,8 @@ class Docs:
         return owner
 
     def check_cell(self, where, crate, cell):
+        if UNREAD.search(cell):
+            self.fault(where, f"clauses stand behind a crate, where none is looked for: {UNREAD.search(cell)[0]}")
         for turned in TURNED.finditer(cell):
             if turned["calls"].strip("`") not in self.crates:
                 self.check_claim(where, crate, None, spans(turned["calls"]), spans(turned["clauses"]))
