@@ -276,6 +276,7 @@ enum {
     KIT_ATTRIBUTE_VALUE = 103,      /* the value of an attribute is of a kind that is not known: * the point */
     KIT_NO_EXPORT = 104,            /* what a request says together makes no export: * the export */
     KIT_REPEATS = 105,              /* a text of more than 1024 bytes is repeated too often */
+    KIT_RESERVED_POINT = 106,       /* a point of an export has the scope of tombstones: * the export */
 
     KIT_OTHER_SERVICE = 110,        /* the incarnation is of another service than the archive */
     KIT_IS_ARCHIVE = 111,           /* the incarnation is an archive's */
@@ -380,6 +381,7 @@ static inline const char *kit_code_name(int32_t code) {
     case KIT_ATTRIBUTE_VALUE: return "KIT_ATTRIBUTE_VALUE";
     case KIT_NO_EXPORT: return "KIT_NO_EXPORT";
     case KIT_REPEATS: return "KIT_REPEATS";
+    case KIT_RESERVED_POINT: return "KIT_RESERVED_POINT";
     case KIT_OTHER_SERVICE: return "KIT_OTHER_SERVICE";
     case KIT_IS_ARCHIVE: return "KIT_IS_ARCHIVE";
     case KIT_ADOPTED: return "KIT_ADOPTED";
@@ -581,7 +583,7 @@ KIT_CHECKED int32_t kit_writer_restart(kit_writer *writer, uint64_t start, uint6
 
 /* Recorders are threads' own logs of recordings: each thread notes in its own, which meets no other, and a writer takes in what is noted. */
 
-/* Makes a log of no recordings, which may have as many as its capacity says: 16 bytes for each are taken now. It needs no writer, and any
+/* Makes a log of no recordings, which may have as many as its capacity says: 32 bytes for each are taken now. It needs no writer, and any
  * may take it in.
  *
  * Refused, in this order: KIT_FULL; KIT_NO_MEMORY. */
@@ -639,7 +641,8 @@ KIT_CHECKED int32_t kit_seat_measure_held(kit_seat *seat, size_t number, int64_t
 
 /* Holds a pair of an instrument and an attribute set by a seat, and tells its number, which any seat of the writer may use. A seat knows
  * the numbers of the pairs that were held when the writer was shared, of those that it held itself, and those that the seat knew that it
- * was split from. Of such a pair nothing changes, no memory is taken and the writer is not asked for.
+ * was split from. Of such a pair nothing changes, no memory is taken and the writer is not asked for. A pair that another seat held
+ * meanwhile gets another number here: both count at the same point, each for as long as the writer lives.
  *
  * Refused, in this order: KIT_NOTHING of the seat, then of the attributes; of a pair that the seat does not know KIT_NO_MEMORY; KIT_BUSY
  * where another thread's call has the writer; KIT_EXHAUSTED where it accepted 2^62 changes; KIT_CLOSED; KIT_NO_INSTRUMENT; KIT_NO_MEMORY. */
@@ -826,7 +829,8 @@ KIT_CHECKED int32_t kit_archive_begin(kit_archive *archive, const uint8_t *servi
  * Refused, in this order: KIT_NOT_TEXT where the service is no UTF-8; KIT_NOTHING of the archive, then of the keeper; KIT_OTHER_SERVICE;
  * KIT_IS_ARCHIVE; KIT_ADOPTED where this archive did so before; KIT_NO_POINT where nothing of it is held; KIT_CONFLICT where different
  * values of one time came; KIT_TORN where its points are of several times; KIT_UNSOUND where no export has them; KIT_OUT_OF_RANGE where its
- * start or its time is 2^63 - 1 or later, or a total would leave its range; KIT_SET_LIMIT; KIT_NO_MEMORY. */
+ * start or its time is 2^63 - 1 or later, or a total would leave its range; KIT_SET_LIMIT; KIT_NO_MEMORY. The service is copied before the
+ * archive is asked, so want of memory for that may be told in place of what follows KIT_NOTHING. */
 KIT_CHECKED int32_t kit_archive_adopt(kit_archive *archive, KIT_READS kit_keeper *keeper, const uint8_t *service, size_t service_len,
                                       uint64_t instance_high, uint64_t instance_low, uint64_t start);
 
@@ -924,7 +928,8 @@ KIT_CHECKED int32_t kit_gateway_prometheus(KIT_READS kit_gateway *gateway, bool 
  *
  * Refused, in this order: KIT_FULL; then for the first thing that is wrong with the bytes, with its place: KIT_MALFORMED, KIT_NOT_TEXT;
  * then for the first that they say and that no export has, in the order of the request, with the place of the resource, scope, metric,
- * point or export: KIT_NO_SERVICE to KIT_NO_EXPORT, and without a place KIT_REPEATS; KIT_NO_MEMORY. */
+ * point or export: KIT_NO_SERVICE to KIT_NO_EXPORT, and without a place KIT_REPEATS; KIT_RESERVED_POINT with the place of the first export
+ * that has a point in the scope kotskhin.archive, which would hide points of others; KIT_NO_MEMORY. */
 KIT_CHECKED int32_t kit_exports_of_otlp(kit_exports *exports, const uint8_t *bytes, size_t bytes_len, uint64_t *place);
 
 /* Tells how many exports there are: they are numbered from 0.

@@ -8,9 +8,9 @@ import "C"
 // adopted: those of an adopted incarnation are shown no more.
 type Archive struct{ h *handle[C.kit_archive] }
 
-// BeginArchive begins an archive of a service that adopted nothing, with at most so many totals. It counts from start on, in nanoseconds
-// since the Unix epoch. No other writer has its instance and start: of two that share them a keeper keeps one alone, so take
-// UniqueInstance.
+// BeginArchive begins an archive of a service that adopted nothing, with at most so many totals. No other writer has its instance and
+// start: of two that share them a keeper keeps one alone, so take UniqueInstance. The start, in nanoseconds since the Unix epoch, is best 1:
+// a page shows a metric as the youngest of those who have it says, and an archive that began after the workers would show an old plan's.
 func BeginArchive(service string, instance Instance, start uint64, limit int) (Archive, error) {
 	if limit < 0 {
 		return Archive{}, ErrRange
@@ -47,12 +47,11 @@ func (a Archive) Adopt(k Keeper, service string, instance Instance, start uint64
 // Export gives all totals, and a tombstone for each incarnation that was adopted since the archive began or was sealed. The time is later
 // than that of the export before, and than the start: else it is refused as ErrTimeNotLater.
 func (a Archive) Export(time uint64) (Export, error) {
-	h, err := made(func(export *C.kit_export) error {
+	return exportOf(made(func(export *C.kit_export) error {
 		return changing(a.h, func(archive *C.kit_archive) error {
 			return answered(C.kit_archive_export(archive, C.uint64_t(time), export))
 		})
-	})
-	return Export{h}, err
+	}))
 }
 
 // Seal begins the archive anew under a later start, without totals; what it adopted it does not adopt again. No later export has what

@@ -69,6 +69,7 @@ const (
 	ErrAttributeValue       Code = 103
 	ErrNoExport             Code = 104
 	ErrRepeats              Code = 105
+	ErrReservedPoint        Code = 106
 	ErrOtherService         Code = 110
 	ErrIsArchive            Code = 111
 	ErrAdopted              Code = 112
@@ -153,6 +154,7 @@ var codes = map[Code]struct {
 	ErrAttributeValue:       {"ATTRIBUTE_VALUE", "the value of an attribute is of a kind that is not known", []string{"point"}},
 	ErrNoExport:             {"NO_EXPORT", "what a request says together makes no export", []string{"export"}},
 	ErrRepeats:              {"REPEATS", "a text of more than 1024 bytes is repeated too often", nil},
+	ErrReservedPoint:        {"RESERVED_POINT", "a point of an export has the scope of tombstones", []string{"export"}},
 	ErrOtherService:         {"OTHER_SERVICE", "the incarnation is of another service than the archive", nil},
 	ErrIsArchive:            {"IS_ARCHIVE", "the incarnation is an archive's", nil},
 	ErrAdopted:              {"ADOPTED", "the incarnation was adopted before", nil},

@@ -45,10 +45,9 @@ func (e Export) Encode() ([]byte, error) {
 // DecodeExport gives the export of bytes that Encode made.
 func DecodeExport(bytes []byte) (Export, error) {
 	at, length := bytesOf(bytes)
-	h, err := made(func(export *C.kit_export) error {
+	return exportOf(made(func(export *C.kit_export) error {
 		return told(func(place *C.uint64_t) C.int32_t { return C.kit_export_decode(export, at, length, place) })
-	})
-	return Export{h}, err
+	}))
 }
 
 // OTLP gives the body of a POST to /v1/metrics that brings the export to a Collector, as application/x-protobuf.
@@ -76,11 +75,11 @@ func ExportsOfOTLP(bytes []byte) ([]Export, error) {
 	}
 	exports := make([]Export, 0, int(count))
 	for number := C.size_t(0); number < count; number++ {
-		h, err := made(func(export *C.kit_export) error { return answered(C.kit_exports_read(&list.raw, number, export)) })
+		export, err := exportOf(made(func(export *C.kit_export) error { return answered(C.kit_exports_read(&list.raw, number, export)) }))
 		if err != nil {
 			return nil, err
 		}
-		exports = append(exports, Export{h})
+		exports = append(exports, export)
 	}
 	return exports, nil
 }

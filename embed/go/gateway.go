@@ -30,6 +30,9 @@ func (g Gateway) Take(e Export) (uint64, error) {
 	err := changing(g.h, func(gateway *C.kit_gateway) error {
 		return reading(e.h, func(export *C.kit_export) error { return answered(C.kit_gateway_take(gateway, export, &changed)) })
 	})
+	if changed > 0 {
+		g.weigh()
+	}
 	return uint64(changed), err
 }
 
@@ -43,6 +46,9 @@ func (g Gateway) Merge(other Gateway) (uint64, error) {
 	err := changingBy(g.h, other.h, func(gateway, other *C.kit_gateway) error {
 		return answered(C.kit_gateway_merge(gateway, other, &changed))
 	})
+	if changed > 0 {
+		g.weigh()
+	}
 	return uint64(changed), err
 }
 
@@ -87,12 +93,11 @@ func (g Gateway) Streams() (Streams, error) {
 
 // Rows are those that answer an ask.
 func (g Gateway) Rows(ask Ask) (Rows, error) {
-	h, err := made(func(rows *C.kit_rows) error {
+	return rowsOf(made(func(rows *C.kit_rows) error {
 		return reading(g.h, func(gateway *C.kit_gateway) error {
 			return reading(ask.h, func(ask *C.kit_ask) error { return answered(C.kit_gateway_rows(gateway, ask, rows)) })
 		})
-	})
-	return Rows{h}, err
+	}))
 }
 
 // Table is the rows that answer an ask, as a table.

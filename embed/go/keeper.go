@@ -18,10 +18,9 @@ func (k Keeper) Close() error { return closing(k.h) }
 
 // Gateway copies out what the keeper shows, to be asked, or to be kept as bytes: Merge brings it into a keeper again.
 func (k Keeper) Gateway() (Gateway, error) {
-	h, err := made(func(gateway *C.kit_gateway) error {
+	return gatewayOf(made(func(gateway *C.kit_gateway) error {
 		return reading(k.h, func(keeper *C.kit_keeper) error { return answered(C.kit_keeper_gateway(keeper, gateway)) })
-	})
-	return Gateway{h}, err
+	}))
 }
 
 // Head tells the id of the keeper, and how many points it shows.
@@ -54,10 +53,9 @@ func (k Keeper) Merge(g Gateway) (uint64, error) {
 
 // Send makes a message to the node or keeper of an id. It may be lost, come late or come twice.
 func (k Keeper) Send(to uint32) (Message, error) {
-	h, err := made(func(message *C.kit_message) error {
+	return messageOf(made(func(message *C.kit_message) error {
 		return reading(k.h, func(keeper *C.kit_keeper) error { return answered(C.kit_keeper_send(keeper, C.uint32_t(to), message)) })
-	})
-	return Message{h}, err
+	}))
 }
 
 // Hand takes in a message, forgets what is named then, and gives the answer to its sender where there is one.

@@ -5,9 +5,9 @@
 // epoch.
 //
 // A call that the kit refuses answers a Refused, which errors.Is finds by its code, as ErrClosed, and changes nothing. Things are given
-// up by Close, and by a finalizer where that was forgotten: the collector does not see how much memory of the kit's they have, so close
-// what is large. A call on what was closed is refused as ErrNothing; so is one on a zero value. All may be used by many goroutines at
-// once.
+// up by Close, and by a finalizer where that was forgotten. The collector does not see the kit's memory: it is asked to run where what
+// exports, messages, gateways and rows hold has doubled, and is more than 64 MB. So close what is large. A call on what was closed is
+// refused as ErrNothing; so is one on a zero value. All may be used by many goroutines at once.
 package kotskhin
 
 // #cgo pkg-config: kotskhin
@@ -25,7 +25,9 @@ import (
 // A handle of one kind. A call that changes what it has holds its lock. One that only reads it is lent a copy of its bytes, so that any
 // number of goroutines may read at once.
 type handle[K any] struct {
-	lock sync.RWMutex
+	// What C holds for it, about.
+	bytes int64
+	lock  sync.RWMutex
 	// Of two handles of one kind that with the lesser number is locked first.
 	number uint64
 	raw    K
@@ -33,7 +35,12 @@ type handle[K any] struct {
 
 var numbers uint64
 
-func (h *handle[K]) free() { C.kit_free((*C.kit_handle)(unsafe.Pointer(&h.raw))) }
+func (h *handle[K]) free() {
+	C.kit_free((*C.kit_handle)(unsafe.Pointer(&h.raw)))
+	if h.bytes != 0 {
+		h.weigh(0)
+	}
+}
 
 func newHandle[K any]() *handle[K] {
 	h := &handle[K]{number: atomic.AddUint64(&numbers, 1)}

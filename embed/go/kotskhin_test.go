@@ -2,13 +2,16 @@ package kotskhin
 
 import (
 	"errors"
+	"io"
 	"math"
 	"reflect"
 	"runtime"
 	"runtime/debug"
 	"strings"
 	"sync"
+	"sync/atomic"
 	"testing"
+	"time"
 
 	"kotskhin/attribute"
 )
@@ -400,6 +403,56 @@ func TestWhatIsForgottenIsGivenUp(t *testing.T) {
 	}
 	if grown := resident() - before; grown > 64 {
 		t.Fatalf("the process grew by %d MB", grown)
+	}
+}
+
+// What nobody closes makes the collector run where C holds much for it, though Go's own memory makes it run never.
+func TestWhatIsForgottenIsCollected(t *testing.T) {
+	w := newWriter(t, 1)
+	for n := 0; n < 1000; n++ {
+		if err := w.Measure(0, must[Attributes](t)(NewAttributes(attribute.Int("n", n))), 1); err != nil {
+			t.Fatal(err)
+		}
+	}
+	export := must[Export](t)(w.Collect(200))
+	bytes := must[[]byte](t)(export.Encode())
+	gateway := must[Gateway](t)(OpenGateway(1))
+	must[uint64](t)(gateway.Take(export))
+	message := must[Message](t)(must[Node](t)(OpenNode(gateway)).Send(2))
+	encoded := must[[]byte](t)(message.Encode())
+	ask := must[Ask](t)(AskStream(must[Streams](t)(gateway.Streams()), 0))
+	runtime.GC()
+	defer debug.SetGCPercent(debug.SetGCPercent(-1))
+	defer atomic.StoreInt64(&inC.least, atomic.SwapInt64(&inC.least, 4<<20))
+	inC.fall(0)
+	for what, forget := range map[string]func(){
+		"exports":  func() { must[Export](t)(DecodeExport(bytes)) },
+		"gateways": func() { must[uint64](t)(must[Gateway](t)(OpenGateway(1)).Take(export)) },
+		"messages": func() { must[Message](t)(DecodeMessage(encoded)) },
+		"rows":     func() { must[Rows](t)(gateway.Rows(ask)) },
+	} {
+		before := resident()
+		for turn := 0; turn < 500; turn++ {
+			forget()
+		}
+		if grown := resident() - before; grown > 40 {
+			t.Errorf("the process grew by %d MB of %s", grown, what)
+		}
+	}
+	// (what is not forgotten is counted still, and nothing twice)
+	live, until := 3*1000*int64(pointBytes), time.Now().Add(20*time.Second)
+	for atomic.LoadInt64(&inC.held) > live && time.Now().Before(until) {
+		runtime.GC()
+		time.Sleep(time.Millisecond)
+	}
+	if held := atomic.LoadInt64(&inC.held); held != live {
+		t.Fatal(held, live)
+	}
+	for _, it := range []io.Closer{export, message, gateway, export} {
+		it.Close()
+	}
+	if held := atomic.LoadInt64(&inC.held); held != 0 {
+		t.Fatal(held)
 	}
 }
 

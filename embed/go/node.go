@@ -22,10 +22,9 @@ func (m Message) Encode() ([]byte, error) {
 // DecodeMessage gives the message of bytes that Encode made.
 func DecodeMessage(bytes []byte) (Message, error) {
 	at, length := bytesOf(bytes)
-	h, err := made(func(message *C.kit_message) error {
+	return messageOf(made(func(message *C.kit_message) error {
 		return told(func(place *C.uint64_t) C.int32_t { return C.kit_message_decode(message, at, length, place) })
-	})
-	return Message{h}, err
+	}))
 }
 
 // Envelope tells from which id to which the message goes, and how many points it carries: what a receiver compares with the peer that
@@ -41,10 +40,9 @@ func (m Message) Envelope() (from, to uint32, points int, err error) {
 
 // Gateway is what the message carries, as a gateway of its sender's id: to see whose points they are before a node is handed it.
 func (m Message) Gateway() (Gateway, error) {
-	h, err := made(func(gateway *C.kit_gateway) error {
+	return gatewayOf(made(func(gateway *C.kit_gateway) error {
 		return reading(m.h, func(message *C.kit_message) error { return answered(C.kit_message_gateway(message, gateway)) })
-	})
-	return Gateway{h}, err
+	}))
 }
 
 // OpenNode opens a node with the points and the id of a gateway. The ids of nodes that exchange messages are distinct.
@@ -60,10 +58,9 @@ func (n Node) Close() error { return closing(n.h) }
 
 // Gateway copies out what the node holds, to be asked.
 func (n Node) Gateway() (Gateway, error) {
-	h, err := made(func(gateway *C.kit_gateway) error {
+	return gatewayOf(made(func(gateway *C.kit_gateway) error {
 		return reading(n.h, func(node *C.kit_node) error { return answered(C.kit_node_gateway(node, gateway)) })
-	})
-	return Gateway{h}, err
+	}))
 }
 
 // Head tells the id of the node, and how many points it holds.
@@ -94,10 +91,9 @@ func (n Node) Merge(g Gateway) (uint64, error) {
 
 // Send makes a message to the node of an id. It may be lost, come late or come twice.
 func (n Node) Send(to uint32) (Message, error) {
-	h, err := made(func(message *C.kit_message) error {
+	return messageOf(made(func(message *C.kit_message) error {
 		return reading(n.h, func(node *C.kit_node) error { return answered(C.kit_node_send(node, C.uint32_t(to), message)) })
-	})
-	return Message{h}, err
+	}))
 }
 
 // Hand takes in a message, and gives the answer to its sender where there is one.

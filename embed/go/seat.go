@@ -73,10 +73,9 @@ func (s Seat) TakeIn(r Recorder, most int) (Taken, error) {
 
 // Collect collects all that any seat recorded before it.
 func (s Seat) Collect(time uint64) (Export, error) {
-	h, err := made(func(export *C.kit_export) error {
+	return exportOf(made(func(export *C.kit_export) error {
 		return changing(s.h, func(seat *C.kit_seat) error {
 			return told(func(place *C.uint64_t) C.int32_t { return C.kit_seat_collect(seat, C.uint64_t(time), export, place) })
 		})
-	})
-	return Export{h}, err
+	}))
 }

@@ -131,26 +131,24 @@ func (w Writer) MeasureAll(list []Noted, refused func(place int, why Refused)) e
 
 // Collect collects all that was recorded since the start: exports are cumulative.
 func (w Writer) Collect(time uint64) (Export, error) {
-	h, err := made(func(export *C.kit_export) error {
+	return exportOf(made(func(export *C.kit_export) error {
 		return changing(w.h, func(writer *C.kit_writer) error {
 			return told(func(place *C.uint64_t) C.int32_t {
 				return C.kit_writer_collect(writer, C.uint64_t(time), export, place)
 			})
 		})
-	})
-	return Export{h}, err
+	}))
 }
 
 // Shutdown collects for the last time, and closes the writer to recordings.
 func (w Writer) Shutdown(time uint64) (Export, error) {
-	h, err := made(func(export *C.kit_export) error {
+	return exportOf(made(func(export *C.kit_export) error {
 		return changing(w.h, func(writer *C.kit_writer) error {
 			return told(func(place *C.uint64_t) C.int32_t {
 				return C.kit_writer_shutdown(writer, C.uint64_t(time), export, place)
 			})
 		})
-	})
-	return Export{h}, err
+	}))
 }
 
 // Restart begins anew under a later start: the writer is open and has recorded nothing.

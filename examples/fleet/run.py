@@ -26,7 +26,7 @@ from fleet import Fault, Gateway, until
 
 RECORDINGS = "1500"
 ADDRESS = "127.0.0.1"
-ONCE = "max without (instance, job) (requests_total)"
+ONCE = "max without (instance) (requests_total)"
 QUERIES = (f"sum by (service_name) ({ONCE})", f"sum by (route) ({ONCE})", f"sum({ONCE})", "count by (service_name) (requests_total)", "up")
 GO = "module fleet\n\ngo 1.18\n\nrequire kotskhin v0.0.0\n\nreplace kotskhin => {}\n"
 RUST = """[package]

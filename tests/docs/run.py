@@ -50,7 +50,9 @@ OF_THE_KIT = {
     "shelf_kit": {"Shelves", "Target", "Walk"},
     "writer_kit": {"Recordings"},
     # (the program `otm` is the caller of file_kit)
-    "file_kit": {"PageFormat", "FileCommand", "CommandFault", "FileFault", "SendFault", "Archiving", "ArchiveFault"},
+    "file_kit": {"PageFormat", "Reported", "FileCommand", "CommandFault", "FileFault", "SendFault", "Misfit", "Archiving", "ArchiveFault"},
+    # (and that of what notes are told of)
+    "otm_kit": {"Refused"},
 }
 FN = re.compile(r"( *)(?:pub(?:\(crate\))? )?(?:unsafe )?(?:extern \"C\" )?fn (\w+)")
 OWNER = re.compile(r"(?:pub(?:\(crate\))? )?(?:unsafe )?(?:impl|trait)\b(?:<[^{]*?> )? ?(?:[\w:<>, &']+ for )?&?(?:\w+::)*(\w+)")

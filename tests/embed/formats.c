@@ -142,6 +142,15 @@ static piece two_bounds(void) {
 /* An attribute of a point: its key, and the field of its value. */
 static piece with(const char *key, piece value) { return field(0x3a, and(field(0x0a, raw(key, strlen(key))), field(0x12, value))); }
 
+/* Two scopes, of which the second, which makes an export of its own, is that of tombstones. */
+static piece tombstone(void) {
+    piece one = and(RAW("\x0a\x01m"), field(0x2a, field(0x0a, RAW(START TIME SEVEN))));
+    piece other = and(RAW("\x0a\x01n"), field(0x2a, field(0x0a, RAW(START "\x19\xc9\0\0\0\0\0\0\0" SEVEN))));
+    piece first = field(0x12, and(RAW("\x0a\x05\x0a\x03""app"), field(0x12, one)));
+    piece second = field(0x12, and(RAW("\x0a\x12\x0a\x10""kotskhin.archive"), field(0x12, other)));
+    return field(0x0a, and(field(0x0a, RAW(WHO)), and(first, second)));
+}
+
 static void requests(void) {
     piece seven = RAW(START TIME SEVEN), point = field(0x0a, seven), truth = RAW("\x10\x01");
     CHECK(answer(RAW("\x0a\x05")) == KIT_MALFORMED && place == 0);
@@ -165,6 +174,7 @@ static void requests(void) {
     CHECK(answer(sum(and(seven, and(with("k", truth), with("k", truth))))) == KIT_ATTRIBUTE_TWICE && place == 0);
     CHECK(answer(sum(and(seven, with("k", RAW("\x21\0\0\0\0\0\0\xf0\x3f"))))) == KIT_ATTRIBUTE_VALUE && place == 0);
     CHECK(answer(two_bounds()) == KIT_REPEATS && place == 77);
+    CHECK(answer(tombstone()) == KIT_RESERVED_POINT && place == 1);
     CHECK(answer(metric(field(0x3a, and(point, and(point, RAW(CUMULATIVE)))))) == KIT_NO_EXPORT && place == 0);
 }
 

@@ -56,4 +56,13 @@ void *__wrap_realloc(void *at, size_t size) { return refuses() ? NULL : __real_r
         CHECK(growth > 1);                       \
     } while (0)
 
+/* Makes a call whose first growth is refused: it answers this all the same, since it looks before it takes memory. */
+#define BEFORE_MEMORY(call, answer)  \
+    do {                             \
+        refused = 1;                 \
+        int32_t code = (call);       \
+        refused = 0;                 \
+        CHECK(code == (answer));     \
+    } while (0)
+
 #endif

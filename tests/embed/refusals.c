@@ -488,6 +488,7 @@ static void nodes(kit_plan *plan, kit_attributes *none) {
     CHECK(from == 77 && to == 77 && points == 77);
     CHECK(!kit_message_read(&sent, &from, &to, &points) && from == 1 && to == 2 && points == 1);
     CHECK(kit_node_hand(&one, &sent, &answer, &answered) == KIT_NOT_ADDRESSED && !answer.handle.full && answered);
+    BEFORE_MEMORY(kit_node_hand(&one, &sent, &answer, &answered), KIT_NOT_ADDRESSED);
     CHECK(kit_node_hand(&other, &sent, (void *)&writer, &answered) == KIT_FULL);
     answered = false;
     EACH_GROWTH(kit_node_hand(&other, &sent, &answer, &answered), !answer.handle.full && !answered && holds(&other, NO_ROWS));
@@ -495,6 +496,7 @@ static void nodes(kit_plan *plan, kit_attributes *none) {
     CHECK(!kit_message_read(&answer, &from, &to, &points) && from == 2 && to == 1 && points == 0);
     kit_message_free(&sent);
     EACH_GROWTH(kit_node_hand(&one, &answer, &sent, &answered), !sent.handle.full && answered);
+    BEFORE_MEMORY(kit_node_hand(&one, &answer, &sent, &answered), KIT_OK); /* an Ack of an id that acknowledged before takes none */
     CHECK(!sent.handle.full && !answered && !kit_node_send(&one, 2, &sent));
     CHECK(!kit_message_read(&sent, &from, &to, &points) && from == 1 && to == 2 && points == 0); /* all of it was acknowledged */
 

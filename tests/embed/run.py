@@ -16,6 +16,8 @@ A handle of each kind in the place of each other is refused by each compiler of 
 and callers in C and Rust that misuse the library must not compile. The shared library has its name, and gives the calls of the header alone.
 Then exports between processes: examples/pipe, a writer in C and a gateway in Rust, and examples/broker, where there is a redis-server.
 
+mypy finds no fault in Python's package, nor in the programs of its page.
+
 In Go and Python the wrappers perform the cases that all languages share (cases.json, otel_cases.json), the wheel is put into a fresh environment, and the first
 programs of docs/GO.md and docs/PYTHON.md print what these say.
 
@@ -269,8 +271,11 @@ class Run:
         given = {**os.environ, "KOTSKHIN_SO": str(shared)}
         self.run("Python: the first script", sys.executable, "-B", EMBED / "python" / "first.py", prints=WANTED, env=given)
         tests = (("the shared cases", "cases"), ("the shared cases of OpenTelemetry's names", "otel_cases"), ("the kit", "kit"))
-        for what, name in (*tests, ("OpenTelemetry's names", "metrics")):
+        names = (("OpenTelemetry's names", "metrics"), ("OpenTelemetry's names in trouble", "trouble"), ("what is brought", "brought"))
+        for what, name in (*tests, *names):
             self.run(f"Python: {what}", sys.executable, "-B", HERE / "python" / f"{name}.py", env=given)
+        if there.has("Python: types", "mypy"):
+            self.run("Python: types", sys.executable, "-B", HERE / "python" / "typed.py")
         if there.has("Python: the wheel", "python3-ensurepip"):
             self.run("Python: the wheel", sys.executable, "-B", HERE / "python" / "package.py", env=given)
         self.broker(given)

@@ -1,9 +1,8 @@
 #!/usr/bin/env python3
 """The scripts of examples/ and of the docs, and what each prints; how the program ends otherwise; and what the docs quote.
 
-The proved program `otm run` is given each examples/NAME.otm, and must write examples/NAME.out, byte for byte, and end with
-status 0. So it must with each NAME.otm of tests/examples/rows, of which those that have a bad line end with status 1: the last
-line of their NAME.out says which. NAME.err has what the standard error says; where there is none, it says nothing. So it must with
+The proved program `otm run` is given each NAME.otm of examples/ and of tests/examples/rows, and must write NAME.out, byte for byte, and
+end with status 0. Those that have a bad line end with status 1: the last line of their NAME.out says which. NAME.err has what the standard error says; where there is none, it says nothing. So it must with
 each script in PAGES, fenced as `otm`: the next block, fenced as `table`, has what it writes. Then it is given what it does not do to the end: each
 kind of bad line, a script that is too long, words that it refuses, an input that cannot be read, an output that cannot be
 written. There its status and both its streams are told below. `rt ci`
@@ -222,6 +221,11 @@ BAD_LINES = [
     (b"deliver 18446744073709551616 1", f"{TOO_GREAT} the number of an export"),
     (b"hand 18446744073709551616 1", f"{TOO_GREAT} the number of a mail"),
     (b"report 1 app requests 1 sum- * - *", f"'sum-' {NO_SHAPE}"),
+    (b"report 1 app requests 1 counter * - *", f"'counter' {NO_SHAPE}; 'counter' is written 'sum+' here"),
+    (b"report 1 app requests 1 updown * - *", f"'updown' {NO_SHAPE}; 'updown' is written 'sum' here"),
+    (b"report 1 app requests 1 histogram * - *", f"'histogram' {NO_SHAPE}; 'histogram' is written 'hist' here"),
+    (b"report 1 app requests 1 histogram:" + b"5," * 20 + b"5 * - *", f"'histogram:{'5,' * 15}..' {NO_SHAPE}; 'histogram' is written 'hist' here"),
+    (b"report 1 app requests 1 histograms * - *", f"'histograms' {NO_SHAPE}"),
     (b"report 1 app requests 1 sum * x *", f"'x' {NO_ATTRIBUTES}"),
     (b"report 1 app requests 1 sum * - ,", f"',' {NO_KEYS}"),
 ]
@@ -400,12 +404,12 @@ def told_sentences():
     """Each text of SENTENCES and of NAMES, and each sentence of COMMANDS_PAGE; and what is wrong with it, or an empty text."""
     tried = {it for _, lines in bad_lines() for _, it in lines} | row_sentences()
     texts, names = texts_of(SENTENCES), texts_of(NAMES)
-    # (a text has gaps for a word, for a form or a noun, which NAMES has, and for what is odd there, which begins with a comma)
-    odd = {it: filled(it, {}) for it in texts if it.startswith(", ")}
+    # (a text has gaps for a word, for a form or a noun, which NAMES has, for what is odd there, which begins with a comma, and for what is meant)
+    odd, meant = ({it: filled(it, {}) for it in texts if it.startswith(mark)} for mark in (", ", "; "))
     named = f"(?:{'|'.join(map(re.escape, names))})"
-    gaps = {"form": named, "noun": named, "odd": f"(?:{'|'.join(odd.values())})?"}
-    whole = {it: filled(it, gaps) for it in texts if it not in odd}
-    ends = {name: f".* {re.escape(name)}" for name in names} | {name: f".*{pattern}" for name, pattern in odd.items()}
+    gaps = {"form": named, "noun": named, "odd": f"(?:{'|'.join(odd.values())})?", "meant": f"(?:{'|'.join(meant.values())})?"}
+    whole = {it: filled(it, gaps) for it in texts if it not in odd | meant}
+    ends = {name: f".* {re.escape(name)}" for name in names} | {name: f".*{pattern}" for name, pattern in (odd | meant).items()}
     yield from compared([*whole.items(), *ends.items()], whole.values(), tried, listed_below(SENTENCES_HEADING))
 
 
@@ -432,12 +436,10 @@ def cases(program):
     """Each case's name, and what the program does otherwise."""
     for name, script, table in told_scripts():
         yield name, ended(program, ["run"], (0, table, b""), input=script)
-    for script in sorted((TOP / "examples").glob("*.otm")):
-        yield script.name, ended(program, ["run"], (0, script.with_suffix(".out").read_bytes(), b""), input=script.read_bytes())
-    for script in sorted(ROWS.glob("*.otm")):
+    for script in [*sorted((TOP / "examples").glob("*.otm")), *sorted(ROWS.glob("*.otm"))]:
         text, told = script.with_suffix(".out").read_bytes(), script.with_suffix(".err")
         wanted = int(bool(BAD_END.fullmatch(text))), text, told.read_bytes() if told.is_file() else b""
-        yield script.stem, ended(program, ["run"], wanted, input=script.read_bytes())
+        yield script.name, ended(program, ["run"], wanted, input=script.read_bytes())
     for before, lines in bad_lines():
         for line, sentence in lines:
             text = b"line %d\n" % ((before + line).count(b"\n") + 1)

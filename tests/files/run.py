@@ -5,13 +5,18 @@
 
 The files are written by kept.py, from docs/BYTES.md alone. Each row has words, the status that they end with, and what both streams get. The blocks of
 docs/FILES.md that are fenced as `console` are run too, over the files that the page names: a line `$ otm ..`, and below it what is printed.
+Where a file is written, its old bytes must stay whatever fails: under a limit of a file's size, on a disk that is full, and where a call of calls.c is refused.
 The state that `otm merge` writes must be, byte for byte, the message that kept.py makes of the same cells, and `otm otlp` must write what the crate's tests
 hold `encode_otlp` to.
 
 This ends with a status other than 0 where one is not as told, or where there is no program."""
+import os
 import pathlib
 import re
+import resource
 import shlex
+import shutil
+import signal
 import subprocess
 import sys
 import tempfile
@@ -64,10 +69,17 @@ FILES = {
     "torn.ktsk": EXAMPLE[:30] + b"x" + EXAMPLE[31:],
     "two.ktsk": EXAMPLE + LATER,
     "text.txt": b"no export\n",
+    "journal.3": b"KTSJ\x01" + b"\0" * 40,
     "nothing": b"",
 }
 
+NONE = b"this is no export, message or state\n"
+JOURNAL = b"this is a journal of kotskhin-gateway: state.ktsm beside it is read here, and has all once the gateway has ended\n"
+NO_EXPORT = b"this is a message or a state, and no export\n"
+BEHIND = b"something stands behind the export or message, from byte %d on\n" % len(EXAMPLE)
+
 ASK = ["report", "app", "sales", "1", "sum+", "*", "-", "*"]
+HEADER = b"attributes  points  conflicts  total\n"
 TABLE = b"""attributes              points  conflicts  total
 {item="milk",size="1"}       1          0  3
 {item="tea"}                 1          0  %d
@@ -78,6 +90,9 @@ ALONE = b"""attributes    points  conflicts  total
 """
 KEPT_SUMS = b"""attributes  points  conflicts  total
 {}               3          0  14
+"""
+SLOW = b"""attributes  points  conflicts  total
+{}               1          0  count=3 sum=12 buckets=0,2,1,0 min=3 max=6
 """
 WARM = b"""attributes  points  conflicts  total
 {}               1          0  1@600
@@ -113,17 +128,30 @@ ROWS = {
     "a pair": ([*ASK[:6], "item=tea", "*", "a.ktsk"], b"", 0, ALONE % (0, b"6"), b""),
     "a state": ([*ASK, "three.ktsm"], b"", 0, TABLE % 10, b""),
     "a delta": ([*ASK, "delta.ktsm"], b"", 0, TABLE % 6, b""),
-    "an Ack": ([*ASK, "ack.ktsm"], b"", 0, b"attributes  points  conflicts  total\n", b""),
+    "an Ack": ([*ASK, "ack.ktsm"], b"", 0, HEADER, b"there is no stream 'app sales 1 sum+'\n"),
     "a message's conflict": ([*ASK, "conflict.ktsm"], b"", 0, b'attributes    points  conflicts  total\n{item="tea"}       0          1  0\n', b""),
     "a shared identity": ([*ASK, "a.ktsk", "twin.ktsk"], b"", 0, TABLE.replace(b"1          0  %d", b"0          1  0"), b""),
-    "a stream that is not there": ([*ASK[:4], "sum", *ASK[5:], "a.ktsk"], b"", 0, b"attributes  points  conflicts  total\n", b""),
+    "a stream that is not there": ([*ASK[:4], "sum", *ASK[5:], "a.ktsk"], b"", 0, HEADER, b"there is no stream 'app sales 1 sum', but 'app sales 1 sum+'\n"),
+    "a stream that no other is near": (["report", "app", "sale", *ASK[3:], "later.ktsk", "b.ktsk"], b"", 0, HEADER, b"there is no stream 'app sale 1 sum+', but 'app sales 1 sum+'\n"),
+    "a stream far from all": (["report", "-", "sale", *ASK[3:], "b.ktsk"], b"", 0, HEADER, b"there is no stream '- sale 1 sum+'\n"),
+    "a stream that no point of the service has": ([*ASK[:5], "none", *ASK[6:], "a.ktsk"], b"", 0, HEADER, b""),
+    "a counter": ([*ASK[:4], "counter", *ASK[5:], "a.ktsk", "b.ktsk"], b"", 0, BOTH, b""),
+    "an up-down counter": ([*ASK[:4], "updown", *ASK[5:], "a.ktsk"], b"", 0, HEADER, b"there is no stream 'app sales 1 sum', but 'app sales 1 sum+'\n"),
+    "a histogram": (["report", "app", "latency", "ms", "histogram:0,5,10", *ASK[5:], "b.ktsk"], b"", 0, SLOW, b""),
+    "a histogram of the default bounds": (["report", "app", "latency", "ms", "histogram", *ASK[5:], "b.ktsk"], b"", 0, HEADER, b"there is no stream 'app latency ms hist', but 'app latency ms hist:0,5,10'\n"),
+    "a histogram of no bounds": (["report", "app", "latency", "ms", "histogram:x", *ASK[5:], "b.ktsk"], b"", 2, b"", b"'hist:x' is no shape: a shape is sum+, sum, gauge, hist, or hist: and values with commas between\n"),
     "no file": ([*ASK, "none"], b"", 4, b"", b"read failed: none\n"),
     "a folder": ([*ASK, "a.ktsk", "."], b"", 4, b"", b"read failed: .\n"),
     "nothing": ([*ASK, "nothing"], b"", 1, b"", b"nothing: the bytes end at 0, too early\n"),
-    "a text": ([*ASK, "a.ktsk", "text.txt", "cut.ktsk"], b"", 1, b"", b"text.txt: byte 0 is not that of what is read\n"),
+    "a text": ([*ASK, "a.ktsk", "text.txt", "cut.ktsk"], b"", 1, b"", b"text.txt: " + NONE),
+    "a text of the input": (["show", "-"], b"KTSX\x02 and more", 1, b"", b"-: " + NONE),
+    "a journal": (["show", "a.ktsk", "journal.3"], b"", 1, b"", b"journal.3: " + JOURNAL),
+    "a journal merged": (["merge", "-o", "-", "journal.3", "text.txt"], b"", 1, b"", b"journal.3: " + JOURNAL),
+    "a request of a journal": (["otlp", "journal.3"], b"", 1, b"", b"journal.3: " + JOURNAL),
+    "an odd byte behind a state": (["show", "-"], STATE + b"\n", 1, b"", b"-: " + BEHIND.replace(b"%d" % len(EXAMPLE), b"%d" % len(STATE))),
     "a cut file": ([*ASK, "cut.ktsk", "text.txt"], b"", 1, b"", b"cut.ktsk: the bytes end at %d, too early\n" % (len(EXAMPLE) - 1)),
     "a torn file": ([*ASK, "torn.ktsk"], b"", 1, b"", b"torn.ktsk: the checksum at byte %d is not that of the bytes before it\n" % (len(EXAMPLE) - 4)),
-    "two exports in one file": ([*ASK, "two.ktsk"], b"", 1, b"", b"two.ktsk: the value at byte %d is not in its one form\n" % len(EXAMPLE)),
+    "two exports in one file": ([*ASK, "two.ktsk"], b"", 1, b"", b"two.ktsk: " + BEHIND),
     "a sum that fell": ([*ASK, "falling.ktsk"], b"", 1, b"", None),
     "no shape": ([*ASK[:4], "sum-", *ASK[5:], "a.ktsk"], b"", 2, b"", b"'sum-' is no shape: a shape is sum+, sum, gauge, hist, or hist: and values with commas between\n"),
     "two words in one": (["report", "app x", *ASK[2:], "a.ktsk"], b"", 2, b"", b"'report' wants a gateway, a scope, a name, a unit, a shape, a service, attributes and keys to keep\n"),
@@ -131,7 +159,7 @@ ROWS = {
     "an ask without a file": (ASK, b"", 2, b"", None),
     "expose without a file": (["expose"], b"", 2, b"", None),
     "merge without an output": (["merge", "a.ktsk"], b"", 2, b"", None),
-    "a request of a message": (["otlp", "a.ktsk", "delta.ktsm"], b"", 1, b"", b"delta.ktsm: byte 3 is not that of what is read\n"),
+    "a request of a message": (["otlp", "a.ktsk", "delta.ktsm"], b"", 1, b"", b"delta.ktsm: " + NO_EXPORT),
     "a request of bounds that are one double": (["otlp", "a.ktsk", "wide.ktsk", "text.txt"], b"", 1, b"", b"wide.ktsk: the bounds of point 0 do not rise as doubles\n"),
     "an export shown": (["show", "a.ktsk"], b"", 0, b"a.ktsk: export of shop 00000000-0000-0000-0000-000000000007, start 100, time 200\napp sales 1 sum+\n" + TABLE % 6, b""),
     "odd names": (["show", "empty.ktsk"], b"", 0, b"empty.ktsk: export of a\\x0ab\\x20\\\\ 00000000-0000-0000-0000-000000000001, start 0, time 18446744073709551615\n", b""),
@@ -147,14 +175,14 @@ app sales 1 sum+
 attributes    points  conflicts  total
 {item="tea"}       1          0  5
 """, b""),
-    "nothing is shown of a file before a bad one": (["show", "a.ktsk", "text.txt"], b"", 1, b"", b"text.txt: byte 0 is not that of what is read\n"),
+    "nothing is shown of a file before a bad one": (["show", "a.ktsk", "text.txt"], b"", 1, b"", b"text.txt: " + NONE),
     "an output that no file can have": (["merge", "-o", "none/x", "a.ktsk"], b"", 4, b"", b"write failed\n"),
     "a conflict adopted": (adopt(NEXT, "1000", "2000", "c.ktsk", "twin.ktsk", "a.ktsk"), b"", 1, b"", refusal(SHOP, 100, "a point of it is a conflict")),
     "a torn state adopted": (adopt(NEXT, "1000", "2000", "c.ktsk", "three.ktsm"), b"", 1, b"", refusal(SHOP, 100, "its points are not of one time")),
     "more totals than the limit": (["archive", "--limit", "1", *adopt(NEXT, "1000", "2000", "a.ktsk")[1:]], b"", 1, b"", refusal(SHOP, 100, "there would be more totals than the limit")),
     "a worker's incarnation taken": (adopt(SHOP, "100", "2000", "a.ktsk"), b"", 1, b"", b"the files hold points of this instance and start\n"),
     "an archive that ends as it begins": (adopt(NEXT, "2000", "2000", "a.ktsk", "text.txt"), b"", 2, b"", b"the time is not later than the start\n"),
-    "an archive of a bad file": (adopt(NEXT, "1000", "2000", "a.ktsk", "text.txt"), b"", 1, b"", b"text.txt: byte 0 is not that of what is read\n"),
+    "an archive of a bad file": (adopt(NEXT, "1000", "2000", "a.ktsk", "text.txt"), b"", 1, b"", b"text.txt: " + NONE),
     "an archive of no file": (adopt(NEXT, "1000", "2000"), b"", 2, b"", None),
     "an archive without an output": (["archive", *adopt(NEXT, "1000", "2000", "a.ktsk")[3:]], b"", 2, b"", None),
     "an archive without a UUID": (["archive", "-o", "new.ktsk", "shop", "7", "1000", "2000", "a.ktsk"], b"", 2, b"", b"'7' is no UUID: a UUID has 32 hexadecimal digits, with hyphens or without\n"),
@@ -222,7 +250,7 @@ def archives(program, folder):
     yield "its own export", differs(ran(program, folder, write(ARCHIVE, 1000, 3000, *workers, "new.ktsk")), (1, b"", b"the files hold points of this instance and start\n"))
     heat = ["report", "-", "heat", "C", "gauge", "*", "-", "*"]
     yield "a gauge of a worker", differs(ran(program, folder, [*heat, *workers]), (0, WARM, b""))
-    yield "a gauge of what is adopted is shown no more", differs(ran(program, folder, [*heat, *workers, "new.ktsk"]), (0, WARM.splitlines(True)[0], b""))
+    yield "a gauge of what is adopted is shown no more", differs(ran(program, folder, [*heat, *workers, "new.ktsk"]), (0, HEADER, b"there is no stream '- heat C gauge'\n"))
     later = kept.export(*ARCHIVE, 2000, 3000, [(SALES, TEA, 4), OF_SECOND])
     ran(program, folder, write(ARCHIVE, 1000, 2000, "a.ktsk"))
     own = kept.export(*SECOND, 1000, 2000, [(SALES, MILK, 3), (SALES, TEA, 6), OF_SHOP])
@@ -230,6 +258,84 @@ def archives(program, folder):
     yield "begun anew", differs(ran(program, folder, ["archive", "-o", "-", *write(ARCHIVE, 2000, 3000, *workers, "new.ktsk")[3:]]), (0, later, b""))
     for name in ("new.ktsk", "both.ktsm"):
         (folder / name).unlink()
+
+
+def most_bytes(count):
+    """No file of the process, or of what it becomes, may have more bytes."""
+    resource.setrlimit(resource.RLIMIT_FSIZE, (count, count))
+
+
+def calls(folder):
+    """The library that is preloaded, built in this folder."""
+    compiler = shutil.which("cc") or shutil.which("clang")
+    if not compiler:
+        raise SystemExit("no C compiler: cc or clang")
+    built = folder / "calls.so"
+    subprocess.run([compiler, "-O2", "-Wall", "-Werror", "-shared", "-fPIC", "-o", built, HERE / "calls.c"], check=True)
+    return built
+
+
+def kept_files(program, folder, room):
+    """What becomes of a file that is to be written, where that fails: its bytes stay, and nothing lies beside it."""
+    words, others, old, new = ["merge", "-o", "all.ktsm", "three.ktsm", "b.ktsk"], set(FILES), DELTA, None
+    path, library = folder / "all.ktsm", calls(room)
+
+    def kept(name, did, status, bytes_now, beside=()):
+        left = {it.name for it in folder.iterdir()} - others - {"all.ktsm"}
+        fits = (did.returncode, did.stdout) == (status, b"") and did.stderr == (b"write failed\n" if status == 4 else b"")
+        fits = fits and path.read_bytes() == bytes_now and left == set(beside)
+        return name, "" if fits else f"{did}, {path.read_bytes()!r}, and beside it {left}"
+
+    def did(**more):
+        path.write_bytes(old)
+        return subprocess.run(["otm", *words], executable=program, cwd=folder, capture_output=True, timeout=SECONDS, **more)
+
+    def preloaded(refused=""):
+        (room / "calls").write_text("")
+        ran = did(env={**os.environ, "LD_PRELOAD": str(library), "CALLS": str(room / "calls"), "REFUSED": refused})
+        return ran, (room / "calls").read_text().split()
+
+    new = ran(program, folder, ["merge", "-o", "-", *words[3:]])[1]
+    yield kept("a file written", did(), 0, new)
+    yield kept("a limit of a file's size", did(preexec_fn=lambda: most_bytes(len(new) - 1), restore_signals=False), 4, old)
+    killed = did(preexec_fn=lambda: most_bytes(len(new) - 1))
+    yield kept("a process that such a limit ends", killed, -signal.SIGXFSZ, old, ["all.ktsm.0.part"])
+    (folder / "all.ktsm.0.part").write_bytes(b"another's")
+    yield kept("what another left beside it", did(), 0, new, ["all.ktsm.0.part"])
+    stays = (folder / "all.ktsm.0.part").read_bytes() == b"another's"
+    yield "that stays as it was", "" if stays else "other bytes"
+    (folder / "all.ktsm.0.part").unlink()
+    for refused, wanted in {"": ["fsync", "rename"], "fsync": ["fsync", "unlink"], "rename": ["fsync", "rename", "unlink"]}.items():
+        told, made = preloaded(refused)
+        yield kept(f"{refused or 'nothing'} refused", told, 4 if refused else 0, old if refused else new)
+        yield f"{refused or 'nothing'} refused, the calls", "" if made == wanted else f"{made}"
+    path.unlink()
+    # (by links, so that a program which renames over a device takes the link's place alone)
+    for name, status in {"full": 4, "null": 0}.items():
+        link = folder / name
+        link.symlink_to(f"/dev/{name}")
+        yield f"a device, {name}", differs(ran(program, folder, ["merge", "-o", name, *words[3:]]), (status, b"", b"write failed\n" if status else b""))
+        yield f"a device, {name}, stays one", "" if link.is_symlink() else "a file"
+        link.unlink()
+    yield from full_disk(program, folder)
+
+
+# In a mount of the size of two pages, of which other files take all: what a run says, and then what is there.
+FULL = """mount -t tmpfs -o size=8k none "$1" || exit 99
+cp delta.ktsm "$1/all.ktsm"; head -c 1000000 /dev/zero > "$1/rest" 2> /dev/null
+"$0" merge -o "$1/all.ktsm" three.ktsm b.ktsk; echo "$?"
+cmp "$1/all.ktsm" delta.ktsm && ls "$1" """
+
+
+def full_disk(program, folder):
+    """The same on a disk that is full, where one may be mounted."""
+    with tempfile.TemporaryDirectory() as disk:
+        mount = ["unshare", "--mount", *(["--map-root-user"] if os.geteuid() else []), "bash", "-c", FULL, program, disk]
+        ran = subprocess.run(mount, cwd=folder, capture_output=True, timeout=SECONDS)
+        if ran.returncode in (1, 99) and b"mount" in ran.stderr + b"unshare":
+            return print(f"{program.name}: a full disk: NOT TRIED, since nothing may be mounted here: {ran.stderr.decode().strip()}")
+        fits = (ran.returncode, ran.stdout, ran.stderr) == (0, b"4\nall.ktsm\nrest\n", b"write failed\n")
+        yield "a full disk", "" if fits else f"{ran}"
 
 
 def requests(program, folder):
@@ -270,7 +376,7 @@ def helps(program, folder):
         yield f"{name} in otm --help", "" if f"  {name:<7}  {about}\n" in listed else f"{listed!r} has no {about!r}"
 
 
-def cases(program, folder):
+def cases(program, folder, room):
     for name, (words, given, *wanted) in ROWS.items():
         yield name, differs(ran(program, folder, words, given), wanted)
     yield from helps(program, folder)
@@ -278,6 +384,7 @@ def cases(program, folder):
     yield from requests(program, folder)
     yield from states(program, folder)
     yield from archives(program, folder)
+    yield from kept_files(program, folder, room)
     for words, shown in blocks():
         status, text, said = ran(program, folder, words)
         # (a shell shows both streams; help ends with a blank line)
@@ -293,11 +400,11 @@ def main():
     failed = failed or told_bytes() != EXAMPLE
     print(f"the worked example: {'as told' if told_bytes() == EXAMPLE else 'OTHER BYTES'}")
     for program in programs:
-        with tempfile.TemporaryDirectory() as folder:
-            folder = pathlib.Path(folder)
+        with tempfile.TemporaryDirectory() as folder, tempfile.TemporaryDirectory() as room:
+            folder, room = pathlib.Path(folder), pathlib.Path(room)
             for name, content in FILES.items():
                 (folder / name).write_bytes(content)
-            for name, told in cases(program, folder):
+            for name, told in cases(program, folder, room):
                 failed = failed or bool(told)
                 print(f"{program.name}: {name}: {'NOT AS TOLD: ' + told if told else 'as told'}")
     return int(failed)

@@ -45,6 +45,7 @@ WANTED = [
     Want("cmake", "cmake", "tests/embed"),
     Want("libcurl", "libcurl4-openssl-dev", "tests/embed"),
     Want("python3-ensurepip", "python3-venv", "tests/embed"),
+    Want("mypy", "mypy", "tests/embed"),
     Want("protoc", "protobuf-compiler", "tests/interop"),
     Want("promtool", "prometheus", "tests/interop"),
     Want("prometheus", "prometheus", "tests/interop, tests/service"),

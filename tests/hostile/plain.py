@@ -239,6 +239,7 @@ class Reading:
         except Refused as refused:
             self.refuse(refused)
             need(first != "begin")
+            self.notes.append((self.number, f"refused: {refused}"))
 
     def instrument(self, word, kind, scope, name, unit):
         need(label(word) not in self.labels and kind in FITS)

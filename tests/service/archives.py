@@ -16,7 +16,8 @@ PAGE = pathlib.Path(__file__).resolve().parents[2] / "docs" / "SERVICE.md"
 ADDRESS, SCOPE = "127.0.0.1", "service.test"
 PLAN = ((SCOPE, "requests", "1", COUNTER), (SCOPE, "open", "1", UP_DOWN), (SCOPE, "latency", "ms", HISTOGRAM))
 ROUTES = [f"/{number}" for number in range(40)]
-ARCHIVES = ("--archive", "shop", "--archive-after", "1s", "--archive-every", "100ms")
+# (a machine that is busy is not to be taken for one that stopped)
+ARCHIVES = ("--archive", "shop", "--archive-after", "1s", "--archive-every", "250ms")
 GOSSIP = ("--gossip-interval", "100ms", "--gossip-longest-pause", "500ms")
 WORKERS, SECONDS, SCRAPES, AT_A_TIME = 4, 20, "1s", 20
 # Of the soak: points of an incarnation, what a gateway may hold beside tombstones, and how much its memory may grow once a quarter is

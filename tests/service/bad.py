@@ -16,7 +16,7 @@ TOKENS = f"{WRITES} write shop\n{NOBODY} write nobody\n{PEERS} peer nobody\n"
 MOST_GROWTH = 64 << 20
 THREADS = 4
 TYPES = {
-    "/v1/exports": "application/x-kotskhin", "/v1/metrics": "application/x-protobuf", "/v1/messages": "application/vnd.kotskhin.message",
+    "/v1/exports": "application/vnd.kotskhin.export", "/v1/metrics": "application/x-protobuf", "/v1/messages": "application/vnd.kotskhin.message",
 }
 # What each path may answer to bodies that are bad, or speak for a service that is not the sender's. A request of OTLP that has nothing in
 # it, or nothing that has a counterpart, is answered 200: then nothing is taken, too.
@@ -91,7 +91,7 @@ class Trial:
 
     def post(self, path, body, token, **heads):
         heads = {it.replace("_", "-"): value for it, value in heads.items()}
-        heads = {"Content-Type": TYPES[path], "Authorization": f"Bearer {token}", **heads}
+        heads = {"Content-Type": TYPES.get(path, "text/plain"), "Authorization": f"Bearer {token}", **heads}
         status, _, told = asked(ADDRESS, "POST", path, body, heads, port=PORT)
         return status, told
 
@@ -176,8 +176,9 @@ def tokens(program, room, count):
             ("/v1/exports", "", 401), ("/v1/exports", WRITES[:-1], 401), ("/v1/exports", WRITES + "x", 401), ("/v1/exports", NOBODY, 403),
             ("/v1/exports", PEERS, 403), ("/v1/metrics", "x", 401), ("/v1/metrics", NOBODY, 403), ("/v1/metrics", PEERS, 403),
             ("/v1/messages", "", 401), ("/v1/messages", WRITES, 403), ("/v1/messages", PEERS, 403),
+            ("/v1/gone?peer=127.0.0.1:1", "", 401), ("/v1/gone?peer=127.0.0.1:1", WRITES, 403), ("/v1/gone?peer=127.0.0.1:1", PEERS, 403),
         ):
-            found, told = it.post(path, good[path], token)
+            found, told = it.post(path, good.get(path, b""), token)
             if found != status:
                 raise Fault(f"{path} with {token!r}: {found}, and not {status}: {told}")
         chance = random.Random("tokens")

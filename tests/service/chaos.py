@@ -12,7 +12,7 @@ from workers import ROUTES, SCOPE, Worker
 GATEWAYS, WORKERS = 3, 8
 FLAGS = ("--gossip-interval", "100ms", "--gossip-longest-pause", "500ms", "--gossip-timeout", "5s", "--save-interval", "2s")
 # What the first gateway is told once, while all workers rest.
-ARCHIVES = ("--archive", "shop,till", "--archive-after", "500ms", "--archive-every", "50ms")
+ARCHIVES = ("--archive", "shop,till", "--archive-after", "1s", "--archive-every", "250ms")
 
 
 def gateways_of(program, network, disks, room, seed):

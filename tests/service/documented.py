@@ -1,4 +1,5 @@
-"""What README and docs/SERVICE.md say is so: the commands, the flags, the paths and what a gateway says of itself."""
+"""What README and docs/SERVICE.md say is so: the commands, the queries, the flags, the paths and what a gateway says of itself."""
+import contextlib
 import os
 import pathlib
 import re
@@ -8,20 +9,23 @@ import signal
 import subprocess
 import sys
 
-from fleet import PATIENCE, Fault, Gateway, until
+from fleet import PATIENCE, Fault, Gateway, free_port, until
+from kotskhin import COUNTER, HISTOGRAM, Attributes, Plan, Writer, unique_instance
+from prometheus import running
 
 TOP = pathlib.Path(__file__).resolve().parents[2]
+FLEET = TOP / "examples" / "fleet"
+README = (TOP / "README.md").read_text(encoding="utf-8")
 PAGE = (TOP / "docs" / "SERVICE.md").read_text(encoding="utf-8")
 ADDRESS, PORT = "127.0.0.1", 19466
 # What a gateway that holds nothing answers to a bare request, where it is not 200.
-OF_NOTHING = {"/v1/table": 404, "/v1/rows": 404, "/v1/metrics": 415, "/v1/exports": 400, "/v1/messages": 400}
+OF_NOTHING = {"/v1/table": 404, "/v1/rows": 404, "/v1/metrics": 415, "/v1/exports": 400, "/v1/messages": 400, "/v1/gone": 400}
 
 
 def commands(program, room, kit):
     """README's commands print the total that the worker counted."""
-    readme = (TOP / "README.md").read_text(encoding="utf-8")
-    lines = re.search(r"^```sh\n(embed/out/kotskhin-gateway.*?)^```$", readme, re.M | re.S)[1]
-    script, asks = lines.rstrip().split(" && sleep 2 && ")
+    lines = re.search(r"^```sh\n(embed/out/kotskhin-gateway.*?)^```$", README, re.M | re.S)[1]
+    script, asks = re.split(r"\s+&&\s+sleep 2\s+&&\s+", lines.rstrip())
     folder = room / "documented"
     folder.mkdir()
     shutil.copy(program, folder / "kotskhin-gateway")
@@ -47,10 +51,86 @@ def commands(program, room, kit):
 
 def fleet(_, room, kit):
     """The example's workers are counted by each gateway, and Prometheus says so."""
-    words = [sys.executable, "-B", str(TOP / "examples" / "fleet" / "run.py"), str(kit), "go", "python"]
+    words = [sys.executable, "-B", str(FLEET / "run.py"), str(kit), "go", "python"]
     done = subprocess.run(words, stdin=subprocess.DEVNULL, capture_output=True, text=True, timeout=3 * PATIENCE, check=False)
     if done.returncode or not done.stdout.endswith("each of 3 gateways says what 4 workers counted: 12000\n"):
         raise Fault(f"status {done.returncode}\n{done.stdout[-3000:]}{done.stderr[-3000:]}")
+
+
+def said_by(*words):
+    """What a command prints that must succeed."""
+    done = subprocess.run([str(it) for it in words], stdin=subprocess.DEVNULL, capture_output=True, text=True, timeout=PATIENCE, check=False)
+    if done.returncode:
+        raise Fault(f"{words} ends with status {done.returncode}\n{done.stdout}{done.stderr}")
+    return done.stdout
+
+
+def taught():
+    """The query that README teaches."""
+    found = re.search(r"promtool query instant \S+ '([^']+)'", README)
+    if not found:
+        raise Fault("README teaches no query: it has no command `promtool query instant URL 'QUERY'`")
+    return found[1]
+
+
+def pushed(gateways):
+    """A worker pushes to each gateway; what all of them counted."""
+    plan, total = Plan([("app", "requests", "1", COUNTER), ("app", "latency", "ms", HISTOGRAM)]), 0
+    for number, gateway in enumerate(gateways):
+        writer = Writer(plan, "shop", unique_instance(), 100)
+        for route, value in (("/", 100 + number), ("/pay", 7)):
+            writer.measure(0, Attributes({"route": route}), value)
+            writer.measure(1, Attributes({"route": route}), value)
+            total += value
+        status, _, told = gateway.ask("/v1/exports", "POST", writer.collect(200).encode())
+        if status != 200:
+            raise Fault(f"an export is answered {status}: {told}")
+    return total
+
+
+def queries(program, room, _):
+    """Of three gateways README's query and the recording rule give the total once, and the page's queries are ones."""
+    ports = [free_port() for _ in range(3)]
+    with contextlib.ExitStack() as stack:
+        gateways = []
+        for number, port in enumerate(ports):
+            peers = [f"http://{ADDRESS}:{it}" for it in ports if it != port]
+            words = (program, number, ADDRESS, peers, room / f"query{number}", room / f"query{number}.log")
+            gateways.append(Gateway(*words, flags=("--gossip-interval", "100ms"), port=port))
+            stack.callback(gateways[-1].kill)
+            gateways[-1].start()
+        until(lambda: all(it.is_ready() for it in gateways), lambda: gateways[0].tail())
+        total, targets = pushed(gateways), [f"{ADDRESS}:{it}" for it in ports]
+        rules = [FLEET / "rules.yml"]
+        scrapes = stack.enter_context(running(room / "queries", targets, port=free_port(), every="1s", rules=rules))
+        # (once each of the three shows all)
+        until(lambda: scrapes.ask("sum(requests_total)") == [({}, 3 * total)], lambda: f"it keeps {scrapes.ask('requests_total')}")
+        for query in (taught(), "sum(fleet:requests_total:max)"):
+            until(lambda: scrapes.ask(query), lambda: f"{query} has no answer")
+            told = said_by("promtool", "query", "instant", f"http://{ADDRESS}:{scrapes.port}", query)
+            if not told.startswith(f"{{}} => {total} @"):
+                raise Fault(f"{query} of three gateways gives {told!r}, and {total} were counted")
+        blocks = re.findall(r"^```promql\n(.*?)^```$", PAGE, re.M | re.S)
+        for query in (line.split(" #")[0] for it in blocks for line in it.splitlines()):
+            said_by("promtool", "query", "instant", f"http://{ADDRESS}:{scrapes.port}", query)
+        if not blocks:
+            raise Fault("the page has no query")
+    return f"{total} once"
+
+
+def configurations(_, room, __):
+    """Prometheus reads the rules of examples/fleet, which do what they say, and the configurations of the page."""
+    said_by("promtool", "check", "config", FLEET / "prometheus.yml")
+    said_by("promtool", "check", "rules", FLEET / "rules.yml")
+    said_by("promtool", "test", "rules", FLEET / "rules_test.yml")
+    blocks = re.findall(r"^```yaml\n(scrape_configs:.*?)^```$", PAGE, re.M | re.S)
+    for number, block in enumerate(blocks):
+        secret = room / f"token{number}"
+        secret.write_text("91b7e3f0a8c24d6f5e0a", encoding="utf-8")
+        (room / f"page{number}.yml").write_text(re.sub(r"(credentials_file:) \S+", rf"\1 {secret}", block), encoding="utf-8")
+        said_by("promtool", "check", "config", room / f"page{number}.yml")
+    if not any("credentials_file" in it for it in blocks):
+        raise Fault("the page does not say how Prometheus sends a token")
 
 
 def flags(program, *_):
@@ -72,7 +152,8 @@ def flags(program, *_):
 
 def ends(program, room, _):
     """The statuses of the program."""
-    refused = (("--loud", 2), ("word", 2), ("--log-level loud", 2), ("--listen 256.0.0.1:1", 1))
+    early = "--archive shop --archive-after 79s --peer http://127.0.0.1:1"
+    refused = (("--loud", 2), ("word", 2), ("--log-level loud", 2), (early, 2), ("--listen 256.0.0.1:1", 1))
     for words, status in (("--version", 0), ("--help", 0), *refused):
         done = subprocess.run([program, *words.split()], capture_output=True, text=True, timeout=60, check=False)
         if done.returncode != status or not done.stdout + done.stderr:
@@ -106,7 +187,8 @@ def paths(program, room, _):
 
 
 def trials(program, room, kit, is_alone):
-    calls = [("the flags", flags), ("how it ends", ends), ("the paths", paths)]
+    calls = [("the flags", flags), ("how it ends", ends), ("the paths", paths), ("the queries of three gateways", queries)]
+    calls.append(("Prometheus' configurations", configurations))
     if is_alone:
         calls.append(("README's commands", commands))
     return [(what, lambda call=call: call(program, room, kit)) for what, call in calls]

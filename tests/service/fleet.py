@@ -62,6 +62,8 @@ class Gateway:
             log.write(f"--- start {self.starts}\n".encode())
             log.flush()
             environment = {it: value for it, value in os.environ.items() if not it.startswith("KOTSKHIN_")}
+            # (a test has no time to wait as long as SERVICE asks)
+            environment["KOTSKHIN_UNSAFE_ARCHIVE_AFTER"] = "1"
             self.process = subprocess.Popen(self.words, stdin=subprocess.DEVNULL, stdout=log, stderr=log, env=environment)
 
     def is_running(self):

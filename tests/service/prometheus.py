@@ -51,12 +51,13 @@ class Prometheus:
 
 
 @contextlib.contextmanager
-def running(folder, targets, address="127.0.0.1", port=9090, every="2s", more=""):
-    """A Prometheus of these targets, with a folder of its own, and with more lines of what is scraped."""
+def running(folder, targets, address="127.0.0.1", port=9090, every="2s", more="", rules=()):
+    """A Prometheus of these targets, with a folder of its own, with more lines of what is scraped, and with files of rules."""
     folder.mkdir()
     listed = ", ".join(f"'{it}'" for it in targets)
     (folder / "prometheus.yml").write_text(
-        f"global:\n  scrape_interval: {every}\n  scrape_timeout: {every}\n"
+        f"global:\n  scrape_interval: {every}\n  scrape_timeout: {every}\n  evaluation_interval: {every}\n"
+        f"rule_files: [{', '.join(map(repr, map(str, rules)))}]\n"
         f"scrape_configs:\n  - job_name: gateways\n    static_configs:\n      - targets: [{listed}]\n"
         + textwrap.indent(more, "    "),
         encoding="utf-8",

@@ -22,8 +22,9 @@ Archives: workers come, end and are adopted while a Prometheus scrapes two gatew
 as it was counted. Then many incarnations go through one gateway that could hold few of them, and its memory stays as it is.
 
 Bad input: random and changed bodies to each path, cut bodies, slow senders, wrong tokens. Each has its status, and nothing is taken. Disks:
-a damaged state and a damaged journal are told and set aside, and a full disk refuses. Docs: the commands of README print their total, and
-docs/SERVICE.md has the flags, the paths and the figures that there are.
+a damaged state and a damaged journal are told and set aside, and a full disk refuses. Docs: the commands of README print their total, its
+query of three gateways and the rules of examples/fleet give the total once, Prometheus reads the configurations, and docs/SERVICE.md has the
+flags, the paths and the figures that there are.
 
 It ends with a status other than 0 where one of these does not hold. What is not on this machine is a fault, unless GATE_WITHOUT names
 it."""

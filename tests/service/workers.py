@@ -76,7 +76,7 @@ class Worker:
         number = len(life.pushed) - 1
         is_otlp = self.chance.random() < 0.3
         body = export.otlp() if is_otlp else export.encode()
-        heads = {"Content-Type": "application/x-protobuf" if is_otlp else "application/x-kotskhin"}
+        heads = {"Content-Type": "application/x-protobuf" if is_otlp else "application/vnd.kotskhin.export"}
         path = "v1/metrics" if is_otlp else "v1/exports"
         for turn in range(len(self.gateways)):
             at = (self.last + turn) % len(self.gateways)

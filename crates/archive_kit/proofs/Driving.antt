@@ -177,6 +177,65 @@ adopted_once a e (Adopt c ∷ calls) l =
 adopted_once a e (Export time ∷ calls) l = adopted_once a e calls l.1
 adopted_once a e (Seal start ∷ calls) l = adopted_once a e calls l.1
 
+-- what was adopted before stays adopted
+pub all_more : (later calls : List Call) (c : Adoption) → In c (all_adopted calls) → In c (all_adopted (later ++ calls))
+all_more [] calls c i = i
+all_more (Adopt d ∷ later) calls c i = In-left c (all_adopted (later ++ calls)) (d ∷ []) (all_more later calls c i)
+all_more (Export time ∷ later) calls c i = all_more later calls c i
+all_more (Seal start ∷ later) calls c i = all_more later calls c i
+
+-- the last of a list stands nowhere before
+last_apart : {A : Type 0} (xs : List A) (y : A) → Once (xs ++ y ∷ []) → In y xs → ⊥
+last_apart [] y once i = i
+last_apart (x ∷ xs) y once (inl same) = once.0 (subst (λ (z : _). In z (xs ++ y ∷ [])) same (In-right y xs (y ∷ []) (inl refl)))
+last_apart (x ∷ xs) y once (inr i) = last_apart xs y once.1 i
+
+-- what an archive adopted before it was sealed it adopts no more
+pub sealed_apart : (a : ArchiveState) → a.tombstones ≡ [] → (later calls : List Call) (again : ℕ) → AreAccepted a (later ++ Seal again ∷ calls)
+    → (c d : Adoption) → In c (all_adopted calls) → In d (since_sealed (later ++ Seal again ∷ calls)) → c.0 ≡ d.0 → ⊥
+sealed_apart a e [] calls again l c d i j same = j
+sealed_apart a e (Adopt x ∷ later) calls again l c d i j same =
+    let rest = later ++ Seal again ∷ calls in
+    let names : List Adoption → List (WriterId × ℕ) = map (λ c. c.0) in
+    elim (In-append d (since_sealed rest) (x ∷ []) j) [
+      | inl before ↦ sealed_apart a e later calls again l.1 c d i before same
+      | inr (inl last) ↦
+          last_apart (names (all_adopted rest)) x.0
+          (subst (λ (l : List (WriterId × ℕ)). Once l) (map-append (λ (c : Adoption). c.0) (all_adopted rest) (x ∷ [])) (adopted_once a e (Adopt x ∷ rest) l))
+          (subst (λ (k : WriterId × ℕ). In k (names (all_adopted rest))) (same ∙ ap (λ (c : Adoption). c.0) last)
+          (In-map (λ (c : Adoption). c.0) c (all_adopted rest) (all_more later (Seal again ∷ calls) c i)))
+      | inr (inr none) ↦ none
+    ]
+sealed_apart a e (Export time ∷ later) calls again l c d i j same = sealed_apart a e later calls again l.1 c d i j same
+sealed_apart a e (Seal start ∷ later) calls again l c d i j same = j
+
+-- what it adopted since it was sealed it adopted once
+pub left_once : (a : ArchiveState) → a.tombstones ≡ [] → (calls : List Call) → AreAccepted a calls → Once {A = WriterId × ℕ} (map (λ c. c.0) (since_sealed calls))
+left_once a e [] l = tt
+left_once a e (Adopt x ∷ calls) l =
+    subst (λ (l : List (WriterId × ℕ)). Once l) (sym (map-append (λ (c : Adoption). c.0) (since_sealed calls) (x ∷ [])))
+    (Once-append (map (λ c. c.0) (since_sealed calls)) (x.0 ∷ []) (left_once a e calls l.1) ((λ i. i), tt)
+    (λ k i j. elim j [
+      | inl same ↦
+          last_apart (map (λ c. c.0) (all_adopted calls)) x.0
+          (subst (λ (l : List (WriterId × ℕ)). Once l) (map-append (λ (c : Adoption). c.0) (all_adopted calls) (x ∷ [])) (adopted_once a e (Adopt x ∷ calls) l))
+          (let c = map-In (λ (c : Adoption). c.0) k (since_sealed calls) i in
+          subst (λ (k : WriterId × ℕ). In k (map (λ c. c.0) (all_adopted calls))) same
+          (subst (λ (k : WriterId × ℕ). In k (map (λ c. c.0) (all_adopted calls))) (sym c.2) (In-map (λ (c : Adoption). c.0) c.0 (all_adopted calls) (left_all calls c.0 c.1))))
+      | inr none ↦ none
+    ]))
+  where
+    left_all : (calls : List Call) (c : Adoption) → In c (since_sealed calls) → In c (all_adopted calls)
+    left_all [] c i = i
+    left_all (Adopt d ∷ calls) c i = elim (In-append c (since_sealed calls) (d ∷ []) i) [
+      | inl before ↦ In-left c (all_adopted calls) (d ∷ []) (left_all calls c before)
+      | inr last ↦ In-right c (all_adopted calls) (d ∷ []) last
+    ]
+    left_all (Export time ∷ calls) c i = left_all calls c i
+    left_all (Seal start ∷ calls) c i = absurd i
+left_once a e (Export time ∷ calls) l = left_once a e calls l.1
+left_once a e (Seal start ∷ calls) l = tt
+
 none_left : (a : ArchiveState) (start : ℕ) → seal_refusal a start ≡ None → a.unexported ≡ false
 none_left a start e =
     when_none a.unexported refusals.Unexported (none_of (when (nat_le start a.exported) refusals.StartNotLater ∷ when a.unexported refusals.Unexported ∷ []) e).1.0

@@ -26,7 +26,7 @@ use Rattle.archive_kit.proofs.Counting.{values_total, fed_total}
 use Rattle.archive_kit.proofs.Once.{once_same}
 
 module _ {A B : Type 0} (f : A → B) where
-  once_below : (xs : List A) → Once (map f xs) → Once xs
+  pub once_below : (xs : List A) → Once (map f xs) → Once xs
   once_below [] h = tt
   once_below (x ∷ xs) h = (λ i. h.0 (In-map f x xs i), once_below xs h.1)
 

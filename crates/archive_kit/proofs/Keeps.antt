@@ -1,12 +1,14 @@
 -- What a keeper shows, and what its node did, once points have come and what they name is dropped.
-use Rattle.std.proofs.Common.{◌≡◌, ℕ, Bool, true, false, not, cond, ◌&&◌, ◌||◌, inl, List, [], ◌∷◌, Option, Some, None, refl, sym, ap, subst, ◌∙◌, true≢false}
+use Rattle.std.proofs.Common.{◌≡◌, ℕ, Bool, true, false, not, cond, ◌&&◌, ◌||◌, inl, List, [], ◌∷◌, Option, Some, None, Result, Ok, Err, OnOk, OnErr, refl, sym, ap, subst, ◌∙◌, true≢false}
 use Rattle.std.specs.Prelude.{filter}
 use Rattle.std.proofs.lemmas.Bool.{and_parts}
 use Rattle.std.proofs.lemmas.List.{append-nil}
 use Rattle.std.specs.Cmp.{Equal-is}
-use Rattle.std.specs.FinMap.{FinMap, get, retain_keys}
+use Rattle.std.specs.FinMap.{FinMap, empty, get, retain_keys}
 use Rattle.std.specs.List.{flat_map, list_any}
 use Rattle.std.specs.Ordering.{eq_by_cmp, nat_cmp}
+use Rattle.gateway_kit.proofs.Merged.{joined_empty}
+use Rattle.gossip_kit.specs.Gossip.{Renumbers}
 use Rattle.gossip_kit.specs.Views.{NodeModel}
 use Rattle.point_kit.proofs.EqualityLaws.{payload_equivalence, payload_exact}
 use Rattle.point_kit.proofs.OrderLaws.{key_total, key_exact}
@@ -36,7 +38,7 @@ use Rattle.archive_kit.specs.declared.name.Name.{Name}
 use Rattle.archive_kit.proofs.Left.{left_all, left_same}
 use Rattle.archive_kit.proofs.Lists.{member_any, not_true}
 use Rattle.archive_kit.proofs.Showing.{get-shown, namer}
-use Rattle.archive_kit.proofs.Skipping.{hides_is, keeps_shown, named_joined, no_cell}
+use Rattle.archive_kit.proofs.Skipping.{hides_is, keeps_same, keeps_shown, named_joined, no_cell}
 
 module _ (old mid new : NodeModel) (brought : Points) (books : FinMap nat_cmp ℕ) (names : List Name) (r : Ready) (ready : IsReady names old.gateway.points brought r) (joins : Joins brought books old mid) (drops : Drops (is_gone r.gone.items) mid new) where
   pub kept : new.gateway.points ≡ kept_points old.gateway.points brought
@@ -141,3 +143,34 @@ merely_joined brought books old new joins = record {
   };
   hidden = λ k c there t. absurd (true≢false (sym t));
 }
+
+-- ---- where nothing comes
+
+same_points : (old brought : Points) → brought ≡ empty → join_points old brought ≡ old
+same_points old brought none = ap (join_points old) none ∙ sym (joined_empty old)
+
+pub nothing_joined : (old brought : Points) → shown names_key old ≡ old → brought ≡ empty → join_points old brought ≡ kept_points old brought
+nothing_joined old brought all_shown none =
+    let same = same_points old brought none in
+    same ∙ sym all_shown ∙ ap (shown names_key) (sym same)
+
+pub nothing_changes : (stream : Stream) (names : List Name) (old new brought : Points) → IsKeeping stream names old → brought ≡ empty → new ≡ join_points old brought → IsKeeping stream names new
+nothing_changes stream names old new brought was none is = keeps_same stream names old new (is ∙ same_points old brought none) was
+
+-- what follows of a result
+pub on_ok : {T E P : Type 0} (r : Result T E) (v : T) → r ≡ Ok v → OnOk r P → P
+on_ok {T} {E} {P} r v e h = subst (λ (r : Result T E). OnOk r P) e h
+
+pub on_all : {T E P : Type 0} (r : Result T E) → P → OnOk r P
+on_all (Ok v) h = h
+on_all (Err e) h = tt
+
+pub either : {T E P Q G : Type 0} (r : Result T E) → OnOk r P → OnErr r Q → (P → G) → (Q → G) → G
+either (Ok v) p q f g = f p
+either (Err e) p q f g = g q
+
+-- what a node did to which nothing came, where it is no refusal
+pub nothing_dropped : {T E : Type 0} (r : Result T E) (brought : Points) (books : FinMap nat_cmp ℕ) (old new : NodeModel) → new.gateway.id ≡ old.gateway.id
+    → OnOk r (new.gateway.points ≡ join_points old.gateway.points brought) → OnOk r (Renumbers old new) → OnOk r (new.acked ≡ books) → OnOk r (JoinsAndDrops brought books old new)
+nothing_dropped (Ok v) brought books old new id points numbers acked = merely_joined brought books old new (record { id = id; points = points; numbers = numbers; acked = acked })
+nothing_dropped (Err e) brought books old new id points numbers acked = tt

@@ -9,9 +9,11 @@ pub mod Keeps
 pub mod Kept
 pub mod Left
 pub mod Lists
+pub mod Marks
 pub mod Naming
 pub mod Once
 pub mod Payloads
+pub mod Refused
 pub mod Reserved
 pub mod Rest
 pub mod Showing

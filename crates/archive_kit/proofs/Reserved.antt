@@ -1,5 +1,5 @@
 -- No stream of a plan has a scope that none of its instruments has.
-use Rattle.std.proofs.Common.{◌≡◌, ◌≢◌, ℕ, ◌+◌, ◌==◌, Bool, true, false, cond, not, position, List, [], ◌∷◌, Option, Some, None, map, sym, true≢false, ap, ◌∙◌}
+use Rattle.std.proofs.Common.{◌≡◌, ◌≢◌, ℕ, ◌+◌, ◌==◌, true, false, cond, not, position, List, [], ◌∷◌, Option, Some, None, map, sym, true≢false, ap, ◌∙◌}
 use Rattle.std.specs.List.{All, list_all, filter_map, flat_map, enumerate_from, cons_option}
 use Rattle.std.proofs.lemmas.List.Elements.{All-append, All-cons, All-map, All-nil}
 use Rattle.std.proofs.lemmas.Slice.Eq.{bytes_eq-Decides}

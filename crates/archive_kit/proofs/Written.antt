@@ -213,8 +213,8 @@ module _ {N : Type 0} (r : Rounding N Key WriterId ItemKey Payload) (keyed : Are
         points_are = points_left (fresh (r.who a) d.start d.limit) refl refl (omega arith) d.calls
 
         -- what the export tells of a name is what was fed to it
-        told_is : (x : ItemKey) → told_of x (exported_points last) ≡ Under x (fed a h)
-        told_is x =
+        told_is : (i : WriterId) (s : ℕ) (x : ItemKey) → asks (r.key i s x) ≡ true → told_of x (exported_points last) ≡ Under x (fed a h)
+        told_is i s x wanted =
             let each : Adoption → V = λ c. told_of x (points_held c.1) in
             ap (told_of x) points_are
             ∙ total-append zero plus feeding.sum _ last.totals (map tombstone left)
@@ -223,19 +223,19 @@ module _ {N : Type 0} (r : Rounding N Key WriterId ItemKey Payload) (keyed : Are
             ∙ driven_told (fresh (r.who a) d.start d.limit) refl refl (omega arith) zero plus feeding.sum reads feeding.both feeding.gauges (asked x) d.calls
             ∙ ap (total zero plus each) (sym d.adopts)
             ∙ total-map zero plus feeding.sum each (its a) (adoptions a h)
-            ∙ total_same zero plus feeding.sum (λ (c : Counted N). each (its a c)) (λ c. Under x (fed c.0.0 c.1)) (adoptions a h) (λ c i. feeding.tells a h c x e i)
+            ∙ total_same zero plus feeding.sum (λ (c : Counted N). each (its a c)) (λ c. Under x (fed c.0.0 c.1)) (adoptions a h) (λ c j. feeding.tells a h c i s x e wanted j)
             ∙ sym (total-flat_map zero plus feeding.sum (λ (p : ItemKey × V). cond (r.same_name x p.0) p.1 zero) (λ c. fed c.0.0 c.1) (adoptions a h))
             ∙ ap (Under x) (sym (feeding.feeds a h e))
 
-        archive_added : (x : ItemKey) → In x (r.names a h) → reads (r.payload a h x) ≡ Under x (fed a h)
-        archive_added x i =
+        archive_added : (v : WriterId) (s : ℕ) (x : ItemKey) → asks (r.key v s x) ≡ true → In x (r.names a h) → reads (r.payload a h x) ≡ Under x (fed a h)
+        archive_added v s x wanted i =
             let p = map-In name_of x (exported_points last) (subst (λ (l : List ItemKey). In x l) d.names i) in
             let once : Once (map name_of (exported_points last)) = subst (λ (l : List ItemKey). Once l) d.names (sound.once a h) in
             ap (λ x. reads (r.payload a h x)) p.2
             ∙ ap reads (d.payloads p.0 p.1)
             ∙ sym (one_under zero plus feeding.sum reads r.same_name sound.names_equivalence sound.names_exact p.0 (exported_points last) once p.1)
             ∙ ap (λ x. told_of x (exported_points last)) (sym p.2)
-            ∙ told_is x
+            ∙ told_is v s x wanted
 
         archive_named : (p : ItemKey × V) → In p (fed a h) → In p.0 (r.names a h)
         archive_named p i =
@@ -260,7 +260,7 @@ module _ {N : Type 0} (r : Rounding N Key WriterId ItemKey Payload) (keyed : Are
           | false ↦ λ e. feeding.named w h p e i
         ] refl;
         added = λ w h v s x q i. elim (is_archive (r.who w)) as (λ b. is_archive (r.who w) ≡ b → reads (r.payload w h x) ≡ Under x (fed w h)) [
-          | true ↦ λ e. archive_added w h e x i
+          | true ↦ λ e. archive_added w h e v s x q i
           | false ↦ λ e. feeding.added w h v s x e q i
         ] refl;
       }

@@ -1,10 +1,12 @@
 -- An archive: what contracts see of it, why it adopts no incarnation, and what adopting, exporting and sealing make of it.
 use Rattle.std.specs.Prelude.{◌≡◌, ℕ, ◌-◌, ◌≤◌, ◌^◌, pos, Bool, true, false, not, ◌||◌, ◌==◌, if◌then◌else◌, nat_lt, nat_le, IsTrue}
-use Rattle.std.specs.Prelude.{List, [], ◌∷◌, ◌++◌, Option, Some, None, length, drop}
+use Rattle.std.specs.Prelude.{ℤ, List, [], ◌∷◌, ◌++◌, Option, Some, None, codes, length, drop}
 use Rattle.std.specs.List.{list_any, list_all, filter_map}
 use Rattle.std.specs.Option.{is_some, option_map}
 use Rattle.attr_kit.specs.Refusing.{first, when}
 use Rattle.attr_kit.specs.contracts.txt.TxtPartialEq.TheImpl as texts
+use Rattle.attr_kit.specs.declared.attr_set.AttrSet.{AttrSet}
+use Rattle.attr_kit.specs.declared.attr_value.AttrValue.TheVariants as values
 use Rattle.point_kit.specs.contracts.writer_id.WriterIdPartialEq.TheImpl as writers
 use Rattle.point_kit.specs.ExportFaults.{export_fault, same_key}
 use Rattle.point_kit.specs.declared.cell.Cell.{Cell}
@@ -64,6 +66,15 @@ tombstone_of writer start time = record {
   attrs = incarnation_attrs writer (told start);
   payload = Gauge (pos (told time));
 }
+
+-- a point of a stream whose attributes tell an instance, a service and a start
+abbrev pub attrs_told : List ℕ → List ℕ → ℤ → AttrSet
+attrs_told instance service start =
+    (codes "instance", values.Text instance) ∷ (codes "service", values.Text service) ∷ (codes "start", values.Whole start) ∷ []
+
+abbrev pub point_told : Stream → List ℕ → List ℕ → ℤ → ExportPoint
+point_told stream instance service start =
+    record { stream = stream; attrs = attrs_told instance service start; payload = Gauge (pos 0) }
 
 -- the points of cells: of each that is no conflict its payload
 abbrev pub payload_held : Held Payload → Option Payload

@@ -1,8 +1,11 @@
 -- Tombstones are ordinary points: an archive writes one for each incarnation that it adopted, in a stream that no other writer has.
-use Rattle.std.specs.Prelude.{◌≡◌, ◌<◌, ℕ, pos, Bool, not, ◌&&◌, All, [], ◌∷◌, codes, length}
+use Rattle.std.specs.Prelude.{◌≡◌, ◌<◌, ℕ, pos, Bool, not, ◌&&◌, All, List, [], ◌∷◌, codes, length}
 use Rattle.attr_kit.specs.declared.attr_set.AttrSet.{AttrSet}
+use Rattle.attr_kit.specs.declared.attr_value.AttrValue.{AttrValue}
 use Rattle.attr_kit.specs.declared.attr_value.AttrValue.TheVariants as values
 use Rattle.attr_kit.specs.contracts.attr_set.AttrSetPartialEq.TheImpl as sets
+use Rattle.attr_kit.specs.contracts.attr_value.AttrValuePartialEq.TheImpl as attr_values
+use Rattle.attr_kit.specs.contracts.txt.TxtPartialEq.TheImpl as texts
 use Rattle.point_kit.specs.contracts.stream.StreamPartialEq.TheImpl as streams
 use Rattle.point_kit.specs.declared.key.Key.{Key}
 use Rattle.point_kit.specs.declared.shape.Shape.TheVariants as shapes
@@ -26,6 +29,10 @@ stream_eq = (streams.ghosts).eq
 
 abbrev pub set_eq : AttrSet → AttrSet → Bool
 set_eq = (sets.ghosts).eq
+
+-- pairs of a set, key by key and value by value
+abbrev pub pair_eq : List ℕ × AttrValue → List ℕ × AttrValue → Bool
+pair_eq p q = (texts.ghosts).eq p.0 q.0 && (attr_values.ghosts).eq p.1 q.1
 
 -- a key of that stream is a tombstone, whoever wrote it and whatever stands under it
 abbrev pub is_tombstone : Key → Bool

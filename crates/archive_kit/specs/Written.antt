@@ -75,7 +75,8 @@ module _ {N : Type 0} (r : Rounding N Key WriterId ItemKey Payload) where
       fed_under x pairs = total_where zero plus (λ p. r.same_name x p.0) (λ p. p.1) pairs
 
       -- Payloads add up as they are read, gauges to nothing. Of writers that are no archives what is fed is as the laws ask. An archive
-      -- feeds what it adopted; and what a gateway held of that tells what it was fed, and has a sum or a histogram of each name fed.
+      -- feeds what it adopted; and what was held of that tells what it was fed, of names that are asked for, and has a sum or a histogram
+      -- of each name fed.
       pub record AreFed : Type 0 where
         pub sum : IsSum zero plus
         pub both : (p q : Payload) → reads (add_payloads p q) ≡ plus (reads p) (reads q)
@@ -84,7 +85,8 @@ module _ {N : Type 0} (r : Rounding N Key WriterId ItemKey Payload) where
         pub added : (w : ℕ) (h : List N) (i : WriterId) (s : ℕ) (x : ItemKey) → how.is_archive (r.who w) ≡ false
             → asks (r.key i s x) ≡ true → In x (r.names w h) → reads (r.payload w h x) ≡ fed_under x (fed w h)
         pub feeds : (a : ℕ) (h : List N) → how.is_archive (r.who a) ≡ true → fed a h ≡ flat_map (λ c. fed c.0.0 c.1) (how.adoptions a h)
-        pub tells : (a : ℕ) (h : List N) (c : Counted N) (x : ItemKey) → how.is_archive (r.who a) ≡ true → In c (how.adoptions a h)
+        pub tells : (a : ℕ) (h : List N) (c : Counted N) (i : WriterId) (s : ℕ) (x : ItemKey) → how.is_archive (r.who a) ≡ true
+            → asks (r.key i s x) ≡ true → In c (how.adoptions a h)
             → told_by zero plus reads (λ s t. r.same_name x (s, t)) (points_held (held a c)) ≡ fed_under x (fed c.0.0 c.1)
         pub holds : (a : ℕ) (h : List N) (c : Counted N) (p : ItemKey × V) → how.is_archive (r.who a) ≡ true → In c (how.adoptions a h)
             → In p (fed c.0.0 c.1) → has_adding (λ s t. r.same_name p.0 (s, t)) (points_held (held a c)) ≡ true

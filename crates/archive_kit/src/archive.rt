@@ -1,19 +1,20 @@
 //! An archive: a writer whose points are those of incarnations that it adopted, added up.
-ghost use Rattle.std.specs.Prelude.{◌≡◌, ◌≢◌, ◌<◌, ◌≤◌, ◌-◌, IfOk, IfErr, OnOk, OnErr, None, Some, length, false};
+ghost use Rattle.std.specs.Prelude.{◌≡◌, ◌≢◌, ◌<◌, ◌≤◌, ◌-◌, nat_lt, IfOk, IfErr, OnOk, OnErr, None, Some, length, true, false};
 ghost use Rattle.gateway_kit.specs.Queries.{incarnation_points, part_points};
 ghost use Rattle.archive_kit.specs.Archive.{adopt_fault, early_fault, late_fault, is_of_archive, was_adopted, seal_refusal};
-ghost use Rattle.archive_kit.specs.Archive.{adopted, begun_anew, exported_at, exported_points, fresh, points_held, time_of, tombstone_of};
+ghost use Rattle.archive_kit.specs.Archive.{adopted, begun_anew, exported_at, exported_points, fresh, points_held};
+ghost use Rattle.archive_kit.specs.Keeping.{is_named};
 ghost use Rattle.archive_kit.specs.Tombstones.{is_tombstone};
 ghost use Rattle.std.specs.List.{list_any};
 ghost use Rattle.archive_kit.specs.Totals.{add_totals};
 
 use crate::early::{Early, first_fault};
 use crate::held::{has_conflict, has_other_time, has_stream, last_export, time_of};
-use crate::tombstone::{tombstone_of, tombstones};
-use crate::totals::{add_totals, has_key, push};
-use crate::{AdoptFault, ExportRefusal, SealRefusal};
+use crate::tombstone::{has_tombstone, tombstone_of, tombstones};
+use crate::totals::{add_totals, push};
+use crate::{AdoptFault, ExportRefusal, Keeper, SealRefusal};
 use attr_kit::{NoMemory, Seq, copy_all};
-use gateway_kit::{Gateway, PartItem};
+use gateway_kit::PartItem;
 use point_kit::{Export, ExportPoint, SharedStream, WriterId};
 use std::alloc::Global;
 use std::marker::Model;
@@ -95,6 +96,13 @@ impl Archive {
         self.start
     }
 
+    /// Whether a time is later than that of its last export, or than its start before the first: whether it may be exported at that time.
+    pub fn is_later(&self, time: u64) -> bool
+        ensures value { result ≡ nat_lt self.now.exported time }
+    {
+        self.exported < time
+    }
+
     /// How many incarnations this incarnation of it adopted: what an export has tombstones of.
     pub fn adopted_len(&self) -> usize
         ensures value { result ≡ length self.now.tombstones - self.now.sealed }
@@ -109,21 +117,22 @@ impl Archive {
         self.writer == *writer || has_stream(items, &self.stream)
     }
 
-    // The first refusal that needs no copies.
-    fn early_fault(
-        &self,
-        writer: &WriterId,
-        start: u64,
-        items: &[PartItem],
-        tombstone: &ExportPoint,
-    ) -> Option<AdoptFault>
-        requires { (time : _) × (tombstone.now ≡ tombstone_of writer.now start time) }
-        ensures { result ≡ early_fault self.now writer.now start (part_points writer.now start items.now) }
+    // Whether it adopted an incarnation.
+    fn has_adopted(&self, writer: &WriterId, start: u64) -> bool
+        ensures { result ≡ was_adopted self.now writer.now start }
+    {
+        has_tombstone(self.tombstones.as_slice(), &self.stream, writer, start)
+    }
+
+    // The first refusal that needs no copies. Takes no memory.
+    fn early_fault(&self, writer: &WriterId, start: u64, items: &[PartItem]) -> Option<AdoptFault>
+        ensures never { result ≢ Some AdoptFault.NoMemory }
+        ensures value { result ≡ early_fault self.now writer.now start (part_points writer.now start items.now) }
     {
         first_fault(Early {
             other_service: self.writer.service != writer.service,
             of_archive: self.is_of_archive(writer, start, items),
-            adopted: has_key(self.tombstones.as_slice(), tombstone),
+            adopted: self.has_adopted(writer, start),
             nothing: items.is_empty(),
             conflict: has_conflict(items),
             torn: has_other_time(items, time_of(items)),
@@ -159,14 +168,7 @@ impl Archive {
     }
 
     // Adds what is held of an incarnation to the totals, and notes its tombstone.
-    fn add(
-        &mut self,
-        writer: &WriterId,
-        start: u64,
-        items: &[PartItem],
-        tombstone: ExportPoint,
-    ) -> Result<(), AdoptFault>
-        requires tombstone { tombstone ≡ tombstone_of writer.now start (time_of (part_points writer.now start items.now)) }
+    fn add(&mut self, writer: &WriterId, start: u64, items: &[PartItem]) -> Result<(), AdoptFault>
         requires plain { list_any (λ e. is_tombstone e.0) (part_points writer.now start items.now) ≡ false }
         requires fresh { was_adopted self.old writer.now start ≡ false }
         ensures ok { OnOk result (late_fault self.old writer.now start (part_points writer.now start items.now) ≡ None) }
@@ -175,6 +177,8 @@ impl Archive {
             → late_fault self.old writer.now start (part_points writer.now start items.now) ≡ Some f) }
         ensures unchanged { OnErr result (self.new ≡ self.old) }
     {
+        let alloc = *self.totals.allocator();
+        let tombstone = tombstone_of(alloc, &self.stream, writer, start, time_of(items))?;
         match self.totals_with(writer, start, items) {
             Ok(totals) => {
                 push(&mut self.tombstones, tombstone)?;
@@ -186,35 +190,39 @@ impl Archive {
         }
     }
 
-    /// Adopts an incarnation of a writer: adds the sums and histograms that a gateway holds of it to the archive's own, by stream
+    /// Adopts an incarnation of a writer: adds the sums and histograms that a keeper holds of it to the archive's own, by stream
     /// and attributes, and notes its tombstone.
     ///
-    /// It is for incarnations that have ended: what one exports later is not counted. Refused as [`AdoptFault`] says, each where
-    /// none before it fits. `NoMemory` comes where a growth was refused; whether another fits is then open.
+    /// It is for incarnations that have ended, where the keeper has heard the last collection: what the incarnation exported beyond
+    /// what is adopted is not counted. A keeper holds no point of what a tombstone names, so none of that is adopted again.
+    ///
+    /// Refused as [`AdoptFault`] says, each where none before it fits. `NoMemory` comes where a growth was refused, and only where
+    /// none of the refusals before `Unsound` fits; whether one of the later ones does is then open.
     ///
     /// O(n + k) copies and O(k + t) comparisons of hashes, of the archive's n totals and t tombstones and of k points, where its points
     /// come in the order of the totals, as those of like incarnations do. Where one does not, or has no total yet, a walk over them, of
     /// comparisons of hashes.
     pub fn adopt(
         &mut self,
-        gateway: &Gateway,
+        keeper: &Keeper,
         writer: &WriterId,
         start: u64,
     ) -> Result<(), AdoptFault>
         ensures ok { OnOk result (
-            adopt_fault self.old writer.now start (incarnation_points writer.now start gateway.now.points) ≡ None) }
+            adopt_fault self.old writer.now start (incarnation_points writer.now start keeper.now.gateway.points) ≡ None) }
         ensures value { OnOk result (
-            self.new ≡ adopted self.old writer.now start (incarnation_points writer.now start gateway.now.points)) }
+            self.new ≡ adopted self.old writer.now start (incarnation_points writer.now start keeper.now.gateway.points)) }
         ensures err { IfErr result (λ f. f ≢ AdoptFault.NoMemory
-            → adopt_fault self.old writer.now start (incarnation_points writer.now start gateway.now.points) ≡ Some f) }
+            → adopt_fault self.old writer.now start (incarnation_points writer.now start keeper.now.gateway.points) ≡ Some f) }
+        ensures no_memory { IfErr result (λ f. f ≡ AdoptFault.NoMemory
+            → early_fault self.old writer.now start (incarnation_points writer.now start keeper.now.gateway.points) ≡ None) }
+        ensures named { is_named keeper.now.gateway.points writer.now start ≡ true → OnOk result ⊥ }
         ensures unchanged { OnErr result (self.new ≡ self.old) }
     {
-        let items = gateway.part(writer, start);
-        let alloc = *self.totals.allocator();
-        let tombstone = tombstone_of(alloc, &self.stream, writer, start, time_of(items))?;
-        match self.early_fault(writer, start, items, &tombstone) {
+        let items = keeper.gateway().part(writer, start);
+        match self.early_fault(writer, start, items) {
             Some(fault) => Err(fault),
-            None => self.add(writer, start, items, tombstone),
+            None => self.add(writer, start, items),
         }
     }
 
@@ -249,7 +257,7 @@ impl Archive {
         ensures no_memory { IfErr result (λ f. f ≡ ExportRefusal.NoMemory → self.old.exported < time) }
         ensures unchanged { OnErr result (self.new ≡ self.old) }
     {
-        if time <= self.exported {
+        if !self.is_later(time) {
             return Err(ExportRefusal::TimeNotLater);
         }
         let export = self.collect(time)?;

@@ -1,5 +1,5 @@
 //! What is looked for before points are copied.
-ghost use Rattle.std.specs.Prelude.{◌≡◌, [], ◌∷◌};
+ghost use Rattle.std.specs.Prelude.{◌≡◌, ◌≢◌, [], ◌∷◌};
 ghost use Rattle.attr_kit.specs.Refusing.{first, when};
 ghost use Rattle.archive_kit.specs.declared.adopt_fault.AdoptFault.TheVariants as faults;
 
@@ -18,7 +18,8 @@ pub(crate) struct Early {
 
 /// The first of them.
 pub(crate) fn first_fault(early: Early) -> Option<AdoptFault>
-    ensures { result ≡ first (when early.other_service faults.OtherService
+    ensures never { result ≢ Some AdoptFault.NoMemory }
+    ensures value { result ≡ first (when early.other_service faults.OtherService
         ∷ when early.of_archive faults.IsArchive
         ∷ when early.adopted faults.Adopted
         ∷ when early.nothing faults.Nothing

@@ -1,5 +1,5 @@
 //! A node that shows no point that a tombstone names.
-ghost use Rattle.std.specs.Prelude.{◌≡◌, ◌≢◌, ◌||◌, ◌&&◌, false, IfErr, IfOk, OnOk, OnErr, Some, None, ℕ, [], ◌∷◌};
+ghost use Rattle.std.specs.Prelude.{◌≡◌, ◌≢◌, ◌||◌, ◌&&◌, false, IfErr, IfOk, IsOk, IsSome, OnOk, OnErr, Ok, Some, None, ℕ, [], ◌∷◌};
 ghost use Rattle.std.specs.FinMap as finite;
 ghost use Rattle.gateway_kit.specs.Listing.{held_of_ref};
 ghost use Rattle.gateway_kit.specs.Queries.{is_of_incarnation};
@@ -87,18 +87,12 @@ fn names_in(alloc: Global, gateway: &Gateway, stream: &SharedStream) -> Result<V
 }
 
 // Adds an incarnation where it has one of the names.
-fn add_held(
-    gone: &mut Vec<Gone>,
-    alloc: Global,
-    held: IncarnationRef<'_>,
-    names: &[Name],
-) -> Result<(), NoMemory>
+fn add_held(gone: &mut Vec<Gone>, held: IncarnationRef<'_>, names: &[Name]) -> Result<(), NoMemory>
     requires { AreInOrder names.now }
     ensures { OnOk result ((k : Key) → is_of_any gone.new.items k ≡ (is_of_any gone.old.items k
         || (has_name names.now k.writer k.start && is_of_incarnation (held_of_ref held.entry).writer (held_of_ref held.entry).start k))) }
 {
-    let named = has_name(alloc, names, held.writer, held.start)?;
-    if !named {
+    if !has_name(names, held.writer, held.start) {
         return Ok(());
     }
     gone.push(Gone {
@@ -109,18 +103,13 @@ fn add_held(
 }
 
 // Adds the incarnations that a gateway holds points of and that have one of the names.
-fn add_named(
-    gone: &mut Vec<Gone>,
-    alloc: Global,
-    gateway: &Gateway,
-    names: &[Name],
-) -> Result<(), NoMemory>
+fn add_named(gone: &mut Vec<Gone>, gateway: &Gateway, names: &[Name]) -> Result<(), NoMemory>
     requires { AreInOrder names.now }
     ensures { OnOk result ((k : Key) → is_of_any gone.new.items k
         ≡ (is_of_any gone.old.items k || (has_name names.now k.writer k.start && is_held gateway.now.points k))) }
 {
     for held in gateway.incarnations() {
-        add_held(gone, alloc, held, names)?;
+        add_held(gone, held, names)?;
     }
     Ok(())
 }
@@ -138,11 +127,11 @@ fn named_held(
         ≡ (has_name names.now k.writer k.start && (is_held other.now.points k || (fresh && is_held gateway.now.points k)))) }
 {
     let mut gone = Vec::new(alloc);
-    add_named(&mut gone, alloc, other, names)?;
+    add_named(&mut gone, other, names)?;
     if !fresh {
         return Ok(gone);
     }
-    add_named(&mut gone, alloc, gateway, names)?;
+    add_named(&mut gone, gateway, names)?;
     Ok(gone)
 }
 
@@ -190,7 +179,8 @@ fn settle(node: &mut Node, names: &mut Vec<Name>, ready: Ready, stream: &SharedS
 // The cells that a message carries: those of the empty gateway where it is an Ack.
 fn carried<'a>(message: &'a Message, none: &'a Gateway) -> &'a Gateway
     requires { none.now.points ≡ finite.empty }
-    ensures { result.now.points ≡ message.now.points }
+    ensures value { result.now.points ≡ message.now.points }
+    ensures of_ack { IsSome message.now.ack → result.now.points ≡ finite.empty }
 {
     match message.body() {
         Body::Whole(points) => points,
@@ -221,7 +211,8 @@ fn brings_tombstone(export: &Export, stream: &SharedStream) -> bool
 
 // The points of an export alone.
 fn points_of(alloc: Global, export: &Export) -> Result<Gateway, NoMemory>
-    ensures { IfOk result (λ gateway. gateway.points ≡ state (export.now ∷ [])) }
+    ensures value { IfOk result (λ gateway. gateway.points ≡ state (export.now ∷ [])) }
+    ensures no_points { export.now.points ≡ [] → IsOk result }
 {
     let mut gateway = Gateway::new(alloc, 0);
     gateway.take(export)?;
@@ -260,7 +251,8 @@ impl Keeper {
     ///
     /// It costs what `Node::merge` does, a walk over the other's points, and a look-up of each of its incarnations, O(log t) of t
     /// names. Where it brings tombstones, the names are copied and sorted anew, O(t log t), and the incarnations held here are
-    /// looked up too. What is named costs `Node::forget_but`. Refused with `NoMemory`, with nothing changed.
+    /// looked up too. What is named costs `Node::forget_but`. Refused with `NoMemory`, with nothing changed. A gateway without
+    /// points changes nothing and takes no memory.
     pub fn merge(&mut self, other: &Gateway) -> Result<u64, NoMemory>
         ensures id { self.new.gateway.id ≡ self.old.gateway.id }
         ensures ok { OnOk result (self.new.gateway.points ≡ kept_points self.old.gateway.points other.now.points) }
@@ -268,7 +260,11 @@ impl Keeper {
             (join_points self.old.gateway.points other.now.points)) }
         ensures steps { OnOk result (JoinsAndDrops other.now.points self.old.acked self.old self.new) }
         ensures unchanged { OnErr result (self.new ≡ self.old) }
+        ensures no_points { other.now.points ≡ finite.empty → result ≡ Ok 0 }
     {
+        if other.len() == 0 {
+            return self.node.merge(other);
+        }
         let alloc = *self.names.allocator();
         let ready = ready(alloc, self.node.gateway(), &self.names, other, &self.stream)?;
         let changed = self.node.merge(other)?;
@@ -279,7 +275,8 @@ impl Keeper {
     /// Takes a message in as `Node::hand` does, and forgets what a tombstone then names, but for tombstones. The answer is the
     /// node's, an Ack of a delta.
     ///
-    /// It costs what `Node::hand` does, and of its cells what `merge` costs beside the join. Refused as there, with nothing changed.
+    /// It costs what `Node::hand` does, and of its cells what `merge` costs beside the join. Refused as there, with nothing changed,
+    /// and as there an Ack of a peer that acknowledged before takes no memory, nor does a message without cells that is no Ack.
     #[tactic(auto, unfolding(gossip_kit::specs::Gossip::hand_fault))]
     pub fn hand(&mut self, message: &Message) -> Result<Option<Message>, HandFault>
         ensures id { self.new.gateway.id ≡ self.old.gateway.id }
@@ -289,6 +286,10 @@ impl Keeper {
         ensures steps { OnOk result (JoinsAndDrops message.now.points (acked_after self.old message.now) self.old self.new) }
         ensures err { IfErr result (λ fault. fault ≢ HandFault.NoMemory → hand_fault self.old message.now ≡ Some fault) }
         ensures no_memory { IfErr result (λ fault. fault ≡ HandFault.NoMemory → hand_fault self.old message.now ≡ None) }
+        ensures known { IsSome message.now.ack → IsSome (finite.get self.old.acked message.now.from)
+            → IfErr result (λ fault. fault ≢ HandFault.NoMemory) }
+        ensures no_points { message.now.ack ≡ None → message.now.points ≡ finite.empty
+            → IfErr result (λ fault. fault ≢ HandFault.NoMemory) }
         ensures unchanged { OnErr result (self.new ≡ self.old) }
     {
         if message.to() != self.node.gateway().id() {
@@ -296,11 +297,15 @@ impl Keeper {
         }
         let alloc = *self.names.allocator();
         let none = Gateway::new(alloc, 0);
+        let coming = carried(message, &none);
+        if coming.len() == 0 {
+            return self.node.hand(message);
+        }
         let ready = ready(
             alloc,
             self.node.gateway(),
             &self.names,
-            carried(message, &none),
+            coming,
             &self.stream,
         )?;
         let answer = self.node.hand(message)?;
@@ -309,24 +314,18 @@ impl Keeper {
     }
 
     // Whether a tombstone that is held names an export's incarnation.
-    fn is_late(&self, export: &Export) -> Result<bool, NoMemory>
-        ensures { IfOk result (λ late. late ≡ is_named self.now.gateway.points export.now.writer export.now.start) }
+    fn is_late(&self, export: &Export) -> bool
+        ensures { result ≡ is_named self.now.gateway.points export.now.writer export.now.start }
     {
-        let alloc = *self.names.allocator();
-        let late = has_name(
-            alloc,
-            self.names.as_slice(),
-            export.writer(),
-            export.start(),
-        )?;
-        Ok(late)
+        has_name(self.names.as_slice(), export.writer(), export.start())
     }
 
     /// Takes an export: joins its points, and forgets what a tombstone then names, but for tombstones. Of an export whose
     /// incarnation is named already at most tombstones stay: the answer is then `Late`.
     ///
     /// It costs what `Node::take` does and a look-up, O(log t) of t names. Where a tombstone comes, or the export is late, it costs what
-    /// `merge` of a gateway with these points does. Refused with `NoMemory`, with nothing changed.
+    /// `merge` of a gateway with these points does. Refused with `NoMemory`, with nothing changed. An export without points changes
+    /// nothing and takes no memory.
     pub fn take(&mut self, export: &Export) -> Result<Taking, NoMemory>
         ensures id { self.new.gateway.id ≡ self.old.gateway.id }
         ensures ok { OnOk result (self.new.gateway.points ≡ kept_points self.old.gateway.points (state (export.now ∷ []))) }
@@ -334,8 +333,9 @@ impl Keeper {
             (changed_points self.old.gateway.points (join_points self.old.gateway.points (state (export.now ∷ []))))) }
         ensures steps { OnOk result (JoinsAndDrops (state (export.now ∷ [])) self.old.acked self.old self.new) }
         ensures unchanged { OnErr result (self.new ≡ self.old) }
+        ensures no_points { export.now.points ≡ [] → IsOk result }
     {
-        let late = self.is_late(export)?;
+        let late = self.is_late(export);
         if !late && !brings_tombstone(export, &self.stream) {
             let changed = self.node.take(export)?;
             return Ok(taking_of(false, changed));

@@ -1,5 +1,5 @@
 //! What is true of states that do not show what their tombstones name, and of archives.
-ghost use Rattle.std.specs.Prelude.{◌≡◌, ℕ, ◌+◌, ◌+ℤ◌, Bool, true, false, not, cond, pos, List, [], ◌++◌, filter, map, Option, Some};
+ghost use Rattle.std.specs.Prelude.{◌≡◌, ℕ, ◌+◌, ◌+ℤ◌, Bool, true, false, not, cond, pos, List, [], ◌∷◌, ◌++◌, filter, map, Option, Some};
 ghost use Rattle.std.specs.List.{filter_map, list_any};
 ghost use Rattle.std.specs.Cmp.{IsTotalOrder, IsEquivalence};
 ghost use Rattle.std.specs.FinMap.{FinMap, IsAntisymmetric, get, retain_keys};
@@ -31,6 +31,7 @@ ghost use Rattle.archive_kit.specs.Adopting.{values_counted, EachOnce, RefusesAg
 ghost use Rattle.archive_kit.specs.Archive.{ArchiveState, adopted, exported_points, fresh, points_held};
 ghost use Rattle.archive_kit.specs.Archived.{Archivists, archived, archiving, archived_fed, AddAsRead, CanArchive};
 ghost use Rattle.archive_kit.specs.Driving.{Adoption, Call, driven, AreAccepted, all_adopted, since_sealed};
+ghost use Rattle.archive_kit.specs.Driving.Call.{Seal};
 ghost use Rattle.archive_kit.specs.Driving.{tombstone, has_adding, WasExported};
 ghost use Rattle.archive_kit.specs.Showing.{hides, shown, join_shown, IsShownBelow, NamesNoNamer};
 ghost use Rattle.archive_kit.specs.Stories.{Story, SameTaken, taken, held, state_of_taken, IsHeard};
@@ -232,12 +233,16 @@ pub fn exports_tell_what_was_adopted()
         ≡ total 0 ◌+◌ (λ c. told_by 0 ◌+◌ (bucket_told place) asks (points_held c.1)) (since_sealed calls) }
 {}
 
-/// Of whatever calls an archive accepted since it began, sealed or not: no two adopted one incarnation. And where it adopted nothing
-/// since its last export, each adopted incarnation's tombstone stands in an export that it made.
+/// Of whatever calls an archive accepted since it began, sealed or not: no two adopted one incarnation, so what it adopted before a
+/// seal it adopts in no later incarnation of its own. And where it adopted nothing since its last export, each adopted incarnation's
+/// tombstone stands in an export that it made.
 #[tactic(auto)]
 pub fn adoptions_are_exported()
     ensures once { (writer : WriterId) (start limit : ℕ) (calls : List Call) → AreAccepted (fresh writer start limit) calls
         → Once {A = WriterId × ℕ} (map (λ c. c.0) (all_adopted calls)) }
+    ensures sealed { (writer : WriterId) (start limit again : ℕ) (calls later : List Call)
+        → AreAccepted (fresh writer start limit) (later ++ Seal again ∷ calls) → (c d : Adoption)
+        → In c (all_adopted calls) → In d (since_sealed (later ++ Seal again ∷ calls)) → c.0 ≡ d.0 → ⊥ }
     ensures told { (writer : WriterId) (start limit : ℕ) (calls : List Call) → AreAccepted (fresh writer start limit) calls
         → (driven (fresh writer start limit) calls).unexported ≡ false
         → (c : Adoption) → In c (all_adopted calls) → WasExported (fresh writer start limit) calls (tombstone c) }

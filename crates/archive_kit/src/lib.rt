@@ -1,6 +1,6 @@
 //! Archives: writers that adopt ended incarnations of others, so that what a state shows can leave these out.
 //!
-//! - An [`Archive`] adopts an incarnation that a gateway holds (`adopt`): it adds the sums and histograms to its own, or says in an
+//! - An [`Archive`] adopts an incarnation that a keeper holds (`adopt`): it adds the sums and histograms to its own, or says in an
 //!   [`AdoptFault`] why not. Its exports (`export`) have these totals and a tombstone for each incarnation that it adopted, or an
 //!   [`ExportRefusal`] comes. Under a later start it begins anew (`seal`), once it exported all that it adopted ([`SealRefusal`]).
 //! - A [`Keeper`] is a gateway whose points are always what is shown: it skips what a tombstone names and forgets what comes to be
@@ -14,7 +14,7 @@
 //!
 //! A caller (`crates/archive_kit/src/tests/builders.rt`):
 //!
-//!     archive.adopt(gateway, &writer, start)?;
+//!     archive.adopt(keeper, &writer, start)?;
 //!     let made = archive.export(time)?;
 //!
 //! What contracts cite stands in `specs/`: `Archive` (what contracts see of one, its refusals and exports), `Totals`, `Adding` and
@@ -57,3 +57,4 @@ pub use plan_refusal::PlanRefusal;
 pub use planning::build_plan;
 pub use seal_refusal::SealRefusal;
 pub use taking::Taking;
+pub use tombstone::SCOPE;

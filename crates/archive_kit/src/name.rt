@@ -4,13 +4,16 @@ ghost use Rattle.attr_kit.specs.Putting.{value_of};
 ghost use Rattle.attr_kit.specs.declared.attr_value.AttrValue.TheVariants as values;
 ghost use Rattle.point_kit.specs.declared.writer_id.WriterId.{WriterId};
 ghost use Rattle.archive_kit.specs.Keeping.{has_name, is_name, AreInOrder};
-ghost use Rattle.archive_kit.specs.Named.{name_of, names_incarnation, text_in, whole_in};
+ghost use Rattle.archive_kit.specs.Named.{names_incarnation, text_in, whole_in};
 ghost use Rattle.archive_kit.specs.Tombstones.{incarnation_attrs, set_eq};
+ghost use Rattle.archive_kit.specs.contracts.name.NameOrd.TheImpl as orders;
 
-use crate::tombstone::{attrs_of, instance_text};
+use crate::tombstone::attrs_of;
 use attr_kit::{AttrSet, AttrValue, NoMemory, TryCopy, Txt, copy_all};
 use point_kit::WriterId;
 use std::alloc::Global;
+use std::cmp::Ordering;
+use uuid::Uuid;
 
 /// An incarnation as a tombstone tells it: its service, the text of its instance, and its start.
 #[derive(Debug, PartialEq, Eq, PartialOrd, Ord, Drop)]
@@ -30,15 +33,17 @@ impl TryCopy for Name {
     }
 }
 
-/// The name of an incarnation.
-pub(crate) fn name_of(alloc: Global, writer: &WriterId, start: u64) -> Result<Name, NoMemory>
-    ensures { IfOk result (λ name. name ≡ name_of writer.now start) }
-{
-    Ok(Name {
-        service: writer.service.try_copy()?,
-        instance: instance_text(alloc, &writer.instance)?,
-        start,
-    })
+impl Name {
+    // How it stands to the name of these parts.
+    fn order(&self, service: &str, instance: &str, start: u64) -> Ordering
+        ensures { result ≡ (orders.ghosts).cmp self.now (record { service = service.now; instance = instance.now; start = start }) }
+    {
+        self.service
+            .as_str()
+            .cmp(service)
+            .then(self.instance.as_str().cmp(instance))
+            .then(self.start.cmp(&start))
+    }
 }
 
 // The text under a key of a set, empty where there is none.
@@ -107,20 +112,18 @@ pub(crate) fn told_name(alloc: Global, attrs: &AttrSet) -> Result<Option<Name>, 
     }
 }
 
-/// Whether the name of an incarnation is among names in their order: O(log n) comparisons.
-pub(crate) fn has_name(
-    alloc: Global,
-    names: &[Name],
-    writer: &WriterId,
-    start: u64,
-) -> Result<bool, NoMemory>
+/// Whether the name of an incarnation is among names in their order: O(log n) comparisons. Takes no memory.
+pub(crate) fn has_name(names: &[Name], writer: &WriterId, start: u64) -> bool
     requires { AreInOrder names.now }
-    ensures { IfOk result (λ has. has ≡ has_name names.now writer.now start) }
+    ensures { result ≡ has_name names.now writer.now start }
 {
-    let name = name_of(alloc, writer, start)?;
-    match names.binary_search(&name) {
-        Ok(_) => Ok(true),
-        Err(_) => Ok(false),
+    let service = writer.service.as_str();
+    let mut buffer = Uuid::encode_buffer();
+    let id = writer.instance.hyphenated();
+    let instance = id.encode_lower(&mut buffer);
+    match names.binary_search_by(|name| name.order(service, instance, start)) {
+        Ok(_) => true,
+        Err(_) => false,
     }
 }
 

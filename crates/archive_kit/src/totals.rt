@@ -1,6 +1,6 @@
 //! Totals: points by stream and set, to which others are added.
 ghost use Rattle.std.specs.Prelude.{◌≡◌, ◌++◌, ◌∷◌, [], ◌<◌, OnOk, OnErr, IfOk, true, length, get_or, slice_set, position};
-ghost use Rattle.std.specs.List.{IsDistinct, list_any};
+ghost use Rattle.std.specs.List.{IsDistinct};
 ghost use Rattle.point_kit.specs.ExportFaults.{same_key};
 ghost use Rattle.archive_kit.specs.Totals.{add_total, fits_total, add_totals, fit_together, fit_totals, is_gauge, plus_payload};
 
@@ -25,13 +25,6 @@ fn place_of(points: &[ExportPoint], point: &ExportPoint, guess: usize) -> Option
         return Some(guess);
     }
     points.iter().position(|q| are_of_one_key(point, q))
-}
-
-/// Whether a point of the same stream and set is there.
-pub(crate) fn has_key(points: &[ExportPoint], point: &ExportPoint) -> bool
-    ensures { result ≡ list_any (same_key point.now) points.now }
-{
-    points.iter().any(|q| are_of_one_key(point, q))
 }
 
 // Whether a point is a gauge's.

@@ -157,7 +157,7 @@ module _ {N : Type 0} (s : Writing N) (sound : IsSound (rounding s)) where
       swapped false false = refl
 
   module _ (how : Archiving N Key WriterId ItemKey) (held : ℕ → Counted N → List (Key × Cell Payload)) (never : (a : ℕ) (h : List N) (c : Counted N) → how.is_archive (s.who a) ≡ true → In c (how.adoptions a h) → how.is_archive (s.who c.0.0) ≡ false)
-      (were : WereHeld s how held) {V : Type 0} (zero : V) (plus : V → V → V) (reads : Payload → V) (fed : ℕ → List N → List (ItemKey × V)) (asks : Key → Bool) (read : AreRead s how zero plus reads fed) where
+      (were : WereHeld s how held) {V : Type 0} (zero : V) (plus : V → V → V) (reads : Payload → V) (fed : ℕ → List N → List (ItemKey × V)) (asks : Key → Bool) (read : AreRead s how zero plus reads fed asks) where
     abbrev same : ItemKey → ItemKey → Bool
     same = (rounding s).same_name
 
@@ -175,13 +175,13 @@ module _ {N : Type 0} (s : Writing N) (sound : IsSound (rounding s)) where
           | false ↦ refl
         ]
 
-    fed_there : (w : ℕ) (h : List N) (x : ItemKey) → how.is_archive (s.who w) ≡ false → cond (list_any (same x) (s.names w h)) (reads (s.payload w h x)) zero ≡ under x (fed w h)
-    fed_there w h x plain = elim (list_any (same x) (s.names w h)) as (λ b. list_any (same x) (s.names w h) ≡ b → cond b (reads (s.payload w h x)) zero ≡ under x (fed w h)) [
-      | true ↦ λ has. read.added w h x plain (any-In same sound.names_equivalence sound.names_exact x (s.names w h) has)
-      | false ↦ λ none. sym (total_zero zero plus read.sum (λ (p : ItemKey × V). cond (same x p.0) p.1 zero) (fed w h) (λ p i.
+    fed_there : (w : ℕ) (h : List N) (i : WriterId) (start : ℕ) (x : ItemKey) → how.is_archive (s.who w) ≡ false → asks (whole_key (i, start) x) ≡ true → cond (list_any (same x) (s.names w h)) (reads (s.payload w h x)) zero ≡ under x (fed w h)
+    fed_there w h i start x plain asked = elim (list_any (same x) (s.names w h)) as (λ b. list_any (same x) (s.names w h) ≡ b → cond b (reads (s.payload w h x)) zero ≡ under x (fed w h)) [
+      | true ↦ λ has. read.added w h i start x plain asked (any-In same sound.names_equivalence sound.names_exact x (s.names w h) has)
+      | false ↦ λ none. sym (total_zero zero plus read.sum (λ (p : ItemKey × V). cond (same x p.0) p.1 zero) (fed w h) (λ p j.
           ap (λ b. cond b p.1 zero) (not_true (same x p.0) (λ e.
           let is : x ≡ p.0 = sound.names_exact x p.0 e in
-          true≢false (sym (In-any same sound.names_equivalence sound.names_exact x (s.names w h) (subst (λ (y : ItemKey). In y (s.names w h)) (sym is) (read.named w h p plain i))) ∙ none)))))
+          true≢false (sym (In-any same sound.names_equivalence sound.names_exact x (s.names w h) (subst (λ (y : ItemKey). In y (s.names w h)) (sym is) (read.named w h p plain j))) ∙ none)))))
     ] refl
 
     pub are_fed : AreFed (rounding s) how held zero plus reads fed asks
@@ -190,14 +190,14 @@ module _ {N : Type 0} (s : Writing N) (sound : IsSound (rounding s)) where
       both = read.both;
       gauges = read.gauges;
       named = read.named;
-      added = λ w h i start x plain asked has. read.added w h x plain has;
+      added = λ w h i start x plain asked has. read.added w h i start x plain asked has;
       feeds = read.feeds;
-      tells = λ a h c x e i.
+      tells = λ a h c j start x e asked i.
           let its = were a h c e i in
           ap (λ cells. told_by zero plus reads (named x) (points_held cells)) its.2
           ∙ told_there zero plus read.sum reads (s.who c.0.0) c.0.1 x its.0
           ∙ there zero reads c its.0 x its.1
-          ∙ fed_there c.0.0 c.1 x (never a h c e i);
+          ∙ fed_there c.0.0 c.1 j start x (never a h c e i) asked;
       holds = λ a h c p e i j.
           let its = were a h c e i in
           let plain = never a h c e i in

@@ -3,5 +3,11 @@ pub mod Gossip
 pub mod Happening
 pub mod Nodes
 pub mod Numbers
+pub mod Once
+pub mod Page
+pub mod Reading
+pub mod Rows
+pub mod Services
 pub mod Shown
 pub mod Standing
+pub mod Weighing

@@ -190,7 +190,7 @@ module _ {N : Type 0} (s : Writing N) (starts : List ℕ) (seen : Seen N) (fits 
         ∙ shown_answers (rounding s) sound fits starts gateways told (deeds ss) is.lawful (AtGateway g) zero plus reads fed Rg asks group added how tombs archives og antig
 
     -- where archives write what calls made of one, which adopted what was held
-    pub lossless : (held : ℕ → Counted N → List (Key × Cell Payload)) → IsSound (rounding s) → IsTold s.who starts → AreArchived s how held → AreRead s how zero plus reads fed → AreAsked s how asks group
+    pub lossless : (held : ℕ → Counted N → List (Key × Cell Payload)) → IsSound (rounding s) → IsTold s.who starts → AreArchived s how held → AreRead s how zero plus reads fed asks → AreAsked s how asks group
         → IsTotalOrder Rg → IsAntisymmetric Rg → (g : ℕ) → rollup Rg zero plus asks group reads (S (Has g))
         ≡ recorded Rg zero plus asks group
         (values_counted (rounding s) fed (counted_at s how starts ss g))

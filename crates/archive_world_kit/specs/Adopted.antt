@@ -6,8 +6,8 @@ use Rattle.archive_kit.specs.Adding.{add_payloads}
 use Rattle.archive_kit.specs.Adopting.{Archiving, Counted, adoptees, counted, is_adopted}
 use Rattle.archive_kit.specs.Tombstones.{IsInstance}
 use Rattle.archive_kit.specs.Totals.{is_gauge}
-use Rattle.archive_kit.specs.Written.{AreDriven}
-use Rattle.archive_world_kit.specs.Steps.{Step, Writing, deeds, rounding}
+use Rattle.archive_kit.specs.Written.{our_archiving, AreDriven}
+use Rattle.archive_world_kit.specs.Steps.{History, Step, Writing, deeds, rounding}
 use Rattle.gateway_kit.specs.Keys.{ItemKey, whole_key}
 use Rattle.gateway_kit.specs.Queries.{incarnation_points}
 use Rattle.point_kit.specs.declared.cell.Cell.{Cell}
@@ -68,16 +68,18 @@ module _ {N : Type 0} (s : Writing N) where
     WereHeld held = (a : ℕ) (h : List N) (c : Counted N) → how.is_archive (s.who a) ≡ true → In c (how.adoptions a h)
         → (points : Points) × HoldsJust c points × (held a c ≡ incarnation_points (s.who c.0.0) c.0.1 points)
 
-    -- Payloads add up as they are read, gauges to nothing. Of writers that are no archives each payload reads as the values fed to it,
-    -- added up, and none are fed to gauges. An archive feeds what it adopted.
-    pub record AreRead {V : Type 0} (zero : V) (plus : V → V → V) (reads : Payload → V) (fed : ℕ → List N → List (ItemKey × V)) : Type 0 where
+    -- Payloads add up as they are read, gauges to nothing. Of writers that are no archives each payload that is asked for reads as the
+    -- values fed to it, added up, and none are fed to gauges. An archive feeds what it adopted.
+    pub record AreRead {V : Type 0} (zero : V) (plus : V → V → V) (reads : Payload → V) (fed : ℕ → List N → List (ItemKey × V))
+        (asks : Key → Bool) : Type 0 where
       pub sum : IsSum zero plus
       pub both : (p q : Payload) → reads (add_payloads p q) ≡ plus (reads p) (reads q)
       pub gauges : (v : ℤ) → reads (Gauge v) ≡ zero
       pub named : (w : ℕ) (h : List N) (p : ItemKey × V) → how.is_archive (s.who w) ≡ false → In p (fed w h) → In p.0 (s.names w h)
       pub plain : (w : ℕ) (h : List N) (p : ItemKey × V) → how.is_archive (s.who w) ≡ false → In p (fed w h)
           → is_gauge (s.payload w h p.0) ≡ false
-      pub added : (w : ℕ) (h : List N) (x : ItemKey) → how.is_archive (s.who w) ≡ false → In x (s.names w h)
+      pub added : (w : ℕ) (h : List N) (i : WriterId) (start : ℕ) (x : ItemKey) → how.is_archive (s.who w) ≡ false
+          → asks (whole_key (i, start) x) ≡ true → In x (s.names w h)
           → reads (s.payload w h x) ≡ total_where zero plus (λ p. (rounding s).same_name x p.0) (λ p. p.1) (fed w h)
       pub feeds : (a : ℕ) (h : List N) → how.is_archive (s.who a) ≡ true → fed a h ≡ flat_map (λ c. fed c.0.0 c.1) (how.adoptions a h)
 
@@ -93,3 +95,24 @@ module _ {N : Type 0} (s : Writing N) where
           → asks (whole_key (s.who a, start) x) ≡ asks (whole_key (s.who c.0.0, c.0.1) x)
       pub grouped : (a start : ℕ) (h : List N) (c : Counted N) (x : ItemKey) → how.is_archive (s.who a) ≡ true → In c (how.adoptions a h)
           → group (whole_key (s.who a, start) x) ≡ group (whole_key (s.who c.0.0, c.0.1) x)
+
+-- archives among the writers of a history: which identities are archives, what their entries adopt, and what was held of each adoption
+pub record Archives {N : Type 0} (h : History N) : Type 0 where
+  pub is_archive : WriterId → Bool
+  pub adoptions : ℕ → List N → List (Counted N)
+  pub held : ℕ → Counted N → List (Key × Cell Payload)
+  pub are : AreArchived h.writing (our_archiving is_archive adoptions) held
+
+module _ {N : Type 0} {h : History N} (a : Archives h) where
+  abbrev pub telling : Archiving N Key WriterId ItemKey
+  telling = our_archiving a.is_archive a.adoptions
+
+  -- by the exports that a node took: what counts of all that was recorded, what of this archives adopted, and the keys that it shows
+  abbrev pub counted_by : ℕ → List (Counted N)
+  counted_by g = counted_at h.writing telling h.starts h.steps g
+
+  abbrev pub adopted_by : ℕ → List (Counted N)
+  adopted_by g = adopted_at h.writing telling h.starts h.steps g
+
+  abbrev pub keys_by : ℕ → List Key
+  keys_by g = keys_at h.writing telling h.starts h.steps g

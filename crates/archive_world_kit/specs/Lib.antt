@@ -1,2 +1,4 @@
 pub mod Adopted
+pub mod Answers
+pub mod Apart
 pub mod Steps

@@ -1,13 +1,12 @@
 -- Histories of nodes that forget: what happened, and what each call made of a node, as its contract tells.
-use Rattle.std.specs.Prelude.{◌≡◌, ◌≢◌, ℕ, ◌+◌, ◌<◌, ◌⊎◌, Bool, true, false, not, ◌&&◌, if◌then◌else◌, List, [], ◌∷◌, Some, None}
-use Rattle.std.specs.FinMap.{FinMap, get, empty, retain_keys}
-use Rattle.std.specs.Ordering.{nat_cmp}
-use Rattle.archive_kit.specs.Showing.{hides}
+use Rattle.std.specs.Prelude.{◌≡◌, ◌≢◌, ℕ, ◌+◌, ◌<◌, ◌⊎◌, Bool, true, false, ◌&&◌, if◌then◌else◌, List, [], ◌∷◌, Some, None}
+use Rattle.std.specs.FinMap.{get, empty}
+use Rattle.archive_kit.specs.Showing.{hides, shown}
 use Rattle.archive_kit.specs.Stepping.{AreHidden, Drops, Joins}
 use Rattle.archive_kit.specs.Tombstones.{names_key, stream_eq, set_eq}
 use Rattle.archive_kit.specs.Written.{is_tombstone_name}
 use Rattle.gateway_kit.specs.Keys.{ItemKey, whole_key}
-use Rattle.gossip_kit.specs.Gossip.{Renumbers, acked_after, answer_of, carried_to, delta_to, first_node}
+use Rattle.gossip_kit.specs.Gossip.{acked_after, answer_of, carried_to, delta_to, first_node}
 use Rattle.gossip_kit.specs.Views.{MessageModel, NodeModel}
 use Rattle.point_kit.specs.declared.cell.Cell.{Cell}
 use Rattle.point_kit.specs.declared.export.Export.{Export}
@@ -15,13 +14,13 @@ use Rattle.point_kit.specs.declared.key.Key.{Key}
 use Rattle.point_kit.specs.declared.payload.Payload.{Payload}
 use Rattle.point_kit.specs.declared.writer_id.WriterId.{WriterId}
 use Rattle.point_kit.specs.Equality.{payload_eq}
-use Rattle.point_kit.specs.Exports.{Points, join_points, points_of, state}
+use Rattle.point_kit.specs.Exports.{Points, points_of, state}
 use Rattle.point_kit.specs.Orders.{key_cmp}
-use Rattle.schedule_kit.specs.Deeds.{Deed, Made, Holder, made, mails, AreLawful}
+use Rattle.schedule_kit.specs.Deeds.{Deed, Made, Holder, made, mails, AreLawful, IsTold}
 use Rattle.schedule_kit.specs.Deeds.Deed.{Wrote, Delivered, Merged, Sent, Handed}
 use Rattle.schedule_kit.specs.Members.{In}
 use Rattle.schedule_kit.specs.Rounds as rounds
-use Rattle.schedule_kit.specs.Rounds.{Rounding}
+use Rattle.schedule_kit.specs.Rounds.{Rounding, IsSound}
 use Rattle.schedule_kit.specs.Taken.{made_of, taken_collections}
 
 -- a deed of a world; or a node dropped keys
@@ -137,3 +136,34 @@ module _ {N : Type 0} (s : Writing N) (starts : List ℕ) (seen : Seen N) where
   -- the state of the exports that a holder took, by itself, by merges or by mails
   abbrev pub state_at : List (Step N) → Holder → Points
   state_at ss h = rounds.state (rounding s) (taken_collections starts (deeds ss) h)
+
+-- a history: who writes what, when each writer began, what was seen, which entries writers take, how many nodes there are, and the
+-- steps
+pub record History (N : Type 0) : Type 0 where
+  pub writing : Writing N
+  pub starts : List ℕ
+  pub seen : Seen N
+  pub fits : ℕ → List N → N → Bool
+  pub gateways : ℕ
+  pub steps : List (Step N)
+  pub is : IsHistory writing starts seen fits gateways steps
+
+module _ {N : Type 0} (h : History N) where
+  -- their collections are sound
+  abbrev pub HasSoundRounds : Type 0
+  HasSoundRounds = IsSound (rounding h.writing)
+
+  -- no two writers share an identity, archives among them
+  abbrev pub HasIdentities : Type 0
+  HasIdentities = IsTold h.writing.who h.starts
+
+  -- what a node holds in the end, and the state of the exports that a holder took
+  abbrev pub held_by : ℕ → Points
+  held_by g = points_at h.writing h.starts h.seen h.steps g
+
+  abbrev pub taken_by : Holder → Points
+  taken_by holder = state_at h.writing h.starts h.seen h.steps holder
+
+  -- what a node shows
+  abbrev pub shown_by : ℕ → Points
+  shown_by g = shown names_key (held_by g)

@@ -10,13 +10,18 @@
 //! - [`nodes_hold_newest_collections`]: of an incarnation that it does not hide it holds the newest collection that it took.
 //! - [`held_collections_tell_what_was_fed`]: so what an archive adopts of it tells what the incarnation fed.
 //! - [`nodes_count_adopted_once`]: roll-ups of nodes where archives are as the laws of archive_kit ask, however they come to be so.
+//! - [`rows_count_adopted_once`], [`pages_count_adopted_once`]: so are the rows of asks, and the numbers of pages.
+//! - [`archives_change_no_answer`]: where each adopted collection is the last, and none is adopted twice, answers are those without any
+//!   archive. [`incarnations_are_adopted_once`] says when none is.
+//! - [`archives_are_asked_as_adopted`], [`payloads_add_up`]: what the laws of rows rest on.
 //!
 //! A history at work, whose calls are proved to be such steps (`crates/archive_world_kit/src/tests.rt`):
 //!
 //!     take(one, &adopted)?;
 //!     let forgotten = forget(one, worker, 100);
 //!
-//! What contracts cite stands in `specs/`: `Steps` (histories), `Adopted` (archives that adopt what was held).
+//! What contracts cite stands in `specs/`: `Steps` (histories), `Adopted` (archives that adopt what was held), `Apart` (when none is
+//! adopted twice), `Answers` (what is fed, and when archives change no answer).
 #![tactic(auto)]
 
 mod laws;
@@ -24,6 +29,8 @@ mod laws;
 mod tests;
 
 pub use laws::{
-    forgetting_loses_nothing, held_collections_tell_what_was_fed, nodes_count_adopted_once,
-    nodes_hold_newest_collections, nodes_show_what_they_took,
+    archives_are_asked_as_adopted, archives_change_no_answer, forgetting_loses_nothing,
+    held_collections_tell_what_was_fed, incarnations_are_adopted_once, nodes_count_adopted_once,
+    nodes_hold_newest_collections, nodes_show_what_they_took, pages_count_adopted_once,
+    payloads_add_up, rows_count_adopted_once,
 };

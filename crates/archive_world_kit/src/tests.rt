@@ -7,10 +7,12 @@ ghost use Rattle.gossip_kit.specs.Gossip.{acked_after, answer_of};
 ghost use Rattle.point_kit.specs.Exports.{state};
 
 use crate::{
-    forgetting_loses_nothing, held_collections_tell_what_was_fed, nodes_count_adopted_once,
-    nodes_hold_newest_collections, nodes_show_what_they_took,
+    archives_are_asked_as_adopted, archives_change_no_answer, forgetting_loses_nothing,
+    held_collections_tell_what_was_fed, incarnations_are_adopted_once, nodes_count_adopted_once,
+    nodes_hold_newest_collections, nodes_show_what_they_took, pages_count_adopted_once,
+    payloads_add_up, rows_count_adopted_once,
 };
-use archive_kit::Archive;
+use archive_kit::{Archive, Keeper};
 use attr_kit::{AttrSet, NoMemory, Seq, Txt};
 use gateway_kit::Gateway;
 use gossip_kit::{HandFault, Message, Node};
@@ -105,8 +107,10 @@ fn are_told(alloc: Global, one: &mut Node, two: &mut Node) -> Result<bool, Fail>
 
 // What an archive exports that adopted a worker of what a gateway holds.
 fn archived(alloc: Global, gateway: &Gateway, worker: &WriterId) -> Result<Export, Fail> {
+    let mut keeper = Keeper::new(alloc, 3)?;
+    keeper.merge(gateway)?;
     let mut archive = Archive::begin(alloc, writer(alloc, 9)?, 1000, 10)?;
-    archive.adopt(gateway, worker, 100)?;
+    archive.adopt(&keeper, worker, 100)?;
     Ok(archive.export(2000)?)
 }
 
@@ -155,6 +159,12 @@ fn laws_can_be_called(rt: HostRuntime) -> Result<(), Fail> {
     nodes_count_adopted_once::<u64, u64, u64>();
     held_collections_tell_what_was_fed::<u64, u64>();
     forgetting_loses_nothing::<u64, u64, u64>();
+    payloads_add_up();
+    archives_are_asked_as_adopted::<u64>();
+    rows_count_adopted_once::<u64>();
+    archives_change_no_answer::<u64, u64, u64>();
+    incarnations_are_adopted_once::<u64>();
+    pages_count_adopted_once::<u64>();
     assert_eq!(rt;
         Node::new(rt.alloc(), Gateway::new(rt.alloc(), 7))
             .gateway()

@@ -67,7 +67,7 @@ impl Turnover {
 
     // The archive adopts an incarnation. Where a total leaves its range, a fresh one does.
     fn adopt(&mut self, writer: &WriterId, start: u64) -> Result<(), LineFault> {
-        match self.archive.adopt(self.keeper.gateway(), writer, start) {
+        match self.archive.adopt(&self.keeper, writer, start) {
             Ok(()) => Ok(()),
             Err(AdoptFault::OutOfRange) => self.adopt_anew(writer, start),
             Err(fault) => Err(LineFault::Adopting(fault)),
@@ -76,7 +76,7 @@ impl Turnover {
 
     fn adopt_anew(&mut self, writer: &WriterId, start: u64) -> Result<(), LineFault> {
         self.begin_anew()?;
-        Ok(self.archive.adopt(self.keeper.gateway(), writer, start)?)
+        Ok(self.archive.adopt(&self.keeper, writer, start)?)
     }
 
     // An incarnation exports once, and is adopted.

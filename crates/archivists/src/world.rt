@@ -106,7 +106,7 @@ impl World {
         let Some(archive) = self.archives.get_mut(place(archive)) else {
             return Err(LineFault::Archive);
         };
-        match archive.adopt(keeper.gateway(), writer, start) {
+        match archive.adopt(keeper, writer, start) {
             Ok(()) => Ok(Answer::Adopted),
             Err(fault) => Ok(Answer::NotAdopted(fault)),
         }

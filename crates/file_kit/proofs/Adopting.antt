@@ -75,7 +75,7 @@ module _ (ask : Archiving) (files : List (List ℕ)) (points : Points) (later : 
   unarchived (faults.Unjoined fault) told = absurd (is_told (faults.Unjoined fault) (told (λ e. cc)))
   unarchived faults.Taken told = (later, points, shows, told (λ e. cc))
   unarchived (faults.Unadopted writer start fault) told = (later, points, shows, told (λ e. cc))
-  unarchived faults.NoMemory told = tt
+  unarchived faults.NoMemory told = later
 
   pub unarchived_is : (r : Result (Vec ℕ Global) ArchiveFault) → IfErr r (λ fault. fault ≢ faults.NoMemory → archive_of ask points ≡ Err fault)
       → IfErr r (IsUnarchived ask files)

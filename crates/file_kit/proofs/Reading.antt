@@ -1,5 +1,6 @@
 -- What bytes of a message, and of an export, are read as.
-use Rattle.std.proofs.Common.{◌≡◌, ◌∙◌, ℕ, List, ap, sym, refl, true, false}
+use Rattle.std.proofs.Common.{◌≡◌, ◌∙◌, ℕ, List, Result, Ok, Err, ap, sym, refl, true, false}
+use Rattle.std.specs.Prelude.{IfOk, is_ok}
 use Rattle.bytes_kit.specs.Fits.{IsExport}
 use Rattle.bytes_kit.specs.Format.{bytes_of, with_checksum}
 use Rattle.bytes_kit.specs.MessageFits.{IsMessage, IsSoundPoints}
@@ -8,7 +9,7 @@ use Rattle.bytes_kit.specs.declared.fault.DecodeFault.{DecodeFault}
 use Rattle.bytes_kit.specs.declared.fault.DecodeFault.TheVariants as faults
 use Rattle.gossip_kit.specs.Views.{MessageModel}
 use Rattle.point_kit.specs.declared.export.Export.{Export}
-use Rattle.file_kit.specs.Contents.{form, is_message, IsContent}
+use Rattle.file_kit.specs.Contents.{form, is_message, HasContent, IsContent, IsOf}
 use Rattle.file_kit.specs.declared.content.Content.{Content}
 use Rattle.file_kit.specs.declared.content.Content.TheVariants as content
 
@@ -20,6 +21,11 @@ message_letter m = refl
 pub export_letter : (e : Export) → is_message (bytes_of e) ≡ false
 unfolding with_checksum
 export_letter e = refl
+
+-- bytes of which something is read have a content
+pub ok_has : (bytes : List ℕ) (r : Result Content DecodeFault) → IfOk r (IsOf bytes) → is_ok r ≡ true → HasContent bytes
+ok_has bytes (Ok c) is ok = (c, is)
+ok_has bytes (Err fault) is ok = let bad : false ≡ true = ok in cc
 
 module _ (bytes : List ℕ) where
   pub message_read : is_message bytes ≡ true → (m : MessageModel)

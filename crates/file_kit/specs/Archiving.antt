@@ -81,4 +81,4 @@ IsUnarchived ask files faults.TimeNotLater = ask.time ≤ ask.start
 IsUnarchived ask files (faults.Unjoined fault) = (ask.start < ask.time) × IsRefused files fault
 IsUnarchived ask files faults.Taken = IsNoArchive ask files faults.Taken
 IsUnarchived ask files (faults.Unadopted writer start fault) = IsNoArchive ask files (faults.Unadopted writer start fault)
-IsUnarchived ask files faults.NoMemory = Unit {0}
+IsUnarchived ask files faults.NoMemory = ask.start < ask.time

@@ -3,6 +3,7 @@ use Rattle.std.specs.Prelude.{◌≡◌, ℕ, List, ◌∷◌, ◌++◌, codes, 
 use Rattle.std.specs.List.{flat_map}
 use Rattle.rollup_kit.specs.declared.ask.Ask.{Ask}
 use Rattle.script_kit.specs.Lines.{line_of}
+use Rattle.script_kit.specs.Shapes.{script_shape}
 use Rattle.script_kit.specs.declared.line.Line.TheVariants as line
 use Rattle.script_kit.specs.declared.line.Query.TheVariants as query
 use Rattle.script_kit.specs.declared.line.Report.{Report}
@@ -11,9 +12,14 @@ use Rattle.script_kit.specs.declared.line.Report.{Report}
 unfoldable pub spoken : List ℕ → List (List ℕ) → List ℕ
 spoken first words = first ++ flat_map (λ word. 32 ∷ word) words
 
+-- the words with the fourth, which is of a shape, as scripts have it
+abbrev pub script_words : List (List ℕ) → List (List ℕ)
+script_words (scope ∷ name ∷ unit ∷ shape ∷ rest) = scope ∷ name ∷ unit ∷ script_shape shape ∷ rest
+script_words words = words
+
 -- the line that asks the same: `report`, a gateway, and the words
 abbrev pub ask_line : List (List ℕ) → List ℕ
-ask_line words = spoken (codes "report 1") words
+ask_line words = spoken (codes "report 1") (script_words words)
 
 -- what a report asks
 abbrev pub ask_of : Report → Ask

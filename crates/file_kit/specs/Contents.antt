@@ -1,5 +1,5 @@
 -- What files of exports, messages and states say, and why a file says nothing.
-use Rattle.std.specs.Prelude.{◌≡◌, ◌≢◌, ◌==◌, ℕ, Bool, true, false, List, [], ◌∷◌, map, take, slice_get, Option, Some, None, Result, Ok, Err}
+use Rattle.std.specs.Prelude.{◌≡◌, ◌≢◌, ◌==◌, ℕ, Bool, true, false, List, [], ◌∷◌, All, map, take, slice_get, Option, Some, None, Result, Ok, Err}
 use Rattle.std.specs.List.{fold}
 use Rattle.std.specs.FinMap.{empty}
 use Rattle.archive_kit.specs.Showing.{shown}
@@ -7,7 +7,7 @@ use Rattle.archive_kit.specs.Tombstones.{names_key}
 use Rattle.bytes_kit.specs.Explaining as explaining
 use Rattle.bytes_kit.specs.Fits.{IsExport}
 use Rattle.bytes_kit.specs.Format.{bytes_of}
-use Rattle.bytes_kit.specs.MessageFits.{IsMessage, IsSoundPoints}
+use Rattle.bytes_kit.specs.MessageFits.{IsId, IsMessage, IsOneOf, IsSoundPoints}
 use Rattle.bytes_kit.specs.Messages.{bytes_of_message}
 use Rattle.bytes_kit.specs.declared.fault.DecodeFault.{DecodeFault}
 use Rattle.bytes_kit.specs.declared.fault.DecodeFault.TheVariants as faults
@@ -26,6 +26,25 @@ form (content.Message m) = bytes_of_message m
 abbrev pub IsContent : Content → Type 0
 IsContent (content.Export e) = IsExport e
 IsContent (content.Message m) = IsMessage m × IsSoundPoints m.points
+
+-- what is known of each that is read. An export is sound as all are. Of a message the ids are numbers of 32 bits, an Ack carries no cells, and each cell is
+-- one that an export can bring. So of the same bytes there are no two.
+abbrev pub IsKnown : Content → Type 0
+IsKnown (content.Export e) = Unit {0}
+IsKnown (content.Message m) = IsId m.from × IsId m.to × IsOneOf m.points m.delta m.ack × IsSoundPoints m.points
+
+-- a content, and the bytes of it
+abbrev pub IsOf : List ℕ → Content → Type 0
+IsOf bytes c = IsKnown c × (form c ≡ bytes)
+
+-- bytes have a content
+abbrev pub HasContent : List ℕ → Type 0
+HasContent bytes = (c : Content) × IsOf bytes c
+
+-- one content for each file, of its bytes
+pub record AreOf (files : List (List ℕ)) (cs : List Content) : Type 0 where
+  pub known : All IsKnown cs
+  pub forms : map form cs ≡ files
 
 -- what a file has under each key
 abbrev pub points_of : Content → Points
@@ -59,9 +78,9 @@ abbrev pub GivesContent : Result Content DecodeFault → Content → Type 0
 GivesContent (Ok found) c = found ≡ c
 GivesContent (Err fault) c = fault ≡ faults.NoMemory
 
--- these points are what the files have, joined: one content for each, of its bytes
+-- these points are what the files have, joined
 abbrev pub Says : List (List ℕ) → Points → Type 0
-Says files points = (cs : List Content) × (map form cs ≡ files) × (points ≡ joined cs)
+Says files points = (cs : List Content) × AreOf files cs × (points ≡ joined cs)
 
 -- these points are what the files show: what they say, but for what a tombstone of theirs names
 abbrev pub Shows : List (List ℕ) → Points → Type 0
@@ -78,7 +97,7 @@ IsUnread bytes fault = fault ≢ faults.NoMemory → IsNone bytes fault
 
 -- the files before this place have contents, and the one there has none
 pub record IsFirstNone (files : List (List ℕ)) (place : ℕ) (fault : DecodeFault) : Type 0 where
-  pub before : (cs : List Content) × (map form cs ≡ take place files)
+  pub before : (cs : List Content) × AreOf (take place files) cs
   pub here : (bytes : List ℕ) × (slice_get files place ≡ Some bytes) × IsNone bytes fault
 
 -- why files are not joined
@@ -93,4 +112,4 @@ IsRefusedAt at bytes file.NoMemory = Unit {0}
 
 -- points, and those after what a file has was joined
 abbrev pub JoinsAt : List ℕ → Points → Points → Type 0
-JoinsAt bytes old new = (c : Content) × (form c ≡ bytes) × (new ≡ join_points old (points_of c))
+JoinsAt bytes old new = (c : Content) × IsOf bytes c × (new ≡ join_points old (points_of c))

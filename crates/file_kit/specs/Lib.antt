@@ -4,5 +4,6 @@ pub mod Archiving
 pub mod AskWords
 pub mod Commands
 pub mod Contents
+pub mod Misfits
 pub mod Sending
 pub mod Shown

@@ -17,7 +17,7 @@ use Rattle.rollup_kit.specs.Rollups.{rollup_rows}
 use Rattle.rollup_kit.specs.Streams.{streams_held}
 use Rattle.rollup_kit.specs.TableText.{table_text}
 use Rattle.rollup_kit.specs.declared.ask.Ask.{Ask}
-use Rattle.file_kit.specs.Contents.{form, points_of}
+use Rattle.file_kit.specs.Contents.{points_of, IsOf}
 use Rattle.file_kit.specs.declared.content.Content.{Content}
 use Rattle.file_kit.specs.declared.content.Content.TheVariants as content
 
@@ -102,4 +102,4 @@ file_text name c = word_text name ++ (codes ": " ++ (content_line c ++ streams_t
 
 -- a text is what is shown of the file with these bytes
 abbrev pub IsShown : List ℕ → List ℕ → List ℕ → Type 0
-IsShown name bytes text = (c : Content) × (form c ≡ bytes) × (text ≡ file_text name c)
+IsShown name bytes text = (c : Content) × IsOf bytes c × (text ≡ file_text name c)

@@ -1,13 +1,16 @@
 //! What files answer.
 ghost use Rattle.std.specs.Option.{option_map};
-ghost use Rattle.std.specs.Prelude.{map, IfErr, IfOk, string_bytes};
-ghost use Rattle.file_kit.specs.Answers.{IsPage, IsReport};
-ghost use Rattle.file_kit.specs.Contents.{IsRefused};
+ghost use Rattle.std.specs.Prelude.{All, map, IfErr, IfOk, OnOk, string_bytes};
+ghost use Rattle.file_kit.specs.Answers.{AreOthers, IsPage, IsReport};
+ghost use Rattle.file_kit.specs.Contents.{HasContent, IsRefused};
 
 use crate::{FileFault, kept};
-use attr_kit::Txt;
+use attr_kit::{NoMemory, Txt};
+use gateway_kit::Gateway;
+use indexmap::IndexSet;
 use page_kit::{openmetrics, prometheus};
-use rollup_kit::{Ask, rollup, table};
+use point_kit::Stream;
+use rollup_kit::{Ask, rollup, streams_of, table};
 use std::alloc::Global;
 
 /// The format of a page.
@@ -19,16 +22,45 @@ pub enum PageFormat {
     OpenMetrics,
 }
 
-/// The table of what files show: that of `rollup_kit`, as a line `report` of a script prints it.
+/// A table, and where nothing has a point of the stream that it is of, all streams of which there are points.
+#[derive(Debug, Drop)]
+pub struct Reported {
+    pub table: Txt,
+    pub others: Option<IndexSet<Stream>>,
+}
+
+// The streams of which a gateway holds points, unless one of them is asked for.
+fn others(
+    alloc: Global,
+    gateway: &Gateway,
+    asked: &Stream,
+) -> Result<Option<IndexSet<Stream>>, NoMemory>
+    ensures { IfOk result (λ others. AreOthers gateway.now.points asked.now (option_map (λ s. s.keys) others)) }
+{
+    let streams = streams_of(alloc, gateway)?;
+    if streams.contains(asked) {
+        Ok(None)
+    } else {
+        Ok(Some(streams))
+    }
+}
+
+/// The table of what files show: that of `rollup_kit`, as a line `report` of a script prints it. Where no file shows a point of the
+/// stream that is asked for, the streams that they do show are told besides.
 ///
-/// Refused as [`kept`] refuses, at its cost and that of `rollup` and `table`.
-pub fn report(alloc: Global, ask: &Ask, files: &[Vec<u8>]) -> Result<Txt, FileFault>
+/// Refused as [`kept`] refuses, at its cost and that of `rollup`, `table` and `streams_of`.
+pub fn report(alloc: Global, ask: &Ask, files: &[Vec<u8>]) -> Result<Reported, FileFault>
     ensures value { IfOk result (IsReport ask.now (map (λ f. f.items) files.now)) }
+    // Each file that is none is refused.
+    ensures whole { OnOk result (All HasContent (map (λ f. f.items) files.now)) }
     ensures err { IfErr result (IsRefused (map (λ f. f.items) files.now)) }
 {
     let keeper = kept(alloc, files)?;
-    let rows = rollup(alloc, keeper.gateway(), ask)?;
-    Ok(table(alloc, rows.as_slice())?)
+    let shown = keeper.gateway();
+    let rows = rollup(alloc, shown, ask)?;
+    let table = table(alloc, rows.as_slice())?;
+    let others = others(alloc, shown, &ask.stream)?;
+    Ok(Reported { table, others })
 }
 
 /// The page of what files show: that of `page_kit`, of a service where one is given, else of all.
@@ -42,6 +74,7 @@ pub fn expose(
 ) -> Result<String, FileFault>
     ensures value { IfOk result (λ text. IsPage format (option_map (λ s. s.now) service.entry) (map (λ f. f.items) files.now)
         (string_bytes text)) }
+    ensures whole { OnOk result (All HasContent (map (λ f. f.items) files.now)) }
     ensures err { IfErr result (IsRefused (map (λ f. f.items) files.now)) }
 {
     let keeper = kept(alloc, files)?;

@@ -1,12 +1,13 @@
 //! An archive of what files show.
-ghost use Rattle.std.specs.Prelude.{◌≡◌, ◌≢◌, ◌<◌, Err, IfErr, IfOk, Ok, OnOk, map};
+ghost use Rattle.std.specs.Prelude.{◌≡◌, ◌≢◌, ◌<◌, All, Err, IfErr, IfOk, Ok, OnOk, map};
 ghost use Rattle.gateway_kit.specs.Listing.{held_of_ref};
 ghost use Rattle.gateway_kit.specs.Queries.{incarnation_points};
 ghost use Rattle.archive_kit.specs.Archive.{is_nothing};
+ghost use Rattle.file_kit.specs.Contents.{HasContent};
 ghost use Rattle.file_kit.specs.Archiving.{adopt_all, adopt_one, archive_of, begun, is_left_alone, AreExportedAt, IsArchived, IsArchiveOf, IsUnarchived};
 
 use crate::{ArchiveFault, kept};
-use archive_kit::{AdoptFault, Archive};
+use archive_kit::{AdoptFault, Archive, Keeper};
 use attr_kit::NoMemory;
 use bytes_kit::encode_export;
 use gateway_kit::{Gateway, IncarnationRef};
@@ -33,17 +34,17 @@ fn is_left_alone(fault: AdoptFault) -> bool
     }
 }
 
-// Adopts an incarnation that a gateway holds, or leaves it alone.
+// Adopts an incarnation that a keeper holds, or leaves it alone.
 fn adopt(
     archive: &mut Archive,
-    gateway: &Gateway,
+    keeper: &Keeper,
     held: IncarnationRef<'_>,
 ) -> Result<(), ArchiveFault>
-    ensures ok { OnOk result (adopt_one gateway.now.points archive.old (held_of_ref held.entry) ≡ Ok archive.new) }
+    ensures ok { OnOk result (adopt_one keeper.now.gateway.points archive.old (held_of_ref held.entry) ≡ Ok archive.new) }
     ensures err { IfErr result (λ fault. fault ≢ ArchiveFault.NoMemory
-        → adopt_one gateway.now.points archive.old (held_of_ref held.entry) ≡ Err fault) }
+        → adopt_one keeper.now.gateway.points archive.old (held_of_ref held.entry) ≡ Err fault) }
 {
-    match archive.adopt(gateway, held.writer, held.start) {
+    match archive.adopt(keeper, held.writer, held.start) {
         Ok(()) => Ok(()),
         Err(AdoptFault::NoMemory) => Err(ArchiveFault::NoMemory),
         Err(fault) => {
@@ -59,13 +60,13 @@ fn adopt(
     }
 }
 
-// Adopts all incarnations that a gateway holds, but for those that are left alone.
-fn adopt_all(archive: &mut Archive, gateway: &Gateway) -> Result<(), ArchiveFault>
-    ensures ok { OnOk result (adopt_all gateway.now.points archive.old ≡ Ok archive.new) }
-    ensures err { IfErr result (λ fault. fault ≢ ArchiveFault.NoMemory → adopt_all gateway.now.points archive.old ≡ Err fault) }
+// Adopts all incarnations that a keeper holds, but for those that are left alone.
+fn adopt_all(archive: &mut Archive, keeper: &Keeper) -> Result<(), ArchiveFault>
+    ensures ok { OnOk result (adopt_all keeper.now.gateway.points archive.old ≡ Ok archive.new) }
+    ensures err { IfErr result (λ fault. fault ≢ ArchiveFault.NoMemory → adopt_all keeper.now.gateway.points archive.old ≡ Err fault) }
 {
-    for held in gateway.incarnations() {
-        adopt(archive, gateway, held)?;
+    for held in keeper.gateway().incarnations() {
+        adopt(archive, keeper, held)?;
     }
     Ok(())
 }
@@ -95,17 +96,17 @@ fn exported(alloc: Global, archive: &mut Archive, time: u64) -> Result<Vec<u8>, 
     }
 }
 
-// The bytes of the export of an archive that adopts what a gateway holds.
-fn archive_of(alloc: Global, ask: &Archiving, gateway: &Gateway) -> Result<Vec<u8>, ArchiveFault>
+// The bytes of the export of an archive that adopts what a keeper holds.
+fn archive_of(alloc: Global, ask: &Archiving, keeper: &Keeper) -> Result<Vec<u8>, ArchiveFault>
     requires { ask.now.start < ask.now.time }
-    ensures value { IfOk result (λ bytes. IsArchiveOf ask.now gateway.now.points bytes.items) }
-    ensures err { IfErr result (λ fault. fault ≢ ArchiveFault.NoMemory → archive_of ask.now gateway.now.points ≡ Err fault) }
+    ensures value { IfOk result (λ bytes. IsArchiveOf ask.now keeper.now.gateway.points bytes.items) }
+    ensures err { IfErr result (λ fault. fault ≢ ArchiveFault.NoMemory → archive_of ask.now keeper.now.gateway.points ≡ Err fault) }
 {
-    if !is_new(ask, gateway) {
+    if !is_new(ask, keeper.gateway()) {
         return Err(ArchiveFault::Taken);
     }
     let mut archive = begin(alloc, ask)?;
-    adopt_all(&mut archive, gateway)?;
+    adopt_all(&mut archive, keeper)?;
     Ok(exported(alloc, &mut archive, ask.time)?)
 }
 
@@ -113,17 +114,18 @@ fn archive_of(alloc: Global, ask: &Archiving, gateway: &Gateway) -> Result<Vec<u
 /// no tombstone among them names, in the order of their keys. Archives, which have tombstones themselves, are left alone, and so is
 /// what has the archive's own instance. All others have ended: that is the caller's word.
 ///
-/// Refused as [`ArchiveFault`] says, each where none before it fits. `NoMemory` comes where memory was refused. It costs what [`kept`]
-/// does, `Archive::adopt` of each incarnation, and `encode_export`.
+/// Refused as [`ArchiveFault`] says, each where none before it fits. `NoMemory` comes where memory was refused, and never of a time
+/// that is not later. It costs what [`kept`] does, `Archive::adopt` of each incarnation, and `encode_export`.
 pub fn archived(alloc: Global, ask: &Archiving, files: &[Vec<u8>]) -> Result<Vec<u8>, ArchiveFault>
     ensures value { IfOk result (λ bytes. IsArchived ask.now (map (λ f. f.items) files.now) bytes.items) }
+    ensures whole { OnOk result (All HasContent (map (λ f. f.items) files.now)) }
     ensures err { IfErr result (IsUnarchived ask.now (map (λ f. f.items) files.now)) }
 {
     if ask.time <= ask.start {
         return Err(ArchiveFault::TimeNotLater);
     }
     match kept(alloc, files) {
-        Ok(keeper) => archive_of(alloc, ask, keeper.gateway()),
+        Ok(keeper) => archive_of(alloc, ask, &keeper),
         Err(fault) => Err(ArchiveFault::Unjoined(fault)),
     }
 }

@@ -1,8 +1,8 @@
 //! Files joined.
-ghost use Rattle.std.specs.Prelude.{◌≡◌, map, IfErr, IfOk, OnOk};
+ghost use Rattle.std.specs.Prelude.{◌≡◌, All, map, IfErr, IfOk, OnOk};
 ghost use Rattle.gossip_kit.specs.Bodies.{cells_of};
 ghost use Rattle.point_kit.specs.Exports.{join_points};
-ghost use Rattle.file_kit.specs.Contents.{points_of, IsRefused, IsRefusedAt, JoinsAt, Says, Shows};
+ghost use Rattle.file_kit.specs.Contents.{points_of, HasContent, IsRefused, IsRefusedAt, JoinsAt, Says, Shows};
 
 use crate::FileFault;
 use crate::content::{Content, read};
@@ -72,6 +72,8 @@ fn join_file(
 pub fn joined(alloc: Global, files: &[Vec<u8>]) -> Result<Gateway, FileFault>
     ensures id { IfOk result (λ g. g.id ≡ 0) }
     ensures value { IfOk result (λ g. Says (map (λ f. f.items) files.now) g.points) }
+    // Each file that is none is refused.
+    ensures whole { OnOk result (All HasContent (map (λ f. f.items) files.now)) }
     ensures err { IfErr result (IsRefused (map (λ f. f.items) files.now)) }
 {
     let mut gateway = Gateway::new(alloc, NO_ID);
@@ -88,6 +90,7 @@ pub fn joined(alloc: Global, files: &[Vec<u8>]) -> Result<Gateway, FileFault>
 pub fn kept(alloc: Global, files: &[Vec<u8>]) -> Result<Keeper, FileFault>
     ensures id { IfOk result (λ k. k.gateway.id ≡ 0) }
     ensures value { IfOk result (λ k. Shows (map (λ f. f.items) files.now) k.gateway.points) }
+    ensures whole { OnOk result (All HasContent (map (λ f. f.items) files.now)) }
     ensures err { IfErr result (IsRefused (map (λ f. f.items) files.now)) }
 {
     let held = joined(alloc, files)?;

@@ -1,6 +1,6 @@
 //! What files of exports are sent as.
-ghost use Rattle.std.specs.Prelude.{◌≡◌, map, IfErr, IfOk};
-ghost use Rattle.file_kit.specs.Contents.{IsRefused};
+ghost use Rattle.std.specs.Prelude.{◌≡◌, All, map, IfErr, IfOk, OnOk};
+ghost use Rattle.file_kit.specs.Contents.{HasContent, IsRefused};
 ghost use Rattle.file_kit.specs.Sending.{AreRequests, IsRequest, IsState, IsUnsaid, IsUnsent, IsUnsentAt};
 ghost use Rattle.otlp_kit.specs.Request.{request};
 
@@ -57,6 +57,7 @@ pub fn otlp(alloc: Global, files: &[Vec<u8>]) -> Result<Vec<u8>, SendFault>
 /// Refused as [`kept`] refuses, at its cost and that of `encode_message`.
 pub fn merged(alloc: Global, files: &[Vec<u8>]) -> Result<Vec<u8>, FileFault>
     ensures value { IfOk result (λ bytes. IsState (map (λ f. f.items) files.now) bytes.items) }
+    ensures whole { OnOk result (All HasContent (map (λ f. f.items) files.now)) }
     ensures err { IfErr result (IsRefused (map (λ f. f.items) files.now)) }
 {
     let keeper = kept(alloc, files)?;

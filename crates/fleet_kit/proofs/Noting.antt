@@ -1,6 +1,7 @@
 -- What a seat has recorded once its writer took in what was noted, and why it takes not all in.
-use Rattle.std.proofs.Common.{◌≡◌, ◌∙◌, ℕ, zero, suc, ◌+◌, ◌-◌, ◌≤◌, Bool, true, false, true≢false, cond, is_none, arith, List, [], ◌∷◌, ◌++◌, append_assoc, append-nil, length, length-append, take, fold, slice_get, Option, None, Some, ◌⊎◌, inl, inr, refl, sym, ap, subst}
+use Rattle.std.proofs.Common.{◌≡◌, ◌∙◌, ℕ, zero, suc, ◌+◌, ◌-◌, ◌<◌, ◌≤◌, Bool, true, false, true≢false, cond, is_none, arith, List, [], ◌∷◌, ◌++◌, append_assoc, append-nil, length, length-append, take, fold, slice_get, Option, None, Some, ◌⊎◌, inl, inr, refl, sym, ap, subst}
 use Rattle.std.proofs.Math.Seq.{take-length}
+use Rattle.std.proofs.lemmas.List.{length-drop, length-map}
 use Rattle.std.specs.Prelude.{not, Result, Ok, Err, IfErr, IfSome}
 use Rattle.std.specs.Option.{option_map_or}
 use Rattle.agg_kit.proofs.Refusals.{first_refusal-is}
@@ -38,7 +39,7 @@ use Rattle.writer_kit.specs.declared.shared.change.WriterChange.TheVariants.{Mea
 use Rattle.writer_kit.specs.declared.shared.writer.SharedWriter.{SharedWriter}
 use Rattle.fleet_kit.specs.Ends.{HasRecorded, HasRefused}
 use Rattle.fleet_kit.specs.Jobs.{noted}
-use Rattle.fleet_kit.specs.Noting.{recorded_by_seat, BeganNew, TellsRoom}
+use Rattle.fleet_kit.specs.Noting.{recorded_by_seat, BeganNew, RecordsPart, TellsRoom}
 use Rattle.fleet_kit.specs.Halts.{IsFirst}
 use Rattle.fleet_kit.specs.declared.halt.Halt.{Halt}
 use Rattle.fleet_kit.specs.Recorded.{recorded_at}
@@ -137,6 +138,10 @@ first_refused o (e ∷ es) p f a b = at (fault_of o.tally e) refl (λ c. first_r
         let y = first_stays (refused_one o g) (noted es) (o.recorded + o.refused, g) (ap (λ (q : Option (ℕ × TallyFault)). or_first q (o.recorded + o.refused, g)) a) in
         let same = same_first (o.recorded + o.refused) p g f (sym y ∙ x) in
         let place = same.0 in (0, omega (arith, place), record { e = e; at = refl; before = refl; fault = is ∙ ap (λ (z : TallyFault). Some z) same.1 })
+
+some_left : {A : Type 0} (xs : List A) → (xs ≡ [] → ⊥) → 0 < length xs
+some_left [] left = absurd (left refl)
+some_left (x ∷ xs) left = omega arith
 
 take_noted : (m : ℕ) (es : List Entry) → take m (noted es) ≡ noted (take m es)
 take_noted zero es = refl
@@ -294,6 +299,20 @@ module _ {G : Type 0} {g : _} (shared : SharedWriter G) (s t : Seat Written Writ
         let whole : gone r r' ≡ noted es = take_whole r.log r'.log empty ∙ is in
         let told : (taken_in h.machine.tally (noted es)).first ≡ None = ap (λ (l : List Recording). (taken_in h.machine.tally l).first) (sym whole) ∙ first_told ∙ none in
         now_recorded ∙ ap (λ (l : List Entry). recorded_by_seat shared s ++ l) (ap (recorded_of h.machine.tally) whole ∙ all_taken (nothing_taken h.machine.tally) es refl told)
+
+    pub takes_part : k.first ≡ None → (r'.log ≡ [] → ⊥) → (es : List Entry) → r.log ≡ noted es → RecordsPart shared es s t
+    takes_part none left es is =
+        let m : ℕ = length r.log - length r'.log in
+        let part : gone r r' ≡ noted (take m es) = ap (take m) is ∙ take_noted m es in
+        let told : (taken_in h.machine.tally (noted (take m es))).first ≡ None = ap (λ (l : List Recording). (taken_in h.machine.tally l).first) (sym part) ∙ first_told ∙ none in
+        let some = some_left r'.log left in
+        let long = ap (λ (l : List Recording). length l) is ∙ length-map es (λ (e : Entry). ByName e) in
+        let rest = ap (λ (l : Logged). length l.log) h.reply.rest ∙ length-drop (k.recorded + k.refused) r.log in
+        let less : m < length es = omega (arith, some, long, rest) in (
+          m,
+          less,
+          now_recorded ∙ ap (λ (l : List Entry). recorded_by_seat shared s ++ l) (ap (recorded_of h.machine.tally) part ∙ all_taken (nothing_taken h.machine.tally) (take m es) refl told),
+        )
 
     pub now_has_recorded : BeganNew shared → HasRecorded T.plan (first_of shared).start (recorded_by_seat shared t)
     now_has_recorded new = has_recorded (first_of shared) new (seen t) h.after h.accepted (number t)

@@ -51,6 +51,10 @@ module _ {G : Type 0} {g : _} (shared : SharedWriter G) where
   abbrev pub RecordsMore : List Entry → Seat Written WriterChange g → Seat Written WriterChange g → Type 0
   RecordsMore es s t = recorded_by_seat t ≡ recorded_by_seat s ++ es
 
+  -- it has recorded some entries more from the front of these, and at least one is left
+  abbrev pub RecordsPart : List Entry → Seat Written WriterChange g → Seat Written WriterChange g → Type 0
+  RecordsPart es s t = (m : ℕ) × (m < length es) × RecordsMore (take m es) s t
+
   -- it has seen as many changes as the writer accepts
   abbrev pub IsFilled : Seat Written WriterChange g → Type 0
   IsFilled s = most_of shared ≤ length (seen s)

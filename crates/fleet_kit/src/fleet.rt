@@ -31,14 +31,16 @@ use std::thread::Threads;
 /// asked for too, and the answer is that one.
 ///
 /// Refuses as [`FleetFault`] says. The first five, of the setup, are told exactly. Which of the later ones an interleaving gives is
-/// not promised. But each job is said to have ended in some way, and the fault that is told comes first among these: of jobs
-/// the least one's, before any other of threads, of gateways and of memory. `GateShut` and `Refused` say that the entries before
-/// passed the gate and were recorded, and that the gate let the next one not pass, or that the plan refuses it after them.
-/// `Missing` is told where all jobs ended well, and that writer's collection has points.
+/// not promised. Of jobs that stopped short the least one's fault is told, before any other of threads, of gateways and of memory.
+/// `GateShut` and `Refused` say that the entries before passed the gate and were recorded, and that the gate let the next one not
+/// pass, or that the plan refuses it after them. `Missing` is told where all jobs ended well, and that writer's collection has points.
 ///
-/// A thread that can't be made is no fault, since its job is run by the caller. So `NoThread` comes from want of a seat alone: each
-/// writer's turn gives 4,096 of them, and has no more than 4,095 jobs. It is told too where a shared writer can't be closed, or
-/// has no room for a recording, which does not come: it has room for 2^62 changes.
+/// `NoThread` and `NoMemory` say nothing of any job, since a job may not have been run at all then: the contract says of them that
+/// the setup is not at fault, and no more. A thread that can't be made is no fault, as its job is run by the caller. So `NoThread`
+/// comes from want of a seat alone: each writer's turn gives 4,096 of them, and has no more than 4,095 jobs. It is told too where a
+/// shared writer can't be closed since a seat is out, or has no room for a recording, which does not come: it has room for 2^62
+/// changes. `NoMemory` is told where memory was refused to the fleet anywhere. A job whose writer wanted memory has recorded what it
+/// took in, and none of that was refused.
 ///
 /// Takes memory for the writers, for a log of at most 4,096 recordings for each job that runs, and for the collections.
 pub fn run_fleet<R: Threads + Wait + Sync, G: Gate + Sync>(

@@ -2,7 +2,7 @@
 //!
 //! A thread notes its recordings in a log, each once the gate let it pass, and its writer takes the log in whenever it is full. So
 //! the turn is asked for once for many recordings, and is not held while the gate is asked.
-ghost use Rattle.std.specs.Prelude.{◌≡◌, ◌+◌, ◌<◌, ◌^◌, ◌⊎◌, ℕ, [], List, None, Some, IfErr, IfOk, IfSome, IfNone, All, length, map, slice_get};
+ghost use Rattle.std.specs.Prelude.{◌≡◌, ◌+◌, ◌<◌, ◌≤◌, ◌^◌, ◌⊎◌, ℕ, [], List, None, Some, IfErr, IfOk, IfSome, IfNone, All, length, map, slice_get};
 ghost use Rattle.agg_kit.specs.Entries.{Entry};
 ghost use Rattle.turn_kit.specs.History.{flat};
 ghost use Rattle.turn_kit.specs.Public.{made, mine, joined};
@@ -12,7 +12,7 @@ ghost use Rattle.writer_kit.specs.Shared.{IsAt, first_of, most_of};
 ghost use Rattle.fleet_kit.specs.Ends.{AllEndFrom, EndsFrom, HasRecordedFrom, StopsShortFrom};
 ghost use Rattle.fleet_kit.specs.Halts.{IsFirst};
 ghost use Rattle.fleet_kit.specs.Jobs.{entries, noted, task_of};
-ghost use Rattle.fleet_kit.specs.Noting.{recorded_by_seat, BeganNew, IsFilled, IsNoted, IsSingle, RecordsMore, StopsNoting, StopsTaking, TellsRoom};
+ghost use Rattle.fleet_kit.specs.Noting.{recorded_by_seat, BeganNew, IsFilled, IsNoted, IsSingle, RecordsMore, RecordsPart, StopsNoting, StopsTaking, TellsRoom};
 ghost use Rattle.fleet_kit.specs.Recorded.{Brings};
 ghost use Rattle.fleet_kit.specs.declared.halt.Halt.{Halt};
 ghost use Rattle.fleet_kit.specs.declared.halt.Halt.TheVariants as halts;
@@ -58,7 +58,9 @@ fn note<R: Wait, G: Gate>(
     log: &mut Recorder,
 ) -> Option<Halt>
     requires empty { log.old.log ≡ [] }
+    requires small { log.old.capacity ≤ LOG }
     requires there { from < length job.now.entries.items }
+    ensures capacity { log.new.capacity ≡ log.old.capacity }
     ensures noted { IsNoted (G.passes gate.now) number job.now from log.new.log }
     ensures some { IfNone result (0 < length log.new.log) }
     ensures stops { IfSome result (StopsNoting (G.passes gate.now) number job.now (from + length log.new.log)) }
@@ -96,7 +98,11 @@ fn take_in<R: Wait>(
     ensures recorded { IfNone result (HasRecordedFrom (first_of shared.now) (recorded_by_seat shared.now seat.new)) }
     ensures stops { IfSome result (λ h. (es : List Entry) → log.old.log ≡ noted es
         → StopsTaking shared.now seat.old number from es h) }
+    // Memory is told of no refused entry: what was taken in was recorded, and some is left.
+    ensures memory { result ≡ Some halts.NoMemory → (es : List Entry) → log.old.log ≡ noted es
+        → RecordsPart shared.now es seat.old seat.new }
     ensures full { IfSome result (TellsRoom shared.now seat.new) }
+    ensures capacity { IfNone result (log.new.capacity ≡ log.old.capacity) }
 {
     let Ok(taken) = shared.take_in(rt, seat, log, usize::MAX) else {
         return Some(Halt::NoThread);

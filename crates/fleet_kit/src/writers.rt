@@ -1,8 +1,9 @@
 //! The writers of a fleet, each shared by its recorders and collected once.
-ghost use Rattle.std.specs.Prelude.{◌≡◌, ◌⊎◌, ◌<◌, List, [], IfErr, IfOk, length, map};
+ghost use Rattle.std.specs.Prelude.{ℕ, ◌≡◌, ◌⊎◌, ◌<◌, List, [], IfErr, IfOk, length, map};
 ghost use Rattle.agg_kit.specs.Entries.{Entry};
 ghost use Rattle.point_kit.specs.declared.export.Export.{Export};
 ghost use Rattle.rollup_kit.specs.Fleets.{entries_of};
+ghost use Rattle.turn_kit.specs.Public.{AreOut};
 ghost use Rattle.writer_kit.specs.Following.{Follows};
 ghost use Rattle.writer_kit.specs.Shared.{IsAt, first_of};
 ghost use Rattle.fleet_kit.specs.Collected.{IsCopyOf, IsRoundOfMixed};
@@ -55,7 +56,8 @@ fn export_closed(
     requires new { BeganNew shared }
     ensures ok { IfOk result (λ e. (es : List Entry) → Brings (first_of shared).tally main es
         → IsRoundOfMixed (first_of shared) time es e) }
-    ensures err { IfErr result (λ h. (h ≡ halts.NoThread) ⊎ (h ≡ halts.NoMemory)) }
+    // No thread is told only where seats are out, which keep the writer from being closed.
+    ensures err { IfErr result (λ h. ((h ≡ halts.NoThread) × (out : ℕ) × (0 < out) × AreOut main out) ⊎ (h ≡ halts.NoMemory)) }
 {
     match shared.close(main) {
         Ok(writer) => collection_of(alloc, &writer, time),

@@ -2,7 +2,7 @@
 //!
 //! - `kit_bench` runs small sizes of all parts, so that all of it is tried.
 //! - `kit_bench full` runs the sizes that docs tell of, and `kit_bench full rollups` those of one part: `turns`, `recordings`,
-//!   `held-points`, `threads`, `fleets`, `gateways`, `gossip`, `bytes`, `rounds`, `rollups`, `pages` or `incarnations`.
+//!   `held-points`, `pieces`, `threads`, `fleets`, `gateways`, `gossip`, `bytes`, `rounds`, `rollups`, `pages` or `incarnations`.
 //! - `kit_bench hold-gateway 1000000` holds so many points and ends, so that its memory can be measured from outside;
 //!   `hold-tree` and `hold-map` hold the same points in maps of `std`. `kit_bench hold-incarnations 100000 10` holds so many
 //!   incarnations of so many points each (1 where none is told), and `hold-keys` the same in a map by hand.
@@ -26,6 +26,7 @@ mod measures;
 mod mutexes;
 mod numbered;
 mod pages;
+mod pieces;
 mod rollups;
 mod rounds;
 mod stored;
@@ -70,6 +71,14 @@ fn alone(rt: &HostRuntime, words: &Words) -> anyhow::Result<()> {
     }
     if words.has(Part::HeldPoints) {
         held_points::run(rt, words.size(2_000_000, 20))?;
+    }
+    if words.has(Part::Pieces) {
+        let sizes = pieces::Sizes {
+            sets: words.size(10_000, 20),
+            again: words.size(100_000, 40),
+            fresh: words.size(100_000, 300),
+        };
+        pieces::run(rt, sizes, words.sizes(&[1, 10, 100], &[1, 10]))?;
     }
     if words.has(Part::Gateways) {
         let sizes = words.sizes(&[1_000, 100_000, 1_000_000], &[10, 40]);

@@ -8,6 +8,7 @@ pub enum Part {
     Turns,
     Recordings,
     HeldPoints,
+    Pieces,
     Threads,
     Fleets,
     Gateways,
@@ -44,10 +45,11 @@ pub struct Words {
     pub points: u32,
 }
 
-const PARTS: [(&str, Part); 12] = [
+const PARTS: [(&str, Part); 13] = [
     ("turns", Part::Turns),
     ("recordings", Part::Recordings),
     ("held-points", Part::HeldPoints),
+    ("pieces", Part::Pieces),
     ("threads", Part::Threads),
     ("fleets", Part::Fleets),
     ("gateways", Part::Gateways),

@@ -192,3 +192,4 @@ code_of (faults.Decode f) = decoding_code f
 code_of (faults.Record f) = record_code f
 code_of (faults.Otlp f) = otlp_code f
 code_of (faults.Request f) = request_code f
+code_of (faults.ReservedPoint export) = pos 106

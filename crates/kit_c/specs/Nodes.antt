@@ -1,5 +1,5 @@
 -- What calls make of nodes and messages.
-use Rattle.std.specs.Prelude.{◌≡◌, ℕ, [], ◌∷◌, Option, Some, None}
+use Rattle.std.specs.Prelude.{◌≡◌, ℕ, [], ◌∷◌, Option, Some, None, IsSome}
 use Rattle.std.specs.FinMap as finite
 use Rattle.std.specs.Option.{option_map}
 use Rattle.gateway_kit.specs.GatewayState.{GatewayState}
@@ -72,3 +72,11 @@ carried_by m = record { id = m.from; points = join_points finite.empty m.points;
 -- the message of all that a gateway holds, from it to itself
 abbrev pub whole_of : GatewayState → MessageModel
 whole_of g = record { from = g.id; to = g.id; points = g.points; delta = None; ack = None }
+
+-- a message is an Ack of an id that acknowledged before: it wants no room
+abbrev pub IsAckKnown : NodeModel → MessageModel → Type 0
+IsAckKnown n m = IsSome m.ack × IsSome (finite.get n.acked m.from)
+
+abbrev pub KnowsAck : Option NodeModel → Option MessageModel → Type 0
+KnowsAck (Some n) (Some m) = IsAckKnown n m
+KnowsAck n m = ⊥

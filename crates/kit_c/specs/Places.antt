@@ -80,6 +80,7 @@ place_of (faults.ReservedScope i) = Some i
 place_of (faults.Decode f) = decoding_place f
 place_of (faults.Otlp f) = otlp_place f
 place_of (faults.Request f) = request_place f
+place_of (faults.ReservedPoint export) = Some export
 place_of other = None
 
 -- the second

@@ -95,9 +95,10 @@ unfoldable pub third_text : ℤ → List ℕ
 third_text (pos n) = third_texts n
 third_text other = []
 
--- of archives
+-- of tombstones and archives
 abbrev pub fourth_texts : ℕ → List ℕ
 fourth_texts n =
+    cond (n == 106) (codes "a point of an export has the scope of tombstones") (
     cond (n == 110) (codes "the incarnation is of another service than the archive") (
     cond (n == 111) (codes "the incarnation is an archive's") (
     cond (n == 112) (codes "the incarnation was adopted before") (
@@ -109,7 +110,7 @@ fourth_texts n =
     cond (n == 118) (codes "the time is not later than that of the last export") (
     cond (n == 119) (codes "the start is not later than the last export") (
     cond (n == 120) (codes "incarnations were adopted since the last export") (
-    [])))))))))))
+    []))))))))))))
 
 unfoldable pub fourth_text : ℤ → List ℕ
 fourth_text (pos n) = fourth_texts n
@@ -120,4 +121,4 @@ unfoldable pub code_text : ℤ → List ℕ
 code_text code =
     cond (int_lt code (pos 30)) (first_text code) (
     cond (int_lt code (pos 80)) (second_text code) (
-    cond (int_lt code (pos 110)) (third_text code) (fourth_text code)))
+    cond (int_lt code (pos 106)) (third_text code) (fourth_text code)))

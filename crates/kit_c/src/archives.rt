@@ -3,7 +3,7 @@ ghost use Rattle.std.specs.Prelude.{◌≡◌, ◌≢◌, ◌∷◌, [], pos, tr
 ghost use Rattle.archive_kit.specs.Archive.{begun_anew, exported_at, fresh};
 ghost use Rattle.attr_kit.specs.Refusing.{first};
 ghost use Rattle.kit_c.specs.Archives.{HasArchive, HasArchived, IsBegunWith, adopting_fault, after_adopting, archiving_fault, sealing_fault};
-ghost use Rattle.kit_c.specs.Calls.{code_for, full_fault, if_any, in_first, in_one, of_one, of_two};
+ghost use Rattle.kit_c.specs.Calls.{code_for, full_fault, if_any, if_both, in_first, in_one, of_one, of_two};
 ghost use Rattle.kit_c.specs.Codes.{code_of, no_memory};
 ghost use Rattle.kit_c.specs.Faults.{text_fault};
 ghost use Rattle.kit_c.specs.Gateways.{identity_of};
@@ -12,10 +12,10 @@ ghost use Rattle.kit_c.specs.Typed.{export_in, is_export};
 
 use crate::content::Content;
 use crate::fault::{FULL, Fault, NO_MEMORY, NOTHING, OK, WRONG_KIND};
-use crate::text::text_of;
+use crate::text::{is_no_text, text_of};
 use crate::typed::{KitArchive, KitExport, KitKeeper};
 use crate::with::{with, with_two};
-use archive_kit::{Archive, Keeper};
+use archive_kit::{Archive, ExportRefusal, Keeper};
 use attr_kit::Seq;
 use point_kit::WriterId;
 use std::alloc::Global;
@@ -26,6 +26,7 @@ fn identity(alloc: Global, service: &[u8], high: u64, low: u64) -> Result<Writer
     ensures ok { OnOk result (text_fault service.now ≡ None) }
     ensures value { IfOk result (λ writer. writer ≡ identity_of service.now high low) }
     ensures err { IfErr result (λ f. code_of f ≢ no_memory → text_fault service.now ≡ Some f) }
+    ensures short { IfErr result (λ f. code_of f ≡ no_memory → text_fault service.now ≡ None) }
 {
     match text_of(alloc, service) {
         Ok(service) => Ok(WriterId {
@@ -54,6 +55,7 @@ pub extern "C" fn kit_archive_begin(
     ensures code { result ≢ no_memory → result ≡ code_for (first (full_fault (archive_of archive.old) ∷ text_fault service.now ∷ [])) }
     ensures value { result ≡ pos 0
         → archive_of archive.new ≡ Some (fresh (identity_of service.now instance_high instance_low) start limit) }
+    ensures short { result ≡ no_memory → first (full_fault (archive_of archive.old) ∷ text_fault service.now ∷ []) ≡ None }
     ensures unchanged { result ≢ pos 0 → archive_of archive.new ≡ archive_of archive.old }
 {
     if archive.handle.full {
@@ -77,7 +79,7 @@ fn adopt(archive: &mut Archive, keeper: &Keeper, writer: &WriterId, start: u64) 
     ensures err { IfErr result (λ f. code_of f ≢ no_memory → adopting_fault writer.now start archive.old keeper.now ≡ Some f) }
     ensures unchanged { OnErr result (archive.new ≡ archive.old) }
 {
-    match archive.adopt(keeper.gateway(), writer, start) {
+    match archive.adopt(keeper, writer, start) {
         Ok(()) => Ok(()),
         Err(fault) => Err(Fault::Adopt(fault)),
     }
@@ -90,7 +92,8 @@ fn adopt(archive: &mut Archive, keeper: &Keeper, writer: &WriterId, start: u64) 
 /// Refused, in this order: `NOT_TEXT` where the service is no UTF-8; `NOTHING` of the archive, then of the keeper; `OTHER_SERVICE`;
 /// `IS_ARCHIVE`; `ADOPTED` where this archive did so before; `NO_POINT` where nothing of it is held; `CONFLICT` where different values of
 /// one time came; `TORN` where its points are of several times; `UNSOUND` where no export has them; `OUT_OF_RANGE` where its start or its
-/// time is 2^63 - 1 or later, or a total would leave its range; `SET_LIMIT`; `NO_MEMORY`.
+/// time is 2^63 - 1 or later, or a total would leave its range; `SET_LIMIT`; `NO_MEMORY`. The service is copied before the archive is asked,
+/// so want of memory for that may be told in place of what follows `NOTHING`.
 #[unsafe(no_mangle)]
 pub extern "C" fn kit_archive_adopt(
     alloc: Global,
@@ -107,9 +110,17 @@ pub extern "C" fn kit_archive_adopt(
     ensures value { result ≡ pos 0 → archive_of archive.new
         ≡ in_first (after_adopting (identity_of service.now instance_high instance_low) start)
         (archive_of archive.old) (keeper_of keeper.old) }
+    ensures short { result ≡ no_memory
+        → first (text_fault service.now ∷ of_two (archive_of archive.old) (keeper_of keeper.old) if_both ∷ []) ≡ None }
     ensures unchanged { result ≢ pos 0 → archive_of archive.new ≡ archive_of archive.old }
     ensures kept { keeper_of keeper.new ≡ keeper_of keeper.old }
 {
+    if is_no_text(service) {
+        return Fault::NotText.code();
+    }
+    if !archive.handle.full || !keeper.handle.full {
+        return NOTHING;
+    }
     let writer = match identity(alloc, service, instance_high, instance_low) {
         Ok(writer) => writer,
         Err(fault) => return fault.code(),
@@ -121,15 +132,19 @@ pub extern "C" fn kit_archive_adopt(
     }
 }
 
-// The export of a time. Its room is taken first, since nothing can be refused once the archive has changed.
+// The export of a time. Its room is taken before, since nothing can be refused once the archive has changed.
 fn exported(alloc: Global, archive: &mut Archive, time: u64) -> Result<Box<Content>, Fault>
     ensures ok { OnOk result (archiving_fault time archive.old ≡ None) }
     ensures value { OnOk result (archive.new ≡ exported_at archive.old time) }
     ensures kind { IfOk result (λ made. is_export (Some made.value) ≡ true) }
     ensures export { IfOk result (λ made. HasArchive archive.old time (export_in (Some made.value))) }
     ensures err { IfErr result (λ f. code_of f ≢ no_memory → archiving_fault time archive.old ≡ Some f) }
+    ensures short { IfErr result (λ f. code_of f ≡ no_memory → archiving_fault time archive.old ≡ None) }
     ensures unchanged { OnErr result (archive.new ≡ archive.old) }
 {
+    if !archive.is_later(time) {
+        return Err(Fault::Archive(ExportRefusal::TimeNotLater));
+    }
     let mut room = Box::new(alloc, Content::Keys(Seq::new(alloc)))?;
     match archive.export(time) {
         Ok(made) => {
@@ -156,6 +171,8 @@ pub extern "C" fn kit_archive_export(
         (first (full_fault (export_of export.old) ∷ of_one (archive_of archive.old) (archiving_fault time) ∷ [])) }
     ensures value { result ≡ pos 0 → archive_of archive.new ≡ in_one (λ a. exported_at a time) (archive_of archive.old) }
     ensures export { result ≡ pos 0 → HasArchived time (archive_of archive.old) (export_of export.new) }
+    ensures short { result ≡ no_memory
+        → first (full_fault (export_of export.old) ∷ of_one (archive_of archive.old) (archiving_fault time) ∷ []) ≡ None }
     ensures unchanged { result ≢ pos 0
         → (archive_of archive.new ≡ archive_of archive.old) × (export_of export.new ≡ export_of export.old) }
 {

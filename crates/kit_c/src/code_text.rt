@@ -102,12 +102,13 @@ fn third_text(code: i32) -> &'static str
     }
 }
 
-// What one of archives says.
+// What one of tombstones and archives says.
 #[tactic(auto, unfolding(crate::specs::Texts::fourth_text))]
 fn fourth_text(code: i32) -> &'static str
     ensures { result.now ≡ fourth_text code }
 {
     match code {
+        106 => "a point of an export has the scope of tombstones",
         110 => "the incarnation is of another service than the archive",
         111 => "the incarnation is an archive's",
         112 => "the incarnation was adopted before",
@@ -132,7 +133,7 @@ fn text_of_code(code: i32) -> &'static str
         first_text(code)
     } else if code < 80 {
         second_text(code)
-    } else if code < 110 {
+    } else if code < 106 {
         third_text(code)
     } else {
         fourth_text(code)

@@ -79,6 +79,8 @@ pub enum Fault {
     Record(RecordFault),
     Otlp(OtlpFault),
     Request(RequestFault),
+    /// This export of a request has a point in the scope of tombstones.
+    ReservedPoint(usize),
 }
 
 impl From<NoMemory> for Fault {
@@ -347,6 +349,7 @@ impl Fault {
             Fault::Record(fault) => of_record(fault),
             Fault::Otlp(fault) => of_otlp(fault),
             Fault::Request(fault) => of_request(fault),
+            Fault::ReservedPoint(_) => 106,
         }
     }
 
@@ -367,6 +370,7 @@ impl Fault {
             Fault::Decode(fault) => decoding_place(fault),
             Fault::Otlp(fault) => otlp_place(fault),
             Fault::Request(fault) => request_place(fault),
+            Fault::ReservedPoint(export) => Some(*export as u64),
             _ => None,
         }
     }

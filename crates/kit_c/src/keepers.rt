@@ -10,18 +10,17 @@ ghost use Rattle.kit_c.specs.Calls.{code_for, full_fault, if_any, if_both, of_on
 ghost use Rattle.kit_c.specs.Codes.{code_of, no_memory};
 ghost use Rattle.kit_c.specs.Held.{export_of, gateway_of, keeper_of, message_of};
 ghost use Rattle.kit_c.specs.Keepers.{HasKept, HasKeptHeard, HasKeptMerged, Keeps, changed_by, is_late, keys_told, taking_of};
-ghost use Rattle.kit_c.specs.Nodes.{IsMessageTo, answer_in, handing_fault};
+ghost use Rattle.kit_c.specs.Nodes.{IsAckKnown, IsMessageTo, KnowsAck, answer_in, handing_fault};
 ghost use Rattle.kit_c.specs.Owned.{box_value};
 ghost use Rattle.kit_c.specs.Typed.{is_message, message_in};
 
 use crate::content::Content;
 use crate::fault::{FULL, Fault, NO_MEMORY, NOTHING, OK, WRONG_KIND};
-use crate::nodes::{answer_with, handed};
+use crate::nodes::{answer_with, handed, put_answer, room_for};
 use crate::typed::{KitExport, KitGateway, KitKeeper, KitMessage};
 use crate::with::{with, with_two};
 use archive_kit::{Keeper, Taking};
-use attr_kit::Seq;
-use gossip_kit::Message;
+use gossip_kit::{HandFault, Message};
 use std::alloc::Global;
 
 /// Opens a keeper without points, under an id. The ids of keepers and nodes that exchange messages are distinct.
@@ -178,6 +177,7 @@ pub extern "C" fn kit_keeper_send(
     ensures code { result ≢ no_memory
         → result ≡ code_for (first (full_fault (message_of message.old) ∷ of_one (keeper_of keeper.old) if_any ∷ [])) }
     ensures value { result ≡ pos 0 → IsMessageTo to (keeper_of keeper.old) (message_of message.new) }
+    ensures short { result ≡ no_memory → first (full_fault (message_of message.old) ∷ of_one (keeper_of keeper.old) if_any ∷ []) ≡ None }
     ensures unchanged { result ≢ pos 0 → message_of message.new ≡ message_of message.old }
     ensures kept { keeper_of keeper.new ≡ keeper_of keeper.old }
 {
@@ -190,6 +190,7 @@ pub extern "C" fn kit_keeper_send(
     }
 }
 
+#[tactic(auto, unfolding(gossip_kit::specs::Gossip::hand_fault))]
 fn hand(
     alloc: Global,
     keeper: &mut Keeper,
@@ -200,9 +201,11 @@ fn hand(
     ensures kind { IfOk result (λ made. is_message (box_value made) ≡ true) }
     ensures answer { IfOk result (λ made. message_in (box_value made) ≡ answer_of keeper.old message.now) }
     ensures err { IfErr result (λ f. code_of f ≢ no_memory → handing_fault keeper.old message.now ≡ Some f) }
+    ensures short { IfErr result (λ f. code_of f ≡ no_memory → handing_fault keeper.old message.now ≡ None) }
+    ensures known { IsAckKnown keeper.old message.now → IfErr result (λ f. code_of f ≢ no_memory) }
     ensures unchanged { OnErr result (keeper.new ≡ keeper.old) }
 {
-    handed!(alloc, keeper, message)
+    handed!(alloc, keeper, keeper.gateway().id(), message)
 }
 
 /// Hands a keeper a message, which stays, and forgets what a tombstone then names. It tells whether the message is to be answered: then
@@ -223,6 +226,9 @@ pub extern "C" fn kit_keeper_hand(
     ensures value { result ≡ pos 0 → HasKeptHeard (keeper_of keeper.old) (message_of message.old) (keeper_of keeper.new) }
     ensures answer { result ≡ pos 0 → message_of answer.new ≡ answer_in (keeper_of keeper.old) (message_of message.old) }
     ensures answered { result ≡ pos 0 → answered.new ≡ is_some (answer_in (keeper_of keeper.old) (message_of message.old)) }
+    ensures short { result ≡ no_memory → first (full_fault (message_of answer.old)
+        ∷ of_two (keeper_of keeper.old) (message_of message.old) handing_fault ∷ []) ≡ None }
+    ensures known { KnowsAck (keeper_of keeper.old) (message_of message.old) → result ≢ no_memory }
     ensures unchanged { result ≢ pos 0
         → (keeper_of keeper.new ≡ keeper_of keeper.old) × (message_of answer.new ≡ message_of answer.old) }
     ensures told { result ≢ pos 0 → answered.new ≡ answered.old }

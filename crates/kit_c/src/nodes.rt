@@ -1,5 +1,5 @@
 //! Nodes: gateways that tell each other what changed, by messages.
-ghost use Rattle.std.specs.Prelude.{◌≡◌, ◌≢◌, ◌∷◌, [], pos, true, None, Some, IfSome, OnOk, OnErr, IfErr, IfOk};
+ghost use Rattle.std.specs.Prelude.{◌≡◌, ◌≢◌, ◌∷◌, [], pos, true, None, Some, IfSome, IsSome, OnOk, OnErr, IfErr, IfOk};
 ghost use Rattle.std.specs.FinMap as finite;
 ghost use Rattle.std.specs.Option.{is_some, option_map};
 ghost use Rattle.attr_kit.specs.Refusing.{first};
@@ -7,7 +7,7 @@ ghost use Rattle.gossip_kit.specs.Gossip.{answer_of, first_node};
 ghost use Rattle.kit_c.specs.Calls.{code_for, full_fault, if_any, if_both, of_one, of_two};
 ghost use Rattle.kit_c.specs.Codes.{code_of, no_memory};
 ghost use Rattle.kit_c.specs.Held.{export_of, gateway_of, message_of, node_of};
-ghost use Rattle.kit_c.specs.Nodes.{HasHeard, HasMerged, HasTaken, Hears, IsFromTo, IsMessageTo, answer_in, handing_fault};
+ghost use Rattle.kit_c.specs.Nodes.{HasHeard, HasMerged, HasTaken, Hears, IsFromTo, IsAckKnown, IsMessageTo, KnowsAck, answer_in, handing_fault};
 ghost use Rattle.kit_c.specs.Owned.{box_value};
 ghost use Rattle.kit_c.specs.Typed.{is_message, message_in};
 ghost use Rattle.point_kit.specs.Exports.{changed_points};
@@ -16,8 +16,8 @@ use crate::content::Content;
 use crate::fault::{FULL, Fault, NO_MEMORY, NOTHING, OK, WRONG_KIND};
 use crate::typed::{KitExport, KitGateway, KitMessage, KitNode};
 use crate::with::{with, with_two};
-use attr_kit::Seq;
-use gossip_kit::{Message, Node};
+use attr_kit::{NoMemory, Seq};
+use gossip_kit::{Body, HandFault, Message, Node};
 use std::alloc::Global;
 
 /// Opens a node with the points and the id of a gateway, which stays. The ids of nodes that exchange messages are distinct.
@@ -156,6 +156,7 @@ pub extern "C" fn kit_node_send(
     ensures code { result ≢ no_memory
         → result ≡ code_for (first (full_fault (message_of message.old) ∷ of_one (node_of node.old) if_any ∷ [])) }
     ensures value { result ≡ pos 0 → IsMessageTo to (node_of node.old) (message_of message.new) }
+    ensures short { result ≡ no_memory → first (full_fault (message_of message.old) ∷ of_one (node_of node.old) if_any ∷ []) ≡ None }
     ensures unchanged { result ≢ pos 0 → message_of message.new ≡ message_of message.old }
     ensures kept { node_of node.new ≡ node_of node.old }
 {
@@ -168,19 +169,48 @@ pub extern "C" fn kit_node_send(
     }
 }
 
-/// Hands a node, or a keeper, a message. The room of the answer is taken first, since nothing can be refused once the node has changed.
+// Room for the answer to a message: a delta alone is answered.
+pub(crate) fn room_for(alloc: Global, message: &Message) -> Result<Option<Box<Content>>, NoMemory>
+    ensures asked { IfOk result (λ room. is_some room ≡ is_some message.now.delta) }
+    ensures unasked { message.now.delta ≡ None → IfErr result (λ e. ⊥) }
+    ensures acked { IsSome message.now.ack → IfErr result (λ e. ⊥) }
+{
+    match message.body() {
+        Body::Delta { .. } => Ok(Some(Box::new(alloc, Content::Keys(Seq::new(alloc)))?)),
+        _ => Ok(None),
+    }
+}
+
+/// Hands a node, or a keeper, whose id is given, a message. The room of the answer is taken before, since nothing can be refused once the
+/// node has changed.
 macro_rules! handed {
-    ($alloc:ident, $node:ident, $message:ident) => {{
-        let mut room = Box::new($alloc, Content::Keys(Seq::new($alloc)))?;
+    ($alloc:ident, $node:ident, $id:expr, $message:ident) => {{
+        if $message.to() != $id {
+            return Err(Fault::Hand(HandFault::NotAddressed));
+        }
+        let room = room_for($alloc, $message)?;
         match $node.hand($message) {
-            Ok(Some(answer)) => {
-                *room = Content::Message(answer);
-                Ok(Some(room))
-            }
-            Ok(None) => Ok(None),
+            Ok(answer) => Ok(put_answer(answer, room)),
             Err(fault) => Err(Fault::Hand(fault)),
         }
     }};
+}
+
+// An answer, in the room that was taken for it.
+pub(crate) fn put_answer(
+    answer: Option<Message>,
+    room: Option<Box<Content>>,
+) -> Option<Box<Content>>
+    ensures kind { is_message (box_value result) ≡ true }
+    ensures value { (is_some answer ≡ true → is_some room ≡ true) → message_in (box_value result) ≡ answer }
+{
+    match (answer, room) {
+        (Some(answer), Some(mut room)) => {
+            *room = Content::Message(answer);
+            Some(room)
+        }
+        _ => None,
+    }
 }
 
 /// Puts the answer to a message into its handle, tells whether there is one, and answers with the code.
@@ -204,15 +234,18 @@ macro_rules! answer_with {
 pub(crate) use answer_with;
 pub(crate) use handed;
 
+#[tactic(auto, unfolding(gossip_kit::specs::Gossip::hand_fault))]
 fn hand(alloc: Global, node: &mut Node, message: &Message) -> Result<Option<Box<Content>>, Fault>
     ensures ok { OnOk result (handing_fault node.old message.now ≡ None) }
     ensures value { OnOk result (Hears message.now node.old node.new) }
     ensures kind { IfOk result (λ made. is_message (box_value made) ≡ true) }
     ensures answer { IfOk result (λ made. message_in (box_value made) ≡ answer_of node.old message.now) }
     ensures err { IfErr result (λ f. code_of f ≢ no_memory → handing_fault node.old message.now ≡ Some f) }
+    ensures short { IfErr result (λ f. code_of f ≡ no_memory → handing_fault node.old message.now ≡ None) }
+    ensures known { IsAckKnown node.old message.now → IfErr result (λ f. code_of f ≢ no_memory) }
     ensures unchanged { OnErr result (node.new ≡ node.old) }
 {
-    handed!(alloc, node, message)
+    handed!(alloc, node, node.gateway().id(), message)
 }
 
 /// Hands a node a message, which stays, and tells whether it is to be answered: then `answer` has the message to its sender.
@@ -232,6 +265,9 @@ pub extern "C" fn kit_node_hand(
     ensures value { result ≡ pos 0 → HasHeard (node_of node.old) (message_of message.old) (node_of node.new) }
     ensures answer { result ≡ pos 0 → message_of answer.new ≡ answer_in (node_of node.old) (message_of message.old) }
     ensures answered { result ≡ pos 0 → answered.new ≡ is_some (answer_in (node_of node.old) (message_of message.old)) }
+    ensures short { result ≡ no_memory → first (full_fault (message_of answer.old)
+        ∷ of_two (node_of node.old) (message_of message.old) handing_fault ∷ []) ≡ None }
+    ensures known { KnowsAck (node_of node.old) (message_of message.old) → result ≢ no_memory }
     ensures unchanged { result ≢ pos 0 → (node_of node.new ≡ node_of node.old) × (message_of answer.new ≡ message_of answer.old) }
     ensures told { result ≢ pos 0 → answered.new ≡ answered.old }
     ensures kept { message_of message.new ≡ message_of message.old }

@@ -14,7 +14,7 @@ use crate::with::{with, with_two};
 use recorder_kit::{RecordFault, Recorder};
 use std::alloc::Global;
 
-/// Makes a log of no recordings, which may have as many as its capacity says: 16 bytes for each are taken now. It needs no writer, and
+/// Makes a log of no recordings, which may have as many as its capacity says: 32 bytes for each are taken now. It needs no writer, and
 /// any may take it in.
 ///
 /// Refused, in this order: `FULL`; `NO_MEMORY`.

@@ -1,9 +1,10 @@
 //! Exports that other senders bring by OTLP, read by their numbers.
-ghost use Rattle.std.specs.Prelude.{◌≡◌, ◌≢◌, ◌∷◌, [], pos, length, slice_get, true, None, Some, IfErr, IfOk, IfSome, OnOk};
+ghost use Rattle.std.specs.Prelude.{◌≡◌, ◌≢◌, ◌∷◌, [], pos, length, position, slice_get, true, None, Some, IfErr, IfOk, IfSome, OnOk};
+ghost use Rattle.otlp_kit.specs.Reading.{said_of};
 ghost use Rattle.attr_kit.specs.Refusing.{first};
 ghost use Rattle.kit_c.specs.Calls.{code_for, full_fault, if_any, of_one};
 ghost use Rattle.kit_c.specs.Codes.{code_of, no_memory};
-ghost use Rattle.kit_c.specs.Formats.{HasBrought, reading_fault};
+ghost use Rattle.kit_c.specs.Formats.{HasBrought, bringing_fault, has_reserved};
 ghost use Rattle.kit_c.specs.Held.{export_of, exports_of};
 ghost use Rattle.kit_c.specs.Items.{item_fault};
 ghost use Rattle.kit_c.specs.Places.{TellsPlace};
@@ -13,20 +14,41 @@ use crate::content::Content;
 use crate::fault::{FULL, Fault, NO_MEMORY, NOTHING, OK, WRONG_KIND, code_with_place};
 use crate::typed::{KitExport, KitExports};
 use crate::with::with;
+use archive_kit::SCOPE;
 use attr_kit::Seq;
 use otlp_kit::decode_otlp;
 use point_kit::Export;
 use std::alloc::Global;
 
+// Whether an export has a point in the scope of tombstones.
+fn has_reserved(export: &Export) -> bool
+    ensures { result ≡ has_reserved (said_of export.now) }
+{
+    let mut points = export.points().iter();
+    points.any(|point| point.stream.get().scope.as_str() == SCOPE)
+}
+
+// The least place of an export that has such a point.
+fn reserved_at(exports: &[Export]) -> Option<usize>
+    ensures { result ≡ position (λ e. has_reserved (said_of e)) exports.now }
+{
+    exports.iter().position(has_reserved)
+}
+
+#[tactic(auto, using(crate::proofs::Brought::brings_all, crate::proofs::Brought::brings_reserved))]
 fn decode(alloc: Global, bytes: &[u8]) -> Result<Box<Content>, Fault>
     ensures kind { IfOk result (λ made. is_exports (Some made.value) ≡ true) }
-    ensures ok { OnOk result (reading_fault bytes.now ≡ None) }
+    ensures ok { OnOk result (bringing_fault bytes.now ≡ None) }
     ensures value { IfOk result (λ made. HasBrought bytes.now (exports_in (Some made.value))) }
-    ensures err { IfErr result (λ f. code_of f ≢ no_memory → reading_fault bytes.now ≡ Some f) }
+    ensures err { IfErr result (λ f. code_of f ≢ no_memory → bringing_fault bytes.now ≡ Some f) }
 {
-    match decode_otlp(alloc, bytes) {
-        Ok(exports) => Ok(Box::new(alloc, Content::Exports(Seq::from_vec(exports)))?),
-        Err(fault) => Err(Fault::Request(fault)),
+    let exports = match decode_otlp(alloc, bytes) {
+        Ok(exports) => exports,
+        Err(fault) => return Err(Fault::Request(fault)),
+    };
+    match reserved_at(exports.as_slice()) {
+        None => Ok(Box::new(alloc, Content::Exports(Seq::from_vec(exports)))?),
+        Some(place) => Err(Fault::ReservedPoint(place)),
     }
 }
 
@@ -35,7 +57,8 @@ fn decode(alloc: Global, bytes: &[u8]) -> Result<Box<Content>, Fault>
 ///
 /// Refused, in this order: `FULL`; then for the first thing that is wrong with the bytes, with its place: `MALFORMED`, `NOT_TEXT`; then for
 /// the first that they say and that no export has, in the order of the request, with the place of the resource, scope, metric, point or
-/// export: `NO_SERVICE` to `NO_EXPORT`, and without a place `REPEATS`; `NO_MEMORY`.
+/// export: `NO_SERVICE` to `NO_EXPORT`, and without a place `REPEATS`; `RESERVED_POINT` with the place of the first export that has a
+/// point in the scope kotskhin.archive, which would hide points of others; `NO_MEMORY`.
 #[unsafe(no_mangle)]
 pub extern "C" fn kit_exports_of_otlp(
     alloc: Global,
@@ -44,9 +67,9 @@ pub extern "C" fn kit_exports_of_otlp(
     place: &mut u64,
 ) -> i32
     ensures code { result ≢ no_memory
-        → result ≡ code_for (first (full_fault (exports_of exports.old) ∷ reading_fault bytes.now ∷ [])) }
+        → result ≡ code_for (first (full_fault (exports_of exports.old) ∷ bringing_fault bytes.now ∷ [])) }
     ensures value { result ≡ pos 0 → HasBrought bytes.now (exports_of exports.new) }
-    ensures place { TellsPlace result (first (full_fault (exports_of exports.old) ∷ reading_fault bytes.now ∷ [])) place.old place.new }
+    ensures place { TellsPlace result (first (full_fault (exports_of exports.old) ∷ bringing_fault bytes.now ∷ [])) place.old place.new }
     ensures unchanged { result ≢ pos 0 → exports_of exports.new ≡ exports_of exports.old }
 {
     if exports.handle.full {

@@ -212,7 +212,8 @@ fn hold_at(
 
 /// Holds a pair of an instrument and an attribute set by a seat, and tells its number, which any seat of the writer may use. A seat knows
 /// the numbers of the pairs that were held when the writer was shared, of those that it held itself, and those that the seat knew that it
-/// was split from. Of such a pair nothing changes, no memory is taken and the writer is not asked for.
+/// was split from. Of such a pair nothing changes, no memory is taken and the writer is not asked for. A pair that another seat held
+/// meanwhile gets another number here: both count at the same point, each for as long as the writer lives.
 ///
 /// Refused, in this order: `NOTHING` of the seat, then of the attributes; of a pair that the seat does not know `NO_MEMORY`;
 /// `BUSY` where another thread's call has the writer; `EXHAUSTED` where it accepted 2^62 changes; `CLOSED`; `NO_INSTRUMENT`; `NO_MEMORY`.

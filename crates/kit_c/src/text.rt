@@ -1,8 +1,9 @@
 //! Texts, in and out.
-ghost use Rattle.std.specs.Prelude.{◌≡◌, ◌≢◌, pos, length, None, Some, IfSome, OnOk, IfErr, IfOk};
+ghost use Rattle.std.specs.Prelude.{◌≡◌, ◌≢◌, pos, length, true, false, None, Some, IfSome, OnOk, IfErr, IfOk};
 ghost use Rattle.kit_c.specs.Calls.{code_for, filled, if_any, of_one};
 ghost use Rattle.kit_c.specs.Codes.{code_of, no_memory};
 ghost use Rattle.kit_c.specs.Faults.{text_fault};
+ghost use Rattle.kit_c.specs.declared.fault.Fault.TheVariants as faults;
 ghost use Rattle.kit_c.specs.Held.{text_of as text_in};
 
 use crate::content::Content;
@@ -18,11 +19,21 @@ pub(crate) fn text_of(alloc: Global, bytes: &[u8]) -> Result<Txt, Fault>
     ensures ok { OnOk result (text_fault bytes.now ≡ None) }
     ensures value { IfOk result (λ text. text ≡ bytes.now) }
     ensures err { IfErr result (λ f. code_of f ≢ no_memory → text_fault bytes.now ≡ Some f) }
+    ensures short { IfErr result (λ f. code_of f ≡ no_memory → text_fault bytes.now ≡ None) }
 {
     let Ok(text) = str::from_utf8(bytes) else {
         return Err(Fault::NotText);
     };
     Ok(Txt::from_str(alloc, text)?)
+}
+
+/// Whether bytes are no text. Takes no memory.
+#[tactic(auto, using(crate::proofs::Texts::is_a_text, crate::proofs::Texts::is_no_text))]
+pub(crate) fn is_no_text(bytes: &[u8]) -> bool
+    ensures no_text { result ≡ true → text_fault bytes.now ≡ Some faults.NotText }
+    ensures text { result ≡ false → text_fault bytes.now ≡ None }
+{
+    str::from_utf8(bytes).is_err()
 }
 
 /// The text of a parameter, or the code that it is none.

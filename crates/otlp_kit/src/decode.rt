@@ -115,7 +115,8 @@ fn exports_in(alloc: Global, request: &Request) -> Result<Vec<Export>, RequestFa
 /// Doubles must be whole numbers below 2^53 in size. Fields that are not known are passed over.
 ///
 /// Refused as [`RequestFault`] tells: first what is wrong with the bytes, at the least place, and then, in the order of the
-/// request, what they say; of one message in the order of the variants. docs/INTEROP.md has the whole. `NoMemory` may come at
+/// request, what they say; of one message in the order of the variants, but that a histogram is looked at field by field: its sum,
+/// its bounds and that they rise, its least value and its greatest. docs/INTEROP.md has the whole. `NoMemory` may come at
 /// any place of bytes that are not empty. A length is compared with the bytes that are left before it is used.
 ///
 /// Time is O(n) in the bytes, whatever they say: each byte is looked at a bounded number of times. The scopes of a resource and

@@ -1,7 +1,7 @@
 //! `otm run` does the script of the standard input and writes what its lines say to the standard output. `otm fleet` runs a
 //! fleet of threads and writes the total of each gateway.
 //!
-//! The standard error gets notes on likely mistakes of a script, which change nothing else.
+//! The standard error gets notes on likely mistakes of a script and on its refused lines, which change nothing else.
 //!
 //! Exit statuses: 0 where all of it was done; 1 for a bad line, of which `line N` is printed, and on the standard error what is
 //! wrong with it; 1 too for a script that is too long (`too long`), or a fleet without an answer (`missing gateway G writer W`, or
@@ -13,8 +13,8 @@ ghost use Rattle.otm_kit.specs.Asked.{IsRanged};
 
 use file_kit::is_of_files;
 use otm_kit::command_line::asked;
-use otm_kit::{Asked, Ended, FleetEnd, LineFault, fleet_report, notes_on, run_script_told};
-use script_kit::{ScriptFault, read_script};
+use otm_kit::status::{BAD_INPUT, BAD_STREAM, BAD_WORDS, NO_MEMORY};
+use otm_kit::{Asked, FleetEnd, LineFault, fleet_report, run_program};
 use std::alloc::Global;
 use std::io::ErrorKind;
 use std::process::ExitCode;
@@ -25,16 +25,6 @@ use std::{env, io};
 
 mod files;
 
-const BAD_SCRIPT: u8 = 1;
-
-const BAD_FLEET: u8 = 1;
-
-const BAD_WORDS: u8 = 2;
-
-const NO_MEMORY: u8 = 3;
-
-const BAD_STREAM: u8 = 4;
-
 fn main(rt: HostRuntime) -> ExitCode {
     let words = match read_words(&rt) {
         Ok(words) => words,
@@ -44,7 +34,7 @@ fn main(rt: HostRuntime) -> ExitCode {
         return files::do_files(&rt, words.as_slice());
     }
     match asked(rt.alloc(), words.as_slice()) {
-        Ok(Asked::Run) => run(&rt),
+        Ok(Asked::Run) => run_program(&rt),
         Ok(
             Asked::Fleet {
                 writers,
@@ -80,46 +70,6 @@ fn unread(alloc: Global, error: &io::Error) -> LineFault {
     }
 }
 
-// Does the script of the standard input.
-fn run(rt: &(impl Input + Print + Eprint + AllocGlobal)) -> ExitCode {
-    let mut reader = rt.reader();
-    let mut writer = io::writer(rt);
-    let script = match read_script(rt.alloc(), &mut reader) {
-        Ok(script) => script,
-        Err(fault) => return report(rt, fault),
-    };
-    let mut lines = script.as_slice();
-    match run_script_told(rt.alloc(), &mut lines, &mut writer) {
-        Ok(()) => {
-            tell(rt, script.as_slice(), None);
-            ExitCode::SUCCESS
-        }
-        Err(end) => {
-            let status = report(rt, end.fault);
-            if let ScriptFault::BadLine(number) = end.fault {
-                tell(rt, script.as_slice(), Some(number));
-            }
-            explain(rt, &end);
-            status
-        }
-    }
-}
-
-// Prints the notes on a script up to its bad line, where there was memory for them.
-fn tell(rt: &(impl Eprint + AllocGlobal), script: &[u8], bad_line: Option<u64>) {
-    if let Ok(notes) = notes_on(rt.alloc(), script, bad_line) {
-        let _ = eprint!(rt; "{notes}");
-    }
-}
-
-// Prints what is wrong with a bad line, where there was memory for the words.
-fn explain(rt: &impl Eprint, end: &Ended) {
-    if let Some(sentence) = &end.sentence {
-        let fault = end.fault;
-        let _ = eprintln!(rt; "{fault}: {sentence}");
-    }
-}
-
 // Runs a fleet.
 fn fleet(
     rt: &(impl Threads + Wait + Sync + Print + Eprint + AllocGlobal),
@@ -150,7 +100,7 @@ fn report_end(rt: &(impl Print + Eprint), end: &FleetEnd) -> ExitCode {
     match end {
         FleetEnd::Fleet(_) => {
             let _ = println!(rt; "{end}");
-            ExitCode::from(BAD_FLEET)
+            ExitCode::from(BAD_INPUT)
         }
         FleetEnd::NoMemory => {
             let _ = println!(rt; "{end}");
@@ -173,24 +123,6 @@ fn refuse(rt: &(impl Print + Eprint), fault: &LineFault) -> ExitCode {
         LineFault::NoMemory => {
             let _ = println!(rt; "{fault}");
             ExitCode::from(NO_MEMORY)
-        }
-    }
-}
-
-// Prints a fault of a script, and gives the status for it.
-fn report(rt: &(impl Print + Eprint), fault: ScriptFault) -> ExitCode {
-    match fault {
-        ScriptFault::BadLine(_) | ScriptFault::TooLong => {
-            let _ = println!(rt; "{fault}");
-            ExitCode::from(BAD_SCRIPT)
-        }
-        ScriptFault::NoMemory => {
-            let _ = println!(rt; "{fault}");
-            ExitCode::from(NO_MEMORY)
-        }
-        ScriptFault::ReadFault | ScriptFault::WriteFault => {
-            let _ = eprintln!(rt; "{fault}");
-            ExitCode::from(BAD_STREAM)
         }
     }
 }

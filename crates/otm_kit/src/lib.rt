@@ -2,7 +2,10 @@
 //!
 //! - [`command_line::asked`] reads the words of a command line: what is [`Asked`], or a [`LineFault`].
 //! - [`run_script`] reads a script and writes what its lines say. [`run_script_told`] tells besides, in an [`Ended`], why a bad
-//!   line is bad. [`notes_on`] tells likely mistakes that are no bad lines, and which line a refused `begin` is about.
+//!   line is bad. [`notes_on`] tells likely mistakes that are no bad lines, which lines were refused, and which line a refused `begin`
+//!   is about. [`note_on_stream`] tells that nothing has a stream, and which one is near it.
+//! - [`run_program`] does the script of the standard input, as `otm run` and the program `scripts` do: [`run_lines`] does its lines, and
+//!   keeps in a [`Refused`] which were refused.
 //! - [`fleet_report`] runs a fleet of threads and writes the total of each gateway, which is the number of all recordings. A
 //!   [`FleetEnd`] says why it wrote none.
 //!
@@ -34,10 +37,13 @@ mod labels;
 mod listed;
 mod misplans;
 mod notes;
+mod program;
 mod refusals;
+mod refused;
 mod running;
 mod script;
 mod short_word;
+pub mod status;
 mod streams;
 mod unmatched;
 mod words;
@@ -45,6 +51,8 @@ mod words;
 pub use ended::Ended;
 pub use fleet::fleet_report;
 pub use fleet_end::FleetEnd;
-pub use notes::notes_on;
-pub use script::{run_script, run_script_told};
+pub use notes::{note_on_stream, notes_on};
+pub use program::run_program;
+pub use refused::Refused;
+pub use script::{run_lines, run_script, run_script_told};
 pub use words::{Asked, LineFault};

@@ -4,6 +4,7 @@
 //! is tested, not proved.
 use crate::listed::Listed;
 use crate::misplans::why_no_plan;
+use crate::refused::Refused;
 use crate::streams::{NamedStream, nearest};
 use crate::unmatched::unmatched_views;
 use attr_kit::NoMemory;
@@ -14,7 +15,7 @@ use script_kit::{Line, Query, Stop, parse_line};
 use std::alloc::Global;
 
 /// How many notes are told of a script.
-const MOST_NOTES: usize = 100;
+pub(crate) const MOST_NOTES: usize = 100;
 
 /// Notes, each a line of its own with the number of a line of the script.
 #[derive(Drop)]
@@ -46,43 +47,86 @@ impl Notes {
     }
 }
 
+// The notes on the lines so far, and what those behind them need: what is declared, the streams once it has begun, and the lines
+// that are left of those that were refused.
+#[derive(Drop)]
+struct Noting<'a> {
+    notes: Notes,
+    listed: Listed,
+    begun: Option<IndexSet<Stream>>,
+    refused: &'a [(u64, String)],
+}
+
+impl Noting<'_> {
+    // Notes what there is to tell of the text of a line; whether the lines behind it are noted too.
+    fn take_text(
+        &mut self,
+        alloc: Global,
+        number: u64,
+        text: &[u8],
+        bad_line: Option<u64>,
+    ) -> Result<bool, NoMemory> {
+        let line = match parse_line(alloc, text) {
+            Ok(line) => line,
+            Err(Stop::NoMemory) => return Err(NoMemory),
+            Err(Stop::Bad(_)) => return Ok(false),
+        };
+        let is_first_begin = line == Line::Begin && self.begun.is_none();
+        if bad_line == Some(number) && !is_first_begin || self.notes.is_full() {
+            return Ok(false);
+        }
+        self.take(alloc, number, line)
+    }
+
+    // Notes what there is to tell of a line; whether the lines behind it are noted too.
+    fn take(&mut self, alloc: Global, number: u64, line: Line) -> Result<bool, NoMemory> {
+        match (line, &self.begun) {
+            (Line::Declare(declaration), None) => self.listed.add(number, declaration)?,
+            (Line::Begin, None) => {
+                self.begun = streams_begun(alloc, &self.listed, number, &mut self.notes)?;
+                return Ok(self.begun.is_some());
+            }
+            (Line::Ask(Query::Report { report, .. }), Some(streams)) => {
+                note_report(alloc, number, &report.stream, streams, &mut self.notes)?;
+            }
+            (Line::Do(_), Some(_)) => {
+                self.refused = note_refused(self.refused, number, &mut self.notes)?;
+            }
+            _ => {}
+        }
+        Ok(true)
+    }
+}
+
 /// What is told of a script beside what it prints, for the standard error: a line for each note, with the number of the line
 /// that it is about. They are told up to the script's bad line, where it has one, and no more than 100 of them:
 ///
 /// - of a view, that it matches no instrument;
 /// - of a report, that no stream is the one that it asks for, and which one is near it;
+/// - of an event that was refused, what its line printed;
 /// - of the bad line, where that is a `begin` that is refused, which line declares what is refused, and what the rule is.
 ///
 /// O(n) for a script of n bytes, and the number of streams for each note on a report. Refuses: `NoMemory`.
-pub fn notes_on(alloc: Global, script: &[u8], bad_line: Option<u64>) -> Result<String, NoMemory> {
-    let mut notes = Notes::new(alloc);
-    let mut listed = Listed::new(alloc);
-    let mut begun: Option<IndexSet<Stream>> = None;
+pub fn notes_on(
+    alloc: Global,
+    script: &[u8],
+    bad_line: Option<u64>,
+    refused: &Refused,
+) -> Result<String, NoMemory> {
+    let mut noting = Noting {
+        notes: Notes::new(alloc),
+        listed: Listed::new(alloc),
+        begun: None,
+        refused: refused.lines(),
+    };
     let mut number: u64 = 0;
     for text in whole_lines(script).split(|byte| *byte == b'\n') {
         number = number.saturating_add(1);
-        let line = match parse_line(alloc, text) {
-            Ok(line) => line,
-            Err(Stop::NoMemory) => return Err(NoMemory),
-            Err(Stop::Bad(_)) => break,
-        };
-        let is_first_begin = line == Line::Begin && begun.is_none();
-        if bad_line == Some(number) && !is_first_begin || notes.is_full() {
+        if !noting.take_text(alloc, number, text, bad_line)? {
             break;
         }
-        match (line, &begun) {
-            (Line::Declare(declaration), None) => listed.add(number, declaration)?,
-            (Line::Begin, None) => match streams_begun(alloc, &listed, number, &mut notes)? {
-                Some(streams) => begun = Some(streams),
-                None => break,
-            },
-            (Line::Ask(Query::Report { report, .. }), Some(streams)) => {
-                note_report(alloc, number, &report.stream, streams, &mut notes)?;
-            }
-            _ => {}
-        }
     }
-    Ok(notes.text)
+    Ok(noting.notes.text)
 }
 
 // The script without what stands behind its last line feed: a line that is cut is bad, whatever it says.
@@ -136,16 +180,44 @@ fn note_report(
     streams: &IndexSet<Stream>,
     notes: &mut Notes,
 ) -> Result<(), NoMemory> {
+    match note_on_stream(alloc, asked, streams)? {
+        Some(note) => notes.add(number, &note),
+        None => Ok(()),
+    }
+}
+
+// Notes what a line printed, where it is the first of these that were refused, and gives those that are left.
+fn note_refused<'a>(
+    refused: &'a [(u64, String)],
+    number: u64,
+    notes: &mut Notes,
+) -> Result<&'a [(u64, String)], NoMemory> {
+    match refused.split_first() {
+        Some(((line, printed), behind)) if *line == number => {
+            notes.add(number, printed.trim_end())?;
+            Ok(behind)
+        }
+        _ => Ok(refused),
+    }
+}
+
+/// What is told of a stream that is asked for: none of these is the one, and which is near it. Nothing where one is.
+///
+/// O(n) for n streams. Refuses: `NoMemory`.
+pub fn note_on_stream(
+    alloc: Global,
+    asked: &Stream,
+    streams: &IndexSet<Stream>,
+) -> Result<Option<String>, NoMemory> {
     if streams.contains(asked) {
-        return Ok(());
+        return Ok(None);
     }
     let named = NamedStream::new(asked);
-    let note = match nearest(asked, streams) {
+    Ok(Some(match nearest(asked, streams) {
         Some(near) => {
             let near = NamedStream::new(near);
             format!(in alloc; "there is no stream '{named}', but '{near}'")?
         }
         None => format!(in alloc; "there is no stream '{named}'")?,
-    };
-    notes.add(number, &note)
+    }))
 }

@@ -9,6 +9,7 @@ ghost use Rattle.otm_kit.specs.Standing.{BreaksOff, DoesNext, FailsNext, Tells, 
 
 use crate::desk::{Desk, Outcome};
 use crate::ended::Ended;
+use crate::refused::Refused;
 use script_kit::{
     MAX_BYTES, Reason, ScriptFault, Stop, explain, first_line, parse_line, read_script, write_text,
 };
@@ -34,6 +35,7 @@ fn do_line<W: Write>(
     number: u64,
     text: &[u8],
     writer: &mut W,
+    refused: &mut Refused,
 ) -> Result<(), Ended>
     ensures ok { OnOk result (DoesNext desk.old text.now (W.contents writer.old) (W.contents writer.new) desk.new) }
     ensures number { AtBadLine result (λ _ n. n ≡ number) }
@@ -55,14 +57,22 @@ fn do_line<W: Write>(
         },
         Ok(Outcome::Done(printed)) => match write_text(writer, printed.as_bytes()) {
             Err(fault) => Err(Ended::from(fault)),
-            Ok(()) => Ok(()),
+            Ok(()) => {
+                refused.note(number, printed);
+                Ok(())
+            }
         },
     }
 }
 
-// Does the lines of a script, and writes what each prints before the next is done.
-fn run_lines<W: Write>(alloc: Global, script: &[u8], writer: &mut W) -> Result<(), Ended>
-    requires { length script.now ≤ MAX_BYTES }
+/// Does the lines of a script, and writes what each prints before the next is done, as [`run_script_told`] does, which reads the
+/// script first. Keeps besides which of the first lines were refused, for [`notes_on`](crate::notes_on).
+pub fn run_lines<W: Write>(
+    alloc: Global,
+    script: &[u8],
+    writer: &mut W,
+    refused: &mut Refused,
+) -> Result<(), Ended>
     ensures ok { OnOk result (Appends (W.contents writer.old) (W.contents writer.new) (says script.now)) }
     ensures whole { OnOk result (bad_line_of script.now ≡ None) }
     ensures bad { AtBadLine result (λ _ _. Appends (W.contents writer.old) (W.contents writer.new) (says script.now)) }
@@ -77,7 +87,7 @@ fn run_lines<W: Write>(alloc: Global, script: &[u8], writer: &mut W) -> Result<(
     let mut rest = script;
     // There are no more lines than bytes.
     while let Some((text, after)) = first_line(rest) {
-        do_line(alloc, &mut desk, number, text, writer)?;
+        do_line(alloc, &mut desk, number, text, writer, refused)?;
         number += 1;
         rest = after;
     }
@@ -112,9 +122,10 @@ pub fn run_script_told<R: Read, W: Write>(
     ensures small { OnOk result (HasAtMost MAX_BYTES (R.remaining reader.old)) }
     ensures bad_small { AtBadLine result (λ _ _. HasAtMost MAX_BYTES (R.remaining reader.old)) }
     ensures cut_small { IfErr result (λ end. end.fault ≡ ScriptFault.WriteFault → HasAtMost MAX_BYTES (R.remaining reader.old)) }
+    ensures memory_small { IfErr result (λ end. end.fault ≡ ScriptFault.NoMemory → HasAtMost MAX_BYTES (R.remaining reader.old)) }
 {
     let script = read_script(alloc, reader)?;
-    run_lines(alloc, script.as_slice(), writer)
+    run_lines(alloc, script.as_slice(), writer, &mut Refused::new(alloc))
 }
 
 /// Reads a script to its end, and then does its lines in order. Each line's text is written before the next line is done.
@@ -144,6 +155,7 @@ pub fn run_script<R: Read, W: Write>(
     ensures small { OnOk result (HasAtMost MAX_BYTES (R.remaining reader.old)) }
     ensures bad_small { (n : _) → IsErrOf result (BadLine n) → HasAtMost MAX_BYTES (R.remaining reader.old) }
     ensures cut_small { IsErrOf result ScriptFault.WriteFault → HasAtMost MAX_BYTES (R.remaining reader.old) }
+    ensures memory_small { IsErrOf result ScriptFault.NoMemory → HasAtMost MAX_BYTES (R.remaining reader.old) }
 {
     match run_script_told(alloc, reader, writer) {
         Ok(()) => Ok(()),

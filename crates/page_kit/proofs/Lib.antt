@@ -3,6 +3,7 @@ pub mod Counted
 pub mod Counts
 pub mod Digits
 pub mod Ended
+pub mod Fed
 pub mod Folded
 pub mod GroupLaws
 pub mod Grouped

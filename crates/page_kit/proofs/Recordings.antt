@@ -1,125 +1,45 @@
 -- The numbers of a page's rows are those of what was recorded.
-use Rattle.std.proofs.Common.{◌≡◌, ℕ, ℤ, pos, ◌+◌, ◌+ℤ◌, ◌&&◌, ◌||◌, not, Bool, true, false, cond, inl, inr, List, [], ◌∷◌, ◌++◌, map, filter, fold, length, Option, Some, None, refl, sym, ap, subst, ◌∙◌, arith}
-use Rattle.std.specs.Prelude.{count_by, int_le}
-use Rattle.std.specs.Cmp.{Equal-is, eq_by_cmp_equiv, int_cmp_total}
-use Rattle.std.specs.FinMap.{entries, int_cmp-IsAntisymmetric}
-use Rattle.std.specs.List.{flat_map, list_all, list_any, sum_by}
-use Rattle.std.specs.Option.{option_map_or}
-use Rattle.std.specs.Ordering.{eq_by_cmp, int_cmp}
+use Rattle.std.proofs.Common.{◌≡◌, ℕ, ℤ, pos, ◌+◌, ◌+ℤ◌, not, Bool, true, false, cond, List, Option, refl, sym, ap, subst, ◌∙◌, arith}
+use Rattle.std.specs.Prelude.{int_le}
 use Rattle.std.proofs.lemmas.Bool.{and_parts}
-use Rattle.std.proofs.lemmas.Int.{ints}
-use Rattle.std.proofs.lemmas.List.Sums.{sum_by-cons}
-use Rattle.std.proofs.lemmas.Slice.Eq.{bytes_eq-Decides}
 use Rattle.agg_kit.specs.Entries.{Entry}
 use Rattle.agg_kit.specs.Feeding.{fed}
-use Rattle.agg_kit.specs.Payloads as payloads
 use Rattle.agg_kit.specs.Payloads.{payload_of}
 use Rattle.agg_kit.specs.Rounds.{values_of}
-use Rattle.gateway_kit.specs.Queries.{is_several}
-use Rattle.gateway_kit.specs.Walks.{is_of}
 use Rattle.plan_kit.specs.Bounds.{are_bounds, rise}
 use Rattle.plan_kit.specs.Plans.{is_proper}
 use Rattle.point_kit.specs.Orders.{bounds_of}
 use Rattle.point_kit.specs.declared.cell.Held.TheVariants.{One}
-use Rattle.point_kit.specs.declared.key.Key.{Key}
+use Rattle.point_kit.specs.declared.payload.Payload.{Payload}
 use Rattle.point_kit.specs.declared.shape.Shape.{Shape}
 use Rattle.point_kit.specs.declared.shape.Shape.TheVariants as shapes
-use Rattle.point_kit.specs.declared.writer_id.WriterId.{WriterId}
-use Rattle.rollup_kit.specs.Naming.{Name, key_at, name_eq, names_from, number_of, payload_at}
+use Rattle.rollup_kit.specs.Naming.{Name, name_eq, names_from, number_of, payload_at}
 use Rattle.rollup_kit.specs.Recordings.{values_under}
+use Rattle.rollup_kit.specs.Rollups.{AddsUp}
 use Rattle.rollup_kit.specs.Writers.{Writers, ArePlans, AreTold, rounding, entries_fed}
 use Rattle.rollup_kit.proofs.Naming.{number_is, placed, rounding_sound, stream_in}
 use Rattle.rollup_kit.proofs.NamedValues.{fed_named, values_at}
 use Rattle.schedule_kit.specs.Deeds.{Deed, Holder, Made, AreLawful}
-use Rattle.schedule_kit.specs.Members.{In, Once}
+use Rattle.schedule_kit.specs.Members.{In}
 use Rattle.schedule_kit.specs.Rounds.{state}
 use Rattle.schedule_kit.specs.Rows.{values_fed}
-use Rattle.schedule_kit.specs.Taken.{taken_collections, newest, entries_taken, incarnations}
-use Rattle.schedule_kit.specs.Totals.{IsSum, total, total_where}
+use Rattle.schedule_kit.specs.Taken.{taken_collections, entries_taken, incarnations}
+use Rattle.schedule_kit.specs.Totals.{total}
 use Rattle.schedule_kit.proofs.Incarnations.{incarnations_once, made_in}
-use Rattle.schedule_kit.proofs.Members.{any-In, filter-In, flat_map-In, In-filter, In-flat_map, In-map, map-In}
 use Rattle.schedule_kit.proofs.Mixed.{total-ones}
-use Rattle.schedule_kit.proofs.Parts.{AreTaken}
-use Rattle.schedule_kit.proofs.Recorded as recorded
 use Rattle.schedule_kit.proofs.Taking.{are_taken, taken_made, up_to_newest}
-use Rattle.schedule_kit.proofs.Totals.{any_sum, count_sum, by_name, total-flat_map, total-map, total_same, total_zero}
-use Rattle.page_kit.specs.Bounds.{bounds_in, buckets_in, count_up_to, has_bound, is_shown, rising, service_bounds, shared_bounds, values_up_to, within_room}
-use Rattle.page_kit.specs.Families as families
-use Rattle.page_kit.specs.Families.{Measured, is_claimed, metric_cmp, metrics_of, own_names, rank_cmp, rank_of, ranked, shown_after, shown_metrics}
-use Rattle.page_kit.specs.Labels.{labels_cmp, row_labels}
-use Rattle.page_kit.specs.Metrics.{claims, family, kind_of, metric_of}
+use Rattle.page_kit.specs.Bounds.{buckets_in, count_up_to}
+use Rattle.page_kit.specs.Families.{Measured, shown_metrics}
+use Rattle.page_kit.specs.Metrics.{kind_of}
 use Rattle.page_kit.specs.Names.{same}
 use Rattle.page_kit.specs.Page.{asked_cells}
-use Rattle.page_kit.specs.Recorded.{AreNumbers, AreProper, goes_to, is_asked, NumbersAreRecorded, recordings, row_values}
-use Rattle.page_kit.specs.Rows.{row_bounds, rows}
-use Rattle.page_kit.specs.Totals.{KeyedCell, count_in, count_of, is_conflict, sum_in, sum_of}
+use Rattle.page_kit.specs.Recorded.{IsRecorded, AreProper, NumbersAreRecorded, recordings, row_values}
+use Rattle.page_kit.specs.Rows.{rows}
+use Rattle.page_kit.specs.Totals.{KeyedCell, count_in, sum_in}
 use Rattle.page_kit.specs.declared.labels.Label.{Label}
-use Rattle.page_kit.specs.declared.metric.Kind.{Kind}
-use Rattle.page_kit.specs.declared.metric.Kind.TheVariants.{Updown, Counter, Gauge, Histogram}
-use Rattle.page_kit.specs.declared.metric.Metric.{Metric}
-use Rattle.attr_kit.specs.Orders.{text_cmp}
-use Rattle.page_kit.proofs.GroupLaws.{in_group, in_ordered}
-use Rattle.page_kit.proofs.PageLaws.{labels_total}
-use Rattle.page_kit.proofs.Shared.{filter_twice}
-use Rattle.page_kit.proofs.Telling.{metrics_total, one_metric, one_service, same_labels}
+use Rattle.page_kit.specs.declared.metric.Kind.TheVariants.{Gauge, Histogram}
+use Rattle.page_kit.proofs.Fed.{Tells, are_recorded, fold_total}
 use Rattle.page_kit.proofs.UpTo.{counted_up_to}
-
--- numbers added up
-whole_sum : IsSum (pos 0) ◌+ℤ◌
-whole_sum = record { assoc = λ a b c. omega (arith, ints); comm = λ a b. omega (arith, ints); zero_left = λ a. omega (arith, ints) }
-
-fold_whole : {A : Type 0} (f : A → ℤ) (a : ℤ) (xs : List A) → fold (λ s x. s +ℤ f x) a xs ≡ a +ℤ total (pos 0) ◌+ℤ◌ f xs
-fold_whole f a [] = omega (arith, ints)
-fold_whole f a (x ∷ xs) = fold_whole f (a +ℤ f x) xs ∙ whole_sum.assoc a (f x) (total (pos 0) ◌+ℤ◌ f xs)
-
-fold_total : {A : Type 0} (f : A → ℤ) (xs : List A) → fold (λ s x. s +ℤ f x) (pos 0) xs ≡ total (pos 0) ◌+ℤ◌ f xs
-fold_total f xs = fold_whole f (pos 0) xs ∙ whole_sum.zero_left (total (pos 0) ◌+ℤ◌ f xs)
-
-counted_total : {A : Type 0} (f : A → ℕ) (xs : List A) → sum_by f xs ≡ total 0 ◌+◌ f xs
-counted_total f [] = refl
-counted_total f (x ∷ xs) = sum_by-cons f x xs ∙ ap (λ n. f x + n) (counted_total f xs)
-
-any_total : {A : Type 0} (q : A → Bool) (xs : List A) → list_any q xs ≡ total false ◌||◌ q xs
-any_total q [] = refl
-any_total q (x ∷ xs) = ap (λ b. q x || b) (any_total q xs)
-
--- where none of some tests passes, no one does
-none_passes : {A : Type 0} (q : A → Bool) (x : A) (xs : List A) → total false ◌||◌ q xs ≡ false → In x xs → q x ≡ false
-none_passes q x [] e i = absurd i
-none_passes q x (y ∷ ys) e (inl same) = ap q same ∙ (or_no (q y) (total false ◌||◌ q ys) e).0
-  where
-    or_no : (a b : Bool) → (a || b) ≡ false → (a ≡ false) × (b ≡ false)
-    or_no true b f = absurd cc
-    or_no false b f = (refl, f)
-none_passes q x (y ∷ ys) e (inr i) = none_passes q x ys (later (q y) (total false ◌||◌ q ys) e) i
-  where
-    later : (a b : Bool) → (a || b) ≡ false → b ≡ false
-    later true b f = absurd cc
-    later false b f = f
-
-all_In : {A : Type 0} (q : A → Bool) (x : A) (xs : List A) → list_all q xs ≡ true → In x xs → q x ≡ true
-all_In q x [] e i = absurd i
-all_In q x (y ∷ ys) e (inl same) = ap q same ∙ (and_parts (q y) (list_all q ys) e).0
-all_In q x (y ∷ ys) e (inr i) = all_In q x ys (and_parts (q y) (list_all q ys) e).1 i
-
-module _ {U : Type 0} (z : U) (p : U → U → U) (laws : IsSum z p) where
-  kept_total : {A : Type 0} (b : Bool) (f : A → U) (x : A) (xs : List A) → total z p f (cond b (x ∷ xs) xs) ≡ p (cond b (f x) z) (total z p f xs)
-  kept_total true f x xs = refl
-  kept_total false f x xs = sym (laws.zero_left (total z p f xs))
-
-  -- what passes, added up
-  total_filter : {A : Type 0} (q : A → Bool) (f : A → U) (xs : List A) → total z p f (filter q xs) ≡ total_where z p q f xs
-  total_filter q f [] = refl
-  total_filter q f (x ∷ xs) = kept_total (q x) f x (filter q xs) ∙ ap (p (cond (q x) (f x) z)) (total_filter q f xs)
-
-  -- the values under a name, each weighed
-  weighed_under : (weigh : ℤ → U) (x : Name) (vs : List (Name × ℤ)) → total z p weigh (values_under name_eq x vs) ≡ total_where z p (λ (v : Name × U). name_eq x v.0) (λ v. v.1) (map (λ v. (v.0, weigh v.1)) vs)
-  weighed_under weigh x [] = refl
-  weighed_under weigh x (v ∷ vs) = at (name_eq x v.0) ∙ ap (p (cond (name_eq x v.0) (weigh v.1) z)) (weighed_under weigh x vs)
-    where
-      at : (b : Bool) → total z p weigh (map (λ w. w.1) (cond b (v ∷ filter (λ w. name_eq x w.0) vs) (filter (λ w. name_eq x w.0) vs))) ≡ p (cond b (weigh v.1) z) (total z p weigh (values_under name_eq x vs))
-      at true = refl
-      at false = sym (laws.zero_left (total z p weigh (values_under name_eq x vs)))
 
 -- what a sum or a histogram of values adds to a total
 sum_weighed : (shape : Shape) (vs : List ℤ) → (kind_of shape ≡ Gauge → ⊥) → sum_in (One (payload_of shape vs)) ≡ total (pos 0) ◌+ℤ◌ (λ v. v) vs
@@ -135,65 +55,54 @@ count_weighed shapes.Gauge vs e = absurd cc
 count_weighed (shapes.Histogram bounds) vs e = sym (total-ones vs)
 
 module _ (bound : ℤ) where
-  bound_In : (bounds : List ℤ) → list_any (eq_by_cmp int_cmp bound) bounds ≡ true → In bound bounds
-  bound_In bounds e = any-In (eq_by_cmp int_cmp) (eq_by_cmp_equiv int_cmp_total) (λ x y t. int_cmp-IsAntisymmetric x y ((Equal-is (int_cmp x y)).0 t)) bound bounds e
-
   proper_rises : (bounds : List ℤ) → are_bounds bounds ≡ true → rise bounds ≡ true
   unfolding are_bounds
   proper_rises bounds e = (and_parts (rise bounds) _ e).0
 
   -- how many of its values are not above a bound that it has
-  up_to_weighed : (e : KeyedCell) (vs : List ℤ) → kind_of e.0.stream.shape ≡ Histogram → is_proper e.0.stream.shape ≡ true → has_bound bound e ≡ true → e.1.held ≡ One (payload_of e.0.stream.shape vs)
-      → count_up_to bound (bounds_in e) (buckets_in e.1.held) ≡ total 0 ◌+◌ (λ v. cond (int_le v bound) 1 0) vs
-  up_to_weighed e vs kind proper has held = ap (λ c. count_up_to bound (bounds_in e) (buckets_in c)) held ∙ of_shape e.0.stream.shape kind proper has
-    where
-      of_shape : (shape : Shape) → kind_of shape ≡ Histogram → is_proper shape ≡ true → list_any (eq_by_cmp int_cmp bound) (bounds_of shape) ≡ true
-          → count_up_to bound (bounds_of shape) (buckets_in (One (payload_of shape vs))) ≡ total 0 ◌+◌ (λ v. cond (int_le v bound) 1 0) vs
-      of_shape (shapes.Sum true) k q t = absurd cc
-      of_shape (shapes.Sum false) k q t = absurd cc
-      of_shape shapes.Gauge k q t = absurd cc
-      of_shape (shapes.Histogram bounds) k q t = counted_up_to bound bounds vs (proper_rises bounds q) (bound_In bounds t)
+  up_to_weighed : (shape : Shape) (vs : List ℤ) → kind_of shape ≡ Histogram → is_proper shape ≡ true → In bound (bounds_of shape)
+      → count_up_to bound (bounds_of shape) (buckets_in (One (payload_of shape vs))) ≡ total 0 ◌+◌ (λ v. cond (int_le v bound) 1 0) vs
+  up_to_weighed (shapes.Sum true) vs k q t = absurd cc
+  up_to_weighed (shapes.Sum false) vs k q t = absurd cc
+  up_to_weighed shapes.Gauge vs k q t = absurd cc
+  up_to_weighed (shapes.Histogram bounds) vs k q t = counted_up_to bound bounds vs (proper_rises bounds q) t
 
-  -- a bound that cells share is one of each
-  shared_has : (cells : List KeyedCell) (e : KeyedCell) → In bound (shared_bounds cells) → In e cells → has_bound bound e ≡ true
-  unfolding shared_bounds
-  shared_has [] e b i = absurd i
-  shared_has (x ∷ xs) e b i =
-      let passes = (filter-In (λ l. is_shown l && list_all (has_bound l) (x ∷ xs)) bound (rising (bounds_in x)) b).1 in
-      all_In (has_bound bound) e (x ∷ xs) (and_parts (is_shown bound) (list_all (has_bound bound) (x ∷ xs)) passes).1 i
+-- what adds up is no gauge
+no_gauge : (shape : Shape) → AddsUp shape → kind_of shape ≡ Gauge → ⊥
+no_gauge (shapes.Sum true) adds e = cc
+no_gauge (shapes.Sum false) adds e = cc
+no_gauge shapes.Gauge adds e = adds
+no_gauge (shapes.Histogram bounds) adds e = cc
 
-  -- each cell of a row has the row's bounds
-  row_has : (all cells : List KeyedCell) → ((e f : KeyedCell) → In e cells → In f cells → e.0.writer.service ≡ f.0.writer.service) → ((e : KeyedCell) → In e cells → In e all)
-      → In bound (row_bounds all cells) → (e : KeyedCell) → In e cells → has_bound bound e ≡ true
-  unfolding service_bounds
-  row_has all [] told sub b e i = absurd i
-  row_has all (x ∷ xs) told sub b e i =
-      shared_has (filter (λ y. same x.0.writer.service y.0.writer.service) all) e b
-      (In-filter (λ y. same x.0.writer.service y.0.writer.service) e all (sub e i) ((bytes_eq-Decides x.0.writer.service e.0.writer.service).1 (told x e (inl refl) i)))
+-- A payload tells values where it does in a stream that adds up, and how many they are in one of a histogram.
+pub tells_by : (shape : Shape) (payload : Payload) (values : List ℤ) → (AddsUp shape → sum_in (One payload) ≡ total (pos 0) ◌+ℤ◌ (λ v. v) values)
+    → ((bounds : List ℤ) → shape ≡ shapes.Histogram bounds → count_in (One payload) ≡ total 0 ◌+◌ (λ _. 1) values)
+    → ((bounds : List ℤ) → shape ≡ shapes.Histogram bounds → (bound : ℤ) → In bound bounds
+    → count_up_to bound bounds (buckets_in (One payload)) ≡ total 0 ◌+◌ (λ v. cond (int_le v bound) 1 0) values)
+    → Tells shape payload values
+tells_by (shapes.Sum true) payload values sum count up_to = record { sum = λ other. sum tt; count = λ e. absurd cc; up_to = λ e. absurd cc }
+tells_by (shapes.Sum false) payload values sum count up_to = record { sum = λ other. sum tt; count = λ e. absurd cc; up_to = λ e. absurd cc }
+tells_by shapes.Gauge payload values sum count up_to = record { sum = λ other. absurd (other refl); count = λ e. absurd cc; up_to = λ e. absurd cc }
+tells_by (shapes.Histogram bounds) payload values sum count up_to = record { sum = λ other. sum tt; count = λ e. count bounds refl; up_to = λ e. up_to bounds refl }
 
--- a metric that is shown is one of all
-shown_in : (claimed : List (List ℕ)) (m : Measured) (ms : List Measured) → In m (shown_after claimed ms) → In m ms
-shown_in claimed m [] i = i
-shown_in claimed m (x ∷ ms) i = at (is_claimed claimed x) (shown_in (claims x.0 ++ claimed) m ms) i
-  where
-    at : (b : Bool) → (In m (shown_after (claims x.0 ++ claimed) ms) → In m ms) → In m (cond b (shown_after (claims x.0 ++ claimed) ms) (x ∷ shown_after (claims x.0 ++ claimed) ms)) → In m (x ∷ ms)
-    at true later j = inr (later j)
-    at false later (inl e) = inl e
-    at false later (inr j) = inr (later j)
+-- and so do sums and histograms of values
+pub sum_of_values : (shape : Shape) (vs : List ℤ) → AddsUp shape → sum_in (One (payload_of shape vs)) ≡ total (pos 0) ◌+ℤ◌ (λ v. v) vs
+sum_of_values shape vs adds = sum_weighed shape vs (no_gauge shape adds)
 
-shown_metric : (cells : List KeyedCell) (m : Measured) → In m (shown_metrics cells) → In m (metrics_of cells)
-unfolding shown_metrics families.by_name ranked
-shown_metric cells m i =
-    in_ordered rank_cmp rank_of m (metrics_of cells)
-    (shown_in own_names m (ranked (metrics_of cells)) (in_ordered text_cmp (λ (n : Measured). family n.0) m (shown_after own_names (ranked (metrics_of cells))) i))
+pub count_of_values : (bounds : List ℤ) (vs : List ℤ) → count_in (One (payload_of (shapes.Histogram bounds) vs)) ≡ total 0 ◌+◌ (λ _. 1) vs
+count_of_values bounds vs = count_weighed (shapes.Histogram bounds) vs refl
 
-metric_cells : (cells : List KeyedCell) (m : Measured) → In m (metrics_of cells) → m.1 ≡ filter (λ e. eq_by_cmp metric_cmp m.0 (metric_of e.0.stream)) cells
-unfolding metrics_of
-metric_cells cells m i = in_group metrics_total (λ (e : KeyedCell). metric_of e.0.stream) cells m i
+pub up_to_of_values : (bound : ℤ) (bounds : List ℤ) (vs : List ℤ) → is_proper (shapes.Histogram bounds) ≡ true → In bound bounds
+    → count_up_to bound bounds (buckets_in (One (payload_of (shapes.Histogram bounds) vs))) ≡ total 0 ◌+◌ (λ v. cond (int_le v bound) 1 0) vs
+up_to_of_values bound bounds vs proper there = up_to_weighed bound (shapes.Histogram bounds) vs refl proper there
 
-row_cells : (cells : List KeyedCell) (r : List Label × List KeyedCell) → In r (rows cells) → r.1 ≡ filter (λ e. eq_by_cmp labels_cmp r.0 (row_labels e.0)) cells
-unfolding rows
-row_cells cells r i = in_group labels_total (λ (e : KeyedCell). row_labels e.0) cells r i
+-- a sum or a histogram of values tells them
+pub payload_tells : (shape : Shape) (vs : List ℤ) → is_proper shape ≡ true → Tells shape (payload_of shape vs) vs
+payload_tells shape vs proper = record {
+  sum = sum_weighed shape vs;
+  count = count_weighed shape vs;
+  up_to = λ kind bound there. up_to_weighed bound shape vs kind proper there;
+}
 
 module _ (s : Writers) (plans : ArePlans s) (proper : AreProper s) (told : AreTold s) (fits : ℕ → List Entry → Entry → Bool) (gateways : ℕ) (ds : List (Deed Entry)) (lawful : AreLawful fits s.starts gateways ds) (h : Holder) where
   abbrev ms : List (Made Entry)
@@ -202,196 +111,28 @@ module _ (s : Writers) (plans : ArePlans s) (proper : AreProper s) (told : AreTo
   abbrev is : List (ℕ × ℕ)
   is = incarnations s.starts ds
 
-  abbrev held : List KeyedCell
-  held = entries (state (rounding s) ms)
-
-  taken : AreTaken s.who ms
-  taken = are_taken s.starts fits gateways s.who told ds lawful h
-
-  once : Once {A = WriterId × ℕ} (map (λ i. (s.who i.0, i.1)) is)
-  once = incarnations_once s.starts s.who told fits gateways ds lawful
-
-  covered : (m : Made Entry) → In m ms → In {A = ℕ × ℕ} (m.writer, m.start) is
-  covered m i = made_in s.starts fits gateways ds lawful m (taken_made s.starts ds h m i)
-
-  -- of each incarnation the cells of its newest collection taken
   abbrev entries_at : ℕ × ℕ → List Entry
   entries_at i = entries_taken ms i.0 i.1
 
-  abbrev names_at : ℕ × ℕ → List Name
-  names_at i = names_from (s.plan i.0) (entries_at i) 0 (s.plan i.0).streams
+  tells : (i : ℕ × ℕ) (x : Name) → In x (names_from (s.plan i.0) (entries_at i) 0 (s.plan i.0).streams)
+      → Tells x.0.shape (payload_at (s.plan i.0) (entries_at i) x) (values_under name_eq x (entries_fed s i.0 (entries_at i)))
+  tells i x there =
+      let at = placed (s.plan i.0).streams x.0 (stream_in (s.plan i.0) (entries_at i) 0 (s.plan i.0).streams x there) in
+      let none : at.0 ≡ 0 + at.0 = omega arith in
+      let vs = values_of (fed (s.plan i.0) (number_of (s.plan i.0) x.0) (entries_at i)) x.1 in
+      let same : vs ≡ values_under name_eq x (entries_fed s i.0 (entries_at i)) =
+      ap (λ n. values_of (fed (s.plan i.0) n (entries_at i)) x.1) (number_is (s.plan i.0) (plans i.0) at.0 x.0 at.1 ∙ none)
+      ∙ sym (values_at (s.plan i.0) (entries_at i) (s.plan i.0).streams 0 (plans i.0) at.0 x.0 at.1 x.1) in
+      subst (λ (l : List ℤ). Tells x.0.shape (payload_at (s.plan i.0) (entries_at i) x) l) same (payload_tells x.0.shape vs (proper i.0 at.0 x.0 at.1))
 
-  abbrev cell_of : ℕ × ℕ → Name → KeyedCell
-  cell_of i x = (key_at (s.who i.0) i.1 x, record { time = option_map_or (λ (m : Made Entry). m.time) (newest ms i.0 i.1) 0; held = One (payload_at (s.plan i.0) (entries_at i) x) })
-
-  abbrev cells_of : ℕ × ℕ → List KeyedCell
-  cells_of i = map (cell_of i) (names_at i)
-
-  abbrev cells : List KeyedCell
-  cells = flat_map cells_of is
-
-  adds_up : {U : Type 0} (z : U) (p : U → U → U) → IsSum z p → (f : KeyedCell → U) → total z p f held ≡ total z p f cells
-  adds_up z p laws f = recorded.adds_up (rounding s) (rounding_sound s plans) ms taken is once covered z p laws f
-
-  cell_proper : (e : KeyedCell) → In e cells → is_proper e.0.stream.shape ≡ true
-  cell_proper e j =
-      let i = flat_map-In cells_of e is j in
-      let x = map-In (cell_of i.0) e (names_at i.0) i.2 in
-      let at = placed (s.plan i.0.0).streams x.0.0 (stream_in (s.plan i.0.0) (entries_at i.0) 0 (s.plan i.0.0).streams x.0 x.1) in
-      ap (λ (c : KeyedCell). is_proper c.0.stream.shape) x.2 ∙ proper i.0.0 at.0 x.0.0 at.1
-
-  -- what passes among what a gateway holds, added up, is what passes among what was recorded
-  module _ {U : Type 0} (z : U) (p : U → U → U) (laws : IsSum z p) (asks : Key → Bool) (reads : KeyedCell → U) (weigh : ℤ → U)
-      (good : (e : KeyedCell) (vs : List ℤ) → In e cells → asks e.0 ≡ true → e.1.held ≡ One (payload_of e.0.stream.shape vs) → reads e ≡ total z p weigh vs) where
-    abbrev weighed : ℕ × ℕ → List (Name × U)
-    weighed i = map (λ v. (v.0, weigh v.1)) (entries_fed s i.0 (entries_at i))
-
-    abbrev fed_at : ℕ × ℕ → List (Key × ℤ)
-    fed_at i = map (λ v. (key_at (s.who i.0) i.1 v.0, v.1)) (entries_fed s i.0 (entries_at i))
-
-    abbrev read_where : KeyedCell → U
-    read_where e = cond (asks e.0) (reads e) z
-
-    abbrev weighed_where : Key × ℤ → U
-    weighed_where v = cond (asks v.0) (weigh v.1) z
-
-    its_values : (i : ℕ × ℕ) (x : Name) → In x (names_at i) → values_of (fed (s.plan i.0) (number_of (s.plan i.0) x.0) (entries_at i)) x.1 ≡ values_under name_eq x (entries_fed s i.0 (entries_at i))
-    its_values i x there =
-        let at = placed (s.plan i.0).streams x.0 (stream_in (s.plan i.0) (entries_at i) 0 (s.plan i.0).streams x there) in
-        let none : at.0 ≡ 0 + at.0 = omega arith in
-        ap (λ n. values_of (fed (s.plan i.0) n (entries_at i)) x.1) (number_is (s.plan i.0) (plans i.0) at.0 x.0 at.1 ∙ none)
-        ∙ sym (values_at (s.plan i.0) (entries_at i) (s.plan i.0).streams 0 (plans i.0) at.0 x.0 at.1 x.1)
-
-    read_as : (i : ℕ × ℕ) → In i is → (x : Name) → In x (names_at i) → read_where (cell_of i x) ≡ cond (asks (key_at (s.who i.0) i.1 x)) (total_where z p (λ (v : Name × U). name_eq x v.0) (λ v. v.1) (weighed i)) z
-    read_as i j x there = go (asks (key_at (s.who i.0) i.1 x)) refl
-      where
-        go : (b : Bool) → asks (key_at (s.who i.0) i.1 x) ≡ b → cond b (reads (cell_of i x)) z ≡ cond b (total_where z p (λ (v : Name × U). name_eq x v.0) (λ v. v.1) (weighed i)) z
-        go true e =
-            good (cell_of i x) (values_of (fed (s.plan i.0) (number_of (s.plan i.0) x.0) (entries_at i)) x.1) (In-flat_map cells_of (cell_of i x) i is j (In-map (cell_of i) x (names_at i) there)) e refl
-            ∙ ap (total z p weigh) (its_values i x there) ∙ weighed_under z p laws weigh x (entries_fed s i.0 (entries_at i))
-        go false e = refl
-
-    named : (i : ℕ × ℕ) (v : Name × U) → In v (weighed i) → In v.0 (names_at i)
-    named i v j =
-        let q = map-In (λ (w : Name × ℤ). (w.0, weigh w.1)) v (entries_fed s i.0 (entries_at i)) j in
-        subst (λ (x : Name). In x (names_at i)) (sym (ap (λ (w : Name × U). w.0) q.2)) (fed_named (s.plan i.0) (entries_at i) 0 (s.plan i.0).streams q.0 q.1)
-
-    of_incarnation : (i : ℕ × ℕ) → In i is → total z p read_where (cells_of i) ≡ total z p weighed_where (fed_at i)
-    of_incarnation i j =
-        total-map z p laws read_where (cell_of i) (names_at i)
-        ∙ total_same z p laws (λ x. read_where (cell_of i x)) (λ x. cond (asks (key_at (s.who i.0) i.1 x)) (total_where z p (λ (v : Name × U). name_eq x v.0) (λ v. v.1) (weighed i)) z) (names_at i) (λ x k. read_as i j x k)
-        ∙ by_name z p laws name_eq (rounding_sound s plans).names_equivalence (rounding_sound s plans).names_exact (λ x. asks (key_at (s.who i.0) i.1 x)) (names_at i) ((rounding_sound s plans).once i.0 (entries_at i)) (weighed i) (λ v k. named i v k)
-        ∙ total-map z p laws (λ (v : Name × U). cond (asks (key_at (s.who i.0) i.1 v.0)) v.1 z) (λ (v : Name × ℤ). (v.0, weigh v.1)) (entries_fed s i.0 (entries_at i))
-        ∙ sym (total-map z p laws weighed_where (λ (v : Name × ℤ). (key_at (s.who i.0) i.1 v.0, v.1)) (entries_fed s i.0 (entries_at i)))
-
-    added : total z p read_where held ≡ total z p weighed_where (recordings s ds h)
-    added =
-        adds_up z p laws read_where ∙ total-flat_map z p laws read_where cells_of is ∙ total_same z p laws (λ i. total z p read_where (cells_of i)) (λ i. total z p weighed_where (fed_at i)) is (λ i j. of_incarnation i j)
-        ∙ sym (total-flat_map z p laws weighed_where fed_at is)
-        ∙ ap (λ (E : ℕ × ℕ → List Entry). total z p weighed_where (values_fed (rounding s) E is (entries_fed s))) (λ n i. sym (up_to_newest s.starts ds h i.0 i.1) n)
-
-  module _ (service : Option (List ℕ)) (m : Measured) (there : In m (shown_metrics (asked_cells service (state (rounding s) ms)))) (r : List Label × List KeyedCell) (here : In r (rows m.1)) where
-    abbrev asks : Key → Bool
-    asks = goes_to service m.0 r.0
-
-    abbrev of_metric : KeyedCell → Bool
-    of_metric e = eq_by_cmp metric_cmp m.0 (metric_of e.0.stream)
-
-    abbrev of_labels : KeyedCell → Bool
-    of_labels e = eq_by_cmp labels_cmp r.0 (row_labels e.0)
-
-    abbrev values : List ℤ
-    values = row_values service m.0 r.0 (recordings s ds h)
-
-    its_row : r.1 ≡ filter of_labels m.1
-    its_row = row_cells m.1 r here
-
-    -- the row has the cells of its keys
-    picked : r.1 ≡ filter (λ e. asks e.0) held
-    picked =
-        its_row ∙ ap (filter of_labels) (metric_cells (asked_cells service (state (rounding s) ms)) m (shown_metric (asked_cells service (state (rounding s) ms)) m there))
-        ∙ filter_twice of_metric of_labels (asked_cells service (state (rounding s) ms)) ∙ served service
-      where
-        served : (o : Option (List ℕ)) → filter (λ e. of_metric e && of_labels e) (asked_cells o (state (rounding s) ms)) ≡ filter (λ e. is_asked o e.0 && (of_metric e && of_labels e)) held
-        served None = refl
-        served (Some t) = filter_twice (λ (e : KeyedCell). is_of t e.0.writer) (λ e. of_metric e && of_labels e) held
-
-    row_is : {U : Type 0} (z : U) (p : U → U → U) → IsSum z p → (reads : KeyedCell → U) (weigh : ℤ → U)
-        → ((e : KeyedCell) (vs : List ℤ) → In e cells → asks e.0 ≡ true → e.1.held ≡ One (payload_of e.0.stream.shape vs) → reads e ≡ total z p weigh vs) → total z p reads r.1 ≡ total z p weigh values
-    row_is z p laws reads weigh good =
-        ap (total z p reads) picked ∙ total_filter z p laws (λ (e : KeyedCell). asks e.0) reads held ∙ added z p laws asks reads weigh good
-        ∙ sym (total_filter z p laws (λ (v : Key × ℤ). asks v.0) (λ v. weigh v.1) (recordings s ds h)) ∙ sym (total-map z p laws weigh (λ (v : Key × ℤ). v.1) (filter (λ v. asks v.0) (recordings s ds h)))
-
-    -- no conflict stands in it
-    no_conflict : list_any is_conflict r.1 ≡ false
-    no_conflict =
-        any_total is_conflict r.1 ∙ row_is false ◌||◌ any_sum is_conflict (λ _. false) (λ e vs i t held_is. one e vs held_is ∙ sym (total_zero false ◌||◌ any_sum (λ _. false) vs (λ _ _. refl)))
-        ∙ total_zero false ◌||◌ any_sum (λ _. false) values (λ _ _. refl)
-      where
-        one : (e : KeyedCell) (vs : List ℤ) → e.1.held ≡ One (payload_of e.0.stream.shape vs) → is_conflict e ≡ false
-        one e vs is_one = ap is_several is_one
-
-    -- a key of the row is of its metric
-    its_kind : (e : KeyedCell) → asks e.0 ≡ true → kind_of e.0.stream.shape ≡ m.0.kind
-    its_kind e t =
-        let both = (and_parts (is_asked service e.0) (of_metric e && of_labels e) t).1 in
-        ap (λ (n : Metric). n.kind) (sym (one_metric m.0 (metric_of e.0.stream) (and_parts (of_metric e) (of_labels e) both).0))
-
-    sums : (m.0.kind ≡ Gauge → ⊥) → sum_of r.1 ≡ payloads.total values
-    unfolding sum_of
-    sums other =
-        fold_total (λ (e : KeyedCell). sum_in e.1.held) r.1
-        ∙ row_is (pos 0) ◌+ℤ◌ whole_sum (λ e. sum_in e.1.held) (λ v. v) (λ e vs i t is_one. ap sum_in is_one ∙ sum_weighed e.0.stream.shape vs (λ k. other (sym (its_kind e t) ∙ k)))
-        ∙ sym (fold_total (λ v. v) values)
-
-    counts : m.0.kind ≡ Histogram → count_of r.1 ≡ length values
-    unfolding count_of
-    counts kind =
-        counted_total (λ (e : KeyedCell). count_in e.1.held) r.1
-        ∙ row_is 0 ◌+◌ count_sum (λ e. count_in e.1.held) (λ _. 1) (λ e vs i t is_one. ap count_in is_one ∙ count_weighed e.0.stream.shape vs (its_kind e t ∙ kind))
-        ∙ total-ones values
-
-    in_row : (e : KeyedCell) → In e r.1 → In e m.1 × (of_labels e ≡ true)
-    in_row e i = filter-In of_labels e m.1 (subst (λ (l : List KeyedCell). In e l) its_row i)
-
-    one_of_row : (e f : KeyedCell) → In e r.1 → In f r.1 → e.0.writer.service ≡ f.0.writer.service
-    one_of_row e f i j = one_service e.0 f.0 (sym (same_labels r.0 (row_labels e.0) (in_row e i).1) ∙ same_labels r.0 (row_labels f.0) (in_row f j).1)
-
-    module _ (bound : ℤ) (shown : In bound (row_bounds m.1 r.1)) where
-      -- each key of the row has the bound
-      abbrev lacks : KeyedCell → Bool
-      lacks e = asks e.0 && not (has_bound bound e)
-
-      none_lacks : (e : KeyedCell) → In e held → lacks e ≡ false
-      none_lacks e i = go (asks e.0) refl
-        where
-          go : (b : Bool) → asks e.0 ≡ b → (b && not (has_bound bound e)) ≡ false
-          go true t = ap not (row_has bound m.1 r.1 one_of_row (λ f j. (in_row f j).0) shown e (subst (λ (l : List KeyedCell). In e l) (sym picked) (In-filter (λ (f : KeyedCell). asks f.0) e held i t)))
-          go false t = refl
-
-      has_it : (e : KeyedCell) → In e cells → asks e.0 ≡ true → has_bound bound e ≡ true
-      has_it e i t = had (has_bound bound e) (sym (ap (λ b. b && not (has_bound bound e)) t) ∙ none_passes lacks e cells (sym (adds_up false ◌||◌ any_sum lacks) ∙ total_zero false ◌||◌ any_sum lacks held none_lacks) i)
-        where
-          had : (b : Bool) → not b ≡ false → b ≡ true
-          had true n = refl
-          had false n = absurd cc
-
-      up_to : m.0.kind ≡ Histogram → values_up_to bound r.1 ≡ within_room (count_by (λ v. int_le v bound) values)
-      unfolding values_up_to
-      up_to kind = ap within_room (
-          counted_total (λ (e : KeyedCell). count_up_to bound (bounds_in e) (buckets_in e.1.held)) r.1
-          ∙ row_is 0 ◌+◌ count_sum (λ e. count_up_to bound (bounds_in e) (buckets_in e.1.held)) (λ v. cond (int_le v bound) 1 0) (λ e vs i t is_one. up_to_weighed bound e vs (its_kind e t ∙ kind) (cell_proper e i) (has_it e i t) is_one)
-          ∙ sym (counted_total (λ v. cond (int_le v bound) 1 0) values)
-          )
-
-    numbers : (k : Kind) → m.0.kind ≡ k → AreNumbers k (row_bounds m.1 r.1) r.1 values
-    numbers Updown e = sums (λ g. absurd (cc))
-    numbers Counter e = sums (λ g. absurd (cc))
-    numbers Gauge e = tt
-    numbers Histogram e = (sums (λ g. absurd (cc)), counts e, λ bound shown. up_to bound shown e)
+  pub all_recorded : (service : Option (List ℕ)) (m : Measured) → In m (shown_metrics (asked_cells service (state (rounding s) ms))) → (w : List Label × List KeyedCell) → In w (rows m.1)
+      → IsRecorded m w (row_values service m.0 w.0 (recordings s ds h))
+  all_recorded service m there w here =
+      subst (λ (E : ℕ × ℕ → List Entry). IsRecorded m w (row_values service m.0 w.0 (values_fed (rounding s) E is (entries_fed s)))) (λ n i. sym (up_to_newest s.starts ds h i.0 i.1) n)
+      (are_recorded (rounding s) (rounding_sound s plans) (λ i start x. refl) ms (are_taken s.starts fits gateways s.who told ds lawful h) is
+      (incarnations_once s.starts s.who told fits gateways ds lawful) (λ m i. made_in s.starts fits gateways ds lawful m (taken_made s.starts ds h m i)) (entries_fed s)
+      (λ i j v k. fed_named (s.plan i.0) (entries_at i) 0 (s.plan i.0).streams v k) (λ i j x k. tells i x k)
+      service m there w here)
 
 pub numbers_recorded : NumbersAreRecorded
-numbers_recorded s plans proper told fits gateways ds lawful h service m there r here = record {
-  shown = no_conflict s plans proper told fits gateways ds lawful h service m there r here;
-  numbers = numbers s plans proper told fits gateways ds lawful h service m there r here m.0.kind refl;
-}
+numbers_recorded s plans proper told fits gateways ds lawful h service m there w here = all_recorded s plans proper told fits gateways ds lawful h service m there w here

@@ -1,3 +1,5 @@
+pub mod Known
 pub mod Logs
+pub mod Naming
 pub mod Outcomes
 pub mod Pieces

@@ -1,19 +1,14 @@
 -- Lines of a log: what they name stays, as more is named.
 use Rattle.std.proofs.Common.{◌≡◌, ℕ, ℤ, ◌+◌, ◌<◌, ◌≤◌, ◌∙◌, List, [], ◌∷◌, ◌++◌, Bool, true, false, cond, Some, length, get_or, slice_get, take, drop, not, is_ok, Ok, Err, OnOk, OnErr, if◌then◌else◌, Result, refl, sym, ap, subst, suc, zero, arith, find}
-use Rattle.std.proofs.lemmas.List.{length-drop, length-take}
-use Rattle.std.specs.Prelude.{slice_set}
+use Rattle.std.proofs.lemmas.List.{length-drop, length-map, length-take, map-append, take_more}
 use Rattle.std.specs.List.{list_any}
 use Rattle.indexmap.specs.IndexSet.{insert_key}
 use Rattle.attr_kit.specs.declared.attr_set.AttrSet.{AttrSet}
 use Rattle.attr_kit.specs.Exact.{exact_lists, exact_pairs, exact_texts, exact_values}
 use Rattle.agg_kit.specs.Entries.{entry_of}
 use Rattle.agg_kit.specs.Feeding.{set_eq}
-use Rattle.agg_kit.specs.Held.{AreOf}
-use Rattle.agg_kit.specs.Tallies.{Tallied}
-use Rattle.agg_kit.specs.declared.held.Places.{Places}
-use Rattle.agg_kit.proofs.HeldPoints.{places_stay_by_set, places_stay_held}
-use Rattle.recorder_kit.specs.Lines.{AllKnown, nothing_named, recording_at, recording_of, recordings_of, IsThere, AllThere}
-use Rattle.recorder_kit.specs.Log.{Logged, Recording, ByName, ByNumber, after_at}
+use Rattle.recorder_kit.specs.Lines.{nothing_named, recording_at, recording_of, recordings_of, AllThere, Grown, IsThere}
+use Rattle.recorder_kit.specs.Log.{Logged, Recording, ByName, ByNumber}
 use Rattle.recorder_kit.specs.declared.line.Line.{Line}
 use Rattle.recorder_kit.specs.declared.line.Named.{Named}
 use Rattle.recorder_kit.specs.declared.line.Spot.{Spot}
@@ -167,6 +162,23 @@ module _ (ns ms : List Named) (ks js : List AttrSet) (names : (i : ℕ) (m : Nam
   same-grown [] h = refl
   same-grown (l ∷ ls) h = λ i. spot-is l.at l.value h.0 i ∷ same-grown ls h.1 i
 
+-- one line more of those that are named anew
+pub anew-more : (ns ms ns' : List Named) (ks js ks' : List AttrSet) (ls fs : List Line) (i : ℕ) (l d : Line)
+    → Grown ms ns' js ks' → AllThere ms js fs → recordings_of ms js fs ≡ take i (recordings_of ns ks ls)
+    → IsThere ns' ks' l.at → recording_of ns' ks' l ≡ recording_of ns ks (get_or ls i d) → i < length ls
+    → AllThere ns' ks' (fs ++ l ∷ []) × (recordings_of ns' ks' (fs ++ l ∷ []) ≡ take (i + 1) (recordings_of ns ks ls))
+anew-more ns ms ns' ks js ks' ls fs i l d grown all so there same less =
+    let rs = recordings_of ns ks ls in
+    let r : Recording = recording_of ns ks (get_or ls i d) in
+    let within : i < length rs = subst (λ (n : ℕ). i < n) (sym (length-map ls (recording_of ns ks))) less in
+    let more : take (i + 1) rs ≡ take i rs ++ r ∷ [] = take_more rs i r within ∙ ap (λ (x : Recording). take i rs ++ x ∷ []) (at-get ns ks ls i d r less) in (
+      there-push ns' ks' fs l (there-grown ms ns' js ks' grown.names grown.sets fs all) there,
+      map-append (recording_of ns' ks') fs (l ∷ [])
+          ∙ (λ k. same-grown ms ns' js ks' grown.names grown.sets fs all k ++ same k ∷ [])
+          ∙ ap (λ (xs : List Recording). xs ++ r ∷ []) so
+          ∙ sym more,
+    )
+
 -- the recording of a line that names what is there
 pub named-is : (ns : List Named) (ks : List AttrSet) (l : Line) (j : ℕ) (m : Named) (a : AttrSet) → l.at ≡ Name j → slice_get ns j ≡ Some m → slice_get ks m.set ≡ Some a
     → recording_of ns ks l ≡ ByName (entry_of m.instrument a l.value)
@@ -182,47 +194,3 @@ ok_so P (Err e) p = tt
 pub err_so : {T E : Type 0} (P : Type 0) (r : Result T E) → P → OnErr r P
 err_so P (Ok x) p = tt
 err_so P (Err e) p = p
-
--- ---- places that are known
-
--- they stay, whatever came of a recording
-pub known-after : {T E : Type 0} (r : Result T E) (t now : Tallied) (x : Recording) (ns : List Named) (ks : List AttrSet) (ps : List Places)
-    → OnOk r (now ≡ after_at t x) → OnErr r (now ≡ t) → AllKnown t ns ks ps → AllKnown now ns ks ps
-known-after (Ok u) t now (ByName e) ns ks ps is same known = λ j p at.
-    let m = get_or ns j nothing_named in
-    subst (λ (s : Tallied). AreOf s m.instrument (get_or ks m.set []) p) (sym is) (places_stay_by_set t e m.instrument (get_or ks m.set []) p (known j p at))
-known-after (Ok u) t now (ByNumber n v) ns ks ps is same known = λ j p at.
-    let m = get_or ns j nothing_named in
-    subst (λ (s : Tallied). AreOf s m.instrument (get_or ks m.set []) p) (sym is) (places_stay_held t n v m.instrument (get_or ks m.set []) p (known j p at))
-known-after (Err u) t now x ns ks ps is same known = λ j p at.
-    let m = get_or ns j nothing_named in
-    subst (λ (s : Tallied). AreOf s m.instrument (get_or ks m.set []) p) (sym same) (known j p at)
-
--- those of one name are read
-pub known-here : (t : Tallied) (ns : List Named) (ks : List AttrSet) (ps : List Places) (j : ℕ) (k : Places) (m : Named) (a : AttrSet)
-    → slice_get ns j ≡ Some m → slice_get ks m.set ≡ Some a → j < length ps → k ≡ get_or ps j k → AllKnown t ns ks ps → AreOf t m.instrument a k
-known-here t ns ks ps j k m a name set l was known =
-    subst (λ (b : AttrSet). AreOf t m.instrument b k) (got ks m.set a [] set)
-    (subst (λ (x : Named). AreOf t x.instrument (get_or ks x.set []) k) (got ns j m nothing_named name)
-    (known j k (found ps j k l ∙ ap (λ (p : Places). Some p) (sym was))))
-
--- another in the place of one
-set-all : {X : Type 0} (P : ℕ → X → Type 0) (qs : List X) (j i : ℕ) (k p : X) → slice_get (slice_set qs j k) i ≡ Some p → P j k → (slice_get qs i ≡ Some p → P i p) → P i p
-set-all P [] j i k p at one known = known at
-set-all P (q ∷ qs) zero zero k p at one known = let is : k ≡ p = cc in subst (P zero) is one
-set-all P (q ∷ qs) zero (suc i) k p at one known = known at
-set-all P (q ∷ qs) (suc j) zero k p at one known = known at
-set-all P (q ∷ qs) (suc j) (suc i) k p at one known = set-all (λ n x. P (suc n) x) qs j i k p at one known
-
--- those of one name are found
-pub known-set : (t : Tallied) (ns : List Named) (ks : List AttrSet) (ps : List Places) (j : ℕ) (k : Places) (m : Named) (a : AttrSet)
-    → slice_get ns j ≡ Some m → slice_get ks m.set ≡ Some a → AreOf t m.instrument a k → AllKnown t ns ks ps → AllKnown t ns ks (slice_set ps j k)
-known-set t ns ks ps j k m a name set one known = λ i p at. set-all Is ps j i k p at one' (known i p)
-  where
-    Is : ℕ → Places → Type 0
-    Is i p = let m = get_or ns i nothing_named in AreOf t m.instrument (get_or ks m.set []) p
-
-    one' : Is j k
-    one' =
-        subst (λ (x : Named). AreOf t x.instrument (get_or ks x.set []) k) (sym (got ns j m nothing_named name))
-        (subst (λ (b : AttrSet). AreOf t m.instrument b k) (sym (got ks m.set a [] set)) one)

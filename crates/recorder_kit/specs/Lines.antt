@@ -1,5 +1,5 @@
 -- The lines of a log in memory, and the recordings that they stand for.
-use Rattle.std.specs.Prelude.{◌≡◌, ◌≢◌, ◌+◌, ◌<◌, ◌∷◌, [], ℕ, ℤ, List, Result, None, Some, IfErr, OnErr, OnOk, length, map, slice_get, slice_index_or}
+use Rattle.std.specs.Prelude.{◌≡◌, ◌≢◌, ◌+◌, ◌*◌, ◌<◌, ◌≤◌, ◌^◌, ◌∷◌, [], ℕ, ℤ, List, Result, None, Some, IfErr, OnErr, OnOk, drop, length, map, min, slice_get, slice_index_or}
 use Rattle.attr_kit.specs.declared.attr_set.AttrSet.{AttrSet}
 use Rattle.agg_kit.specs.Entries.{entry_of}
 use Rattle.agg_kit.specs.Held.{AreOf}
@@ -38,20 +38,40 @@ IsNamed ns ks j i a = (k : ℕ) × (slice_get ns j ≡ Some (record { instrument
 abbrev pub AllStay : {X : Type 0} → List X → List X → Type 0
 AllStay {X = X} xs ys = (i : ℕ) (x : X) → slice_get xs i ≡ Some x → slice_get ys i ≡ Some x
 
+-- what was named stays, and at most one pair and one set are named more
+pub record Grown (ns ms : List Named) (ks js : List AttrSet) : Type 0 where
+  pub names : AllStay ns ms
+  pub sets : AllStay ks js
+  pub one_name : length ms ≤ length ns + 1
+  pub one_set : length js ≤ length ks + 1
+
+-- how many pairs, and how many sets, a log of a capacity may keep named: a place has 32 bits
+abbrev pub most_named : ℕ → ℕ
+most_named capacity = min (2 * capacity) (2 ^ 32)
+
 -- what a line names is there
 abbrev pub IsThere : List Named → List AttrSet → Spot → Type 0
 IsThere ns ks (Number n) = Unit {0}
 IsThere ns ks (Name j) = (j < length ns) × ((slice_index_or ns j nothing_named).set < length ks)
+
+abbrev pub AllThere : List Named → List AttrSet → List Line → Type 0
+AllThere ns ks [] = Unit {0}
+AllThere ns ks (l ∷ ls) = IsThere ns ks l.at × AllThere ns ks ls
+
+-- of a log, of which the first lines were given away: what is left names what is there, it has room for twice its capacity, and what is
+-- named is not more than twice the capacity
+pub record IsWhole (capacity room given : ℕ) (ls : List Line) (ns : List Named) (ks : List AttrSet) : Type 0 where
+  pub there : AllThere ns ks (drop given ls)
+  pub memory : 2 * capacity ≤ room
+  pub within : given ≤ length ls
+  pub few_names : length ns ≤ most_named capacity
+  pub few_sets : length ks ≤ most_named capacity
 
 -- what is known of the places of each name is true of a tally
 abbrev pub AllKnown : Tallied → List Named → List AttrSet → List Places → Type 0
 AllKnown t ns ks ps =
     (j : ℕ) (p : Places) → slice_get ps j ≡ Some p → let m = slice_index_or ns j nothing_named in
     AreOf t m.instrument (slice_index_or ks m.set []) p
-
-abbrev pub AllThere : List Named → List AttrSet → List Line → Type 0
-AllThere ns ks [] = Unit {0}
-AllThere ns ks (l ∷ ls) = IsThere ns ks l.at × AllThere ns ks ls
 
 -- what a tally, which is s then, answers to a recording
 pub record IsAnswered {U : Type 0} (t s : Tallied) (r : Recording) (told : Result U TallyFault) : Type 0 where

@@ -1,7 +1,7 @@
 //! Recorders: logs of recordings, which a tally takes in.
 //!
 //! - A [`Recorder`] is a thread's own log, of as many recordings as its maker says: by instrument and set, or by the number of a
-//!   held point. It needs no tally and no lock. A recording takes 16 bytes; a set is kept once.
+//!   held point. It needs no tally and no lock. A recording takes 32 bytes; a set is kept once.
 //! - [`Recorder::give_to`] measures them in a tally, one after the other, all at once or in pieces, and tells by a [`Taken`] how
 //!   many were recorded and refused. The tally is then what it would be had each been measured there in that order, so limits,
 //!   the overflow set, gauges and sums that fall mean what they mean in a tally ([`pieces_are_the_whole`]).
@@ -26,6 +26,7 @@
 mod fault;
 mod laws;
 mod line;
+mod names;
 mod recorder;
 mod taken;
 #[cfg(test)]

@@ -6,9 +6,8 @@ ghost use Rattle.recorder_kit.specs.declared.line.Named.{Named};
 ghost use Rattle.recorder_kit.specs.declared.line.Spot.TheVariants.{Name};
 ghost use Rattle.recorder_kit.specs.Lines.{recording_at, recording_of, AllKnown, IsAnswered, IsThere};
 
+use crate::names::Names;
 use agg_kit::{Places, Tally, TallyFault};
-use attr_kit::AttrSet;
-use indexmap::IndexSet;
 use std::alloc::Global;
 use std::mem::size_of;
 
@@ -35,10 +34,14 @@ pub(crate) struct Named {
     pub(crate) set: usize,
 }
 
-/// Of each of so many names, that nothing is known of its places; of none where memory is refused.
-pub(crate) fn unknown_places(alloc: Global, names: usize) -> Vec<Places>
+/// Of each of so many names, that nothing is known of its places: of none where fewer recordings are measured, so that to make room
+/// takes no longer than these, and of none where memory is refused.
+pub(crate) fn unknown_places(alloc: Global, names: usize, recordings: usize) -> Vec<Places>
     ensures { (t : Tallied) (ns : List Named) (ks : List AttrSet) → AllKnown t ns ks result.items }
 {
+    if recordings < names {
+        return Vec::new(alloc);
+    }
     let mut places = match Vec::with_capacity(alloc, names) {
         Ok(places) => places,
         Err(_refused) => return Vec::new(alloc),
@@ -55,19 +58,18 @@ pub(crate) fn unknown_places(alloc: Global, names: usize) -> Vec<Places>
 #[inline(always)]
 fn record_named(
     tally: &mut Tally,
-    named: &IndexSet<Named>,
-    sets: &IndexSet<AttrSet>,
+    names: &Names,
     places: &mut Vec<Places>,
     name: usize,
     value: i64,
 ) -> Result<(), TallyFault>
-    requires there { IsThere named.now.keys sets.now.keys (Name name) }
-    requires known { AllKnown tally.old named.now.keys sets.now.keys places.old.items }
-    ensures answered { IsAnswered tally.old tally.new (recording_at named.now.keys sets.now.keys (Name name) value) result }
-    ensures known { AllKnown tally.new named.now.keys sets.now.keys places.new.items }
+    requires there { IsThere names.now.named.keys names.now.sets.keys (Name name) }
+    requires known { AllKnown tally.old names.now.named.keys names.now.sets.keys places.old.items }
+    ensures answered { IsAnswered tally.old tally.new (recording_at names.now.named.keys names.now.sets.keys (Name name) value) result }
+    ensures known { AllKnown tally.new names.now.named.keys names.now.sets.keys places.new.items }
 {
-    let pair = named.get_index(name).unwrap();
-    let set = sets.get_index(pair.set).unwrap();
+    let pair = names.named.get_index(name).unwrap();
+    let set = names.sets.get_index(pair.set).unwrap();
     match places.get_mut(name) {
         Some(at) => tally.measure_at(at, pair.instrument, set, value),
         None => tally.measure(pair.instrument, set, value),
@@ -78,19 +80,18 @@ fn record_named(
 #[inline(always)]
 pub(crate) fn record_line(
     tally: &mut Tally,
-    named: &IndexSet<Named>,
-    sets: &IndexSet<AttrSet>,
+    names: &Names,
     places: &mut Vec<Places>,
     line: &Line,
 ) -> Result<(), TallyFault>
-    requires there { IsThere named.now.keys sets.now.keys line.now.at }
-    requires known { AllKnown tally.old named.now.keys sets.now.keys places.old.items }
-    ensures answered { IsAnswered tally.old tally.new (recording_of named.now.keys sets.now.keys line.now) result }
-    ensures known { AllKnown tally.new named.now.keys sets.now.keys places.new.items }
+    requires there { IsThere names.now.named.keys names.now.sets.keys line.now.at }
+    requires known { AllKnown tally.old names.now.named.keys names.now.sets.keys places.old.items }
+    ensures answered { IsAnswered tally.old tally.new (recording_of names.now.named.keys names.now.sets.keys line.now) result }
+    ensures known { AllKnown tally.new names.now.named.keys names.now.sets.keys places.new.items }
 {
     let Line { at, value } = *line;
     match at {
         Spot::Number(number) => tally.measure_held(number as usize, value),
-        Spot::Name(name) => record_named(tally, named, sets, places, name as usize, value),
+        Spot::Name(name) => record_named(tally, names, places, name as usize, value),
     }
 }

@@ -1,19 +1,17 @@
 //! A log of recordings.
-ghost use Rattle.std.specs.Prelude.{ℕ, ◌≡◌, ◌≢◌, ◌+◌, ◌-◌, ◌<◌, ◌≤◌, ◌^◌, ◌⊎◌, ◌∷◌, ◌++◌, [], length, take, drop, slice_get, Some, None, IfErr, IfOk, OnErr, OnOk, IsTrue, ◌↔◌};
+ghost use Rattle.std.specs.Prelude.{Contains, ℕ, ℤ, ◌≡◌, ◌≢◌, ◌+◌, ◌-◌, ◌*◌, ◌<◌, ◌≤◌, ◌^◌, ◌⊎◌, ◌∷◌, ◌++◌, [], length, take, drop, slice_get, Some, IfErr, IfOk, IsOk, OnErr, OnOk, IsTrue, ◌↔◌};
 ghost use Rattle.std.specs.Vec.{vec_capacity};
-ghost use Rattle.attr_kit.specs.declared.attr_set.AttrSet.{AttrSet};
 ghost use Rattle.agg_kit.specs.Entries.{entry_of};
-ghost use Rattle.recorder_kit.specs.Lines.{outcome_of, AllStay, IsNamed};
+ghost use Rattle.recorder_kit.specs.Lines.{most_named, outcome_of, recordings_of, IsNamed, IsWhole};
 ghost use Rattle.recorder_kit.specs.Log.{taken_in, ByName, ByNumber, Recording, WantsMemory};
-ghost use Rattle.recorder_kit.specs.declared.line.Named.{Named};
 ghost use Rattle.recorder_kit.specs.declared.fault.RecordFault.TheVariants as faults;
 
-use crate::line::{Line, Named, Spot};
+use crate::line::{Line, Spot};
+use crate::names::{Names, most_names, named_anew};
 use crate::taken::take_lines;
 use crate::{RecordFault, Taken};
 use agg_kit::Tally;
 use attr_kit::{AttrSet, NoMemory};
-use indexmap::IndexSet;
 use std::alloc::Global;
 use std::marker::Model;
 
@@ -23,41 +21,34 @@ pub struct Recorder {
     log: Vec<Line>,
     // How many lines at the front of `log` were given away.
     given: usize,
-    // Each pair that a recording names, once.
-    named: IndexSet<Named>,
-    // Each set that was recorded with, once.
-    sets: IndexSet<AttrSet>,
-    // Where the last pair stands in `named`: it is looked at first, as many recordings name the same again. A guess, that any value may be.
-    last: usize,
+    names: Names,
     capacity: usize,
 }
 
 impl Model for Recorder {
-    ghost use Rattle.std.specs.Prelude.{◌≤◌, drop, length};
+    ghost use Rattle.std.specs.Prelude.{drop};
     ghost use Rattle.std.specs.Vec.{vec_capacity};
-    ghost use Rattle.recorder_kit.specs.Lines.{recordings_of, AllThere};
+    ghost use Rattle.recorder_kit.specs.Lines.{recordings_of, IsWhole};
     ghost use Rattle.recorder_kit.specs.Log.{Logged};
 
     ghost Value = { Logged };
 
-    ghost view = { λ r. record { log = recordings_of r.named.keys r.sets.keys (drop r.given r.log.items); capacity = r.capacity } };
+    ghost view = { λ r. record { log = recordings_of r.names.named.keys r.names.sets.keys (drop r.given r.log.items); capacity = r.capacity } };
 
-    // What is left names what is there, and the log has its memory.
-    ghost invariant = { λ r. AllThere r.named.keys r.sets.keys (drop r.given r.log.items)
-        × (r.capacity ≤ vec_capacity r.log) × (r.given ≤ length r.log.items) };
+    // What is left names what is there, the log has its memory, and names are not more than twice its capacity.
+    ghost invariant = { λ r. IsWhole r.capacity (vec_capacity r.log) r.given r.log.items r.names.named.keys r.names.sets.keys };
 }
 
 impl Recorder {
-    /// A log of no recordings, with the memory for as many as it may have: 16 bytes each, and more for each set that is recorded with.
+    /// A log of no recordings, with the memory for as many as it may have: 32 bytes each, and more for what they name.
     pub fn new(alloc: Global, capacity: usize) -> Result<Recorder, NoMemory>
         ensures { IfOk result (λ r. r ≡ record { log = []; capacity = capacity }) }
     {
+        let room = capacity.checked_mul(2).ok_or(NoMemory)?;
         Ok(Recorder {
-            log: Vec::with_capacity(alloc, capacity)?,
+            log: Vec::with_capacity(alloc, room)?,
             given: 0,
-            named: IndexSet::new(alloc),
-            sets: IndexSet::new(alloc),
-            last: 0,
+            names: Names::new(alloc),
             capacity,
         })
     }
@@ -85,8 +76,8 @@ impl Recorder {
 
     /// Notes a recording at a held point, by its number in the tally that will take the log in. Takes no memory.
     ///
-    /// Refuses `Full` alone: where the log has as many recordings as it may, or for a number of 2^32 or more. O(1), and O(length of
-    /// the log) where a piece of it was given away and the next recordings want its room.
+    /// Refuses `Full` alone: where the log has as many recordings as it may, or for a number of 2^32 or more, for which there is never
+    /// room. O(1) over many calls: one of them moves the log, once in as many as the log may have recordings.
     #[inline(always)]
     pub fn measure_held(&mut self, n: usize, value: i64) -> Result<(), RecordFault>
         ensures value { OnOk result (self.new ≡ record self.old { log = self.old.log ++ ByNumber n value ∷ [] }) }
@@ -106,10 +97,11 @@ impl Recorder {
         Ok(())
     }
 
-    /// Notes a recording of an instrument with a set, of which the log keeps one copy until it is empty.
+    /// Notes a recording of an instrument with a set. The log keeps one copy of the set for all its recordings, and at most twice as many
+    /// sets as it may have recordings: where that many are kept, the sets of what is left in it alone stay.
     ///
-    /// Refuses, in this order: `Full`, where the log has as many recordings as it may; `NoMemory`. A refusal changes nothing.
-    /// O(size of the attributes), and now and then the length of the log, as `measure_held`.
+    /// Refuses, in this order: `Full`, where the log has as many recordings as it may; `NoMemory`, but not for an instrument and a set
+    /// that a recording of the log names. A refusal changes nothing. O(size of the attributes) over many calls, as `measure_held`.
     pub fn measure(
         &mut self,
         instrument: usize,
@@ -121,22 +113,22 @@ impl Recorder {
         ensures ok { OnOk result (length self.old.log < self.old.capacity) }
         ensures full { IfErr result (λ f. f ≡ faults.Full → self.old.capacity ≤ length self.old.log) }
         ensures no_memory { IfErr result (λ f. f ≡ faults.NoMemory → length self.old.log < self.old.capacity) }
+        // What a recording of the log names takes none.
+        ensures known { (v : ℤ) → Contains self.old.log (ByName (entry_of instrument attrs.now v)) → IfErr result (λ f. f ≢ faults.NoMemory) }
         ensures unchanged { OnErr result (self.new ≡ self.old) }
     {
         if self.log.len() - self.given >= self.capacity {
             return Err(RecordFault::Full);
         }
-        let place = place_of(
-            &mut self.named,
-            &mut self.sets,
-            self.last,
+        let place = place_for(
+            &mut self.log,
+            &mut self.given,
+            &mut self.names,
+            self.capacity,
             instrument,
             attrs,
         )?;
-        if place > u32::MAX as usize {
-            return Err(RecordFault::NoMemory);
-        }
-        self.last = place;
+        self.names.last = place;
         let line = Line {
             at: Spot::Name(place as u32),
             value,
@@ -151,8 +143,8 @@ impl Recorder {
     /// It stops before `most` and before the log's end only where memory is refused. That recording and those behind it stay in the
     /// log, so that nothing is lost and the call may be made again.
     ///
-    /// O(recordings that are taken, and names of the log). An instrument with a set is looked up once in a call. Names are forgotten
-    /// where the log has become empty.
+    /// O(what each recording that is taken takes), however many the log has. An instrument with a set is looked up once in a call, where
+    /// no fewer recordings are taken than the log names instruments with sets; else at each recording.
     pub fn give_to(&mut self, tally: &mut Tally, most: usize) -> Taken
         ensures within { result.recorded + result.refused ≤ length self.old.log }
         ensures at_most { result.recorded + result.refused ≤ most }
@@ -163,7 +155,7 @@ impl Recorder {
     {
         let lines = remaining(&self.log, self.given);
         let count = most.min(lines.len());
-        let taken = take_lines(tally, &self.named, &self.sets, &lines[..count]);
+        let taken = take_lines(tally, &self.names, &lines[..count]);
         self.given += taken.recorded + taken.refused;
         self.forget_names();
         taken
@@ -177,58 +169,72 @@ impl Recorder {
         self.forget_names();
     }
 
-    // Where no recording is left, forgets what is named, and the sets where they are more than the log may have recordings.
+    // Where no recording is left, forgets which pairs were named.
     fn forget_names(&mut self)
         ensures { self.new ≡ self.old }
     {
         if self.given < self.log.len() {
             return;
         }
+        self.names.forget_pairs(self.given);
         self.log.clear();
         self.given = 0;
-        self.named.clear();
-        if self.sets.len() > self.capacity {
-            self.sets.clear();
-        }
     }
 }
 
-// The place of a set among those of the log, where it is put if it is not there.
-#[inline(never)]
-fn set_place(sets: &mut IndexSet<AttrSet>, attrs: &AttrSet) -> Result<usize, NoMemory>
-    ensures place { IfOk result (λ place. slice_get sets.new.keys place ≡ Some attrs.now) }
-    ensures stay { AllStay sets.old.keys sets.new.keys }
-{
-    if let Some((place, _)) = sets.get_full(attrs) {
-        return Ok(place);
-    }
-    let (place, _) = sets.insert_full(attrs.try_copy()?)?;
-    Ok(place)
-}
-
-// The place of a pair among what is named, where it is put if it is not there. It is looked for first where the last one stands.
+// The place of a pair among what is named. Where it is not there it is put there, and room is made for it before.
 #[inline(always)]
-fn place_of(
-    named: &mut IndexSet<Named>,
-    sets: &mut IndexSet<AttrSet>,
-    last: usize,
+fn place_for(
+    log: &mut Vec<Line>,
+    given: &mut usize,
+    names: &mut Names,
+    capacity: usize,
     instrument: usize,
     attrs: &AttrSet,
 ) -> Result<usize, NoMemory>
-    ensures place { IfOk result (λ place. IsNamed named.new.keys sets.new.keys place instrument attrs.now) }
-    ensures names { AllStay named.old.keys named.new.keys }
-    ensures sets { AllStay sets.old.keys sets.new.keys }
+    requires room { length log.old.items - given.old < capacity }
+    requires whole { IsWhole capacity (vec_capacity log.old) given.old log.old.items names.old.named.keys names.old.sets.keys }
+    ensures place { IfOk result (λ place. IsNamed names.new.named.keys names.new.sets.keys place instrument attrs.now) }
+    ensures known { (j : ℕ) → IsNamed names.old.named.keys names.old.sets.keys j instrument attrs.now → IsOk result }
+    ensures whole { IsWhole capacity (vec_capacity log.new) given.new log.new.items names.new.named.keys names.new.sets.keys }
+    ensures same { recordings_of names.new.named.keys names.new.sets.keys (drop given.new log.new.items)
+        ≡ recordings_of names.old.named.keys names.old.sets.keys (drop given.old log.old.items) }
+    ensures left { length log.new.items - given.new ≡ length log.old.items - given.old }
 {
-    if let Some(pair) = named.get_index(last)
-        && pair.instrument == instrument
-        && let Some(set) = sets.get_index(pair.set)
-        && set == attrs
-    {
-        return Ok(last);
+    if let Some(place) = names.find(instrument, attrs) {
+        return Ok(place);
     }
-    let set = set_place(sets, attrs)?;
-    let (place, _) = named.insert_full(Named { instrument, set })?;
-    Ok(place)
+    make_names_room(log, given, names, capacity)?;
+    names.add(instrument, attrs)
+}
+
+// Makes room for one name more. Where there are as many as there may be, what is left in the log alone stays named: that is at most
+// half of them, so it comes at most once in as many new names as the log may have recordings.
+#[inline(never)]
+fn make_names_room(
+    log: &mut Vec<Line>,
+    given: &mut usize,
+    names: &mut Names,
+    capacity: usize,
+) -> Result<(), NoMemory>
+    requires room { length log.old.items - given.old < capacity }
+    requires whole { IsWhole capacity (vec_capacity log.old) given.old log.old.items names.old.named.keys names.old.sets.keys }
+    ensures whole { IsWhole capacity (vec_capacity log.new) given.new log.new.items names.new.named.keys names.new.sets.keys }
+    ensures names { OnOk result (length names.new.named.keys < most_named capacity) }
+    ensures sets { OnOk result (length names.new.sets.keys < most_named capacity) }
+    ensures same { recordings_of names.new.named.keys names.new.sets.keys (drop given.new log.new.items)
+        ≡ recordings_of names.old.named.keys names.old.sets.keys (drop given.old log.old.items) }
+    ensures left { length log.new.items - given.new ≡ length log.old.items - given.old }
+{
+    let most = most_names(capacity);
+    if names.named.len() < most && names.sets.len() < most {
+        return Ok(());
+    }
+    let (lines, fresh) = named_anew(names, remaining(log, *given))?;
+    put_lines(log, &lines);
+    *given = 0;
+    *names = fresh;
+    Ok(())
 }
 
 // The lines that were not given away.
@@ -244,29 +250,41 @@ fn remaining(log: &Vec<Line>, given: usize) -> &[Line]
 fn push_line(log: &mut Vec<Line>, given: &mut usize, capacity: usize, line: Line)
     requires within { given.old ≤ length log.old.items }
     requires room { length log.old.items - given.old < capacity }
-    requires memory { capacity ≤ vec_capacity log.old }
+    requires memory { 2 * capacity ≤ vec_capacity log.old }
     ensures lines { drop given.new log.new.items ≡ drop given.old log.old.items ++ line ∷ [] }
     ensures within { given.new ≤ length log.new.items }
-    ensures memory { capacity ≤ vec_capacity log.new }
+    ensures memory { vec_capacity log.new ≡ vec_capacity log.old }
 {
     make_room(log, given, capacity);
     log.push_reserved(line);
 }
 
-// Drops the lines that were given away, if their room is wanted.
+// Moves what is left to the front, where there is no room behind it: then more was given away than is left, since there is room for
+// twice the capacity. So it comes at most once in as many recordings as the log may have.
 #[inline(always)]
 fn make_room(log: &mut Vec<Line>, given: &mut usize, capacity: usize)
     requires within { given.old ≤ length log.old.items }
     requires room { length log.old.items - given.old < capacity }
+    requires memory { 2 * capacity ≤ vec_capacity log.old }
     ensures lines { drop given.new log.new.items ≡ drop given.old log.old.items }
     ensures within { given.new ≤ length log.new.items }
-    ensures room { length log.new.items < capacity }
+    ensures room { length log.new.items < vec_capacity log.new }
     ensures memory { vec_capacity log.new ≡ vec_capacity log.old }
 {
-    if log.len() >= capacity {
+    if log.len() >= log.capacity() {
         drop_front(log, *given);
         *given = 0;
     }
+}
+
+// Puts other lines there, for which there is room.
+fn put_lines(log: &mut Vec<Line>, lines: &[Line])
+    requires { length lines.now ≤ vec_capacity log.old }
+    ensures items { log.new.items ≡ lines.now }
+    ensures capacity { vec_capacity log.old ≤ vec_capacity log.new }
+{
+    log.clear();
+    let _room = log.extend_from_slice(lines);
 }
 
 // Drops the first lines.

@@ -4,10 +4,9 @@ ghost use Rattle.agg_kit.specs.declared.fault.TallyFault.TheVariants as tally_fa
 ghost use Rattle.recorder_kit.specs.Lines.{outcome_of, recordings_of, with_recorded, with_refused, AllThere};
 ghost use Rattle.recorder_kit.specs.Log.{taken_in, Recording, WantsMemory};
 
-use crate::line::{Line, Named, record_line, unknown_places};
+use crate::line::{Line, record_line, unknown_places};
+use crate::names::Names;
 use agg_kit::{Tally, TallyFault};
-use attr_kit::AttrSet;
-use indexmap::IndexSet;
 
 /// What became of recordings that were taken in from the front of a log: each of them was recorded, or refused by itself and recorded
 /// nowhere. They are no longer in the log, whose front is now the first that was not looked at.
@@ -58,18 +57,13 @@ impl Taken {
 }
 
 /// Measures the recordings of lines in a tally, one after the other, up to the first that memory is not there for.
-pub(crate) fn take_lines(
-    tally: &mut Tally,
-    named: &IndexSet<Named>,
-    sets: &IndexSet<AttrSet>,
-    lines: &[Line],
-) -> Taken
-    requires { AllThere named.now.keys sets.now.keys lines.now }
+pub(crate) fn take_lines(tally: &mut Tally, names: &Names, lines: &[Line]) -> Taken
+    requires { AllThere names.now.named.keys names.now.sets.keys lines.now }
     ensures within { result.recorded + result.refused ≤ length lines.now }
     ensures taken { outcome_of tally.new result
-        ≡ taken_in tally.old (take (result.recorded + result.refused) (recordings_of named.now.keys sets.now.keys lines.now)) }
+        ≡ taken_in tally.old (take (result.recorded + result.refused) (recordings_of names.now.named.keys names.now.sets.keys lines.now)) }
     ensures stopped { (r : Recording)
-        → slice_get (recordings_of named.now.keys sets.now.keys lines.now) (result.recorded + result.refused) ≡ Some r
+        → slice_get (recordings_of names.now.named.keys names.now.sets.keys lines.now) (result.recorded + result.refused) ≡ Some r
         → WantsMemory tally.new r }
 {
     let mut taken = Taken {
@@ -77,9 +71,9 @@ pub(crate) fn take_lines(
         refused: 0,
         first: None,
     };
-    let mut places = unknown_places(*sets.allocator(), named.len());
+    let mut places = unknown_places(*names.named.allocator(), names.named.len(), lines.len());
     for line in lines {
-        let told = record_line(tally, named, sets, &mut places, line);
+        let told = record_line(tally, names, &mut places, line);
         if !taken.note(told) {
             return taken;
         }

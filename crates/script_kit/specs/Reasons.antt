@@ -4,6 +4,8 @@ use Rattle.std.specs.Fmt.{decimal}
 use Rattle.std.specs.List.{list_all}
 use Rattle.script_kit.specs.Forms.{is_label_byte}
 use Rattle.script_kit.specs.Reading.{word_at}
+use Rattle.script_kit.specs.Pieces.{cut}
+use Rattle.script_kit.specs.Shapes.{before_colon, script_name}
 use Rattle.script_kit.specs.Words.{words_of, is_line_byte}
 use Rattle.script_kit.specs.declared.reason.Form.{Form}
 use Rattle.script_kit.specs.declared.reason.Form.TheVariants as form
@@ -58,31 +60,36 @@ abbrev pub character_text : Option ℕ → List ℕ
 character_text None = []
 character_text (Some byte) = codes ", and no '" ++ encode_utf8 byte ++ codes "'"
 
--- what is said of this word of a line, or of the line, and of what stands there that may not
-abbrev pub reason_text : Reason → List ℕ → Option ℕ → List ℕ
-reason_text reason.Cut word odd = codes "a line ends with a line feed"
-reason_text reason.Bytes word odd = codes "a line has only spaces and visible ASCII characters" ++ byte_text odd
-reason_text reason.Spaces word odd = codes "a line has one space between two words, and none at its ends"
-reason_text reason.Unknown word odd = codes "no line begins with '" ++ word ++ codes "'"
-reason_text (reason.Count form) word odd = codes "'" ++ word ++ (codes "' wants " ++ form_text form)
-reason_text (reason.Label i) word odd = codes "'" ++ word ++ (codes "' is no label: a label has at most 16 of a to z and 0 to 9" ++ character_text odd)
-reason_text (reason.Kind i) word odd = codes "no kind is called '" ++ word ++ codes "': a kind is counter, updown, gauge or histogram"
-reason_text (reason.KindAsked i) word odd = codes "no kind is called '" ++ word ++ codes "': a kind is counter, updown, gauge, histogram, or * for any"
-reason_text (reason.Uuid i) word odd = codes "'" ++ word ++ codes "' is no UUID: a UUID has 32 hexadecimal digits, with hyphens or without"
-reason_text (reason.NoNumber i) word odd = codes "'" ++ word ++ codes "' is no number: a number has digits alone, and no leading zero"
-reason_text (reason.TooGreat i noun) word odd = word ++ (codes " is too great for " ++ noun_text noun)
-reason_text (reason.Value i) word odd = codes "'" ++ word ++ codes "' is no value: a value is a whole number of 64 bits, with no plus sign and no leading zero"
-reason_text (reason.Shape i) word odd = codes "'" ++ word ++ codes "' is no shape: a shape is sum+, sum, gauge, hist, or hist: and values with commas between"
-reason_text (reason.Attributes i) word odd = codes "'" ++ word ++ codes "' lists no attributes: a list is -, or pairs of a key, = and a value, with commas between"
-reason_text (reason.Keep i) word odd = codes "'" ++ word ++ codes "' lists no keys: a list is *, -, or keys with commas between"
-reason_text (reason.Aggregation i) word odd = codes "'" ++ word ++ codes "' is no aggregation: an aggregation is default, sum, last, drop, or buckets: and values with commas between"
-reason_text reason.Late word odd = codes "'" ++ word ++ codes "' wants no 'begin' before it"
-reason_text reason.Early word odd = codes "'" ++ word ++ codes "' wants a 'begin' before it"
-reason_text (reason.Taken i) word odd = codes "'" ++ word ++ codes "' was declared before"
-reason_text reason.Refused word odd = codes "'" ++ word ++ codes "' is refused"
-reason_text (reason.NoWriter i) word odd = codes "no writer is called '" ++ word ++ codes "'"
-reason_text (reason.NoInstrument i) word odd = codes "no instrument is called '" ++ word ++ codes "'"
-reason_text (reason.NoGateway i) word odd = codes "no gateway has the id " ++ word
+-- what is said of a name that scripts have another one for
+abbrev pub meant_text : List ℕ → Option (List ℕ) → List ℕ
+meant_text name None = []
+meant_text name (Some here) = codes "; '" ++ name ++ (codes "' is written '" ++ here ++ codes "' here")
+
+-- what is said of this word of a line, or of the line, of what stands there that may not, and of what is meant
+abbrev pub reason_text : Reason → List ℕ → Option ℕ → List ℕ → List ℕ
+reason_text reason.Cut word odd meant = codes "a line ends with a line feed"
+reason_text reason.Bytes word odd meant = codes "a line has only spaces and visible ASCII characters" ++ byte_text odd
+reason_text reason.Spaces word odd meant = codes "a line has one space between two words, and none at its ends"
+reason_text reason.Unknown word odd meant = codes "no line begins with '" ++ word ++ codes "'"
+reason_text (reason.Count form) word odd meant = codes "'" ++ word ++ (codes "' wants " ++ form_text form)
+reason_text (reason.Label i) word odd meant = codes "'" ++ word ++ (codes "' is no label: a label has at most 16 of a to z and 0 to 9" ++ character_text odd)
+reason_text (reason.Kind i) word odd meant = codes "no kind is called '" ++ word ++ codes "': a kind is counter, updown, gauge or histogram"
+reason_text (reason.KindAsked i) word odd meant = codes "no kind is called '" ++ word ++ codes "': a kind is counter, updown, gauge, histogram, or * for any"
+reason_text (reason.Uuid i) word odd meant = codes "'" ++ word ++ codes "' is no UUID: a UUID has 32 hexadecimal digits, with hyphens or without"
+reason_text (reason.NoNumber i) word odd meant = codes "'" ++ word ++ codes "' is no number: a number has digits alone, and no leading zero"
+reason_text (reason.TooGreat i noun) word odd meant = word ++ (codes " is too great for " ++ noun_text noun)
+reason_text (reason.Value i) word odd meant = codes "'" ++ word ++ codes "' is no value: a value is a whole number of 64 bits, with no plus sign and no leading zero"
+reason_text (reason.Shape i) word odd meant = codes "'" ++ word ++ (codes "' is no shape: a shape is sum+, sum, gauge, hist, or hist: and values with commas between" ++ meant)
+reason_text (reason.Attributes i) word odd meant = codes "'" ++ word ++ codes "' lists no attributes: a list is -, or pairs of a key, = and a value, with commas between"
+reason_text (reason.Keep i) word odd meant = codes "'" ++ word ++ codes "' lists no keys: a list is *, -, or keys with commas between"
+reason_text (reason.Aggregation i) word odd meant = codes "'" ++ word ++ codes "' is no aggregation: an aggregation is default, sum, last, drop, or buckets: and values with commas between"
+reason_text reason.Late word odd meant = codes "'" ++ word ++ codes "' wants no 'begin' before it"
+reason_text reason.Early word odd meant = codes "'" ++ word ++ codes "' wants a 'begin' before it"
+reason_text (reason.Taken i) word odd meant = codes "'" ++ word ++ codes "' was declared before"
+reason_text reason.Refused word odd meant = codes "'" ++ word ++ codes "' is refused"
+reason_text (reason.NoWriter i) word odd meant = codes "no writer is called '" ++ word ++ codes "'"
+reason_text (reason.NoInstrument i) word odd meant = codes "no instrument is called '" ++ word ++ codes "'"
+reason_text (reason.NoGateway i) word odd meant = codes "no gateway has the id " ++ word
 
 -- the place of the word that a reason is about, if it is about one
 abbrev pub place_of : Reason → Option ℕ
@@ -122,8 +129,13 @@ odd_byte line label reason.Bytes = find (λ byte. not (is_line_byte byte)) line
 odd_byte line label (reason.Label i) = find (λ byte. not (is_label_byte byte)) label
 odd_byte line label _ = None
 
+-- of a shape that is called by its kind: what it is called in scripts
+abbrev pub meant_by : List ℕ → Reason → List ℕ
+meant_by word (reason.Shape i) = let name = before_colon word (cut 58 word) in meant_text name (script_name name)
+meant_by word _ = []
+
 -- what is said of a line that is bad for this reason
 unfoldable pub sentence_of : List ℕ → Reason → List ℕ
 sentence_of line why =
     let word = word_in (words_of line) (place_of why) in
-    reason_text why (short_word word) (odd_byte line word why)
+    reason_text why (short_word word) (odd_byte line word why) (meant_by word why)

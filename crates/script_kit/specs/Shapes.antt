@@ -1,5 +1,5 @@
 -- The words that name kinds, bounds, aggregations, shapes and kept keys.
-use Rattle.std.specs.Prelude.{ℕ, ℤ, List, [], Option, Some, None, true, false, ◌==◌, if◌then◌else◌, codes, length}
+use Rattle.std.specs.Prelude.{ℕ, ℤ, List, [], ◌++◌, Option, Some, None, true, false, ◌==◌, if◌then◌else◌, codes, length, unwrap_or}
 use Rattle.std.specs.List.{slice_split, list_all}
 use Rattle.std.specs.Option.{option_map}
 use Rattle.std.specs.Str.{bytes_eq}
@@ -74,6 +74,27 @@ plain_shape word =
 
 unfoldable pub shape_of : List ℕ → Option Shape
 shape_of word = with_colon histogram_of (plain_shape word) (cut 58 word)
+
+-- what scripts call the shape of a kind's instruments, where a word is that of such a kind
+unfoldable pub script_name : List ℕ → Option (List ℕ)
+script_name kind =
+    if bytes_eq kind (codes "counter") then Some (codes "sum+")
+    else if bytes_eq kind (codes "updown") then Some (codes "sum")
+    else if bytes_eq kind (codes "histogram") then Some (codes "hist")
+    else None
+
+-- what stands before the colon of a word, or the whole word
+abbrev pub before_colon : List ℕ → Option (List ℕ × List ℕ) → List ℕ
+before_colon word None = word
+before_colon word (Some parts) = parts.0
+
+abbrev pub script_word : List ℕ → Option (List ℕ × List ℕ) → List ℕ
+script_word word None = unwrap_or (script_name word) word
+script_word word (Some parts) = if bytes_eq parts.0 (codes "histogram") then codes "hist:" ++ parts.1 else word
+
+-- a shape's word as scripts have it: where it is called by a kind, with `histogram:` and bounds too, the word of scripts, else itself
+unfoldable pub script_shape : List ℕ → List ℕ
+script_shape word = script_word word (cut 58 word)
 
 -- `*` keeps all keys, `-` none, else the listed ones, none empty
 unfoldable pub keep_of : List ℕ → Option Keep

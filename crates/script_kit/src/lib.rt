@@ -4,7 +4,8 @@
 //! - [`parse_line`] reads a [`Line`]: a [`Declaration`], `begin`, a [`Command`], a [`Query`] or nothing. Else a [`Stop`] says why
 //!   it ended: for want of memory, or because the line is bad, with the [`Reason`] that comes first. A query may ask for a [`Report`];
 //!   a reason may name the [`Form`] of a line, or by a [`Noun`] what a number is.
-//! - [`explain`] tells a reason in words. A [`ScriptFault`] is how a whole script ends.
+//! - [`explain`] tells a reason in words. A [`ScriptFault`] is how a whole script ends. [`script_shape`] gives a shape that is called
+//!   by its kind, as `counter`, the name that scripts have for it.
 //!
 //! A caller, from `crates/uses/src/scripting.rt`:
 //!
@@ -42,6 +43,6 @@ pub use line::{Command, Declaration, Line, Query, Report};
 pub use parse::parse_line;
 pub use reason::{Form, Noun, Reason};
 pub use sentence::explain;
-pub use shapes::DEFAULT_BOUNDS;
+pub use shapes::{DEFAULT_BOUNDS, script_shape};
 pub use stop::Stop;
 pub use words::first_line;

@@ -150,13 +150,13 @@ impl fmt::Display for Noun {
 }
 
 impl fmt::Display for Reason {
-    ghost use Rattle.std.specs.Prelude.{None, Some, codes};
+    ghost use Rattle.std.specs.Prelude.{[], None, Some, codes};
     ghost use Rattle.script_kit.specs.Reasons.{reason_text};
 
-    ghost output = { λ it. Some (reason_text it (codes "..") None) };
+    ghost output = { λ it. Some (reason_text it (codes "..") None []) };
 
     fn fmt<W: fmt::Write>(&self, f: &mut fmt::Formatter<W>) -> fmt::Result {
-        let sentence = Sentence::new(*self, "..", "", None);
+        let sentence = Sentence::alone(*self);
         write!(f, "{sentence}")
     }
 }

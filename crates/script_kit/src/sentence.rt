@@ -1,10 +1,11 @@
 //! What is said of a bad line.
-ghost use Rattle.std.specs.Prelude.{◌≡◌, ◌++◌, IfOk, Ok, map, string_bytes};
-ghost use Rattle.script_kit.specs.Reasons.{odd_byte, sentence_of, short_word, word_in};
+ghost use Rattle.std.specs.Prelude.{◌≡◌, ◌++◌, IfOk, Ok, map, option_map, string_bytes};
+ghost use Rattle.script_kit.specs.Reasons.{meant_by, meant_text, odd_byte, sentence_of, short_word, word_in};
 
 use crate::forms::is_label_byte;
 use crate::reading::word_if_any;
 use crate::reason::Reason;
+use crate::shapes::{before_colon, script_name};
 use crate::stop::Stop;
 use crate::words::{is_line_byte, text_of, words};
 use attr_kit::NoMemory;
@@ -56,12 +57,20 @@ struct OddCharacter {
     byte: Option<u8>,
 }
 
-/// A reason, the word that it is about, and what stands there that may not. It prints as what is said of them.
+// A name, and what it is called here, where that is something else.
+#[derive(Clone, Copy)]
+struct Meant<'a> {
+    name: &'a str,
+    here: Option<&'static str>,
+}
+
+/// A reason, the word that it is about, what stands there that may not, and what is meant. It prints as what is said of them.
 #[derive(Clone, Copy)]
 pub(crate) struct Sentence<'a> {
     reason: Reason,
     word: ShortWord<'a>,
     odd: Option<u8>,
+    meant: Meant<'a>,
 }
 
 impl fmt::Display for ShortWord<'_> {
@@ -108,15 +117,32 @@ impl fmt::Display for OddCharacter {
     }
 }
 
-impl fmt::Display for Sentence<'_> {
-    ghost use Rattle.std.specs.Prelude.{◌++◌, Some};
-    ghost use Rattle.script_kit.specs.Reasons.{reason_text};
+impl fmt::Display for Meant<'_> {
+    ghost use Rattle.std.specs.Prelude.{Some, option_map};
+    ghost use Rattle.script_kit.specs.Reasons.{meant_text};
 
-    ghost output = { λ it. Some (reason_text it.reason (it.word.front.now ++ it.word.rest.now) it.odd) };
+    ghost output = { λ it. Some (meant_text it.name.now (option_map (λ here. here.now) it.here)) };
+
+    fn fmt<W: fmt::Write>(&self, f: &mut fmt::Formatter<W>) -> fmt::Result {
+        let name = self.name;
+        match self.here {
+            None => Ok(()),
+            Some(here) => write!(f, "; '{name}' is written '{here}' here"),
+        }
+    }
+}
+
+impl fmt::Display for Sentence<'_> {
+    ghost use Rattle.std.specs.Prelude.{◌++◌, Some, option_map};
+    ghost use Rattle.script_kit.specs.Reasons.{meant_text, reason_text};
+
+    ghost output = { λ it. Some (reason_text it.reason (it.word.front.now ++ it.word.rest.now) it.odd
+        (meant_text it.meant.name.now (option_map (λ here. here.now) it.meant.here))) };
 
     fn fmt<W: fmt::Write>(&self, f: &mut fmt::Formatter<W>) -> fmt::Result {
         let word = self.word;
         let byte = self.odd;
+        let meant = self.meant;
         match self.reason {
             Reason::Cut => write!(f, "a line ends with a line feed"),
             Reason::Bytes => {
@@ -136,7 +162,7 @@ impl fmt::Display for Sentence<'_> {
             Reason::NoNumber(_) => write!(f, "'{word}' is no number: {NUMBER}"),
             Reason::TooGreat(_, noun) => write!(f, "{word} is too great for {noun}"),
             Reason::Value(_) => write!(f, "'{word}' is no value: {VALUE}"),
-            Reason::Shape(_) => write!(f, "'{word}' is no shape: {SHAPE}"),
+            Reason::Shape(_) => write!(f, "'{word}' is no shape: {SHAPE}{meant}"),
             Reason::Attributes(_) => write!(f, "'{word}' lists no attributes: {ATTRIBUTES}"),
             Reason::Keep(_) => write!(f, "'{word}' lists no keys: {KEYS}"),
             Reason::Aggregation(_) => write!(f, "'{word}' is no aggregation: {AGGREGATION}"),
@@ -151,24 +177,29 @@ impl fmt::Display for Sentence<'_> {
     }
 }
 
-impl<'a> Sentence<'a> {
-    ghost use Rattle.std.specs.Prelude.{◌≡◌};
+impl Sentence<'_> {
+    ghost use Rattle.std.specs.Prelude.{◌≡◌, [], None, codes, option_map};
+    ghost use Rattle.script_kit.specs.Reasons.{meant_text};
 
-    pub(crate) fn new(
-        reason: Reason,
-        front: &'a str,
-        rest: &'a str,
-        odd: Option<u8>,
-    ) -> Sentence<'a>
+    /// A reason alone, without the line: two dots stand for the word that it is about.
+    pub(crate) fn alone(reason: Reason) -> Sentence<'static>
         ensures reason { result.reason ≡ reason }
-        ensures front { result.word.front.now ≡ front.now }
-        ensures rest { result.word.rest.now ≡ rest.now }
-        ensures odd { result.odd ≡ odd }
+        ensures front { result.word.front.now ≡ codes ".." }
+        ensures rest { result.word.rest.now ≡ [] }
+        ensures odd { result.odd ≡ None }
+        ensures meant { meant_text result.meant.name.now (option_map (λ here. here.now) result.meant.here) ≡ [] }
     {
         Sentence {
             reason,
-            word: ShortWord { front, rest },
-            odd,
+            word: ShortWord {
+                front: "..",
+                rest: "",
+            },
+            odd: None,
+            meant: Meant {
+                name: "",
+                here: None,
+            },
         }
     }
 }
@@ -186,7 +217,12 @@ pub fn explain(alloc: Global, line: &[u8], reason: Reason) -> Result<String, NoM
     };
     let word = word_in(&words, reason.place());
     let (front, rest) = shorten(word);
-    let sentence = Sentence::new(reason, front, rest, odd_byte(line, word, reason));
+    let sentence = Sentence {
+        reason,
+        word: ShortWord { front, rest },
+        odd: odd_byte(line, word, reason),
+        meant: meant_by(word, reason),
+    };
     Ok(format!(in alloc; "{sentence}")?)
 }
 
@@ -208,6 +244,25 @@ fn odd_byte(line: &[u8], label: &str, reason: Reason) -> Option<u8>
         Reason::Bytes => line.iter().copied().find(|byte| !is_line_byte(*byte)),
         Reason::Label(_) => label.bytes().find(|byte| !is_label_byte(*byte)),
         _ => None,
+    }
+}
+
+// Of a shape that is called by its kind: what it is called in scripts.
+fn meant_by(word: &str, reason: Reason) -> Meant<'_>
+    ensures { meant_text result.name.now (option_map (λ here. here.now) result.here) ≡ meant_by word.now reason }
+{
+    match reason {
+        Reason::Shape(_) => {
+            let name = before_colon(word);
+            Meant {
+                name,
+                here: script_name(name),
+            }
+        }
+        _ => Meant {
+            name: "",
+            here: None,
+        },
     }
 }
 

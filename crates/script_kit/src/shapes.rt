@@ -1,8 +1,9 @@
 //! Words that name kinds, bounds, aggregations, shapes and kept keys.
-ghost use Rattle.std.specs.Prelude.{◌≡◌, IfOk, map, option_map};
+ghost use Rattle.std.specs.Prelude.{◌≡◌, ◌++◌, IfOk, map, option_map};
 ghost use Rattle.std.specs.List.{list_all};
 ghost use Rattle.plan_kit.specs.Bounds.{default_bounds};
-ghost use Rattle.script_kit.specs.Shapes.{kind_of, kind_asked, name_rule, bounds_of, buckets_of, plain_aggregation, aggregation_of, histogram_of, plain_shape, shape_of, keep_of};
+ghost use Rattle.script_kit.specs.Shapes.{kind_of, kind_asked, name_rule, bounds_of, buckets_of, plain_aggregation, aggregation_of, histogram_of, plain_shape, shape_of, keep_of, before_colon, script_name, script_shape};
+ghost use Rattle.script_kit.specs.Pieces.{cut};
 ghost use Rattle.script_kit.specs.Words.{is_filled};
 
 use crate::forms::text;
@@ -164,6 +165,53 @@ pub(crate) fn shape(alloc: Global, word: &str) -> Result<Option<Shape>, NoMemory
     match cut_at_colon(word) {
         Some((name, rest)) => histogram(alloc, name, rest),
         None => plain_shape(alloc, word),
+    }
+}
+
+/// What scripts call the shape of a kind's instruments, where a word is that of such a kind.
+#[tactic(auto, unfolding(crate::specs::Shapes::script_name))]
+pub(crate) fn script_name(kind: &str) -> Option<&'static str>
+    ensures { option_map (λ name. name.now) result ≡ script_name kind.now }
+{
+    if kind == "counter" {
+        Some("sum+")
+    } else if kind == "updown" {
+        Some("sum")
+    } else if kind == "histogram" {
+        Some("hist")
+    } else {
+        None
+    }
+}
+
+/// What stands before the colon of a word, or the whole word.
+pub(crate) fn before_colon(word: &str) -> &str
+    ensures { result.now ≡ before_colon word.now (cut 58 word.now) }
+{
+    match cut_at_colon(word) {
+        Some((name, _)) => name,
+        None => word,
+    }
+}
+
+/// A shape's word as scripts have it, in two parts. Where others call a shape by its kind, as `counter`, `updown`, `histogram`, or
+/// `histogram:` and bounds, it is the word of scripts, else the word itself.
+#[tactic(auto, unfolding(crate::specs::Shapes::script_shape))]
+pub fn script_shape(word: &str) -> (&str, &str)
+    ensures { result.0.now ++ result.1.now ≡ script_shape word.now }
+{
+    match cut_at_colon(word) {
+        Some((name, bounds)) => {
+            if name == "histogram" {
+                ("hist:", bounds)
+            } else {
+                (word, "")
+            }
+        }
+        None => match script_name(word) {
+            Some(name) => (name, ""),
+            None => (word, ""),
+        },
     }
 }
 

@@ -37,7 +37,7 @@ pub fn adopt_if_quiet(
 {
     match keeper.gateway().newest(writer, start) {
         Some(newest) if newest < since => {
-            archive.adopt(keeper.gateway(), writer, start)?;
+            archive.adopt(keeper, writer, start)?;
             Ok(true)
         }
         Some(_) | None => Ok(false),

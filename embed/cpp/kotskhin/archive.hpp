@@ -9,7 +9,8 @@ namespace kotskhin {
 class Archive : public Thing<kit_archive> {
 public:
     // An archive that adopted nothing, with at most so many totals. Of two archives that share service, instance and start a keeper keeps
-    // one's totals alone: without an instance of your own take unique_instance().
+    // one's totals alone: without an instance of your own take unique_instance(). The start is best 1: a page shows a metric as the youngest
+    // of those who have it says, and an archive that began after the workers would show an old plan's.
     Archive(Text service, Instance instance, Time start, Index limit) {
         checked(kit_archive_begin(handle.at(), service.at, service.len, instance.high, instance.low, start, limit));
     }

@@ -38,7 +38,8 @@ constexpr int places_of(int32_t code) {
     case KIT_BAD_VERSION:
     case KIT_NOT_CANONICAL:
     case KIT_BAD_CHECKSUM:
-    case KIT_OTLP_BOUNDS: return 1;
+    case KIT_OTLP_BOUNDS:
+    case KIT_RESERVED_POINT: return 1;
     // (what is wrong with a request of OTLP has a place each, but for texts that repeat)
     default: return code > KIT_TOO_LONG && code <= KIT_NO_EXPORT;
     }
@@ -51,6 +52,8 @@ struct Refused : std::runtime_error {
 
     explicit Refused(int32_t code, std::optional<uint64_t> place = {}, std::optional<uint64_t> second = {})
         : std::runtime_error("kotskhin: " + said(code) + told(place, second)), code(code), place(place), second(second) {}
+    // By a code that is not of kotskhin.h, and what it says.
+    Refused(int32_t code, const std::string &says) : std::runtime_error("kotskhin: " + says), code(code) {}
 
 private:
     static std::string told(std::optional<uint64_t> place, std::optional<uint64_t> second) {
@@ -147,6 +150,7 @@ using AttributeTwice = RefusedBy<KIT_ATTRIBUTE_TWICE>;
 using AttributeValue = RefusedBy<KIT_ATTRIBUTE_VALUE>;
 using NoExport = RefusedBy<KIT_NO_EXPORT>;
 using Repeats = RefusedBy<KIT_REPEATS>;
+using ReservedPoint = RefusedBy<KIT_RESERVED_POINT>;
 
 }  // namespace request
 

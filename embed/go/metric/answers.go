@@ -1,11 +1,15 @@
 package metric
 
 import (
+	"encoding/binary"
 	"errors"
 	"fmt"
 	"io"
 	"net/http"
 	"strconv"
+	"strings"
+	"unicode"
+	"unicode/utf8"
 
 	"kotskhin/internal/otlp"
 )
@@ -54,7 +58,7 @@ func said(answer *http.Response) error {
 		return err
 	}
 	if answer.StatusCode/100 != 2 {
-		return fmt.Errorf("the answer is %s", answer.Status)
+		return refusalOf(answer, body)
 	}
 	if why := pointsNotTaken(body); why != nil {
 		return why
@@ -63,6 +67,64 @@ func said(answer *http.Response) error {
 		return &NotTakenError{Exports: late}
 	}
 	return nil
+}
+
+// The most bytes of a refusal that its error has.
+const mostTold = 1 << 10
+
+// refusalOf is the status of a refusal, and what its body says: the first line, or the message of OTLP's status.
+func refusalOf(answer *http.Response, body []byte) error {
+	says := string(body)
+	if strings.HasPrefix(answer.Header.Get("Content-Type"), OTLPType) {
+		says = messageOf(body)
+	}
+	if says = firstLine(says); says != "" {
+		return fmt.Errorf("the answer is %s: %s", answer.Status, says)
+	}
+	return fmt.Errorf("the answer is %s", answer.Status)
+}
+
+// firstLine is the first line of a text that says anything, in at most so many bytes and without what is not to be printed.
+func firstLine(says string) string {
+	says = strings.TrimSpace(says)
+	if end := strings.IndexAny(says, "\r\n"); end >= 0 {
+		says = says[:end]
+	}
+	if len(says) > mostTold {
+		says = says[:mostTold]
+	}
+	return strings.TrimSpace(strings.Map(func(it rune) rune {
+		if it == utf8.RuneError || !unicode.IsPrint(it) {
+			return -1
+		}
+		return it
+	}, says))
+}
+
+// messageOf is the message of a google.rpc.Status, as OTLP says why a request is refused; none where it is no such thing.
+func messageOf(status []byte) (message string) {
+	for len(status) > 0 {
+		key, size := binary.Uvarint(status)
+		if size <= 0 {
+			return ""
+		}
+		status = status[size:]
+		value, size := binary.Uvarint(status)
+		if size <= 0 {
+			return ""
+		}
+		status = status[size:]
+		switch isBytes := key&7 == 2; {
+		case isBytes && value <= uint64(len(status)):
+			if key == 2<<3|2 {
+				message = string(status[:value])
+			}
+			status = status[value:]
+		case isBytes || key&7 != 0:
+			return ""
+		}
+	}
+	return message
 }
 
 // pointsNotTaken reads an answer to OTLP. One that rejects no point and has a message is a warning alone, as the protocol has it.

@@ -10,6 +10,7 @@ import (
 	"testing"
 
 	"kotskhin"
+	"kotskhin/internal/otlp"
 )
 
 // answering is a server that answers by a status, a body, and how many exports were late where that is said, and what it was asked.
@@ -115,6 +116,31 @@ func TestWhatWasNotTakenGoesToNobodyElse(t *testing.T) {
 	around := ExporterFunc(func(context.Context, kotskhin.Export) error { return fmt.Errorf("here: %w", &NotTakenError{Points: 1}) })
 	if err := FirstOf(around, HTTPBytesExporter(takes, nil, nil)).Export(context.Background(), export); !isNotTaken(err) || *third != 0 {
 		t.Fatal(err, *third)
+	}
+}
+
+// The error of a refusal has its status, and what its body says of it in one line that can be printed.
+func TestWhatARefusalSays(t *testing.T) {
+	why := "the token does not speak for the service nope"
+	status := func(message string) string {
+		return "\x08\x93\x03\x12" + string([]byte{byte(len(message))}) + message + "\x1a\x02{}"
+	}
+	for _, it := range []struct{ kind, body, wanted string }{
+		{"text/plain", why + "\nand more\n", ": " + why}, {"text/plain", "\r\n\t" + why + "\r\n", ": " + why},
+		{"text/plain", "\x1b[31m" + why[:9] + "\x00\u0085\u202e\xff" + why[9:], ": [31m" + why}, {"text/plain", " \n", ""}, {"", "", ""},
+		{"text/plain", long, ": " + long[:1024]}, {"text/plain", long[:1023] + "é", ": " + long[:1023]},
+		{OTLPType, string(otlp.Status(403, why)), ": " + why}, {OTLPType + "; charset=x", status(why), ": " + why},
+		{OTLPType, status(why)[:20], ""}, {OTLPType, "\x08", ""}, {OTLPType, "\x0d1234", ""},
+		{OTLPType, "\x12" + strings.Repeat("\xff", 9) + "\x01", ""},
+	} {
+		server := httptest.NewServer(http.HandlerFunc(func(w http.ResponseWriter, _ *http.Request) {
+			w.Header().Set("Content-Type", it.kind)
+			w.WriteHeader(http.StatusForbidden)
+			w.Write([]byte(it.body))
+		}))
+		err := HTTPExporter(server.URL, nil, nil).Export(ctx, collected(t))
+		is(t, fmt.Sprint(err), "the answer is 403 Forbidden"+it.wanted)
+		server.Close()
 	}
 }
 

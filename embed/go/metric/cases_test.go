@@ -8,6 +8,7 @@ import (
 	"fmt"
 	"os"
 	"reflect"
+	"runtime"
 	"sort"
 	"strings"
 	"sync"
@@ -64,6 +65,7 @@ func must[T any](made T, err error) T {
 
 func performed(t *testing.T, it listed) {
 	run := caseOf(it)
+	defer close(run.other)
 	for _, step := range it.list("steps") {
 		step := listed(step.(map[string]any))
 		wanted := step["is"]
@@ -81,6 +83,8 @@ type caseRun struct {
 	provider *MeterProvider
 	calls    map[string]func(value int64, options ...MeasurementOption)
 	told     refusals
+	// What the second thread does, one after another, as long as the case goes on.
+	other chan func()
 	// Whether the exporter fails, how many exports were told as failed, and the bytes of the others.
 	isFailing, failures int32
 	lock                sync.Mutex
@@ -89,7 +93,13 @@ type caseRun struct {
 }
 
 func caseOf(it listed) *caseRun {
-	run := &caseRun{calls: map[string]func(int64, ...MeasurementOption){}}
+	run := &caseRun{calls: map[string]func(int64, ...MeasurementOption){}, other: make(chan func())}
+	go func() {
+		runtime.LockOSThread()
+		for call := range run.other {
+			call()
+		}
+	}()
 	service := it.text("service")
 	if service == "" {
 		service = "shop"
@@ -157,7 +167,7 @@ func (run *caseRun) bring(_ context.Context, export kotskhin.Export) error {
 func (run *caseRun) step(it listed) any {
 	return map[string]func(listed) any{
 		"declare": run.declare, "record": run.record, "collect": run.collect, "head": run.head, "streams": run.streams, "table": run.table,
-		"value": run.value, "refused": run.refused, "exported": run.exported,
+		"value": run.value, "values": run.values, "refused": run.refused, "exported": run.exported,
 		"start": func(listed) any { return answered(run.provider.Start()) },
 		"flush": func(it listed) any { return run.fails(it, run.provider.ForceFlush(ctx)) },
 		"shutdown": func(it listed) any {
@@ -220,6 +230,9 @@ func reasonOf(err error) string {
 	if errors.Is(err, ErrStarted) {
 		return "DECLARED_LATE"
 	}
+	if errors.Is(err, ErrCardinalityLimit) {
+		return "CARDINALITY_LIMIT"
+	}
 	if errors.As(err, &refused) {
 		return strings.TrimPrefix(refused.Code.Error(), "kotskhin: ")
 	}
@@ -252,10 +265,15 @@ func (run *caseRun) record(it listed) any {
 	var group sync.WaitGroup
 	for i := int64(0); i < it.number("threads", 1); i++ {
 		group.Add(1)
-		go func() {
+		thread := func() {
 			defer group.Done()
 			often()
-		}()
+		}
+		if it.text("on") == "other" {
+			run.other <- thread
+		} else {
+			go thread()
+		}
 	}
 	group.Wait()
 	return nil
@@ -304,9 +322,15 @@ func askOf(of []any) kotskhin.Ask {
 
 func (run *caseRun) table(it listed) any { return must(run.gateway().Table(askOf(it.list("of")))) }
 
-func (run *caseRun) value(it listed) any {
-	return must(must(run.gateway().Rows(askOf(it.list("of")))).Gauge(0)).Value
+func (run *caseRun) values(it listed) any {
+	rows, made := must(run.gateway().Rows(askOf(it.list("of")))), []any{}
+	for row := 0; row < must(rows.Len()); row++ {
+		made = append(made, must(rows.Gauge(row)).Value)
+	}
+	return made
 }
+
+func (run *caseRun) value(it listed) any { return run.values(it).([]any)[0] }
 
 func (run *caseRun) refused(it listed) any {
 	run.told.lock.Lock()

@@ -3,6 +3,7 @@ package metric
 import (
 	"bytes"
 	"context"
+	"crypto/rand"
 	"fmt"
 	"io"
 	"net/http"
@@ -16,39 +17,50 @@ import (
 // The types of what is posted.
 const (
 	OTLPType  = "application/x-protobuf"
-	BytesType = "application/x-kotskhin"
+	BytesType = "application/vnd.kotskhin.export"
 )
 
-// FileExporter keeps the bytes of the newest export in a file. It is replaced as a whole, so that who reads it finds one export.
+// FileExporter keeps the bytes of the newest export in a file. It is replaced as a whole, so that who reads it finds one export; who may
+// read it the umask says.
 func FileExporter(path string) Exporter {
 	return ExporterFunc(func(_ context.Context, export kotskhin.Export) error {
 		made, err := export.Encode()
 		if err != nil {
 			return err
 		}
-		file, err := os.CreateTemp(filepath.Dir(path), "."+filepath.Base(path)+".*")
-		if err != nil {
-			return err
-		}
-		if _, err = file.Write(made); err == nil {
-			err = file.Sync()
-		}
-		if closed := file.Close(); err == nil {
-			err = closed
-		}
-		if err == nil {
-			err = os.Rename(file.Name(), path)
-		}
-		if err != nil {
-			os.Remove(file.Name())
-		}
-		return err
+		return replaced(path, made)
 	})
 }
 
+// replaced writes a file beside one of this path, under a name that nobody else has, and gives it the other's.
+func replaced(path string, content []byte) error {
+	var drawn [8]byte
+	if _, err := rand.Read(drawn[:]); err != nil {
+		return err
+	}
+	beside := filepath.Join(filepath.Dir(path), fmt.Sprintf(".%s.%x", filepath.Base(path), drawn))
+	file, err := os.OpenFile(beside, os.O_WRONLY|os.O_CREATE|os.O_EXCL, 0666)
+	if err != nil {
+		return err
+	}
+	if _, err = file.Write(content); err == nil {
+		err = file.Sync()
+	}
+	if closed := file.Close(); err == nil {
+		err = closed
+	}
+	if err == nil {
+		err = os.Rename(beside, path)
+	}
+	if err != nil {
+		os.Remove(beside)
+	}
+	return err
+}
+
 // HTTPExporter posts each export as a request of the OpenTelemetry protocol, to a URL that ends in /v1/metrics as a Collector has it. An
-// answer other than 2xx is a failure, a redirection too. One that says that some was not taken fails as a *NotTakenError. Headers may be
-// nil, and so may the client.
+// answer other than 2xx is a failure, a redirection too, whose error has what the answer says. One that says that some was not taken fails
+// as a *NotTakenError. Headers may be nil, and so may the client.
 func HTTPExporter(url string, headers http.Header, client *http.Client) Exporter {
 	return posting(url, OTLPType, kotskhin.Export.OTLP, headers, client)
 }

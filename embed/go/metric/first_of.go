@@ -52,10 +52,10 @@ func inPart(ctx context.Context, parts int, call func(ctx context.Context) error
 	return call(ctx)
 }
 
-// Shutdown ends all of them.
+// Shutdown ends all of them, also where one panics.
 func (f *firstOf) Shutdown(ctx context.Context) (err error) {
 	for _, it := range f.exporters {
-		if ended := it.Shutdown(ctx); err == nil {
+		if ended := guarded(func() error { return it.Shutdown(ctx) }); err == nil {
 			err = ended
 		}
 	}

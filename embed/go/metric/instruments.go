@@ -2,7 +2,6 @@ package metric
 
 import (
 	"context"
-	"strings"
 
 	"kotskhin"
 	"kotskhin/attribute"
@@ -15,6 +14,8 @@ type instrument struct {
 	scope, name, unit string
 	kind              kotskhin.Kind
 	bounds            []int64
+	// Those that are applied to it.
+	views []kotskhin.View
 	// Why it was not declared: each of its recordings is refused so.
 	fault error
 }
@@ -153,11 +154,5 @@ func (it *instrument) recordAnew(value int64, pairs []attribute.KeyValue, form s
 }
 
 func (it *instrument) refused(value int64, pairs []attribute.KeyValue, err error) {
-	it.provider.refuse(Refusal{it.scope, it.name, value, pairs, err})
-}
-
-// matches tells whether a view is of the instrument.
-func (it *instrument) matches(view kotskhin.View) bool {
-	isNamed := view.Name == "" || strings.EqualFold(view.Name, it.name)
-	return isNamed && (view.Kind == nil || *view.Kind == it.kind) && (view.Scope == nil || *view.Scope == it.scope)
+	it.provider.refuse(Refusal{it.scope, it.name, 1, value, pairs, err})
 }

@@ -219,11 +219,10 @@ func TestWhatIsWrongIsRefusedAtOnce(t *testing.T) {
 	_, name := meter.Int64Counter("9 lives")
 	_, unit := meter.Int64Counter("fine", WithUnit("µ"))
 	_, bounds := meter.Int64Histogram("size", WithExplicitBucketBoundaries(2, 1))
-	_, wild := NewMeterProvider(WithView(kotskhin.View{Rename: "all"}))
 	_, limit := NewMeterProvider(WithCardinalityLimit(0))
 	_, service := NewMeterProvider(WithResource(attribute.String(ServiceName, "\xff")))
 	for code, err := range map[kotskhin.Code]error{
-		kotskhin.ErrBadName: name, kotskhin.ErrBadUnit: unit, kotskhin.ErrBadBounds: bounds, kotskhin.ErrWildcardRename: wild,
+		kotskhin.ErrBadName: name, kotskhin.ErrBadUnit: unit, kotskhin.ErrBadBounds: bounds,
 		kotskhin.ErrBadLimit: limit, kotskhin.ErrNotText: service,
 	} {
 		if !errors.Is(err, code) {

@@ -103,8 +103,8 @@ func WithHeldLimit(held int) Option {
 	}
 }
 
-// WithOnRefused calls a function with each recording that is refused, from the goroutine that records, collects or flushes. It is to
-// return soon; where it records itself, and that is refused, it is called again.
+// WithOnRefused calls a function with each refusal, from the goroutine that declares, records, collects or flushes. It is to return soon.
+// What is refused to itself is counted, and logged.
 func WithOnRefused(call func(Refusal)) Option {
 	return func(c *config) error {
 		c.onRefused = call
@@ -151,16 +151,28 @@ func WithAttributeSet(set attribute.Set) MeasurementOption {
 // ErrStarted says that an instrument is declared after its provider started, which a plan does not allow.
 var ErrStarted = errors.New("the provider has started: declare all instruments before the first recording")
 
+// ErrCardinalityLimit says that a stream has as many attribute sets as the limit allows, at the first set beyond it.
+var ErrCardinalityLimit = errors.New("kotskhin: CARDINALITY_LIMIT: the stream has as many attribute sets as the limit allows: further " +
+	"sets are counted together, in the point otel.metric.overflow=true")
+
 // Refusal is a recording that was refused: of which instrument, and why. It is an error.
+//
+// It also tells, once, what counts no recording: a view that can't be applied to an instrument (a *ViewError), and the first set of a
+// stream beyond the limit (ErrCardinalityLimit), whose name is then the instrument's.
 type Refusal struct {
 	Scope, Instrument string
-	Value             int64
-	Attributes        []attribute.KeyValue
-	Err               error
+	// Recordings is 1, or 0 of what counts none.
+	Recordings int
+	Value      int64
+	Attributes []attribute.KeyValue
+	Err        error
 }
 
 // Error says what was refused, and why.
 func (r Refusal) Error() string {
+	if r.Recordings == 0 {
+		return fmt.Sprintf("%q of %q: %v", r.Instrument, r.Scope, r.Err)
+	}
 	return fmt.Sprintf("a recording of %d by %q of %q is refused: %v", r.Value, r.Instrument, r.Scope, r.Err)
 }
 

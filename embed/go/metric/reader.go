@@ -4,7 +4,6 @@ import (
 	"context"
 	"errors"
 	"fmt"
-	"log"
 	"sync"
 	"sync/atomic"
 	"time"
@@ -64,18 +63,11 @@ type PeriodicReader struct {
 
 	lock     sync.Mutex
 	provider *MeterProvider
-	isBegun  bool
-	isEnded  bool
-	asked    chan request
+	// It ends the goroutine, and the export that this waits for: there is none before the provider's start.
+	stop    context.CancelFunc
+	isEnded bool
 	// It has one thing while no call of the exporter's runs.
 	free chan struct{}
-}
-
-type request struct {
-	ctx    context.Context
-	last   kotskhin.Export
-	isEnd  bool
-	answer chan error
 }
 
 // ReaderOption is an option of NewPeriodicReader.
@@ -91,14 +83,15 @@ func WithTimeout(timeout time.Duration) ReaderOption {
 	return func(r *PeriodicReader) { r.timeout = timeout }
 }
 
-// WithOnFailed calls a function with the reason of each export that fails.
+// WithOnFailed calls a function with the reason of each export that fails, from the goroutine of the reader, or of who flushes or shuts
+// down. A flush or a shutdown by itself is refused as ErrReentered.
 func WithOnFailed(call func(error)) ReaderOption {
 	return func(r *PeriodicReader) { r.onFailed = call }
 }
 
 // NewPeriodicReader is a reader, for one provider. An interval or a timeout that is not above 0 is the default one.
 func NewPeriodicReader(exporter Exporter, options ...ReaderOption) *PeriodicReader {
-	r := &PeriodicReader{exporter: exporter, asked: make(chan request), free: make(chan struct{}, 1)}
+	r := &PeriodicReader{exporter: exporter, free: make(chan struct{}, 1)}
 	for _, option := range options {
 		option(r)
 	}
@@ -128,13 +121,14 @@ func (r *PeriodicReader) of(provider *MeterProvider) error {
 func (r *PeriodicReader) begin() {
 	r.lock.Lock()
 	defer r.lock.Unlock()
-	if !r.isBegun {
-		r.isBegun = true
-		go r.run()
+	if r.stop == nil {
+		ctx, stop := context.WithCancel(context.Background())
+		r.stop = stop
+		go r.run(ctx)
 	}
 }
 
-func (r *PeriodicReader) run() {
+func (r *PeriodicReader) run(ctx context.Context) {
 	ticks := time.NewTicker(r.interval)
 	defer ticks.Stop()
 	for {
@@ -142,50 +136,31 @@ func (r *PeriodicReader) run() {
 		case <-ticks.C:
 			select {
 			case <-r.free:
-				r.pushed(context.Background(), r.provider.Collect, false)
+				r.push(ctx)
 			default:
 			}
-		case it := <-r.asked:
-			it.answer <- r.done(it)
-			if it.isEnd {
-				return
-			}
+		case <-ctx.Done():
+			return
 		}
 	}
 }
 
-// done does what was asked, once the exporter is free.
-func (r *PeriodicReader) done(it request) error {
+// take takes the exporter, once it is free.
+func (r *PeriodicReader) take(ctx context.Context) error {
+	if err := ctx.Err(); err != nil {
+		return err
+	}
 	select {
 	case <-r.free:
-	case <-it.ctx.Done():
-		return &ExportError{Err: it.ctx.Err(), Unsent: bytesOf(it.last, it.isEnd)}
-	}
-	if !it.isEnd {
-		return r.pushed(it.ctx, r.provider.Collect, false)
-	}
-	err := r.pushed(it.ctx, func() (kotskhin.Export, error) { return it.last, nil }, true)
-	select {
-	case <-r.free:
-		if ended := r.exporter.Shutdown(it.ctx); err == nil {
-			err = ended
-		}
-	case <-it.ctx.Done():
-	}
-	return err
-}
-
-func bytesOf(export kotskhin.Export, isLast bool) []byte {
-	if !isLast {
 		return nil
+	case <-ctx.Done():
+		return ctx.Err()
 	}
-	bytes, _ := export.Encode()
-	return bytes
 }
 
-// pushed is one collection and its export. The exporter is taken, and free again once its call returns.
-func (r *PeriodicReader) pushed(ctx context.Context, collect func() (kotskhin.Export, error), isLast bool) error {
-	export, err := collect()
+// push is one collection and its export, by the exporter, which was taken.
+func (r *PeriodicReader) push(ctx context.Context) error {
+	export, err := r.provider.Collect()
 	if err != nil {
 		r.free <- struct{}{}
 		if isClosed(err) {
@@ -193,12 +168,20 @@ func (r *PeriodicReader) pushed(ctx context.Context, collect func() (kotskhin.Ex
 		}
 		return r.tell(&ExportError{Err: err})
 	}
+	if err := r.bring(ctx, export, false); err != nil {
+		return r.tell(&ExportError{Err: err})
+	}
+	return nil
+}
+
+// bring gives an export to the exporter, which was taken, and is free again once that call returns. It ends with the context or the time
+// at the latest. The last export is of other readers, too: its finalizer closes it.
+func (r *PeriodicReader) bring(ctx context.Context, export kotskhin.Export, isLast bool) error {
 	ctx, cancel := context.WithTimeout(ctx, r.timeout)
 	defer cancel()
-	unsent := bytesOf(export, isLast)
 	answer := make(chan error, 1)
 	go func() {
-		err := guarded(func() error { return r.exporter.Export(ctx, export) })
+		err := r.provider.calling(func() error { return r.exporter.Export(ctx, export) })
 		if !isLast {
 			export.Close()
 		}
@@ -206,64 +189,83 @@ func (r *PeriodicReader) pushed(ctx context.Context, collect func() (kotskhin.Ex
 		answer <- err
 	}()
 	select {
-	case err = <-answer:
+	case err := <-answer:
+		return err
 	case <-ctx.Done():
-		err = ctx.Err()
+		return ctx.Err()
 	}
-	if err != nil {
-		return r.tell(&ExportError{Err: err, Unsent: unsent})
-	}
-	return nil
 }
 
-// guarded makes a call of the caller's: a panic is an error.
-func guarded(call func() error) (err error) {
-	defer func() {
-		if why := recover(); why != nil {
-			err = fmt.Errorf("it panicked: %v", why)
-		}
-	}()
-	return call()
-}
-
+// tell counts an export that failed, and tells it.
 func (r *PeriodicReader) tell(err *ExportError) error {
 	atomic.AddUint64(&r.failed, 1)
 	if r.onFailed == nil {
-		log.Print(err)
-	} else if fault := guarded(func() error { r.onFailed(err); return nil }); fault != nil {
-		log.Printf("kotskhin: the hook of failures: %v", fault)
+		logLine("%v", err)
+	} else if fault := r.provider.calling(func() error { r.onFailed(err); return nil }); fault != nil {
+		logLine("kotskhin: the hook of failures: %v", fault)
 	}
 	return err
 }
 
-// ask asks the goroutine, and waits until it answers.
-func (r *PeriodicReader) ask(it request) error {
+// ForceFlush collects and exports now. In a hook or an exporter of the provider it is ErrReentered.
+func (r *PeriodicReader) ForceFlush(ctx context.Context) error {
 	r.lock.Lock()
-	isBegun, isEnded := r.isBegun, r.isEnded
-	r.isEnded = r.isEnded || it.isEnd
+	isRunning := r.stop != nil && !r.isEnded
 	r.lock.Unlock()
-	if isEnded {
+	if !isRunning {
 		return nil
 	}
-	if !isBegun {
-		if it.isEnd {
-			return r.exporter.Shutdown(it.ctx)
-		}
-		return nil
+	if r.provider.isReentered() {
+		return ErrReentered
 	}
-	it.answer = make(chan error, 1)
-	select {
-	case r.asked <- it:
-	case <-it.ctx.Done():
-		return &ExportError{Err: it.ctx.Err(), Unsent: bytesOf(it.last, it.isEnd)}
+	if err := r.take(ctx); err != nil {
+		return &ExportError{Err: err}
 	}
-	return <-it.answer
+	return r.push(ctx)
 }
 
-// ForceFlush collects and exports now.
-func (r *PeriodicReader) ForceFlush(ctx context.Context) error { return r.ask(request{ctx: ctx}) }
+// end exports what was collected last, where there is anything, and ends the exporter and the goroutine.
+func (r *PeriodicReader) end(ctx context.Context, last *kotskhin.Export) error {
+	r.lock.Lock()
+	stop := r.stop
+	r.isEnded = true
+	r.lock.Unlock()
+	if stop != nil {
+		defer stop()
+	}
+	var first error
+	if last != nil {
+		first = r.pushLast(ctx, *last)
+	}
+	if err := r.endExporter(ctx); first == nil {
+		first = err
+	}
+	return first
+}
 
-// end exports what was collected last, ends the exporter and the goroutine.
-func (r *PeriodicReader) end(ctx context.Context, last kotskhin.Export) error {
-	return r.ask(request{ctx: ctx, last: last, isEnd: true})
+func (r *PeriodicReader) pushLast(ctx context.Context, last kotskhin.Export) error {
+	err := r.take(ctx)
+	if err == nil {
+		err = r.bring(ctx, last, true)
+	}
+	if err == nil {
+		return nil
+	}
+	unsent, _ := last.Encode()
+	return r.tell(&ExportError{Err: err, Unsent: unsent})
+}
+
+// endExporter ends the exporter, once no call of it runs; it is not free again. Where the context ends before, that goes on.
+func (r *PeriodicReader) endExporter(ctx context.Context) error {
+	answer := make(chan error, 1)
+	go func() {
+		<-r.free
+		answer <- r.provider.calling(func() error { return r.exporter.Shutdown(ctx) })
+	}()
+	select {
+	case err := <-answer:
+		return err
+	case <-ctx.Done():
+		return fmt.Errorf("kotskhin: the exporter has not ended: %w", ctx.Err())
+	}
 }

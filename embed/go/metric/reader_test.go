@@ -13,6 +13,7 @@ import (
 	"strings"
 	"sync"
 	"sync/atomic"
+	"syscall"
 	"testing"
 	"time"
 
@@ -215,6 +216,14 @@ func TestFiles(t *testing.T) {
 	if there, _ := os.ReadDir(filepath.Dir(path)); len(there) != 1 {
 		t.Fatal(there)
 	}
+	defer syscall.Umask(syscall.Umask(0027))
+	requests.Add(ctx, 1)
+	if err := p.ForceFlush(ctx); err != nil {
+		t.Fatal(err)
+	}
+	if found, err := os.Stat(path); err != nil || found.Mode() != 0640 {
+		t.Fatal(found.Mode(), err)
+	}
 	p, requests = counting(t, NewPeriodicReader(FileExporter(filepath.Join(path, "no")), WithOnFailed(func(error) {})))
 	requests.Add(ctx, 1)
 	if err := p.Shutdown(ctx); err == nil {
@@ -222,8 +231,47 @@ func TestFiles(t *testing.T) {
 	}
 }
 
+// Where a file can't be replaced nothing is left beside it.
+func TestAFileThatIsNotReplacedLeavesNothing(t *testing.T) {
+	path := filepath.Join(t.TempDir(), "shop.ktsk")
+	if err := os.MkdirAll(filepath.Join(path, "full"), 0777); err != nil {
+		t.Fatal(err)
+	}
+	if err := FileExporter(path).Export(ctx, collected(t)); err == nil {
+		t.Fatal("a folder is replaced")
+	}
+	if there, _ := os.ReadDir(filepath.Dir(path)); len(there) != 1 {
+		t.Fatal(there)
+	}
+}
+
+// Exporters of one file may run at once, and one of the exports is there as a whole.
+func TestAFileOfSeveralExporters(t *testing.T) {
+	path, export := filepath.Join(t.TempDir(), "shop.ktsk"), collected(t)
+	var group sync.WaitGroup
+	for i := 0; i < 4; i++ {
+		group.Add(1)
+		go func() {
+			defer group.Done()
+			for turn := 0; turn < 25; turn++ {
+				if err := FileExporter(path).Export(ctx, export); err != nil {
+					t.Error(err)
+				}
+			}
+		}()
+	}
+	group.Wait()
+	there, _ := os.ReadDir(filepath.Dir(path))
+	made, err := os.ReadFile(path)
+	if _, failed := kotskhin.DecodeExport(made); err != nil || failed != nil || len(there) != 1 {
+		t.Fatal(err, failed, there)
+	}
+}
+
 func TestPosts(t *testing.T) {
-	exporters := map[string]func(string, http.Header, *http.Client) Exporter{OTLPType: HTTPExporter, BytesType: HTTPBytesExporter}
+	exporters := map[string]func(string, http.Header, *http.Client) Exporter{
+		"application/x-protobuf": HTTPExporter, "application/vnd.kotskhin.export": HTTPBytesExporter,
+	}
 	for kind, exporter := range exporters {
 		var body []byte
 		status := http.StatusOK

@@ -46,10 +46,12 @@ type engine struct {
 
 	collecting sync.Mutex
 	last       uint64
+	limited    *limited
 }
 
-func newEngine(provider *MeterProvider, writer kotskhin.Writer, start uint64) *engine {
-	r := &engine{provider: provider, writer: writer, held: provider.config.held, numbers: map[string]uint64{}, last: start}
+func newEngine(provider *MeterProvider, writer kotskhin.Writer, limited *limited, start uint64) *engine {
+	r := &engine{provider: provider, writer: writer, limited: limited, held: provider.config.held, last: start}
+	r.numbers = map[string]uint64{}
 	for i := 0; i < 2*runtime.GOMAXPROCS(0); i++ {
 		r.shards = append(r.shards, &shard{numbers: map[string]uint64{}, list: make([]kotskhin.Noted, 0, noted)})
 	}
@@ -75,7 +77,7 @@ func (r *engine) note(it *instrument, form []byte, value int64) bool {
 	}
 	s.lock.Unlock()
 	r.pool.Put(s)
-	r.tell(refused)
+	r.refuse(refused)
 	return true
 }
 
@@ -93,7 +95,7 @@ func (r *engine) takeIn(s *shard) []Refusal {
 	var refused []Refusal
 	add := func(place int, err error) {
 		held, it := r.pairOf(s.list[place].Number), s.list[place]
-		refused = append(refused, Refusal{held.instrument.scope, held.instrument.name, it.Value, held.pairs, err})
+		refused = append(refused, Refusal{held.instrument.scope, held.instrument.name, 1, it.Value, held.pairs, err})
 	}
 	if err := r.writer.MeasureAll(s.list, func(place int, why kotskhin.Refused) { add(place, why) }); err != nil {
 		for place := range s.list {
@@ -105,17 +107,18 @@ func (r *engine) takeIn(s *shard) []Refusal {
 }
 
 // takeInAll takes in each shard; where the writer is to be closed no shard notes anything from then on.
-func (r *engine) takeInAll(isLast bool) {
+func (r *engine) takeInAll(isLast bool) []Refusal {
+	var refused []Refusal
 	for _, s := range r.shards {
 		s.lock.Lock()
 		s.isClosed = s.isClosed || isLast
-		refused := r.takeIn(s)
+		refused = append(refused, r.takeIn(s)...)
 		s.lock.Unlock()
-		r.tell(refused)
 	}
+	return refused
 }
 
-func (r *engine) tell(refused []Refusal) {
+func (r *engine) refuse(refused []Refusal) {
 	for _, it := range refused {
 		r.provider.refuse(it)
 	}
@@ -178,11 +181,22 @@ func (r *engine) hold(it *instrument, pairs []attribute.KeyValue, form string) (
 	return uint64(held), true, nil
 }
 
-// collect takes all shards in, and collects at the time of the clock, or right after the last collection where the clock was put back.
+// collect takes all shards in, and collects. What that refuses, and which streams came to their limit, is told once no lock is held: a
+// hook may collect, too.
 func (r *engine) collect(isLast bool) (kotskhin.Export, error) {
+	made, refused, limited, err := r.collected(isLast)
+	r.refuse(refused)
+	for _, it := range limited {
+		r.provider.tell(it)
+	}
+	return made, err
+}
+
+// collected collects at the time of the clock, or right after the last collection where the clock was put back.
+func (r *engine) collected(isLast bool) (made kotskhin.Export, refused, limited []Refusal, err error) {
 	r.collecting.Lock()
 	defer r.collecting.Unlock()
-	r.takeInAll(isLast)
+	refused = r.takeInAll(isLast)
 	time := now()
 	if time <= r.last && r.last < math.MaxUint64 {
 		time = r.last + 1
@@ -191,11 +205,11 @@ func (r *engine) collect(isLast bool) (kotskhin.Export, error) {
 	if isLast {
 		call = r.writer.Shutdown
 	}
-	made, err := call(time)
-	if err == nil {
+	if made, err = call(time); err == nil {
 		r.last = time
+		limited = r.limited.reached(made)
 	}
-	return made, err
+	return made, refused, limited, err
 }
 
 // isClosed tells whether an error says that the writer was closed.

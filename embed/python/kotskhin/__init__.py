@@ -11,7 +11,6 @@ from kotskhin.archive import Archive
 from kotskhin.attributes import Attributes, Pairs, Value
 from kotskhin.declared import CODES, VERSION
 from kotskhin.errors import *  # noqa: F403 (each refusal by its name)
-from kotskhin.errors import Code, ForkedError, Refused
 from kotskhin.export import Export, ExportHead
 from kotskhin.gateway import OPENMETRICS_TYPE, PROMETHEUS_TYPE, Ask, Gateway, Incarnation, Row, Rows
 from kotskhin.keeper import Keeper, Taking
@@ -23,9 +22,9 @@ from kotskhin.writer import Recorder, Seat, Taken, Writer, unique_instance
 
 __version__ = ".".join(str(VERSION >> shift & 255) for shift in (16, 8, 0))
 __all__ = [
-    *(it.__name__ for it in errors.Refused._classes.values()),
-    *("Code", "Refused", "ForkedError", "Attributes", "Pairs", "Value", "CODES", "VERSION", "Export", "ExportHead", "Ask", "Gateway"),
-    *("Row", "Rows", "code_text", "default_bounds", "Envelope", "Message", "Node", "COUNTER", "UP_DOWN", "GAUGE", "HISTOGRAM"),
-    *("DEFAULT_LIMIT", "Aggregation", "Instrument", "Kind", "Plan", "Shape", "Stream", "Streams", "View", "Recorder", "Seat"),
-    *("Taken", "Writer", "unique_instance", "Incarnation", "OPENMETRICS_TYPE", "PROMETHEUS_TYPE", "Keeper", "Taking", "Archive"),
+    "CODES", "VERSION", "Archive", "Attributes", "Pairs", "Value", "Export", "ExportHead", "Ask", "Gateway", "Incarnation", "Row", "Rows",
+    "OPENMETRICS_TYPE", "PROMETHEUS_TYPE", "Keeper", "Taking", "code_text", "default_bounds", "Envelope", "Message", "Node", "COUNTER",
+    "UP_DOWN", "GAUGE", "HISTOGRAM", "DEFAULT_LIMIT", "Aggregation", "Instrument", "Kind", "Plan", "Shape", "Stream", "Streams", "View",
+    "Recorder", "Seat", "Taken", "Writer", "unique_instance",
 ]
+__all__ += errors.__all__

@@ -1,5 +1,4 @@
 """Archives, which adopt what has ended."""
-import time
 from ctypes import byref, c_size_t, c_uint64
 
 from kotskhin.export import Export
@@ -16,12 +15,12 @@ class Archive(LockedHandle):
     names, and no total moves. Gauges are not adopted, and are shown no more.
 
     Of two archives that share service, instance and start a keeper keeps one's totals alone. So without an instance the archive has one
-    that is drawn anew, and without a start that of the clock: `instance` and `start` tell."""
+    that is drawn anew: `instance` tells. It begins under the start 1, before every worker. A page shows a metric as the youngest of
+    those who have it says, and an archive that began later than the workers would show an old plan's metric in place of the live one."""
 
-    def __init__(self, service: str, limit: int, instance: int | None = None, start: int | None = None):
+    def __init__(self, service: str, limit: int, instance: int | None = None, start: int = 1) -> None:
         super().__init__()
         self.instance = unique_instance() if instance is None else instance
-        start = time.time_ns() if start is None else start
         calls["kit_archive_begin"](self, *text(service), *halves(self.instance), start, limit)
 
     def adopt(self, keeper: Keeper, service: str, instance: int, start: int) -> None:
@@ -59,7 +58,7 @@ class Archive(LockedHandle):
         """How many incarnations it adopted since it began or was sealed."""
         return self._read()[1]
 
-    def _read(self):
+    def _read(self) -> tuple[int, int]:
         start, adopted = c_uint64(), c_size_t()
         with self._lock:
             calls["kit_archive_read"](self, byref(start), byref(adopted))

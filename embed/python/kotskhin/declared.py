@@ -71,6 +71,7 @@ CODES = (
     ("ATTRIBUTE_VALUE", 103, "the value of an attribute is of a kind that is not known", ("point",)),
     ("NO_EXPORT", 104, "what a request says together makes no export", ("export",)),
     ("REPEATS", 105, "a text of more than 1024 bytes is repeated too often", ()),
+    ("RESERVED_POINT", 106, "a point of an export has the scope of tombstones", ("export",)),
     ("OTHER_SERVICE", 110, "the incarnation is of another service than the archive", ()),
     ("IS_ARCHIVE", 111, "the incarnation is an archive's", ()),
     ("ADOPTED", 112, "the incarnation was adopted before", ()),

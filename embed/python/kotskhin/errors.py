@@ -1,6 +1,7 @@
 """Why calls are refused: a code for each reason, and an exception of its name."""
 import enum
 import re
+import typing
 
 from kotskhin.declared import CODES
 
@@ -11,32 +12,113 @@ class Code(enum.IntEnum):
     says: str
     places: tuple[str, ...]
 
-    _ignore_ = ["code"]
-    for code in CODES[1:]:
-        vars()[code[0]] = code[1:]
+    if typing.TYPE_CHECKING:
+        # (what checkers see of the loop below, which makes them of the declarations: a test holds these to those)
+        NO_MEMORY = 1
+        NOTHING = 2
+        WRONG_KIND = 3
+        FULL = 4
+        NOT_TEXT = 5
+        BAD_NUMBER = 6
+        NO_HELD = 7
+        NO_ROW = 8
+        NO_POINT = 9
+        CLOSED = 10
+        NO_INSTRUMENT = 11
+        NEGATIVE = 12
+        OVERFLOW = 13
+        TIME_NOT_AFTER = 14
+        START_NOT_AFTER = 15
+        BUSY = 16
+        EXHAUSTED = 17
+        SEATS_FULL = 18
+        NO_ITEM = 19
+        EMPTY_KEY = 20
+        BAD_NAME = 30
+        BAD_UNIT = 31
+        BAD_BOUNDS = 32
+        BAD_RENAME = 33
+        WILDCARD_RENAME = 34
+        BAD_AGGREGATION = 35
+        SAME_STREAM = 36
+        BAD_LIMIT = 37
+        RESERVED_SCOPE = 38
+        TOO_WIDE = 40
+        NO_BUCKET = 41
+        WRONG_SHAPE = 42
+        NOT_ADDRESSED = 50
+        TRUNCATED = 60
+        BAD_MAGIC = 61
+        BAD_VERSION = 62
+        NOT_CANONICAL = 63
+        BAD_CHECKSUM = 64
+        BAD_EXPORT = 65
+        RECORDER_FULL = 70
+        OTLP_BOUNDS = 80
+        TOO_LONG = 81
+        MALFORMED = 82
+        NO_SERVICE = 83
+        NO_INSTANCE = 84
+        NOT_UUID = 85
+        SCOPE_TWICE = 86
+        EXPONENTIAL_HISTOGRAM = 87
+        SUMMARY = 88
+        NO_DATA = 89
+        DELTA = 90
+        NO_TEMPORALITY = 91
+        NO_RECORDED_VALUE = 92
+        UNKNOWN_START = 93
+        FLOAT_VALUE = 94
+        NO_POINT_VALUE = 95
+        NO_SUM = 96
+        NOT_WHOLE = 97
+        INEXACT = 98
+        NOT_RISING = 99
+        HALF_RANGE = 100
+        NO_KEY = 101
+        ATTRIBUTE_TWICE = 102
+        ATTRIBUTE_VALUE = 103
+        NO_EXPORT = 104
+        REPEATS = 105
+        RESERVED_POINT = 106
+        OTHER_SERVICE = 110
+        IS_ARCHIVE = 111
+        ADOPTED = 112
+        CONFLICT = 113
+        TORN = 114
+        UNSOUND = 115
+        OUT_OF_RANGE = 116
+        SET_LIMIT = 117
+        TIME_NOT_LATER = 118
+        START_NOT_LATER = 119
+        UNEXPORTED = 120
+    else:
+        _ignore_ = ["code"]
+        for code in CODES[1:]:
+            vars()[code[0]] = code[1:]
 
-    def __new__(cls, number: int, says: str, places: tuple[str, ...]):
-        code = int.__new__(cls, number)
-        code._value_, code.says, code.places = number, says, places
-        return code
+        def __new__(cls, number, says, places):
+            code = int.__new__(cls, number)
+            code._value_, code.says, code.places = number, says, places
+            return code
 
 
 class Refused(Exception):
     """A call is refused, and changed nothing. It has a `code`, the code's `name`, and the `place` that is told, or both, `place` and
     `second`: None where none is told. Each code has a class of its own below, to be caught by its name."""
 
-    _classes: dict[Code, type] = {}
+    _classes: "typing.ClassVar[dict[Code, type[Refused]]]" = {}
 
-    def __init_subclass__(cls, **given):
-        super().__init_subclass__(**given)
+    def __init_subclass__(cls) -> None:
+        super().__init_subclass__()
         code = Code.__members__.get(re.sub(r"(?<=[a-z])(?=[A-Z])", "_", cls.__name__).upper())
         if code is not None:
             Refused._classes[code] = cls
 
-    def __new__(cls, code: Code, place: int | None = None, second: int | None = None):
-        return super().__new__(Refused._classes.get(code, Refused) if cls is Refused else cls, code, place, second)
+    def __new__(cls, code: Code, place: int | None = None, second: int | None = None) -> "Refused":
+        return super().__new__(Refused._classes.get(code, Refused) if cls is Refused else cls)
 
-    def __init__(self, code: Code, place: int | None = None, second: int | None = None):
+    def __init__(self, code: Code, place: int | None = None, second: int | None = None) -> None:
         super().__init__(code, place, second)
         self.code, self.place, self.second = code, place, second
 
@@ -313,6 +395,10 @@ class Repeats(Refused):
     """A text of more than 1024 bytes is repeated too often."""
 
 
+class ReservedPoint(Refused):
+    """A point of a request has the scope of tombstones, `kotskhin.archive`, and would hide points of others: with the export."""
+
+
 class OtherService(Refused):
     """An incarnation is of another service than the archive."""
 
@@ -361,9 +447,9 @@ class ForkedError(RuntimeError):
     """What is used was made before a fork, by the parent of this process."""
 
 
-def refusal(code: int, *places: int) -> Refused:
+def refusal(number: int, *places: int) -> Refused:
     """The refusal of a code, with those of the places that it tells."""
-    code = Code(code)
+    code = Code(number)
     return Refused(code, *places[: len(code.places)])
 
 
@@ -373,4 +459,14 @@ for _code in Code:
         _name = "".join(map(str.capitalize, _code.name.split("_")))
         globals()[_name] = type(_name, (Refused,), {"__doc__": f"{_code.says[:1].upper()}{_code.says[1:]}.", "__module__": __name__})
 
-__all__ = ["Code", "Refused", "ForkedError", *(it.__name__ for it in Refused._classes.values())]
+__all__ = [
+    "Code", "Refused", "ForkedError", "NoMemory", "Nothing", "WrongKind", "Full", "NotText", "BadNumber", "NoHeld", "NoRow", "NoPoint",
+    "Closed", "NoInstrument", "Negative", "Overflow", "TimeNotAfter", "StartNotAfter", "Busy", "Exhausted", "SeatsFull", "NoItem",
+    "EmptyKey", "BadName", "BadUnit", "BadBounds", "BadRename", "WildcardRename", "BadAggregation", "SameStream", "BadLimit",
+    "ReservedScope", "TooWide", "NoBucket", "WrongShape", "NotAddressed", "Truncated", "BadMagic", "BadVersion", "NotCanonical",
+    "BadChecksum", "BadExport", "RecorderFull", "OtlpBounds", "TooLong", "Malformed", "NoService", "NoInstance", "NotUuid", "ScopeTwice",
+    "ExponentialHistogram", "Summary", "NoData", "Delta", "NoTemporality", "NoRecordedValue", "UnknownStart", "FloatValue",
+    "NoPointValue", "NoSum", "NotWhole", "Inexact", "NotRising", "HalfRange", "NoKey", "AttributeTwice", "AttributeValue", "NoExport",
+    "Repeats", "ReservedPoint", "OtherService", "IsArchive", "Adopted", "Conflict", "Torn", "Unsound", "OutOfRange", "SetLimit",
+    "TimeNotLater", "StartNotLater", "Unexported",
+]

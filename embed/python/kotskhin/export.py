@@ -3,7 +3,7 @@ import typing
 from ctypes import byref, c_size_t, c_uint64
 
 from kotskhin.handle import Handle, LockedHandle
-from kotskhin.library import calls, copied, data
+from kotskhin.library import BytesLike, calls, copied, data
 
 
 class ExportHead(typing.NamedTuple):
@@ -35,16 +35,19 @@ class Export(LockedHandle):
         """The body of a POST to /v1/metrics that brings it to a Collector, as application/x-protobuf."""
         return encoded("kit_export_otlp", self)
 
+    def __reduce__(self) -> tuple[object, ...]:
+        # (pickled it is its bytes)
+        return type(self).decode, (self.encode(),)
+
     @classmethod
-    def decode(cls, of) -> "Export":
+    def decode(cls, of: BytesLike) -> "Export":
         """The export of bytes that encode made."""
         made = cls()
         calls["kit_export_decode"](made, *data(of))
         return made
 
-
     @classmethod
-    def of_otlp(cls, of) -> "list[Export]":
+    def of_otlp(cls, of: BytesLike) -> "list[Export]":
         """The exports that the body of a POST to /v1/metrics brings: `head` tells of whom each is."""
         with Handle() as made:
             calls["kit_exports_of_otlp"](made, *data(of))

@@ -3,17 +3,19 @@ import contextlib
 import dataclasses
 import itertools
 import typing
-from collections.abc import Iterable, Sequence
+from collections.abc import Callable, Iterable, Iterator
 from ctypes import byref, c_bool, c_int64, c_size_t, c_uint32, c_uint64
 
 from kotskhin.attributes import Attributes, Pairs, Value, keys_of, written
 from kotskhin.errors import NoBucket, NoItem, NoPoint, WrongShape
 from kotskhin.export import Export, encoded
-from kotskhin.handle import Handle, LockedHandle, both
-from kotskhin.library import calls, copied, default_bounds, halves, integers, text
+from kotskhin.handle import Handle, Items, LockedHandle, both
+from kotskhin.library import BytesLike, calls, copied, default_bounds, halves, integers, text
 from kotskhin.plan import Streams
 
 
+# What ctypes has for a number that a call tells.
+Number = typing.Union[type[c_int64], type[c_uint64], type[c_size_t]]
 # The types under which pages of a gateway are answered.
 OPENMETRICS_TYPE = "application/openmetrics-text; version=1.0.0; charset=utf-8"
 PROMETHEUS_TYPE = "text/plain; version=0.0.4; charset=utf-8"
@@ -31,6 +33,7 @@ class Ask(LockedHandle):
 
     @classmethod
     def gauge(cls, scope: str, name: str, unit: str) -> "Ask":
+        """Of a gauge."""
         made = cls()
         calls["kit_ask_gauge"](made, *text(scope), *text(name), *text(unit))
         return made
@@ -58,16 +61,16 @@ class Ask(LockedHandle):
 
     def only(self, pairs: Pairs) -> "Ask":
         """From now on of the points that have each of these pairs."""
-        pairs = written(pairs)
+        made = written(pairs)
         with self._lock:
-            calls["kit_ask_only"](self, pairs)
+            calls["kit_ask_only"](self, made)
         return self
 
     def keep(self, keys: Iterable[str]) -> "Ask":
         """From now on rows are told apart by these keys alone."""
-        keys = keys_of(keys)
+        made = keys_of(keys)
         with self._lock:
-            calls["kit_ask_keep"](self, keys)
+            calls["kit_ask_keep"](self, made)
         return self
 
 
@@ -110,14 +113,14 @@ def incarnations_of(name: str, of: LockedHandle) -> list[Incarnation]:
         return [_incarnation(made, number) for number in range(count.value)]
 
 
-def _incarnation(made, number):
+def _incarnation(made: Handle, number: int) -> Incarnation:
     high, low, start, newest, points = c_uint64(), c_uint64(), c_uint64(), c_uint64(), c_size_t()
     calls["kit_incarnations_read"](made, number, *map(byref, (high, low, start, newest, points)))
     service = copied("kit_incarnations_service", made, number).decode()
     return Incarnation(service, high.value << 64 | low.value, start.value, newest.value, points.value)
 
 
-class Rows(Handle, Sequence):
+class Rows(Items[Row]):
     """The rows that answer an ask, in the order of their attribute sets: each as a Row, and call by call."""
 
     def __len__(self) -> int:
@@ -125,53 +128,54 @@ class Rows(Handle, Sequence):
         calls["kit_rows_len"](self, byref(count))
         return count.value
 
-    def __getitem__(self, row: int) -> Row:
+    def _item(self, row: int) -> Row:
         points, conflicts = self.counts(row)
-        return Row(dict(self.attributes(row)), points, conflicts, **self._parts(row))
-
-    def _parts(self, row):
-        """What a row of its shape has."""
+        of = Row(dict(self.attributes(row)), points, conflicts)
         try:
             total = self.total(row)
         except WrongShape:
-            return dict(zip(("time", "value"), self._unless_none(self.gauge, row)))
+            time, value = self._unless_none(self.gauge, row)
+            return dataclasses.replace(of, time=time, value=value)
         try:
             count = self.values(row)
         except WrongShape:
-            return {"total": total}
+            return dataclasses.replace(of, total=total)
         least, greatest = self._unless_none(self.range, row)
-        return {"total": total, "count": count, "least": least, "greatest": greatest, "buckets": tuple(self._buckets(row))}
+        buckets = tuple(self._buckets(row))
+        return dataclasses.replace(of, total=total, count=count, least=least, greatest=greatest, buckets=buckets)
 
     @staticmethod
-    def _unless_none(call, row):
+    def _unless_none(call: Callable[[int], tuple[int, int]], row: int) -> tuple[int, int] | tuple[None, None]:
         try:
             return call(row)
         except NoPoint:
             return None, None
 
-    def _buckets(self, row):
+    def _buckets(self, row: int) -> Iterator[int]:
         for number in itertools.count():
             try:
                 yield self.bucket(row, number)
             except NoBucket:
                 return
 
-    def _read(self, name, row, *kinds):
+    def _read(self, name: str, row: int, *kinds: Number) -> list[int]:
         """What a call tells of a row."""
         told = [kind() for kind in kinds]
         calls[name](self, row, *map(byref, told))
-        return tuple(it.value for it in told)
+        return [it.value for it in told]
 
     def attributes(self, row: int) -> list[tuple[str, Value]]:
         """The attribute set that a row is of, pair by pair in the order of keys."""
-        with Handle.__new__(Attributes) as made:
-            Handle.__init__(made)
+        made = Attributes.__new__(Attributes)
+        Handle.__init__(made)
+        with made:
             calls["kit_rows_attributes"](self, row, made)
             return made.pairs()
 
     def counts(self, row: int) -> tuple[int, int]:
         """How many points the total of a row is of, and how many conflicts it leaves out."""
-        return self._read("kit_rows_counts", row, c_uint64, c_uint64)
+        points, conflicts = self._read("kit_rows_counts", row, c_uint64, c_uint64)
+        return points, conflicts
 
     def sum(self, row: int) -> int:
         """The total of a row of a sum, where it has 64 bits."""
@@ -189,15 +193,18 @@ class Rows(Handle, Sequence):
 
     def gauge(self, row: int) -> tuple[int, int]:
         """The time and the value of the newest point of a row of a gauge."""
-        return self._read("kit_rows_gauge", row, c_uint64, c_int64)
+        time, value = self._read("kit_rows_gauge", row, c_uint64, c_int64)
+        return time, value
 
     def histogram(self, row: int) -> tuple[int, int, int]:
         """How many values a row of a histogram is of, their sum, and how many buckets there are, where these have 64 bits."""
-        return self._read("kit_rows_histogram", row, c_uint64, c_int64, c_size_t)
+        count, total, buckets = self._read("kit_rows_histogram", row, c_uint64, c_int64, c_size_t)
+        return count, total, buckets
 
     def range(self, row: int) -> tuple[int, int]:
         """The least and the greatest value of a row of a histogram."""
-        return self._read("kit_rows_range", row, c_int64, c_int64)
+        least, greatest = self._read("kit_rows_range", row, c_int64, c_int64)
+        return least, greatest
 
     def bucket(self, row: int, number: int) -> int:
         """How many values a bucket has: those up to the bound of its number and above the one before, in the last those above all."""
@@ -215,7 +222,7 @@ class Rows(Handle, Sequence):
 class Gateway(LockedHandle):
     """What exports brought: of each point the newest. It adds up the points of all writers when it is asked."""
 
-    def __init__(self, id: int):
+    def __init__(self, id: int) -> None:
         super().__init__()
         calls["kit_gateway_open"](self, id)
 
@@ -283,7 +290,7 @@ class Gateway(LockedHandle):
 
     def services(self) -> list[str]:
         """The services of which it holds points, each once."""
-        services = []
+        services: list[str] = []
         with contextlib.suppress(NoItem):
             while True:
                 with self._lock:
@@ -298,7 +305,7 @@ class Gateway(LockedHandle):
         """The same page in Prometheus' text format 0.0.4. Its type is PROMETHEUS_TYPE."""
         return self._page("kit_gateway_prometheus", service)
 
-    def _page(self, name, service):
+    def _page(self, name: str, service: str | None) -> str:
         with Handle() as made:
             with self._lock:
                 calls[name](self, service is not None, *text(service or ""), made)
@@ -336,7 +343,7 @@ class Gateway(LockedHandle):
         return encoded("kit_gateway_encode", self)
 
     @staticmethod
-    def decode(of) -> "Gateway":
+    def decode(of: BytesLike) -> "Gateway":
         """The gateway of bytes that encode made."""
         from kotskhin.node import Message
 

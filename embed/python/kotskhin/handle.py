@@ -2,6 +2,8 @@
 import itertools
 import os
 import threading
+import typing
+from collections.abc import Callable, Sequence
 from ctypes import byref
 
 from kotskhin.errors import ForkedError
@@ -11,7 +13,7 @@ _forks = 0
 _numbers = itertools.count()
 
 
-def _forked():
+def _forked() -> None:
     """In a child: another thread of the parent may have been in a call, so what the parent made is left alone."""
     global _forks
     _forks += 1
@@ -25,23 +27,26 @@ def forks() -> int:
     return _forks
 
 
+It = typing.TypeVar("It", bound="Handle")
+
+
 class Handle:
     """A thing of the library. It is given up by `close`, at the end of a `with`, or once nothing names it. A call on what was closed is
     refused as Nothing; to close it again does nothing."""
 
     __slots__ = ("_raw", "_forks", "__weakref__")
 
-    def __init__(self):
+    def __init__(self) -> None:
         self._raw, self._forks = Raw(False, None), _forks
 
-    def _is_ours(self):
+    def _is_ours(self) -> None:
         """Whether this process made it; else it is told so."""
         if self._forks != _forks:
             told = f"this {type(self).__name__} was made before a fork"
             raise ForkedError(f"{told}: make one in each process, a writer under an instance of its own")
 
     @property
-    def _as_parameter_(self):
+    def _as_parameter_(self) -> object:
         self._is_ours()
         return byref(self._raw)
 
@@ -50,15 +55,36 @@ class Handle:
         if self._forks == _forks:
             free(byref(self._raw))
 
-    def __enter__(self):
+    def __enter__(self: It) -> It:
         return self
 
-    def __exit__(self, *_):
+    def __exit__(self, *_: object) -> None:
         self.close()
 
-    def __del__(self, free=free, byref=byref):
+    def __del__(self, free: Callable[..., object] = free, byref: Callable[..., object] = byref) -> None:
         if self._forks == _forks:
             free(byref(self._raw))
+
+
+Item = typing.TypeVar("Item")
+
+
+class Items(Handle, Sequence[Item]):
+    """A thing that has items, by their numbers."""
+
+    def _item(self, number: int) -> Item:
+        raise NotImplementedError
+
+    @typing.overload
+    def __getitem__(self, number: int) -> Item: ...
+
+    @typing.overload
+    def __getitem__(self, number: slice) -> list[Item]: ...
+
+    def __getitem__(self, number: int | slice) -> Item | list[Item]:
+        if isinstance(number, slice):
+            return [self._item(it) for it in range(*number.indices(len(self)))]
+        return self._item(number)
 
 
 class LockedHandle(Handle):
@@ -66,13 +92,13 @@ class LockedHandle(Handle):
 
     __slots__ = ("_own_lock", "_number")
 
-    def __init__(self):
+    def __init__(self) -> None:
         super().__init__()
         # (of two things the one that was made first is locked first; one that is closed by a collector may be locked by its thread)
         self._own_lock, self._number = threading.RLock(), next(_numbers)
 
     @property
-    def _lock(self):
+    def _lock(self) -> "threading._RLock":
         # (in a child nobody may be left who gives back what was locked in the parent)
         self._is_ours()
         return self._own_lock
@@ -87,13 +113,13 @@ class LockedHandle(Handle):
 class both:
     """The locks of one or two things, in one order in all threads."""
 
-    def __init__(self, *things):
+    def __init__(self, *things: LockedHandle) -> None:
         self._locks = [it._lock for it in sorted(things, key=lambda it: it._number)]
 
-    def __enter__(self):
+    def __enter__(self) -> None:
         for lock in self._locks:
             lock.acquire()
 
-    def __exit__(self, *_):
+    def __exit__(self, *_: object) -> None:
         for lock in reversed(self._locks):
             lock.release()

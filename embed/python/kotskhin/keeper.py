@@ -24,7 +24,7 @@ class Keeper(LockedHandle):
     What an archive exports is for keepers: a gateway would count what was adopted twice. The ids of keepers and nodes that exchange
     messages are distinct."""
 
-    def __init__(self, id: int):
+    def __init__(self, id: int) -> None:
         super().__init__()
         calls["kit_keeper_open"](self, id)
 

@@ -9,6 +9,9 @@ import os
 import pathlib
 import sys
 import threading
+import typing
+import uuid
+from collections.abc import Callable, Iterable
 from ctypes import POINTER, byref, c_bool, c_char_p, c_int32, c_int64, c_size_t, c_uint8, c_uint32, c_uint64
 
 from kotskhin.declared import CALLS, STRUCTS, VERSION
@@ -16,11 +19,23 @@ from kotskhin.errors import refusal
 
 NAME = "libkotskhin.so.0"
 # Calls that take as long as what they read or make is large.
-LONG = ("kit_gateway_", "kit_node_", "kit_message_", "kit_export_encode", "kit_export_decode", "kit_bytes_copy")
-LONG += ("kit_export_otlp", "kit_exports_of_otlp", "kit_keeper_", "kit_archive_")
+LONG = (
+    *("kit_gateway_", "kit_node_", "kit_message_", "kit_export_encode", "kit_export_decode", "kit_bytes_copy"),
+    *("kit_export_otlp", "kit_exports_of_otlp", "kit_keeper_", "kit_archive_"),
+)
 
-C_TYPES = {"uint8_t": c_uint8, "int32_t": c_int32, "uint32_t": c_uint32, "int64_t": c_int64, "uint64_t": c_uint64, "size_t": c_size_t}
-C_TYPES["bool"] = c_bool
+# What ctypes takes and gives is of many types, which it looks at itself at each call.
+CData = typing.Any
+# Bytes that are read where they are.
+BytesLike = typing.Union[bytes, bytearray, memoryview]
+# A function of C as it is, which answers a number; and one whose refusals are raised.
+Function: typing.TypeAlias = Callable[..., int]
+Checked: typing.TypeAlias = Callable[..., None]
+
+C_TYPES: dict[str, CData] = {
+    **{"uint8_t": c_uint8, "int32_t": c_int32, "uint32_t": c_uint32, "int64_t": c_int64, "uint64_t": c_uint64, "size_t": c_size_t},
+    "bool": c_bool,
+}
 
 
 class Raw(ctypes.Structure):
@@ -32,6 +47,12 @@ class Raw(ctypes.Structure):
 class Told(ctypes.Structure):
     """What a taking in tells."""
 
+    recorded: int
+    refused: int
+    code: int
+    first: int
+    place: int
+
     _fields_ = [(name, C_TYPES[kind]) for kind, name in map(str.split, STRUCTS["kit_taken"])]
 
 
@@ -42,7 +63,7 @@ class Place:
 class Number:
     """A number that the caller gives, as its C type has it."""
 
-    def __init__(self, of):
+    def __init__(self, of: CData) -> None:
         bits, signed = 8 * ctypes.sizeof(of), of(-1).value < 0
         self.of, self.least, self.most = of, -(1 << bits - 1) if signed else 0, (1 << bits - signed) - 1
 
@@ -50,7 +71,7 @@ class Number:
 MOST_SIZE = Number(c_size_t).most
 
 
-def _type(parameter):
+def _type(parameter: str) -> CData:
     """What ctypes makes of a parameter, as C declares it: a number of the caller's with its range, and a place apart."""
     kind, is_pointer, name = parameter.removeprefix("KIT_READS ").removeprefix("const ").rpartition("*")
     kind, is_given = kind.strip(), parameter.startswith("const ")
@@ -65,7 +86,7 @@ def _type(parameter):
     return POINTER(C_TYPES[kind] if kind in C_TYPES else Told if kind == "kit_taken" else Raw)
 
 
-def _found():
+def _found() -> str:
     """Where the library is: what KOTSKHIN_SO says, or beside this package, as a wheel carries it, or where the system's loader looks."""
     if path := os.environ.get("KOTSKHIN_SO"):
         return path
@@ -73,7 +94,7 @@ def _found():
     return str(beside) if beside.is_file() else NAME
 
 
-def _opened():
+def _opened() -> tuple[ctypes.PyDLL, ctypes.CDLL]:
     """The library twice: as its calls keep Python's lock, and as they let it go."""
     path = _found()
     try:
@@ -93,30 +114,29 @@ def _opened():
 KEEPING, LETTING = _opened()
 
 
-def whole(value, least, most):
+def whole(value: typing.SupportsIndex, least: int, most: int) -> int:
     """A number as it is, where it lies in a range."""
-    value = operator.index(value)
-    if not least <= value <= most:
-        raise OverflowError(f"{value} is not within {least} to {most}")
-    return value
+    number = operator.index(value)
+    if not least <= number <= most:
+        raise OverflowError(f"{number} is not within {least} to {most}")
+    return number
 
 
-def _checked(function, numbers, places):
+def _checked(function: Function, numbers: tuple[tuple[int, int, int], ...], places: int) -> Checked:
     """A call: numbers are held to their ranges, and what is refused is raised."""
 
-    def call(*given):
+    def call(*given: CData) -> None:
         # (ctypes would take it for a null pointer, which no call looks at)
         if None in given:
             raise TypeError("None is no thing of the kit, and no number")
-        if numbers:
-            given = list(given)
-            for at, least, most in numbers:
-                number = given[at] = operator.index(given[at])
-                if not least <= number <= most:
-                    raise OverflowError(f"{number} is not within {least} to {most}")
+        held = list(given)
+        for at, least, most in numbers:
+            number = held[at] = operator.index(held[at])
+            if not least <= number <= most:
+                raise OverflowError(f"{number} is not within {least} to {most}")
         told = [c_uint64() for _ in range(places)]
         try:
-            code = function(*given, *told)
+            code = function(*held, *told)
         except ctypes.ArgumentError as fault:
             raise _mistaken(given, fault) from None
         if code:
@@ -125,17 +145,17 @@ def _checked(function, numbers, places):
     return call
 
 
-def _mistaken(given, fault):
+def _mistaken(given: Iterable[CData], fault: Exception) -> TypeError:
     """Why ctypes did not take what is given: a thing of a parent's, which says so itself, or another type."""
     for it in given:
         getattr(it, "_is_ours", lambda: None)()
     return TypeError(str(fault))
 
 
-def _locked(function):
+def _locked(function: Function) -> Function:
     """A function whose calls come one after another."""
 
-    def call(*given):
+    def call(*given: CData) -> int:
         with _lock:
             return function(*given)
 
@@ -144,20 +164,17 @@ def _locked(function):
 
 # (a collector may give up a handle while its thread has the lock, so it may be taken again)
 _lock = threading.RLock()
-has_own_lock = getattr(sys, "_is_gil_enabled", lambda: True)()
+has_own_lock: bool = getattr(sys, "_is_gil_enabled", lambda: True)()
 
 
-def _call(name):
-    """A call by its name, as the header declares it: as it is, and with what its answers mean."""
+def _call(name: str) -> tuple[Function, Checked]:
+    """A call by its name, as the header declares it: as it is, and where it answers a code with what that means."""
     result, given = CALLS[name]
-    function = getattr(LETTING if name.startswith(LONG) and has_own_lock else KEEPING, name)
+    made = getattr(LETTING if name.startswith(LONG) and has_own_lock else KEEPING, name)
     types = list(map(_type, given))
-    function.argtypes = [it.of if isinstance(it, Number) else POINTER(c_uint64) if it is Place else it for it in types]
-    function.restype = C_TYPES.get(result)
-    if not has_own_lock:
-        function = _locked(function)
-    if result != "int32_t":
-        return function, function
+    made.argtypes = [it.of if isinstance(it, Number) else POINTER(c_uint64) if it is Place else it for it in types]
+    made.restype = C_TYPES.get(result)
+    function: Function = made if has_own_lock else _locked(made)
     numbers = tuple((at, it.least, it.most) for at, it in enumerate(types) if isinstance(it, Number))
     return function, _checked(function, numbers, types.count(Place))
 
@@ -165,34 +182,35 @@ def _call(name):
 _made = {name: _call(name) for name in CALLS}
 # The functions as they are, which answer codes, and hold no number to its range.
 functions = {name: it for name, (it, _) in _made.items()}
-# The same, where numbers are held to their ranges and what is refused is raised.
-calls = {name: it for name, (_, it) in _made.items()}
-free = calls["kit_free"]
+# Those that answer codes, where numbers are held to their ranges and what is refused is raised.
+calls = {name: it for name, (_, it) in _made.items() if CALLS[name][0] == "int32_t"}
+free = functions["kit_free"]
 
 
-def as_they_are(name):
+def as_they_are(name: str) -> Function:
     """A call that answers its code and takes things of ctypes alone, which are of its types: none is looked at."""
     library = ctypes.PyDLL(KEEPING._name)
-    function = getattr(library, name)
+    function: CData = getattr(library, name)
     function.restype = C_TYPES[CALLS[name][0]]
-    return function if has_own_lock else _locked(function)
+    made: Function = function if has_own_lock else _locked(function)
+    return made
 
 
-def text(of):
+def text(of: str) -> tuple[bytes, int]:
     """A text as C takes it. (surrogates are no UTF-8, and the library says so)"""
     if not isinstance(of, str):
         raise TypeError(f"{of!r} is no text")
-    of = of.encode("utf-8", "surrogatepass")
-    return of, len(of)
+    encoded = str.encode(of, "utf-8", "surrogatepass")
+    return encoded, len(encoded)
 
 
-def data(of):
+def data(of: BytesLike) -> tuple[bytes, int]:
     """Bytes as C takes them, which it reads where they are when they are bytes."""
-    of = of if isinstance(of, bytes) else bytes(memoryview(of))
-    return of, len(of)
+    read = of if isinstance(of, bytes) else bytes(memoryview(of))
+    return read, len(read)
 
 
-def copied(name, *at):
+def copied(name: str, *at: object) -> bytes:
     """What a call copies out, once its room is enough."""
     call, length = calls[name], c_size_t(256)
     while True:
@@ -202,26 +220,26 @@ def copied(name, *at):
             return room.raw[: length.value]
 
 
-def integers(of):
+def integers(of: Iterable[typing.SupportsIndex]) -> tuple[ctypes.Array[c_int64], int]:
     """Whole numbers of 64 bits as C takes a list of them."""
-    of = [whole(it, -(1 << 63), (1 << 63) - 1) for it in of]
-    return (c_int64 * max(len(of), 1))(*of), len(of)
+    held = [whole(it, -(1 << 63), (1 << 63) - 1) for it in of]
+    return (c_int64 * max(len(held), 1))(*held), len(held)
 
 
-def halves(instance):
+def halves(instance: int | uuid.UUID) -> tuple[int, int]:
     """The high and the low 64 bits of an instance, which has 128: a number, or a UUID."""
-    return divmod(whole(getattr(instance, "int", instance), 0, (1 << 128) - 1), 1 << 64)
+    return divmod(whole(instance.int if isinstance(instance, uuid.UUID) else instance, 0, (1 << 128) - 1), 1 << 64)
 
 
 def code_text(code: int) -> str:
     """What the library says of a code."""
     room = ctypes.create_string_buffer(256)
-    size = calls["kit_code_text"](code, room, len(room))
+    size = functions["kit_code_text"](code, room, len(room))
     return room.raw[: min(size, len(room))].decode()
 
 
 def default_bounds() -> list[int]:
     """The bounds of a histogram for which no view says others."""
-    room = (c_int64 * calls["kit_default_bounds"]((c_int64 * 1)(), 0))()
-    calls["kit_default_bounds"](room, len(room))
+    room = (c_int64 * functions["kit_default_bounds"]((c_int64 * 1)(), 0))()
+    functions["kit_default_bounds"](room, len(room))
     return list(room)

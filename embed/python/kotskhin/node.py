@@ -5,7 +5,7 @@ from ctypes import byref, c_bool, c_size_t, c_uint32, c_uint64
 from kotskhin.export import Export, encoded
 from kotskhin.gateway import Gateway, Incarnation, incarnations_of
 from kotskhin.handle import LockedHandle, both
-from kotskhin.library import calls, data
+from kotskhin.library import BytesLike, calls, data
 
 
 class Envelope(typing.NamedTuple):
@@ -42,7 +42,7 @@ class Message(LockedHandle):
         return encoded("kit_message_encode", self)
 
     @classmethod
-    def decode(cls, of) -> "Message":
+    def decode(cls, of: BytesLike) -> "Message":
         """The message of bytes that encode made."""
         made = cls()
         calls["kit_message_decode"](made, *data(of))
@@ -52,7 +52,7 @@ class Message(LockedHandle):
 class Node(LockedHandle):
     """A gateway that sends messages and takes them in. The ids of nodes that exchange messages are distinct."""
 
-    def __init__(self, gateway: Gateway):
+    def __init__(self, gateway: Gateway) -> None:
         super().__init__()
         with gateway._lock:
             calls["kit_node_open"](self, gateway)

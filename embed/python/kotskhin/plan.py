@@ -6,7 +6,7 @@ from collections.abc import Iterable, Sequence
 from ctypes import byref, c_size_t, c_uint8, c_int64
 
 from kotskhin.attributes import keys_of
-from kotskhin.handle import Handle
+from kotskhin.handle import Handle, Items
 from kotskhin.library import calls, copied, integers, text
 
 DEFAULT_LIMIT = 2000
@@ -21,7 +21,7 @@ class Kind(enum.IntEnum):
     HISTOGRAM = 3
 
 
-COUNTER, UP_DOWN, GAUGE, HISTOGRAM = Kind
+COUNTER, UP_DOWN, GAUGE, HISTOGRAM = Kind.COUNTER, Kind.UP_DOWN, Kind.GAUGE, Kind.HISTOGRAM
 
 
 class Instrument(typing.NamedTuple):
@@ -54,7 +54,7 @@ class View:
     keep: Iterable[str] | None = None
     aggregation: int | Sequence[int] | None = None
 
-    def __post_init__(self):
+    def __post_init__(self) -> None:
         # (whatever is given is read once: many plans may have one view)
         if isinstance(self.keep, str):
             raise TypeError(f"keys are a list of texts, not the text {self.keep!r}")
@@ -102,7 +102,7 @@ class Stream(typing.NamedTuple):
     bounds: tuple[int, ...] = ()
 
 
-class Streams(Handle, Sequence):
+class Streams(Items[Stream]):
     """The streams of a plan, under the numbers that an overflow tells, or those that a gateway holds points of."""
 
     def __len__(self) -> int:
@@ -110,20 +110,22 @@ class Streams(Handle, Sequence):
         calls["kit_streams_len"](self, byref(count))
         return count.value
 
-    def __getitem__(self, number: int) -> Stream:
+    def _item(self, number: int) -> Stream:
         shape, count = c_uint8(), c_size_t()
         calls["kit_streams_shape"](self, number, byref(shape), byref(count))
         room = (c_int64 * max(count.value, 1))()
         calls["kit_streams_bounds"](self, number, room, count.value, byref(count))
-        words = (copied("kit_streams_text", self, number, part).decode() for part in range(3))
-        return Stream(*words, Shape(shape.value), tuple(room[: count.value]))
+        scope, name, unit = (copied("kit_streams_text", self, number, part).decode() for part in range(3))
+        return Stream(scope, name, unit, Shape(shape.value), tuple(room[: count.value]))
 
 
 class Plan(Handle):
     """Instruments of any scopes, views, and for how many attribute sets each stream has points of their own. Many writers may start under
     one plan."""
 
-    def __init__(self, instruments: Iterable[Sequence], limit: int = DEFAULT_LIMIT, views: Iterable[View] = ()):
+    def __init__(
+        self, instruments: Iterable[tuple[str, str, str, int]], limit: int = DEFAULT_LIMIT, views: Iterable[View] = ()
+    ) -> None:
         super().__init__()
         with Handle() as made, Handle() as seen:
             for scope, name, unit, kind in instruments:

@@ -27,14 +27,14 @@ class Taken(typing.NamedTuple):
     why: Refused | None
 
 
-def _held(name, at, instrument, attributes):
+def _held(name: str, at: Handle, instrument: int, attributes: Attributes) -> int:
     """The number of an instrument and a set."""
     number = c_size_t()
     calls[name](at, instrument, attributes, byref(number))
     return number.value
 
 
-def _taken_in(name, at, recorder, most):
+def _taken_in(name: str, at: Handle, recorder: "Recorder", most: int | None) -> Taken:
     """What became of at most so many recordings of a recorder, or of all."""
     told = Told()
     calls[name](at, recorder, MOST_SIZE if most is None else most, byref(told))
@@ -48,7 +48,7 @@ class Recorder(Handle):
 
     RecorderFull says that it is to be taken in first. One that is given up loses what it has."""
 
-    def __init__(self, capacity: int):
+    def __init__(self, capacity: int) -> None:
         super().__init__()
         calls["kit_recorder_new"](self, capacity)
 
@@ -107,7 +107,7 @@ class Writer(Handle):
 
     So without an instance the writer has one that is drawn anew, and without a start that of the clock: `instance` and `start` tell."""
 
-    def __init__(self, plan: Plan, service: str, instance: int | None = None, start: int | None = None):
+    def __init__(self, plan: Plan, service: str, instance: int | None = None, start: int | None = None) -> None:
         super().__init__()
         self.instance = unique_instance() if instance is None else instance
         self.start = time.time_ns() if start is None else start

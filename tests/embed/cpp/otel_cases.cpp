@@ -77,8 +77,46 @@ struct Told {
     int failed = 0;
 };
 
+// A thread of a case, which stays until the case ends.
+class Other {
+    std::mutex lock;
+    std::condition_variable changed;
+    std::function<void()> job;
+    bool is_over = false;
+    std::thread thread{[this] { run(); }};
+
+    void run() {
+        std::unique_lock<std::mutex> has(lock);
+        for (;;) {
+            changed.wait(has, [&] { return is_over || job; });
+            if (is_over) return;
+            job();
+            job = nullptr;
+            changed.notify_all();
+        }
+    }
+
+public:
+    // (what is done is done once this returns)
+    void does(std::function<void()> what) {
+        std::unique_lock<std::mutex> has(lock);
+        job = std::move(what);
+        changed.notify_all();
+        changed.wait(has, [&] { return !job; });
+    }
+    ~Other() {
+        {
+            std::lock_guard<std::mutex> has(lock);
+            is_over = true;
+            changed.notify_all();
+        }
+        thread.join();
+    }
+};
+
 class Run {
     Told told;
+    Other other;
     std::unique_ptr<MeterProvider> provider;
     std::map<std::string, Call> calls;
     std::optional<Export> collected;
@@ -88,13 +126,17 @@ class Run {
         if (told.is_failing) throw std::runtime_error("nobody is there");
         told.brought.push_back(given.encode());
     }
+    template <typename Made, typename Value>
+    static void recorded(const Made &by, Value value, const At &at) {
+        constexpr bool is_added = std::is_same_v<Made, Counter<uint64_t>> || std::is_same_v<Made, UpDownCounter<int64_t>>;
+        if constexpr (is_added) by.Add(value, at);
+        else by.Record(value, at);
+    }
     template <typename Made>
     static Call adding(std::unique_ptr<Made> made) {
         return [it = std::shared_ptr<Made>(std::move(made))](const std::string &value, const At &at) {
-            if constexpr (std::is_same_v<Made, Counter<uint64_t>>) it->Add(std::stoull(value), at);
-            else if constexpr (std::is_same_v<Made, UpDownCounter<int64_t>>) it->Add(std::stoll(value), at);
-            else if constexpr (std::is_same_v<Made, Gauge<int64_t>>) it->Record(std::stoll(value), at);
-            else it->Record(std::stoull(value), at);
+            if (value[0] == '-') recorded(*it, std::stoll(value), at);
+            else recorded(*it, std::stoull(value), at);
         };
     }
     Call made(const Json &it) {
@@ -124,6 +166,7 @@ class Run {
         auto often = [&] {
             for (int i = 0; i < times; i++) call(it["value"].text, at);
         };
+        if (word(it, "on") == "other") return other.does(often), Json();
         std::vector<std::thread> threads;
         for (int i = std::stoi(word(it, "threads", "0")); i > 0; i--) threads.emplace_back(often);
         for (auto &one : threads) one.join();
@@ -154,6 +197,12 @@ class Run {
         for (auto &it : gateway().streams().all()) all.push_back(Json::of(std::vector{Json::of(it.scope), Json::of(it.name), Json::of(it.unit)}));
         return Json::of(std::move(all));
     }
+    Json values(const Ask &ask) {
+        std::vector<Json> all;
+        auto rows = gateway().rows(ask);
+        for (size_t row = 0; row < rows.size(); row++) all.push_back(Json::number(std::to_string(rows.gauge(row).value)));
+        return Json::of(std::move(all));
+    }
     Json refused(const Json &it) {
         std::lock_guard<std::mutex> has(told.lock);
         std::vector<Json> all;
@@ -175,8 +224,8 @@ public:
         if (auto held = of.find("held")) options.cache = std::stoull(held->text);
         options.on_refused = [this](const Refusal &it) {
             std::lock_guard<std::mutex> has(told.lock);
-            if (it.count) told.refused.insert(reason_of(it.code));
-            else told.declared = reason_of(it.code);
+            if (it.of == RefusalOf::Instrument) told.declared = reason_of(it.code);
+            else told.refused.insert(reason_of(it.code));
         };
         Resource resource{word(of, "service", "shop"), {0, std::stoull(word(of, "instance", "1"))}};
         provider = std::make_unique<MeterProvider>(std::move(resource), std::move(options));
@@ -210,6 +259,7 @@ public:
         if (what == "streams") return streams();
         if (what == "table") return Json::of(gateway().table(ask(it["of"])));
         if (what == "value") return Json::number(std::to_string(gateway().rows(ask(it["of"])).gauge(0).value));
+        if (what == "values") return values(ask(it["of"]));
         if (what == "refused") return refused(it);
         if (what == "exported") return exported();
         if (what == "flush") return fails(it, provider->ForceFlush());
@@ -222,12 +272,6 @@ public:
         return it["is"];
     }
 };
-
-// Whether a case is one that C++ can't express: its counters take no number below 0.
-static bool is_signed(const Json &of) {
-    auto wants = of.find("wants");
-    return wants && *wants == Json::of(std::vector{Json::of(std::string("signed"))});
-}
 
 static std::string fault_of(Run &run, const Json &step) {
     auto wanted = step.find(step["do"].text == "declare" ? "refused" : "is");
@@ -247,7 +291,6 @@ int main(int, char **given) {
     int count = 0, failed = 0;
     const Json read = Parser(text).value();
     for (auto &one : read["cases"].list) {
-        if (is_signed(one)) continue;
         count++;
         Run run(one);
         for (auto &step : one["steps"].list) {

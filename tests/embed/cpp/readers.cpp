@@ -3,11 +3,13 @@
 #include <algorithm>
 #include <condition_variable>
 #include <cstdlib>
+#include <dirent.h>
 #include <fstream>
 #include <iterator>
 #include <kotskhin.hpp>
 #include <kotskhin/metrics.hpp>
 #include <sstream>
+#include <sys/stat.h>
 #ifdef WITH_CURL
 #include <arpa/inet.h>
 #include <kotskhin/metrics/http.hpp>
@@ -221,6 +223,83 @@ static void a_file_has_the_newest_export() {
     CHECK(throws<std::system_error>([&] { FileExporter("/nowhere/at/all").Export(provider.Collect()); }));
 }
 
+// A folder of a test's own.
+struct Folder {
+    std::string path = std::string(getenv("TMPDIR") ? getenv("TMPDIR") : "/tmp") + "/kotskhin-readers-XXXXXX";
+    Folder() { CHECK(mkdtemp(path.data())); }
+    ~Folder() {
+        for (auto &it : names()) std::remove((path + "/" + it).c_str());
+        rmdir(path.c_str());
+    }
+    Words names() const {
+        Words all;
+        std::unique_ptr<DIR, int (*)(DIR *)> folder(opendir(path.c_str()), closedir);
+        while (auto it = readdir(folder.get()))
+            if (it->d_name[0] != '.') all.push_back(it->d_name);
+        std::sort(all.begin(), all.end());
+        return all;
+    }
+};
+
+static void a_file_is_written_under_a_name_of_its_own() {
+    Folder folder;
+    std::string path = folder.path + "/export";
+    MeterProvider provider;
+    requests_of(provider)->Add(7);
+    Export given = provider.Collect();
+    auto mode = [&] {
+        struct stat told {};
+        CHECK(stat(path.c_str(), &told) == 0);
+        return told.st_mode & 0777;
+    };
+    for (mode_t mask : {0022, 0077, 0002}) {
+        mode_t before = umask(mask);
+        FileExporter(path).Export(given);
+        umask(before);
+        CHECK(mode() == (0666 & ~mask) && folder.names() == Words{"export"});
+    }
+    // Several threads that write one file: each time there is a whole one.
+    std::vector<std::thread> threads;
+    std::atomic<int> torn{0};
+    for (int of = 0; of < 4; of++) {
+        threads.emplace_back([&] {
+            FileExporter exporter(path);
+            for (int turn = 0; turn < 25; turn++) {
+                try {
+                    exporter.Export(given);
+                    std::ifstream file(path, std::ios::binary);
+                    torn += total(Export::decode(std::string(std::istreambuf_iterator<char>(file), {}))) != 7;
+                } catch (const std::exception &) {
+                    torn++;
+                }
+            }
+        });
+    }
+    for (auto &it : threads) it.join();
+    CHECK(torn == 0 && folder.names() == Words{"export"});
+    // What fails leaves nothing behind: a folder is in the way.
+    std::string taken = folder.path + "/taken";
+    CHECK(mkdir(taken.c_str(), 0700) == 0);
+    CHECK(throws<std::system_error>([&] { FileExporter(taken).Export(given); }) && (folder.names() == Words{"export", "taken"}));
+    CHECK(throws<std::runtime_error>(
+        [&] { FileExporter(path, [](const Export &) -> std::vector<uint8_t> { throw std::runtime_error("no bytes"); }).Export(given); }));
+    CHECK((folder.names() == Words{"export", "taken"}));
+}
+
+static void a_failure_that_no_hook_hears_is_written() {
+    std::ostringstream written;
+    auto before = std::cerr.rdbuf(written.rdbuf());
+    {
+        MeterProvider provider;
+        provider.AddMetricReader(
+            reader(std::make_unique<FunctionExporter>([](const Export &) { throw std::runtime_error("a\nb"); }), NEVER));
+        requests_of(provider)->Add(7);
+        CHECK(!provider.Shutdown() && provider.FailedCount() == 1);
+    }
+    std::cerr.rdbuf(before);
+    CHECK(written.str() == "kotskhin: an export failed: ab\n");
+}
+
 static void the_next_exporter_where_one_fails() {
     std::vector<int> asked, down;
     auto gateway = [&](int number) {
@@ -391,12 +470,12 @@ static void http_brings_an_export_and_tells_what_is_answered() {
     {
         Server server({"HTTP/1.1 200 OK\r\nContent-Length: 0\r\nConnection: close\r\n\r\n",
                        "HTTP/1.1 202 Fine\r\nContent-Length: 0\r\nConnection: close\r\n\r\n",
-                       "HTTP/1.1 503 Busy\r\nContent-Length: 0\r\nConnection: close\r\n\r\n", ""});
+                       "HTTP/1.1 503 Busy\r\nContent-Length: 0\r\nConnection: close\r\n\r\n", "",
+                       "HTTP/1.1 202 Fine\r\nContent-Length: 0\r\nConnection: close\r\n\r\n"});
         HttpExporter::Options options;
         options.headers = {"X-Shop: one"};
         HttpExporter::Options own;
         own.encode = own_bytes();
-        own.content_type = "application/octet-stream";
         HttpExporter exporter(server.url, options);
         exporter.Export(given);
         HttpExporter(server.url, own).Export(given);
@@ -408,6 +487,10 @@ static void http_brings_an_export_and_tells_what_is_answered() {
         }
         CHECK(said == server.url + " answered 503");
         CHECK(throws<std::runtime_error>([&] { exporter.Export(given); }));
+        HttpExporter::Options other;
+        other.encode = [](const Export &it) { return it.encode(); };
+        other.content_type = "application/mine";
+        HttpExporter(server.url, other).Export(given);
         server.thread.join();
         server.thread = std::thread([] {});
         const std::string &first = server.heard[0];
@@ -416,7 +499,8 @@ static void http_brings_an_export_and_tells_what_is_answered() {
         auto body = [](const std::string &request) { return request.substr(request.find("\r\n\r\n") + 4); };
         std::vector<Export> brought = Export::of_otlp(body(first));
         CHECK(brought.size() == 1 && total(brought[0]) == 7);
-        CHECK(server.heard[1].find("Content-Type: application/octet-stream\r\n") != std::string::npos);
+        CHECK(server.heard[1].find("Content-Type: application/vnd.kotskhin.export\r\n") != std::string::npos);
+        CHECK(server.heard[4].find("Content-Type: application/mine\r\n") != std::string::npos);
         CHECK(total(Export::decode(body(server.heard[1]))) == 7);
     }
     CHECK(throws<std::runtime_error>([&] { HttpExporter("file:///etc/passwd").Export(given); }));
@@ -462,6 +546,32 @@ static void http_tells_what_was_not_taken() {
     for (size_t turn = 0; turn < takes.size(); turn++) other.Export(given);
 }
 
+static void http_tells_why_it_was_refused() {
+    MeterProvider provider;
+    requests_of(provider)->Add(7);
+    Export given = provider.Collect();
+    auto refusal = [](const std::string &body) {
+        return "HTTP/1.1 403 No\r\nContent-Length: " + std::to_string(body.size()) + "\r\nConnection: close\r\n\r\n" + body;
+    };
+    std::string line = "the token does not speak for the service nope", wide = std::string(1023, 'x') + "\xc3\xa4";
+    const std::pair<std::string, std::string> bodies[] = {
+        {line, ": " + line}, {line + "\r\nand more", ": " + line},         {"a\x1b[2J\tb\x7f" + raw("\0"), ": a[2Jb"}, {"", ""},
+        {"\n", ""},          {MOST + MOST, ": " + std::string(1024, 'x')}, {wide, ": " + std::string(1023, 'x')}};
+    std::vector<std::string> answers;
+    for (auto &it : bodies) answers.push_back(refusal(it.first));
+    Server server(answers);
+    HttpExporter exporter(server.url);
+    for (auto &it : bodies) {
+        std::string said;
+        try {
+            exporter.Export(given);
+        } catch (const std::runtime_error &why) {
+            said = why.what();
+        }
+        CHECK(said == server.url + " answered 403" + it.second);
+    }
+}
+
 static void http_waits_no_longer_than_it_says() {
     int listening = socket(AF_INET, SOCK_STREAM, 0);
     sockaddr_in address{};
@@ -493,6 +603,8 @@ int main() {
         {"a hook may ask its provider", a_hook_may_ask_its_provider},
         {"a provider that is destroyed shuts down", a_provider_that_is_destroyed_shuts_down},
         {"a file has the newest export", a_file_has_the_newest_export},
+        {"a file is written under a name of its own", a_file_is_written_under_a_name_of_its_own},
+        {"a failure that no hook hears is written", a_failure_that_no_hook_hears_is_written},
         {"the next exporter where one fails", the_next_exporter_where_one_fails},
         {"points that were rejected are read", points_that_were_rejected_are_read},
         {"other answers say nothing", other_answers_say_nothing},
@@ -501,6 +613,7 @@ int main() {
 #ifdef WITH_CURL
         {"http brings an export, and tells what is answered", http_brings_an_export_and_tells_what_is_answered},
         {"http tells what was not taken", http_tells_what_was_not_taken},
+        {"http tells why it was refused", http_tells_why_it_was_refused},
         {"http waits no longer than it says", http_waits_no_longer_than_it_says},
 #endif
     });

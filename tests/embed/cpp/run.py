@@ -1,12 +1,14 @@
 #!/usr/bin/env python3
 """The C++ wrapper: one of its programs, compiled and run in each way that the machine has.
 
-    run.py FOLDER WHAT      FOLDER is what embed/build made; WHAT is cases, otel_cases, kit, otel, readers or page
+    run.py FOLDER WHAT      FOLDER is what embed/build made; WHAT is cases, otel_cases, kit, otel, plugin, forks, misuse, readers or page
 
-cases and otel_cases perform the lists that all languages share. kit is what C++ has words of its own for, otel OpenTelemetry's names, readers the periodic
-readers and exporters, with libcurl where it is. Each is compiled by g++ under AddressSanitizer and UBSan, and by clang++ plainly; those
-with threads of their own are run under ThreadSanitizer, too. page is the programs of docs/CPP.md: the first one, compiled by that page's
-line, and the third one print what it says; the second one, with libcurl, pushes to the first of several places that takes what it has.
+cases and otel_cases perform the lists that all languages share. kit is what C++ has words of its own for, otel OpenTelemetry's names, and
+then what plugin, forks and misuse are by themselves; readers is the periodic readers and exporters, with libcurl where it is. Each is
+compiled by g++ under AddressSanitizer and UBSan, and by clang++ plainly; those with threads of their own are run under ThreadSanitizer,
+too. plugin is run with libraries that it opens, forks without sanitizers (a fork amid threads may leave their own locks taken), and lines
+of misuse must not compile. page is the programs of docs/CPP.md: the first one, compiled by that page's line, and the third one print
+what it says; the second one, with libcurl, pushes to the first of several places that takes what it has.
 
 Headers come from FOLDER/include. It ends with a status other than 0 where one fails, or where something is not there that GATE_WITHOUT
 does not name."""
@@ -28,6 +30,8 @@ FLAGS = ["-std=c++17", "-Wall", "-Wextra", "-Wpedantic", "-Werror", "-g", "-O1"]
 ASAN = ["-O0", "-fsanitize=address,undefined", "-fno-sanitize-recover=all", "-fno-omit-frame-pointer"]
 TSAN = ["-fsanitize=thread"]
 THREADED = ("otel_cases", "otel", "readers")
+# What is run with another word, and what is run without sanitizers.
+WITH, PLAIN = {"otel": ("otel", "plugin", "forks", "misuse")}, ("forks",)
 WORDS = {it: [str(HERE.parent / f"{it}.json")] for it in ("cases", "otel_cases")}
 SECONDS = 1800
 
@@ -63,6 +67,28 @@ def ran(kit, room, compiler, source, flags, words=()):
     return done(built(kit, room, compiler, source, flags), *words)
 
 
+def plugin(kit, room, compiler, flags):
+    """What a program prints that opens libraries, whose statics are each one's own."""
+    libraries = [room / f"lib{visibility}.so" for visibility in ("hidden", "default")]
+    for library in libraries:
+        more = ["-shared", "-fPIC", f"-fvisibility={library.stem.removeprefix('lib')}", "-o", library]
+        done(compiler, *FLAGS, *flags, f"-I{kit}/include", HERE / "plugin_library.cpp", f"-L{kit}/lib", "-lkotskhin", "-pthread", *more)
+    return ran(kit, room, compiler, HERE / "plugin.cpp", [*flags, "-ldl"], libraries)
+
+
+def misuse(kit, compiler):
+    """What must not compile is refused, each line by the error that stands there."""
+    source = HERE / "misuse.cpp"
+    command = [str(it) for it in (compiler, "-std=c++17", "-fsyntax-only", f"-I{kit}/include", source)]
+    told = subprocess.run(command, stdin=subprocess.DEVNULL, capture_output=True, text=True, timeout=SECONDS, check=False).stderr
+    wanted = {number: it[1] for number, line in enumerate(source.open(encoding="utf-8"), 1) if (it := re.search("// error: (.*)", line))}
+    errors = [(file, int(line), why) for file, line, why in re.findall(r"^(.*?):(\d+):\d+: error: (.*)", told, re.M)]
+    is_good = all(file == str(source) and re.search(wanted.get(line, "(?!)"), why) for file, line, why in errors)
+    if not is_good or {line for _, line, _ in errors} != set(wanted):
+        sys.exit(f"{' '.join(command)}: not the errors that stand there alone\n{told}")
+    return f"{len(wanted)} lines are refused"
+
+
 def page(kit, room, compiler):
     """The programs of docs/CPP.md, and what the first and the third one print."""
     text = (TOP / "docs" / "CPP.md").read_text(encoding="utf-8")
@@ -88,18 +114,25 @@ def page(kit, room, compiler):
         sys.exit(f"docs/CPP.md: its second program: {fault}")
 
 
+def told_of(kit, room, what, compiler, flags):
+    """What one of the words comes to, by a compiler."""
+    if what == "page":
+        return page(kit, room, compiler) or what
+    if what == "plugin":
+        return plugin(kit, room, compiler, flags)
+    if what == "misuse":
+        return misuse(kit, compiler)
+    return ran(kit, room, compiler, HERE / f"{what}.cpp", flags, WORDS.get(what, ()))
+
+
 def main():
-    kit, what = pathlib.Path(sys.argv[1]).resolve(), sys.argv[2]
-    ways = [("g++", ASAN), ("clang++", [])] + [("clang++", TSAN)] * (what in THREADED)
+    kit, word = pathlib.Path(sys.argv[1]).resolve(), sys.argv[2]
     with tempfile.TemporaryDirectory() as made:
-        room = pathlib.Path(made)
-        for compiler, flags in ways:
-            if not there.has("C++", compiler):
-                continue
-            if what == "page":
-                page(kit, room, compiler)
-            else:
-                print(compiler, *flags, ran(kit, room, compiler, HERE / f"{what}.cpp", flags, WORDS.get(what, ())).strip())
+        for what in WITH.get(word, (word,)):
+            ways = [("g++", [] if what in PLAIN else ASAN), ("clang++", [])] + [("clang++", TSAN)] * (what in THREADED)
+            for compiler, flags in ways:
+                if there.has("C++", compiler):
+                    print(what, compiler, *flags, told_of(kit, pathlib.Path(made), what, compiler, flags).strip(), flush=True)
     return 0
 
 

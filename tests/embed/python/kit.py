@@ -9,6 +9,7 @@ import re
 import subprocess
 import sys
 import threading
+import time
 import unittest
 import uuid
 
@@ -290,6 +291,25 @@ class Archives(unittest.TestCase):
         self.assertEqual(self.keeper.head(), (1, 2))
         self.assertTrue(self.keeper.gateway().sum("app", "requests", "1").endswith("{}               1          0  7\n"))
 
+    def test_a_page_shows_the_live_metric(self):
+        """The page of a metric that an old plan had under another kind, before and after the old one is adopted by an archive of today."""
+        now = time.time_ns()
+        old = Writer(Plan([("app", "sales", "1", COUNTER)]), "shop", 1, now - 2)
+        live = Writer(Plan([("app", "sales", "1", UP_DOWN)]), "shop", 2, now - 1)
+        for writer in (old, live):
+            writer.measure(0, Attributes(), 7)
+            self.keeper.take(writer.collect(now))
+        archive, wanted = Archive("shop", 10), ["# TYPE sales gauge", 'sales{otel_scope_name="app",service_name="shop"} 7']
+        archive.adopt(self.keeper, "shop", 1, now - 2)
+        self.assertEqual(self.sales(), wanted)
+        self.keeper.take(archive.export(time.time_ns()))
+        self.assertEqual(self.sales(), wanted)
+
+    def sales(self):
+        """The lines of a page of that metric."""
+        page = self.keeper.gateway().openmetrics("shop")
+        return [line for line in page.splitlines() if line.startswith(("sales", "# TYPE sales"))]
+
     def test_a_seal_is_told(self):
         self.keeper.take(self.last(1))
         self.archive.adopt(self.keeper, "shop", 1, 100)
@@ -351,7 +371,7 @@ class Declared(unittest.TestCase):
     """What is declared is what the library says."""
 
     def test_version(self):
-        self.assertEqual(kotskhin.library.calls["kit_version"](), kotskhin.VERSION)
+        self.assertEqual(kotskhin.library.functions["kit_version"](), kotskhin.VERSION)
 
     def test_codes(self):
         self.assertEqual([kotskhin.code_text(number) for _, number, _, _ in CODES], [says for _, _, says, _ in CODES])
@@ -364,6 +384,13 @@ class Declared(unittest.TestCase):
             made = Refused(code)
             self.assertEqual(re.sub(r"(?<=[a-z])(?=[A-Z])", "_", type(made).__name__).upper(), code.name)
             self.assertIn(type(made).__name__, kotskhin.__all__)
+
+    def test_what_checkers_see_of_codes(self):
+        text = (EMBED / "python" / "kotskhin" / "errors.py").read_text(encoding="utf-8")
+        seen = re.findall(r"^        ([A-Z_]+) = (\d+)$", text, re.M)
+        self.assertEqual(seen, [(name, str(number)) for name, number, _, _ in CODES[1:]])
+        for name in kotskhin.__all__:
+            self.assertTrue(hasattr(kotskhin, name), name)
 
     def test_each_class_has_a_code(self):
         self.assertEqual(set(Refused.__subclasses__()), set(Refused._classes.values()))

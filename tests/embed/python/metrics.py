@@ -23,8 +23,8 @@ sys.path.insert(0, str(EMBED / "python"))
 import kotskhin
 from kotskhin import Ask, Export, Gateway
 from kotskhin.metrics import (
-    ConsoleMetricExporter, Counter, DropAggregation, ExplicitBucketHistogramAggregation, ExportFailed, FileExporter, Histogram,
-    FirstOf, HttpExporter, MeterProvider, NotTaken, PeriodicExportingMetricReader, ProviderStarted, Resource, SumAggregation, View,
+    ConsoleMetricExporter, Counter, DropAggregation, ExplicitBucketHistogramAggregation, ExportFailed, FileExporter, FirstOf,
+    Histogram, HttpExporter, HttpRefused, MeterProvider, NotTaken, PeriodicExportingMetricReader, ProviderStarted, Resource, SumAggregation, View,
 )
 
 SHOP = {"service.name": "shop"}
@@ -169,9 +169,6 @@ class Declaring(unittest.TestCase):
                 meter.create_counter(name, unit)
         with self.assertRaises(kotskhin.BadBounds):
             meter.create_histogram("size", explicit_bucket_boundaries_advisory=[2, 1])
-        for views, why in (([View(name="all")], kotskhin.WildcardRename), ([View(instrument_name="a", name="9")], kotskhin.BadRename)):
-            with self.assertRaises(why):
-                provider(views=views)
         with self.assertRaises(kotskhin.BadLimit):
             provider(limit=0)
         with self.assertRaises(ValueError):
@@ -189,16 +186,6 @@ class Declaring(unittest.TestCase):
         requests.add(3)
         self.assertEqual(totals(it), [({}, 3)])
         self.assertEqual([stream.scope for stream in it.streams], ["app"])
-
-    def test_what_the_whole_plan_refuses(self):
-        refused = []
-        it = provider(views=[View(instrument_name="a", name="b")], on_refused=refused.append)
-        one = it.get_meter("app").create_counter("a")
-        it.get_meter("app").create_counter("b")
-        with self.assertRaises(kotskhin.SameStream):
-            it.start()
-        one.add(1)
-        self.assertEqual([type(it.why) for it in refused], [kotskhin.SameStream])
 
     def test_resources(self):
         drawn = uuid.uuid4()
@@ -510,7 +497,7 @@ class Answers(unittest.TestCase):
                 self.assertEqual(self.said(body), wanted)
         for cut in range(1, len(good)):
             self.assertIsNone(self.said(good[:cut]), cut)
-        with self.assertRaisesRegex(urllib.error.HTTPError, "503"):
+        with self.assertRaisesRegex(HttpRefused, "^503 Service Unavailable: why$"):
             self.said(good, "2", 503)
 
     def test_exports(self):
@@ -592,7 +579,7 @@ class Exporters(unittest.TestCase):
                 it.shutdown()
             server.shutdown()
         types = [(headers["Content-Type"], headers["X-Key"]) for headers, _ in posted]
-        self.assertEqual(types, [("application/x-protobuf", "k")] * 4 + [("application/x-kotskhin", "k")] * 4)
+        self.assertEqual(types, [("application/x-protobuf", "k")] * 4 + [("application/vnd.kotskhin.export", "k")] * 4)
         self.assertEqual(rows_of(Export.of_otlp(posted[3][1])[0], Ask.sum("app", "requests", "")), [({}, 7)])
         self.assertEqual(rows_of(Export.decode(posted[7][1]), Ask.sum("app", "requests", "")), [({}, 7)])
 

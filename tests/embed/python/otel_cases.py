@@ -1,6 +1,7 @@
 #!/usr/bin/env python3
 """The cases that all languages share of OpenTelemetry's names (../otel_cases.json), performed over kotskhin.metrics. Ends with a status
 other than 0 where one differs."""
+import concurrent.futures
 import json
 import pathlib
 import sys
@@ -10,7 +11,7 @@ CASES = pathlib.Path(__file__).resolve().parents[1] / "otel_cases.json"
 sys.path.insert(0, str(pathlib.Path(__file__).resolve().parents[3] / "embed" / "python"))
 from kotskhin import Ask, Export, Gateway, Refused
 from kotskhin.metrics import (
-    Counter, DropAggregation, ExplicitBucketHistogramAggregation, Gauge, Histogram, LastValueAggregation, MeterProvider,
+    CardinalityLimit, Counter, DropAggregation, ExplicitBucketHistogramAggregation, Gauge, Histogram, LastValueAggregation, MeterProvider,
     PeriodicExportingMetricReader, ProviderStarted, UpDownCounter, View,
 )
 
@@ -31,13 +32,15 @@ def view(of):
 
 def reason(why):
     """Why a recording was refused, by the list's name."""
-    return why.name if isinstance(why, Refused) else "VALUE_TOO_WIDE" if isinstance(why, OverflowError) else repr(why)
+    return why.name if isinstance(why, (Refused, CardinalityLimit)) else "VALUE_TOO_WIDE" if isinstance(why, OverflowError) else repr(why)
 
 
 class Run:
     """A case: its provider, the instruments by their names, and what came of it."""
 
     def __init__(self, case):
+        # (the second thread of the case, which is there until its end)
+        self.other = concurrent.futures.ThreadPoolExecutor(1)
         self.things, self.told, self.brought, self.failures, self.is_failing, self.export = {}, [], [], [], False, None
         readers = [PeriodicExportingMetricReader(self.bring, NEVER, on_failed=self.failures.append)] if case.get("reader") else []
         resource = {"service.name": case.get("service", "shop"), "service.instance.id": case.get("instance", 1)}
@@ -75,7 +78,9 @@ class Run:
             thread.start()
         for thread in threads:
             thread.join()
-        if not threads:
+        if it.get("on") == "other":
+            self.other.submit(often).result()
+        elif not threads:
             often()
 
     def collect(self, it):
@@ -104,8 +109,11 @@ class Run:
     def table(self, it):
         return self.gateway().table(self.ask(it["of"]))
 
+    def values(self, it):
+        return [row.value for row in self.gateway().rows(self.ask(it["of"]))]
+
     def value(self, it):
-        return [row.value for row in self.gateway().rows(self.ask(it["of"]))][0]
+        return self.values(it)[0]
 
     def refused(self, it):
         told, self.told = sorted(set(self.told)), []
@@ -152,6 +160,7 @@ def main():
                 failed += 1
                 print(f"{case['name']}: {json.dumps(step, ensure_ascii=False)[:300]}: {fault}")
                 break
+        run.other.shutdown()
     print(f"{len(cases)} cases, {failed} failed")
     return 1 if failed else 0
 

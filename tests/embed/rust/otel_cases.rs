@@ -2,12 +2,13 @@
 use crate::json::Json;
 use crate::told;
 use kotskhin::otel::{
-    Aggregation, ExportError, Key, KeyValue, PeriodicReader, Refusal, Resource, SdkError,
+    Aggregation, ExportError, Key, KeyValue, PeriodicReader, Refusal, Refused, Resource, SdkError,
     SdkMeterProvider, Stream,
 };
 use kotskhin::{Ask, Error, Export, Gateway, Kind};
 use std::collections::{BTreeSet, HashMap};
 use std::sync::atomic::{AtomicBool, AtomicUsize, Ordering};
+use std::sync::mpsc::{self, Receiver, Sender};
 use std::sync::{Arc, Mutex, PoisonError};
 use std::time::Duration;
 use std::{fs, thread};
@@ -16,7 +17,7 @@ use std::{fs, thread};
 const NEVER: Duration = Duration::from_secs(86_400);
 
 /// What an instrument does with a value, as the list writes it.
-type Call = Box<dyn Fn(&str, &[KeyValue]) + Send + Sync>;
+type Call = Arc<dyn Fn(&str, &[KeyValue]) + Send + Sync>;
 
 /// What came of a case, as hooks and the exporter told it.
 #[derive(Default)]
@@ -31,10 +32,9 @@ struct Told {
 
 impl Told {
     fn refusal(&self, it: &Refusal) {
-        let reason = told::refusal(it.why).get("code").text().to_owned();
-        match it.count {
-            0 => *locked(&self.declared) = Some(reason),
-            _ => locked(&self.refused).push(reason),
+        match it.what {
+            Refused::Instrument => *locked(&self.declared) = Some(reason(it.why)),
+            _ => locked(&self.refused).push(reason(it.why)),
         }
     }
 
@@ -51,11 +51,41 @@ fn locked<T>(lock: &Mutex<T>) -> std::sync::MutexGuard<'_, T> {
     lock.lock().unwrap_or_else(PoisonError::into_inner)
 }
 
+fn reason(why: Error) -> String {
+    told::refusal(why).get("code").text().to_owned()
+}
+
+/// A second thread, which stays until its case ends.
+struct Other {
+    jobs: Sender<Box<dyn FnOnce() + Send>>,
+    done: Receiver<()>,
+}
+
+impl Other {
+    fn start() -> Other {
+        let (jobs, given) = mpsc::channel::<Box<dyn FnOnce() + Send>>();
+        let (tell, done) = mpsc::channel();
+        thread::spawn(move || {
+            for job in given {
+                job();
+                tell.send(()).expect("it is waited for");
+            }
+        });
+        Other { jobs, done }
+    }
+
+    fn call(&self, job: impl FnOnce() + Send + 'static) {
+        self.jobs.send(Box::new(job)).expect("the thread is there");
+        self.done.recv().expect("it ends");
+    }
+}
+
 struct Run {
     provider: SdkMeterProvider,
     told: Arc<Told>,
     calls: HashMap<String, Call>,
     export: Option<Export>,
+    other: Other,
 }
 
 fn number<T: std::str::FromStr>(of: &Json) -> T {
@@ -76,9 +106,11 @@ fn kind(of: &str) -> Kind {
     }
 }
 
-/// A view as the builder of a provider takes it: of which instruments it is, and the stream that it makes.
+/// A view as the builder of a provider takes it: of which instruments it is, and the stream that it makes. One that no instrument can have
+/// is refused where it is made, and is of none then.
 fn view(
     of: &Json,
+    told: &Told,
 ) -> impl Fn(&kotskhin::otel::Instrument) -> Option<Stream> + Send + Sync + 'static {
     let word = |name: &str| of.find(name).map(|it| it.text().to_owned());
     let (name, scope) = (word("name"), word("scope"));
@@ -102,12 +134,15 @@ fn view(
             boundaries: numbers(of.get("buckets")),
         },
     });
-    let made = made.build().expect("it is a stream");
+    let made = made.build();
+    if let Err(why) = made {
+        locked(&told.refused).push(reason(why));
+    }
     move |it| {
         let is_of = name.as_deref().is_none_or(|name| name == it.name())
             && scope.as_deref().is_none_or(|scope| scope == it.scope())
             && of_kind.is_none_or(|kind| kind == it.kind());
-        is_of.then(|| made.clone())
+        made.clone().ok().filter(|_| is_of)
     }
 }
 
@@ -156,7 +191,7 @@ impl Run {
             builder = builder.with_cache(number(held));
         }
         for it in case.find("views").map_or(&[][..], Json::list) {
-            builder = builder.with_view(view(it));
+            builder = builder.with_view(view(it, &told));
         }
         if case.find("reader").is_some() {
             let (takes, fails) = (Arc::clone(&told), Arc::clone(&told));
@@ -173,6 +208,7 @@ impl Run {
             told,
             calls: HashMap::new(),
             export: None,
+            other: Other::start(),
         }
     }
 
@@ -185,15 +221,15 @@ impl Run {
         let call: Call = match kind(it.get("kind").text()) {
             Kind::Counter => {
                 let made = meter.u64_counter(name).with_unit(unit).build();
-                Box::new(move |value, at| made.add(value.parse().expect("it is of u64"), at))
+                Arc::new(move |value, at| made.add(value.parse().expect("it is of u64"), at))
             }
             Kind::UpDown => {
                 let made = meter.i64_up_down_counter(name).with_unit(unit).build();
-                Box::new(move |value, at| made.add(value.parse().expect("it is of i64"), at))
+                Arc::new(move |value, at| made.add(value.parse().expect("it is of i64"), at))
             }
             Kind::Gauge => {
                 let made = meter.i64_gauge(name).with_unit(unit).build();
-                Box::new(move |value, at| made.record(value.parse().expect("it is of i64"), at))
+                Arc::new(move |value, at| made.record(value.parse().expect("it is of i64"), at))
             }
             _ => {
                 let mut made = meter.u64_histogram(name).with_unit(unit);
@@ -201,7 +237,7 @@ impl Run {
                     made = made.with_boundaries(numbers(bounds));
                 }
                 let made = made.build();
-                Box::new(move |value, at| made.record(value.parse().expect("it is of u64"), at))
+                Arc::new(move |value, at| made.record(value.parse().expect("it is of u64"), at))
             }
         };
         if let Some(name) = it.find("as") {
@@ -216,6 +252,12 @@ impl Run {
         let call = &self.calls[it.get("by").text()];
         let (value, at) = (it.get("value").text(), pairs(it.get("at")));
         let times: usize = it.find("times").map_or(1, number);
+        if it.find("on").is_some() {
+            let (call, value, at) = (Arc::clone(call), value.to_owned(), at.clone());
+            return self
+                .other
+                .call(move || (0..times).for_each(|_| call(&value, &at)));
+        }
         let often = || (0..times).for_each(|_| call(value, &at));
         let Some(threads) = it.find("threads") else {
             return often();
@@ -264,6 +306,24 @@ impl Run {
         }
     }
 
+    /// The values of all rows of a gauge.
+    fn values(&self, of: &Json) -> Result<Vec<i64>, Error> {
+        let rows = self.gateway()?.rows(&ask(of)?)?;
+        (0..rows.count()?)
+            .map(|row| Ok(rows.gauge(row)?.1))
+            .collect()
+    }
+
+    fn collect(&mut self, it: &Json) -> Json {
+        let made = self.provider.collect();
+        let is_as_told = made.is_err() == it.find("nothing").is_some();
+        self.export = made.ok();
+        match is_as_told {
+            true => Json::Null,
+            false => Json::Truth(self.export.is_some()),
+        }
+    }
+
     fn exported(&mut self) -> Result<Json, Error> {
         let brought = locked(&self.told.brought);
         if let Some(last) = brought.last() {
@@ -286,20 +346,12 @@ impl Run {
                 self.record(it);
                 Json::Null
             }
-            "collect" => {
-                let made = self.provider.collect();
-                let is_none = made.is_err() == it.find("nothing").is_some();
-                self.export = made.ok();
-                if is_none {
-                    Json::Null
-                } else {
-                    Json::Truth(self.export.is_some())
-                }
-            }
+            "collect" => self.collect(it),
             "head" => self.head()?,
             "streams" => self.streams()?,
             "table" => Json::Text(self.gateway()?.table(&ask(it.get("of"))?)?),
-            "value" => Json::number(self.gateway()?.rows(&ask(it.get("of"))?)?.gauge(0)?.1),
+            "value" => Json::number(self.values(it.get("of"))?[0]),
+            "values" => told::list(&self.values(it.get("of"))?),
             "refused" => self.refused(it),
             "flush" => fails(self.provider.force_flush()),
             "shutdown" => fails(self.provider.shutdown()),

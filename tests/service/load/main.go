@@ -68,7 +68,7 @@ func collected(writer int) []post {
 func posted(writer int, export kotskhin.Export) post {
 	switch *kind {
 	case "kit":
-		return post{*url + "/v1/exports", "application/x-kotskhin", must(export.Encode())}
+		return post{*url + "/v1/exports", "application/vnd.kotskhin.export", must(export.Encode())}
 	case "otlp":
 		return post{*url + "/v1/metrics", "application/x-protobuf", must(export.OTLP())}
 	}

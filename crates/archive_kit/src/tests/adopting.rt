@@ -1,8 +1,9 @@
 //! An archive at work: what its exports have, and each refusal.
-use super::builders::{Row, begun, both_adopted, held_sizes, made, taken, told, worker, writer};
-use crate::{AdoptFault, Archive, ExportRefusal, SealRefusal};
+use super::builders::{
+    Row, begun, both_adopted, held_sizes, made, taken, told, worker, workers, writer,
+};
+use crate::{AdoptFault, Archive, ExportRefusal, Keeper, SealRefusal};
 use attr_kit::{AttrSet, AttrValue, NoMemory};
-use gateway_kit::Gateway;
 use point_kit::{ExportPoint, Payload, WriterId};
 use std::alloc::Global;
 use std::test::Fail;
@@ -91,31 +92,31 @@ type Trial = (&'static str, u128, u64, Option<AdoptFault>);
 // What an archive answers where it is to adopt an incarnation.
 fn fault(
     archive: &mut Archive,
-    gateway: &Gateway,
+    keeper: &Keeper,
     writer: WriterId,
     start: u64,
 ) -> Option<AdoptFault> {
-    archive.adopt(gateway, &writer, start).err()
+    archive.adopt(keeper, &writer, start).err()
 }
 
 // Whether these come, one after the other.
 fn come(
     alloc: Global,
     archive: &mut Archive,
-    gateway: &Gateway,
+    keeper: &Keeper,
     trials: &[Trial],
 ) -> Result<bool, NoMemory> {
     for (service, instance, start, want) in trials {
         let writer = writer(alloc, service, *instance)?;
-        if fault(archive, gateway, writer, *start) != *want {
+        if fault(archive, keeper, writer, *start) != *want {
             return Ok(false);
         }
     }
     Ok(true)
 }
 
-// A gateway that holds an incarnation to adopt, one of a great total, one with a conflict, and one of two times.
-fn mixed(alloc: Global) -> Result<Gateway, Fail> {
+// A keeper that holds an incarnation to adopt, one of a great total, one with a conflict, and one of two times.
+fn mixed(alloc: Global) -> Result<Keeper, Fail> {
     let later = Row {
         all: false,
         ..worker(4, 201, 6)
@@ -132,7 +133,7 @@ fn mixed(alloc: Global) -> Result<Gateway, Fail> {
 }
 
 // Whether the first refusals come, each where none before it fits.
-fn come_early(alloc: Global, gateway: &Gateway) -> Result<bool, Fail> {
+fn come_early(alloc: Global, keeper: &Keeper) -> Result<bool, Fail> {
     let mut archive = begun(alloc, 9, 2)?;
     let trials = [
         ("till", 1, 100, Some(AdoptFault::OtherService)),
@@ -141,51 +142,66 @@ fn come_early(alloc: Global, gateway: &Gateway) -> Result<bool, Fail> {
         ("shop", 3, 100, Some(AdoptFault::Conflict)),
         ("shop", 4, 100, Some(AdoptFault::Torn)),
     ];
-    Ok(come(alloc, &mut archive, gateway, &trials)?)
+    Ok(come(alloc, &mut archive, keeper, &trials)?)
 }
 
 #[test]
 fn what_cannot_be_adopted_is_refused(rt: HostRuntime) -> Result<(), Fail> {
-    let gateway = mixed(rt.alloc())?;
-    assert!(rt; come_early(rt.alloc(), &gateway)?);
+    let keeper = mixed(rt.alloc())?;
+    assert!(rt; come_early(rt.alloc(), &keeper)?);
     Ok(())
 }
 
 // Whether the last ones come, and after them.
-fn come_late(alloc: Global, gateway: &Gateway) -> Result<bool, Fail> {
+fn come_late(alloc: Global, keeper: &Keeper) -> Result<bool, Fail> {
     let mut archive = begun(alloc, 9, 2)?;
     let trials = [
         ("shop", 1, 100, None),
         ("shop", 1, 100, Some(AdoptFault::Adopted)),
         ("shop", 2, 100, Some(AdoptFault::OutOfRange)),
     ];
-    Ok(come(alloc, &mut archive, gateway, &trials)?)
+    Ok(come(alloc, &mut archive, keeper, &trials)?)
 }
 
 // Whether a second total is too much for an archive of one.
-fn is_too_much(alloc: Global, gateway: &Gateway) -> Result<bool, Fail> {
+fn is_too_much(alloc: Global, keeper: &Keeper) -> Result<bool, Fail> {
     let mut archive = begun(alloc, 8, 1)?;
     let trials = [("shop", 1, 100, Some(AdoptFault::SetLimit))];
-    Ok(come(alloc, &mut archive, gateway, &trials)?)
+    Ok(come(alloc, &mut archive, keeper, &trials)?)
 }
 
 #[test]
 fn what_was_adopted_and_what_is_too_much_is_refused(rt: HostRuntime) -> Result<(), Fail> {
-    let gateway = mixed(rt.alloc())?;
-    assert!(rt; come_late(rt.alloc(), &gateway)? && is_too_much(rt.alloc(), &gateway)?);
+    let keeper = mixed(rt.alloc())?;
+    assert!(rt; come_late(rt.alloc(), &keeper)? && is_too_much(rt.alloc(), &keeper)?);
     Ok(())
 }
 
 // Whether another archive refuses the first one.
-fn is_refused(alloc: Global, gateway: &Gateway) -> Result<bool, Fail> {
+fn is_refused(alloc: Global, keeper: &Keeper) -> Result<bool, Fail> {
     let mut archive = begun(alloc, 8, 10)?;
     let trials = [("shop", 9, 1000, Some(AdoptFault::IsArchive))];
-    Ok(come(alloc, &mut archive, gateway, &trials)?)
+    Ok(come(alloc, &mut archive, keeper, &trials)?)
 }
 
 #[test]
 fn archives_are_not_adopted(rt: HostRuntime) -> Result<(), Fail> {
-    let gateway = taken(rt.alloc(), made(rt.alloc(), 2000)?)?;
-    assert!(rt; is_refused(rt.alloc(), &gateway)?);
+    let keeper = taken(rt.alloc(), made(rt.alloc(), 2000)?)?;
+    assert!(rt; is_refused(rt.alloc(), &keeper)?);
+    Ok(())
+}
+
+// Whether a fresh archive finds nothing of what another one adopted, once its export came to the keeper.
+fn is_gone(alloc: Global, keeper: &mut Keeper) -> Result<bool, Fail> {
+    keeper.take(&made(alloc, 2000)?)?;
+    let mut archive = begun(alloc, 8, 10)?;
+    let trials = [("shop", 1, 100, Some(AdoptFault::Nothing))];
+    Ok(come(alloc, &mut archive, keeper, &trials)?)
+}
+
+#[test]
+fn what_has_a_tombstone_is_not_adopted_again(rt: HostRuntime) -> Result<(), Fail> {
+    let mut keeper = told(rt.alloc(), &workers())?;
+    assert!(rt; is_gone(rt.alloc(), &mut keeper)?);
     Ok(())
 }

@@ -1,8 +1,7 @@
 //! Exports, gateways and archives for the tests.
-use crate::Archive;
 use crate::totals::push;
+use crate::{Archive, Keeper};
 use attr_kit::{AttrSet, AttrValue, NoMemory, Seq, Txt};
-use gateway_kit::Gateway;
 use point_kit::{Export, ExportPoint, Payload, Shape, SharedStream, Stream, WriterId};
 use std::alloc::Global;
 use std::test::Fail;
@@ -111,25 +110,25 @@ pub fn export(alloc: Global, row: Row) -> Result<Export, Fail> {
     Ok(Export::build(alloc, writer, row.start, row.time, Seq::from_vec(points))?)
 }
 
-fn tell(gateway: &mut Gateway, export: Export) -> Result<(), NoMemory> {
-    gateway.take(&export)?;
+fn tell(keeper: &mut Keeper, export: Export) -> Result<(), NoMemory> {
+    keeper.take(&export)?;
     Ok(())
 }
 
-/// A gateway that took one export.
-pub fn taken(alloc: Global, export: Export) -> Result<Gateway, NoMemory> {
-    let mut gateway = Gateway::new(alloc, 7);
-    tell(&mut gateway, export)?;
-    Ok(gateway)
+/// A keeper that took one export.
+pub fn taken(alloc: Global, export: Export) -> Result<Keeper, NoMemory> {
+    let mut keeper = Keeper::new(alloc, 7)?;
+    tell(&mut keeper, export)?;
+    Ok(keeper)
 }
 
-/// A gateway that took these exports, in this order.
-pub fn told(alloc: Global, rows: &[Row]) -> Result<Gateway, Fail> {
-    let mut gateway = Gateway::new(alloc, 7);
+/// A keeper that took these exports, in this order.
+pub fn told(alloc: Global, rows: &[Row]) -> Result<Keeper, Fail> {
+    let mut keeper = Keeper::new(alloc, 7)?;
     for row in rows {
-        tell(&mut gateway, export(alloc, *row)?)?;
+        tell(&mut keeper, export(alloc, *row)?)?;
     }
-    Ok(gateway)
+    Ok(keeper)
 }
 
 /// An archive of the shop that adopted nothing.
@@ -137,28 +136,23 @@ pub fn begun(alloc: Global, instance: u128, limit: usize) -> Result<Archive, NoM
     Archive::begin(alloc, writer(alloc, "shop", instance)?, 1000, limit)
 }
 
-fn adopt(
-    archive: &mut Archive,
-    gateway: &Gateway,
-    writer: WriterId,
-    start: u64,
-) -> Result<(), Fail> {
-    archive.adopt(gateway, &writer, start)?;
+fn adopt(archive: &mut Archive, keeper: &Keeper, writer: WriterId, start: u64) -> Result<(), Fail> {
+    archive.adopt(keeper, &writer, start)?;
     Ok(())
 }
 
-/// An archive that adopted these incarnations of a gateway.
+/// An archive that adopted these incarnations of a keeper.
 pub fn adopted(
     alloc: Global,
     instance: u128,
-    gateway: &Gateway,
+    keeper: &Keeper,
     adoptees: &[(u128, u64)],
 ) -> Result<Archive, Fail> {
     let mut archive = begun(alloc, instance, 10)?;
     for (adoptee, start) in adoptees {
         adopt(
             &mut archive,
-            gateway,
+            keeper,
             writer(alloc, "shop", *adoptee)?,
             *start,
         )?;
@@ -173,8 +167,8 @@ pub fn workers() -> [Row; 2] {
 
 /// An archive of instance 9 that adopted both workers.
 pub fn both_adopted(alloc: Global) -> Result<Archive, Fail> {
-    let gateway = told(alloc, &workers())?;
-    adopted(alloc, 9, &gateway, &[(1, 100), (2, 100)])
+    let keeper = told(alloc, &workers())?;
+    adopted(alloc, 9, &keeper, &[(1, 100), (2, 100)])
 }
 
 /// What an archive exports at a time.

@@ -139,8 +139,8 @@ fn show(alloc: Global, exports: &[Export], gateway: &Gateway) -> Result<bool, No
 
 // Whether keepers of these exports show what a gateway holds that took the archive's alone.
 fn show_archive(alloc: Global, exports: &[Export]) -> Result<bool, Fail> {
-    let gateway = taken(alloc, made(alloc, 2000)?)?;
-    Ok(show(alloc, exports, &gateway)?)
+    let keeper = taken(alloc, made(alloc, 2000)?)?;
+    Ok(show(alloc, exports, keeper.gateway())?)
 }
 
 #[test]
@@ -150,14 +150,14 @@ fn order_does_not_matter(rt: HostRuntime) -> Result<(), Fail> {
     Ok(())
 }
 
-// What an archive exports that adopted the first one, of which its gateway holds no tombstone.
+// What an archive exports that adopted the first one, of which its keeper holds no tombstone.
 fn made_of_archive(alloc: Global) -> Result<Export, Fail> {
     let plain = Row {
         start: 1000,
         ..worker(9, 2000, 13)
     };
-    let gateway = told(alloc, &[plain])?;
-    exported(adopted(alloc, 8, &gateway, &[(9, 1000)])?, 3000)
+    let other = told(alloc, &[plain])?;
+    exported(adopted(alloc, 8, &other, &[(9, 1000)])?, 3000)
 }
 
 // Whether the tombstones of a named archive stay: two of the first with two totals and one of the other.
@@ -182,24 +182,24 @@ fn a_named_archive_keeps_its_tombstones(rt: HostRuntime) -> Result<(), Fail> {
 fn made_of_one(
     alloc: Global,
     instance: u128,
-    gateway: &Gateway,
+    holder: &Keeper,
     worker: u128,
 ) -> Result<Export, Fail> {
-    exported(adopted(alloc, instance, gateway, &[(worker, 100)])?, 2000)
+    exported(adopted(alloc, instance, holder, &[(worker, 100)])?, 2000)
 }
 
 // Whether a worker that two archives adopted counts twice, and has two tombstones, which tell.
-fn count_twice(alloc: Global, keeper: &mut Keeper, gateway: &Gateway) -> Result<bool, Fail> {
+fn count_twice(alloc: Global, keeper: &mut Keeper, holder: &Keeper) -> Result<bool, Fail> {
     Ok(
         answers(
             keeper,
-            made_of_one(alloc, 7, gateway, 1)?,
+            made_of_one(alloc, 7, holder, 1)?,
             Taking::Taken(3),
             3,
             5,
         )? && answers(
             keeper,
-            made_of_one(alloc, 8, gateway, 1)?,
+            made_of_one(alloc, 8, holder, 1)?,
             Taking::Taken(3),
             6,
             10,
@@ -208,17 +208,17 @@ fn count_twice(alloc: Global, keeper: &mut Keeper, gateway: &Gateway) -> Result<
 }
 
 // Whether two archives under one identity and start lose a total, and a conflict tells.
-fn conflict(alloc: Global, keeper: &mut Keeper, gateway: &Gateway) -> Result<bool, Fail> {
+fn conflict(alloc: Global, keeper: &mut Keeper, holder: &Keeper) -> Result<bool, Fail> {
     Ok(
         answers(
             keeper,
-            made_of_one(alloc, 9, gateway, 1)?,
+            made_of_one(alloc, 9, holder, 1)?,
             Taking::Taken(3),
             3,
             5,
         )? && answers(
             keeper,
-            made_of_one(alloc, 9, gateway, 2)?,
+            made_of_one(alloc, 9, holder, 2)?,
             Taking::Taken(2),
             4,
             0,
@@ -227,16 +227,16 @@ fn conflict(alloc: Global, keeper: &mut Keeper, gateway: &Gateway) -> Result<boo
 }
 
 // Whether a new keeper tells of both.
-fn are_told(alloc: Global, gateway: &Gateway) -> Result<bool, Fail> {
+fn are_told(alloc: Global, holder: &Keeper) -> Result<bool, Fail> {
     Ok(
-        count_twice(alloc, &mut Keeper::new(alloc, 3)?, gateway)?
-            && conflict(alloc, &mut Keeper::new(alloc, 3)?, gateway)?,
+        count_twice(alloc, &mut Keeper::new(alloc, 3)?, holder)?
+            && conflict(alloc, &mut Keeper::new(alloc, 3)?, holder)?,
     )
 }
 
 #[test]
 fn archives_in_one_anothers_way_are_told(rt: HostRuntime) -> Result<(), Fail> {
-    let gateway = told(rt.alloc(), &workers())?;
-    assert!(rt; are_told(rt.alloc(), &gateway)?);
+    let holder = told(rt.alloc(), &workers())?;
+    assert!(rt; are_told(rt.alloc(), &holder)?);
     Ok(())
 }

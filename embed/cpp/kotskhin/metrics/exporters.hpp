@@ -2,9 +2,10 @@
 #pragma once
 #include "kotskhin/gateway.hpp"
 #include "kotskhin/metrics/answers.hpp"
+#include "kotskhin/writer.hpp"
 #include <cerrno>
 #include <cstdio>
-#include <cstring>
+#include <fcntl.h>
 #include <functional>
 #include <iostream>
 #include <memory>
@@ -91,37 +92,81 @@ public:
     }
 };
 
-// How an export goes as bytes.
-using Encode = std::function<std::vector<uint8_t>(const Export &)>;
+// How an export goes as bytes: by a function, whose bytes have a media type.
+struct Encode {
+    using Call = std::function<std::vector<uint8_t>(const Export &)>;
+    Call call;
+    std::string media_type;
+
+    template <typename Given, typename = std::enable_if_t<std::is_convertible_v<Given, Call>>>
+    Encode(Given call, std::string media_type = "application/octet-stream") : call(std::move(call)), media_type(std::move(media_type)) {}
+    std::vector<uint8_t> operator()(const Export &given) const { return call(given); }
+};
 
 // The kit's own bytes (docs/BYTES.md).
 inline Encode own_bytes() {
-    return [](const Export &given) { return given.encode(); };
+    return {[](const Export &given) { return given.encode(); }, "application/vnd.kotskhin.export"};
 }
 
 // A request of OTLP.
 inline Encode otlp() {
-    return [](const Export &given) { return given.otlp(); };
+    return {[](const Export &given) { return given.otlp(); }, "application/x-protobuf"};
 }
 
-// Writes each export into one file, in the place of the one before, which it covers. Who reads the file finds a whole one at any time.
+namespace detail {
+
+// A file that is written beside another, under a name that none has, and then takes its place; else it is taken away.
+class Beside {
+    std::string path;
+    int file = -1;
+
+    [[noreturn]] void failed() const { throw std::system_error(errno, std::generic_category(), path); }
+
+public:
+    // (of a mode that the umask says; who shares the folder from a container may have the same process id)
+    explicit Beside(const std::string &other) {
+        for (int turn = 0; file < 0; turn++) {
+            Instance drawn = unique_instance();
+            path = other + "." + std::to_string(drawn.high) + ".new";
+            file = open(path.c_str(), O_WRONLY | O_CREAT | O_EXCL | O_CLOEXEC, 0666);
+            if (file < 0 && (errno != EEXIST || turn > 9)) failed();
+        }
+    }
+    Beside(Beside &&) = delete;
+    ~Beside() {
+        if (file >= 0) close(file);
+        if (!path.empty()) unlink(path.c_str());
+    }
+    void write(const std::vector<uint8_t> &bytes) {
+        for (size_t done = 0; done < bytes.size();) {
+            ssize_t many = ::write(file, bytes.data() + done, bytes.size() - done);
+            if (many < 0 && errno != EINTR) failed();
+            if (many > 0) done += static_cast<size_t>(many);
+        }
+        if (fdatasync(file)) failed();
+        if (close(std::exchange(file, -1))) failed();
+    }
+    void replace(const std::string &other) {
+        if (std::rename(path.c_str(), other.c_str())) throw std::system_error(errno, std::generic_category(), other);
+        path.clear();
+    }
+};
+
+}  // namespace detail
+
+// Writes each export into one file, in the place of the one before, which it covers. Who reads the file finds a whole one at any time. The
+// file has the mode that the process' umask leaves of 0666.
 class FileExporter : public PushMetricExporter {
     std::string path;
     Encode encode;
-
-    [[noreturn]] static void failed(const std::string &what) { throw std::system_error(errno, std::generic_category(), what); }
 
 public:
     explicit FileExporter(std::string path, Encode encode = own_bytes()) : path(std::move(path)), encode(std::move(encode)) {}
     void Export(const kotskhin::Export &given) override {
         std::vector<uint8_t> bytes = encode(given);
-        std::string beside = path + ".new";
-        std::unique_ptr<FILE, int (*)(FILE *)> file(std::fopen(beside.c_str(), "wb"), std::fclose);
-        if (!file) failed(beside);
-        bool is_written = std::fwrite(bytes.data(), 1, bytes.size(), file.get()) == bytes.size();
-        if (!is_written || std::fflush(file.get()) || fdatasync(fileno(file.get()))) failed(beside);
-        if (std::fclose(file.release())) failed(beside);
-        if (std::rename(beside.c_str(), path.c_str())) failed(path);
+        detail::Beside beside(path);
+        beside.write(bytes);
+        beside.replace(path);
     }
 };
 

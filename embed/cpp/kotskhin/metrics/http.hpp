@@ -1,6 +1,7 @@
 // Exports by HTTP POST, over libcurl: link with -lcurl.
 #pragma once
 #include "kotskhin/metrics/exporters.hpp"
+#include "kotskhin/metrics/lines.hpp"
 #include <chrono>
 #include <curl/curl.h>
 #include <mutex>
@@ -8,7 +9,7 @@
 namespace kotskhin::metrics {
 
 // Sends each export as the body of a POST: a request of OTLP, as a Collector takes it at /v1/metrics. An answer other than 2xx is a
-// failure. One that says that some of the export was not taken fails as NotTaken.
+// failure, whose text has the first line of its body. One that says that some of the export was not taken fails as NotTaken.
 class HttpExporter : public PushMetricExporter {
 public:
     struct Options {
@@ -17,7 +18,8 @@ public:
         // Headers beside Content-Type, each as "name: value".
         std::vector<std::string> headers;
         Encode encode = otlp();
-        std::string content_type = "application/x-protobuf";
+        // The media type of the body, where it is another than that of `encode`.
+        std::string content_type = "";
     };
 
 private:
@@ -28,6 +30,11 @@ private:
     std::unique_ptr<CURL, void (*)(CURL *)> curl{nullptr, curl_easy_cleanup};
     std::unique_ptr<curl_slist, void (*)(curl_slist *)> headers{nullptr, curl_slist_free_all};
 
+    // What is told of an answer other than 2xx.
+    std::string refusal(long answered) const {
+        std::string told = url + " answered " + std::to_string(answered), why = detail::first_line(answer);
+        return why.empty() ? told : told + ": " + why;
+    }
     void set(CURLcode code) {
         if (code != CURLE_OK) throw std::runtime_error(std::string("kotskhin: curl: ") + curl_easy_strerror(code));
     }
@@ -64,7 +71,7 @@ public:
         std::call_once(once, [] { curl_global_init(CURL_GLOBAL_DEFAULT); });
         curl.reset(curl_easy_init());
         if (!curl) throw std::bad_alloc();
-        add("Content-Type: " + options.content_type);
+        add("Content-Type: " + (options.content_type.empty() ? options.encode.media_type : options.content_type));
         // (else curl waits for leave to send a long body)
         add("Expect:");
         for (auto &it : options.headers) add(it);
@@ -93,7 +100,7 @@ public:
         set(curl_easy_perform(curl.get()));
         long answered = 0;
         set(curl_easy_getinfo(curl.get(), CURLINFO_RESPONSE_CODE, &answered));
-        if (answered < 200 || answered > 299) throw std::runtime_error(url + " answered " + std::to_string(answered));
+        if (answered < 200 || answered > 299) throw std::runtime_error(refusal(answered));
         // (how exports go as bytes is a function's, so an answer is read either way)
         if (auto why = detail::points_not_taken(answer)) throw *why;
         if (late) throw NotTaken(0, late);

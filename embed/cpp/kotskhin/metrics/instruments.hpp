@@ -1,6 +1,7 @@
 // Meters and their instruments.
 #pragma once
 #include "kotskhin/metrics/shared.hpp"
+#include "kotskhin/metrics/whole.hpp"
 
 namespace kotskhin::metrics {
 
@@ -9,106 +10,109 @@ namespace detail {
 // An instrument that was declared, or the reason why it was not.
 class Part {
     std::shared_ptr<Shared> shared;
+    Kind kind;
     size_t number = 0;
     int32_t code = KIT_OK;
     std::string name;
     Place declared;
 
-    void refuse(int32_t why, std::optional<uint64_t> place, std::optional<uint64_t> second, uint64_t count) const noexcept {
+    void refuse(const Refused &why, uint64_t count, RefusalOf of) const noexcept { refuse(why.code, why.place, why.second, count, of); }
+    void refuse(int32_t why, std::optional<uint64_t> place, std::optional<uint64_t> second, uint64_t count, RefusalOf of) const noexcept {
         try {
-            shared->refuse({name, declared, why, place, second, count});
+            shared->refuse({name, declared, why, place, second, count, of});
         } catch (...) {
             // (no memory for the name)
-            shared->refuse({{}, declared, why, place, second, count});
+            shared->refuse({{}, declared, why, place, second, count, of});
         }
     }
 
 public:
-    Part(std::shared_ptr<Shared> of, Declared instrument, const std::optional<std::vector<int64_t>> &boundaries, Place declared)
-        : shared(std::move(of)), name(instrument.name), declared(declared) {
+    Part(std::shared_ptr<Shared> given, Declared instrument, const std::optional<std::vector<int64_t>> &boundaries, Place declared)
+        : shared(std::move(given)), kind(instrument.kind), name(instrument.name), declared(declared) {
+        std::vector<Refused> passed_over;
+        std::optional<Refused> why;
         try {
-            number = shared->declare(std::move(instrument), boundaries);
+            number = shared->declare(std::move(instrument), boundaries, passed_over);
         } catch (const Refused &refused) {
+            why = refused;
             code = refused.code;
-            refuse(code, refused.place, refused.second, 0);
         }
+        for (auto &view : passed_over) refuse(view, 0, RefusalOf::View);
+        if (why) refuse(*why, 0, RefusalOf::Instrument);
     }
 
 protected:
+    // A recording at attributes: a list, a map or another range of pairs.
     template <typename Given>
-    void note(int64_t value, const Given &attributes) const noexcept {
-        int32_t why = code;
+    void note(Whole value, const Given &attributes) const noexcept {
+        int32_t why = code == KIT_OK ? value.fault(kind) : code;
         std::optional<uint64_t> place;
         try {
-            if (why == KIT_OK) why = shared->record(At<Given>{number, attributes}, value);
+            if (why == KIT_OK) why = shared->record(At<Given>{number, kind == Kind::Gauge, attributes}, value.value());
         } catch (const Refused &refused) {
             why = refused.code;
             place = refused.place;
         } catch (...) {
             why = KIT_NO_MEMORY;
         }
-        if (why != KIT_OK) refuse(why, place, {}, 1);
-    }
-    template <typename Given>
-    void note(uint64_t value, const Given &attributes) const noexcept {
-        if (value > INT64_MAX) refuse(VALUE_TOO_WIDE, {}, {}, 1);
-        else note(static_cast<int64_t>(value), attributes);
+        if (why != KIT_OK) refuse(why, place, {}, 1, RefusalOf::Recordings);
     }
 };
 
-// How recordings are written down: attributes as a list, as a map or another range of pairs, or none.
-template <typename Value>
+// What is added to.
+class Adding : Part {
+public:
+    using Part::Part;
+    void Add(Whole value) const noexcept { note(value, PairsGiven{}); }
+    void Add(Whole value, PairsGiven attributes) const noexcept { note(value, attributes); }
+    template <typename Range, typename = std::enable_if_t<kotskhin::detail::is_pairs<Range>>>
+    void Add(Whole value, const Range &attributes) const noexcept {
+        note(value, attributes);
+    }
+};
+
+// What values are recorded by.
 class Recording : Part {
 public:
     using Part::Part;
-
-protected:
-    template <typename Given>
-    void told(Value value, const Given &attributes) const noexcept {
-        this->note(value, attributes);
+    void Record(Whole value) const noexcept { note(value, PairsGiven{}); }
+    void Record(Whole value, PairsGiven attributes) const noexcept { note(value, attributes); }
+    template <typename Range, typename = std::enable_if_t<kotskhin::detail::is_pairs<Range>>>
+    void Record(Whole value, const Range &attributes) const noexcept {
+        note(value, attributes);
     }
 };
 
 }  // namespace detail
 
+// (None is the base of another, nor is what they share a public one: a pointer to one instrument is none to another.)
+
 // Increments of at least 0.
 template <typename Value>
-class Counter : detail::Recording<Value> {
+class Counter : detail::Adding {
 public:
-    using detail::Recording<Value>::Recording;
-    void Add(Value value) const noexcept { this->told(value, PairsGiven{}); }
-    void Add(Value value, PairsGiven attributes) const noexcept { this->told(value, attributes); }
-    template <typename Range, typename = std::enable_if_t<kotskhin::detail::is_pairs<Range>>>
-    void Add(Value value, const Range &attributes) const noexcept {
-        this->told(value, attributes);
-    }
+    using detail::Adding::Add, detail::Adding::Adding;
 };
 
 // Increments of either sign.
 template <typename Value>
-class UpDownCounter : public Counter<Value> {
+class UpDownCounter : detail::Adding {
 public:
-    using Counter<Value>::Counter;
+    using detail::Adding::Add, detail::Adding::Adding;
 };
 
-// Values of which the last one counts.
+// Values of which the last one counts, whichever thread recorded it. Each goes to the writer at once.
 template <typename Value>
-class Gauge : detail::Recording<Value> {
+class Gauge : detail::Recording {
 public:
-    using detail::Recording<Value>::Recording;
-    void Record(Value value) const noexcept { this->told(value, PairsGiven{}); }
-    void Record(Value value, PairsGiven attributes) const noexcept { this->told(value, attributes); }
-    template <typename Range, typename = std::enable_if_t<kotskhin::detail::is_pairs<Range>>>
-    void Record(Value value, const Range &attributes) const noexcept {
-        this->told(value, attributes);
-    }
+    using detail::Recording::Record, detail::Recording::Recording;
 };
 
 // Values of at least 0 whose distribution counts.
 template <typename Value>
-class Histogram : public Gauge<Value> {
+class Histogram : detail::Recording {
 public:
-    using Gauge<Value>::Gauge;
+    using detail::Recording::Record, detail::Recording::Recording;
 };
 
 // Declares the instruments of one scope. Each is that which was declared before, where scope, name, unit and kind are the same. One that is

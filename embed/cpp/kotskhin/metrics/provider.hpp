@@ -6,7 +6,8 @@
 namespace kotskhin::metrics {
 
 // Makes meters, and brings what their instruments record to its readers (OpenTelemetry Metrics SDK, "MeterProvider"). Its destructor shuts
-// it down; instruments that outlast it are refused as KIT_CLOSED.
+// it down; instruments that outlast it are refused as KIT_CLOSED. It is of the process that makes it: in a fork of that one what is asked
+// of it is refused as FORKED.
 class MeterProvider {
     std::shared_ptr<detail::Shared> shared;
     mutable std::mutex lock;
@@ -19,9 +20,11 @@ class MeterProvider {
 
 public:
     explicit MeterProvider(Resource resource = {}, Options options = {})
-        : shared(std::make_shared<detail::Shared>(std::move(resource), std::move(options))) {}
+        : shared(detail::make_left_by_forks<detail::Shared>(std::move(resource), std::move(options))) {}
     MeterProvider(MeterProvider &&) = delete;
-    ~MeterProvider() { Shutdown(); }
+    ~MeterProvider() {
+        if (!shared->process.is_another()) Shutdown();
+    }
 
     // The meter of a scope.
     std::shared_ptr<Meter> GetMeter(std::string scope) const { return std::make_shared<Meter>(shared, std::move(scope)); }
@@ -34,6 +37,7 @@ public:
     }
     // A reader more, which has its thread from now on. Each collects by itself. Throws std::system_error where the system gives no thread.
     void AddMetricReader(std::unique_ptr<PeriodicExportingMetricReader> reader) {
+        shared->process.check();
         std::lock_guard<std::mutex> has(lock);
         readers.reserve(readers.size() + 1);
         reader->start(shared);
@@ -50,11 +54,12 @@ public:
     // Collects now for each reader, brings the export and flushes the exporter. Says whether all was brought in time; hooks are told why
     // not.
     bool ForceFlush(Micros wait = timeout) noexcept {
-        return each(wait, [](PeriodicExportingMetricReader &it, auto until) { return it.flush(until); });
+        return !shared->is_forked() && each(wait, [](PeriodicExportingMetricReader &it, auto until) { return it.flush(until); });
     }
     // Collects for the last time, brings that export by each reader and ends the exporters. From then on recordings are refused as
     // KIT_CLOSED. Says whether all was brought in time; hooks are told why not. Once more it does nothing, and says false.
     bool Shutdown(Micros wait = timeout) noexcept {
+        if (shared->is_forked()) return false;
         bool is_first = true;
         std::shared_ptr<const Export> last;
         try {
@@ -72,8 +77,9 @@ public:
 
     // How many recordings were refused so far. Those in logs are looked at once they are taken in.
     uint64_t RefusedCount() const { return shared->refused(); }
-    // How many exports failed so far, of all readers, or were not collected.
+    // How many exports failed so far, of all readers, or were not collected. This, and what is below, is 0 in a fork.
     uint64_t FailedCount() const {
+        if (shared->process.is_another()) return 0;
         std::lock_guard<std::mutex> has(lock);
         uint64_t count = 0;
         for (auto &it : readers) count += it->Failed();

@@ -1,6 +1,7 @@
 // A reader that collects once in an interval.
 #pragma once
 #include "kotskhin/metrics/exporters.hpp"
+#include "kotskhin/metrics/lines.hpp"
 #include "kotskhin/metrics/shared.hpp"
 #include <chrono>
 #include <condition_variable>
@@ -24,7 +25,7 @@ struct PeriodicExportingMetricReaderOptions {
     // How long an export may take. One that takes longer goes on and is told as failed, and until it ends nothing is collected.
     std::chrono::milliseconds export_timeout_millis{30'000};
     // What is told of each export that failed, on the reader's thread. What it throws is caught. It is not to flush or to shut down: that
-    // would wait for itself.
+    // would wait for itself. Without one each is a line on the standard error.
     std::function<void(const ExportFailure &)> on_failed;
 };
 
@@ -52,7 +53,7 @@ class Calls : public std::enable_shared_from_this<Calls> {
     std::function<void(PushMetricExporter &)> job;
     std::optional<Fault> fault;
     bool is_going = false, is_over = false;
-    std::thread thread;
+    OwnThread thread;
 
     void run() {
         std::unique_lock<std::mutex> has(lock);
@@ -81,7 +82,7 @@ class Calls : public std::enable_shared_from_this<Calls> {
 public:
     explicit Calls(std::unique_ptr<PushMetricExporter> exporter) : exporter(std::move(exporter)) {}
     void start() {
-        thread = std::thread([it = shared_from_this()] { it->run(); });
+        thread.thread = std::thread([it = shared_from_this()] { it->run(); });
     }
     // Whether no call goes on, once one has this long to end.
     bool is_free(Wait wait) {
@@ -108,9 +109,9 @@ public:
             is_done = !is_going;
             changed.notify_all();
         }
-        if (!thread.joinable()) return;
-        if (is_done) thread.join();
-        else thread.detach();
+        if (!thread.thread.joinable()) return;
+        if (is_done) thread.thread.join();
+        else thread.thread.detach();
     }
 };
 
@@ -144,7 +145,8 @@ class PeriodicExportingMetricReader {
         bool fails(detail::Fault fault, std::shared_ptr<const Export> unsent = nullptr) noexcept {
             failed.fetch_add(1, std::memory_order_relaxed);
             try {
-                if (options.on_failed) options.on_failed({std::move(fault.why), std::move(unsent), std::move(fault.not_taken)});
+                if (!options.on_failed) detail::tell_line("an export failed: " + fault.why);
+                else options.on_failed({std::move(fault.why), std::move(unsent), std::move(fault.not_taken)});
             } catch (...) {
             }
             return false;
@@ -208,16 +210,16 @@ class PeriodicExportingMetricReader {
     std::shared_ptr<State> state;
     // One thread at a time ends the reader's.
     std::mutex ending;
-    std::thread thread;
+    detail::OwnThread thread;
 
     void start(std::shared_ptr<Shared> shared) {
-        state = std::make_shared<State>();
+        state = detail::make_left_by_forks<State>();
         state->shared = std::move(shared);
         state->options = std::move(options);
-        state->calls = std::make_shared<detail::Calls>(std::move(exporter));
+        state->calls = detail::make_left_by_forks<detail::Calls>(std::move(exporter));
         state->calls->start();
         try {
-            thread = std::thread([it = state] { it->run(); });
+            thread.thread = std::thread([it = state] { it->run(); });
         } catch (...) {
             state->calls->end();
             throw;
@@ -234,16 +236,16 @@ class PeriodicExportingMetricReader {
     // A thread that does not answer in time goes on by itself.
     bool shutdown(std::shared_ptr<const Export> last, detail::Clock::time_point until) {
         std::lock_guard<std::mutex> ends(ending);
-        if (!thread.joinable()) return false;
+        if (!thread.thread.joinable()) return false;
         auto request = std::make_shared<Request>(Request{true, last});
         bool is_good = ask(request, until);
         std::unique_lock<std::mutex> has(state->lock);
         bool is_over = state->is_over;
         has.unlock();
         if (is_over) {
-            thread.join();
+            thread.thread.join();
         } else {
-            thread.detach();
+            thread.thread.detach();
             state->fails({"the exporter took longer than is allowed", {}}, last);
         }
         return is_good;
@@ -261,9 +263,10 @@ public:
     explicit PeriodicExportingMetricReader(std::function<void(const Export &)> exporter, Options options = {})
         : PeriodicExportingMetricReader(std::make_unique<FunctionExporter>(std::move(exporter)), std::move(options)) {}
     PeriodicExportingMetricReader(PeriodicExportingMetricReader &&) = delete;
-    // (its provider shut it down, but where the last collection was refused)
+    // (its provider shut it down, but where the last collection was refused; a fork has no such thread)
     ~PeriodicExportingMetricReader() {
-        if (thread.joinable()) shutdown(nullptr, detail::after(options.export_timeout_millis));
+        if (thread.thread.joinable() && !state->shared->process.is_another())
+            shutdown(nullptr, detail::after(options.export_timeout_millis));
     }
 
     // How many exports failed so far, or were not collected.

@@ -6,8 +6,9 @@
 namespace kotskhin::metrics {
 
 // Codes that are no library's: of an instrument that was declared after its provider started; of a value, or a whole number in attributes,
-// that is above 2^63 - 1, or negative where that can't be; of a provider that nothing started.
-enum : int32_t { DECLARED_LATE = -1, VALUE_TOO_WIDE = -2, NOT_STARTED = -3 };
+// that is above 2^63 - 1 (or below -2^63); of a provider that nothing started; of a stream with more sets of attributes than it has points
+// for; of a provider that another process made, of which this one is a fork.
+enum : int32_t { DECLARED_LATE = -1, VALUE_TOO_WIDE = -2, NOT_STARTED = -3, CARDINALITY_LIMIT = -4, FORKED = -5 };
 
 // What a code says: one of these, or of kotskhin.h.
 inline std::string reason(int32_t code) {
@@ -15,9 +16,14 @@ inline std::string reason(int32_t code) {
     case DECLARED_LATE: return "DECLARED_LATE: the provider had started before the instrument was declared";
     case VALUE_TOO_WIDE: return "VALUE_TOO_WIDE: a number is above 2^63 - 1, the greatest that is recorded";
     case NOT_STARTED: return "NOT_STARTED: the provider has not started";
+    case CARDINALITY_LIMIT: return "CARDINALITY_LIMIT: further sets are counted together, in the point otel.metric.overflow=true";
+    case FORKED: return "FORKED: the provider is of the process that made it, and not of that one's fork";
     default: return said(code);
     }
 }
+
+// The exception of a code that is no library's.
+inline Refused refused(int32_t code) { return Refused(code, reason(code)); }
 
 // A place in a program's text.
 struct Place {
@@ -26,22 +32,33 @@ struct Place {
     static constexpr Place here(const char *file = __builtin_FILE(), int line = __builtin_LINE()) { return {file, line}; }
 };
 
-// Recordings that were refused, or an instrument whose recordings all are.
+// What a refusal is of: recordings; an instrument, whose recordings all are refused; a view, which is passed over; a stream, whose further
+// sets are counted together; the provider.
+enum class RefusalOf : uint8_t { Recordings, Instrument, View, Stream, Provider };
+
+// What was refused.
 struct Refusal {
-    // The name of the instrument, or of the stream that would leave its range; empty where it is not known.
+    // The name of the instrument, or of the stream that would leave its range or its limit; empty where it is not known.
     std::string instrument;
     // Where the instrument was declared; no file where that is not known.
     Place declared;
-    // Why: of several recordings, why the first, with the places that the code tells.
+    // Why: of several recordings, why the first, with the places that the code tells. Of a view the place is its number, from 0.
     int32_t code;
     std::optional<uint64_t> place, second;
-    // How many recordings: none where an instrument is refused as it is declared.
+    // How many recordings: none where it is of none.
     uint64_t count;
+    RefusalOf of = RefusalOf::Recordings;
 
     std::string what() const {
-        std::string text = "'" + instrument + "'";
-        if (declared.file) text += ", declared at " + std::string(declared.file) + ":" + std::to_string(declared.line);
-        return text + (count ? ": " + std::to_string(count) + " refused: " : ", is refused: ") + reason(code);
+        std::string name = instrument.empty() ? "an instrument" : "'" + instrument + "'";
+        if (declared.file) name += ", declared at " + std::string(declared.file) + ":" + std::to_string(declared.line);
+        switch (of) {
+        case RefusalOf::Instrument: return name + ", is refused: " + reason(code);
+        case RefusalOf::View: return name + ": view " + std::to_string(place.value_or(0)) + " is passed over: " + reason(code);
+        case RefusalOf::Stream: return name + ": " + reason(code);
+        case RefusalOf::Provider: return reason(code);
+        default: return name + ": " + std::to_string(count) + " refused: " + reason(code);
+        }
     }
 };
 

@@ -1,8 +1,9 @@
 // What a provider, its instruments and its readers share; the logs of threads.
 #pragma once
 #include "kotskhin/metrics/attributes.hpp"
-#include "kotskhin/metrics/refusal.hpp"
-#include "kotskhin/metrics/views.hpp"
+#include "kotskhin/metrics/limits.hpp"
+#include "kotskhin/metrics/lines.hpp"
+#include "kotskhin/metrics/planned.hpp"
 #include "kotskhin/writer.hpp"
 #include <atomic>
 #include <memory>
@@ -28,7 +29,9 @@ struct Options {
     // How many pairs of an instrument and a set of attributes are held, so that recordings are by their numbers. What is held is given up
     // with the provider. Recordings at others are as exact, and take longer.
     size_t cache = 4096;
-    // What is told of each refusal, on the thread that records or collects. It is to be short. What it throws is caught.
+    // What is told of each refusal, on the thread that records or collects. It is to be short. What it throws is caught, and what is
+    // refused while it runs does not come to it. Without one the first refusal of each kind is a line on the standard error, and so are
+    // those.
     OnRefused on_refused;
 };
 
@@ -56,6 +59,7 @@ using Slot = std::shared_ptr<Log>;
 template <typename Given>
 struct At {
     size_t instrument;
+    bool is_of_gauge;
     const Given &attributes;
 
     void write(std::string &wanted) const {
@@ -78,6 +82,7 @@ struct At {
 // A provider that has started. Of its locks a thread takes first that of the writer, then that of the list of logs, then one log's, then
 // the cache's; with a log it only tries for the writer's.
 struct Started {
+    const Process process;
     std::mutex lock;
     Writer writer;
     // The last collection was made.
@@ -94,8 +99,8 @@ struct Started {
     Numbers cache;
     size_t cache_room;
 
-    Started(const Plan &plan, const Resource &resource, size_t cache_room)
-        : writer(plan, resource.service, resource.instance, now()), cache_room(cache_room) {
+    Started(Process process, const Plan &plan, const Resource &resource, size_t cache_room)
+        : process(process), writer(plan, resource.service, resource.instance, now()), cache_room(cache_room) {
         for (auto &it : plan.streams().all()) streams.push_back(it.name);
     }
 
@@ -174,9 +179,9 @@ struct Started {
     // The number of a pair: that which the cache has, or a new one where it has room and nobody has the writer, since a recording is not to
     // wait for it.
     template <typename Given>
-    std::optional<size_t> number_of(Log &log, const At<Given> &at, std::optional<Attributes> &set) {
+    std::optional<size_t> new_number_of(Log &log, const At<Given> &at, std::optional<Attributes> &set) {
         {
-            std::shared_lock<std::shared_mutex> has(cache_lock);
+            auto has = process.hold<std::shared_lock>(cache_lock);
             auto found = cache.find(log.wanted);
             if (found != cache.end()) return log.numbers.emplace(*found).first->second;
             set = at.set();
@@ -185,27 +190,44 @@ struct Started {
         std::unique_lock<std::mutex> has(lock, std::try_to_lock);
         if (!has) return {};
         // (others may have been first: who has the writer alone changes the cache)
-        std::unique_lock<std::shared_mutex> has_cache(cache_lock);
+        auto has_cache = process.hold(cache_lock);
         if (cache.size() >= cache_room) return {};
         size_t number = writer.hold(at.instrument, *set);
         cache.emplace(log.wanted, number);
         log.numbers.emplace(log.wanted, number);
         return number;
     }
+    // The number of a pair, whose log's lock is held; where it has none, its set.
+    template <typename Given>
+    std::optional<size_t> number_of(Log &log, const At<Given> &at, std::optional<Attributes> &set) {
+        at.write(log.wanted);
+        auto found = log.numbers.find(log.wanted);
+        return found != log.numbers.end() ? found->second : new_number_of(log, at, set);
+    }
 
     // Notes a value in a log, and answers its code.
     template <typename Given>
     int32_t note(Log &log, const At<Given> &at, int64_t value) {
-        std::lock_guard<std::mutex> has(log.lock);
+        auto has = process.hold(log.lock);
         if (log.is_closed) return KIT_CLOSED;
-        at.write(log.wanted);
-        std::optional<size_t> number;
         std::optional<Attributes> set;
-        auto found = log.numbers.find(log.wanted);
-        if (found != log.numbers.end()) number = found->second;
-        else number = number_of(log, at, set);
-        if (number) return kit_recorder_measure_held(log.recorder.raw().at(), *number, value);
+        if (auto number = number_of(log, at, set)) return kit_recorder_measure_held(log.recorder.raw().at(), *number, value);
         return kit_recorder_measure(log.recorder.raw().at(), at.instrument, set->raw().at(), value);
+    }
+    // Records a value at once, which waits for the writer. Of a gauge the last value counts, and values that wait in two logs have no
+    // order.
+    template <typename Given>
+    void record_now(Log &log, const At<Given> &at, int64_t value) {
+        process.check();
+        std::optional<Attributes> set;
+        std::optional<size_t> number;
+        {
+            std::lock_guard<std::mutex> has(log.lock);
+            number = number_of(log, at, set);
+        }
+        std::lock_guard<std::mutex> has(lock);
+        if (number) writer.measure_held(*number, value);
+        else writer.measure(at.instrument, *set, value);
     }
 };
 
@@ -214,17 +236,6 @@ class Shared;
 inline Log *of_this_thread(Shared &shared);
 
 class Shared : public std::enable_shared_from_this<Shared> {
-    static uint64_t next() {
-        static std::atomic<uint64_t> given{0};
-        return given++;
-    }
-
-    struct Instruments {
-        std::vector<Declared> list;
-        std::vector<std::vector<View>> views;
-        std::optional<Plan> plan;
-    };
-
     Options options;
     std::mutex declaring;
     std::vector<ViewOf> views;
@@ -233,80 +244,91 @@ class Shared : public std::enable_shared_from_this<Shared> {
     std::unique_ptr<Started> owned;
     bool is_closed_early = false;
     std::atomic<uint64_t> refusals{0};
+    std::atomic<bool> is_fork_told{false};
+    Lines lines;
+    Limits limits;
 
-    // The plan with one instrument more. A view of the kit is of a name and not of a unit, so where there are views one name has one.
-    Plan plan_with(const Declared &added, const std::vector<View> &of) const {
-        std::vector<Instrument> all;
-        Views made;
-        auto add = [&](const Declared &it, const std::vector<View> &streams) {
-            all.push_back({it.scope, it.name, it.unit, it.kind});
-            for (auto &view : streams) made.add(view.of(it));
-        };
-        for (size_t i = 0; i < instruments.list.size(); i++) {
-            bool is_viewed = !of.empty() || !instruments.views[i].empty();
-            if (is_viewed && instruments.list[i].is_named_as(added)) kotskhin::detail::refuse(KIT_SAME_STREAM, i, instruments.list.size());
-            add(instruments.list[i], instruments.views[i]);
+    // The views of an instrument that can be applied to it. Another is passed over, as if it was not there (OpenTelemetry Metrics SDK,
+    // "View"): which one, and why.
+    std::vector<View> views_of(const Declared &instrument, std::vector<Refused> &passed_over) const {
+        // (what is refused without a view is no view's fault)
+        Instruments().add(instrument, {}, options.limit);
+        std::vector<View> of;
+        for (size_t number = 0; number < views.size(); number++) {
+            if (!views[number].is_of(instrument)) continue;
+            try {
+                Instruments().add(instrument, {views[number].view}, options.limit);
+                of.push_back(views[number].view);
+            } catch (const NoMemory &) {
+                throw;
+            } catch (const Refused &why) {
+                passed_over.push_back(Refused(why.code, number));
+            }
         }
-        add(added, of);
-        return Plan::of(all, made, options.limit);
+        return of;
     }
 
 public:
-    const uint64_t number = next();
+    const Process process;
     const Resource resource;
 
     Shared(Resource resource, Options options) : options(std::move(options)), resource(std::move(resource)) {}
 
     uint64_t refused() const { return refusals.load(std::memory_order_relaxed); }
 
-    // Counts what is refused, and tells it. No lock is held.
+    // Counts what is refused, and tells it; in a fork once. No lock is held.
     void refuse(const Refusal &refusal) noexcept {
         refusals.fetch_add(refusal.count, std::memory_order_relaxed);
+        if (refusal.code == FORKED && is_fork_told.exchange(true)) return;
+        // (a hook that is refused itself would come here for ever)
+        static thread_local bool is_telling = false;
+        if (is_telling || !options.on_refused) return lines.tell(refusal);
+        is_telling = true;
         try {
-            if (options.on_refused) options.on_refused(refusal);
+            options.on_refused(refusal);
         } catch (...) {
         }
+        is_telling = false;
     }
     void refuse(const std::vector<Refusal> &list) noexcept {
         for (auto &it : list) refuse(it);
     }
+    // Whether this is a fork of the process that made the provider, which is told.
+    bool is_forked() noexcept {
+        if (!process.is_another()) return false;
+        refuse({{}, {}, FORKED, {}, {}, 0, RefusalOf::Provider});
+        return true;
+    }
 
     // From now on a view more. DECLARED_LATE where an instrument is there already.
     bool add_view(ViewOf view) {
+        process.check();
         std::lock_guard<std::mutex> has(declaring);
-        if (started || is_closed_early || !instruments.list.empty()) return false;
+        if (started || is_closed_early || !instruments.is_empty()) return false;
         views.push_back(std::move(view));
         return true;
     }
 
     // The number of an instrument, or the code of why it has none: that which it has where it was declared before.
-    size_t declare(Declared instrument, const std::optional<std::vector<int64_t>> &boundaries) {
+    size_t declare(Declared instrument, const std::optional<std::vector<int64_t>> &boundaries, std::vector<Refused> &passed_over) {
+        process.check();
         std::lock_guard<std::mutex> has(declaring);
-        auto is_same = [&](const Declared &it) { return it.is_named_as(instrument) && it.unit == instrument.unit; };
-        auto found = std::find_if(instruments.list.begin(), instruments.list.end(), is_same);
-        if (found != instruments.list.end()) return static_cast<size_t>(found - instruments.list.begin());
+        if (auto there = instruments.find(instrument)) return *there;
         if (is_closed_early) kotskhin::detail::refuse(KIT_CLOSED);
-        if (started) throw Refused(DECLARED_LATE);
-        std::vector<View> of;
-        for (auto &it : views) {
-            if (it.is_of(instrument)) of.push_back(it.view);
-        }
+        if (started) throw metrics::refused(DECLARED_LATE);
+        std::vector<View> of = views_of(instrument, passed_over);
         if (of.empty() && boundaries) of.push_back({"", Aggregation::AsKind, boundaries, {}});
-        Plan plan = plan_with(instrument, of);
-        instruments.list.push_back(std::move(instrument));
-        instruments.views.push_back(std::move(of));
-        instruments.plan = std::move(plan);
-        return instruments.list.size() - 1;
+        return instruments.add(std::move(instrument), std::move(of), options.limit);
     }
 
     // Starts, where that was not done.
     Started &start() {
         if (Started *there = started) return *there;
+        process.check();
         std::lock_guard<std::mutex> has(declaring);
         if (Started *there = started) return *there;
         if (is_closed_early) kotskhin::detail::refuse(KIT_CLOSED);
-        if (!instruments.plan) instruments.plan = Plan({}, options.limit);
-        owned = std::make_unique<Started>(*instruments.plan, resource, options.cache);
+        owned = std::make_unique<Started>(process, instruments.plan(options.limit), resource, options.cache);
         started = owned.get();
         return *owned;
     }
@@ -314,6 +336,7 @@ public:
 
     // A log for a thread.
     Slot new_slot() {
+        process.check();
         Started &at = start();
         auto made = std::make_shared<Log>(std::max<size_t>(options.log, 1));
         std::lock_guard<std::mutex> has(at.slots_lock);
@@ -322,19 +345,22 @@ public:
         return made;
     }
 
-    // Notes a value in this thread's log, and answers the code of why it is refused.
+    // Notes a value in this thread's log, or records that of a gauge, and answers the code of why it is refused.
     template <typename Given>
     int32_t record(const At<Given> &at, int64_t value) {
         Started &to = start();
         if (at.is_too_wide()) return VALUE_TOO_WIDE;
         Log *log = of_this_thread(*this);
         if (!log) {
+            process.check();
             std::lock_guard<std::mutex> has(to.lock);
             to.writer.measure(at.instrument, at.set(), value);
             return KIT_OK;
         }
+        if (at.is_of_gauge) return to.record_now(*log, at, value), KIT_OK;
         int32_t code = to.note(*log, at, value);
         if (code != KIT_RECORDER_FULL) return code;
+        process.check();
         std::optional<Refusal> told;
         {
             std::lock_guard<std::mutex> has(to.lock);
@@ -347,13 +373,15 @@ public:
     }
 
     Export collect() {
+        process.check();
         Started *at = started;
-        if (!at) throw Refused(is_closed() ? static_cast<int32_t>(KIT_CLOSED) : static_cast<int32_t>(NOT_STARTED));
-        std::vector<Refusal> told;
-        return with_told(told, [&] { return at->collect(told); });
+        if (!at && is_closed()) kotskhin::detail::refuse(KIT_CLOSED);
+        if (!at) throw metrics::refused(NOT_STARTED);
+        return with_told(*at, [&](auto &told) { return at->collect(told); });
     }
     // Collects for the last time: nothing is recorded from then on. There is no export where nothing was started.
     std::optional<Export> close() {
+        process.check();
         {
             std::lock_guard<std::mutex> has(declaring);
             if (is_closed_early) kotskhin::detail::refuse(KIT_CLOSED);
@@ -361,25 +389,24 @@ public:
             if (is_closed_early) return {};
         }
         Started *at = started;
-        std::vector<Refusal> told;
-        return with_told(told, [&] { return at->close(told); });
+        return with_told(*at, [&](auto &told) { return at->close(told); });
     }
-    // How many pairs are held; how many logs there are.
+    // How many pairs are held; how many logs there are. In a fork there are none.
     size_t cached() const {
         Started *at = started;
-        if (!at) return 0;
+        if (!at || process.is_another()) return 0;
         std::shared_lock<std::shared_mutex> has(at->cache_lock);
         return at->cache.size();
     }
     size_t logs() const {
         Started *at = started;
-        return at ? at->list().size() : 0;
+        return !at || process.is_another() ? 0 : at->list().size();
     }
 
     // Takes in the log of a thread that ends, where nobody has the writer: else the next collection does.
     void take_in_of_ending_thread(const Slot &slot) noexcept {
         Started *at = started;
-        if (!at) return;
+        if (!at || process.is_another()) return;
         std::optional<Refusal> told;
         try {
             std::unique_lock<std::mutex> has(at->lock, std::try_to_lock);
@@ -399,15 +426,25 @@ private:
         std::lock_guard<std::mutex> has(declaring);
         return is_closed_early;
     }
+    // A collection, and then what it tells.
     template <typename Call>
-    Export with_told(const std::vector<Refusal> &told, Call call) {
+    Export with_told(Started &at, Call call) {
+        std::vector<Refusal> told;
         try {
-            Export made = call();
+            Export made = call(told);
             refuse(told);
+            tell_limits(made, at);
             return made;
         } catch (...) {
             refuse(told);
             throw;
+        }
+    }
+    // (for want of memory the next collection tells it)
+    void tell_limits(const Export &made, const Started &at) noexcept {
+        try {
+            refuse(limits.beyond(made, options.limit, at.streams.size()));
+        } catch (...) {
         }
     }
 };
@@ -415,9 +452,13 @@ private:
 // The logs of one thread, and whose they are.
 struct Owns {
     struct Own {
-        uint64_t provider;
+        const Shared *of;
         std::weak_ptr<Shared> shared;
         Slot slot;
+
+        // (where it lasts nothing else is in its place; a number would be one of this library alone, which may have been opened at run
+        // time)
+        bool is_of(const Shared &other) const { return of == &other && !shared.expired(); }
     };
     std::vector<Own> list;
     bool *is_gone;
@@ -437,11 +478,11 @@ inline Log *of_this_thread(Shared &shared) {
     if (is_gone) return nullptr;
     static thread_local Owns own(&is_gone);
     for (auto &it : own.list) {
-        if (it.provider == shared.number) return it.slot.get();
+        if (it.is_of(shared)) return it.slot.get();
     }
     auto is_over = [](const Owns::Own &it) { return it.shared.expired(); };
     own.list.erase(std::remove_if(own.list.begin(), own.list.end(), is_over), own.list.end());
-    own.list.push_back({shared.number, shared.weak_from_this(), shared.new_slot()});
+    own.list.push_back({&shared, shared.weak_from_this(), shared.new_slot()});
     return own.list.back().slot.get();
 }
 

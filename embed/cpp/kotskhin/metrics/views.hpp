@@ -41,10 +41,11 @@ struct View {
     std::optional<std::vector<int64_t>> boundaries;
     std::optional<std::vector<std::string>> keys;
 
-    // The kit's view that makes this stream of an instrument.
-    kotskhin::View of(const Declared &instrument) const {
-        auto made = kotskhin::View::of_name(instrument.name).scope(instrument.scope).kind(instrument.kind);
+    // The kit's view that makes this stream of an instrument, which has this name in the plan.
+    kotskhin::View of(const Declared &instrument, const std::string &planned) const {
+        auto made = kotskhin::View::of_name(planned).scope(instrument.scope).kind(instrument.kind);
         if (!name.empty()) made.rename(name);
+        else if (planned != instrument.name) made.rename(instrument.name);
         if (keys) made.keep(*keys);
         if (boundaries) made.buckets(*boundaries);
         else made.aggregate(aggregation);

@@ -41,7 +41,12 @@ func loaded(t *testing.T, folder string) *process {
 	clock := time.Now()
 	r.held.Now = func() time.Time { return clock }
 	by := r.archivist()
-	return &process{r, t, func(length time.Duration) { clock = clock.Add(length); by.Turn(context.Background()) }}
+	return &process{r, t, func(length time.Duration) {
+		by.Turn(context.Background())
+		for end := clock.Add(length); clock.Before(end); by.Turn(context.Background()) {
+			clock = clock.Add(by.Every)
+		}
+	}}
 }
 
 // collected are the bytes of a worker's collection: each of so many sets has counted a value.

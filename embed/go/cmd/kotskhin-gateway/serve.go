@@ -43,10 +43,16 @@ type running struct {
 	gossip   *gossip.Gossip
 	server   *server.Server
 	figures  *figures.Figures
+	// The name of the folder of the state, and the peers that were seen before.
+	folder string
+	seen   []gossip.Seen
 }
 
 func serve(ctx context.Context, it *settings.Settings, log *logs.Logger) error {
 	r := &running{settings: it, log: log, figures: figures.New()}
+	if it.IsUnsafe {
+		log.Warn("it adopts earlier than is safe beside peers, as " + settings.Unsafe + " says: what a peer took may be hidden")
+	}
 	known, speaks, err := r.security()
 	if err != nil {
 		return err
@@ -69,7 +75,8 @@ func serve(ctx context.Context, it *settings.Settings, log *logs.Logger) error {
 	r.gossip = &gossip.Gossip{
 		Held: r.held, Log: log, Process: process, Peers: it.Peers, Interval: it.GossipInterval, LongestPause: it.GossipLongestPause,
 		Timeout: it.GossipTimeout, Refresh: it.PeerRefresh, TLS: towardsPeers(speaks),
-		Token: func() string { return known.Now().PeerToken() },
+		Token:  func() string { return known.Now().PeerToken() },
+		Folder: r.folder, Archives: it.Archive, Known: r.seen, Remember: func(all []gossip.Seen) error { return r.store.KeepPeers(all) },
 	}
 	r.server = &server.Server{
 		Held: r.held, Store: r.store, Gossip: r.gossip, Tokens: known, Figures: r.figures, Log: log, Process: process,
@@ -168,6 +175,13 @@ func (r *running) load() (err error) {
 			return err
 		}
 	}
+	if r.folder, err = r.store.Name(); err != nil {
+		// (a full disk lets a gateway begin all the same)
+		r.log.Error("the folder has no name, so peers know this gateway by its address", "folder", r.settings.State, "why", err)
+	}
+	if err := r.store.Peers(&r.seen); err != nil {
+		return err
+	}
 	gateway, err := kotskhin.OpenGateway(id)
 	if err != nil {
 		return err
@@ -177,8 +191,14 @@ func (r *running) load() (err error) {
 	if err := r.store.Load(merge, merge); err != nil {
 		return err
 	}
-	r.held, err = held.New(id, gateway, held.Limits{Points: r.settings.MaxPoints, Streams: r.settings.MaxStreams})
-	return err
+	if r.held, err = held.New(id, gateway, held.Limits{Points: r.settings.MaxPoints, Streams: r.settings.MaxStreams}); err != nil {
+		return err
+	}
+	r.held.TellDoubled(func(found held.Doubled) {
+		r.log.Error("two archives adopted one incarnation, so it counts twice: two gateways archived one service",
+			"incarnations", found.Count, "first", found.First)
+	})
+	return nil
 }
 
 // merged joins what was kept: an export, or what a gateway held. What can't be read changes nothing.
@@ -218,7 +238,9 @@ func (r *running) run(ctx context.Context, listener net.Listener, speaks *tls.Co
 	r.gossip.Begin(gossips)
 	saves, archives := make(chan struct{}), make(chan struct{})
 	go func() { defer close(saves); r.saveAgainAndAgain(gossips) }()
-	go func() { defer close(archives); r.archivist().Run(gossips) }()
+	archivist := r.archivist()
+	r.figures.Reads(archivist.Show)
+	go func() { defer close(archives); archivist.Run(gossips) }()
 	failed := make(chan error, 1)
 	go func() {
 		if speaks != nil {
@@ -245,7 +267,7 @@ func (r *running) archivist() *archivist.Archivist {
 	it := r.settings
 	return &archivist.Archivist{
 		Held: r.held, Store: r.store, Gossip: r.gossip, Figures: r.figures, Log: r.log,
-		Services: it.Archive, After: it.ArchiveAfter, Every: it.ArchiveEvery,
+		Services: it.Archive, After: it.ArchiveAfter, Every: it.Looks(),
 	}
 }
 
@@ -261,6 +283,7 @@ func (r *running) end(answers *http.Server, endGossip func()) error {
 	told, cancel := context.WithTimeout(context.Background(), patience)
 	defer cancel()
 	r.gossip.Last(told)
+	r.server.Tell()
 	err := r.store.Save(r.held.Encode)
 	r.log.Info("ended", "saved", r.store != nil && err == nil)
 	if err != nil && !errors.Is(err, context.Canceled) {

@@ -80,10 +80,13 @@ func freePort(t *testing.T) string {
 	return port
 }
 
+// early is an environment in which gateways may adopt beside peers earlier than is safe: a test has no time to wait.
+func early(name string) string { return map[string]string{settings.Unsafe: "1"}[name] }
+
 // begun is a gateway of these words, and what ends it and gives its error.
 func begun(t *testing.T, words ...string) func() error {
 	t.Helper()
-	it := must[*settings.Settings](t)(settings.Read(words, func(string) string { return "" }, io.Discard))
+	it := must[*settings.Settings](t)(settings.Read(words, early, io.Discard))
 	ctx, cancel := context.WithCancel(context.Background())
 	ended := make(chan error, 1)
 	go func() { ended <- serve(ctx, it, logs.New(io.Discard, logs.Error, false)) }()

@@ -1,8 +1,12 @@
 package archivist
 
 import (
+	"bytes"
 	"context"
+	"encoding/json"
 	"fmt"
+	"net/http"
+	"net/http/httptest"
 	"strings"
 	"sync"
 	"testing"
@@ -13,6 +17,7 @@ import (
 	"kotskhin/internal/figures"
 	"kotskhin/internal/gossip"
 	"kotskhin/internal/held"
+	"kotskhin/internal/logs"
 	"kotskhin/internal/store"
 )
 
@@ -42,6 +47,7 @@ func begun(t *testing.T) *trial {
 	made := &trial{t: t, held: h, clock: time.Now(), time: 200}
 	h.Now = func() time.Time { return made.clock }
 	made.by = &Archivist{Held: h, Gossip: &gossip.Gossip{Held: h}, Figures: figures.New(), Services: []string{"shop"}, After: time.Hour}
+	made.by.Every = 10 * time.Hour
 	return made
 }
 
@@ -247,7 +253,7 @@ func TestWhoReportsAgainIsNotAdopted(t *testing.T) {
 	r.take(r.collected(1, 100, 5))
 	r.take(r.collected(2, 100, 5))
 	r.clock = r.clock.Add(time.Hour)
-	ended := r.held.Ended("shop", time.Hour)
+	ended := r.held.Ended("shop", time.Hour, r.clock)
 	if len(ended) != 2 {
 		t.Fatal(ended)
 	}
@@ -356,4 +362,88 @@ func TestWhatIsAdoptedHidesNoMetric(t *testing.T) {
 	r.after(0)
 	r.shows(1+1+1, 1)
 	row()
+}
+
+// A process that was stopped for long hears its live workers again before it adopts anything, whatever waited for it in sockets.
+func TestAStopBeginsTheTimeAnew(t *testing.T) {
+	r := begun(t)
+	r.by.Every = time.Minute
+	// (the first worker lives, and pushes each ten minutes)
+	runs := func(minutes int) {
+		for minute := 1; minute <= minutes; minute++ {
+			if minute%10 == 0 {
+				r.take(r.collected(1, 100, 5))
+			}
+			r.after(time.Minute)
+		}
+	}
+	r.take(r.collected(1, 100, 5))
+	r.take(r.collected(2, 100, 5))
+	runs(59)
+	r.after(2*time.Minute + 1)
+	r.shows(10, 10)
+	runs(59)
+	r.after(time.Hour)
+	r.shows(10, 10)
+	runs(59)
+	r.shows(10, 10)
+	runs(1)
+	r.shows(5+5+1, 10)
+}
+
+// What is adopted had ended by the look's own time: a stop between the look and the adoption takes nobody for ended.
+func TestAStopWithinATurn(t *testing.T) {
+	r := begun(t)
+	r.by.Every = time.Minute
+	r.take(r.collected(1, 100, 5))
+	looks := 0
+	r.held.Now = func() time.Time {
+		if looks++; looks > 1 {
+			return r.clock.Add(2 * time.Hour)
+		}
+		return r.clock
+	}
+	r.clock = r.clock.Add(time.Minute)
+	r.by.Turn(context.Background())
+	r.shows(5, 5)
+	r.clock = r.clock.Add(time.Hour)
+	looks = 0
+	r.by.Turn(context.Background())
+	r.shows(5, 5)
+}
+
+// A peer that archives the same service: neither adopts, nor at once when the other one does not any more.
+func TestAnotherArchivistOfTheService(t *testing.T) {
+	r := begun(t)
+	var out bytes.Buffer
+	r.by.Log = logs.New(&out, logs.Warn, false)
+	who := gossip.Who{ID: 7, Process: "other", Archives: []string{"bank", "shop"}}
+	peer := httptest.NewServer(http.HandlerFunc(func(w http.ResponseWriter, _ *http.Request) { json.NewEncoder(w).Encode(who) }))
+	defer peer.Close()
+	alone := r.by.Gossip
+	r.by.Gossip = &gossip.Gossip{Held: r.held, Peers: []string{peer.URL}, Interval: time.Hour, LongestPause: time.Hour, Timeout: time.Minute}
+	ctx, end := context.WithCancel(context.Background())
+	r.by.Gossip.Begin(ctx)
+	for len(r.by.Gossip.Rivals("shop")) == 0 {
+		time.Sleep(time.Millisecond)
+	}
+	r.take(r.collected(1, 100, 5))
+	for turn := 0; turn < 3; turn++ {
+		r.after(30 * time.Second)
+	}
+	r.shows(5, 5)
+	r.by.Figures.Reads(r.by.Show)
+	if found := r.figure(`kotskhin_gateway_archivists_conflict{service="shop"}`); found != "1" {
+		t.Fatal(found)
+	}
+	if lines := strings.Count(out.String(), "another gateway archives this service"); lines != 2 {
+		t.Fatal(lines, out.String())
+	}
+	end()
+	r.by.Gossip.Wait()
+	r.by.Gossip = alone
+	r.after(time.Hour - time.Second)
+	r.shows(5, 5)
+	r.after(time.Second)
+	r.shows(5+1, 5)
 }

@@ -1,6 +1,11 @@
 package archivist
 
-import "kotskhin"
+import (
+	"time"
+
+	"kotskhin"
+	"kotskhin/internal/logs"
+)
 
 const (
 	// Most totals of an archive. An adoption copies all of them, and seeks those whose points stand in another order, while whoever brings
@@ -26,6 +31,9 @@ type shelf struct {
 	exported   uint64
 	// What can't be adopted as it is.
 	left map[kotskhin.Incarnation]bool
+	// Since when no other gateway archives it, as far as was looked, and when it was told that one does.
+	alone time.Time
+	told  logs.Seldom
 }
 
 func newShelf(service string) *shelf {

@@ -26,12 +26,15 @@ const (
 	Adopted    = "kotskhin_gateway_adopted"
 	NotAdopted = "kotskhin_gateway_not_adopted"
 	Sealed     = "kotskhin_gateway_archives_sealed"
+	Rivals     = "kotskhin_gateway_archivists_conflict"
+	Doubled    = "kotskhin_gateway_adopted_twice"
 	Bytes      = "kotskhin_gateway_received_bytes"
 	Seconds    = "kotskhin_gateway_request_seconds"
 	Held       = "kotskhin_gateway_held_points"
 	Streams    = "kotskhin_gateway_held_streams"
 	Resident   = "kotskhin_gateway_resident_bytes"
 	Lag        = "kotskhin_gateway_peer_lag_seconds"
+	Missing    = "kotskhin_gateway_peers_missing"
 	Messages   = "kotskhin_gateway_messages"
 	Failed     = "kotskhin_gateway_messages_failed"
 	Saved      = "kotskhin_gateway_state_saved_timestamp_seconds"
@@ -48,17 +51,20 @@ var families = []family{
 	{Seconds, "Seconds that requests took from their head to their answer, by path.", true},
 	{Exports, "Exports that were taken, by path.", true},
 	{Points, "Points of exports that were taken, by path.", true},
-	{PointsLost, "Points of OTLP that have no counterpart, and were left out.", true},
+	{PointsLost, "Points of OTLP that have no counterpart, and were left out, by service and reason.", true},
 	{Late, "Exports that came once their incarnation was adopted: nothing of them is taken, by path.", true},
 	{Adopted, "Incarnations that this gateway adopted, and forgot, by service.", true},
 	{NotAdopted, "Incarnations that had ended and could not be adopted, by reason.", true},
 	{Sealed, "Archives that this gateway filled, by service.", true},
+	{Rivals, "Peers that archive a service which this gateway archives, too: while there are any neither adopts, by service.", false},
+	{Doubled, "Incarnations that two archives adopted, so that they count twice.", false},
 	{Bytes, "Bytes of bodies that were read whole, by path.", true},
 	{Held, "Points that are held, as far as is known.", false},
 	{Streams, "Streams that are held, as far as is known.", false},
 	{Resident, "Memory of the process.", false},
 	{Connected, "Connections that are open.", false},
 	{Lag, "How long ago all was told that a peer has acknowledged.", false},
+	{Missing, "Peers that were listed once and are not any more: nothing is adopted until each is back, or named as gone.", false},
 	{Messages, "Messages that a peer acknowledged.", true},
 	{Failed, "Messages that a peer did not acknowledge.", true},
 	{Saved, "When the state was saved.", false},

@@ -26,14 +26,24 @@ type Gossip struct {
 	// Peers are URLs, and names with a port, which are looked up again and again: each address is a peer then.
 	Peers                                    []string
 	Interval, LongestPause, Timeout, Refresh time.Duration
+	// Folder is the name of that in which this gateway keeps its state; empty where it keeps none.
+	Folder string
+	// Archives are the services whose ended incarnations it adopts.
+	Archives []string
+	// Known are the peers that were seen before this start, and Remember keeps those that are seen; nil where nothing is kept.
+	Known    []Seen
+	Remember func(all []Seen) error
 	// Token is what this gateway shows to peers now; empty, and nil, is none.
 	Token func() string
 	// TLS says how to speak to peers that are looked up, and to those by https; nil without TLS.
 	TLS *tls.Config
 
-	began time.Time
-	lock  sync.Mutex
-	peers map[string]*peer
+	began  time.Time
+	roster *roster
+	lock   sync.Mutex
+	peers  map[string]*peer
+	// Names that could not be looked up the last time.
+	unresolved map[string]bool
 	// When a message of an id came last.
 	heard map[uint32]time.Time
 	ended sync.WaitGroup
@@ -42,6 +52,7 @@ type Gossip struct {
 // Begin begins to speak to the peers, until the context ends.
 func (g *Gossip) Begin(ctx context.Context) {
 	g.began, g.peers, g.heard = time.Now(), map[string]*peer{}, map[uint32]time.Time{}
+	g.roster, g.unresolved = newRoster(g.Known, g.Remember), map[string]bool{}
 	names := g.named()
 	g.set(ctx, g.found(ctx, names))
 	if len(names) == 0 {
@@ -88,6 +99,7 @@ func (g *Gossip) found(ctx context.Context, names []string) []target {
 	for _, it := range names {
 		host, port, _ := net.SplitHostPort(it)
 		addresses, err := net.DefaultResolver.LookupHost(ctx, host)
+		g.resolved(host, err == nil)
 		if err != nil && ctx.Err() == nil {
 			g.Log.Warn("a name of peers can't be looked up", "name", host, "why", err)
 			all = append(all, g.under(host)...)
@@ -97,6 +109,15 @@ func (g *Gossip) found(ctx context.Context, names []string) []target {
 		}
 	}
 	return all
+}
+
+func (g *Gossip) resolved(host string, is bool) {
+	g.lock.Lock()
+	defer g.lock.Unlock()
+	delete(g.unresolved, host)
+	if !is {
+		g.unresolved[host] = true
+	}
 }
 
 func (g *Gossip) under(name string) (all []target) {
@@ -112,6 +133,12 @@ func (g *Gossip) under(name string) (all []target) {
 
 // set begins to speak to peers that are new, and ends with those that are gone.
 func (g *Gossip) set(ctx context.Context, all []target) {
+	var urls []string
+	for _, it := range all {
+		urls = append(urls, it.url)
+	}
+	// (before any of them is spoken to: whoever is met stands in the place of an address)
+	g.noteSeen(g.roster.list(urls))
 	g.lock.Lock()
 	defer g.lock.Unlock()
 	wanted := map[string]bool{}
@@ -123,12 +150,20 @@ func (g *Gossip) set(ctx context.Context, all []target) {
 	}
 	for url, it := range g.peers {
 		if !wanted[url] {
-			g.Log.Info("a peer is gone", "peer", url)
+			g.noteUnlisted(it)
 			it.end()
 			it.client.CloseIdleConnections()
 			delete(g.peers, url)
 		}
 	}
+}
+
+func (g *Gossip) noteUnlisted(it *peer) {
+	if it.read().isSelf {
+		g.Log.Info("this gateway itself is not listed any more", "at", it.url)
+		return
+	}
+	g.Log.Warn("a peer is not listed any more: it counts as away until it is back, there or elsewhere, or named as gone", "peer", it.url)
 }
 
 func (g *Gossip) start(ctx context.Context, to target) *peer {
@@ -169,6 +204,10 @@ func (g *Gossip) States() []State {
 	for _, it := range g.all() {
 		states = append(states, it.state(g.began))
 	}
+	for _, it := range g.missing() {
+		why := "it is not listed any more: nothing is adopted until it is back, or named as gone"
+		states = append(states, State{URL: it.URL, State: Missing, Failure: why})
+	}
 	return states
 }
 
@@ -206,14 +245,35 @@ func (g *Gossip) Unheard() (urls []string) {
 	return urls
 }
 
-// Apart are the peers that are away, and those of which no message came for longer than pauses grow: what senders brought to them may not
-// be known here.
+// Apart are the peers that are away or missing, names that can't be looked up, and peers of which no message came for longer than pauses
+// grow: what senders brought to them may not be known here.
 func (g *Gossip) Apart() (urls []string) {
 	longest := 2*g.LongestPause + g.Timeout
 	for _, it := range g.all() {
 		known := it.read()
 		if !known.isSelf && (known.failures > 0 || known.process == "" || time.Since(g.heardAt(known.id)) > longest) {
 			urls = append(urls, it.url)
+		}
+	}
+	for _, it := range g.missing() {
+		urls = append(urls, it.URL)
+	}
+	g.lock.Lock()
+	defer g.lock.Unlock()
+	for name := range g.unresolved {
+		urls = append(urls, name)
+	}
+	return urls
+}
+
+// Rivals are the peers that adopt incarnations of a service, too.
+func (g *Gossip) Rivals(service string) (urls []string) {
+	for _, it := range g.all() {
+		known := it.read()
+		for _, other := range known.archives {
+			if other == service && !known.isSelf {
+				urls = append(urls, it.url)
+			}
 		}
 	}
 	return urls

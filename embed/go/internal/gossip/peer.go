@@ -28,6 +28,8 @@ type peer struct {
 type told struct {
 	id       uint32
 	process  string
+	folder   string
+	archives []string
 	isSelf   bool
 	failures int
 	err      error
@@ -45,6 +47,8 @@ type State struct {
 	Sent    uint64  `json:"messages"`
 	Failed  uint64  `json:"failed"`
 	Failure string  `json:"failure,omitempty"`
+	// Archives are the services whose ended incarnations it adopts.
+	Archives []string `json:"archives,omitempty"`
 }
 
 // States of a peer.
@@ -53,6 +57,8 @@ const (
 	Near = "near"
 	Away = "away"
 	Self = "self"
+	// Missing is a peer that was listed once, and is not any more.
+	Missing = "missing"
 )
 
 func (p *peer) read() told {
@@ -69,7 +75,7 @@ func (p *peer) note(change func(it *told)) {
 
 func (p *peer) state(began time.Time) State {
 	it := p.read()
-	made := State{URL: p.url, ID: it.id, State: Near, Sent: it.exchanges, Failed: it.allFailed}
+	made := State{URL: p.url, ID: it.id, State: Near, Sent: it.exchanges, Failed: it.allFailed, Archives: it.archives}
 	since := it.acked
 	if since.IsZero() {
 		since = began
@@ -199,8 +205,16 @@ func (g *Gossip) meet(ctx context.Context, p *peer) error {
 		g.Log.Error("two gateways drew one id: start one of them anew", "peer", p.url, "id", who.ID)
 		return fmt.Errorf("%s has the id %d of this gateway", p.url, who.ID)
 	}
-	p.note(func(it *told) { it.id, it.process, it.isSelf = who.ID, who.Process, who.Process == g.Process })
-	g.Log.Info("a peer is met", "peer", p.url, "id", who.ID, "self", who.Process == g.Process)
+	isSelf := who.Process == g.Process
+	if !isSelf && g.Folder != "" && who.Folder == g.Folder {
+		g.Log.Error("two gateways have one folder's name: one folder is a copy of the other, and wants its file `name` removed", "peer", p.url)
+		return fmt.Errorf("%s has a copy of the folder of this gateway", p.url)
+	}
+	g.noteSeen(g.roster.meet(Seen{URL: p.url, Folder: who.Folder}, isSelf))
+	p.note(func(it *told) {
+		it.id, it.process, it.isSelf, it.folder, it.archives = who.ID, who.Process, isSelf, who.Folder, who.Archives
+	})
+	g.Log.Info("a peer is met", "peer", p.url, "id", who.ID, "self", isSelf)
 	return nil
 }
 

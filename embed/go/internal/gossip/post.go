@@ -20,18 +20,26 @@ const IDHeader = "Kotskhin-Gateway"
 type Who struct {
 	ID uint32 `json:"id"`
 	// Process is drawn at each start, so that a gateway knows itself among its peers.
-	Process string  `json:"process"`
-	Peers   []State `json:"peers"`
+	Process string `json:"process"`
+	// Folder is the name of that in which it keeps its state, by which it is known again at another address.
+	Folder string `json:"folder,omitempty"`
+	// Archives are the services whose ended incarnations it adopts.
+	Archives []string `json:"archives,omitempty"`
+	Peers    []State  `json:"peers"`
 }
 
 // Paths of what gateways ask each other.
 const (
 	PeersPath    = "/v1/peers"
 	MessagesPath = "/v1/messages"
+	GonePath     = "/v1/gone"
 )
 
-// An answer of a peer is no longer than this.
-const mostAnswer = 1 << 20
+// An answer of a peer is no longer than this, and the name of a folder than that: it is kept.
+const (
+	mostAnswer = 1 << 20
+	mostName   = 64
+)
 
 func (g *Gossip) who(ctx context.Context, p *peer) (who Who, err error) {
 	status, body, _, err := g.ask(ctx, p, http.MethodGet, PeersPath, nil)
@@ -41,7 +49,7 @@ func (g *Gossip) who(ctx context.Context, p *peer) (who Who, err error) {
 	if status != http.StatusOK {
 		return who, fmt.Errorf("%s answers %d: %s", PeersPath, status, short(body))
 	}
-	if err := json.Unmarshal(body, &who); err != nil || who.Process == "" {
+	if err := json.Unmarshal(body, &who); err != nil || who.Process == "" || len(who.Folder) > mostName {
 		return who, fmt.Errorf("%s does not say who it is: %s", p.url, short(body))
 	}
 	return who, nil

@@ -6,9 +6,9 @@ import (
 	"kotskhin"
 )
 
-// Ended are the incarnations of a service of which nothing newer came for so long, by the clock of this gateway.
-func (h *Held) Ended(service string, length time.Duration) []kotskhin.Incarnation {
-	return h.counts.ended(service, length, h.Now())
+// Ended are the incarnations of a service of which nothing newer had come for so long at a time of this gateway's clock.
+func (h *Held) Ended(service string, length time.Duration, now time.Time) []kotskhin.Incarnation {
+	return h.counts.ended(service, length, now)
 }
 
 // Alone is what is held while nobody takes anything in.

@@ -70,12 +70,16 @@ func (b *Brought) Close() {
 // HasScope tells whether it has points of a scope.
 func (b *Brought) HasScope(scope string) (bool, error) {
 	streams, err := b.streams()
+	return hasScope(streams, scope), err
+}
+
+func hasScope(streams []kotskhin.Stream, scope string) bool {
 	for _, it := range streams {
 		if it.Scope == scope {
-			return true, nil
+			return true
 		}
 	}
-	return false, err
+	return false
 }
 
 // streams are those that it has points of.

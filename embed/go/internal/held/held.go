@@ -31,6 +31,7 @@ type Held struct {
 
 	looking sync.Mutex
 	last    *Look
+	census  census
 }
 
 // New holds what a gateway has under this id, and within limits.

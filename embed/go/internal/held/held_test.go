@@ -251,7 +251,7 @@ func TestTakesBesideLooks(t *testing.T) {
 func archived(t *testing.T, h *Held, length time.Duration) int {
 	t.Helper()
 	archive := must[kotskhin.Archive](t)(kotskhin.BeginArchive("shop", kotskhin.Instance{High: 1}, 1, 1000))
-	ended := h.Ended("shop", length)
+	ended := h.Ended("shop", length, h.Now())
 	if err := h.Alone(func(it Alone) error {
 		for _, one := range ended {
 			if err := archive.Adopt(it.Keeper, one.Service, one.Instance, one.Start); err != nil {
@@ -340,8 +340,62 @@ func TestWhatAPeerForgotIsNotKnown(t *testing.T) {
 	tell()
 	archived(t, one, 0)
 	tell()
-	if found := held(t, other); found != 7 || len(other.counts.of) != 1 || len(other.Ended("shop", 0)) != 1 {
+	if found := held(t, other); found != 7 || len(other.counts.of) != 1 || len(other.Ended("shop", 0, other.Now())) != 1 {
 		t.Fatal(found, other.counts.of)
+	}
+}
+
+// adopt has an archive of its own adopt an instance, and be forgotten.
+func adopt(t *testing.T, h *Held, archive, instance uint64) {
+	t.Helper()
+	made := must[kotskhin.Archive](t)(kotskhin.BeginArchive("shop", kotskhin.Instance{High: archive}, 1, 1000))
+	if err := h.Alone(func(it Alone) error {
+		if err := made.Adopt(it.Keeper, "shop", kotskhin.Instance{Low: instance}, 100); err != nil {
+			return err
+		}
+		return it.Forget(must[kotskhin.Export](t)(made.Export(1000)), nil)
+	}); err != nil {
+		t.Fatal(err)
+	}
+}
+
+// Two archives that adopt one incarnation, each at a gateway of its own, are told by both once they tell each other.
+func TestTwoTombstonesOfOneIncarnation(t *testing.T) {
+	one, other := opened(t, 1, wide), opened(t, 2, wide)
+	var told []Doubled
+	other.TellDoubled(func(found Doubled) { told = append(told, found) })
+	for _, h := range []*Held{one, other} {
+		if err := take(t, h, export(t, "requests", 1, 2, 200), export(t, "requests", 2, 2, 200)); err != nil {
+			t.Fatal(err)
+		}
+	}
+	for number, h := range []*Held{one, other} {
+		adopt(t, h, uint64(number)+1, 2)
+		if found := held(t, h); found != 2+2+1 || h.Doubled().Count != 0 {
+			t.Fatal(found, h.Doubled())
+		}
+	}
+	tell := func() {
+		t.Helper()
+		message := must[kotskhin.Message](t)(kotskhin.DecodeMessage(must[[]byte](t)(one.Tell(2))))
+		if err := one.Answered(must[[]byte](t)(other.Hand(message))); err != nil {
+			t.Fatal(err)
+		}
+		held(t, other)
+	}
+	tell()
+	if err := take(t, one, export(t, "requests", 3, 2, 200)); err != nil {
+		t.Fatal(err)
+	}
+	tell()
+	wanted := "instance=00000000-0000-0000-0000-000000000002, service=shop, start=100"
+	if len(told) != 1 || other.Doubled() != (Doubled{1, wanted}) || told[0] != other.Doubled() || one.Doubled().Count != 0 {
+		t.Fatal(told, other.Doubled(), one.Doubled())
+	}
+	// (whoever asks later is told at once)
+	other.TellDoubled(func(found Doubled) { told = append(told, found) })
+	if len(told) != 2 {
+		t.Fatal(told)
 	}
 }
 

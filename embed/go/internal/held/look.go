@@ -65,6 +65,8 @@ func (h *Held) look() (*Look, error) {
 		return nil, err
 	}
 	h.counts.recount(of, made.Streams, h.Now())
+	// (what can't be counted for want of memory is counted at the next look)
+	_ = h.census.count(gateway, made.Streams)
 	return made, nil
 }
 

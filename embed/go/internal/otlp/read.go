@@ -19,10 +19,16 @@ const mostScopes = 8
 // Read is what a request brings, and what of it is refused.
 type Read struct {
 	Exports []kotskhin.Export
-	// Refused is how many points were left out, and Why says the reasons.
+	// Refused is how many points were left out, and Why says the reasons. Left are the same, by service and reason.
 	Refused int
+	Left    map[Left]int
 	whys    map[kotskhin.Code]int
+	// The service of the resource that is read.
+	service string
 }
+
+// Left are points that were left out: of which service, as far as the resource says it, and why, in one word.
+type Left struct{ Service, Reason string }
 
 // Why says for which reasons points were refused.
 func (r *Read) Why() string {
@@ -51,9 +57,10 @@ func (r *Read) Close() {
 func (r *Read) refuse(points int, code kotskhin.Code) {
 	r.Refused += points
 	if r.whys == nil {
-		r.whys = map[kotskhin.Code]int{}
+		r.whys, r.Left = map[kotskhin.Code]int{}, map[Left]int{}
 	}
 	r.whys[code] += points
+	r.Left[Left{r.service, strings.ToLower(strings.TrimPrefix(code.Error(), "kotskhin: "))}] += points
 }
 
 // Of reads a request. An error says that nothing of it is read.
@@ -101,6 +108,7 @@ func (r *Read) addResource(resource []byte) error {
 	}); err != nil {
 		return err
 	}
+	r.service = serviceOf(head)
 	if code, err := probed(appendBytes(nil, requestResources, head)); code != 0 || err != nil {
 		return r.refuseAll(resource, code, err)
 	}

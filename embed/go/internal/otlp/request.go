@@ -5,6 +5,10 @@ const (
 	requestResources = 1
 	resourceHead     = 1
 	resourceScopes   = 2
+	headAttributes   = 1
+	pairKey          = 1
+	pairValue        = 2
+	valueText        = 1
 	scopeHead        = 1
 	scopeMetrics     = 2
 	scopeName        = 1
@@ -50,4 +54,32 @@ func pointsUnder(resource []byte) (count int, err error) {
 		return err
 	})
 	return count, err
+}
+
+// serviceOf is the name of a resource's service; nothing where it says none. It is for who reads a log, so bytes that are refused elsewhere
+// say nothing here.
+func serviceOf(resource []byte) (name string) {
+	_ = messages(resource, resourceHead, func(head []byte) error {
+		return messages(head, headAttributes, func(pair []byte) error {
+			if key, value := textsOf(pair); key == "service.name" && name == "" {
+				name = value
+			}
+			return nil
+		})
+	})
+	return name
+}
+
+// textsOf are the key of an attribute, and its value where that is a text.
+func textsOf(pair []byte) (key, value string) {
+	_ = each(pair, func(it field) error {
+		switch {
+		case it.wire == wireBytes && it.number == pairKey:
+			key = string(it.content)
+		case it.wire == wireBytes && it.number == pairValue:
+			_ = messages(it.content, valueText, func(text []byte) error { value = string(text); return nil })
+		}
+		return nil
+	})
+	return key, value
 }

@@ -12,17 +12,10 @@ import (
 	"kotskhin/internal/held"
 )
 
-// Words for the shapes of streams.
-var shapes = map[kotskhin.Shape]string{
-	kotskhin.MonotonicSum: "counter", kotskhin.NonMonotonicSum: "updown", kotskhin.GaugeShape: "gauge", kotskhin.HistogramShape: "histogram",
-}
-
 // asked is the ask of a query, and its stream: the one stream that has all that the query says of it.
 func asked(look *held.Look, query url.Values) (ask kotskhin.Ask, stream kotskhin.Stream, err error) {
-	for name := range query {
-		if !strings.Contains(" scope name unit shape bounds service where keep ", " "+name+" ") {
-			return ask, stream, badQuery("there is no %q: scope, name, unit, shape, bounds, service, where and keep", name)
-		}
+	if err = isAsk(query); err != nil {
+		return ask, stream, err
 	}
 	if stream, err = fitting(look.Streams, query); err != nil {
 		return ask, stream, err
@@ -45,6 +38,43 @@ func asked(look *held.Look, query url.Values) (ask kotskhin.Ask, stream kotskhin
 	return ask, stream, err
 }
 
+// isAsk refuses words that no ask has, one that comes twice and may not, and what names no attribute or no key.
+func isAsk(query url.Values) error {
+	for name, values := range query {
+		if !strings.Contains(" scope name unit shape bounds service where keep ", " "+name+" ") {
+			return badQuery("there is no %q: scope, name, unit, shape, bounds, service, where and keep", name)
+		}
+		if len(values) > 1 && name != "where" && name != "keep" {
+			return badQuery("%s comes %d times, and may come once", name, len(values))
+		}
+	}
+	for _, word := range query["where"] {
+		if key, _, is := strings.Cut(word, "="); !is || key == "" {
+			return badQuery("where=%s names no attribute: it wants a key, = and a value, as where=route=/pay", word)
+		}
+	}
+	return areKeys(query["keep"])
+}
+
+// areKeys refuses what can be no list of keys. An empty one keeps none.
+func areKeys(words []string) error {
+	seen := map[string]bool{}
+	for _, word := range words {
+		for _, key := range strings.Split(word, ",") {
+			switch {
+			case key == "" && (word != "" || len(words) > 1):
+				return badQuery("keep=%s has an empty key", word)
+			case strings.Contains(key, "="):
+				return badQuery("keep=%s: keys are kept, and have no value; where=%s chooses points", word, key)
+			case seen[key]:
+				return badQuery("keep has the key %s twice", key)
+			}
+			seen[key] = true
+		}
+	}
+	return nil
+}
+
 func badQuery(form string, values ...any) error {
 	return refusal{http.StatusBadRequest, "query", fmt.Sprintf(form, values...)}
 }
@@ -61,12 +91,17 @@ func askOf(it kotskhin.Stream) (kotskhin.Ask, error) {
 
 // fitting is the one stream that a query means.
 func fitting(streams []kotskhin.Stream, query url.Values) (kotskhin.Stream, error) {
+	shape, err := shapeOf(query.Get("shape"), query.Has("shape"), query.Get("bounds"), query.Has("bounds"))
+	if err != nil {
+		return kotskhin.Stream{}, err
+	}
 	var found []kotskhin.Stream
 	for _, it := range streams {
-		if fits(it, query) {
+		if fits(it, query) && shape.fits(it) {
 			found = append(found, it)
 		}
 	}
+	found = shape.preferred(found)
 	switch len(found) {
 	case 0:
 		return kotskhin.Stream{}, refusal{http.StatusNotFound, "no_stream", "there is no such stream: /v1/streams lists those that there are"}
@@ -88,25 +123,12 @@ func least(a, b int) int {
 }
 
 func fits(it kotskhin.Stream, query url.Values) bool {
-	for name, is := range map[string]string{
-		"scope": it.Scope, "name": it.Name, "unit": it.Unit, "shape": shapes[it.Shape], "bounds": strings.TrimPrefix(boundsOf(it), ":"),
-	} {
+	for name, is := range map[string]string{"scope": it.Scope, "name": it.Name, "unit": it.Unit} {
 		if query.Has(name) && query.Get(name) != is {
 			return false
 		}
 	}
 	return true
-}
-
-func boundsOf(it kotskhin.Stream) string {
-	if it.Shape != kotskhin.HistogramShape {
-		return ""
-	}
-	var words []string
-	for _, bound := range it.Bounds {
-		words = append(words, strconv.FormatInt(bound, 10))
-	}
-	return ":" + strings.Join(words, ",")
 }
 
 // pairsOf are attributes as scripts write them: whole numbers and truths are such, all else is a text, and so is what stands in quotes.

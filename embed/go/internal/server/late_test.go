@@ -3,6 +3,8 @@ package server
 import (
 	"bytes"
 	"context"
+	"encoding/binary"
+	"hash/adler32"
 	"net/http"
 	"os"
 	"path/filepath"
@@ -28,6 +30,7 @@ func archived(t *testing.T, change func(s *Server)) (s *Server, url string, afte
 		}
 	})
 	by := &archivist.Archivist{Held: s.Held, Gossip: s.Gossip, Figures: s.Figures, Services: []string{"shop"}, After: time.Hour}
+	by.Every = time.Hour
 	return s, url, func(length time.Duration) {
 		clock = clock.Add(length)
 		by.Turn(context.Background())
@@ -122,19 +125,6 @@ func TestLateByOTLP(t *testing.T) {
 	}
 }
 
-func TestWhatComesOftenIsLoggedSeldom(t *testing.T) {
-	var s seldom
-	now := time.Now()
-	for _, it := range []struct {
-		after  time.Duration
-		wanted int
-	}{{0, 1}, {1, 0}, {pause - 1, 0}, {pause, 3}, {2*pause - 1, 0}, {3 * pause, 2}} {
-		if count, may := s.add(1, now.Add(it.after)); count != it.wanted || may != (it.wanted > 0) {
-			t.Fatal(it, count, may)
-		}
-	}
-}
-
 // archive is the export of an archive of the service shop that adopted the instance 1, which had counted 3 by then.
 func archive(t *testing.T) kotskhin.Export {
 	t.Helper()
@@ -149,16 +139,19 @@ func archive(t *testing.T) kotskhin.Export {
 	return must[kotskhin.Export](t)(made.Export(200))
 }
 
-// forged is what no archive exports: the same under the service till, with a tombstone that names an incarnation of the service shop. Its
-// service is the first text of a request of OTLP that says shop.
+// forged is what no archive exports: the same under the service till, with a tombstone that names an incarnation of the service shop. The
+// service stands first in the bytes, the attribute only names it there, and they end with their checksum (docs/BYTES.md).
 func forged(t *testing.T) kotskhin.Export {
 	t.Helper()
-	request := bytes.Replace(must[[]byte](t)(archive(t).OTLP()), []byte("shop"), []byte("till"), 1)
-	made := must[[]kotskhin.Export](t)(kotskhin.ExportsOfOTLP(request))
-	if len(made) != 1 || must[kotskhin.ExportHead](t)(made[0].Head()).Service != "till" {
+	changed := bytes.Replace(must[[]byte](t)(archive(t).Encode()), []byte("shop"), []byte("till"), 1)
+	changed = bytes.Replace(changed, []byte("service\x00\x01"), []byte("service\x00\x00\x04shop"), 1)
+	end := len(changed) - 4
+	binary.BigEndian.PutUint32(changed[end:], adler32.Checksum(changed[:end]))
+	made := must[kotskhin.Export](t)(kotskhin.DecodeExport(changed))
+	if must[kotskhin.ExportHead](t)(made.Head()).Service != "till" {
 		t.Fatal(made)
 	}
-	return made[0]
+	return made
 }
 
 // No sender hides another one. Peers may tell of tombstones, and so may a text that is not a scope.

@@ -1,6 +1,7 @@
 package server
 
 import (
+	"errors"
 	"net/http"
 	"os"
 	"strconv"
@@ -115,7 +116,28 @@ func (s *Server) streams(w http.ResponseWriter, request *http.Request, _ tokens.
 
 // peers says who this gateway is, and how it stands with the others.
 func (s *Server) peers(w http.ResponseWriter, _ *http.Request, _ tokens.Grant) error {
-	return asJSON(w, gossip.Who{ID: s.Held.ID(), Process: s.Process, Peers: s.Gossip.States()})
+	return asJSON(w, gossip.Who{
+		ID: s.Held.ID(), Process: s.Process, Folder: s.Gossip.Folder, Archives: s.Gossip.Archives, Peers: s.Gossip.States(),
+	})
+}
+
+// gone has an operator name a peer that is missing as gone for good, so that incarnations may be adopted again.
+func (s *Server) gone(w http.ResponseWriter, request *http.Request, grant tokens.Grant) error {
+	named := request.URL.Query()["peer"]
+	if len(named) != 1 || named[0] == "" {
+		return badQuery("name a peer: %s?peer=ADDRESS, as %s has it", gossip.GonePath, gossip.PeersPath)
+	}
+	if !grant.IsAll() {
+		return refusal{http.StatusForbidden, "service", "a token that names a peer as gone speaks for all services"}
+	}
+	err := s.Gossip.Gone(named[0])
+	if errors.Is(err, gossip.ErrNotMissing) {
+		return refusal{http.StatusNotFound, "no_peer", err.Error()}
+	}
+	if err != nil {
+		return err
+	}
+	return writeText(w, plainText, "gone\n")
 }
 
 func (s *Server) healthz(w http.ResponseWriter, _ *http.Request, _ tokens.Grant) error {
@@ -155,8 +177,13 @@ func (s *Server) Show(set func(family, labels string, value float64)) {
 	if resident, is := residentBytes(); is {
 		set(figures.Resident, "", resident)
 	}
+	set(figures.Doubled, "", float64(s.Held.Doubled().Count))
+	missing := 0
 	for _, it := range s.Gossip.States() {
-		if it.State == gossip.Self {
+		if it.State == gossip.Missing {
+			missing++
+		}
+		if it.State == gossip.Self || it.State == gossip.Missing {
 			continue
 		}
 		labels := figures.Labels("peer", it.URL)
@@ -164,6 +191,7 @@ func (s *Server) Show(set func(family, labels string, value float64)) {
 		set(figures.Messages, labels, float64(it.Sent))
 		set(figures.Failed, labels, float64(it.Failed))
 	}
+	set(figures.Missing, "", float64(missing))
 	if s.Store == nil {
 		return
 	}

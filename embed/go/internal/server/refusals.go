@@ -29,6 +29,8 @@ func refusalOf(err error) refusal {
 		return refusal{http.StatusServiceUnavailable, "disk", err.Error()}
 	case errors.Is(err, kotskhin.ErrNoMemory):
 		return refusal{http.StatusServiceUnavailable, "memory", err.Error()}
+	case errors.Is(err, kotskhin.ErrReservedPoint):
+		return reserved()
 	case errors.Is(err, kotskhin.ErrTooLong), errors.Is(err, kotskhin.ErrRepeats):
 		return refusal{http.StatusRequestEntityTooLarge, "too_large", err.Error()}
 	case isOf(err, otlp.ErrMalformed), errors.As(err, &ofKit):

@@ -19,10 +19,15 @@ func notReserved(brought *held.Brought, body []byte) error {
 	}
 	has, err := brought.HasScope(held.ArchiveScope)
 	if err == nil && has {
-		why := "no sender may bring points of the scope " + held.ArchiveScope + ": a gateway itself says what was adopted"
-		return refusal{http.StatusForbidden, "reserved", why}
+		return reserved()
 	}
 	return err
+}
+
+// reserved is how such points are refused: of a request of OTLP the kit itself finds them.
+func reserved() refusal {
+	why := "no sender may bring points of the scope " + held.ArchiveScope + ": a gateway itself says what was adopted"
+	return refusal{http.StatusForbidden, "reserved", why}
 }
 
 // notNamed refuses who says that an incarnation was adopted of a service that is not his.

@@ -44,7 +44,8 @@ type Server struct {
 	workers  chan struct{}
 	draining int32
 	isReady  int32
-	late     seldom
+	late     logs.Seldom
+	left     *leftOut
 	routes   map[string]*route
 }
 
@@ -60,6 +61,7 @@ type route struct {
 // Handler is what answers, once the server is whole.
 func (s *Server) Handler() http.Handler {
 	s.began, s.inFlight.left = time.Now(), s.Limits.InFlight
+	s.left = newLeftOut(s.Figures, s.Log)
 	s.workers = make(chan struct{}, 2*runtime.GOMAXPROCS(0))
 	s.routes = map[string]*route{}
 	for _, it := range []*route{
@@ -71,6 +73,7 @@ func (s *Server) Handler() http.Handler {
 		{"/v1/rows", http.MethodGet, tokens.Read, false, s.rows},
 		{"/v1/streams", http.MethodGet, tokens.Read, false, s.streams},
 		{gossip.PeersPath, http.MethodGet, "", false, s.peers},
+		{gossip.GonePath, http.MethodPost, tokens.Peer, false, s.gone},
 		{"/healthz", http.MethodGet, "", false, s.healthz},
 		{"/readyz", http.MethodGet, "", false, s.readyz},
 	} {
@@ -81,6 +84,9 @@ func (s *Server) Handler() http.Handler {
 
 // Drain has /readyz say that no more is to be sent here.
 func (s *Server) Drain() { atomic.StoreInt32(&s.draining, 1) }
+
+// Tell logs what waits for its time to be logged, before the gateway ends.
+func (s *Server) Tell() { s.left.tell() }
 
 // An answer that was begun, and its status.
 type answer struct {
@@ -117,11 +123,25 @@ func (s *Server) serve(w http.ResponseWriter, request *http.Request) {
 	s.Figures.Add(figures.Requests, figures.Labels("path", path, "status", strconv.Itoa(to.status)), 1)
 	s.Figures.Add(figures.Seconds, figures.Labels("path", path), took.Seconds())
 	if err != nil {
-		s.Log.Warn("refused", "method", request.Method, "path", request.URL.Path, "from", request.RemoteAddr, "status", to.status, "why", err)
+		say := s.Log.Warn
+		if to.status == http.StatusMisdirectedRequest {
+			// (a peer does not know yet that this gateway began anew, and asks for its id now)
+			say = s.Log.Info
+		}
+		say("refused", "method", request.Method, "path", cut(request.URL.Path), "from", request.RemoteAddr, "status", to.status, "why", err)
 		return
 	}
 	s.Log.Debug("answered", "method", request.Method, "path", request.URL.Path, "from", request.RemoteAddr, "status", to.status,
 		"seconds", took.Seconds())
+}
+
+// cut is a path as a log has it: who may send nothing could fill a disk by long ones.
+func cut(path string) string {
+	const most = 200
+	if len(path) > most {
+		return path[:most] + ".."
+	}
+	return path
 }
 
 // guarded answers a request. A fault of this program ends that request alone.

@@ -19,6 +19,7 @@ import (
 	"kotskhin/internal/figures"
 	"kotskhin/internal/gossip"
 	"kotskhin/internal/held"
+	"kotskhin/internal/logs"
 	"kotskhin/internal/otlp"
 	"kotskhin/internal/tokens"
 )
@@ -220,6 +221,57 @@ func TestRefusals(t *testing.T) {
 	}
 	if points, _ := s.Held.Counts(); points != 1 {
 		t.Error(points)
+	}
+}
+
+// That another process has this id now, since it began anew, is no warning: its peers ask for it then.
+func TestAPeersRestartIsNoWarning(t *testing.T) {
+	var out bytes.Buffer
+	_, url := served(t, 1, func(s *Server) { s.Log = logs.New(&out, logs.Info, false) })
+	message := must[[]byte](t)(opened(t, 2).Tell(3))
+	if status, said, _ := got(t, http.MethodPost, url+"/v1/messages", message); status != 421 {
+		t.Fatal(status, said)
+	}
+	if lines := out.String(); strings.Contains(lines, `"warn"`) || !strings.Contains(lines, `"status":421`) {
+		t.Fatal(lines)
+	}
+}
+
+// Who may send nothing fills no log by long paths.
+func TestPathsAreCutInTheLog(t *testing.T) {
+	var out bytes.Buffer
+	_, url := served(t, 1, func(s *Server) { s.Log = logs.New(&out, logs.Info, false) })
+	if status, said, _ := got(t, http.MethodGet, url+"/"+strings.Repeat("a", 5000), nil); status != 404 {
+		t.Fatal(status, said)
+	}
+	if line := out.String(); len(line) > 600 || !strings.Contains(line, `aaa.."`) {
+		t.Fatal(line)
+	}
+}
+
+// A peer that is missing is named as gone by who may send messages for all services.
+func TestWhoMayNameAPeerAsGone(t *testing.T) {
+	file := filepath.Join(t.TempDir(), "tokens")
+	if err := os.WriteFile(file, []byte(rights), 0o600); err != nil {
+		t.Fatal(err)
+	}
+	s, url := served(t, 1, func(s *Server) {
+		s.Tokens = must[*tokens.File](t)(tokens.Open(file))
+		s.Gossip.Known = []gossip.Seen{{URL: "http://10.0.0.7:9464", Folder: "f"}, {URL: "http://10.0.0.8:9464"}}
+	})
+	const shop, peer, lame = "Bearer shop-0123456789abcdef", "Bearer peer-0123456789abcdef", "Bearer lame-0123456789abcdef"
+	for _, it := range []struct {
+		token, query string
+		status, left int
+	}{
+		{"", "?peer=10.0.0.7:9464", 401, 2}, {shop, "?peer=10.0.0.7:9464", 403, 2}, {lame, "?peer=10.0.0.7:9464", 403, 2},
+		{peer, "", 400, 2}, {peer, "?peer=", 400, 2}, {peer, "?peer=10.0.0.9:9464", 404, 2}, {peer, "?peer=10.0.0.7:9464", 200, 1},
+		{peer, "?peer=10.0.0.7:9464", 404, 1}, {peer, "?peer=http://10.0.0.8:9464/", 200, 0},
+	} {
+		status, said, _ := got(t, http.MethodPost, url+gossip.GonePath+it.query, nil, "Authorization", it.token)
+		if status != it.status || len(s.Gossip.Apart()) != it.left {
+			t.Errorf("%v: %d %s %v", it, status, said, s.Gossip.Apart())
+		}
 	}
 }
 

@@ -161,7 +161,7 @@ func (s *Server) tellLate(request *http.Request, late []kotskhin.ExportHead) {
 		return
 	}
 	s.Figures.Add(figures.Late, figures.Labels("path", request.URL.Path), float64(len(late)))
-	count, may := s.late.add(len(late), time.Now())
+	count, may := s.late.Add(len(late), time.Now())
 	if it := late[0]; may {
 		s.Log.Warn("exports came once their incarnation was adopted: a writer that lives should begin anew under a later start",
 			"exports", count, "service", it.Service, "instance", it.Instance, "start", it.Start, "from", request.RemoteAddr)
@@ -177,13 +177,14 @@ func (s *Server) otlp(w http.ResponseWriter, request *http.Request, grant tokens
 	var refused int
 	var why string
 	var told taken
+	var left map[otlp.Left]int
 	if err := s.read(request, s.Limits.Body, func(body []byte) error {
 		read, err := otlp.Of(body)
 		if err != nil {
 			return err
 		}
 		defer read.Close()
-		refused, why = read.Refused, read.Why()
+		refused, why, left = read.Refused, read.Why(), read.Left
 		if len(read.Exports) > 0 {
 			told, err = s.take(request, grant, body, read.Exports, nil)
 		}
@@ -191,10 +192,7 @@ func (s *Server) otlp(w http.ResponseWriter, request *http.Request, grant tokens
 	}); err != nil {
 		return err
 	}
-	if refused > 0 {
-		s.Figures.Add(figures.PointsLost, "", float64(refused))
-		s.Log.Debug("points have no counterpart", "points", refused, "why", why, "from", request.RemoteAddr)
-	}
+	s.left.add(left, grant, request.RemoteAddr)
 	if told.Late > 0 {
 		refused += told.latePoints
 		why = strings.TrimPrefix(fmt.Sprintf("%s; %d points: LATE: their incarnation was adopted before", why, told.latePoints), "; ")

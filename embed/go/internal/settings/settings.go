@@ -35,7 +35,13 @@ type Settings struct {
 
 	LogLevel, LogFormat string
 	IsVersion           bool
+
+	// Whether it adopts earlier than is safe, as Unsafe lets it.
+	IsUnsafe bool
 }
+
+// Unsafe is the variable by which tests have --archive-after be shorter than is safe: what a peer took that is away may be hidden then.
+const Unsafe = "KOTSKHIN_UNSAFE_ARCHIVE_AFTER"
 
 // ErrHelp says that help was asked for, and given.
 var ErrHelp = flag.ErrHelp
@@ -156,7 +162,8 @@ func flagsOf(it *Settings, out io.Writer) *flag.FlagSet {
 	flags.Var((*services)(&it.Archive), "archive", "`SERVICES` of which it adopts what has ended, with commas between; no other gateway of "+
 		"those that tell each other may adopt of the same")
 	flags.DurationVar(&it.ArchiveAfter, "archive-after", time.Hour, "for how long nothing newer came of what has ended")
-	flags.DurationVar(&it.ArchiveEvery, "archive-every", time.Minute, "from one look for what has ended to the next")
+	flags.DurationVar(&it.ArchiveEvery, "archive-every", time.Minute, "from one look for what has ended to the next, which is at most "+
+		"a quarter of --archive-after")
 	it.MaxBody, it.MaxMessage, it.MaxInFlight = 16<<20, 512<<20, 1<<30
 	flags.Var((*size)(&it.MaxBody), "max-body", "most `BYTES` of a body, unpacked")
 	flags.Var((*size)(&it.MaxMessage), "max-message", "most `BYTES` of a peer's message")
@@ -181,7 +188,7 @@ func flagsOf(it *Settings, out io.Writer) *flag.FlagSet {
 
 // Read reads words and an environment. Help goes to out.
 func Read(words []string, environment func(name string) string, out io.Writer) (*Settings, error) {
-	made := &Settings{}
+	made := &Settings{IsUnsafe: environment(Unsafe) != ""}
 	var told strings.Builder
 	flags := flagsOf(made, &told)
 	if err := byEnvironment(flags, environment); err != nil {
@@ -237,6 +244,9 @@ func (s *Settings) check() error {
 			return fmt.Errorf("--%s is above 0", name)
 		}
 	}
+	if err := s.checkArchive(); err != nil {
+		return err
+	}
 	switch {
 	case s.LogFormat != "json" && s.LogFormat != "text":
 		return errors.New("--log-format is json or text")
@@ -251,4 +261,24 @@ func (s *Settings) check() error {
 		}
 	}
 	return nil
+}
+
+// checkArchive refuses a time by which what a peer took could be hidden.
+func (s *Settings) checkArchive() error {
+	least := 2 * (s.GossipLongestPause + s.GossipTimeout)
+	isSafe := len(s.Archive) == 0 || len(s.Peers) == 0 || s.ArchiveAfter >= least
+	if s.IsUnsafe = s.IsUnsafe && !isSafe; isSafe || s.IsUnsafe {
+		return nil
+	}
+	return fmt.Errorf("--archive-after is %v, and beside peers at least %v, twice --gossip-longest-pause and --gossip-timeout added up: "+
+		"that a peer is away may be seen that late, and what it took meanwhile would be hidden", s.ArchiveAfter, least)
+}
+
+// Looks is from one look for what has ended to the next. That the process was stopped is seen by looks that did not come, so there are some
+// within the time after which something has ended.
+func (s *Settings) Looks() time.Duration {
+	if least := s.ArchiveAfter/4 + time.Millisecond; s.ArchiveEvery > least {
+		return least
+	}
+	return s.ArchiveEvery
 }

@@ -60,3 +60,36 @@ func TestHelp(t *testing.T) {
 		t.Fatal(err, told)
 	}
 }
+
+// What a peer took that is away would be hidden: --archive-after is long enough that this is seen before.
+func TestArchiveAfterBesidePeers(t *testing.T) {
+	const peer, short = " --peer http://a:1", " --gossip-longest-pause 1s --gossip-timeout 1s"
+	for words, isTaken := range map[string]bool{
+		"--archive shop --archive-after 79s" + peer: false, "--archive shop --archive-after 2s" + peer: false,
+		"--archive shop --archive-after 80s" + peer: true, "--archive shop" + peer: true, "--archive shop --archive-after 2s": true,
+		"--archive-after 2s" + peer: true, "--archive shop --archive-after 4s" + short + peer: true,
+		"--archive shop --archive-after 3999ms" + short + peer: false, "--archive shop --archive-after 1h --gossip-timeout 30m" + peer: false,
+	} {
+		_, err, _ := read(words, nil)
+		if isTaken != (err == nil) || err != nil && !strings.Contains(err.Error(), "at least") {
+			t.Errorf("%s: %v", words, err)
+		}
+	}
+	for words, isUnsafe := range map[string]bool{"--archive shop --archive-after 1s" + peer: true, "--archive shop" + peer: false} {
+		if made, err, _ := read(words, map[string]string{Unsafe: "1"}); err != nil || made.IsUnsafe != isUnsafe {
+			t.Error(words, made, err)
+		}
+	}
+}
+
+// However seldom it is told to look, that it was stopped is seen within the time.
+func TestLooks(t *testing.T) {
+	for words, wanted := range map[string]time.Duration{
+		"": time.Minute, "--archive-after 80s": 20*time.Second + time.Millisecond, "--archive-after 80s --archive-every 3s": 3 * time.Second,
+		"--archive-after 1ns": time.Millisecond,
+	} {
+		if made, err, _ := read(words, nil); err != nil || made.Looks() != wanted {
+			t.Error(words, made, err)
+		}
+	}
+}

@@ -236,7 +236,7 @@ func (s *Store) save(state func() ([]byte, error)) (int, error) {
 	if err != nil {
 		return 0, err
 	}
-	if err := s.replace(content); err != nil {
+	if err := s.replace(stateName, partName, content); err != nil {
 		return 0, fmt.Errorf("%w: %v", ErrDisk, err)
 	}
 	numbers, err := s.journals()
@@ -248,8 +248,8 @@ func (s *Store) save(state func() ([]byte, error)) (int, error) {
 	return len(content), err
 }
 
-// replace puts a state in the place of that which is there: whole, or not at all.
-func (s *Store) replace(content []byte) error {
+// replace puts a file in the place of that which is there: whole, or not at all.
+func (s *Store) replace(name, partName string, content []byte) error {
 	part := s.path(partName)
 	file, err := os.OpenFile(part, os.O_CREATE|os.O_TRUNC|os.O_WRONLY, 0o600)
 	if err != nil {
@@ -262,7 +262,7 @@ func (s *Store) replace(content []byte) error {
 		err = closed
 	}
 	if err == nil {
-		err = os.Rename(part, s.path(stateName))
+		err = os.Rename(part, s.path(name))
 	}
 	if err != nil {
 		os.Remove(part)

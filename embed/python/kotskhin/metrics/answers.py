@@ -15,7 +15,7 @@ class NotTaken(Exception):
     `points` is how many points were not taken; or `exports` how many exports, where what was posted is the kit's own bytes. The other one
     is 0. `message` is what the answer says of it, where it says anything."""
 
-    def __init__(self, points: int = 0, exports: int = 0, message: str = ""):
+    def __init__(self, points: int = 0, exports: int = 0, message: str = "") -> None:
         super().__init__(points, exports, message)
         self.points, self.exports, self.message = points, exports, message
 
@@ -35,22 +35,23 @@ def _number(message: bytes, at: int) -> tuple[int, int]:
     raise ValueError("a number is cut, or too long")
 
 
-def _fields(message: bytes) -> Iterator[tuple[int, int, int | bytes]]:
-    """Of a message of Protocol Buffers each field, in their order: its number, its type, and its number or bytes."""
+def _fields(message: bytes) -> Iterator[tuple[int, int, int, bytes]]:
+    """Of a message of Protocol Buffers each field, in their order: its number, its type, and what it has, a number or bytes."""
     at = 0
     while at < len(message):
         tag, at = _number(message, at)
         field, wire = tag >> 3, tag & 7
         if not 0 < field < 1 << 29 or wire not in (NUMBER, BYTES, *SIZES):
             raise ValueError("there is no such field")
+        number, held = 0, b""
         if wire == NUMBER:
-            value, at = _number(message, at)
+            number, at = _number(message, at)
         else:
             size, at = (SIZES[wire], at) if wire in SIZES else _number(message, at)
             if size > len(message) - at:
                 raise ValueError("a field is cut")
-            value, at = message[at : at + size], at + size
-        yield field, wire, value
+            held, at = message[at : at + size], at + size
+        yield field, wire, number, held
 
 
 def points_not_taken(answer: bytes) -> NotTaken | None:
@@ -60,13 +61,13 @@ def points_not_taken(answer: bytes) -> NotTaken | None:
         return None
     points, message = 0, b""
     try:
-        for outer, of, partial in _fields(answer):
+        for outer, of, _, partial in _fields(answer):
             # (a field that is not known is passed over, and of one that comes twice the last counts)
-            for field, wire, value in _fields(partial) if (outer, of) == (1, BYTES) else ():
+            for field, wire, number, held in _fields(partial) if (outer, of) == (1, BYTES) else ():
                 if (field, wire) == (1, NUMBER):
-                    points = value
+                    points = number
                 elif (field, wire) == (2, BYTES):
-                    message = value
+                    message = held
     except ValueError:
         return None
     # (what is above is a number below 0)

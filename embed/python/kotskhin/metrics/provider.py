@@ -1,32 +1,43 @@
 """Providers and meters."""
 import atexit
+import contextlib
+import itertools
 import logging
+import operator
 import os
 import sys
 import threading
 import time
+import typing
 import uuid
 import weakref
 from collections.abc import Callable, Iterable, Mapping
 from ctypes import byref
 
-import kotskhin
-from kotskhin.errors import ForkedError, TimeNotAfter
+import kotskhin.plan
+from kotskhin.errors import Closed, Code, ForkedError, Refused, refusal
 from kotskhin.export import Export
 from kotskhin.metrics.exporters import ExportFailed
 from kotskhin.metrics.instruments import Counter, Gauge, Histogram, Instrument, Refusal, UpDownCounter
-from kotskhin.metrics.views import View
-from kotskhin.plan import DEFAULT_LIMIT, Kind, Plan
+from kotskhin.metrics.limits import Limits
+from kotskhin.metrics.reader import PeriodicExportingMetricReader
+from kotskhin.metrics.views import Applied, View, folded
+from kotskhin.plan import DEFAULT_LIMIT, Plan, Streams
 from kotskhin.writer import Writer, unique_instance
 
 log = logging.getLogger("kotskhin")
 # How many attribute sets, over all instruments, have a number of their own where nothing else is said.
 DEFAULT_HELD = 10_000
 SERVICE, INSTANCE = "service.name", "service.instance.id"
+# A child of multiprocessing calls this last of what it calls at its end.
+LAST = -1000
+It = typing.TypeVar("It", bound=Instrument)
+# What tells instruments of a provider apart: scope, name, unit and kind.
+Key: typing.TypeAlias = "tuple[str, str, str, int]"
 _providers: "weakref.WeakSet[MeterProvider]" = weakref.WeakSet()
 
 
-def _in_child():
+def _in_child() -> None:
     for it in list(_providers):
         it._in_child()
 
@@ -38,21 +49,28 @@ class ProviderStarted(RuntimeError):
     """An instrument is declared after its provider started, which a plan does not allow."""
 
 
-class Resource(dict):
+class Resource(dict[str, object]):
     """Whose measurements they are: the attributes `service.name` and `service.instance.id`, which is a UUID, its text, or a number of 128
     bits. Without an instance one is drawn anew."""
 
     @classmethod
-    def create(cls, attributes: Mapping | None = None) -> "Resource":
+    def create(cls, attributes: Mapping[str, object] | None = None) -> "Resource":
+        """The resource of these attributes."""
         return cls(attributes or {})
 
     def _identity(self) -> tuple[str, int | None]:
         if others := sorted(set(self) - {SERVICE, INSTANCE}):
             raise ValueError(f"of a resource {SERVICE} and {INSTANCE} are kept, and no {', '.join(map(str, others))}")
-        instance = self.get(INSTANCE)
+        service, instance = self.get(SERVICE, "unknown_service"), self.get(INSTANCE)
+        if not isinstance(service, str):
+            raise TypeError(f"{SERVICE} is a text, and not {service!r}")
         if isinstance(instance, str):
             instance = uuid.UUID(instance)
-        return self.get(SERVICE, "unknown_service"), instance.int if isinstance(instance, uuid.UUID) else instance
+        if isinstance(instance, uuid.UUID):
+            return service, instance.int
+        if instance is not None and not isinstance(instance, typing.SupportsIndex):
+            raise TypeError(f"{INSTANCE} is a UUID, its text, or a number, and not {instance!r}")
+        return service, None if instance is None else operator.index(instance)
 
 
 def _place() -> str:
@@ -66,7 +84,7 @@ def _place() -> str:
 class Meter:
     """Makes the instruments of one scope."""
 
-    def __init__(self, provider: "MeterProvider", scope: str):
+    def __init__(self, provider: "MeterProvider", scope: str) -> None:
         self._provider, self.scope = provider, scope
 
     def create_counter(self, name: str, unit: str = "", description: str = "") -> Counter:
@@ -94,25 +112,32 @@ class MeterProvider:
     It starts at the first recording or by `start`; instruments are declared before. `limit` is for how many attribute sets a stream has
     points of their own. `held` bounds how many sets, over all instruments, are looked up by a number; others are made anew at each
     recording. `on_refused` is called with each Refusal, in the thread that records; without one the first refusal of each kind is logged.
+    What is refused while the hook is at work in the same thread is counted and logged: the hook is not called inside itself.
+
+    A view that can't be applied to an instrument is told to the hook, too, and is for that instrument as if it were not there.
 
     After a fork the child's provider begins anew, under an instance of its own. Where the instance was given, the child's recordings are
     refused, since two writers would have one identity."""
 
     def __init__(
         self,
-        resource: Mapping | None = None,
-        metric_readers: Iterable = (),
+        resource: Mapping[str, object] | None = None,
+        metric_readers: Iterable[PeriodicExportingMetricReader] = (),
         views: Iterable[View] = (),
         *,
         limit: int = DEFAULT_LIMIT,
         held: int = DEFAULT_HELD,
         on_refused: Callable[[Refusal], object] | None = None,
         shutdown_on_exit: bool = True,
-    ):
+    ) -> None:
         self.service, self._given = Resource.create(resource)._identity()
-        self._views, self._limit, self._most_held, self._hook = list(views), limit, held, on_refused
-        self._lock, self._instruments, self._advised = threading.RLock(), {}, {}
-        self._told, self._count, self._is_closed, self._is_forked = set(), 0, False, False
+        self._views, self._limit, self._most_held, self._hook = [Applied(it) for it in views], limit, held, on_refused
+        self._lock, self._telling, self._ends_at_exit = threading.RLock(), threading.local(), shutdown_on_exit
+        # (replaced as a whole, so that what interrupts a declaration is seen)
+        self._instruments: dict[Key, Instrument] = {}
+        self._told: set[tuple[object, ...]] = set()
+        self._passed_over: set[int] = set()
+        self._count, self._is_closed, self._is_forked = 0, False, False
         self._unstarted()
         self._probe()
         self._readers = list(metric_readers)
@@ -122,16 +147,22 @@ class MeterProvider:
         if shutdown_on_exit:
             atexit.register(_at_exit, weakref.ref(self))
 
-    def _unstarted(self):
-        self._writer, self._started_at, self._held_count, self._last_time = None, None, 0, 0
+    def _unstarted(self) -> None:
+        self._writer: Writer | None = None
+        # The writer of the first start that has one: of starts inside each other all have this one.
+        self._chosen: dict[str, Writer] = {}
+        self._started_at: str | None = None
+        self._held_count, self._last_time, self._limits = 0, 0, Limits(self._limit)
         self.instance = unique_instance() if self._given is None else self._given
 
-    def _probe(self):
-        """Refuses at once what is wrong with identity, limit and views by themselves."""
-        with Plan([], self._limit, [it._made() for it in self._views]) as plan:
+    def _probe(self) -> None:
+        """Refuses at once what is wrong with identity, limit and the texts of views by themselves."""
+        with self._plan([]) as plan:
             Writer(plan, self.service, self.instance, 0).close()
 
-    def get_meter(self, name: str, version: str | None = None, schema_url: str | None = None, attributes=None) -> Meter:
+    def get_meter(
+        self, name: str, version: str | None = None, schema_url: str | None = None, attributes: Mapping[str, object] | None = None
+    ) -> Meter:
         """The meter of a scope, of which the name alone is kept."""
         return Meter(self, name)
 
@@ -141,54 +172,105 @@ class MeterProvider:
         return self._count
 
     @property
-    def streams(self) -> kotskhin.Streams:
+    def streams(self) -> Streams:
         """The streams of its plan, under the numbers that an overflow tells. It starts the provider."""
         self.start()
-        with self._plan() as plan:
+        with self._plan(self._instruments.values()) as plan:
             return plan.streams()
 
-    def _declare(self, made, scope, name, unit, advised=None):
+    def _declare(self, made: type[It], scope: str, name: str, unit: str, advised: Iterable[int] | None = None) -> It:
         """The instrument of these words: one that is declared already is the same."""
-        with self._lock:
-            key = scope, name.lower() if isinstance(name, str) else name, unit, made.kind
-            if key in self._instruments:
-                return self._instruments[key]
-            if self._started_at:
-                told = f"the instrument {name!r} of {scope!r} is declared at {_place()}, after its provider started at {self._started_at}"
-                raise ProviderStarted(f"{told}: declare all instruments before the first recording")
-            bounds = [] if advised is None else [kotskhin.View(name, aggregation=list(advised))]
-            Plan([(scope, name, unit, made.kind)], 1, bounds).close()
-            self._advised |= {key: bounds[0].aggregation} if bounds else {}
-            self._instruments[key] = made(self, len(self._instruments), scope, name, unit)
-            return self._instruments[key]
+        bounds = None if advised is None else tuple(advised)
+        key = scope, folded(name) if isinstance(name, str) else name, unit, made.kind.value
+        while True:
+            with self._lock:
+                known = self._instruments
+                if key in known:
+                    return typing.cast(It, known[key])
+                if self._started_at:
+                    told = f"the instrument {name!r} of {scope!r} is declared at {_place()}, after its provider started"
+                    raise ProviderStarted(f"{told} at {self._started_at}: declare all instruments before the first recording")
+                new = made(self, len(known), scope, name, unit, bounds)
+                self._check(new)
+                grown: dict[Key, Instrument] = {**known}
+                grown[key] = new
+                # (what interrupts this thread, as a signal's handler, may have declared another one meanwhile, or started)
+                if self._instruments is known and not self._started_at:
+                    self._instruments = grown
+                    break
+        self._tell_what_is_passed_over(new)
+        return new
 
-    def _plan(self):
-        instruments = list(self._instruments.values())
-        views = [it._made() for it in self._views]
-        for (scope, name, _, _), bounds in self._advised.items():
-            of = next(it for it in instruments if (it.scope, it.name.lower(), it.kind) == (scope, name, Kind.HISTOGRAM))
-            if not any(it._matches(of) for it in self._views):
-                views.append(kotskhin.View(of.name, Kind.HISTOGRAM, scope, aggregation=bounds))
-        return Plan([(it.scope, it.name, it.unit, it.kind) for it in instruments], self._limit, views)
+    def _check(self, new: Instrument) -> None:
+        """Raises what the kit refuses of an instrument, by itself and beside those that are declared."""
+        bounds = [] if new._advised is None else [kotskhin.plan.View(new.name, aggregation=new._advised)]
+        Plan([(new.scope, new.name, new.unit, new.kind)], 1, bounds).close()
+        if self._views:
+            self._plan([*self._instruments.values(), new]).close()
+
+    def _tell_what_is_passed_over(self, new: Instrument) -> None:
+        """Tells of each view that can't be applied to an instrument: once where that is the view's own fault, and not the pair's."""
+        for number, it in enumerate(self._views):
+            fault = it.faults.get(new.kind)
+            if not fault or not it.view._matches(new):
+                continue
+            is_own = fault.code is not Code.BAD_AGGREGATION
+            if is_own and number in self._passed_over:
+                continue
+            self._passed_over.add(number)
+            why = refusal(fault.code, number) if is_own else refusal(fault.code, new._number, number)
+            self._tell(Refusal(new, None, None, why), "%r: a view is passed over: %s", new, why)
+
+    def _plan(self, instruments: Iterable[Instrument]) -> Plan:
+        """The plan of instruments, each under its own name, but for those of bounds that are advised."""
+        views, rows, of = [view for it in self._views for view in it.made()], [], list(instruments)
+        taken = {folded(it.name) for it in of} | {folded(it.name) for it in views if it.name is not None}
+        for it in of:
+            name = it.name
+            if it._advised is not None and not any(view.is_of(it) for view in self._views):
+                name, view = _advice(it, taken)
+                views.append(view)
+            rows.append((it.scope, name, it.unit, it.kind))
+        return Plan(rows, self._limit, views)
 
     def start(self) -> None:
         """Starts it, if it has not: its instruments record from now on, and no other is declared. Raises what the plan refuses."""
         with self._lock:
             if self._writer or self._is_closed or self._is_forked:
                 return
-            with self._plan() as plan:
-                writer = Writer(plan, self.service, self.instance, time.time_ns())
-            self._started_at, self._last_time = _place(), writer.start
-            for it in self._instruments.values():
-                it._begin(byref(writer._raw))
-            # (now other threads see it: none holds a set before its instrument knows where to record)
-            self._writer = writer
+            place = _place()
+            # (else it is a start inside a start, of what interrupts this thread: the outer one does what is to be done once)
+            is_outermost = self._started_at is None
+            if is_outermost:
+                self._started_at = place
+            try:
+                self._begin()
+            finally:
+                if is_outermost and not self._writer:
+                    self._started_at = None
+            if not is_outermost or not self._writer:
+                return
             for it in self._readers:
                 it._begin()
+        self._end_with_child()
         # (once all is done, since a handler of logs may record)
-        for view in self._views:
-            if not any(map(view._matches, self._instruments.values())):
-                log.warning("%s is of no instrument", view)
+        for of in self._views:
+            if not any(map(of.view._matches, self._instruments.values())):
+                log.warning("%s is of no instrument", of.view)
+
+    def _begin(self) -> None:
+        """Makes the writer and records into it from now on, or into that of a start inside this one: whichever has it first, all record
+        into one."""
+        instruments = list(self._instruments.values())
+        with self._plan(instruments) as plan:
+            made = Writer(plan, self.service, self.instance, time.time_ns())
+        writer = self._chosen.setdefault("writer", made)
+        self._last_time = max(self._last_time, writer.start)
+        for it in instruments:
+            it._at = byref(writer._raw)
+        # (now other threads see it: none holds a set before its instrument knows where to record)
+        if not self._is_closed:
+            self._writer = writer
 
     def _writer_for(self, instrument: Instrument) -> Writer:
         """The writer that an instrument records into, which is started if it has not."""
@@ -197,29 +279,44 @@ class MeterProvider:
         if not self._writer:
             self.start()
         if not self._writer:
-            raise kotskhin.Refused(kotskhin.Code.CLOSED)
+            raise Closed(Code.CLOSED)
         return self._writer
 
-    def _may_hold(self) -> bool:
-        """Whether one more set may be held; then it is."""
-        with self._lock:
-            may = self._held_count < self._most_held
-            self._held_count += may
-            return may
+    def _has_room(self) -> bool:
+        """Whether one more set may be held."""
+        return self._held_count < self._most_held
 
-    def _refused(self, refusal: Refusal) -> None:
+    def _refused(self, of: Refusal) -> None:
+        """Counts a recording that is refused, and tells it."""
         with self._lock:
             self._count += 1
-            kind = refusal.instrument, type(refusal.why)
-            is_new = kind not in self._told
-            self._told.add(kind)
+        self._tell(of, "%r: a recording of %r is refused: %s", of.instrument, of.value, of.why)
+
+    def _tell(self, of: Refusal, said: str, *words: object) -> None:
+        """Tells the hook. Where there is none, or it is at work in this thread, the first of each kind is logged: what hooks and handlers
+        of logs record may be refused, too."""
+        is_outermost = not getattr(self._telling, "is_on", False)
+        self._telling.is_on = True
         try:
-            if self._hook:
-                self._hook(refusal)
-            elif is_new:
-                log.warning("%r: a recording of %r is refused: %s", refusal.instrument, refusal.value, refusal.why)
+            if self._hook and is_outermost:
+                self._hook(of)
+            elif self._is_first(of):
+                log.warning(said, *words)
         except Exception:
-            log.exception("on_refused failed")
+            # (a recording raises nothing of what a hook does, nor of what a handler of logs does)
+            with contextlib.suppress(Exception):
+                log.exception("on_refused failed")
+        finally:
+            if is_outermost:
+                self._telling.is_on = False
+
+    def _is_first(self, of: Refusal) -> bool:
+        """Whether none of its kind was logged; from now on it was."""
+        kind = of.instrument, type(of.why), getattr(of.why, "stream", None)
+        with self._lock:
+            is_first = kind not in self._told
+            self._told.add(kind)
+            return is_first
 
     def collect(self) -> Export | None:
         """All that was recorded since the start, at the time of the clock, or right after the last collection where the clock was put back.
@@ -227,11 +324,25 @@ class MeterProvider:
         with self._lock:
             if not self._writer or self._is_closed or self._is_forked:
                 return None
-            return self._collected(self._writer.collect)
+            export = self._collected(self._writer.collect)
+        self._tell_of_limits(export)
+        return export
 
-    def _collected(self, call):
+    def _collected(self, call: Callable[[int], Export]) -> Export:
         self._last_time = max(time.time_ns(), self._last_time + 1)
         return call(self._last_time)
+
+    def _tell_of_limits(self, export: Export) -> None:
+        """Tells of each stream that has come beyond its limit of attribute sets, once, with the instrument that it is of."""
+        try:
+            found = self._limits.beyond(export)
+        except Refused:
+            # (memory was refused: the export goes its way, and the next collection looks again)
+            return
+        for why in found:
+            for of in self._instruments.values():
+                if why.stream in self._plan([of]).streams():
+                    self._tell(Refusal(of, None, None, why), "%r: %s", of, why)
 
     def force_flush(self, timeout_millis: float = 30_000) -> bool:
         """Collects and exports by each reader now. Raises what failed first."""
@@ -249,36 +360,58 @@ class MeterProvider:
                 return
             last = self._collected(self._writer.shutdown) if self._writer else None
             self._is_closed = True
+        if last:
+            self._tell_of_limits(last)
         ends = time.monotonic() + timeout_millis / 1000
         faults = [fault for it in self._readers if (fault := _fault_of(it._end, last, ends))]
         if faults:
             raise faults[0] if isinstance(faults[0], ExportFailed) else ExportFailed("the last export", faults[0], last)
 
-    def __enter__(self):
+    def __enter__(self) -> "MeterProvider":
         return self
 
-    def __exit__(self, *_):
+    def __exit__(self, *_: object) -> None:
         self.shutdown()
 
-    def _in_child(self):
+    def _in_child(self) -> None:
         """After a fork: threads and locks of the parent are not here, and its writer is not ours."""
         self._lock, self._is_forked = threading.RLock(), self._given is not None and self._writer is not None
         self._unstarted()
         for it in self._instruments.values():
-            it._begin(None)
-        for it in self._readers:
-            it._of(self)
+            it._begin_anew()
+        for of in self._readers:
+            of._of(self)
+
+    def _end_with_child(self) -> None:
+        """Sees to it that it is shut down at the end of a child of multiprocessing, which ends by os._exit, and calls finalizers before.
+
+        Those that are there when a child begins are forgotten, as where its main module has started this: so it is done again then."""
+        multiprocessing, util = map(sys.modules.get, ("multiprocessing", "multiprocessing.util"))
+        if multiprocessing is None or util is None or not self._ends_at_exit:
+            return
+        util.register_after_fork(self, MeterProvider._end_with_child)
+        if multiprocessing.parent_process() is not None:
+            util.Finalize(self, _at_exit, (weakref.ref(self),), exitpriority=LAST)
 
 
-def _fault_of(call, *given):
+def _advice(of: Instrument, taken: set[str]) -> tuple[str, kotskhin.plan.View]:
+    """Bounds that are advised: a name that nothing else has, for the instrument in the plan, and a view of that name, which gives the
+    stream the instrument's own name and those bounds. (a view of the instrument's name would be of another unit's instrument, too)"""
+    name = next(it for it in map("advised.{}".format, itertools.count()) if it not in taken)
+    taken.add(name)
+    return name, kotskhin.plan.View(name, rename=of.name, aggregation=of._advised)
+
+
+def _fault_of(call: Callable[..., object], *given: object) -> Exception | None:
     """What a call raises."""
     try:
         call(*given)
     except Exception as fault:
         return fault
+    return None
 
 
-def _at_exit(provider):
-    if provider := provider():
-        if fault := _fault_of(provider.shutdown):
-            log.warning("%s", fault)
+def _at_exit(of: "weakref.ref[MeterProvider]") -> None:
+    provider = of()
+    if provider and (fault := _fault_of(provider.shutdown)):
+        log.warning("%s", fault)

@@ -137,6 +137,8 @@ pub const ATTRIBUTE_VALUE: i32 = 103;
 pub const NO_EXPORT: i32 = 104;
 /// A text of more than 1024 bytes is repeated too often.
 pub const REPEATS: i32 = 105;
+/// A point of an export has the scope of tombstones.
+pub const RESERVED_POINT: i32 = 106;
 /// The incarnation is of another service than the archive.
 pub const OTHER_SERVICE: i32 = 110;
 /// The incarnation is an archive's.

@@ -17,7 +17,9 @@ pub struct Archive(Handle<sys::Archive>);
 
 impl Archive {
     /// An archive that adopted nothing, with at most `limit` totals. Of two archives that share service, instance and start a keeper
-    /// keeps one's totals alone: without an instance of your own take [`unique_instance`](crate::unique_instance). Refused: `NoMemory`.
+    /// keeps one's totals alone: without an instance of your own take [`unique_instance`](crate::unique_instance). The start, in nanoseconds
+    /// since the Unix epoch, is best 1: a page shows a metric as the youngest of those who have it says, and an archive that began after the
+    /// workers would show an old plan's. Refused: `NoMemory`.
     pub fn begin(
         service: &str,
         instance: u128,

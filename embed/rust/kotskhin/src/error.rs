@@ -89,6 +89,8 @@ pub enum Error {
     Request(RequestFault),
     /// A request of OTLP repeats a text of more than 1024 bytes too often.
     Repeats,
+    /// This export of a request of OTLP has a point in the scope of tombstones, `kotskhin.archive`, which would hide points of others.
+    ReservedPoint { export: u64 },
     /// The incarnation is of another service than the archive.
     OtherService,
     /// The incarnation is an archive's.
@@ -115,6 +117,10 @@ pub enum Error {
     NotStarted,
     /// The provider had started before the instrument was declared.
     DeclaredLate,
+    /// The stream has as many sets of attributes as have points of their own. It counts further ones together.
+    CardinalityLimit { limit: u64 },
+    /// It was made before a fork, by another process: this one makes its own.
+    Forked,
     /// A code that these types make impossible: `NOTHING`, `WRONG_KIND`, `FULL`, `BAD_NUMBER`, or none of the kit's.
     Unexpected(i32),
 }
@@ -168,6 +174,7 @@ pub(crate) fn refusal(code: i32, place: u64, second: u64) -> Error {
         sys::OTLP_BOUNDS => Error::OtlpBounds { point: place },
         sys::TOO_LONG => Error::TooLong,
         sys::REPEATS => Error::Repeats,
+        sys::RESERVED_POINT => Error::ReservedPoint { export: place },
         sys::OTHER_SERVICE => Error::OtherService,
         sys::IS_ARCHIVE => Error::IsArchive,
         sys::ADOPTED => Error::Adopted,
@@ -290,6 +297,9 @@ impl fmt::Display for Error {
             Error::TooLong => write!(f, "the request has more bytes than one may have"),
             Error::Request(fault) => write!(f, "{fault}"),
             Error::Repeats => write!(f, "a text of more than 1024 bytes is repeated too often"),
+            Error::ReservedPoint { export } => {
+                write!(f, "a point of export {export} has the scope of tombstones")
+            }
             Error::OtherService => {
                 write!(f, "the incarnation is of another service than the archive")
             }
@@ -309,6 +319,14 @@ impl fmt::Display for Error {
             Error::DeclaredLate => write!(
                 f,
                 "the provider had started before the instrument was declared"
+            ),
+            Error::CardinalityLimit { limit } => write!(
+                f,
+                "its limit of {limit} sets of attributes is reached: further sets are counted together in the point otel.metric.overflow=true"
+            ),
+            Error::Forked => write!(
+                f,
+                "it was made before a fork, by another process: make one in this process"
             ),
             Error::Unexpected(code) => write!(f, "unexpected code {code}"),
         }

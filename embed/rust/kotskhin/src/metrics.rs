@@ -3,23 +3,46 @@
 //! [`otel`](crate::otel) has OpenTelemetry's names, and recordings that never fail. Here instruments are declared in one place, before the
 //! first recording, since a plan is fixed when its writer starts. `add` and `record` answer a `Result`: nothing is dropped or wrapped in
 //! silence. Values are whole numbers. Attributes are made once and held: to make them anew for each recording costs several times as much.
+//!
+//! A meter is of the process that made it. In a child of a fork it exports nothing, since two processes would have one identity: who
+//! collects, shuts down, flushes or asks for an instrument at a set is refused as [`Error::Forked`], and nothing is waited for. Recordings
+//! there go nowhere. Make a meter in each process.
+use crate::home::Home;
 use crate::{
     Attributes, DEFAULT_LIMIT, Error, Export, HeldNumber, Instruments, Kind, Plan, Writer,
 };
-use std::sync::{Arc, Mutex, MutexGuard, OnceLock, PoisonError};
+use std::mem;
+use std::sync::{Arc, Mutex, MutexGuard, OnceLock};
 
 mod reader;
 pub use reader::{DEFAULT_INTERVAL, ExportError, PeriodicReader, PushExporter, ReadError, now};
 
-#[derive(Debug, Default)]
-struct Shared(OnceLock<Mutex<Writer>>);
+#[derive(Debug)]
+struct Shared {
+    home: Home,
+    // An instrument has none yet while it is declared, and none ever where its meter was refused.
+    writer: OnceLock<Mutex<Writer>>,
+}
 
 impl Shared {
-    // An instrument has none yet while it is declared, and none ever where its meter was refused. No panic can leave the writer half
-    // changed, so a lock that one has poisoned is as good as before.
     fn writer(&self) -> Result<MutexGuard<'_, Writer>, Error> {
-        let writer = self.0.get().ok_or(Error::NotStarted)?;
-        Ok(writer.lock().unwrap_or_else(PoisonError::into_inner))
+        let writer = self.writer.get().ok_or(Error::NotStarted)?;
+        self.home.locked(writer)
+    }
+
+    /// The same in the process that made it alone.
+    fn writer_here(&self) -> Result<MutexGuard<'_, Writer>, Error> {
+        self.home.checked()?;
+        self.writer()
+    }
+}
+
+impl Drop for Shared {
+    /// What another thread may have been changing as the process forked is not given back by a child.
+    fn drop(&mut self) {
+        if !self.home.is_here() {
+            mem::forget(mem::take(&mut self.writer));
+        }
     }
 }
 
@@ -75,7 +98,7 @@ impl Instrument {
     }
 
     fn hold(&self, attributes: &Attributes) -> Result<HeldNumber, Error> {
-        self.shared.writer()?.hold(self.number, attributes)
+        self.shared.writer_here()?.hold(self.number, attributes)
     }
 }
 
@@ -203,7 +226,10 @@ impl Meter {
         start: u64,
         declare: impl FnOnce(&mut Declaring) -> Result<T, Error>,
     ) -> Result<(Meter, T), Error> {
-        let shared = Arc::new(Shared::default());
+        let shared = Arc::new(Shared {
+            home: Home::here(),
+            writer: OnceLock::new(),
+        });
         let mut declaring = Declaring {
             scope,
             instruments: Instruments::new(),
@@ -212,17 +238,18 @@ impl Meter {
         let declared = declare(&mut declaring)?;
         let plan = Plan::build(&declaring.instruments, DEFAULT_LIMIT)?;
         let writer = Writer::start(&plan, service, instance, start)?;
-        let _ = shared.0.set(Mutex::new(writer));
+        let _ = shared.writer.set(Mutex::new(writer));
         Ok((Meter { shared }, declared))
     }
 
     /// All that was recorded so far: for a host that brings exports by itself. A [`PeriodicReader`] does both on a thread of its own.
+    /// Refused: `Forked`, and as [`Writer::collect`] is.
     pub fn collect(&self, time: u64) -> Result<Export, Error> {
-        self.shared.writer()?.collect(time)
+        self.shared.writer_here()?.collect(time)
     }
 
     /// The same for the last time: from now on recordings are refused as `Closed`.
     pub fn shutdown(&self, time: u64) -> Result<Export, Error> {
-        self.shared.writer()?.shutdown(time)
+        self.shared.writer_here()?.shutdown(time)
     }
 }

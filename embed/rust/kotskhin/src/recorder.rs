@@ -34,6 +34,10 @@ impl From<sys::Taken> for Taken {
 /// A thread's own log of recordings, up to a capacity: it meets no other thread, and [`Writer::take_in`] or [`Seat::take_in`] records
 /// what it has. It is of no plan: an instrument that is not there, or a value below 0 of a counter, is refused once it is taken in.
 ///
+/// What one recorder has is taken in in the order in which it was noted, and of several recorders in the order in which they are taken in,
+/// whenever it was noted: so the last value of a gauge is that of the recorder that was taken in last. Where threads set one gauge in
+/// turn, record it by the writer itself, as the layers above do.
+///
 /// One that is dropped loses what it has.
 ///
 /// [`Writer::take_in`]: crate::Writer::take_in

@@ -171,7 +171,8 @@ impl fmt::Display for RequestFault {
 
 impl Export {
     /// The exports that the body of a POST to `/v1/metrics` brings (OTLP, with `Content-Type: application/x-protobuf`). Who made the bytes
-    /// is not known here: [`head`](Self::head) tells of whom each export is. Refused: `Request`, `NotText`, `Repeats`, `NoMemory`.
+    /// is not known here: [`head`](Self::head) tells of whom each export is. Refused: `Request`, `NotText`, `Repeats`,
+    /// `ReservedPoint`, `NoMemory`.
     pub fn of_otlp(bytes: &[u8]) -> Result<Vec<Export>, Error> {
         let (mut exports, mut place) = (Handle::<sys::Exports>::empty(), 0);
         // SAFETY: the handle is ours alone, and the bytes are a slice's pointer and length.

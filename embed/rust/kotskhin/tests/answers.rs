@@ -239,6 +239,67 @@ fn an_answer_ends_where_it_says() -> Done {
     Ok(())
 }
 
+/// What an exporter says of an answer that is none of 2xx, behind the address.
+fn why(answer: &[u8], stays: Duration) -> Result<String, ExportError> {
+    let server = Server::open(answer.to_vec(), stays)?;
+    let told = HttpExporter::new(&server.url)?.export(&provider().collect()?);
+    let told = told.err().ok_or("it is taken")?.to_string();
+    let place = server.url.split('/').nth(2).unwrap_or_default();
+    let words = told.strip_prefix(&format!("{place} answered "));
+    Ok(words.ok_or(told.clone())?.to_owned())
+}
+
+/// A gateway says why it does not take an export: the first line of that is for people.
+#[test]
+fn a_refusal_has_the_first_line_of_its_body() -> Done {
+    let head = "HTTP/1.1 403 Forbidden\r\n";
+    let long = "w".repeat(4 * MOST);
+    for (rest, wanted) in [
+        ("\r\n", ""),
+        ("\r\nno such service", ": no such service"),
+        (
+            "\r\nno\u{1b}[1m\u{7} such\tservice \r\nX: y",
+            ": no[1m suchservice",
+        ),
+        ("Content-Length: 4\r\n\r\nnone of this", ": none"),
+        ("Content-Length: 0\r\n\r\nnone of this", ""),
+        ("Content-Length: 99\r\n\r\ncut", ": cut"),
+        (
+            "Transfer-Encoding: chunked\r\n\r\n3;a=b\r\nwhy\r\n0\r\n\r\n",
+            ": why",
+        ),
+        ("Transfer-Encoding: chunked\r\n\r\nwhat\r\nwhy", ": why"),
+        ("Transfer-Encoding: chunked\r\n\r\n", ""),
+        (&format!("\r\n{long}"), &format!(": {}", &long[..1024])),
+        (
+            &format!("Content-Length: {}\r\n\r\n{long}", long.len()),
+            &format!(": {}", &long[..1024]),
+        ),
+        (&format!("A: {long}\r\n\r\nwhy"), ""),
+        ("A: b", ""),
+    ] {
+        let told = why([head, rest].concat().as_bytes(), Duration::ZERO)?;
+        assert_eq!(told, format!("'HTTP/1.1 403 Forbidden'{wanted}"));
+    }
+    let told = why(b"HTTP/1.1 500 \xff\x07\r\n\r\n\xff\x00!", Duration::ZERO)?;
+    assert_eq!(told, "'HTTP/1.1 500 \u{fffd}': \u{fffd}!");
+    Ok(())
+}
+
+#[test]
+fn the_body_of_a_refusal_is_not_waited_for_long() -> Done {
+    let (stays, began) = (Duration::from_secs(20), Instant::now());
+    for (answer, wanted) in [
+        ("HTTP/1.1 403 No\r\n", "'HTTP/1.1 403 No'"),
+        ("HTTP/1.1 403 No\r\n\r\nbegun", "'HTTP/1.1 403 No': begun"),
+        ("HTTP/1.1 403 No\r\n\r\nwhole\n", "'HTTP/1.1 403 No': whole"),
+    ] {
+        assert_eq!(why(answer.as_bytes(), stays)?, wanted);
+    }
+    assert!(began.elapsed() < stays / 2);
+    Ok(())
+}
+
 #[test]
 fn no_other_gateway_is_asked() -> Done {
     let answers = [

@@ -1,43 +1,15 @@
 //! OpenTelemetry's names: what is recorded, what is refused and told, threads with exact totals, bounds of memory.
 #![forbid(unsafe_code)]
-use kotskhin::otel::{
-    Aggregation, Counter, Key, KeyValue, Meter, Refusal, Resource, SdkError, SdkMeterProvider,
-    Stream, global,
-};
-use kotskhin::{Ask, Error, Gateway, OwnedValue, Row, Total, default_bounds};
+mod common;
+use common::{Told, of_requests, requests, rows, total};
+use kotskhin::otel::{Counter, KeyValue, Meter, Resource, SdkError, SdkMeterProvider, global};
+use kotskhin::{Ask, Error, OwnedValue, Total, default_bounds};
 use std::cell::RefCell;
 use std::error::Error as AnyError;
-use std::sync::{Arc, Mutex, PoisonError};
+use std::sync::{Arc, Barrier, Mutex, PoisonError};
 use std::thread;
 
 type Done = Result<(), Box<dyn AnyError>>;
-
-/// What a hook was told.
-#[derive(Clone, Default)]
-struct Told(Arc<Mutex<Vec<Refusal>>>);
-
-impl Told {
-    fn hook(&self) -> impl Fn(&Refusal) + Send + Sync + 'static {
-        let list = self.clone();
-        move |it| {
-            let mut list = list.0.lock().unwrap_or_else(PoisonError::into_inner);
-            list.push(it.clone());
-        }
-    }
-
-    /// Each refusal: the instrument, why, and how many recordings.
-    fn all(&self) -> Vec<(String, Error, u64)> {
-        let list = self.0.lock().unwrap_or_else(PoisonError::into_inner);
-        list.iter()
-            .map(|it| (it.instrument.clone(), it.why, it.count))
-            .collect()
-    }
-
-    fn shown(&self) -> Vec<String> {
-        let list = self.0.lock().unwrap_or_else(PoisonError::into_inner);
-        list.iter().map(Refusal::to_string).collect()
-    }
-}
 
 fn shop() -> Resource {
     Resource::builder()
@@ -48,34 +20,6 @@ fn shop() -> Resource {
 
 fn provider() -> SdkMeterProvider {
     SdkMeterProvider::builder().with_resource(shop()).build()
-}
-
-fn requests(provider: &SdkMeterProvider) -> Counter<u64> {
-    provider
-        .meter("app")
-        .u64_counter("requests")
-        .with_unit("1")
-        .build()
-}
-
-fn rows(provider: &SdkMeterProvider, ask: &Ask) -> Result<Vec<Row>, Box<dyn AnyError>> {
-    let mut gateway = Gateway::open(1)?;
-    gateway.take(&provider.collect()?)?;
-    Ok(gateway.rows(ask)?.all()?)
-}
-
-fn of_requests() -> Result<Ask, Error> {
-    Ask::sum("app", "requests", "1", true)
-}
-
-/// What all rows come to.
-fn total(rows: &[Row]) -> i128 {
-    rows.iter()
-        .map(|it| match it.total {
-            Total::Sum(sum) => sum,
-            _ => 0,
-        })
-        .sum()
 }
 
 #[test]
@@ -195,57 +139,6 @@ fn a_late_instrument_is_told_by_name_and_place() -> Done {
 }
 
 #[test]
-fn one_that_the_plan_refuses_leaves_the_others() -> Done {
-    let told = Told::default();
-    let provider = SdkMeterProvider::builder()
-        .on_refused(told.hook())
-        .with_view(|it| {
-            let sum = Stream::builder().with_aggregation(Aggregation::LastValue);
-            (it.name() == "misfit").then(|| sum.build().ok())?
-        })
-        .build();
-    let meter = provider.meter("app");
-    let refused = [
-        meter.u64_counter("9 lives").build(),
-        meter.u64_counter("fine").with_unit("\u{b5}s").build(),
-        meter.u64_counter("misfit").build(),
-        meter.u64_counter("").build(),
-        provider
-            .meter("kotskhin.archive")
-            .u64_counter("requests")
-            .build(),
-    ];
-    let requests = requests(&provider);
-    refused.iter().for_each(|it| it.add(1, &[]));
-    requests.add(7, &[]);
-    let whys: Vec<Error> = told.all().into_iter().map(|it| it.1).collect();
-    assert_eq!(
-        whys[..5],
-        [
-            Error::BadName { instrument: 0 },
-            Error::BadUnit { instrument: 0 },
-            Error::BadAggregation {
-                instrument: 0,
-                view: 0
-            },
-            Error::BadName { instrument: 0 },
-            Error::ReservedScope { instrument: 0 },
-        ]
-    );
-    assert_eq!((whys.len(), provider.refused()), (10, 5));
-    assert_eq!(
-        told.all()[9],
-        (
-            String::from("requests"),
-            Error::ReservedScope { instrument: 0 },
-            1
-        )
-    );
-    assert_eq!(total(&rows(&provider, &of_requests()?)?), 7);
-    Ok(())
-}
-
-#[test]
 fn what_is_refused_is_counted_and_told() -> Done {
     let told = Told::default();
     let provider = SdkMeterProvider::builder().on_refused(told.hook()).build();
@@ -343,9 +236,11 @@ fn nothing_is_lost_between_threads() -> Done {
     assert!(collected.is_ok_and(|it| it.is_ok()));
     let told_rows = rows(&provider, &of_requests()?)?;
     assert_eq!(total(&told_rows), i128::from(THREADS * EACH));
+    let limit = Error::CardinalityLimit { limit: 300 };
+    let told = (told_rows.len(), told.all(), provider.refused());
     assert_eq!(
-        (told_rows.len(), told.all(), provider.refused()),
-        (301, vec![], 0),
+        told,
+        (301, vec![("requests".into(), limit, 0)], 0),
         "300 sets, and one for the others"
     );
     assert_eq!(
@@ -469,74 +364,96 @@ fn the_order_of_attributes_is_none_of_the_sets() -> Done {
     Ok(())
 }
 
+/// Also where another thread's log came later.
 #[test]
-fn views_make_streams() -> Done {
-    let provider = SdkMeterProvider::builder()
-        .with_view(|it| {
-            if it.name() != "requests" || it.scope() != "app" || it.unit() != "1" {
-                return None;
-            }
-            let keys = [Key::from_static_str("route")];
-            let by_route = Stream::builder().with_name("by_route");
-            by_route.with_allowed_attribute_keys(keys).build().ok()
-        })
-        .with_view(|it| {
-            let drop = Stream::builder().with_aggregation(Aggregation::Drop);
-            (it.name() == "noise").then(|| drop.build().ok())?
-        })
-        .build();
-    let meter = provider.meter("app");
-    let requests = requests(&provider);
-    let noise = meter.u64_counter("noise").build();
-    let size = meter
-        .u64_histogram("size")
-        .with_boundaries(vec![1, 10])
-        .build();
-    for status in [200, 404] {
-        requests.add(
-            1,
-            &[KeyValue::new("route", "/"), KeyValue::new("status", status)],
-        );
-    }
-    noise.add(1, &[]);
-    size.record(5, &[]);
-    let told = rows(&provider, &Ask::sum("app", "by_route", "1", true)?)?;
-    assert_eq!(
-        (told.len(), told[0].attributes.len(), total(&told)),
-        (1, 1, 2)
-    );
-    let told = rows(&provider, &Ask::histogram("app", "size", "", &[1, 10])?)?;
-    assert!(matches!(&told[0].total, Total::Histogram { buckets, .. } if *buckets == [0, 1, 0]));
-    let mut gateway = Gateway::open(1)?;
-    gateway.take(&provider.collect()?)?;
-    assert_eq!(gateway.streams()?.count()?, 2);
-    let falling = Aggregation::ExplicitBucketHistogram {
-        boundaries: vec![2, 1],
+fn a_gauge_has_the_last_value_of_any_thread() -> Done {
+    let provider = SdkMeterProvider::builder().with_cache(1).build();
+    let depth = provider.meter("app").i64_gauge("depth").build();
+    let (ready, go) = (Barrier::new(2), Barrier::new(2));
+    let value = || -> Result<Total, Box<dyn AnyError>> {
+        let told = rows(&provider, &Ask::gauge("app", "depth", "")?)?;
+        Ok(told[0].total.clone())
     };
-    let built = Stream::builder().with_aggregation(falling).build();
-    assert_eq!(built, Err(Error::BadBounds { view: 0 }));
-    let renamed = Stream::builder().with_name("9 lives").build();
-    assert_eq!(renamed, Err(Error::BadRename { view: 0 }));
+    // (this thread's log came first, and is taken in first)
+    depth.record(10, &[]);
+    thread::scope(|scope| {
+        scope.spawn(|| {
+            depth.record(11, &[]);
+            depth.record(12, &[KeyValue::new("queue", "b")]);
+            let (ready, go) = (&ready, &go);
+            ready.wait();
+            go.wait();
+        });
+        ready.wait();
+        depth.record(13, &[]);
+        let told = value();
+        go.wait();
+        assert!(matches!(told, Ok(Total::Gauge(Some((_, 13))))), "{told:?}");
+    });
+    assert_eq!(provider.refused(), 0);
     Ok(())
 }
 
 #[test]
-fn one_name_has_one_unit_where_there_are_views() -> Done {
-    let told = Told::default();
-    let provider = SdkMeterProvider::builder().on_refused(told.hook()).build();
-    let meter = provider.meter("app");
-    let first = meter.u64_histogram("size").with_boundaries(vec![1]).build();
-    let other = meter.u64_histogram("Size").with_unit("By").build();
-    first.record(1, &[]);
-    other.record(1, &[]);
-    let same = Error::SameStream {
-        first: 0,
-        second: 1,
+fn a_gauge_that_threads_set_in_turn_has_the_last_value() -> Done {
+    let provider = SdkMeterProvider::builder().with_cache(1).build();
+    let depth = provider.meter("app").i64_gauge("depth").build();
+    let last = Mutex::new(0_i64);
+    let set = || {
+        for _ in 0..25 {
+            let mut last = last.lock().unwrap_or_else(PoisonError::into_inner);
+            *last += 1;
+            depth.record(*last, &[]);
+            depth.record(*last, &[KeyValue::new("queue", "b")]);
+            drop(last);
+            thread::yield_now();
+        }
     };
-    assert_eq!(
-        told.all(),
-        [("Size".into(), same, 0), ("Size".into(), same, 1)]
+    for round in 1..=20 {
+        thread::scope(|scope| {
+            let threads: Vec<_> = (0..8).map(|_| scope.spawn(set)).collect();
+            assert!(threads.into_iter().all(|it| it.join().is_ok()));
+        });
+        let told = rows(&provider, &Ask::gauge("app", "depth", "")?)?;
+        assert_eq!(told.len(), 2);
+        for it in told {
+            assert!(
+                matches!(it.total, Total::Gauge(Some((_, value))) if value == round * 200),
+                "{it:?}"
+            );
+        }
+    }
+    assert_eq!(provider.refused(), 0);
+    Ok(())
+}
+
+/// It is called once, and what is refused in it is counted.
+#[test]
+fn a_hook_that_is_refused_itself_is_not_called_for_that() -> Done {
+    let (counter, told) = (
+        Arc::<Mutex<Option<Counter<u64>>>>::default(),
+        Told::default(),
     );
+    let (inner, list) = (Arc::clone(&counter), told.hook());
+    let provider = SdkMeterProvider::builder()
+        .on_refused(move |it| {
+            list(it);
+            let refused = inner.lock().unwrap_or_else(PoisonError::into_inner).clone();
+            refused
+                .into_iter()
+                .for_each(|it: Counter<u64>| it.add(u64::MAX, &[]));
+        })
+        .build();
+    let requests = requests(&provider);
+    *counter.lock().unwrap_or_else(PoisonError::into_inner) = Some(requests.clone());
+    for round in 1..=3 {
+        requests.add(u64::MAX, &[]);
+        assert_eq!(
+            (told.all().len() as u64, provider.refused()),
+            (round, 2 * round)
+        );
+    }
+    *counter.lock().unwrap_or_else(PoisonError::into_inner) = None;
     Ok(())
 }
 

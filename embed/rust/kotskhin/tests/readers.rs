@@ -303,10 +303,12 @@ fn a_file_has_the_newest_export() -> Done {
     let mut otlp = FileExporter::new(&path).with_otlp();
     otlp.export(&provider.collect()?)?;
     assert_eq!(Export::of_otlp(&fs::read(&path)?)?.len(), 1);
-    fs::remove_file(&path)?;
     let nowhere = FileExporter::new("/nowhere/at/all");
     let mut failing = nowhere.with_encoding(|it| Ok(it.encode()?));
     assert!(failing.export(&provider.collect()?).is_err());
+    // (the last export is a file, too)
+    provider.shutdown()?;
+    fs::remove_file(&path)?;
     Ok(())
 }
 
@@ -374,7 +376,7 @@ fn http_brings_an_export_and_tells_what_is_answered() -> Done {
     let brought = Export::of_otlp(body)?;
     assert_eq!((brought.len(), total(&brought[0].encode()?)?), (1, 7));
     let (head, body) = &told[1];
-    assert!(head.contains(&"Content-Type: application/octet-stream".into()));
+    assert!(head.contains(&"Content-Type: application/vnd.kotskhin.export".into()));
     assert_eq!(total(body)?, 7);
     Ok(())
 }

@@ -5,17 +5,17 @@ use Rattle.archive_kit.specs.Keeping.{has_name}
 use Rattle.archive_kit.proofs.Skipping.{gone_more, not_gone, same_incarnation}
 use Rattle.archive_kit.proofs.keeper.add_held.Goals as goal
 
-pub returns-then-not-named : goal.returns-then-not-named
-returns-then-not-named c = λ k.
-    let none : c.in_ok-named.named ≡ false = search rules in
+pub returns-then-not-has_name : goal.returns-then-not-has_name
+returns-then-not-has_name c = λ k.
+    let none : c.has_name.result ≡ false = search rules in
     not_gone c.args.gone.now.items k (has_name c.args.names.now k.writer k.start) (is_of_incarnation c.args.held.writer.now c.args.held.start k)
-    (λ t. sym (same_incarnation c.args.held.writer.now c.args.held.start k t c.args.names.now) ∙ sym c.in_ok-named.ensures ∙ none)
+    (λ t. sym (same_incarnation c.args.held.writer.now c.args.held.start k t c.args.names.now) ∙ sym c.has_name.ensures ∙ none)
 
 pub returns : goal.returns
 returns c = λ k.
-    let some : c.in_ok-named.named ≡ true = search rules in
+    let some : c.has_name.result ≡ true = search rules in
     gone_more c.args.gone.now.items c.push.new.self.items (record { writer = c.in_ok-try_copy.field-0; start = c.args.held.start }) k
     (has_name c.args.names.now k.writer k.start) (is_of_incarnation c.args.held.writer.now c.args.held.start k)
     c.in_ok-push.ensures.items
     (ap (λ (w : WriterId). is_of_incarnation w c.args.held.start k) c.in_ok-try_copy.ensures.value)
-    (λ t. sym (same_incarnation c.args.held.writer.now c.args.held.start k t c.args.names.now) ∙ sym c.in_ok-named.ensures ∙ some)
+    (λ t. sym (same_incarnation c.args.held.writer.now c.args.held.start k t c.args.names.now) ∙ sym c.has_name.ensures ∙ some)

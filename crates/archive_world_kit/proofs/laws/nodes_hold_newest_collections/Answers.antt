@@ -3,6 +3,8 @@ use Rattle.archive_world_kit.proofs.laws.nodes_hold_newest_collections.Goals as 
 
 pub returns : goal.returns
 returns g c = record {
-  part = λ s starts seen fits gateways ss is sound told g w start there x seen_there. part_held s starts seen fits gateways ss is sound told g w start there x seen_there;
-  just = λ s starts seen fits gateways ss is sound told g w start there all_shown. holds_just s starts seen fits gateways ss is sound told g w start there all_shown;
+  part = λ h sound told g w start there x seen_there.
+      part_held h.writing h.starts h.seen h.fits h.gateways h.steps h.is sound told g w start there x seen_there;
+  just = λ h sound told g w start there all_shown.
+      holds_just h.writing h.starts h.seen h.fits h.gateways h.steps h.is sound told g w start there all_shown;
 }

@@ -6,7 +6,10 @@ use Rattle.file_kit.proofs.answers.report.Goals as goal
 
 pub returns-clause-value : goal.returns-clause-value
 returns-clause-value c = (
-  c.gateway.result.now.points,
-  still_shows _ c.in_ok-keeper.keeper.gateway.points _ (ap (λ (g : GatewayState). g.points) c.gateway.ensures.value) c.in_ok-keeper.ensures.value,
-  c.in_ok-table.ensures.value ∙ ap table_text c.as_slice.ensures ∙ ap table_text c.in_ok-rows.ensures.value,
+  c.gateway-shown.result.now.points,
+  still_shows _ c.in_ok-keeper.keeper.gateway.points _ (ap (λ (g : GatewayState). g.points) c.gateway-shown.ensures.value) c.in_ok-keeper.ensures.value,
+  record {
+    table = c.in_ok-table.ensures.value ∙ ap table_text c.as_slice.ensures ∙ ap table_text c.in_ok-rows.ensures.value;
+    others = c.in_ok-others.ensures;
+  },
 )

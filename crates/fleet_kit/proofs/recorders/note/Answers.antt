@@ -11,8 +11,9 @@ loop-place-preserved g c =
     let rs = c.loop-place.log.log in
     let e = c.index-entry.result.now in
     let value : to_z w64 (of_z w64 c.index-entry.result.now.2) ≡ c.index-entry.result.now.2 = search rules in
+    let after = on_ok c.measure.result _ (sym c.is_err.ensures.value ∙ c.if-is_err.false) c.measure.ensures.value in
     let new : c.measure.new.self.log ≡ c.loop-place.log.log ++ ByName (as_entry c.index-entry.result.now) ∷ [] =
-    ap (λ r. r.log) (on_ok c.measure.result _ (sym c.is_err.ensures.value ∙ c.if-is_err.false) c.measure.ensures.value)
+    ap (λ r. r.log) after
     ∙ ap (λ v. c.loop-place.log.log ++ ByName (entry_of c.index-entry.result.now.0 c.index-entry.result.now.1 v) ∷ []) value in
     let long : length (c.loop-place.log.log ++ ByName (as_entry c.index-entry.result.now) ∷ []) ≡ length c.loop-place.log.log + 1 = length-append rs (ByName (as_entry e) ∷ []) in
     let whole = ap length new in
@@ -21,4 +22,5 @@ loop-place-preserved g c =
     let passed = subst (λ b. g.G.Gate.passes c.args.gate.now c.args.number c.loop-place.place b) c.if-not-pass.false c.pass.ensures in (
       noted_more (g.G.Gate.passes c.args.gate.now) c.args.number c.args.job.now c.args.from rs c.measure.new.self.log c.loop-place.place e kept.0 kept.1 less c.index-entry.ensures passed new,
       omega (arith, long, whole, place),
+      ap (λ r. r.capacity) after ∙ kept.2,
     )

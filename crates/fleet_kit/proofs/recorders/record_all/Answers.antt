@@ -9,7 +9,7 @@ use Rattle.fleet_kit.proofs.recorders.record_all.Goals as goal
 pub loop-done-init : goal.loop-done-init
 loop-done-init g c =
     let first = first_of c.args.shared.now in
-    (c.requires.at, ap (λ r. r.log) c.in-Ok.ensures, c.requires.fresh, new_recorded first.tally.plan first.start, (λ entry less. absurd (omega (arith, less))), omega arith)
+    (c.requires.at, ap (λ r. r.log) c.in-Ok.ensures, c.requires.fresh, new_recorded first.tally.plan first.start, (λ entry less. absurd (omega (arith, less))), omega arith, (let small = ap (λ r. r.capacity) c.in-Ok.ensures in omega (arith, small, c.min.ensures)))
 
 pub returns-then-is_some-clause-ends : goal.returns-then-is_some-clause-ends
 returns-then-is_some-clause-ends g c =
@@ -47,6 +47,7 @@ loop-done-preserved g c =
       subst (HasRecorded (first_of c.args.shared.now).tally.plan (first_of c.args.shared.now).start) now (if_none_of c.take_in-refused.result _ none c.take_in-refused.ensures.recorded),
       subst (LetPass (g.G.Gate.passes c.args.gate.now) c.args.number) next (part_passed passes c.args.number c.args.job.now c.loop-done.done rs x kept.4),
       (let there = part_there passes c.args.number c.args.job.now c.loop-done.done rs x in omega (arith, there, many)),
+      (let same = if_none_of c.take_in-refused.result _ none c.take_in-refused.ensures.capacity in omega (arith, same, c.note-stopped.ensures.capacity, kept.6)),
     )
 
 pub returns-clause-ends : goal.returns-clause-ends

@@ -1,5 +1,6 @@
-use Rattle.std.proofs.Common.{rules, arith, ◌≡◌, [], refl}
-use Rattle.fleet_kit.proofs.Noting.{full_history, now_has_recorded, takes_all, takes_not}
+use Rattle.std.proofs.Common.{rules, arith, ◌≡◌, [], ap, refl}
+use Rattle.recorder_kit.specs.Log.{Logged}
+use Rattle.fleet_kit.proofs.Noting.{full_history, now_has_recorded, takes_all, takes_not, takes_part}
 use Rattle.fleet_kit.proofs.Runs.{within}
 use Rattle.fleet_kit.proofs.recorders.take_in.Goals as goal
 
@@ -32,3 +33,12 @@ returns-then-is_empty-clause-recorded g c =
 pub returns-in_default-clause-full : goal.returns-in_default-clause-full
 returns-in_default-clause-full g c none =
     full_history c.args.shared.now c.args.seat.now c.take_in.new.seat c.take_in.result c.requires.new c.in_default.not-Ok c.take_in.ensures.busy c.take_in.ensures.exhausted c.take_in.ensures.refused
+
+pub returns-then-is_empty-clause-capacity : goal.returns-then-is_empty-clause-capacity
+returns-then-is_empty-clause-capacity g c = ap (λ (l : Logged). l.capacity) c.in-Ok.ensures.ok.reply.rest
+
+pub returns-else-is_empty-clause-memory : goal.returns-else-is_empty-clause-memory
+returns-else-is_empty-clause-memory g c = λ told es is.
+    let own = c.requires.at.1 in
+    let left : c.take_in.new.recorder.log ≡ [] → ⊥ = search rules in
+    takes_part c.args.shared.now c.args.seat.now c.take_in.new.seat c.args.log.now c.take_in.new.recorder 18446744073709551615 c.in-Ok.taken own c.in-Ok.ensures.ok c.in_default-first.is left es is

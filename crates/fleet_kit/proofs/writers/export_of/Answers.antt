@@ -1,4 +1,4 @@
-use Rattle.std.proofs.Common.{◌≡◌, inr, refl, subst}
+use Rattle.std.proofs.Common.{◌≡◌, inl, inr, refl, subst}
 use Rattle.fleet_kit.proofs.Stops.{err_then, not_run, ok_always, told_err, well_run}
 use Rattle.fleet_kit.specs.Ends.{AllEnd, StopsShort}
 use Rattle.fleet_kit.specs.declared.halt.Halt.TheVariants.{NoMemory}
@@ -22,4 +22,4 @@ pub returns-clause-err : goal.returns-clause-err
 returns-clause-err g c =
     let ended = subst (λ v. AllEnd (g.G.Gate.passes c.args.gate.now) (λ _. v.tally.plan) (λ _. v.start) (λ w. w ≡ c.args.place) c.args.jobs.now) c.in-Ok.ensures.first.0 c.in_ok-run_jobs.ensures.ends in
     err_then c.export_closed.result _ (StopsShort (g.G.Gate.passes c.args.gate.now) (λ _. c.args.writer.tally.plan) (λ _. c.args.writer.start) (λ w. w ≡ c.args.place) c.args.jobs.now)
-    (λ h is. well_run (g.G.Gate.passes c.args.gate.now) (λ _. c.args.writer.tally.plan) (λ _. c.args.writer.start) (λ w. w ≡ c.args.place) c.args.jobs.now ended h is) c.export_closed.ensures.err
+    (λ h is. well_run (g.G.Gate.passes c.args.gate.now) (λ _. c.args.writer.tally.plan) (λ _. c.args.writer.start) (λ w. w ≡ c.args.place) c.args.jobs.now ended h (elim is [ inl out ↦ inl out.0 | inr short ↦ inr short ])) c.export_closed.ensures.err

@@ -10,12 +10,12 @@ use Rattle.recorder_kit.proofs.Outcomes.{noted-more}
 use Rattle.recorder_kit.proofs.taken.take_lines.Goals as goal
 
 pub record_line-told-requires-clause-there : goal.record_line-told-requires-clause-there
-record_line-told-requires-clause-there c = there-get c.args.named.now.keys c.args.sets.now.keys c.args.lines.now c.loop-line.line-index (record { at = Number 0; value = pos 0 }) c.requires c.loop-line-test.true
+record_line-told-requires-clause-there c = there-get c.args.names.now.named.keys c.args.names.now.sets.keys c.args.lines.now c.loop-line.line-index (record { at = Number 0; value = pos 0 }) c.requires c.loop-line-test.true
 
 pub loop-line-preserved : goal.loop-line-preserved
 loop-line-preserved c =
-    let ns = c.args.named.now.keys in
-    let ks = c.args.sets.now.keys in
+    let ns = c.args.names.now.named.keys in
+    let ks = c.args.names.now.sets.keys in
     let ls = c.args.lines.now in
     let i = c.loop-line.line-index in
     let d : Line = record { at = Number 0; value = pos 0 } in

@@ -1,8 +1,11 @@
 //! A thread that collects once in an interval and pushes what it collected.
 use super::Meter;
+use crate::home::Home;
+use crate::logging::Failures;
 use crate::{Error, Export};
 use std::fmt;
 use std::io;
+use std::mem;
 use std::sync::Arc;
 use std::sync::atomic::{AtomicU64, Ordering};
 use std::sync::mpsc::{self, Receiver, RecvTimeoutError, Sender};
@@ -97,11 +100,12 @@ enum Request {
 /// Collects from a meter once in an interval, on a thread of its own, and pushes each export (OpenTelemetry Metrics SDK, "Periodic
 /// exporting MetricReader").
 ///
-/// An export that fails is counted and forgotten: the next collection covers it. Only the last one has no next, so
-/// [`shutdown`](Self::shutdown) hands it back.
+/// An export that fails is counted and forgotten: the next collection covers it. The standard error has a line of the first failure of each
+/// reason in a row. Only the last export has no next, so [`shutdown`](Self::shutdown) hands it back.
 #[derive(Debug)]
 pub struct PeriodicReader {
-    requests: Sender<Request>,
+    home: Home,
+    requests: Option<Sender<Request>>,
     failed: Arc<AtomicU64>,
     thread: Option<JoinHandle<()>>,
 }
@@ -126,12 +130,14 @@ impl PeriodicReader {
             meter: meter.clone(),
             exporter,
             failed: Arc::clone(&failed),
+            logged: Failures::default(),
         };
         let thread = thread::Builder::new()
             .name("kotskhin-reader".into())
             .spawn(move || pushing.run(&asked, interval))?;
         Ok(PeriodicReader {
-            requests,
+            home: Home::here(),
+            requests: Some(requests),
             failed,
             thread: Some(thread),
         })
@@ -154,8 +160,10 @@ impl PeriodicReader {
     }
 
     fn ask(&self, request: fn(Sender<Answer>) -> Request, timeout: Duration) -> Answer {
+        self.home.checked().map_err(ReadError::Collect)?;
         let (answer, answered) = mpsc::channel();
-        if self.requests.send(request(answer)).is_err() {
+        let requests = self.requests.as_ref().ok_or(ReadError::Stopped)?;
+        if requests.send(request(answer)).is_err() {
             return Err(ReadError::Stopped);
         }
         answered
@@ -170,6 +178,11 @@ impl PeriodicReader {
         let Some(thread) = self.thread.take() else {
             return Ok(());
         };
+        if let Err(forked) = self.home.checked() {
+            // (both are of a thread that is not here)
+            mem::forget((self.requests.take(), thread));
+            return Err(ReadError::Collect(forked));
+        }
         let answer = self.ask(Request::Shutdown, timeout);
         // (a thread that answers nothing in time would not be joined in time either)
         if !matches!(answer, Err(ReadError::TimedOut)) {
@@ -179,7 +192,8 @@ impl PeriodicReader {
     }
 }
 
-/// Shuts down, within 30 seconds. What comes of it is lost: call `shutdown` to learn it.
+/// Shuts down, within 30 seconds. What comes of it is lost: call `shutdown` to learn it. In a child of a fork, where the thread is not,
+/// nothing is brought or waited for.
 impl Drop for PeriodicReader {
     fn drop(&mut self) {
         let _ = self.end(DROP_TIMEOUT);
@@ -191,6 +205,7 @@ struct Pushing<E> {
     meter: Meter,
     exporter: E,
     failed: Arc<AtomicU64>,
+    logged: Failures,
 }
 
 impl<E: PushExporter> Pushing<E> {
@@ -235,8 +250,12 @@ impl<E: PushExporter> Pushing<E> {
                 .export(&unsent)
                 .map_err(|error| ReadError::Export { error, unsent })
         });
-        if pushed.is_err() {
-            self.failed.fetch_add(1, Ordering::Relaxed);
+        match &pushed {
+            Ok(()) => self.logged.end(),
+            Err(why) => {
+                self.failed.fetch_add(1, Ordering::Relaxed);
+                self.logged.log(why);
+            }
         }
         pushed
     }

@@ -44,6 +44,26 @@ pub(super) fn body_of(answer: &[u8], is_over: bool) -> Option<Vec<u8>> {
     }
 }
 
+/// The first line of a body, of so many bytes at most, as it came so far, and whether it is whole. Of a body by chunks it is that of the
+/// first one.
+pub(super) fn beginning_of(answer: &[u8], most: usize) -> (&[u8], bool) {
+    let Some((head, mut rest)) = parts(answer) else {
+        return (&[], false);
+    };
+    let mut length = header(&head, "content-length").and_then(|it| it.parse().ok());
+    if header(&head, "transfer-encoding").is_some_and(|it| it.ends_with("chunked")) {
+        let Some(end) = place(rest, b"\r\n") else {
+            return (&[], false);
+        };
+        length = usize::from_str_radix(&String::from_utf8_lossy(&rest[..end]), 16).ok();
+        rest = &rest[end + 2..];
+    }
+    let most = length.map_or(most, |it| most.min(it));
+    let rest = &rest[..most.min(rest.len())];
+    let line = rest.split(|it| *it == b'\n').next().unwrap_or_default();
+    (line, line.len() < rest.len() || rest.len() == most)
+}
+
 /// A body that comes by chunks (RFC 9112, 7.1).
 fn unchunked(mut rest: &[u8]) -> Option<Vec<u8>> {
     let mut body = Vec::new();

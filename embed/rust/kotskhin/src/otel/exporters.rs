@@ -1,12 +1,13 @@
 //! Exporters: tables, a file, and HTTP.
 use super::answers::{MOST, NotTaken, not_taken};
-use super::bodies::{body_of, late_of};
+use super::bodies::{beginning_of, body_of, late_of};
+use super::files;
 use crate::ask::Ask;
 use crate::export::Export;
 use crate::gateway::Gateway;
+use crate::logging::without_controls;
 use crate::metrics::{ExportError, PushExporter};
 use std::fmt;
-use std::fs;
 use std::io::{self, ErrorKind, Read, Write};
 use std::net::{TcpStream, ToSocketAddrs};
 use std::path::PathBuf;
@@ -59,7 +60,8 @@ impl PushExporter for ConsoleExporter {
     }
 }
 
-/// Writes each export into one file, in the place of the one before, which it covers. Who reads the file finds a whole one at any time.
+/// Writes each export into one file, in the place of the one before, which it covers. Who reads the file finds a whole one at any time: it
+/// is written beside it under a name of its own, and put into its place then. Its mode is what the process' umask leaves of 0666.
 pub struct FileExporter {
     path: PathBuf,
     encode: Encode,
@@ -97,14 +99,8 @@ impl FileExporter {
 
 impl PushExporter for FileExporter {
     fn export(&mut self, export: &Export) -> Result<(), ExportError> {
-        let mut beside = self.path.clone().into_os_string();
-        beside.push(".new");
         let bytes = (self.encode)(export)?;
-        let mut file = fs::File::create(&beside)?;
-        file.write_all(&bytes)?;
-        file.sync_data()?;
-        fs::rename(&beside, &self.path)?;
-        Ok(())
+        Ok(files::replaced(&self.path, &bytes)?)
     }
 }
 
@@ -112,11 +108,14 @@ impl PushExporter for FileExporter {
 const DEFAULT_TIMEOUT: Duration = Duration::from_secs(10);
 /// The most that is read of an answer's first line.
 const LINE: usize = 1024;
+/// How long the body of a refusal is waited for: it is for people.
+const REFUSAL: Duration = Duration::from_secs(1);
 /// The most that is read of an answer, with its headers.
 const ANSWER: usize = 2 * MOST;
 
 /// Sends each export as the body of a POST, over plain HTTP/1.1, by a connection of its own: a request of OTLP, as a Collector takes it at
-/// `/v1/metrics`. An answer other than 2xx is a failure. One that says that some of the export was not taken fails as a [`NotTaken`].
+/// `/v1/metrics`. An answer other than 2xx is a failure, which has the first line of what it says. One that says that some of the export was
+/// not taken fails as a [`NotTaken`].
 ///
 /// `https` is not spoken: a proxy on the same machine does that.
 ///
@@ -206,9 +205,9 @@ impl HttpExporter {
         Ok(self)
     }
 
-    /// The kit's own bytes, and not OTLP.
+    /// The kit's own bytes, and not OTLP: as `application/vnd.kotskhin.export`.
     pub fn with_own_bytes(mut self) -> HttpExporter {
-        self.content_type = "application/octet-stream".to_owned();
+        self.content_type = "application/vnd.kotskhin.export".to_owned();
         self.encode = own_bytes();
         self
     }
@@ -274,9 +273,10 @@ impl HttpExporter {
         let is_http = words.next().is_some_and(|it| it.starts_with("HTTP/1."));
         let code = words.next().and_then(|it| it.parse::<u16>().ok());
         let is_good = is_http && matches!(code, Some(200..300));
-        let body = match is_good {
-            true => read_body(&mut stream, &mut told, until),
-            false => Vec::new(),
+        let body = match (is_good, is_http) {
+            (true, _) => read_body(&mut stream, &mut told, until),
+            (false, true) => read_line(&mut stream, &mut told, until),
+            _ => Vec::new(),
         };
         Ok(Answer {
             line,
@@ -287,12 +287,23 @@ impl HttpExporter {
     }
 }
 
-/// An answer: its first line, whether it is one of 2xx, and then how many exports were late, and its body.
+/// An answer: its first line, whether it is one of 2xx, and then how many exports were late, and its body: else the first line of that.
 struct Answer {
     line: String,
     is_good: bool,
     late: u64,
     body: Vec<u8>,
+}
+
+impl Answer {
+    /// What it says, where it is none of 2xx.
+    fn refusal(&self) -> String {
+        let line = without_controls(&self.line);
+        match without_controls(&String::from_utf8_lossy(&self.body)).trim() {
+            "" => format!("answered '{line}'"),
+            why => format!("answered '{line}': {why}"),
+        }
+    }
 }
 
 /// The rest of an answer, up to the end of its body. (What was sent is taken: a body that does not come whole says nothing.)
@@ -306,6 +317,20 @@ fn read_body(stream: &mut TcpStream, told: &mut Vec<u8>, until: Instant) -> Vec<
         }
     }
     Vec::new()
+}
+
+/// The first line of an answer's body, as far as it comes soon.
+fn read_line(stream: &mut TcpStream, told: &mut Vec<u8>, until: Instant) -> Vec<u8> {
+    let until = until.min(Instant::now() + REFUSAL);
+    loop {
+        let (line, is_whole) = beginning_of(told, LINE);
+        if is_whole || told.len() > ANSWER {
+            return line.to_vec();
+        }
+        if !matches!(more(stream, told, until), Ok(true)) {
+            return beginning_of(told, LINE).0.to_vec();
+        }
+    }
 }
 
 /// Reads on, and tells whether anything came before the end.
@@ -359,7 +384,7 @@ impl PushExporter for HttpExporter {
         let body = (self.encode)(export)?;
         let answer = self.posted(&body)?;
         if !answer.is_good {
-            return Err(format!("{}:{} answered '{}'", self.host, self.port, answer.line).into());
+            return Err(format!("{}:{} {}", self.host, self.port, answer.refusal()).into());
         }
         match not_taken(&answer.body, answer.late) {
             Some(why) => Err(why.into()),

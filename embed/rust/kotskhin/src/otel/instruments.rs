@@ -1,6 +1,7 @@
 //! Meters and their instruments.
 use super::key_value::KeyValue;
-use super::shared::{Refusal, Shared};
+use super::shared::Shared;
+use super::telling::{Refusal, Refused};
 use super::views::Instrument;
 use crate::error::Error;
 use crate::plan::Kind;
@@ -24,30 +25,39 @@ struct Inner {
 impl Part {
     #[inline]
     fn record(&self, value: i64, attributes: &[KeyValue]) {
-        let noted = match self.0.number {
-            Ok(number) => self.0.shared.record(number, attributes, value),
-            Err(why) => Err(why),
-        };
-        if let Err(why) = noted {
-            self.refuse(why, 1);
-        }
+        let number = self.0.number;
+        self.told(number.and_then(|it| self.0.shared.record(it, attributes, value)));
+    }
+
+    /// The same of a gauge.
+    #[inline]
+    fn record_last(&self, value: i64, attributes: &[KeyValue]) {
+        let (number, shared) = (self.0.number, &self.0.shared);
+        self.told(number.and_then(|it| shared.record_at_once(it, attributes, value)));
+    }
+
+    /// A value as the kit's whole numbers have it: one that is none is refused.
+    #[inline]
+    fn whole(&self, value: u64) -> Option<i64> {
+        let whole = i64::try_from(value).map_err(|_| Error::ValueTooWide { value });
+        whole.map_err(|why| self.told(Err(why))).ok()
     }
 
     #[inline]
-    fn record_unsigned(&self, value: u64, attributes: &[KeyValue]) {
-        match i64::try_from(value) {
-            Ok(value) => self.record(value, attributes),
-            Err(_) => self.refuse(Error::ValueTooWide { value }, 1),
+    fn told(&self, recorded: Result<(), Error>) {
+        if let Err(why) = recorded {
+            self.refuse(Refused::Recordings, why);
         }
     }
 
     #[cold]
-    fn refuse(&self, why: Error, count: u64) {
+    fn refuse(&self, what: Refused, why: Error) {
         self.0.shared.refuse(&Refusal {
             instrument: self.0.name.clone(),
             declared: Some(self.0.declared),
+            what,
             why,
-            count,
+            count: u64::from(what == Refused::Recordings),
         });
     }
 }
@@ -90,7 +100,8 @@ instrument!(
     UpDownCounter
 );
 instrument!(
-    /// Values of which the last one counts.
+    /// Values of which the last one counts, whichever thread recorded it. So a recording goes to the writer at once, which one thread at a
+    /// time has: it waits for others', and for collections.
     Gauge
 );
 instrument!(
@@ -102,7 +113,9 @@ impl Counter<u64> {
     /// Adds a value. One above 2^63 - 1 is refused.
     #[inline]
     pub fn add(&self, value: u64, attributes: &[KeyValue]) {
-        self.0.record_unsigned(value, attributes);
+        if let Some(value) = self.0.whole(value) {
+            self.0.record(value, attributes);
+        }
     }
 }
 
@@ -118,7 +131,7 @@ impl Gauge<i64> {
     /// Records a value.
     #[inline]
     pub fn record(&self, value: i64, attributes: &[KeyValue]) {
-        self.0.record(value, attributes);
+        self.0.record_last(value, attributes);
     }
 }
 
@@ -126,7 +139,9 @@ impl Gauge<u64> {
     /// Records a value. One above 2^63 - 1 is refused.
     #[inline]
     pub fn record(&self, value: u64, attributes: &[KeyValue]) {
-        self.0.record_unsigned(value, attributes);
+        if let Some(value) = self.0.whole(value) {
+            self.0.record_last(value, attributes);
+        }
     }
 }
 
@@ -134,7 +149,9 @@ impl Histogram<u64> {
     /// Records a value. One above 2^63 - 1 is refused.
     #[inline]
     pub fn record(&self, value: u64, attributes: &[KeyValue]) {
-        self.0.record_unsigned(value, attributes);
+        if let Some(value) = self.0.whole(value) {
+            self.0.record(value, attributes);
+        }
     }
 }
 
@@ -189,15 +206,20 @@ impl Meter {
         declared: &'static Location<'static>,
     ) -> T {
         let name = instrument.name.clone();
-        let number = self.shared.declare(instrument, boundaries);
+        let mut passed_over = Vec::new();
+        let shared = &self.shared;
+        let number = shared.declare(instrument, boundaries, &mut passed_over);
         let part = Part(Arc::new(Inner {
             shared: Arc::clone(&self.shared),
             number,
             name,
             declared,
         }));
+        for why in passed_over {
+            part.refuse(Refused::View, why);
+        }
         if let Err(why) = number {
-            part.refuse(why, 0);
+            part.refuse(Refused::Instrument, why);
         }
         T::of(part)
     }

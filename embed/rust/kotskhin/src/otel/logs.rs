@@ -160,8 +160,8 @@ pub(super) struct Log {
     pub is_closed: bool,
 }
 
-/// Which way a recording is noted.
-enum Way {
+/// Which way a recording goes: by a number, or by the set itself.
+pub(super) enum Way {
     Number(HeldNumber),
     Set(Attributes),
 }
@@ -190,44 +190,60 @@ impl Log {
         let room = Places::room_of(instrument, attributes);
         match self.places.find(room, instrument, attributes) {
             Some(number) => self.recorder.measure_held(number, value),
-            None => self.note_read(at, room, instrument, attributes, value),
+            None => match self.way_read(at, room, instrument, attributes)? {
+                Way::Number(number) => self.recorder.measure_held(number, value),
+                Way::Set(set) => self.recorder.measure(instrument, &set, value),
+            },
         }
     }
 
-    /// The same, where texts have to be read.
+    /// The way of a recording that is not noted here. Refused: `Closed`, `EmptyKey`, `NoMemory`.
+    pub fn way(
+        &mut self,
+        at: (&Mutex<Core>, &RwLock<Cache>),
+        instrument: usize,
+        attributes: &[KeyValue],
+    ) -> Result<Way, Error> {
+        if self.is_closed {
+            return Err(Error::Closed);
+        }
+        let room = Places::room_of(instrument, attributes);
+        match self.places.find(room, instrument, attributes) {
+            Some(number) => Ok(Way::Number(number)),
+            None => self.way_read(at, room, instrument, attributes),
+        }
+    }
+
+    /// The way of a recording whose texts have to be read.
     #[inline(never)]
-    fn note_read(
+    fn way_read(
         &mut self,
         at: (&Mutex<Core>, &RwLock<Cache>),
         room: usize,
         instrument: usize,
         attributes: &[KeyValue],
-        value: i64,
-    ) -> Result<(), Error> {
+    ) -> Result<Way, Error> {
         let way = match self.numbers.find(instrument, attributes) {
             Some(number) => Way::Number(number),
-            None => self.way(at, instrument, attributes)?,
+            None => self.new_way(at, instrument, attributes)?,
         };
-        match way {
-            Way::Number(number) => {
-                self.places.keep(room, instrument, attributes, number);
-                self.recorder.measure_held(number, value)
-            }
-            Way::Set(set) => self.recorder.measure(instrument, &set, value),
+        if let Way::Number(number) = way {
+            self.places.keep(room, instrument, attributes, number);
         }
+        Ok(way)
     }
 
-    /// Of a pair that this thread has not seen. A number is looked for in the cache, or made where it has room and nobody has the writer:
-    /// a recording is not to wait for it. Else the set itself is noted.
-    fn way(
+    /// Of a pair that this thread has not seen. A number is looked for in the cache, or made where it has room: no lock is waited for, since
+    /// a recording is not to wait, and in a child of a fork a lock may never be given back. Else it goes by the set itself.
+    fn new_way(
         &mut self,
         (core, cache): (&Mutex<Core>, &RwLock<Cache>),
         instrument: usize,
         attributes: &[KeyValue],
     ) -> Result<Way, Error> {
-        let (known, is_full) = {
-            let cache = cache.read().unwrap_or_else(|it| it.into_inner());
-            (cache.numbers.entry(instrument, attributes), cache.is_full())
+        let (known, is_full) = match free(cache.try_read()) {
+            Some(cache) => (cache.numbers.entry(instrument, attributes), cache.is_full()),
+            None => (None, true),
         };
         if let Some((key, number)) = known {
             self.numbers.keep(instrument, key, number);
@@ -237,16 +253,13 @@ impl Log {
         if is_full {
             return Ok(Way::Set(set));
         }
-        let mut core = match core.try_lock() {
-            Ok(core) => core,
-            Err(TryLockError::Poisoned(it)) => it.into_inner(),
-            Err(TryLockError::WouldBlock) => return Ok(Way::Set(set)),
+        let Some(mut core) = free(core.try_lock()) else {
+            return Ok(Way::Set(set));
         };
         // (others may have been first: who has the writer alone changes the cache)
-        let mut cache = cache.write().unwrap_or_else(|it| it.into_inner());
-        if cache.is_full() {
+        let Some(mut cache) = free(cache.try_write()).filter(|it| !it.is_full()) else {
             return Ok(Way::Set(set));
-        }
+        };
         let number = core.writer.hold(instrument, &set)?;
         let key = cache.keep(instrument, attributes, number);
         self.numbers.keep(instrument, key, number);
@@ -256,6 +269,15 @@ impl Log {
     /// Takes in what is noted.
     pub fn take_in(&mut self, core: &mut Core) -> Result<Taken, Error> {
         core.writer.take_in(&mut self.recorder, usize::MAX)
+    }
+}
+
+/// What a lock is of, where nobody else has it.
+fn free<T>(tried: Result<T, TryLockError<T>>) -> Option<T> {
+    match tried {
+        Ok(it) => Some(it),
+        Err(TryLockError::Poisoned(it)) => Some(it.into_inner()),
+        Err(TryLockError::WouldBlock) => None,
     }
 }
 
@@ -282,20 +304,21 @@ thread_local! {
     static OWN: RefCell<Vec<Own>> = const { RefCell::new(Vec::new()) };
 }
 
-/// Does something with the log of this thread, which it is given where it has none. `None` where the thread is ending. Refused: as
-/// `Shared::new_slot` is. What is done calls nothing of the host's, which might record.
+/// Does something with the log of this thread, which it is given where it has none. `None` where the thread is ending. Refused: `Forked`,
+/// and as `Shared::new_slot` is. What is done calls nothing of the host's, which might record.
 #[inline]
 pub(super) fn with_own<T>(
     shared: &Arc<Shared>,
-    call: impl FnOnce(&Slot) -> T,
+    call: impl FnOnce(&mut Log) -> Result<T, Error>,
 ) -> Option<Result<T, Error>> {
     OWN.try_with(|own| {
         let is_there = |it: &&Own| it.provider == shared.number();
         if let Some(there) = own.borrow().iter().find(is_there) {
-            return Ok(call(&there.slot));
+            return call(&mut *shared.home().locked(&there.slot)?);
         }
         let slot = new_own(shared, own)?;
-        Ok(call(&slot))
+        let mut log = shared.home().locked(&slot)?;
+        call(&mut log)
     })
     .ok()
 }

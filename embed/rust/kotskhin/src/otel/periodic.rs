@@ -1,8 +1,10 @@
 //! A reader that collects once in an interval.
 use super::provider::SdkError;
-use super::shared::{Hook, Shared, locked, tell};
+use super::shared::{Shared, locked};
+use super::telling::{Hook, tell};
 use crate::error::Error;
 use crate::export::Export;
+use crate::logging::Failures;
 use crate::metrics::{DEFAULT_INTERVAL, ExportError, PushExporter};
 use std::fmt;
 use std::panic::{AssertUnwindSafe, catch_unwind};
@@ -89,7 +91,8 @@ impl PeriodicReaderBuilder {
     }
 
     /// What is told of each export that failed, with its reason, on the reader's thread. A panic in it is caught. It is not to flush or to
-    /// shut down: that would wait for itself.
+    /// shut down: that would wait for itself. Where there is none the standard error has a line of the first failure of each reason in a
+    /// row.
     pub fn on_failed(mut self, hook: impl Fn(&SdkError) + Send + Sync + 'static) -> Self {
         self.0.on_failed = Some(Box::new(hook));
         self
@@ -269,6 +272,8 @@ struct Reading {
     worker: Worker,
     timeout: Duration,
     on_failed: Option<Hook<SdkError>>,
+    /// Of failures, where there is no hook.
+    logged: Failures,
     failed: Arc<AtomicU64>,
 }
 
@@ -287,6 +292,7 @@ impl Reading {
             worker,
             timeout: reader.timeout,
             on_failed: reader.on_failed,
+            logged: Failures::default(),
             failed,
         };
         let mut due = Instant::now().checked_add(reader.interval);
@@ -309,10 +315,13 @@ impl Reading {
     }
 
     /// Counts a failure, and tells it.
-    fn told(&self, answer: Answer) -> Answer {
+    fn told(&mut self, answer: Answer) -> Answer {
         if let Err(error) = &answer {
             self.failed.fetch_add(1, Ordering::Relaxed);
-            tell(self.on_failed.as_ref(), error);
+            match &self.on_failed {
+                Some(hook) => tell(hook, error),
+                None => self.logged.log(error),
+            }
         }
         answer
     }
@@ -332,6 +341,9 @@ impl Reading {
     fn bring(&mut self, export: Arc<Export>) -> Answer {
         let (job, wait) = (Job::Export(Arc::clone(&export)), self.timeout);
         let brought = self.worker.call(job, wait, wait);
+        if brought.is_ok() {
+            self.logged.end();
+        }
         let answer = brought.map_err(|ended| match ended {
             Ended::Failed(error) => SdkError::Export {
                 error,

@@ -2,13 +2,15 @@
 use super::instruments::Meter;
 use super::periodic::{PeriodicReader, Running};
 use super::resource::Resource;
-use super::shared::{Refusal, Settings, Shared};
+use super::shared::{Settings, Shared};
+use super::telling::Refusal;
 use super::views::{Instrument, Stream};
 use crate::error::Error;
 use crate::export::Export;
 use crate::metrics::{ExportError, PushExporter};
 use crate::plan::DEFAULT_LIMIT;
 use std::fmt;
+use std::mem;
 use std::sync::Arc;
 use std::time::{Duration, Instant};
 
@@ -82,6 +84,7 @@ struct Whole {
 
 impl Whole {
     fn flush(&self, timeout: Duration) -> Result<(), SdkError> {
+        self.shared.home().checked()?;
         let until = Instant::now().checked_add(timeout);
         each(&self.readers, |it| it.flush(until))
     }
@@ -103,9 +106,13 @@ fn each(
     told.into_iter().collect()
 }
 
-/// Shuts down, within 30 seconds. What comes of it is told to the readers' hooks alone: call `shutdown` to learn it.
+/// Shuts down, within 30 seconds. What comes of it is told by the readers alone: call `shutdown` to learn it. In a child of a fork, where
+/// the readers' threads are not, nothing is brought, and nothing is waited for.
 impl Drop for Whole {
     fn drop(&mut self) {
+        if !self.shared.home().is_here() {
+            return mem::forget(mem::take(&mut self.readers));
+        }
         let until = Instant::now().checked_add(TIMEOUT);
         let last = self.shared.close().ok().flatten().map(Arc::new);
         let _ = each(&self.readers, |it| it.shutdown(last.clone(), until));
@@ -114,6 +121,10 @@ impl Drop for Whole {
 
 /// Makes meters, and brings what their instruments record to its readers (OpenTelemetry Metrics SDK, "MeterProvider"). Clones are the same
 /// provider; the last one that is dropped shuts it down.
+///
+/// It is of the process that made it. In a child of a fork it exports nothing, since two processes would have one identity: all that is
+/// asked is refused as [`Error::Forked`], and nothing is waited for. So are recordings, but those of a thread that had a log before: what
+/// has room in that log stays there. Make a provider in each process.
 #[derive(Clone)]
 pub struct SdkMeterProvider(Arc<Whole>);
 
@@ -138,14 +149,15 @@ impl SdkMeterProvider {
     }
 
     /// Starts: from now on no instrument is declared. The first recording does so by itself. Refused: `AlreadyShutdown`; `Refused` by
-    /// `BadLimit` or `NoMemory`.
+    /// `BadLimit`, `Forked` or `NoMemory`.
     pub fn start(&self) -> Result<(), SdkError> {
+        self.0.shared.home().checked()?;
         self.0.shared.start()?;
         Ok(())
     }
 
     /// All that was recorded so far, by any thread: for a host that brings exports by itself. Refused: `AlreadyShutdown`; `Refused` by
-    /// `NotStarted`, `NoMemory`, or `TimeNotAfter` at the end of time.
+    /// `NotStarted`, `Forked`, `NoMemory`, or `TimeNotAfter` at the end of time.
     pub fn collect(&self) -> Result<Export, SdkError> {
         Ok(self.0.shared.collect()?)
     }
@@ -172,7 +184,7 @@ impl SdkMeterProvider {
     }
 
     /// The last export, for a host that brings it by itself: as `shutdown` of a provider without readers. There is none where nothing was
-    /// recorded. Refused: `AlreadyShutdown`; `Refused` by `NoMemory`, and then it may be asked again.
+    /// recorded. Refused: `AlreadyShutdown`; `Refused` by `Forked`, or by `NoMemory`, and then it may be asked again.
     pub fn close(&self) -> Result<Option<Export>, SdkError> {
         Ok(self.0.shared.close()?)
     }
@@ -187,12 +199,12 @@ impl SdkMeterProvider {
         self.0.readers.iter().map(Running::failed).sum()
     }
 
-    /// How many pairs of an instrument and a set of attributes are held: no more than the cache has room for.
+    /// How many pairs of an instrument and a set of attributes are held: no more than the cache has room for. (In a child of a fork, none.)
     pub fn cached(&self) -> usize {
         self.0.shared.cached()
     }
 
-    /// How many threads have a log, or left one that is not taken in yet.
+    /// How many threads have a log, or left one that is not taken in yet. (In a child of a fork, none.)
     pub fn logs(&self) -> usize {
         self.0.shared.logs()
     }
@@ -246,7 +258,8 @@ impl MeterProviderBuilder {
     }
 
     /// A view more: of each instrument that is declared it is asked which stream it makes. Each view that makes one gives the instrument a
-    /// stream, and where none does it has that of its kind. It is not to declare instruments.
+    /// stream, and where none does it has that of its kind. One whose stream can't be made of the instrument is passed over, and that is
+    /// told as a [`Refusal`] of [`Refused::View`](super::Refused::View). It is not to declare instruments.
     pub fn with_view(
         mut self,
         view: impl Fn(&Instrument) -> Option<Stream> + Send + Sync + 'static,
@@ -256,7 +269,8 @@ impl MeterProviderBuilder {
     }
 
     /// For how many sets of attributes each stream has points of their own: 2,000 where nothing is said. What comes to more is counted
-    /// in one point. With 0 nothing starts.
+    /// in one point, whose attribute is `otel.metric.overflow=true`. The collection that finds the first such set tells it, once for each
+    /// stream, as a [`Refusal`] of [`Refused::Sets`](super::Refused::Sets). With 0 nothing starts.
     pub fn with_cardinality_limit(mut self, limit: u64) -> Self {
         self.settings.limit = limit;
         self
@@ -284,7 +298,9 @@ impl MeterProviderBuilder {
     /// assert_eq!(provider.refused(), 1);
     /// ```
     ///
-    /// It is called on the thread that records or collects. It is to be short. A panic in it is caught.
+    /// It is called on the thread that records or collects. It is to be short. A panic in it is caught. What is refused inside it is
+    /// counted, and it is not called again for that: as where there is no hook, the standard error has a line of the first refusal of each
+    /// instrument and reason, of 1,000 of these at most.
     pub fn on_refused(mut self, hook: impl Fn(&Refusal) + Send + Sync + 'static) -> Self {
         self.settings.on_refused = Some(Box::new(hook));
         self

@@ -1,47 +1,24 @@
 //! What a provider, its instruments and its readers share.
+use super::declaring::{Asked, Declaring};
 use super::key_value::KeyValue;
-use super::logs::{self, Cache, Log, Slot};
+use super::limits::Limits;
+use super::logs::{self, Cache, Log, Slot, Way};
 use super::resource::Resource;
+use super::telling::{Hook, Refusal, Refused, Telling};
 use super::views::{Instrument, Stream};
 use crate::attributes::Attributes;
 use crate::error::Error;
 use crate::export::Export;
+use crate::home::Home;
 use crate::metrics::now;
 use crate::plan::{Instruments, Plan};
 use crate::recorder::Taken;
-use crate::view::Views;
+use crate::streams::Streams;
 use crate::writer::Writer;
 use std::fmt;
-use std::panic::{AssertUnwindSafe, Location, catch_unwind};
+use std::mem;
 use std::sync::atomic::{AtomicU64, Ordering};
 use std::sync::{Arc, Mutex, MutexGuard, OnceLock, PoisonError, RwLock};
-
-/// Recordings that were refused, or an instrument whose recordings all are.
-#[derive(Clone, Debug, PartialEq, Eq)]
-#[non_exhaustive]
-pub struct Refusal {
-    /// The name of the instrument, or of the stream that would leave its range; empty where it is not known.
-    pub instrument: String,
-    /// Where the instrument was declared, where that is known.
-    pub declared: Option<&'static Location<'static>>,
-    /// Why: of several recordings, why the first.
-    pub why: Error,
-    /// How many recordings: none where an instrument is refused as it is declared.
-    pub count: u64,
-}
-
-impl fmt::Display for Refusal {
-    fn fmt(&self, f: &mut fmt::Formatter<'_>) -> fmt::Result {
-        write!(f, "'{}'", self.instrument)?;
-        if let Some(place) = self.declared {
-            write!(f, ", declared at {place}")?;
-        }
-        match self.count {
-            0 => write!(f, ", is refused: {}", self.why),
-            count => write!(f, ": {count} refused: {}", self.why),
-        }
-    }
-}
 
 /// No panic leaves what a lock is of half changed, so one that a panic has poisoned is as good as before.
 pub(super) fn locked<T>(lock: &Mutex<T>) -> MutexGuard<'_, T> {
@@ -49,14 +26,6 @@ pub(super) fn locked<T>(lock: &Mutex<T>) -> MutexGuard<'_, T> {
 }
 
 pub(super) type View = Box<dyn Fn(&Instrument) -> Option<Stream> + Send + Sync>;
-pub(super) type Hook<T> = Box<dyn Fn(&T) + Send + Sync>;
-
-/// Tells a hook, whose panics are its own.
-pub(super) fn tell<T>(hook: Option<&Hook<T>>, told: &T) {
-    if let Some(hook) = hook {
-        let _ = catch_unwind(AssertUnwindSafe(|| hook(told)));
-    }
-}
 
 /// What a provider is made with.
 pub(super) struct Settings {
@@ -88,30 +57,21 @@ pub(super) struct Started {
     core: Mutex<Core>,
     cache: RwLock<Cache>,
     slots: Mutex<Slots>,
-    /// The names of the plan's streams.
-    streams: Vec<String>,
-}
-
-struct Declared {
-    instrument: Instrument,
-    streams: Vec<Stream>,
-}
-
-#[derive(Default)]
-struct Declaring {
-    instruments: Vec<Declared>,
-    /// That of these instruments, once there is one.
-    plan: Option<Plan>,
+    /// The plan's streams.
+    streams: Streams,
+    /// Who has it takes no other lock.
+    limits: Mutex<Limits>,
 }
 
 /// What all that a provider gives out has.
 pub(super) struct Shared {
+    home: Home,
     number: u64,
     settings: Settings,
     declaring: Mutex<Declaring>,
     /// `Closed` where it was shut down before it started.
     started: OnceLock<Result<Started, Error>>,
-    refused: AtomicU64,
+    telling: Telling,
 }
 
 impl fmt::Debug for Shared {
@@ -124,55 +84,23 @@ impl fmt::Debug for Shared {
     }
 }
 
-impl Declaring {
-    fn number_of(&self, instrument: &Instrument) -> Option<usize> {
-        self.instruments.iter().position(|it| {
-            it.instrument.is_named_as(instrument) && it.instrument.unit == instrument.unit
-        })
-    }
-
-    /// The plan with one instrument more. A view of the kit is of a name and not of a unit, so where there are views one name has one.
-    fn plan_with(&self, new: &Declared, limit: u64) -> Result<Plan, Error> {
-        let (mut instruments, mut views) = (Instruments::new(), Views::new());
-        for (number, it) in self.instruments.iter().enumerate() {
-            let is_viewed = !it.streams.is_empty() || !new.streams.is_empty();
-            if is_viewed && it.instrument.is_named_as(&new.instrument) {
-                return Err(Error::SameStream {
-                    first: number as u64,
-                    second: self.instruments.len() as u64,
-                });
-            }
-        }
-        for it in self.instruments.iter().chain([new]) {
-            let one = &it.instrument;
-            instruments.add(&one.scope, &one.name, &one.unit, one.kind)?;
-            for stream in &it.streams {
-                views.add(&stream.view_of(one)?)?;
-            }
-        }
-        Plan::with_views(&instruments, &views, limit)
-    }
-}
-
-/// The names of a plan's streams.
-fn names_of(plan: &Plan) -> Result<Vec<String>, Error> {
-    let streams = plan.streams()?;
-    let count = streams.count()?;
-    (0..count)
-        .map(|number| Ok(streams.stream(number)?.name))
-        .collect()
-}
-
 impl Shared {
-    pub fn new(settings: Settings) -> Shared {
+    pub fn new(mut settings: Settings) -> Shared {
         static NUMBER: AtomicU64 = AtomicU64::new(0);
+        let home = Home::here();
         Shared {
+            home,
+            telling: Telling::new(home, settings.on_refused.take()),
             number: NUMBER.fetch_add(1, Ordering::Relaxed),
             settings,
             declaring: Mutex::default(),
             started: OnceLock::new(),
-            refused: AtomicU64::new(0),
         }
+    }
+
+    /// The process that it was made in. In a child nothing of it is used but by threads that have a log, and no lock is waited for.
+    pub fn home(&self) -> Home {
+        self.home
     }
 
     /// A number that no other provider of this process has.
@@ -185,28 +113,32 @@ impl Shared {
     }
 
     pub fn refused(&self) -> u64 {
-        self.refused.load(Ordering::Relaxed)
+        self.telling.count()
     }
 
     /// Counts what is refused, and tells it. No lock is held.
     pub fn refuse(&self, refusal: &Refusal) {
-        self.refused.fetch_add(refusal.count, Ordering::Relaxed);
-        tell(self.settings.on_refused.as_ref(), refusal);
+        self.telling.refuse(refusal);
     }
 
-    /// The number of an instrument: that which it has where it was declared before. Refused: `DeclaredLate`, `Closed`, and as a plan is.
+    /// The number of an instrument: that which it has where it was declared before. Why views are passed over is told. Refused:
+    /// `DeclaredLate`, `Closed`, `Forked`, and as a plan is.
     pub fn declare(
         &self,
         instrument: Instrument,
         boundaries: Option<Vec<i64>>,
+        passed_over: &mut Vec<Error>,
     ) -> Result<usize, Error> {
-        let mut streams: Vec<Stream> = Vec::new();
-        streams.extend(self.settings.views.iter().filter_map(|it| it(&instrument)));
-        if streams.is_empty() {
-            streams.extend(boundaries.map(Stream::of_bounds));
-        }
+        self.home.checked()?;
+        let views = (0..).zip(&self.settings.views);
+        let viewed = views.filter_map(|(number, it)| Some((number, it(&instrument)?)));
+        let asked = Asked {
+            viewed: viewed.collect(),
+            boundaries,
+            instrument,
+        };
         let mut declaring = locked(&self.declaring);
-        if let Some(number) = declaring.number_of(&instrument) {
+        if let Some(number) = declaring.number_of(&asked.instrument) {
             return Ok(number);
         }
         match self.started.get() {
@@ -214,16 +146,10 @@ impl Shared {
             Some(Err(why)) => return Err(*why),
             None => (),
         }
-        let new = Declared {
-            instrument,
-            streams,
-        };
-        declaring.plan = Some(declaring.plan_with(&new, self.settings.limit)?);
-        declaring.instruments.push(new);
-        Ok(declaring.instruments.len() - 1)
+        declaring.add(asked, self.settings.limit, passed_over)
     }
 
-    /// Starts, where that was not done. Refused: `Closed`, `NoMemory`, `BadLimit`.
+    /// Starts, where that was not done. Refused: `Closed`, `Forked`, `NoMemory`, `BadLimit`.
     #[inline]
     pub fn start(&self) -> Result<&Started, Error> {
         match self.started.get() {
@@ -235,6 +161,7 @@ impl Shared {
     #[cold]
     fn start_now(&self) -> Result<&Started, Error> {
         if self.started.get().is_none() {
+            self.home.checked()?;
             let declaring = locked(&self.declaring);
             if self.started.get().is_none() {
                 let made = self.starting(declaring.plan.as_ref())?;
@@ -257,7 +184,8 @@ impl Shared {
                 &none
             }
         };
-        let resource = &self.settings.resource;
+        let (resource, streams) = (&self.settings.resource, plan.streams()?);
+        let limits = Limits::new(self.settings.limit, streams.count()?);
         Ok(Started {
             core: Mutex::new(Core {
                 writer: Writer::start(plan, &resource.service, resource.instance, now())?,
@@ -268,11 +196,13 @@ impl Shared {
                 list: Vec::new(),
                 is_closed: false,
             }),
-            streams: names_of(plan)?,
+            streams,
+            limits: Mutex::new(limits),
         })
     }
 
-    /// Notes a value in this thread's log. Refused: `Closed`, `EmptyKey`, `NoMemory`, `BadLimit`; of an ending thread as a writer does.
+    /// Notes a value in this thread's log. Refused: `Closed`, `Forked`, `EmptyKey`, `NoMemory`, `BadLimit`; of an ending thread as a
+    /// writer does.
     pub fn record(
         self: &Arc<Self>,
         instrument: usize,
@@ -283,15 +213,13 @@ impl Shared {
         match self.note(started, instrument, attributes, value) {
             Some(Err(Error::RecorderFull)) => (),
             Some(noted) => return noted,
-            None => {
-                let set = Attributes::new(attributes.iter().map(KeyValue::pair))?;
-                let mut core = locked(&started.core);
-                return core.writer.measure(instrument, &set, value);
-            }
+            None => return self.record_at_once(instrument, attributes, value),
         }
-        let taken = logs::with_own(self, |slot| {
-            started.take_in(&mut locked(&started.core), slot)
-        });
+        self.home.checked()?;
+        // (the core comes before a log)
+        let mut core = locked(&started.core);
+        let taken = logs::with_own(self, |log| Ok(started.taken_in(&mut core, log)));
+        drop(core);
         self.refuse_all(taken.and_then(Result::ok).flatten());
         match self.note(started, instrument, attributes, value) {
             // (what was taken in left no room, since memory was wanting)
@@ -310,15 +238,35 @@ impl Shared {
         value: i64,
     ) -> Option<Result<(), Error>> {
         let at = (&started.core, &started.cache);
-        let noted = logs::with_own(self, |slot| {
-            locked(slot).note(at, instrument, attributes, value)
-        })?;
-        Some(noted.and_then(|it| it))
+        logs::with_own(self, |log| log.note(at, instrument, attributes, value))
     }
 
-    /// A log for a thread. Refused: `Closed`, `NoMemory`.
+    /// Records a value without a log: of a gauge the last value counts, and values that wait in two logs have no order. Refused: `Closed`,
+    /// `Forked`, `EmptyKey`, `BadLimit`, and as a writer does.
+    pub fn record_at_once(
+        self: &Arc<Self>,
+        instrument: usize,
+        attributes: &[KeyValue],
+        value: i64,
+    ) -> Result<(), Error> {
+        let started = self.start()?;
+        let at = (&started.core, &started.cache);
+        let way = match logs::with_own(self, |log| log.way(at, instrument, attributes)) {
+            Some(way) => way?,
+            // (an ending thread has no log)
+            None => Way::Set(Attributes::new(attributes.iter().map(KeyValue::pair))?),
+        };
+        let mut core = self.home.locked(&started.core)?;
+        match way {
+            Way::Number(number) => core.writer.measure_held(number, value),
+            Way::Set(set) => core.writer.measure(instrument, &set, value),
+        }
+    }
+
+    /// A log for a thread. Refused: `Closed`, `Forked`, `NoMemory`.
     pub fn new_slot(&self) -> Result<Slot, Error> {
         let started = self.start()?;
+        self.home.checked()?;
         let mut slots = locked(&started.slots);
         if slots.is_closed {
             return Err(Error::Closed);
@@ -328,9 +276,15 @@ impl Shared {
         Ok(slot)
     }
 
+    /// What it has where it is started, and this is the process that it was made in.
+    fn started_here(&self) -> Option<&Started> {
+        let started = self.started.get()?.as_ref().ok()?;
+        self.home.is_here().then_some(started)
+    }
+
     /// How many pairs are held.
     pub fn cached(&self) -> usize {
-        let Some(Ok(started)) = self.started.get() else {
+        let Some(started) = self.started_here() else {
             return 0;
         };
         let cache = started.cache.read().unwrap_or_else(|it| it.into_inner());
@@ -339,14 +293,13 @@ impl Shared {
 
     /// How many logs there are.
     pub fn logs(&self) -> usize {
-        match self.started.get() {
-            Some(Ok(started)) => locked(&started.slots).list.len(),
-            _ => 0,
-        }
+        let started = self.started_here();
+        started.map_or(0, |it| locked(&it.slots).list.len())
     }
 
-    /// Collects what all threads recorded so far. Refused: `NotStarted`, `Closed`, `NoMemory`, `TimeNotAfter`.
+    /// Collects what all threads recorded so far. Refused: `NotStarted`, `Closed`, `Forked`, `NoMemory`, `TimeNotAfter`.
     pub fn collect(&self) -> Result<Export, Error> {
+        self.home.checked()?;
         let started = match self.started.get() {
             Some(Ok(started)) => started,
             Some(Err(why)) => return Err(*why),
@@ -354,12 +307,14 @@ impl Shared {
         };
         let (taken, made) = started.collect();
         self.refuse_all(taken);
+        self.tell_limits(started, &made);
         made
     }
 
     /// Collects for the last time: nothing is recorded from then on. There is no export where nothing was started. Refused: `Closed`,
-    /// where that was done before; `NoMemory`, and then it may be asked again.
+    /// where that was done before; `Forked`; `NoMemory`, and then it may be asked again.
     pub fn close(&self) -> Result<Option<Export>, Error> {
+        self.home.checked()?;
         {
             let _declaring = locked(&self.declaring);
             if self.started.set(Err(Error::Closed)).is_ok() {
@@ -371,7 +326,25 @@ impl Shared {
         };
         let (taken, made) = started.close();
         self.refuse_all(taken);
+        self.tell_limits(started, &made);
         made.map(Some)
+    }
+
+    /// Tells the streams that an export shows to have come to their limit. (Where memory is wanting the next export shows them.)
+    fn tell_limits(&self, started: &Started, made: &Result<Export, Error>) {
+        if let Ok(export) = made {
+            let reached = locked(&started.limits).reached(&started.streams, export);
+            let limit = self.settings.limit;
+            for stream in reached.unwrap_or_default() {
+                self.refuse(&Refusal {
+                    instrument: started.name_of(stream),
+                    declared: None,
+                    what: Refused::Sets,
+                    why: Error::CardinalityLimit { limit },
+                    count: 0,
+                });
+            }
+        }
     }
 
     fn refuse_all(&self, refused: impl IntoIterator<Item = Refusal>) {
@@ -379,11 +352,32 @@ impl Shared {
     }
 }
 
+impl Drop for Shared {
+    /// What other threads may have been changing as the process forked is not given back by a child.
+    fn drop(&mut self) {
+        if !self.home.is_here() {
+            mem::forget(mem::take(&mut self.declaring));
+            mem::forget(mem::take(&mut self.started));
+        }
+    }
+}
+
 impl Started {
     /// Takes in a log, and tells what was refused.
     fn take_in(&self, core: &mut Core, slot: &Slot) -> Option<Refusal> {
-        let taken = locked(slot).take_in(core);
-        self.refusal_of(&taken.ok()?)
+        self.taken_in(core, &mut locked(slot))
+    }
+
+    fn taken_in(&self, core: &mut Core, log: &mut Log) -> Option<Refusal> {
+        self.refusal_of(&log.take_in(core).ok()?)
+    }
+
+    /// The name of a stream of the plan.
+    fn name_of(&self, stream: usize) -> String {
+        self.streams
+            .stream(stream)
+            .map(|it| it.name)
+            .unwrap_or_default()
     }
 
     fn refusal_of(&self, taken: &Taken) -> Option<Refusal> {
@@ -393,11 +387,9 @@ impl Started {
             _ => None,
         };
         Some(Refusal {
-            instrument: stream
-                .and_then(|it| self.streams.get(it))
-                .cloned()
-                .unwrap_or_default(),
+            instrument: stream.map(|it| self.name_of(it)).unwrap_or_default(),
             declared: None,
+            what: Refused::Recordings,
             why,
             count: taken.refused as u64,
         })
@@ -444,9 +436,7 @@ impl Started {
         for slot in &list {
             let mut log = locked(slot);
             log.is_closed = true;
-            if let Ok(taken) = log.take_in(&mut core) {
-                refused.extend(self.refusal_of(&taken));
-            }
+            refused.extend(self.taken_in(&mut core, &mut log));
         }
         let made = at_now(|time| core.writer.shutdown(time));
         core.is_ended = made.is_ok();
@@ -464,6 +454,7 @@ fn lost_in(slot: &Slot) -> Option<Refusal> {
     (count > 0).then(|| Refusal {
         instrument: String::new(),
         declared: None,
+        what: Refused::Recordings,
         why: Error::NoMemory,
         count,
     })
@@ -477,9 +468,11 @@ fn at_now(mut collect: impl FnMut(u64) -> Result<Export, Error>) -> Result<Expor
     }
 }
 
-/// Takes in the log of a thread that ends, where nobody has the writer: else the next collection does.
+/// Takes in the log of a thread that ends, where nobody has the writer: else the next collection does. In a child of a fork it is left as
+/// it is, since it may be one that was being taken in.
 pub(super) fn take_in_of_ending_thread(shared: &Shared, slot: &Slot) {
-    let Some(Ok(started)) = shared.started.get() else {
+    let Some(started) = shared.started_here() else {
+        mem::forget(Arc::clone(slot));
         return;
     };
     let taken = {

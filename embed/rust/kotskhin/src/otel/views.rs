@@ -91,14 +91,12 @@ impl Stream {
         }
     }
 
-    /// The kit's view that makes this stream of an instrument.
-    pub(super) fn view_of(&self, instrument: &Instrument) -> Result<View, Error> {
-        let mut view = View::of_name(&instrument.name)?;
+    /// The kit's view that makes this stream of an instrument, which in the plan has the name `planned`.
+    pub(super) fn view_of(&self, instrument: &Instrument, planned: &str) -> Result<View, Error> {
+        let mut view = View::of_name(planned)?;
         view.scope(&instrument.scope)?;
         view.kind(instrument.kind)?;
-        if let Some(name) = &self.name {
-            view.rename(name)?;
-        }
+        view.rename(self.name.as_ref().unwrap_or(&instrument.name))?;
         if let Some(keys) = &self.keys {
             view.keep(keys.iter().map(Key::as_str))?;
         }
@@ -150,7 +148,7 @@ impl StreamBuilder {
         };
         let (mut instruments, mut views) = (Instruments::new(), Views::new());
         instruments.add(&any.scope, &any.name, &any.unit, any.kind)?;
-        views.add(&self.0.view_of(&any)?)?;
+        views.add(&self.0.view_of(&any, &any.name)?)?;
         match Plan::with_views(&instruments, &views, 1) {
             Ok(_) | Err(Error::BadAggregation { .. }) => Ok(self.0),
             Err(refused) => Err(refused),

@@ -5,7 +5,7 @@ use Rattle.archive_kit.proofs.keeper.Keeper.is_late.Goals as goal
 
 pub returns : goal.returns
 returns c =
-    c.in_ok-late.ensures
+    c.has_name.ensures
     ∙ (λ i. has_name (c.as_slice.ensures.value i) (c.writer.ensures.value i) (c.start.ensures.value i))
     ∙ c.self.invariant.told c.args.export.now.writer c.args.export.now.start
     ∙ ap (λ (n : NodeModel). is_named n.gateway.points c.args.export.now.writer c.args.export.now.start) c.self.view_is

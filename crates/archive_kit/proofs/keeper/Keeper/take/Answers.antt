@@ -17,7 +17,7 @@ invariant_of-self-then-not-brings_tombstone c =
     let none : list_any (λ (p : ExportPoint). stream_eq tombstones p.stream) e.points ≡ false =
     ap (λ (s : Stream). list_any (λ (p : ExportPoint). stream_eq s p.stream) e.points) (sym c.self.invariant.stream_is) ∙ sym c.brings_tombstone.ensures ∙ (let no_one : c.brings_tombstone.result ≡ false = search rules in no_one) in
     let unnamed : is_named node.gateway.points e.writer e.start ≡ false =
-    ap (λ (n : NodeModel). is_named n.gateway.points e.writer e.start) c.self.view_is ∙ sym c.in_ok-late.ensures ∙ (let no_one : c.in_ok-late.late ≡ false = search rules in no_one) in
+    ap (λ (n : NodeModel). is_named n.gateway.points e.writer e.start) c.self.view_is ∙ sym c.is_late-late.ensures ∙ (let no_one : c.is_late-late.result ≡ false = search rules in no_one) in
     still_keeping node.gateway.points e c.self.invariant.all_shown none unnamed c.self.inside.stream c.self.inside.names.items c.take.new.self.gateway.points c.self.invariant c.in_ok-changed.ensures.ok
 
 pub returns-then-not-brings_tombstone-clause-ok : goal.returns-then-not-brings_tombstone-clause-ok
@@ -25,7 +25,7 @@ returns-then-not-brings_tombstone-clause-ok c =
     let node = c.self.inside.node in
     let e = c.args.export.now in
     let unnamed : is_named node.gateway.points e.writer e.start ≡ false =
-    ap (λ (n : NodeModel). is_named n.gateway.points e.writer e.start) c.self.view_is ∙ sym c.in_ok-late.ensures ∙ (let no_one : c.in_ok-late.late ≡ false = search rules in no_one) in
+    ap (λ (n : NodeModel). is_named n.gateway.points e.writer e.start) c.self.view_is ∙ sym c.is_late-late.ensures ∙ (let no_one : c.is_late-late.result ≡ false = search rules in no_one) in
     let none : list_any (λ (p : ExportPoint). stream_eq tombstones p.stream) e.points ≡ false =
     ap (λ (s : Stream). list_any (λ (p : ExportPoint). stream_eq s p.stream) e.points) (sym c.self.invariant.stream_is) ∙ sym c.brings_tombstone.ensures ∙ (let no_one : c.brings_tombstone.result ≡ false = search rules in no_one) in
     c.in_ok-changed.ensures.ok ∙ all_kept node.gateway.points e c.self.invariant.all_shown none unnamed

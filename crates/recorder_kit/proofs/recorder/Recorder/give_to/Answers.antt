@@ -9,26 +9,32 @@ use Rattle.recorder_kit.proofs.recorder.Recorder.give_to.Goals as goal
 
 pub take_lines-taken-requires : goal.take_lines-taken-requires
 take_lines-taken-requires c =
-    let ns = c.self.inside.named.keys in
-    let ks = c.self.inside.sets.keys in
+    let ns = c.self.inside.names.named.keys in
+    let ks = c.self.inside.names.sets.keys in
     let g = c.self.inside.given in
-    subst (λ (ls : List Line). AllThere ns ks (take c.min-count.result ls)) (sym c.remaining-lines.ensures) (there-take ns ks c.min-count.result (drop g c.self.inside.log.items) c.self.invariant.0)
+    subst (λ (ls : List Line). AllThere ns ks (take c.min-count.result ls)) (sym c.remaining-lines.ensures) (there-take ns ks c.min-count.result (drop g c.self.inside.log.items) c.self.invariant.there)
 
 pub invariant_of-self : goal.invariant_of-self
 invariant_of-self c =
-    let ns = c.self.inside.named.keys in
-    let ks = c.self.inside.sets.keys in
+    let ns = c.self.inside.names.named.keys in
+    let ks = c.self.inside.names.sets.keys in
     let g = c.self.inside.given in
     let ls = c.self.inside.log.items in
     let n = c.take_lines-taken.result.recorded + c.take_lines-taken.result.refused in
     let m = c.min-count.result in
     let within : n ≤ length (take m (drop g ls)) = subst (λ (xs : List Line). n ≤ length (take m xs)) c.remaining-lines.ensures c.take_lines-taken.ensures.within in
-    (subst (AllThere ns ks) (drop-drop ls g n) (there-drop ns ks n (drop g ls) c.self.invariant.0), c.self.invariant.1, behind ls g m n within c.self.invariant.2)
+    record {
+      there = subst (AllThere ns ks) (drop-drop ls g n) (there-drop ns ks n (drop g ls) c.self.invariant.there);
+      memory = c.self.invariant.memory;
+      within = behind ls g m n within c.self.invariant.within;
+      few_names = c.self.invariant.few_names;
+      few_sets = c.self.invariant.few_sets;
+    }
 
 pub returns-clause-taken : goal.returns-clause-taken
 returns-clause-taken c =
-    let ns = c.self.inside.named.keys in
-    let ks = c.self.inside.sets.keys in
+    let ns = c.self.inside.names.named.keys in
+    let ks = c.self.inside.names.sets.keys in
     let g = c.self.inside.given in
     let ls = c.self.inside.log.items in
     let m = c.min-count.result in
@@ -42,8 +48,8 @@ returns-clause-taken c =
 
 pub returns-clause-rest : goal.returns-clause-rest
 returns-clause-rest c =
-    let ns = c.self.inside.named.keys in
-    let ks = c.self.inside.sets.keys in
+    let ns = c.self.inside.names.named.keys in
+    let ks = c.self.inside.names.sets.keys in
     let g = c.self.inside.given in
     let ls = c.self.inside.log.items in
     let n = c.take_lines-taken.result.recorded + c.take_lines-taken.result.refused in
@@ -54,8 +60,8 @@ returns-clause-rest c =
 
 pub returns-clause-stopped : goal.returns-clause-stopped
 returns-clause-stopped c = λ r below at.
-    let ns = c.self.inside.named.keys in
-    let ks = c.self.inside.sets.keys in
+    let ns = c.self.inside.names.named.keys in
+    let ks = c.self.inside.names.sets.keys in
     let g = c.self.inside.given in
     let ls = drop g c.self.inside.log.items in
     let m = c.min-count.result in
