@@ -30,8 +30,8 @@ def export_of(total):
 
 
 def read_request(peer):
-    """Reads a request to its end. The system resets a connection that is closed while some of that is unread, and with it goes what the other
-    side has not got yet of the answer; and a client sends its head and its body each by itself."""
+    """Reads a request to its end. The system resets a connection that is closed while some of that is unread, and with it goes what the
+    other side has not got yet of the answer; and a client sends its head and its body each by itself."""
     with peer.makefile("rb") as request:
         head = iter(lambda: request.readline().strip(), b"")
         lengths = [int(it.split(b":")[1]) for it in head if it.lower().startswith(b"content-length:")]

@@ -131,7 +131,7 @@ func asked(client *http.Client, method, url, token string, body []byte) (int, st
 func until(t *testing.T, what string, holds func() bool) {
 	t.Helper()
 	for turn := 0; !holds(); turn++ {
-		if turn == 6000 {
+		if turn == 30_000 {
 			t.Fatal(what)
 		}
 		time.Sleep(10 * time.Millisecond)
