@@ -52,8 +52,14 @@ def answering(*pieces, pause=0.0):
                         time.sleep(pause)
 
     with socket.create_server(("127.0.0.1", 0)) as server:
-        threading.Thread(target=serve, daemon=True).start()
-        yield server.getsockname()[1]
+        thread = threading.Thread(target=serve, daemon=True)
+        thread.start()
+        try:
+            yield server.getsockname()[1]
+        finally:
+            # (else it waits on, and may come to answer for a later socket that has the number of this one)
+            server.shutdown(socket.SHUT_RDWR)
+            thread.join()
 
 
 def by_bytes(of):
