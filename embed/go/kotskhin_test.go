@@ -440,7 +440,7 @@ func TestWhatIsForgottenIsCollected(t *testing.T) {
 		}
 	}
 	// (what is not forgotten is counted still, and nothing twice)
-	live, until := 3*1000*int64(pointBytes), time.Now().Add(20*time.Second)
+	live, until := 3*1000*int64(pointBytes), time.Now().Add(time.Minute)
 	for atomic.LoadInt64(&inC.held) > live && time.Now().Before(until) {
 		runtime.GC()
 		time.Sleep(time.Millisecond)

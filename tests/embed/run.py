@@ -250,7 +250,7 @@ class Run:
         if self.run("Go: compiled", "go", "build", "-o", program, "./first", **go):
             self.run("Go: the first script", program, prints=WANTED)
         self.run("Go: vetted", "go", "vet", "./...", **go)
-        self.run("Go: the shared cases, tests and examples", "go", "test", "-count=1", "./...", **go)
+        self.run("Go: the shared cases, tests and examples", "go", "test", "-count=1", "-timeout=50m", "./...", **go)
         self.run("Go: the first program of its page", sys.executable, "-B", HERE / "go" / "page.py", env=go["env"])
 
     def shared(self):

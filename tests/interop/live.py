@@ -17,6 +17,7 @@ import contextlib
 import http.server
 import json
 import pathlib
+import random
 import re
 import shutil
 import socket
@@ -35,9 +36,10 @@ import pages
 import wanted
 
 # Seconds from scrape to scrape, at the first try and at the next: where much else runs, scrapes come too late to tell of a growth.
-INTERVALS = (0.5, 1, 1.5)
+INTERVALS = (0.5, 1.5, 5)
 SCRAPES = 4  # of each page of the life
-PATIENCE = 20  # seconds that a program has to start, and beside its scrapes that the whole life has
+PATIENCE = 120  # seconds that a program has to start, and beside its scrapes that the whole life has
+ANSWER = 60  # and an answer
 TYPES = {
     "openmetrics": "application/openmetrics-text; version=1.0.0; charset=utf-8",
     "prometheus": "text/plain; version=0.0.4; charset=utf-8",
@@ -113,9 +115,11 @@ def serving(served):
 
 
 def free_port():
-    with socket.socket() as it:
-        it.bind(("127.0.0.1", 0))
-        return it.getsockname()[1]
+    """A port that is free, below those that the system gives to who asks for any: so nobody gets it until it is used."""
+    while True:
+        with socket.socket() as it, contextlib.suppress(OSError):
+            it.bind(("127.0.0.1", random.randrange(20_000, 32_000)))
+            return it.getsockname()[1]
 
 
 @contextlib.contextmanager
@@ -131,7 +135,7 @@ def running(command, folder, ready):
     finally:
         program.terminate()
         try:
-            program.wait(5)
+            program.wait(PATIENCE)
         except subprocess.TimeoutExpired:
             program.kill()
             program.wait()
@@ -141,7 +145,7 @@ def answers(address, program):
     if program.poll() is not None:
         raise Fault(f"{program.args[0]} ended with status {program.returncode}")
     try:
-        with urllib.request.urlopen(address, timeout=5) as answer:
+        with urllib.request.urlopen(address, timeout=ANSWER) as answer:
             return answer.status == 200
     except (urllib.error.URLError, OSError):
         return False
@@ -158,7 +162,7 @@ def until(holds, fault, more=0):
 def ask(port, query):
     """What a query answers: each series with its value."""
     address = f"http://127.0.0.1:{port}/api/v1/query?" + urllib.parse.urlencode({"query": query})
-    with urllib.request.urlopen(address, timeout=10) as answer:
+    with urllib.request.urlopen(address, timeout=ANSWER) as answer:
         found = json.load(answer)["data"]["result"]
     return {series_of(it["metric"]): float(it["value"][1]) for it in found}
 
@@ -203,9 +207,9 @@ def series_named(name, page):
 def hold_growth(port, name, life):
     """No series of this name was reset, and each grew as its pages say."""
     before, after = (series_named(name, page) for page in (life[0], life[-1]))
-    resets = without_names(ask(port, f'resets({name}{{job="life"}}[1m])'))
+    resets = without_names(ask(port, f'resets({name}{{job="life"}}[5m])'))
     hold(differing(resets, dict.fromkeys(after, 0.0)), f"{name}: no resets")
-    grown = without_names(ask(port, f'increase({name}{{job="life"}}[1m])'))
+    grown = without_names(ask(port, f'increase({name}{{job="life"}}[5m])'))
     # What `increase` may add for the time before the first scrape and behind the last: a step and a tenth at either end.
     # One page lacks rows.
     most = 1 + 2.2 / (SCRAPES * (len(life) - 1) - 1)
@@ -234,7 +238,7 @@ def hold_life(port, life):
     hold_page(port, "life", life[-1])
     for name in sorted({it[0] for it in samples_of(life[0].text) if RISES.fullmatch(it[0])}):
         hold_growth(port, name, life)
-    conflicts = ask(port, 'max_over_time(kotskhin_conflicts{job="life"}[1m])')
+    conflicts = ask(port, 'max_over_time(kotskhin_conflicts{job="life"}[5m])')
     hold("" if conflicts else "no conflict was seen", "a conflict came and went")
 
 
@@ -259,9 +263,9 @@ def with_pushgateway(folder, _):
     with running(["prometheus-pushgateway", f"--web.listen-address=127.0.0.1:{port}"], folder, f"http://127.0.0.1:{port}/-/ready"):
         address = f"http://127.0.0.1:{port}/metrics"
         put = urllib.request.Request(f"{address}/job/kit", page.text.encode(), {"Content-Type": TYPES[page.form]}, method="PUT")
-        with urllib.request.urlopen(put, timeout=10):
+        with urllib.request.urlopen(put, timeout=ANSWER):
             pass
-        with urllib.request.urlopen(address, timeout=10) as answer:
+        with urllib.request.urlopen(address, timeout=ANSWER) as answer:
             kept = samples_of(answer.read().decode())
     found = {}
     for (name, labels), value in kept.items():
@@ -277,7 +281,7 @@ def tried(run):
             with tempfile.TemporaryDirectory() as folder:
                 run(pathlib.Path(folder), interval)
             return True
-        except Fault as fault:
+        except (Fault, OSError) as fault:
             print(f"interop: a scrape each {interval} s: {fault}")
     return False
 

@@ -105,7 +105,8 @@ class Trial:
         return 0
 
     def unchanged(self):
-        if page_of(self.gateway) != self.page:
+        # (there is a page once there is room for one more connection)
+        if until(lambda: page_of(self.gateway), lambda: f"it shows no page\n{self.gateway.tail()}") != self.page:
             raise Fault("something was taken")
         if self.on_disk() != self.kept:
             raise Fault("something was kept on disk")
@@ -292,12 +293,12 @@ def connections(program, room, count):
 
         def is_full():
             """Where one more is answered, a connection of before was open still as these came, and one of these had no room."""
-            if it.gateway.ask("/healthz", timeout=5)[0] == 503:
+            if it.gateway.ask("/healthz")[0] == 503:
                 return True
             held.append(opened())
             return False
 
-        until(is_full, "it takes as many connections as come", patience=ANSWER / 2, pause=0.02)
+        until(is_full, "it takes as many connections as come", patience=ANSWER, pause=0.02)
         for made in held:
             made.close()
         until(lambda: it.gateway.ask("/healthz")[0] == 200, "there is no room again")

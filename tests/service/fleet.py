@@ -1,7 +1,9 @@
 """Gateways as processes, and what is asked of them."""
+import contextlib
 import http.client
 import json
 import os
+import random
 import signal
 import socket
 import subprocess
@@ -42,9 +44,11 @@ def asked(address, method, path, body=None, heads=None, timeout=ANSWER, port=POR
 
 
 def free_port(address="127.0.0.1"):
-    with socket.socket() as it:
-        it.bind((address, 0))
-        return it.getsockname()[1]
+    """A port that is free, below those that the system gives to who asks for any: so nobody gets it until it is used."""
+    while True:
+        with socket.socket() as it, contextlib.suppress(OSError):
+            it.bind((address, random.randrange(20_000, 32_000)))
+            return it.getsockname()[1]
 
 
 class Gateway:

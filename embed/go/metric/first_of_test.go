@@ -60,7 +60,7 @@ func TestAnExporterThatHangs(t *testing.T) {
 	hangs := ExporterFunc(func(ctx context.Context, _ kotskhin.Export) error { <-ctx.Done(); return ctx.Err() })
 	isTaken := false
 	takes := ExporterFunc(func(context.Context, kotskhin.Export) error { isTaken = true; return nil })
-	ctx, cancel := context.WithTimeout(context.Background(), 200*time.Millisecond)
+	ctx, cancel := context.WithTimeout(context.Background(), 4*time.Second)
 	defer cancel()
 	if err := FirstOf(hangs, takes).Export(ctx, collected(t)); err != nil || !isTaken {
 		t.Fatal(err, isTaken)

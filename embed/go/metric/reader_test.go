@@ -164,7 +164,8 @@ func TestAnExportThatTakesTooLong(t *testing.T) {
 		atomic.AddInt32(&calls, 1)
 		<-goes
 		return nil
-	}), WithTimeout(10*time.Millisecond), WithInterval(5*time.Millisecond), WithOnFailed(func(error) {}))
+		// (the last export has this time, too, on a machine that may be busy)
+	}), WithTimeout(3*time.Second), WithInterval(5*time.Millisecond), WithOnFailed(func(error) {}))
 	p, requests := counting(t, reader)
 	requests.Add(ctx, 7)
 	for began := time.Now(); reader.Failed() == 0 && time.Since(began) < time.Minute; {

@@ -10,7 +10,8 @@ using namespace kotskhin;
 using namespace kotskhin::metrics;
 using Clock = std::chrono::steady_clock;
 
-static const std::chrono::milliseconds SHORT(2), NEVER = std::chrono::hours(10000);
+// What waits for nothing takes less than LONG, which is less than the half a minute of who waits for a reader.
+static const std::chrono::milliseconds SHORT(2), LONG(20000), NEVER = std::chrono::hours(10000);
 
 // What a provider's hook was told. (a child may not wait for a lock)
 struct Told {
@@ -49,7 +50,7 @@ static bool child_is_good(Child child) {
     std::fflush(stdout);
     pid_t made = fork();
     if (made == 0) {
-        alarm(20);
+        alarm(60);
         int before = failures;
         try {
             child();
@@ -123,7 +124,7 @@ static void asks_all(Program &of) {
     CHECK(provider.RefusedCount() == before + 3);
     of.provider.reset();
     of.requests->Add(1);
-    CHECK(of.told.forks == 1 && of.told.others == 0 && Clock::now() - began < std::chrono::seconds(5));
+    CHECK(of.told.forks == 1 && of.told.others == 0 && Clock::now() - began < LONG);
 }
 
 // A provider of the child's own is as good as any.
@@ -183,7 +184,7 @@ static void a_child_that_asks_nothing_ends_at_once() {
     CHECK(child_is_good([&] {
         auto began = Clock::now();
         program.provider.reset();
-        CHECK(program.told.forks == 0 && Clock::now() - began < std::chrono::seconds(5));
+        CHECK(program.told.forks == 0 && Clock::now() - began < LONG);
     }));
     program.stop();
 }

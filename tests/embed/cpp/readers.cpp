@@ -54,6 +54,10 @@ struct Heard {
         std::unique_lock<std::mutex> has(lock);
         return changed.wait_for(has, wait, [&] { return list.size() >= count; });
     }
+    bool many_of(const std::string &what, long count) {
+        std::unique_lock<std::mutex> has(lock);
+        return changed.wait_for(has, LONG, [&] { return std::count(list.begin(), list.end(), what) >= count; });
+    }
 };
 
 // Tells what it is asked, and fails so often first.
@@ -95,9 +99,11 @@ static void it_collects_once_in_an_interval() {
     CHECK(!heard.many(1, SHORT * 5));
     auto began = Clock::now();
     requests->Add(7);
-    CHECK(heard.many(3) && Clock::now() - began >= SHORT && provider.Shutdown());
+    CHECK(heard.many_of("7", 3) && Clock::now() - began >= SHORT && provider.Shutdown());
     Words all = heard.all();
-    CHECK(all[1] == "7" && all[all.size() - 2] == "7" && all.back() == "end" && provider.FailedCount() == 0);
+    // (as long as this thread waits between the start and the recording, collections have nothing)
+    auto first = std::find_if(all.begin(), all.end(), [](const std::string &it) { return it != "0"; });
+    CHECK(std::count(first, all.end(), "7") == all.end() - first - 1 && all.back() == "end" && provider.FailedCount() == 0);
 }
 
 static void a_flush_collects_now_and_a_shutdown_for_the_last_time() {
@@ -152,9 +158,10 @@ static void an_export_that_takes_too_long_is_told() {
     CHECK(failed.all()[1] == "an export that took too long goes on");
     auto began = Clock::now();
     CHECK(!provider.ForceFlush(SHORT * 20) && Clock::now() - began < LONG);
-    // (once the call ends, the next one is made)
+    // (once the call ends, the next one is made, which a machine that is busy may not end in so short a time)
     gate.tell("go");
-    bool is_good = provider.ForceFlush() || provider.ForceFlush();
+    bool is_good = false;
+    for (began = Clock::now(); !is_good && Clock::now() - began < LONG;) is_good = provider.ForceFlush();
     CHECK(is_good);
 }
 

@@ -156,7 +156,7 @@ func TestGatewaysForgetTogether(t *testing.T) {
 		return append([]string{"--listen", "127.0.0.1:" + ports[number], "--state", filepath.Join(room, ports[number]),
 			"--gossip-interval", "10ms", "--gossip-longest-pause", "50ms", "--peer", "http://127.0.0.1:" + ports[1-number]}, more...)
 	}
-	archives := []string{"--archive", "shop", "--archive-after", "300ms", "--archive-every", "20ms"}
+	archives := []string{"--archive", "shop", "--archive-after", "1s", "--archive-every", often}
 	ends := []func() error{begun(t, words(0, archives...)...), begun(t, words(1)...)}
 	client := &http.Client{Timeout: 30 * time.Second}
 	url := func(number int, path string) string { return "http://127.0.0.1:" + ports[number] + path }

@@ -16,6 +16,10 @@ import (
 	"kotskhin/internal/settings"
 )
 
+// How often is looked for what has ended. Who looks half as often was stopped or starved, and adopts nothing for a while: a machine that is
+// busy is not to be taken for that.
+const often = "250ms"
+
 // The variable by which this program is the gateway, and no test of it: a process of its own can be stopped.
 const asGateway = "KOTSKHIN_TEST_IS_GATEWAY"
 
@@ -100,12 +104,15 @@ func alike(t *testing.T, more ...string) (gateways []reached, anew func(), end f
 
 // Two gateways of one template archive one service: neither adopts, until one is started without it. What was counted stays.
 func TestTwoArchivistsOfOneTemplate(t *testing.T) {
-	gateways, anew, end := alike(t, "--archive", "shop", "--archive-after", "1s", "--archive-every", "50ms")
+	gateways, anew, end := alike(t, "--archive", "shop", "--archive-after", "1s", "--archive-every", often)
 	for instance := uint64(1); instance < 11; instance++ {
 		export := collected(t, instance, 200, 50, 1)
 		for _, it := range gateways {
 			it.push(export)
 		}
+	}
+	for _, it := range gateways {
+		until(t, "no conflict is told", func() bool { return it.figure(`archivists_conflict{service="shop"}`) == "1" })
 	}
 	time.Sleep(3 * time.Second)
 	for _, it := range gateways {
@@ -211,6 +218,10 @@ func TestAStoppedArchivist(t *testing.T) {
 	until(t, "who ended is not adopted", func() bool { return it.figure(`adopted_total{service="shop"}`) == "20" })
 }
 
+// How long nothing newer came to a pair of what has ended, and what is longer. What a test brings at once comes within that on a machine
+// that is busy, too.
+const silent, longer = 4 * time.Second, 6 * time.Second
+
 // A pair of gateways that find each other by names. The first archives, and looks both up; the second looks up the first.
 type pair struct {
 	t          *testing.T
@@ -228,7 +239,7 @@ func paired(t *testing.T) *pair {
 	made.names.set("back.test", "127.0.0.1")
 	usual := []string{"--gossip-interval", "50ms", "--gossip-longest-pause", "100ms", "--gossip-timeout", "2s", "--peer-refresh", "50ms"}
 	made.words[0] = append([]string{"--listen", "127.0.0.1:" + port, "--state", filepath.Join(room, "1"), "--peer", "gateways.test:" + port,
-		"--archive", "shop", "--archive-after", "1s", "--archive-every", "50ms"}, usual...)
+		"--archive", "shop", "--archive-after", silent.String(), "--archive-every", often}, usual...)
 	made.words[1] = append([]string{"--listen", "127.0.0.2:" + port, "--state", filepath.Join(room, "2"), "--peer", "back.test:" + port},
 		usual...)
 	for number := range made.words {
@@ -264,15 +275,15 @@ func TestAPeerThatVanishesFromItsName(t *testing.T) {
 	until(t, "the other one is not told", func() bool { return p.other.total() == "18" })
 	// (it tells nobody any more what it takes, and then nobody finds it)
 	p.names.set("back.test", "127.0.0.3")
-	time.Sleep(300 * time.Millisecond)
+	until(t, "it looks up no peer", func() bool { return strings.Contains(p.other.peers(), "127.0.0.3") })
 	p.other.push(collected(t, 1, 300, 1, 28))
 	p.are("127.0.0.1")
 	until(t, "it is not missed", p.isMissing)
-	time.Sleep(2500 * time.Millisecond)
+	time.Sleep(longer)
 	p.end(0)
 	p.begin(0)
 	until(t, "it is not missed after a restart", func() bool { return p.one.isReady() && p.isMissing() })
-	time.Sleep(2 * time.Second)
+	time.Sleep(longer)
 	p.are("127.0.0.1", "127.0.0.2")
 	p.names.set("back.test", "127.0.0.1")
 	for _, it := range []reached{p.one, p.other} {
@@ -290,7 +301,7 @@ func TestAPeerThatIsGone(t *testing.T) {
 	p.one.push(collected(t, 2, 200, 1, 5))
 	p.are("127.0.0.1")
 	until(t, "it is not missed", p.isMissing)
-	time.Sleep(1500 * time.Millisecond)
+	time.Sleep(longer)
 	if adopted := p.one.figure(`adopted_total{service="shop"}`); adopted != "" {
 		t.Fatal(adopted)
 	}

@@ -72,12 +72,16 @@ func certified(t *testing.T, folder string) (ca, cert, key string) {
 	return kept("ca", "CERTIFICATE", root), kept("cert", "CERTIFICATE", leaf), kept("key", "EC PRIVATE KEY", bytes)
 }
 
+// freePort is a port that is free, below those that the system gives to who asks for any: so nobody gets it until it is used.
 func freePort(t *testing.T) string {
 	t.Helper()
-	listener := must[net.Listener](t)(net.Listen("tcp", "127.0.0.1:0"))
-	defer listener.Close()
-	_, port, _ := net.SplitHostPort(listener.Addr().String())
-	return port
+	for {
+		port := must[*big.Int](t)(rand.Int(rand.Reader, big.NewInt(12_000))).Uint64() + 20_000
+		if listener, err := net.Listen("tcp", fmt.Sprint("127.0.0.1:", port)); err == nil {
+			listener.Close()
+			return fmt.Sprint(port)
+		}
+	}
 }
 
 // early is an environment in which gateways may adopt beside peers earlier than is safe: a test has no time to wait.
@@ -127,7 +131,7 @@ func asked(client *http.Client, method, url, token string, body []byte) (int, st
 func until(t *testing.T, what string, holds func() bool) {
 	t.Helper()
 	for turn := 0; !holds(); turn++ {
-		if turn == 6000 {
+		if turn == 30_000 {
 			t.Fatal(what)
 		}
 		time.Sleep(10 * time.Millisecond)

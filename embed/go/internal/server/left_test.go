@@ -127,7 +127,8 @@ func TestWhatIsLeftOutHasBounds(t *testing.T) {
 func TestWhatIsLeftOutIsToldAtLast(t *testing.T) {
 	var out shelter
 	l := newLeftOut(figures.New(), logs.New(&out, logs.Warn, false))
-	l.pause = 50 * time.Millisecond
+	// (more than lies between what is added here, on a machine that is busy, too)
+	l.pause = 2 * time.Second
 	for _, points := range []int{1, 2, 3} {
 		l.add(left("shop", "not_uuid", points), tokens.Everything, "sender")
 	}

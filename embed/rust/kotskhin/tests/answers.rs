@@ -218,7 +218,7 @@ fn heads_that_are_cut_or_long_say_nothing() -> Done {
 #[test]
 fn an_answer_ends_where_it_says() -> Done {
     let export = provider().collect()?;
-    let (stays, short) = (Duration::from_secs(20), Duration::from_secs(3));
+    let (stays, short) = (Duration::from_secs(60), Duration::from_secs(3));
     let good = with_length(&partial(3, b"why"));
     let none = b"HTTP/1.1 204 No Content\r\n\r\n".to_vec();
     let open = [b"HTTP/1.1 200 OK\r\n\r\n", &partial(3, b"why")[..]].concat();
@@ -288,7 +288,7 @@ fn a_refusal_has_the_first_line_of_its_body() -> Done {
 
 #[test]
 fn the_body_of_a_refusal_is_not_waited_for_long() -> Done {
-    let (stays, began) = (Duration::from_secs(20), Instant::now());
+    let (stays, began) = (Duration::from_secs(60), Instant::now());
     for (answer, wanted) in [
         ("HTTP/1.1 403 No\r\n", "'HTTP/1.1 403 No'"),
         ("HTTP/1.1 403 No\r\n\r\nbegun", "'HTTP/1.1 403 No': begun"),

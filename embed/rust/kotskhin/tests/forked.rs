@@ -20,10 +20,11 @@ unsafe extern "C" {
 }
 
 /// How long a child has: it is killed then.
-const SECONDS: u32 = 25;
+const SECONDS: u32 = 60;
 const CHILDREN: usize = 60;
 const SHORT: Duration = Duration::from_millis(1);
-const LONG: Duration = Duration::from_secs(5);
+/// What waits for nothing has this time: less than a reader's timeout of half a minute.
+const LONG: Duration = Duration::from_secs(20);
 
 /// Children of two tests at a time would be of each other's threads.
 static ONE: Mutex<()> = Mutex::new(());
@@ -262,9 +263,9 @@ fn a_meter_is_refused_in_a_child() -> Result<(), Box<dyn std::error::Error>> {
         )?;
         let reader = reader.take().ok_or(254)?;
         let forked = |it| matches!(it, Err(ReadError::Collect(Error::Forked)));
-        check(4, forked(reader.force_flush(LONG * 6)))?;
+        check(4, forked(reader.force_flush(LONG * 2)))?;
         match turn % 2 {
-            0 => check(5, forked(reader.shutdown(LONG * 6)))?,
+            0 => check(5, forked(reader.shutdown(LONG * 2)))?,
             _ => drop(reader),
         }
         check(
@@ -274,7 +275,7 @@ fn a_meter_is_refused_in_a_child() -> Result<(), Box<dyn std::error::Error>> {
         check(7, began.elapsed() < LONG)
     });
     assert_eq!(status, 0, "{}", status >> 8);
-    reader.ok_or("it is here")?.shutdown(LONG)?;
+    reader.ok_or("it is here")?.shutdown(LONG * 2)?;
     Ok(())
 }
 

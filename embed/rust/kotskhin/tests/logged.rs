@@ -3,10 +3,11 @@
 use kotskhin::Export;
 use kotskhin::metrics::{self, Meter};
 use kotskhin::otel::{ExportError, KeyValue, PeriodicReader, SdkMeterProvider};
+use std::env;
 use std::error::Error as AnyError;
+use std::io::{self, Read};
 use std::process::{Command, Stdio};
 use std::time::Duration;
-use std::{env, thread};
 
 type Done = Result<(), Box<dyn AnyError>>;
 
@@ -186,18 +187,20 @@ fn the_first_failure_of_each_reason_in_a_row_is_a_line() -> Done {
 fn a_closed_standard_error_harms_nobody() -> Done {
     let test = "a_closed_standard_error_harms_nobody";
     if env::var(PERFORMS).is_ok_and(|it| it == test) {
-        thread::sleep(Duration::from_millis(50));
+        // (until nobody reads the standard error any more)
+        io::stdin().read_to_string(&mut String::new())?;
         perform_refusals();
         return Ok(());
     }
     let mut process = Command::new(env::current_exe()?)
         .args(["--exact", test, "--nocapture"])
         .env(PERFORMS, test)
-        .stdin(Stdio::null())
+        .stdin(Stdio::piped())
         .stdout(Stdio::null())
         .stderr(Stdio::piped())
         .spawn()?;
     drop(process.stderr.take());
+    drop(process.stdin.take());
     assert!(process.wait()?.success());
     Ok(())
 }
